@@ -1,0 +1,4 @@
+pub mod Rows
+pub mod Canonical
+pub mod Certificate
+pub mod State

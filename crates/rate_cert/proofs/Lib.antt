@@ -1,0 +1,5 @@
+pub mod CheckerLemmas
+pub mod RequestLemmas
+pub mod ChoiceLemmas
+pub mod Pigeonhole
+pub mod Smallest

@@ -1,0 +1,4 @@
+pub mod Requests
+pub mod Choice
+pub mod Certificate
+pub mod Fault

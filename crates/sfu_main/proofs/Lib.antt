@@ -1,0 +1,4 @@
+pub mod LiveLemmas
+pub mod RowTextLemmas
+pub mod CommandLineLemmas
+pub mod CommandLemmas

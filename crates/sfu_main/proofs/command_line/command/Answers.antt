@@ -1,0 +1,13 @@
+use Rattle.std.proofs.Common.{rules, ap, ap₂, Bool, ◌||◌, ◌≡◌, ◌∙◌}
+use Rattle.std.proofs.lemmas.Result.{IfOk-weaker}
+use Rattle.clap.specs.Words.{App, app_of, with_rule, with_subcommand}
+use Rattle.sfu_main.specs.CommandLine.{bound_app, sfu_top}
+use Rattle.sfu_main.proofs.command_line.command.Goals as goal
+
+pub returns : goal.returns
+returns c =
+    let top = λ (a : App). a.top in
+    let bound_is : app_of c.in_ok-bound.bound ≡ bound_app = c.in_ok-bound.ensures.shape c.number.ensures.local ∙ ap₂ with_rule c.new.ensures.app c.number.ensures.rule in
+    let bound_local = c.in_ok-bound.ensures.globals ∙ ap₂ (λ (x y : Bool). x || y) c.new.ensures.local c.number.ensures.local in
+    let top_is : app_of c.subcommand_required.result ≡ sfu_top = search rules in
+    IfOk-weaker c.subcommand.result _ _ (λ m h. h.shape bound_local ∙ ap₂ with_subcommand top_is (ap top bound_is)) c.subcommand.ensures

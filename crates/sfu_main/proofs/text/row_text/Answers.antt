@@ -1,0 +1,11 @@
+use Rattle.std.proofs.Common.{◌≡◌, rules}
+use Rattle.tmmbr_tuple.specs.Tuple.{word_of}
+use Rattle.sfu_main.specs.BoundText.{row_text, word_at}
+use Rattle.sfu_main.proofs.RowTextLemmas.{word_at-row}
+use Rattle.sfu_main.proofs.text.row_text.Goals as goal
+
+pub returns : goal.returns
+unfolding row_text
+returns c =
+    let word = word_at-row c.args.rows.now c.args.place c.index-rows-place.result c.requires in
+    rw (← word) (search rules)

@@ -1,0 +1,63 @@
+-- What `sfu bound` prints, and what it refuses.
+use Rattle.std.specs.Prelude.{◌≡◌, ◌≢◌, ℕ, codes, List, Option, IfSome, Ok, Err}
+use Rattle.std.specs.Io.KnownBytes.{Appends, Keeps}
+use Rattle.bounding_set.specs.State.{State, AnnouncesSmallest}
+use Rattle.sfu_main.specs.BoundText.{bound_text, refused_text}
+use Rattle.sfu_main.specs.Lines.{Asked, Refused, AreRowsOf, left_by}
+use Rattle.sfu_main.specs.declared.bound.Refusal.{Refusal}
+use Rattle.sfu_main.specs.declared.bound.Refusal.TheVariants.{NoMemory as NoMemoryAtAll, Line}
+use Rattle.sfu_main.specs.declared.command.Status.{Status}
+use Rattle.sfu_main.specs.declared.command.Status.TheVariants as status
+use Rattle.sfu_main.specs.declared.command.Failure.{Failure}
+use Rattle.sfu_main.specs.declared.command.Failure.TheVariants.{NoMemory, Refused as RefusedLine, Io}
+
+-- What is printed is the text of the set, and of its certificate, that is announced for the requests which the input
+-- leaves: the canonical choice of them, which is smallest.
+pub record PrintsBound (sender : ℕ) (input : List ℕ) (old new : Option (List ℕ)) : Type 0 where
+  pub live : List Asked
+  pub state : State
+  pub left : left_by sender input ≡ Ok live
+  pub rows : AreRowsOf live state.rows
+  pub announced : AnnouncesSmallest state
+  pub printed : Appends old new (bound_text sender state)
+
+-- What goes to the error output is the stated line for the first fault of the input.
+pub record RefusesBound (sender : ℕ) (input : List ℕ) (old new : Option (List ℕ)) : Type 0 where
+  pub refused : Refused
+  pub first : left_by sender input ≡ Err refused
+  pub shown : Appends old new (refused_text refused)
+
+-- where a command isn't done for a fault of its input, nothing was printed
+abbrev pub FailsBound : ℕ → Option (List ℕ) → Option (List ℕ) → Option (List ℕ) → Failure → Type 0
+FailsBound sender input old new NoMemory = Unit {0}
+FailsBound sender input old new Io = Unit {0}
+FailsBound sender input old new (RefusedLine line fault) =
+    Keeps old new
+    × IfSome input (λ text. left_by sender text ≡ Err (record { line = line; fault = fault }))
+
+-- a text's refusal as a command's failure
+abbrev pub failure_of : Refusal → Failure
+failure_of NoMemoryAtAll = NoMemory
+failure_of (Line line fault) = RefusedLine line fault
+
+abbrev pub IsNoRefusal : Failure → Type 0
+IsNoRefusal NoMemory = Unit {0}
+IsNoRefusal Io = Unit {0}
+IsNoRefusal (RefusedLine line fault) = ⊥
+
+abbrev pub status_of : Failure → Status
+status_of NoMemory = status.NoMemory
+status_of (RefusedLine line fault) = status.Refused
+status_of Io = status.Io
+
+-- the line for a failure is on the error output
+abbrev pub ShowsLine : Failure → Option (List ℕ) → Option (List ℕ) → Type 0
+ShowsLine NoMemory old new = Appends old new (codes "no memory\n")
+ShowsLine Io old new = Appends old new (codes "io\n")
+ShowsLine (RefusedLine line fault) old new = Appends old new (refused_text (record { line = line; fault = fault }))
+
+-- A command that failed so ends so: where it ends as refused, the line for the fault was shown.
+pub record ShowsFailure (failure : Failure) (old new : Option (List ℕ)) (s : Status) : Type 0 where
+  pub failed : s ≢ status.Done
+  pub understood : s ≢ status.CommandLine
+  pub refused : s ≡ status.Refused → (status_of failure ≡ status.Refused) × ShowsLine failure old new

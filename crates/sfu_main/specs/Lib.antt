@@ -1,0 +1,6 @@
+pub mod Packet
+pub mod Lines
+pub mod BoundText
+pub mod Outcome
+pub mod CommandLine
+pub mod Command

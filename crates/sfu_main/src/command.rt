@@ -1,0 +1,221 @@
+//! The commands of the program, over a reader and writers.
+
+ghost use Rattle.std.specs.Prelude.{◌≡◌, ◌≢◌, ℕ, map, Some, Err, IfSome, IfErr, OnOk};
+ghost use Rattle.std.specs.Io.KnownBytes.{Keeps};
+ghost use Rattle.clap.specs.Words.{kind_of};
+ghost use Rattle.sfu_main.specs.CommandLine.{Request, Types, asked_for, bound, request_of};
+ghost use Rattle.sfu_main.specs.Command.{FailsBound, IsNoRefusal, PrintsBound, RefusesBound, ShowsFailure, ShowsLine};
+
+use crate::bound::{Refusal, read_lines};
+use crate::command_line::{Action, read_words};
+use crate::fault::LineFault;
+use crate::text::{bound_text, refused_text};
+use clap::error::ErrorKind;
+use std::alloc::{AllocError, Global};
+use std::convert::AsStr;
+use std::io::{self, Read, Write};
+use tmmbr_tuple::Ssrc;
+
+/// How a command ended.
+#[derive(Clone, Copy, Debug, PartialEq, Eq)]
+pub enum Status {
+    /// 0: it did what was asked.
+    Done,
+    /// 1: memory was wanting.
+    NoMemory,
+    /// 2: the words of the command line ask for nothing.
+    CommandLine,
+    /// 4: a line of the input was refused.
+    Refused,
+    /// 5: a read or a write failed.
+    Io,
+}
+
+impl Status {
+    /// The number that the process exits with.
+    pub fn code(self) -> u8 {
+        match self {
+            Status::Done => 0,
+            Status::NoMemory => 1,
+            Status::CommandLine => 2,
+            Status::Refused => 4,
+            Status::Io => 5,
+        }
+    }
+}
+
+/// Why a command isn't done.
+#[derive(Clone, Copy, Debug, PartialEq, Eq)]
+pub enum Failure {
+    NoMemory,
+    Refused { line: u64, fault: LineFault },
+    Io,
+}
+
+impl Failure {
+    ghost use Rattle.std.specs.Prelude.{◌≡◌};
+    ghost use Rattle.sfu_main.specs.Command.{status_of};
+
+    /// How a command ends that failed so.
+    pub fn status(self) -> Status
+        ensures { result ≡ status_of self }
+    {
+        match self {
+            Failure::NoMemory => Status::NoMemory,
+            Failure::Refused { .. } => Status::Refused,
+            Failure::Io => Status::Io,
+        }
+    }
+}
+
+impl From<AllocError> for Failure {
+    ghost use Rattle.std.specs.Prelude.{◌≡◌};
+    ghost use Rattle.sfu_main.specs.declared.command.Failure.TheVariants.{NoMemory};
+
+    ghost from_gives = { λ _ e. e ≡ NoMemory };
+
+    fn from(_e: AllocError) -> Failure {
+        Failure::NoMemory
+    }
+}
+
+impl From<Refusal> for Failure {
+    ghost use Rattle.std.specs.Prelude.{◌≡◌};
+    ghost use Rattle.sfu_main.specs.Command.{failure_of};
+
+    ghost from_gives = { λ r e. e ≡ failure_of r };
+
+    fn from(refusal: Refusal) -> Failure {
+        match refusal {
+            Refusal::NoMemory => Failure::NoMemory,
+            Refusal::Line { line, fault } => Failure::Refused { line, fault },
+        }
+    }
+}
+
+impl From<io::Error> for Failure {
+    ghost use Rattle.sfu_main.specs.Command.{IsNoRefusal};
+
+    ghost from_gives = { λ _ e. IsNoRefusal e };
+
+    fn from(error: io::Error) -> Failure {
+        if error.kind() == io::ErrorKind::OutOfMemory {
+            Failure::NoMemory
+        } else {
+            Failure::Io
+        }
+    }
+}
+
+/// Runs the command that the words ask for, of which the first is the program's name.
+///
+/// The input is read whole before its first line is done. What is printed goes to the writer, and why
+/// a command isn't done to the error output.
+pub fn run_command<R: AllocGlobal, S: AsStr, I: Read, O: Write, E: Write>(
+    rt: &R,
+    words: &[S],
+    reader: &mut I,
+    writer: &mut O,
+    errors: &mut E,
+) -> Status
+    ensures bound_done { (sender : ℕ) → asked_for (map S.text words.now) ≡ Some (bound sender) → result ≡ Status.Done
+        → IfSome (I.remaining reader.old) (λ input. PrintsBound sender input (O.contents writer.old) (O.contents writer.new)) }
+    ensures bound_refused { (sender : ℕ) → asked_for (map S.text words.now) ≡ Some (bound sender) → result ≡ Status.Refused
+        → IfSome (I.remaining reader.old) (λ input. Keeps (O.contents writer.old) (O.contents writer.new)
+        × RefusesBound sender input (E.contents errors.old) (E.contents errors.new)) }
+    ensures understood { (asked : Request) → Types (map S.text words.now) asked → result ≢ Status.CommandLine }
+{
+    let alloc = rt.alloc();
+    let action = match read_words(alloc, words) {
+        Ok(action) => action,
+        Err(error) => return refuse_words(alloc, errors, &error),
+    };
+    match run_action(alloc, action, reader, writer) {
+        Ok(()) => Status::Done,
+        Err(failure) => report(alloc, errors, failure),
+    }
+}
+
+fn run_action<I: Read, O: Write>(
+    alloc: Global,
+    action: Action,
+    reader: &mut I,
+    writer: &mut O,
+) -> Result<(), Failure>
+    ensures bound_done { (sender : ℕ) → request_of action ≡ bound sender → OnOk result (IfSome (I.remaining reader.old) (λ input.
+        PrintsBound sender input (O.contents writer.old) (O.contents writer.new))) }
+    ensures bound_refused { (sender : ℕ) → request_of action ≡ bound sender
+        → IfErr result (FailsBound sender (I.remaining reader.old) (O.contents writer.old) (O.contents writer.new)) }
+{
+    match action {
+        Action::Bound { sender } => run_bound(alloc, Ssrc(sender), reader, writer),
+    }
+}
+
+/// `sfu bound`: prints the set that is announced for the requests of the input's lines.
+fn run_bound<I: Read, O: Write>(
+    alloc: Global,
+    sender: Ssrc,
+    reader: &mut I,
+    writer: &mut O,
+) -> Result<(), Failure>
+    ensures done { OnOk result (IfSome (I.remaining reader.old) (λ input.
+        PrintsBound sender.0 input (O.contents writer.old) (O.contents writer.new))) }
+    ensures refused { IfErr result (FailsBound sender.0 (I.remaining reader.old) (O.contents writer.old) (O.contents writer.new)) }
+{
+    let mut input = Vec::new(alloc);
+    reader.read_to_end(&mut input)?;
+    let bounds = read_lines(alloc, input.as_slice(), sender)?;
+    let text = bound_text(alloc, sender, &bounds)?;
+    writer.write_all(text.as_bytes())?;
+    Ok(())
+}
+
+/// Says on the error output why a command isn't done.
+fn report<E: Write>(alloc: Global, errors: &mut E, failure: Failure) -> Status
+    ensures { ShowsFailure failure (E.contents errors.old) (E.contents errors.new) result }
+{
+    match show(alloc, errors, failure) {
+        Ok(()) => failure.status(),
+        Err(failure) => failure.status(),
+    }
+}
+
+/// Writes the line for a failure.
+fn show<E: Write>(alloc: Global, errors: &mut E, failure: Failure) -> Result<(), Failure>
+    ensures ok { OnOk result (ShowsLine failure (E.contents errors.old) (E.contents errors.new)) }
+    ensures err { IfErr result IsNoRefusal }
+{
+    match failure {
+        Failure::NoMemory => errors.write_all(b"no memory\n")?,
+        Failure::Io => errors.write_all(b"io\n")?,
+        Failure::Refused { line, fault } => {
+            let text = refused_text(alloc, line, fault)?;
+            errors.write_all(text.as_bytes())?;
+        }
+    }
+    Ok(())
+}
+
+/// Says on the error output why the words of the command line ask for nothing.
+fn refuse_words<E: Write>(alloc: Global, errors: &mut E, error: &clap::Error) -> Status
+    ensures refused { result ≢ Status.Refused }
+    ensures done { result ≢ Status.Done }
+    ensures memory { kind_of error.now ≡ ErrorKind.OutOfMemory → result ≢ Status.CommandLine }
+{
+    if error.kind() == ErrorKind::OutOfMemory {
+        return report(alloc, errors, Failure::NoMemory);
+    }
+    match write_error(alloc, errors, error) {
+        Ok(()) => Status::CommandLine,
+        Err(failure) => failure.status(),
+    }
+}
+
+fn write_error<E: Write>(alloc: Global, errors: &mut E, error: &clap::Error) -> Result<(), Failure>
+    ensures { IfErr result IsNoRefusal }
+{
+    let text = format!(in alloc; "{error}")?;
+    errors.write_all(text.as_bytes())?;
+    Ok(())
+}

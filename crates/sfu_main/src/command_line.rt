@@ -1,0 +1,86 @@
+//! What the words of a command line ask for.
+
+ghost use Rattle.std.specs.Prelude.{◌≡◌, ◌∷◌, ◌<◌, ◌^◌, ℕ, List, [], IfErr, IfOk, MatchResult, Some, codes, map, true, option_map, false};
+ghost use Rattle.clap.specs.Words.{app_of, found_of, kind_of, rows_of, rule_of, subcommand_rows_of, takes};
+ghost use Rattle.sfu_main.specs.CommandLine.{Request, Types, asked_for, asked_in, asked_named, number_in, number_rule, request_of, sfu};
+
+use clap::error::ErrorKind;
+use clap::{Arg, ArgAction, ArgMatches, Command, Error, value_parser};
+use std::alloc::{AllocError, Global};
+use std::convert::AsStr;
+
+/// What the words ask for.
+#[derive(Clone, Copy, Debug, PartialEq, Eq)]
+pub enum Action {
+    /// `sfu bound --sender N`: the set that is announced for the requests of the lines.
+    Bound { sender: u32 },
+}
+
+/// The action that the words ask for, of which the first is the program's name.
+pub fn read_words<'a, S: AsStr>(alloc: Global, words: &'a [S]) -> Result<Action, Error>
+    ensures asked { IfOk result (λ action. asked_for (map S.text words.entry.now) ≡ Some (request_of action)) }
+    ensures typed { (asked : Request) → Types (map S.text words.entry.now) asked
+        → MatchResult result (λ action. request_of action ≡ asked) (λ e. kind_of e ≡ ErrorKind.OutOfMemory) }
+{
+    action_of(alloc, words)
+}
+
+/// The action that a parse finds in the words.
+fn action_of<'a, S: AsStr>(alloc: Global, words: &'a [S]) -> Result<Action, Error>
+    ensures asked { IfOk result (λ action. asked_for (map S.text words.entry.now) ≡ Some (request_of action)) }
+    ensures refused { (asked : Request) → asked_for (map S.text words.entry.now) ≡ Some asked → takes sfu (map S.text words.entry.now) ≡ true
+        → IfErr result (λ e. kind_of e ≡ ErrorKind.OutOfMemory) }
+{
+    let mut command = command(alloc)?;
+    let matches = command.try_get_matches_from_mut(words)?;
+    match action_in(&matches) {
+        Some(action) => Ok(action),
+        None => Err(command.error(ErrorKind::MissingSubcommand, "no subcommand was given")?),
+    }
+}
+
+/// The program's command line.
+fn command<'a>(alloc: Global) -> Result<Command<'a>, AllocError>
+    ensures { IfOk result (λ c. app_of c ≡ sfu) }
+{
+    let bound = Command::new(alloc, "bound").arg(number(alloc, "sender"))?;
+    Command::new(alloc, "sfu")
+        .subcommand_required(true)
+        .subcommand(bound)
+}
+
+/// A required option with a number.
+fn number<'a>(alloc: Global, name: &'a str) -> Arg<'a>
+    ensures rule { rule_of result ≡ number_rule name.entry.now }
+    ensures local { result.global ≡ false }
+{
+    Arg::new(alloc, name)
+        .long(name)
+        .required(true)
+        .value_parser(value_parser!(u32))
+        .action(ArgAction::Set)
+}
+
+fn action_in(matches: &ArgMatches<'_>) -> Option<Action>
+    ensures { option_map request_of result ≡ asked_in (subcommand_rows_of matches.now) }
+{
+    let (name, inner) = matches.subcommand()?;
+    action_named(name, inner)
+}
+
+fn action_named(name: &str, matches: &ArgMatches<'_>) -> Option<Action>
+    ensures { option_map request_of result ≡ asked_named name.now (rows_of (found_of matches.now)) }
+{
+    match name {
+        "bound" => Some(Action::Bound {
+            sender: number_in(matches, "sender")?,
+        }),
+        _ => None,
+    }
+}
+
+fn number_in(matches: &ArgMatches<'_>, id: &str) -> Option<u32>
+    ensures { result ≡ number_in id.now (rows_of (found_of matches.now)) }
+{
+    matches.get_one::<u32>(id)
+}
