@@ -1,20 +1,17 @@
 -- One live request: it is announced, with the pair between the two ends of its line.
-use Rattle.std.proofs.Common.{◌≡◌, ◌≢◌, ℕ, ◌+◌, ◌-◌, ◌*◌, ◌<◌, ◌≤◌, ◌⊎◌, inl, inr, List, [], ◌∷◌, ◌++◌, length, get_or, refl, sym, ap, subst, ◌↔◌, arith}
+use Rattle.std.proofs.Common.{◌≡◌, ◌≢◌, ℕ, ◌+◌, ◌-◌, ◌*◌, ◌<◌, ◌≤◌, inl, inr, List, [], ◌∷◌, length, get_or, refl, sym, ap, subst, ◌↔◌, arith}
 use Rattle.std.specs.Prelude.{All, AllPairs, Contains}
 use Rattle.std.specs.List.{HoldsAt}
 use Rattle.std.proofs.lemmas.Bool.{cases_lt, cases_eq}
 use Rattle.std.proofs.lemmas.List.Elements.{All-nil, All-cons}
 use Rattle.tmmbr_tuple.specs.declared.pair.Pair.{Pair}
 use Rattle.tmmbr_tuple.specs.Tuple.{rate_of}
-use Rattle.tmmbr_tuple.specs.RatePair.{RatePair, Permits, Forbids, pair_of}
+use Rattle.tmmbr_tuple.specs.RatePair.{Permits, Forbids, pair_of}
 use Rattle.rate_cert.specs.declared.request.Request.{Request}
 use Rattle.rate_cert.specs.declared.certificate.Kept.{Kept}
-use Rattle.rate_cert.specs.declared.certificate.Cert.{Cert}
-use Rattle.rate_cert.specs.Choice.{IsChoice}
 use Rattle.rate_cert.specs.Certificate.{ForbidsItsPair, MeetsConditions}
 use Rattle.rate_cert.proofs.Smallest.{IsSmallest-from_MeetsConditions}
 use Rattle.bounding_set.specs.Canonical.{HasSameLine, IsAnnounced, IsCanonical, StopsMedia, StopsEverything}
-use Rattle.bounding_set.specs.Certificate.{IsGivenFor}
 use Rattle.bounding_set.specs.State.{AnnouncesSmallest}
 
 -- what holds of it holds of each request
@@ -50,27 +47,27 @@ module _ (r : Request) (pair : Pair) (is : IsOutermost r pair) where
         | inl stops ↦
             elim (cases_lt 0 r.tuple.overhead) [
               | inl some ↦ inl record {
-                  stops = (stops, some);
-                  greatest = alone (λ y. StopsEverything y → y.tuple.overhead ≤ r.tuple.overhead) r (λ _. omega arith);
-                  least_owner = alone (λ y. StopsEverything y → r.tuple.overhead ≡ y.tuple.overhead → r.owner.0 ≤ y.owner.0) r (λ _ _. omega arith);
-                }
+                stops = (stops, some);
+                greatest = alone (λ y. StopsEverything y → y.tuple.overhead ≤ r.tuple.overhead) r (λ _. omega arith);
+                least_owner = alone (λ y. StopsEverything y → r.tuple.overhead ≡ y.tuple.overhead → r.owner.0 ≤ y.owner.0) r (λ _ _. omega arith);
+              }
               | inr none ↦ inr (inl record {
-                  stops = stops;
-                  none_stops_everything = alone (λ y. ¬ StopsEverything y) r (λ h. omega (arith, h.1));
-                  least_owner = alone (λ y. StopsMedia y → r.owner.0 ≤ y.owner.0) r (λ _. omega arith);
-                })
+                stops = stops;
+                none_stops_everything = alone (λ y. ¬ StopsEverything y) r (λ h. omega (arith, h.1));
+                least_owner = alone (λ y. StopsMedia y → r.owner.0 ≤ y.owner.0) r (λ _. omega arith);
+              })
             ]
         | inr sends ↦ inr (inr (inr record {
-            none_stopped = alone (λ y. ¬ StopsMedia y) r sends;
-            essential = record {
-              pair = pair_of pair;
-              some_time = pair.some_time;
-              forbidden = forbidden r pair is;
-              permitted = alone (λ y. ¬ HasSameLine r y → Permits y.tuple (pair_of pair)) r
+          none_stopped = alone (λ y. ¬ StopsMedia y) r sends;
+          essential = record {
+            pair = pair_of pair;
+            some_time = pair.some_time;
+            forbidden = forbidden r pair is;
+            permitted = alone (λ y. ¬ HasSameLine r y → Permits y.tuple (pair_of pair)) r
                 (λ differs. absurd (differs record { rate = refl; overhead = refl }));
-            };
-            least_owner = alone (λ y. HasSameLine r y → r.owner.0 ≤ y.owner.0) r (λ _. omega arith);
-          }))
+          };
+          least_owner = alone (λ y. HasSameLine r y → r.owner.0 ≤ y.owner.0) r (λ _. omega arith);
+        }))
       ]
 
   abbrev kept : List Kept
@@ -96,8 +93,8 @@ module _ (r : Request) (pair : Pair) (is : IsOutermost r pair) where
     choice = meets.places.named;
     rising = λ d j k e before past. absurd (omega arith);
     announced = λ place below.
-      let first : 0 ≡ place = omega arith in
-      subst (λ at. Contains (0 ∷ []) at ↔ HoldsAt (IsAnnounced (r ∷ [])) (r ∷ []) at) first
+        let first : 0 ≡ place = omega arith in
+        subst (λ at. Contains (0 ∷ []) at ↔ HoldsAt (IsAnnounced (r ∷ [])) (r ∷ []) at) first
         (λ _ d. is_announced, λ _. (0, omega arith, refl));
   }
 
@@ -112,12 +109,12 @@ module _ (r : Request) (pair : Pair) (is : IsOutermost r pair) where
     given = record {
       canonical = canonical;
       pairs =
-        let rate = rate_of r.tuple in
-        let overhead = r.tuple.overhead in
-        let packets : pair.packets ≡ 0 + rate = omega (arith, is.packets) in
-        let bits : pair.bits ≡ (rate * (1 + 8 * overhead) - 8 * overhead * (0 + rate)) + 1 = omega (arith, is.bits) in
-        let seconds : pair.seconds ≡ 1 + 8 * overhead = omega (arith, is.seconds) in
-        λ i. record { packets = packets i; bits = bits i; seconds = seconds i } ∷ [];
+          let rate = rate_of r.tuple in
+          let overhead = r.tuple.overhead in
+          let packets : pair.packets ≡ 0 + rate = omega (arith, is.packets) in
+          let bits : pair.bits ≡ (rate * (1 + 8 * overhead) - 8 * overhead * (0 + rate)) + 1 = omega (arith, is.bits) in
+          let seconds : pair.seconds ≡ 1 + 8 * overhead = omega (arith, is.seconds) in
+          λ i. record { packets = packets i; bits = bits i; seconds = seconds i } ∷ [];
       implied = λ d. refl;
     };
   }

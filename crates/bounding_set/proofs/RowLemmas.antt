@@ -1,7 +1,7 @@
 -- Rows by rising owner: what a search finds, and what an edit does.
 use Rattle.std.proofs.Common.{◌≡◌, ℕ, zero, suc, ◌+◌, ◌-◌, ◌<◌, ◌≤◌, ◌≢◌, eqb, List, [], ◌∷◌, length, get_or, set, take, drop, ◌++◌, if◌then◌else◌, Some, None, Result, Ok, Err, IfOk, IfErr, refl, sym, ap, inl, inr, subst, ◌∙◌, arith}
-use Rattle.std.specs.Prelude.{All, AllPairs, IsNone, Option}
-use Rattle.std.specs.List.{insert, refill, AllWithin, HoldsAt}
+use Rattle.std.specs.Prelude.{IsNone}
+use Rattle.std.specs.List.{insert, refill, AllWithin}
 use Rattle.std.specs.List.Sorted.{IsSearchInRange, IsBinarySearchResult, IsNonDecreasingBy}
 use Rattle.std.proofs.Math.Seq.{take-append_seam}
 use Rattle.std.specs.Ordering.{nat_cmp, ordering_index}
@@ -47,8 +47,12 @@ pub tuple_of-present : (rows : List Request) (owner place : ℕ) (d : Request) �
 tuple_of-present [] owner place d is before = absurd (omega (arith, is.in_range))
 tuple_of-present (r ∷ rows) owner zero d is before = grind (arith, nat_tests, is.is_owner r)
 tuple_of-present (r ∷ rows) owner (suc place) d is before =
-    grind (arith, nat_tests, before 0 r (omega arith) (omega arith),
-      tuple_of-present rows owner place d (is_row_tail r rows owner place is) (not_before_tail r rows owner place before))
+    grind (
+      arith,
+      nat_tests,
+      before 0 r (omega arith) (omega arith),
+      tuple_of-present rows owner place d (is_row_tail r rows owner place is) (not_before_tail r rows owner place before),
+    )
 
 -- a request over the owner's row
 gets_set : (rows : List Request) (place : ℕ) (new : Request) → IsRowOf rows new.owner.0 place → NotBefore rows new.owner.0 place
@@ -56,8 +60,12 @@ gets_set : (rows : List Request) (place : ℕ) (new : Request) → IsRowOf rows 
 gets_set [] place new is before q = absurd (omega (arith, is.in_range))
 gets_set (r ∷ rows) zero new is before q = grind (arith, nat_tests, is.is_owner r)
 gets_set (r ∷ rows) (suc place) new is before q =
-    grind (arith, nat_tests, before 0 r (omega arith) (omega arith),
-      gets_set rows place new (is_row_tail r rows _ place is) (not_before_tail r rows _ place before) q)
+    grind (
+      arith,
+      nat_tests,
+      before 0 r (omega arith) (omega arith),
+      gets_set rows place new (is_row_tail r rows _ place is) (not_before_tail r rows _ place before) q,
+    )
 
 -- a new row before any row of the owner
 gets_insert : (rows : List Request) (place : ℕ) (new : Request) → NotBefore rows new.owner.0 place → Gets rows (insert rows place new) new.owner.0 new.tuple
@@ -84,12 +92,12 @@ searched rows owner (Ok at) rising in_range equal = record {
 }
 searched rows owner (Err at) rising in_range parted =
     let comparisons_rise : IsNonDecreasingBy (λ (row : Request). ordering_index (nat_cmp row.owner.0 owner)) rows = λ i j d le below.
-      elim (cases_lt i j) [
-        | inl before ↦ let rise = rising i j d before below in grind (arith, nat_tests)
-        | inr after ↦
-            let same : i ≡ j = omega arith in
-            subst (λ k. ordering_index (nat_cmp (get_or rows i d).owner.0 owner) ≤ ordering_index (nat_cmp (get_or rows k d).owner.0 owner)) same (omega arith)
-      ] in
+    elim (cases_lt i j) [
+      | inl before ↦ let rise = rising i j d before below in grind (arith, nat_tests)
+      | inr after ↦
+          let same : i ≡ j = omega arith in
+          subst (λ k. ordering_index (nat_cmp (get_or rows i d).owner.0 owner) ≤ ordering_index (nat_cmp (get_or rows k d).owner.0 owner)) same (omega arith)
+    ] in
     let parts = parted comparisons_rise in record {
       found = tt;
       absent = record {
@@ -150,7 +158,19 @@ module _ (rows : List Request) (place : ℕ) (new : Request) (gap : IsGapFor row
       let at_below : (k : ℕ) → k < place → owner new_rows k ≡ owner rows k = λ k lt. ap get (get_or-insert_below rows place new d k lt gap.in_range) in
       let at_place : (k : ℕ) → k ≡ place → owner new_rows k ≡ new.owner.0 = λ k here. rw here (ap get (get_or-insert_at rows place new d gap.in_range)) in
       let at_above : (k : ℕ) → place < k → owner new_rows k ≡ owner rows (k - 1) = λ k above.
-        subst (λ q. owner new_rows q ≡ owner rows (k - 1)) {x = k - 1 + 1} (omega arith)
-          (ap get (get_or-insert_above rows place new d (k - 1) (omega arith) gap.in_range)) in
-      grind (arith, at_below i, at_place i, at_above i, at_below j, at_place j, at_above j, rising i j d, rising i (j - 1) d, rising (i - 1) (j - 1) d,
-        gap.lesser_before i d, gap.greater_after (j - 1) d)
+      subst (λ q. owner new_rows q ≡ owner rows (k - 1)) {x = k - 1 + 1} (omega arith)
+      (ap get (get_or-insert_above rows place new d (k - 1) (omega arith) gap.in_range)) in
+      grind (
+        arith,
+        at_below i,
+        at_place i,
+        at_above i,
+        at_below j,
+        at_place j,
+        at_above j,
+        rising i j d,
+        rising i (j - 1) d,
+        rising (i - 1) (j - 1) d,
+        gap.lesser_before i d,
+        gap.greater_after (j - 1) d,
+      )

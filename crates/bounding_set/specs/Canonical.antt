@@ -1,6 +1,6 @@
 -- The one set that is announced for live requests (RFC 5104, section 3.5.4.2, with this project's own
 -- ties and rates of 0).
-use Rattle.std.specs.Prelude.{◌≡◌, ◌≢◌, ℕ, ◌*◌, ◌<◌, ◌≤◌, ◌↔◌, ◌⊎◌, List, length, All, Any, AllPairs, Contains, slice_index_or}
+use Rattle.std.specs.Prelude.{◌≡◌, ℕ, ◌*◌, ◌<◌, ◌≤◌, ◌↔◌, ◌⊎◌, List, length, All, Any, AllPairs, Contains, slice_index_or}
 use Rattle.std.specs.List.{HoldsAt}
 use Rattle.tmmbr_tuple.specs.Tuple.{rate_of}
 use Rattle.tmmbr_tuple.specs.RatePair.{RatePair, Permits, Forbids}

@@ -1,5 +1,5 @@
 -- What a contract sees of `Bounds`.
-use Rattle.std.specs.Prelude.{◌≡◌, List}
+use Rattle.std.specs.Prelude.{List}
 use Rattle.rate_cert.specs.declared.request.Request.{Request}
 use Rattle.rate_cert.specs.declared.certificate.Cert.{Cert}
 use Rattle.rate_cert.specs.Choice.{chosen_requests, IsSmallest}

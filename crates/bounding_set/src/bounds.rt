@@ -73,7 +73,7 @@ impl Bounds {
         ensures rising { HasRisingOwners self.now.rows }
         ensures within { length self.now.rows ≤ LIVE_LIMIT }
     {
-        self.rows.as_slice()
+        &self.rows
     }
 
     /// The certificate of the announced set; its places count the rows from 0.

@@ -1,5 +1,5 @@
 -- What the answers of the checker's functions cite.
-use Rattle.std.proofs.Common.{Result, Ok, Err, [], ◌∷◌, ◌≡◌, ℕ, ◌<◌, ◌≤◌, ◌++◌, Bool, true, false, IsTrue, ◌↔◌, List, length, get_or, take, map, sym, ◌∙◌, refl, subst, ap, arith}
+use Rattle.std.proofs.Common.{Result, Ok, Err, [], ◌∷◌, ◌≡◌, ℕ, ◌<◌, ◌≤◌, Bool, true, false, IsTrue, ◌↔◌, List, length, get_or, take, map, sym, ◌∙◌, refl, subst, ap}
 use Rattle.std.specs.Prelude.{All, Contains, IsOk, OnOk}
 use Rattle.std.specs.List.{AllWithin, HoldsAt}
 use Rattle.std.proofs.lemmas.Bool.{false≢true}

@@ -1,7 +1,7 @@
 -- The requests at places.
-use Rattle.std.proofs.Common.{◌≡◌, ◌+◌, ◌<◌, ◌≤◌, ℕ, List, [], ◌∷◌, ◌++◌, length, get_or, map, take, Option, None, Some, refl, sym, ap, ◌∙◌, arith}
+use Rattle.std.proofs.Common.{◌≡◌, ◌+◌, ◌<◌, ◌≤◌, ℕ, List, [], ◌∷◌, ◌++◌, length, get_or, take, Option, None, Some, refl, ap, ◌∙◌, arith}
 use Rattle.std.specs.Prelude.{All, slice_get}
-use Rattle.std.specs.List.{cons_option, filter_map}
+use Rattle.std.specs.List.{cons_option}
 use Rattle.std.proofs.lemmas.List.{take_more}
 use Rattle.std.proofs.lemmas.List.Elements.{All-contains, filter_map-append}
 use Rattle.std.proofs.lemmas.Option.{slice_get-get_or}
@@ -27,13 +27,13 @@ length-chosen requests (place ∷ places) =
 pub kept_below : (requests : List Request) (kept : List Kept) → IsChoice requests (places_of kept) → All (λ k. k.place < length requests) kept
 kept_below requests kept choice = λ i d below.
     All-contains (λ place. place < length requests) (places_of kept) (get_or kept i d).place choice.in_range
-      (Contains-map (λ k. k.place) kept i d below)
+    (Contains-map (λ k. k.place) kept i d below)
 
 -- one kept entry more is one chosen request more
 pub chosen_more : (requests : List Request) (kept : List Kept) (i : ℕ) (d : Kept) (e : Request) → i < length kept
     → (get_or kept i d).place < length requests
     → chosen_requests requests (places_of (take (i + 1) kept))
-      ≡ chosen_requests requests (places_of (take i kept)) ++ get_or requests (get_or kept i d).place e ∷ []
+    ≡ chosen_requests requests (places_of (take i kept)) ++ get_or requests (get_or kept i d).place e ∷ []
 chosen_more requests kept i d e below in_range =
     let k = get_or kept i d in
     ap (λ ks. chosen_requests requests (places_of ks)) (take_more kept i d below)

@@ -1,5 +1,5 @@
 -- A certificate's choice is smallest.
-use Rattle.std.proofs.Common.{◌≡◌, ℕ, suc, zero, ◌+◌, ◌*◌, ◌<◌, ◌≤◌, ◌↔◌, List, [], ◌∷◌, length, get_or, map, take, Option, None, Some, ◌⊎◌, inl, inr, subst, sym, lit<, arith}
+use Rattle.std.proofs.Common.{◌≡◌, ℕ, suc, zero, ◌+◌, ◌*◌, ◌<◌, ◌≤◌, List, [], ◌∷◌, length, get_or, map, Option, None, Some, inl, inr, subst, lit<, arith}
 use Rattle.std.specs.Prelude.{All, AllPairs, Contains, IfSome, slice_get}
 use Rattle.std.specs.List.{cons_option}
 use Rattle.std.proofs.Math.Nat.{mul-le-mul_left, mul-le-mul_right}
@@ -13,10 +13,9 @@ use Rattle.tmmbr_tuple.proofs.RatePairLemmas.{not_both}
 use Rattle.rate_cert.specs.declared.request.Request.{Request}
 use Rattle.rate_cert.specs.declared.certificate.Kept.{Kept}
 use Rattle.rate_cert.specs.declared.certificate.Implied.{Implied}
-use Rattle.rate_cert.specs.declared.certificate.Cert.{Cert}
 use Rattle.rate_cert.specs.Requests.{IsFeasible}
 use Rattle.rate_cert.specs.Choice.{IsChoice, chosen_requests, IsFaithful, IsSmallest}
-use Rattle.rate_cert.specs.Certificate.{places_of, named_places, kept_places, Implies, ForbidsOnePair, MeetsConditions, IsCertified}
+use Rattle.rate_cert.specs.Certificate.{places_of, named_places, Implies, ForbidsOnePair, MeetsConditions}
 use Rattle.rate_cert.proofs.CheckerLemmas.{kept_in_range, implied_in_range, entry_at}
 use Rattle.rate_cert.proofs.ChoiceLemmas.{length-chosen}
 use Rattle.rate_cert.proofs.Pigeonhole.{AnyByRecursion, no_more_than_partners}

@@ -1,5 +1,5 @@
 -- What requests permit together (RFC 5104, sections 2.2 and 3.5.4.2).
-use Rattle.std.specs.Prelude.{ℕ, ◌≤◌, List, All}
+use Rattle.std.specs.Prelude.{List, All}
 use Rattle.tmmbr_tuple.specs.RatePair.{RatePair, Permits}
 use Rattle.rate_cert.specs.declared.request.Request.{Request}
 

@@ -5,7 +5,6 @@ use Rattle.std.specs.Io.KnownBytes.{Keeps}
 use Rattle.sfu_main.specs.CommandLine.{Request}
 use Rattle.sfu_main.specs.declared.command.Failure.{Failure}
 use Rattle.sfu_main.specs.declared.command.Failure.TheVariants.{NoMemory, Refused, Io}
-use Rattle.sfu_main.specs.declared.command.Status.{Status}
 use Rattle.sfu_main.specs.declared.command.Status.TheVariants as status
 use Rattle.sfu_main.specs.Command.{FailsBound, RefusesBound, ShowsLine, status_of}
 

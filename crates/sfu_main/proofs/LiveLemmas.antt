@@ -1,5 +1,5 @@
 -- Live requests as words by owner, and as rows.
-use Rattle.std.proofs.Common.{◌≡◌, ◌≢◌, ℕ, suc, ◌+◌, ◌-◌, ◌*◌, ◌<◌, ◌≤◌, eqb, nat_lt, List, [], ◌∷◌, map, Bor, length, drop, get_or, drop-cons, add-one, if◌then◌else◌, Option, None, Some, Result, Ok, Err, true, false, refl, sym, ap, subst, ◌∙◌, inl, inr, arith}
+use Rattle.std.proofs.Common.{◌≡◌, ℕ, suc, ◌+◌, ◌-◌, ◌*◌, ◌<◌, ◌≤◌, eqb, nat_lt, List, [], ◌∷◌, map, Bor, length, drop, get_or, drop-cons, add-one, if◌then◌else◌, Option, None, Some, Result, Ok, Err, true, false, refl, sym, ap, subst, ◌∙◌, inl, inr, arith}
 use Rattle.std.specs.Prelude.{IsNone, is_some, option_map}
 use Rattle.std.proofs.lemmas.Bool.{cases_eq}
 use Rattle.std.proofs.lemmas.List.{drop-drop, get_or-map, length-map}
@@ -9,7 +9,6 @@ use Rattle.tmmbr_tuple.specs.Tuple.{word_of}
 use Rattle.rate_cert.specs.declared.request.Request.{Request}
 use Rattle.bounding_set.specs.declared.rows.TheConstants.{LIVE_LIMIT}
 use Rattle.bounding_set.specs.Rows.{HasRisingOwners, tuple_of, Puts, count_with}
-use Rattle.sfu_main.specs.declared.fault.LineFault.{LineFault}
 use Rattle.sfu_main.specs.declared.fault.LineFault.TheVariants.{Full}
 use Rattle.sfu_main.specs.declared.bound.Refusal.{Refusal}
 use Rattle.sfu_main.specs.declared.bound.Refusal.TheVariants.{NoMemory, Line}

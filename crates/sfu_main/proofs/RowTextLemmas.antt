@@ -1,5 +1,5 @@
 -- What is printed of the row at a place.
-use Rattle.std.proofs.Common.{◌≡◌, ◌∙◌, ◌<◌, ℕ, List, length, get_or, Option, sym, ap, unwrap_or, option_map}
+use Rattle.std.proofs.Common.{◌≡◌, ◌<◌, ℕ, List, length, get_or, sym, ap, unwrap_or, option_map}
 use Rattle.std.proofs.lemmas.Option.{slice_get-get_or}
 use Rattle.tmmbr_tuple.specs.Tuple.{word_of}
 use Rattle.rate_cert.specs.declared.request.Request.{Request}

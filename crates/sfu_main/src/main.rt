@@ -20,3 +20,6 @@ fn main(rt: HostRuntime) -> io::Result<ExitCode> {
     let status = run_command(&rt, words.as_slice(), &mut reader, &mut writer, &mut errors);
     Ok(ExitCode::from(status.code()))
 }
+
+#[cfg(test)]
+mod tests;

@@ -16,7 +16,10 @@ fn word_of_example_1(rt: HostRuntime) -> Result<(), Fail> {
 #[test]
 fn largest_word(rt: HostRuntime) -> Result<(), Fail> {
     let tuple = Tuple::from_word(0xffff_ffff);
-    assert_eq!(rt; (tuple.exp, tuple.mantissa, tuple.overhead), (63, 131_071, 511));
+    assert_eq!(rt;
+        (tuple.exp, tuple.mantissa, tuple.overhead),
+        (63, 131_071, 511)
+    );
     assert_eq!(rt; tuple.rate(), 1_208_916_596_242_592_319_930_368);
     assert_eq!(rt; tuple.to_word(), 0xffff_ffff);
     assert_eq!(rt; Tuple::new(64, 0, 0), None);

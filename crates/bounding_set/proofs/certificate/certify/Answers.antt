@@ -16,8 +16,8 @@ returns-in-len1 c =
       seconds = c.outermost_pair.ensures.seconds;
     } in
     subst AnnouncesSmallest
-      (λ i. record {
-        rows = sym rows i;
-        cert = record { kept = record { items = sym kept i }; implied = record { items = sym c.clear-2.ensures i } };
-      })
-      (AnnouncesSmallest-alone r c.outermost_pair.result outermost)
+    (λ i. record {
+      rows = sym rows i;
+      cert = record { kept = record { items = sym kept i }; implied = record { items = sym c.clear-2.ensures i } };
+    })
+    (AnnouncesSmallest-alone r c.outermost_pair.result outermost)

@@ -1,4 +1,4 @@
-use Rattle.std.proofs.Common.{◌≡◌, take, map}
+use Rattle.std.proofs.Common.{◌≡◌, take}
 use Rattle.rate_cert.specs.Choice.{chosen_requests}
 use Rattle.rate_cert.specs.Certificate.{places_of}
 use Rattle.bounding_set.proofs.certificate.chosen.Given as goal

@@ -10,15 +10,15 @@ certified : (c : goal.After-check_entries) → IsOk c.check_entries.result → I
 certified c is =
     let requests = c.args.requests.now in
     subst (λ implied. MeetsConditions requests c.args.cert.now.kept.items implied) c.as_slice-2.ensures.value
-      (subst (λ kept. MeetsConditions requests kept c.as_slice-2.result.now) c.as_slice.ensures.value
-        (c.check_entries.ensures.certified.0 is))
+    (subst (λ kept. MeetsConditions requests kept c.as_slice-2.result.now) c.as_slice.ensures.value
+    (c.check_entries.ensures.certified.0 is))
 
 pub returns-clause-first_fault : goal.returns-clause-first_fault
 returns-clause-first_fault c =
     let result = c.check_entries.result in
     subst (λ implied. IfErr result (FailsFirst c.args.requests.now c.args.cert.now.kept.items implied)) c.as_slice-2.ensures.value
-      (subst (λ kept. IfErr result (FailsFirst c.args.requests.now kept c.as_slice-2.result.now)) c.as_slice.ensures.value
-        c.check_entries.ensures.first_fault)
+    (subst (λ kept. IfErr result (FailsFirst c.args.requests.now kept c.as_slice-2.result.now)) c.as_slice.ensures.value
+    c.check_entries.ensures.first_fault)
 
 pub returns-clause-choice : goal.returns-clause-choice
 returns-clause-choice c = on_ok c.check_entries.result (λ is.

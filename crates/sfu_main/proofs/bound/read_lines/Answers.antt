@@ -1,6 +1,6 @@
-use Rattle.std.proofs.Common.{◌≡◌, [], ◌+◌, ◌∙◌, sym, ap, refl, subst, Bor, List, ℕ, length, map, drop, get_or, arith}
+use Rattle.std.proofs.Common.{[], ◌+◌, ◌∙◌, sym, ap, refl, subst, Bor, List, ℕ, map, get_or, arith}
 use Rattle.std.proofs.lemmas.Result.{err_from_is_err_and}
-use Rattle.sfu_main.specs.Lines.{Asked, AreRowsOf, after_line, after_lines, numbered, lines_of}
+use Rattle.sfu_main.specs.Lines.{after_line, after_lines, numbered}
 use Rattle.sfu_main.specs.Outcome.{RefusesAs}
 use Rattle.sfu_main.proofs.LiveLemmas.{next_line, no_rows, bind_ok, refuses_on}
 use Rattle.sfu_main.proofs.bound.read_lines.Goals as goal

@@ -1,7 +1,7 @@
-use Rattle.std.proofs.Common.{◌/◌, ◌-◌, ◌+◌, ◌*◌, ◌∙◌, sym, ap, length, drop}
+use Rattle.std.proofs.Common.{◌/◌, ◌*◌, ◌∙◌, sym, ap, length, drop}
 use Rattle.std.proofs.lemmas.List.{take_rest}
 use Rattle.std.proofs.lemmas.Result.{err_from_is_err_and}
-use Rattle.sfu_main.specs.Lines.{after_entry, after_entries}
+use Rattle.sfu_main.specs.Lines.{after_entry}
 use Rattle.sfu_main.proofs.LiveLemmas.{after_entries-step, bind_ok, bind_err}
 use Rattle.sfu_main.proofs.bound.take_entries.Goals as goal
 

@@ -1,4 +1,3 @@
-use Rattle.sfu_main.specs.BoundText.{owner_at}
 use Rattle.sfu_main.proofs.RowTextLemmas.{owner_at-row}
 use Rattle.sfu_main.proofs.text.owner_at.Goals as goal
 

@@ -1,6 +1,5 @@
-use Rattle.std.proofs.Common.{◌≡◌, rules}
-use Rattle.tmmbr_tuple.specs.Tuple.{word_of}
-use Rattle.sfu_main.specs.BoundText.{row_text, word_at}
+use Rattle.std.proofs.Common.{rules}
+use Rattle.sfu_main.specs.BoundText.{row_text}
 use Rattle.sfu_main.proofs.RowTextLemmas.{word_at-row}
 use Rattle.sfu_main.proofs.text.row_text.Goals as goal
 
