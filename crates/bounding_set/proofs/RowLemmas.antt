@@ -1,7 +1,7 @@
 -- Rows by rising owner: what a search finds, and what an edit does.
 use Rattle.std.proofs.Common.{◌≡◌, ℕ, zero, suc, ◌+◌, ◌-◌, ◌<◌, ◌≤◌, ◌≢◌, eqb, List, [], ◌∷◌, length, get_or, set, take, drop, ◌++◌, if◌then◌else◌, Some, None, Result, Ok, Err, IfOk, IfErr, refl, sym, ap, inl, inr, subst, ◌∙◌, arith}
 use Rattle.std.specs.Prelude.{IsNone}
-use Rattle.std.specs.List.{insert, refill, AllWithin}
+use Rattle.std.specs.List.{insert, remove, refill, AllWithin}
 use Rattle.std.specs.List.Sorted.{IsSearchInRange, IsBinarySearchResult, IsNonDecreasingBy}
 use Rattle.std.proofs.Math.Seq.{take-append_seam}
 use Rattle.std.specs.Ordering.{nat_cmp, ordering_index}
@@ -135,16 +135,47 @@ module _ (rows : List Request) (rising : HasRisingOwners rows) (place : ℕ) (ne
       let in_rows : j < length rows = rw length-set at below in
       rw (same_owner i d, same_owner j d) (rising i j d before in_rows)
 
+-- rows without the owner's
+tuple_of-remove : (rows : List Request) (place owner q : ℕ) → HasRisingOwners rows → IsRowOf rows owner place
+    → tuple_of (remove rows place) q ≡ (if eqb owner q then None else tuple_of rows q)
+tuple_of-remove [] place owner q rising is = absurd (omega (arith, is.in_range))
+tuple_of-remove (r ∷ rows) zero owner q rising is =
+    let gone : tuple_of rows owner ≡ None = tuple_of-absent rows owner (λ k d low below same.
+    absurd (omega (arith, rising 0 (suc k) d (omega arith) (omega arith), is.is_owner r))) in
+    elim (cases_eq owner q) [
+      | inl same ↦ grind (arith, nat_tests, is.is_owner r, ap (tuple_of rows) same)
+      | inr differs ↦ grind (arith, nat_tests, is.is_owner r)
+    ]
+tuple_of-remove (r ∷ rows) (suc place) owner q rising is =
+    let lesser : r.owner.0 < owner = omega (arith, rising 0 (suc place) r (omega arith) is.in_range, is.is_owner r) in
+    let rest : HasRisingOwners rows = λ i j d before below. rising (suc i) (suc j) d (omega arith) (omega arith) in
+    grind (arith, nat_tests, tuple_of-remove rows place owner q rest (is_row_tail r rows owner place is))
+
+pub Puts-remove : (rows : List Request) (place owner : ℕ) → HasRisingOwners rows → IsRowOf rows owner place → Puts rows (remove rows place) owner None
+Puts-remove rows place owner rising is = record {
+  changed = grind (arith, nat_tests, tuple_of-remove rows place owner owner rising is);
+  others = λ q differs. grind (arith, nat_tests, tuple_of-remove rows place owner q rising is);
+}
+
+-- taking nothing out of rows that lack the owner
+pub Puts-nothing : (rows : List Request) (owner : ℕ) → tuple_of rows owner ≡ None → Puts rows rows owner None
+Puts-nothing rows owner none = record { changed = none; others = λ q differs. refl }
+
+pub tuple_of-row : (rows : List Request) (place owner : ℕ) (d : Request) → HasRisingOwners rows → IsRowOf rows owner place
+    → tuple_of rows owner ≡ Some (get_or rows place d).tuple
+tuple_of-row rows place owner d rising is =
+    tuple_of-present rows owner place d is (λ k e low below same. omega (arith, rising k place e below is.in_range, is.is_owner e))
+
+pub tuple_of-no_row : (rows : List Request) (owner place : ℕ) → IsGapFor rows owner place → tuple_of rows owner ≡ None
+tuple_of-no_row rows owner place gap = tuple_of-absent rows owner (λ k d low below same.
+    elim (cases_lt k place) [
+      | inl before ↦ absurd (omega (arith, gap.lesser_before k d low before))
+      | inr after ↦ absurd (omega (arith, gap.greater_after k d after below))
+    ])
+
 module _ (rows : List Request) (place : ℕ) (new : Request) (gap : IsGapFor rows new.owner.0 place) where
   not_before_gap : NotBefore rows new.owner.0 place
   not_before_gap k d low below same = omega (arith, gap.lesser_before k d low below)
-
-  pub tuple_of-gap : tuple_of rows new.owner.0 ≡ None
-  tuple_of-gap = tuple_of-absent rows new.owner.0 (λ k d low below same.
-      elim (cases_lt k place) [
-        | inl before ↦ absurd (omega (arith, gap.lesser_before k d low before))
-        | inr after ↦ absurd (omega (arith, gap.greater_after k d after below))
-      ])
 
   pub Puts-insert : Puts rows (insert rows place new) new.owner.0 (Some new.tuple)
   Puts-insert = puts_from_gets _ _ _ _ (gets_insert rows place new not_before_gap)

@@ -1,9 +1,9 @@
 //! The live requests of one media sender.
 
-ghost use Rattle.std.specs.Prelude.{◌≡◌, ◌≢◌, ◌<◌, ◌≤◌, ◌↔◌, [], length, Some, None, IsTrue, IsOk, IsErr, IfOk, OnOk, OnErr, IsNone};
+ghost use Rattle.std.specs.Prelude.{◌≡◌, ◌≢◌, ◌<◌, ◌≤◌, ◌↔◌, [], length, Some, None, IsTrue, IsOk, IsErr, IfOk, OnOk, OnErr, OnSome, IfNone, IsNone, ◌+◌};
 
 use crate::certificate::{certify, chosen};
-use crate::rows::{Full, LIVE_LIMIT, are_same, put};
+use crate::rows::{Full, LIVE_LIMIT, are_same, put, take};
 use arrayvec::ArrayVec;
 use rate_cert::{Cert, MAX_REQUESTS, Request};
 use std::marker::Model;
@@ -65,6 +65,22 @@ impl Bounds {
         certify(self.rows.as_slice(), &mut self.cert);
         let after = chosen(self.rows.as_slice(), &self.cert);
         Ok(!are_same(before.as_slice(), after.as_slice()))
+    }
+
+    /// Removes the owner's request, and answers what it asked for. `None` where it has none; then
+    /// nothing changed.
+    pub fn remove(&mut self, owner: Ssrc) -> Option<Tuple>
+        ensures value { result ≡ tuple_of self.old.rows owner.0 }
+        ensures unchanged { IfNone result (self.new ≡ self.old) }
+        ensures removed { Puts self.old.rows self.new.rows owner.0 None }
+        ensures shrinks { OnSome result (length self.new.rows + 1 ≡ length self.old.rows) }
+        ensures rising { HasRisingOwners self.new.rows }
+        ensures within { length self.new.rows ≤ LIVE_LIMIT }
+        ensures announced { AnnouncesSmallest self.new }
+    {
+        let tuple = take(&mut self.rows, owner)?;
+        certify(self.rows.as_slice(), &mut self.cert);
+        Some(tuple)
     }
 
     /// The live requests by rising owner, each owner once.

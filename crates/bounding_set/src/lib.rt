@@ -13,4 +13,6 @@ pub use bounds::Bounds;
 pub use rows::{Full, LIVE_LIMIT};
 
 #[cfg(test)]
+mod slow;
+#[cfg(test)]
 mod tests;

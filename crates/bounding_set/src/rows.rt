@@ -1,12 +1,12 @@
 //! Rows of live requests, by rising owner.
 
-ghost use Rattle.std.specs.Prelude.{◌≡◌, ◌≤◌, ◌↔◌, length, Some, IsTrue, IsErr, IsNone, IfOk, IfErr, OnOk, OnErr};
+ghost use Rattle.std.specs.Prelude.{◌≡◌, ◌+◌, ◌≤◌, ◌↔◌, length, None, Some, IfNone, OnSome, IsTrue, IsErr, IsNone, IfOk, IfErr, OnOk, OnErr};
 ghost use Rattle.bounding_set.specs.Rows.{HasRisingOwners, IsRowOf, IsGapFor, Puts, tuple_of, count_with};
 
 use arrayvec::ArrayVec;
 use rate_cert::{MAX_REQUESTS, Request};
 use thiserror::Error;
-use tmmbr_tuple::Ssrc;
+use tmmbr_tuple::{Ssrc, Tuple};
 
 /// How many owners may have a live request at once.
 pub const LIVE_LIMIT: usize = 1;
@@ -36,6 +36,21 @@ pub fn put(rows: &mut ArrayVec<Request, MAX_REQUESTS>, request: Request) -> Resu
         Err(place) => rows.insert(place, request),
     }
     Ok(())
+}
+
+/// Takes the owner's row out, and answers what it asked for. `None` leaves the rows as they are.
+pub fn take(rows: &mut ArrayVec<Request, MAX_REQUESTS>, owner: Ssrc) -> Option<Tuple>
+    requires { HasRisingOwners rows.old.items }
+    ensures value { result ≡ tuple_of rows.old.items owner.0 }
+    ensures unchanged { IfNone result (rows.new ≡ rows.old) }
+    ensures taken { Puts rows.old.items rows.new.items owner.0 None }
+    ensures shrinks { OnSome result (length rows.new.items + 1 ≡ length rows.old.items) }
+    ensures rising { HasRisingOwners rows.new.items }
+{
+    match place_of(rows.as_slice(), owner) {
+        Ok(place) => Some(rows.remove(place).tuple),
+        Err(_) => None,
+    }
 }
 
 /// Where the owner's row is, or where it would go.

@@ -45,6 +45,14 @@ IsNoRefusal NoMemory = Unit {0}
 IsNoRefusal Io = Unit {0}
 IsNoRefusal (RefusedLine line fault) = ⊥
 
+-- the numbers that the process exits with
+abbrev pub code_of : Status → ℕ
+code_of status.Done = 0
+code_of status.NoMemory = 1
+code_of status.CommandLine = 2
+code_of status.Refused = 4
+code_of status.Io = 5
+
 abbrev pub status_of : Failure → Status
 status_of NoMemory = status.NoMemory
 status_of (RefusedLine line fault) = status.Refused

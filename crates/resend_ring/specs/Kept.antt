@@ -1,0 +1,27 @@
+-- What a ring keeps.
+use Rattle.std.specs.Prelude.{◌==◌, ℕ, ◌%◌, List, [], ◌∷◌, ◌++◌, find, reverse, Option, option_map}
+use Rattle.std.specs.Global.{Vec}
+use Rattle.circular_buffer.specs.Buffer.{keep_last}
+use Rattle.resend_ring.specs.declared.ring.TheConstants.{CYCLE}
+
+-- a packet as it was sent: its outgoing number, and its bytes
+pub record Packet : Type 0 where
+  pub number : ℕ
+  pub bytes : List ℕ
+
+-- how many packets there may be, and the packets, from the oldest to the newest
+pub record Kept : Type 0 where
+  pub capacity : ℕ
+  pub items : List Packet
+
+abbrev pub packet_of : ℕ × Vec ℕ → Packet
+packet_of p = record { number = p.0; bytes = p.1.items }
+
+-- the bytes of the latest packet whose number is congruent to seq modulo 65536
+abbrev pub last_kept_with : List Packet → ℕ → Option (List ℕ)
+last_kept_with items seq = option_map (λ (p : Packet). p.bytes) (find (λ p. p.number % CYCLE == seq) (reverse items))
+
+-- what is kept of these once more packets came in turn
+abbrev pub kept_in_turn : ℕ → List Packet → List Packet → List Packet
+kept_in_turn capacity items [] = items
+kept_in_turn capacity items (p ∷ packets) = kept_in_turn capacity (keep_last capacity (items ++ p ∷ [])) packets

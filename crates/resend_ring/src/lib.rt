@@ -1,0 +1,11 @@
+//! The last packets that were sent on a leg, to be sent again when a receiver misses one (RFC 4585,
+//! section 6.2.1). Making a ring takes memory, keeping and finding take none.
+#![tactic(auto)]
+
+pub mod laws;
+mod ring;
+
+pub use ring::{MAX_CAPACITY, Ring};
+
+#[cfg(test)]
+mod tests;

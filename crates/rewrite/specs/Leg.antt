@@ -1,0 +1,76 @@
+-- What a leg holds, and what it answers by that.
+use Rattle.std.specs.Prelude.{ℕ, ◌+◌, ◌-◌, ◌*◌, ◌%◌, ◌<◌, ◌≤◌, max, nat_lt, List, [], ◌∷◌, Option, None, Some, Result, Ok, Err, if◌then◌else◌}
+use Rattle.rewrite.specs.declared.skip.Skip.{Skip}
+use Rattle.rewrite.specs.declared.skip.Skip.TheVariants.{Old}
+use Rattle.rewrite.specs.declared.segment.Segment.{Segment}
+use Rattle.rewrite.specs.declared.segment.TheConstants.{NUMBER_LIMIT, CYCLE, REACH}
+use Rattle.rewrite.specs.Numbering.{Packet, Entry, within_limit}
+
+-- the first number, and the packets of the latest turn
+pub record Held : Type 0 where
+  pub first : ℕ
+  pub segment : Option Segment
+
+-- a segment begins with this packet; extended numbers begin one cycle up
+abbrev pub opened : ℕ → ℕ → ℕ → Segment
+opened turn seq start = record { turn = turn; base = CYCLE + seq; start = start; highest = CYCLE + seq }
+
+-- the outgoing number of the highest packet
+abbrev pub last_number : Segment → ℕ
+last_number s = s.start + (s.highest - s.base)
+
+-- what always holds of a segment
+pub record IsWithinLimit (s : Segment) : Type 0 where
+  pub cycled : CYCLE ≤ s.base
+  pub first_cycle : s.base < 2 * CYCLE
+  pub risen : s.base ≤ s.highest
+  pub limit : last_number s < NUMBER_LIMIT
+
+-- the number with this sequence number that stands from REACH below the highest to less than REACH above it
+abbrev pub extended_number : ℕ → ℕ → ℕ
+extended_number highest seq =
+    let lowest = highest - REACH in lowest + (seq + CYCLE - lowest % CYCLE) % CYCLE
+
+-- the answer at an extended number: as far above the start as that is above the base
+abbrev pub answer_at : Segment → ℕ → Result ℕ Skip
+answer_at s extended = if nat_lt extended s.base then Err Old else within_limit (s.start + (extended - s.base))
+
+-- the answer to a packet of the segment's own turn
+abbrev pub answer_in : Segment → ℕ → Result ℕ Skip
+answer_in s seq = answer_at s (extended_number s.highest seq)
+
+-- the segment, once this number is given too
+abbrev pub with_number : Segment → ℕ → Segment
+with_number s number = record s { highest = max s.highest (s.base + (number - s.start)) }
+
+-- The answer to a packet. A greater turn than the latest begins a segment, with the number above the last one; a
+-- lesser turn is late.
+abbrev pub answer_by : ℕ → Option Segment → ℕ → ℕ → Result ℕ Skip
+answer_by first None turn seq = Ok first
+answer_by first (Some s) turn seq =
+    if nat_lt s.turn turn then within_limit (last_number s + 1)
+    else if nat_lt turn s.turn then Err Old
+    else answer_in s seq
+
+abbrev pub answer_to : Held → ℕ → ℕ → Result ℕ Skip
+answer_to held turn seq = answer_by held.first held.segment turn seq
+
+-- the latest segment, once a packet has this number
+abbrev pub segment_with : Option Segment → ℕ → ℕ → ℕ → Segment
+segment_with None turn seq number = opened turn seq number
+segment_with (Some s) turn seq number = if nat_lt s.turn turn then opened turn seq number else with_number s number
+
+-- what is held once a packet was answered
+abbrev pub held_with : Held → ℕ → ℕ → Result ℕ Skip → Held
+held_with held turn seq (Ok number) = record { first = held.first; segment = Some (segment_with held.segment turn seq number) }
+held_with held turn seq (Err skip) = held
+
+-- what a leg answers to packets in turn
+abbrev pub history_of : Held → List Packet → List Entry
+history_of held [] = []
+history_of held (p ∷ packets) =
+    record { turn = p.turn; seq = p.seq; answer = answer_to held p.turn p.seq }
+    ∷ history_of (held_with held p.turn p.seq (answer_to held p.turn p.seq)) packets
+
+abbrev pub new_leg : ℕ → Held
+new_leg first = record { first = first; segment = None }

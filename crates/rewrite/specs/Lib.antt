@@ -1,0 +1,3 @@
+pub mod Skip
+pub mod Leg
+pub mod Numbering

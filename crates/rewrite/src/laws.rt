@@ -1,0 +1,17 @@
+//! What a leg's numbers are over every list of packets. These functions do nothing: their contracts
+//! are the laws.
+
+ghost use Rattle.std.specs.Prelude.{ℕ, ◌<◌, List, All, flat_map};
+ghost use Rattle.rewrite.specs.Numbering.{Packet, Renumbers, AreApart, numbered};
+ghost use Rattle.rewrite.specs.Leg.{new_leg, history_of};
+
+use crate::segment::CYCLE;
+
+/// What a new leg answers to packets one after another is what the whole list before each says. The
+/// numbers of two segments never meet: those of the later one are greater.
+pub fn renumbers()
+    ensures numbers { (first : ℕ) (packets : List Packet) → first < CYCLE → All (λ p. p.seq < CYCLE) packets
+        → Renumbers first (history_of (new_leg first) packets) }
+    ensures apart { (first : ℕ) (packets : List Packet) → first < CYCLE → All (λ p. p.seq < CYCLE) packets
+        → AreApart (flat_map numbered (history_of (new_leg first) packets)) }
+{}

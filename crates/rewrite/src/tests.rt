@@ -1,0 +1,71 @@
+//! Packets in, numbers out.
+use super::*;
+use std::process::Abort;
+use std::test::Fail;
+
+#[test]
+fn numbers_of_example_14(rt: HostRuntime) {
+    let mut leg = Leg::new(100);
+    assert_eq!(rt; leg.next(1, 65534), Ok(100));
+    assert_eq!(rt; leg.next(1, 65535), Ok(101));
+    assert_eq!(rt; leg.next(2, 3), Ok(102));
+    // Two before its turn's first packet, across the wrap.
+    assert_eq!(rt; leg.next(2, 65534), Err(Skip::Old));
+    assert_eq!(rt; leg.next(2, 5), Ok(104));
+    assert_eq!(rt; leg.next(2, 4), Ok(103));
+    assert_eq!(rt; leg.next(2, 5), Ok(104));
+    assert_eq!(rt; leg.next(1, 65535), Err(Skip::Old));
+    assert_eq!(rt; leg.next(3, 9), Ok(105));
+}
+
+/// One packet after another on one turn, whose sequence numbers wrap where they reach 65,536.
+fn counts_on(rt: &impl Abort, base: u16) {
+    let mut leg = Leg::new(base);
+    let start = u64::from(base);
+    let mut seq = base;
+    for above in 0..600 {
+        assert_eq!(rt; leg.next(0, seq), Ok(start + above));
+        seq = seq.wrapping_add(1);
+    }
+    // A repeated packet gets its number again, and one from before the first none.
+    assert_eq!(rt; leg.next(0, base), Ok(start));
+    assert_eq!(rt; leg.next(0, base.wrapping_sub(1)), Err(Skip::Old));
+}
+
+#[test]
+fn counts_on_round_every_wrap(rt: HostRuntime) {
+    for base in [0, 511, 512, 32767, 32768, 65534, 65535] {
+        counts_on(&rt, base);
+    }
+}
+
+/// Packets of one turn of a leg whose first number is 0, as offsets from the first one's sequence
+/// number, and what they are answered.
+const JUMPS: [(u16, Result<u64, Skip>); 9] = [
+    (0, Ok(0)),
+    // The greatest distance above the highest is 32,767; one more stands 32,768 below it.
+    (32767, Ok(32767)),
+    (65535, Err(Skip::Old)),
+    (65534, Ok(65534)),
+    (32766, Ok(32766)),
+    (32765, Ok(98301)),
+    (65533, Ok(65533)),
+    (0, Ok(65536)),
+    (1, Ok(65537)),
+];
+
+#[test]
+fn jumps_round_every_wrap(rt: HostRuntime) {
+    for base in [0u16, 511, 512, 32767, 32768, 65534, 65535] {
+        let mut leg = Leg::new(0);
+        for (offset, answer) in JUMPS {
+            assert_eq!(rt; leg.next(7, base.wrapping_add(offset)), answer);
+        }
+    }
+}
+
+#[test]
+fn numbers_of_refusals(rt: HostRuntime) {
+    assert_eq!(rt; Skip::Old.number(), 1);
+    assert_eq!(rt; Skip::Spent.number(), 2);
+}

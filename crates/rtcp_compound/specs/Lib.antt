@@ -1,0 +1,4 @@
+pub mod Fault
+pub mod Grammar
+pub mod Content
+pub mod Reading

@@ -1,0 +1,131 @@
+-- How a datagram is read: the packet at its front, or the first of seven faults.
+use Rattle.std.specs.Prelude.{◌≡◌, ◌==◌, ℕ, zero, suc, ◌+◌, ◌-◌, ◌*◌, ◌/◌, ◌%◌, ◌<◌, not, ◌&&◌, ◌||◌, Bool, nat_lt, List, [], ◌∷◌, ◌++◌, length, take, drop, map, slice_index, Option, None, Some, Result, Ok, Err, MatchResult, if◌then◌else◌, option_and_then, is_some}
+use Rattle.std.specs.List.{flat_map}
+use Rattle.byteorder.specs.Endian.{big_number}
+use Rattle.rtcp_compound.specs.declared.fault.RtcpFault.{RtcpFault}
+use Rattle.rtcp_compound.specs.declared.fault.RtcpFault.TheVariants.{Short, Version, Length, PaddingNotLast, Padding, CountOver, SdesUnended}
+use Rattle.rtcp_compound.specs.declared.packet.Packet.{Packet as ReadPacket}
+use Rattle.rtcp_compound.specs.declared.packets.Packets.{Packets}
+use Rattle.rtcp_compound.specs.Content.{Content, shown}
+use Rattle.rtcp_compound.specs.Grammar.{Packet, packet_bytes, IsPacket}
+
+infixl 10 ◌>>=◌
+abbrev pub ◌>>=◌ : {A B : Type 0} → Result A RtcpFault → (A → Result B RtcpFault) → Result B RtcpFault
+(Ok x) >>= f = f x
+(Err e) >>= f = Err e
+
+-- what a call gives is what reading gives, seen by view
+abbrev pub Gives : {X Y : Type 0} → (X → Y) → Result X RtcpFault → Result Y RtcpFault → Type 0
+Gives view r read = MatchResult r (λ x. read ≡ Ok (view x)) (λ f. read ≡ Err f)
+
+-- the packet's length with its header, as the header says
+abbrev pub size_of : List ℕ → ℕ
+size_of bytes = 4 * (big_number 2 (drop 2 bytes) + 1)
+
+abbrev pub is_padded : List ℕ → Bool
+is_padded bytes = slice_index bytes 0 / 32 % 2 == 1
+
+-- what follows the header at the front, as long as the header says, and the bytes behind it
+unfoldable pub content_at : List ℕ → Result (List ℕ × List ℕ) RtcpFault
+content_at bytes =
+    if nat_lt (length bytes) 4 then Err Short
+    else if not (slice_index bytes 0 / 64 == 2) then Err Version
+    else if nat_lt (length bytes) (size_of bytes) then Err Length
+    else if is_padded bytes && nat_lt (size_of bytes) (length bytes) then Err PaddingNotLast
+    else Ok (take (size_of bytes - 4) (drop 4 bytes), drop (size_of bytes) bytes)
+
+-- how many bytes of padding end this: as many as its last byte says
+unfoldable pub padding_in : Bool → List ℕ → Result ℕ RtcpFault
+padding_in padded content =
+    if not padded then Ok 0
+    else if slice_index content (length content - 1) == 0 then Err Padding
+    else if not (slice_index content (length content - 1) % 4 == 0) then Err Padding
+    else if nat_lt (length content) (slice_index content (length content - 1)) then Err Padding
+    else Ok (slice_index content (length content - 1))
+
+-- the bytes behind the zero byte that ends the items; so many bytes of an item's text are still to come
+abbrev pub after_items : ℕ → List ℕ → Option (List ℕ)
+after_items (suc n) (b ∷ bs) = after_items n bs
+after_items (suc n) [] = None
+after_items zero [] = None
+after_items zero (kind ∷ []) = if kind == 0 then Some [] else None
+after_items zero (kind ∷ (len ∷ bs)) = if kind == 0 then Some (len ∷ bs) else after_items len bs
+
+-- the bytes behind a chunk, in a body that ends at a word boundary
+unfoldable pub after_chunk : List ℕ → Option (List ℕ)
+after_chunk body =
+    if nat_lt (length body) 4 then None
+    else option_and_then (λ rest. Some (drop (length rest % 4) rest)) (after_items 0 (drop 4 body))
+
+abbrev pub after_chunks : ℕ → List ℕ → Option (List ℕ)
+after_chunks zero body = Some body
+after_chunks (suc n) body = option_and_then (after_chunks n) (after_chunk body)
+
+-- the sources of a goodbye, and the reason where there is one, stand within the body
+abbrev pub fits_bye : ℕ → List ℕ → Bool
+fits_bye count body =
+    not (nat_lt (length body) (4 * count))
+    && ((length body == 4 * count) || not (nat_lt (length body) (4 * count + 1 + slice_index body (4 * count))))
+
+unfoldable pub fault_in : ℕ → ℕ → List ℕ → Option RtcpFault
+fault_in kind count body =
+    if kind == 200 then (if nat_lt (length body) (24 + 24 * count) then Some CountOver else None)
+    else if kind == 201 then (if nat_lt (length body) (4 + 24 * count) then Some CountOver else None)
+    else if kind == 202 then (if is_some (after_chunks count body) then None else Some SdesUnended)
+    else if kind == 203 then (if fits_bye count body then None else Some CountOver)
+    else None
+
+abbrev pub unless : Option RtcpFault → Packet → Result Packet RtcpFault
+unless None p = Ok p
+unless (Some f) p = Err f
+
+-- the packet at the front, and the bytes behind it
+unfoldable pub packet_at : List ℕ → Result (Packet × List ℕ) RtcpFault
+packet_at bytes =
+    content_at bytes >>= λ c.
+    padding_in (is_padded bytes) c.0 >>= λ n.
+    unless (fault_in (slice_index bytes 1) (slice_index bytes 0 % 32) (take (length c.0 - n) c.0))
+    (record { count = slice_index bytes 0 % 32; kind = slice_index bytes 1; body = take (length c.0 - n) c.0; padding = drop (length c.0 - n) c.0 }) >>= λ p.
+    Ok (p, c.1)
+
+abbrev pub found_then : (List ℕ → List Packet) → Result (Packet × List ℕ) RtcpFault → List Packet
+found_then others (Ok x) = x.0 ∷ others x.1
+found_then others (Err f) = []
+
+-- the packets that the bytes hold from the front up to a fault, at most so many
+abbrev pub packets_within : ℕ → List ℕ → List Packet
+packets_within zero bytes = []
+packets_within (suc n) bytes = found_then (packets_within n) (packet_at bytes)
+
+unfoldable pub packets_in : List ℕ → List Packet
+packets_in bytes = packets_within (length bytes) bytes
+
+-- whole packets without padding
+abbrev pub AreUnpadded : List Packet → Type 0
+AreUnpadded [] = Unit {0}
+AreUnpadded (p ∷ ps) = IsPacket p × (p.padding ≡ []) × AreUnpadded ps
+
+-- Before the rest stand whole packets without padding. There may be none of them; behind one something follows.
+pub record Passes (bytes rest : List ℕ) : Type 0 where
+  pub before : List Packet
+  pub each : AreUnpadded before
+  pub goes_on : 0 < length before → 0 < length rest
+  pub bytes_are : bytes ≡ flat_map packet_bytes before ++ rest
+
+-- Behind such packets stands one with this fault: the first that is faulty.
+pub record Refuses (bytes : List ℕ) (fault : RtcpFault) : Type 0 where
+  pub rest : List ℕ
+  pub passes : Passes bytes rest
+  pub here : packet_at rest ≡ Err fault
+
+-- what a packet that was read stands for
+abbrev pub packet_of : ReadPacket → Packet
+packet_of p = record { count = p.count; kind = p.kind; body = p.body.now; padding = p.padding.now }
+
+-- the packets that are left
+abbrev pub packets_left : Packets → List Packet
+packets_left p = packets_in p.rest.now
+
+-- what an iterator over them has left to yield
+abbrev pub contents_left : Packets → List Content
+contents_left p = map shown (packets_in p.rest.now)

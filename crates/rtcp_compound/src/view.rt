@@ -1,0 +1,97 @@
+//! What a packet says, by its type.
+
+ghost use Rattle.std.specs.Prelude.{◌≡◌, ◌≤◌, ◌<◌, ◌+◌, ◌*◌, length};
+ghost use Rattle.rtcp_compound.specs.Content.{content_of, shown};
+ghost use Rattle.rtcp_compound.specs.Reading.{packet_of};
+
+use crate::packet::{BLOCK, BYE, PSFB, Packet, RR, RTPFB, SDES, SENDER, SR, WORD};
+use byteorder::{BigEndian, ByteOrder};
+use tmmbr_tuple::Ssrc;
+
+/// A packet of a datagram, without its header and padding; the parts are slices of the datagram. What
+/// stands behind the last block, chunk or source that is counted is ignored.
+#[derive(Clone, Copy, Debug)]
+pub enum RtcpView<'a> {
+    /// A sender report (RFC 3550, section 6.4.1): its sender, the NTP timestamp in 2^-32 seconds, the
+    /// RTP timestamp, the packets and payload octets sent, and its blocks in 24 bytes each.
+    Sr {
+        sender: Ssrc,
+        ntp: u64,
+        rtp: u32,
+        packets: u32,
+        octets: u32,
+        blocks: &'a [u8],
+    },
+    /// A receiver report (RFC 3550, section 6.4.2): its sender, and its blocks in 24 bytes each.
+    Rr {
+        sender: Ssrc,
+        blocks: &'a [u8],
+    },
+    /// A source description (RFC 3550, section 6.5): how many chunks, and the bytes that begin with them.
+    Sdes {
+        count: u8,
+        chunks: &'a [u8],
+    },
+    /// A goodbye (RFC 3550, section 6.6): its sources in 4 bytes each.
+    Bye {
+        ssrcs: &'a [u8],
+    },
+    /// Feedback of the transport layer, 205, or about the payload, 206 (RFC 4585, section 6.1): its FMT,
+    /// its packet type, and its body from the sender on.
+    Feedback {
+        fmt: u8,
+        kind: u8,
+        body: &'a [u8],
+    },
+    /// A packet of another type, as it stands.
+    Other {
+        count: u8,
+        kind: u8,
+        body: &'a [u8],
+    },
+}
+
+/// What a packet says.
+#[tactic(auto, unfolding(crate::specs::Content::shown))]
+pub fn view_of(packet: Packet<'_>) -> RtcpView<'_>
+    requires counted { packet.count < 32 }
+    requires sender_report { packet.kind ≡ 200 → 24 + 24 * packet.count ≤ length packet.body.now }
+    requires receiver_report { packet.kind ≡ 201 → 4 + 24 * packet.count ≤ length packet.body.now }
+    requires goodbye { packet.kind ≡ 203 → 4 * packet.count ≤ length packet.body.now }
+    ensures { content_of result ≡ shown (packet_of packet.entry) }
+{
+    let Packet {
+        count,
+        kind,
+        body,
+        ..
+    } = packet;
+    let entries = usize::from(count);
+    match kind {
+        SR => RtcpView::Sr {
+            sender: Ssrc(BigEndian::read_u32(body)),
+            ntp: BigEndian::read_u64(&body[4..]),
+            rtp: BigEndian::read_u32(&body[12..]),
+            packets: BigEndian::read_u32(&body[16..]),
+            octets: BigEndian::read_u32(&body[20..]),
+            blocks: &body[SENDER..SENDER + BLOCK * entries],
+        },
+        RR => RtcpView::Rr {
+            sender: Ssrc(BigEndian::read_u32(body)),
+            blocks: &body[WORD..WORD + BLOCK * entries],
+        },
+        SDES => RtcpView::Sdes {
+            count,
+            chunks: body,
+        },
+        BYE => RtcpView::Bye {
+            ssrcs: &body[..WORD * entries],
+        },
+        RTPFB | PSFB => RtcpView::Feedback {
+            fmt: count,
+            kind,
+            body,
+        },
+        _ => RtcpView::Other { count, kind, body },
+    }
+}

@@ -1,0 +1,5 @@
+pub mod Grammar
+pub mod Trees
+pub mod Parts
+pub mod Header
+pub mod Fault

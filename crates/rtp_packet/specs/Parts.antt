@@ -1,0 +1,17 @@
+-- The packet that a view shows.
+use Rattle.rtp_packet.specs.declared.view.RtpView.{RtpView}
+use Rattle.rtp_packet.specs.Grammar.{Packet}
+use Rattle.rtp_packet.specs.Trees.{tree_of}
+
+abbrev pub packet_of : RtpView → Packet
+packet_of v = record {
+  marker = v.marker;
+  payload_type = v.payload_type;
+  sequence_number = v.sequence_number;
+  timestamp = v.timestamp;
+  ssrc = v.ssrc.0;
+  csrcs = v.csrcs.now;
+  extension = tree_of v.extension;
+  payload = v.payload.now;
+  padding = v.padding.now;
+}
