@@ -1,2 +1,13 @@
 pub mod RowLemmas
-pub mod AloneLemmas
+pub mod TurnLemmas
+pub mod EnvelopeLemmas
+pub mod AddLemmas
+pub mod SortLemmas
+pub mod WalkLemmas
+pub mod EndLemmas
+pub mod EssentialLemmas
+pub mod StopScans
+pub mod StopLemmas
+pub mod KeptLemmas
+pub mod ImpliedLemmas
+pub mod CertificateLemmas

@@ -2,7 +2,8 @@
 
 ghost use Rattle.std.specs.Prelude.{◌≡◌, ◌≢◌, ◌<◌, ◌≤◌, ◌↔◌, [], length, Some, None, IsTrue, IsOk, IsErr, IfOk, OnOk, OnErr, OnSome, IfNone, IsNone, ◌+◌};
 
-use crate::certificate::{certify, chosen};
+use crate::announced::announce;
+use crate::certificate::chosen;
 use crate::rows::{Full, LIVE_LIMIT, are_same, put, take};
 use arrayvec::ArrayVec;
 use rate_cert::{Cert, MAX_REQUESTS, Request};
@@ -62,7 +63,7 @@ impl Bounds {
     {
         let before = chosen(self.rows.as_slice(), &self.cert);
         put(&mut self.rows, Request { owner, tuple })?;
-        certify(self.rows.as_slice(), &mut self.cert);
+        announce(self.rows.as_slice(), &mut self.cert);
         let after = chosen(self.rows.as_slice(), &self.cert);
         Ok(!are_same(before.as_slice(), after.as_slice()))
     }
@@ -79,7 +80,7 @@ impl Bounds {
         ensures announced { AnnouncesSmallest self.new }
     {
         let tuple = take(&mut self.rows, owner)?;
-        certify(self.rows.as_slice(), &mut self.cert);
+        announce(self.rows.as_slice(), &mut self.cert);
         Some(tuple)
     }
 

@@ -5,14 +5,22 @@
 //! they came, and in what order, makes no difference. No call allocates.
 #![tactic(auto)]
 
+mod announced;
 mod bounds;
 mod certificate;
+mod envelope;
+mod line_end;
 mod rows;
+mod zero_rates;
 
 pub use bounds::Bounds;
 pub use rows::{Full, LIVE_LIMIT};
 
 #[cfg(test)]
+mod lists;
+#[cfg(test)]
 mod slow;
+#[cfg(test)]
+mod slow_certificate;
 #[cfg(test)]
 mod tests;

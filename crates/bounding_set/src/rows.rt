@@ -9,7 +9,7 @@ use thiserror::Error;
 use tmmbr_tuple::{Ssrc, Tuple};
 
 /// How many owners may have a live request at once.
-pub const LIVE_LIMIT: usize = 1;
+pub const LIVE_LIMIT: usize = MAX_REQUESTS;
 
 /// A request of one more owner came while as many others are live as may be.
 #[derive(Clone, Copy, Debug, PartialEq, Eq, Error)]
@@ -32,8 +32,12 @@ pub fn put(rows: &mut ArrayVec<Request, MAX_REQUESTS>, request: Request) -> Resu
             let slice = rows.as_mut_slice();
             slice[place] = request;
         }
-        Err(_) if rows.len() == LIVE_LIMIT => return Err(Full),
-        Err(place) => rows.insert(place, request),
+        Err(place) => {
+            if rows.len() == LIVE_LIMIT {
+                return Err(Full);
+            }
+            rows.insert(place, request);
+        }
     }
     Ok(())
 }

@@ -4,6 +4,7 @@
 
 pub mod laws;
 mod ring;
+mod run;
 
 pub use ring::{MAX_CAPACITY, Ring};
 

@@ -4,6 +4,7 @@ ghost use Rattle.std.specs.Prelude.{◌≡◌, ◌≤◌, [], ◌∷◌, ◌++�
 ghost use Rattle.std.specs.Option.{option_to_list};
 ghost use Rattle.circular_buffer.specs.Buffer.{keep_last};
 
+use crate::run::run_through;
 use circular_buffer::HeapCircularBuffer;
 use std::alloc::{AllocError, Global};
 use std::marker::Model;
@@ -19,17 +20,24 @@ const CYCLE: u64 = 1 << 16;
 pub struct Ring {
     /// From the oldest to the newest.
     packets: HeapCircularBuffer<(u64, Vec<u8>)>,
+    /// How many packets the run has that ends with the newest: each one's number is one more than that
+    /// of the packet before it. 0 where none is kept.
+    run: usize,
 }
 
 impl Model for Ring {
     ghost use Rattle.std.specs.Prelude.{◌≤◌, length, map};
-    ghost use Rattle.resend_ring.specs.Kept.{Kept, packet_of};
+    ghost use Rattle.resend_ring.specs.declared.ring.TheConstants.{MAX_CAPACITY};
+    ghost use Rattle.resend_ring.specs.Kept.{Kept, packet_of, EndsInRun};
 
     ghost Value = { Kept };
 
     ghost view = { λ r. record { capacity = r.packets.capacity; items = map packet_of r.packets.items } };
 
-    ghost invariant = { λ r. (1 ≤ r.packets.capacity) × (length r.packets.items ≤ r.packets.capacity) };
+    ghost invariant = { λ r. (1 ≤ r.packets.capacity)
+        × (r.packets.capacity ≤ MAX_CAPACITY)
+        × (length r.packets.items ≤ r.packets.capacity)
+        × EndsInRun r.run (map packet_of r.packets.items) };
 }
 
 impl Ring {
@@ -42,7 +50,7 @@ impl Ring {
         ensures { IfOk result (λ ring. ring ≡ record { capacity = capacity; items = [] }) }
     {
         let packets = HeapCircularBuffer::with_capacity(alloc, capacity)?;
-        Ok(Ring { packets })
+        Ok(Ring { packets, run: 0 })
     }
 
     /// Keeps a packet as the newest. Answers the packet that it pushed out, the oldest of a full ring.
@@ -54,7 +62,10 @@ impl Ring {
         ensures left { self.old.items ++ record { number = number; bytes = bytes.items } ∷ []
             ≡ option_to_list (option_map packet_of result) ++ self.new.items }
     {
-        self.packets.push_back((number, bytes))
+        let run = run_through(&self.packets, self.run, number);
+        let left = self.packets.push_back((number, bytes));
+        self.run = run.min(self.packets.len());
+        left
     }
 
     /// The bytes of the latest packet kept whose number has these low 16 bits.
@@ -62,7 +73,14 @@ impl Ring {
         ensures { option_copied result ≡ last_kept_with self.now.items seq }
     {
         let packets = &self.packets;
-        for back in 0..packets.len() {
+        let Some((newest, _)) = packets.back() else {
+            return None;
+        };
+        let behind = ((newest % CYCLE) as u16).wrapping_sub(seq);
+        // A packet of the run is as many places behind the newest as its number is below the newest's. So
+        // none nearer than `behind` has these bits, and that one has, if the run goes so far.
+        let nearest = self.run.min(usize::from(behind));
+        for back in nearest..packets.len() {
             if let Some((number, bytes)) = packets.nth_back(back) {
                 if number % CYCLE == u64::from(seq) {
                     return Some(bytes.as_slice());

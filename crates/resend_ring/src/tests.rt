@@ -53,6 +53,63 @@ fn finds_the_latest_of_two(rt: HostRuntime) -> Result<(), Fail> {
 }
 
 #[test]
+fn keeps_round_every_wrap(rt: HostRuntime) -> Result<(), Fail> {
+    for first in [0u16, 511, 32767, 32768, 65534, 65535] {
+        let first = u64::from(first);
+        let numbers = [first, first + 1, first + 2, first + 3, first + 4];
+        let (ring, left) = kept(rt.alloc(), 3, numbers.as_slice())?;
+        assert_eq!(rt; left.as_slice(), [first, first + 1].as_slice());
+        for number in left.as_slice() {
+            assert!(rt; ring.find((number % 65536) as u16).is_none());
+        }
+        for number in first + 2..first + 5 {
+            assert_eq!(rt;
+                ring.find((number % 65536) as u16).ok_or("kept")?,
+                number.to_be_bytes().as_slice()
+            );
+        }
+        assert!(rt; ring.find(((first + 5) % 65536) as u16).is_none());
+    }
+    Ok(())
+}
+
+#[test]
+fn finds_in_a_run_of_512(rt: HostRuntime) -> Result<(), Fail> {
+    let mut ring = Ring::new(rt.alloc(), MAX_CAPACITY)?;
+    // The last 512 are 65400 to 65911.
+    for number in 65300u64..65912 {
+        let bytes = number.to_be_bytes().to_vec(rt.alloc())?;
+        let _left = ring.keep(number, bytes);
+    }
+    for number in 65400u64..65912 {
+        assert_eq!(rt;
+            ring.find((number % 65536) as u16).ok_or("kept")?,
+            number.to_be_bytes().as_slice()
+        );
+    }
+    assert!(rt; ring.find(65399).is_none());
+    assert!(rt; ring.find(376).is_none());
+    Ok(())
+}
+
+#[test]
+fn finds_across_gaps(rt: HostRuntime) -> Result<(), Fail> {
+    // 65535 is missing, 65536 comes late, and 131075 has the low bits of 3 as 65539 has.
+    let numbers = [65533, 65534, 65537, 65538, 65536, 65539, 131075, 131076];
+    let (ring, left) = kept(rt.alloc(), 8, numbers.as_slice())?;
+    assert_eq!(rt; left.len(), 0);
+    assert!(rt; ring.find(65535).is_none());
+    assert!(rt; ring.find(5).is_none());
+    for number in [65533u64, 65534, 65536, 65537, 65538, 131075, 131076] {
+        assert_eq!(rt;
+            ring.find((number % 65536) as u16).ok_or("kept")?,
+            number.to_be_bytes().as_slice()
+        );
+    }
+    Ok(())
+}
+
+#[test]
 fn greatest_ring(rt: HostRuntime) -> Result<(), Fail> {
     let ring = Ring::new(rt.alloc(), MAX_CAPACITY)?;
     assert!(rt; ring.find(0).is_none());

@@ -4,3 +4,6 @@ pub mod HeaderLemmas
 pub mod ChunkLemmas
 pub mod PacketLemmas
 pub mod DatagramLemmas
+pub mod EntryLemmas
+pub mod WriterLemmas
+pub mod LawLemmas

@@ -1,15 +1,26 @@
 -- What a packet says by its type: the tree of its parts (RFC 3550, sections 6.4 to 6.6; RFC 4585, section 6.1).
-use Rattle.std.specs.Prelude.{◌==◌, ℕ, ◌*◌, ◌||◌, List, take, drop, if◌then◌else◌}
+use Rattle.std.specs.Prelude.{◌==◌, ℕ, ◌*◌, ◌/◌, ◌||◌, List, length, take, drop, if◌then◌else◌}
 use Rattle.byteorder.specs.Endian.{big_number}
+use Rattle.rtcp_compound.specs.declared.bye.Sources.{Sources}
 use Rattle.rtcp_compound.specs.declared.view.RtcpView.{RtcpView}
 use Rattle.rtcp_compound.specs.declared.view.RtcpView.TheVariants.{Sr, Rr, Sdes, Bye, Feedback, Other}
+use Rattle.rtcp_compound.specs.Entries.{entries_from}
 use Rattle.rtcp_compound.specs.Grammar.{Packet}
+use Rattle.rtcp_compound.specs.Report.{ReportBlock, blocks_in, blocks_left}
+
+-- the sources that stand whole in the bytes
+unfoldable pub sources_in : List ℕ → List ℕ
+sources_in bytes = entries_from (big_number 4) 4 (length bytes / 4) bytes
+
+-- the sources that are left
+abbrev pub sources_left : Sources → List ℕ
+sources_left s = sources_in s.bytes.now
 
 -- What stands behind the last block, chunk or source that is counted is an extension, and ignored; but a reader of chunks
 -- gets them with it.
 pub data Content : Type 0 where
-  sender_report : ℕ → ℕ → ℕ → ℕ → ℕ → List ℕ → Content
-  receiver_report : ℕ → List ℕ → Content
+  sender_report : ℕ → ℕ → ℕ → ℕ → ℕ → List ReportBlock → Content
+  receiver_report : ℕ → List ReportBlock → Content
   description : ℕ → List ℕ → Content
   goodbye : List ℕ → Content
   feedback : ℕ → ℕ → List ℕ → Content
@@ -21,18 +32,18 @@ unfoldable pub shown : Packet → Content
 shown p =
     if p.kind == 200 then
     sender_report (big_number 4 p.body) (big_number 8 (drop 4 p.body)) (big_number 4 (drop 12 p.body))
-    (big_number 4 (drop 16 p.body)) (big_number 4 (drop 20 p.body)) (take (24 * p.count) (drop 24 p.body))
-    else if p.kind == 201 then receiver_report (big_number 4 p.body) (take (24 * p.count) (drop 4 p.body))
+    (big_number 4 (drop 16 p.body)) (big_number 4 (drop 20 p.body)) (blocks_in (take (24 * p.count) (drop 24 p.body)))
+    else if p.kind == 201 then receiver_report (big_number 4 p.body) (blocks_in (take (24 * p.count) (drop 4 p.body)))
     else if p.kind == 202 then description p.count p.body
-    else if p.kind == 203 then goodbye (take (4 * p.count) p.body)
+    else if p.kind == 203 then goodbye (sources_in (take (4 * p.count) p.body))
     else if (p.kind == 205) || (p.kind == 206) then feedback p.count p.kind p.body
     else other p.count p.kind p.body
 
 -- what a view stands for
 abbrev pub content_of : RtcpView → Content
-content_of (Sr sender ntp rtp packets octets blocks) = sender_report sender.0 ntp rtp packets octets blocks.now
-content_of (Rr sender blocks) = receiver_report sender.0 blocks.now
+content_of (Sr sender ntp rtp packets octets blocks) = sender_report sender.0 ntp rtp packets octets (blocks_left blocks)
+content_of (Rr sender blocks) = receiver_report sender.0 (blocks_left blocks)
 content_of (Sdes count chunks) = description count chunks.now
-content_of (Bye sources) = goodbye sources.now
+content_of (Bye sources) = goodbye (sources_left sources)
 content_of (Feedback fmt kind body) = feedback fmt kind body.now
 content_of (Other count kind body) = other count kind body.now

@@ -6,15 +6,24 @@
 //! last one alone padding.
 #![tactic(auto)]
 
+mod bye;
 mod fault;
+pub mod laws;
 mod packet;
 mod packets;
+mod report;
 mod sdes;
 mod view;
+mod writer;
 
+pub use bye::Sources;
 pub use fault::RtcpFault;
 pub use packets::{Packets, split};
+pub use report::{Block, Blocks};
 pub use view::RtcpView;
+pub use writer::{CNAME_LIMIT, ENTRY_LIMIT, write_bye, write_rr, write_sdes_cname, write_sr};
 
 #[cfg(test)]
 mod tests;
+#[cfg(test)]
+mod writer_tests;

@@ -4,7 +4,9 @@ ghost use Rattle.std.specs.Prelude.{◌≡◌, ◌≤◌, ◌<◌, ◌+◌, ◌*
 ghost use Rattle.rtcp_compound.specs.Content.{content_of, shown};
 ghost use Rattle.rtcp_compound.specs.Reading.{packet_of};
 
+use crate::bye::Sources;
 use crate::packet::{BLOCK, BYE, PSFB, Packet, RR, RTPFB, SDES, SENDER, SR, WORD};
+use crate::report::Blocks;
 use byteorder::{BigEndian, ByteOrder};
 use tmmbr_tuple::Ssrc;
 
@@ -13,28 +15,28 @@ use tmmbr_tuple::Ssrc;
 #[derive(Clone, Copy, Debug)]
 pub enum RtcpView<'a> {
     /// A sender report (RFC 3550, section 6.4.1): its sender, the NTP timestamp in 2^-32 seconds, the
-    /// RTP timestamp, the packets and payload octets sent, and its blocks in 24 bytes each.
+    /// RTP timestamp, the packets and payload octets sent, and its blocks.
     Sr {
         sender: Ssrc,
         ntp: u64,
         rtp: u32,
         packets: u32,
         octets: u32,
-        blocks: &'a [u8],
+        blocks: Blocks<'a>,
     },
-    /// A receiver report (RFC 3550, section 6.4.2): its sender, and its blocks in 24 bytes each.
+    /// A receiver report (RFC 3550, section 6.4.2): its sender, and its blocks.
     Rr {
         sender: Ssrc,
-        blocks: &'a [u8],
+        blocks: Blocks<'a>,
     },
     /// A source description (RFC 3550, section 6.5): how many chunks, and the bytes that begin with them.
     Sdes {
         count: u8,
         chunks: &'a [u8],
     },
-    /// A goodbye (RFC 3550, section 6.6): its sources in 4 bytes each.
+    /// A goodbye (RFC 3550, section 6.6): the sources that leave.
     Bye {
-        ssrcs: &'a [u8],
+        sources: Sources<'a>,
     },
     /// Feedback of the transport layer, 205, or about the payload, 206 (RFC 4585, section 6.1): its FMT,
     /// its packet type, and its body from the sender on.
@@ -74,18 +76,24 @@ pub fn view_of(packet: Packet<'_>) -> RtcpView<'_>
             rtp: BigEndian::read_u32(&body[12..]),
             packets: BigEndian::read_u32(&body[16..]),
             octets: BigEndian::read_u32(&body[20..]),
-            blocks: &body[SENDER..SENDER + BLOCK * entries],
+            blocks: Blocks {
+                bytes: &body[SENDER..SENDER + BLOCK * entries],
+            },
         },
         RR => RtcpView::Rr {
             sender: Ssrc(BigEndian::read_u32(body)),
-            blocks: &body[WORD..WORD + BLOCK * entries],
+            blocks: Blocks {
+                bytes: &body[WORD..WORD + BLOCK * entries],
+            },
         },
         SDES => RtcpView::Sdes {
             count,
             chunks: body,
         },
         BYE => RtcpView::Bye {
-            ssrcs: &body[..WORD * entries],
+            sources: Sources {
+                bytes: &body[..WORD * entries],
+            },
         },
         RTPFB | PSFB => RtcpView::Feedback {
             fmt: count,

@@ -1,21 +1,27 @@
 -- How a refused input is shown.
-use Rattle.std.proofs.Common.{◌≡◌, ℕ, List, Option, None, Some}
+use Rattle.std.proofs.Common.{◌≡◌, ℕ, List, Option, None, Some, Err, subst}
 use Rattle.std.specs.Prelude.{IfSome}
 use Rattle.std.specs.Io.KnownBytes.{Keeps}
-use Rattle.sfu_main.specs.CommandLine.{Request}
+use Rattle.sfu_main.specs.CommandLine.{Request, bound}
+use Rattle.sfu_main.specs.Lines.{TextLeaves}
 use Rattle.sfu_main.specs.declared.command.Failure.{Failure}
 use Rattle.sfu_main.specs.declared.command.Failure.TheVariants.{NoMemory, Refused, Io}
 use Rattle.sfu_main.specs.declared.command.Status.TheVariants as status
-use Rattle.sfu_main.specs.Command.{FailsBound, RefusesBound, ShowsLine, status_of}
+use Rattle.sfu_main.specs.Command.{FailsBound, PrintsBound, RefusesBound, ShowsLine, status_of}
 
-pub shown_refusal : (sender : ℕ) (input old new errors_old errors_new : Option (List ℕ)) (failure : Failure) → status_of failure ≡ status.Refused
-    → FailsBound sender input old new failure → ShowsLine failure errors_old errors_new
+pub shown_refusal : (asked sender : ℕ) (input old new errors_old errors_new : Option (List ℕ)) (failure : Failure) → asked ≡ sender
+    → status_of failure ≡ status.Refused → FailsBound asked input old new failure → ShowsLine failure errors_old errors_new
     → IfSome input (λ text. Keeps old new × RefusesBound sender text errors_old errors_new)
-shown_refusal sender input old new errors_old errors_new NoMemory is fails shows = cc
-shown_refusal sender input old new errors_old errors_new Io is fails shows = cc
-shown_refusal sender None old new errors_old errors_new (Refused line fault) is fails shows = tt
-shown_refusal sender (Some text) old new errors_old errors_new (Refused line fault) is fails shows =
-    (fails.0, record { refused = record { line = line; fault = fault }; first = fails.1; shown = shows })
+shown_refusal asked sender input old new errors_old errors_new NoMemory same is fails shows = cc
+shown_refusal asked sender input old new errors_old errors_new Io same is fails shows = cc
+shown_refusal asked sender None old new errors_old errors_new (Refused line fault) same is fails shows = tt
+shown_refusal asked sender (Some text) old new errors_old errors_new (Refused line fault) same is fails shows =
+    let first = subst (λ (n : ℕ). TextLeaves n text (Err (record { line = line; fault = fault }))) same fails.1 in
+    (fails.0, record { refused = record { line = line; fault = fault }; first = first; shown = shows })
 
-pub same_request : (asked request : Request) → Some asked ≡ Some request → asked ≡ request
-same_request asked request e = cc
+pub shown_set : (asked sender : ℕ) (input old new : Option (List ℕ)) → asked ≡ sender → IfSome input (λ text. PrintsBound asked text old new)
+    → IfSome input (λ text. PrintsBound sender text old new)
+shown_set asked sender input old new same printed = subst (λ (n : ℕ). IfSome input (λ text. PrintsBound n text old new)) same printed
+
+pub same_sender : (asked sender : ℕ) → Some (bound asked) ≡ Some (bound sender) → asked ≡ sender
+same_sender asked sender e = cc

@@ -10,18 +10,19 @@ use Rattle.std.proofs.lemmas.Int.{ints}
 use Rattle.std.proofs.lemmas.Str.Parse.{digit_from_value}
 use Rattle.clap.specs.Lexer.{strip_byte}
 use Rattle.clap.specs.Matches.{ReadsOne}
-use Rattle.clap.specs.Words.{Row, Text, subcommand_of, takes}
+use Rattle.clap.specs.Words.{Row, Text, first_value, rows_of, subcommand_of, takes}
+use Rattle.clap.specs.declared.parser.matches.Found.{Found}
 use Rattle.clap.specs.declared.parser.matches.ValueSource.TheVariants.{CommandLine}
 use Rattle.clap.specs.declared.builder.value_parser.Reading.{Reading}
-use Rattle.clap.specs.declared.builder.value_parser.Reading.TheVariants.{WithoutMinus}
+use Rattle.clap.specs.declared.builder.value_parser.Reading.TheVariants.{AsWritten, WithoutMinus}
 use Rattle.clap.specs.ValueTests.{accepts, is_numeral}
 use Rattle.clap.proofs.ValueTestLemmas.{Accepts-accepts}
 use Rattle.clap.proofs.OnLiterals.{clap_on_literals}
-use Rattle.clap.proofs.WalkLemmas.{both}
+use Rattle.clap.proofs.WalkLemmas.{both, first_value-rows}
 use Rattle.clap.specs.declared.builder.ValueParser.{ValueParser}
 use Rattle.clap.specs.declared.builder.ValueParser.TheVariants as vp
 use Rattle.std.proofs.lemmas.Fmt.{decimal_is_IsNumeral}
-use Rattle.sfu_main.specs.CommandLine.{IsWritable, Types, words_of, Request, asked_for, asked_in, bound, sfu, number_of}
+use Rattle.sfu_main.specs.CommandLine.{IsWritable, Types, words_of, Request, asked_for, asked_in, asked_named, bound, check, sfu, number_of}
 
 -- ---- reading a number
 
@@ -95,6 +96,23 @@ pub bound_taken : (name : Text) (d : ℕ) (ds : Text) → (d == 45) ≡ false �
 unfolding clap_on_literals
 bound_taken name d ds e p = rw (e, no_hyphen d ds e, p) refl
 
+check_found : (name : Text) (d : ℕ) (ds : Text) → (d == 45) ≡ false
+    → subcommand_of sfu (name ∷ codes "check" ∷ (d ∷ ds) ∷ []) ≡ Some (codes "check", row (codes "FILE") AsWritten (d ∷ ds) ∷ [])
+unfolding clap_on_literals
+check_found name d ds e = rw (e, no_hyphen d ds e) refl
+
+check_asked : (name : Text) (d : ℕ) (ds : Text) → (d == 45) ≡ false
+    → asked_for (name ∷ codes "check" ∷ (d ∷ ds) ∷ []) ≡ Some (check (d ∷ ds))
+check_asked name d ds e = ap asked_in (check_found name d ds e)
+
+check_taken : (name : Text) (d : ℕ) (ds : Text) → (d == 45) ≡ false → takes sfu (name ∷ codes "check" ∷ (d ∷ ds) ∷ []) ≡ true
+unfolding clap_on_literals
+check_taken name d ds e = rw (e, no_hyphen d ds e) refl
+
+-- the file that the typed getter finds
+pub asked_check : (f : Found) (file : Option Text) → file ≡ first_value f (codes "FILE") → option_map check file ≡ asked_named (codes "check") (rows_of f)
+asked_check f file is = ap (option_map check) (is ∙ first_value-rows f (codes "FILE"))
+
 -- ---- numerals
 
 record IsNumber (number : Text) (n : ℕ) : Type 0 where
@@ -135,6 +153,10 @@ read_at words (bound n) name is fits =
     let k = decimal_number n fits in
     subst (λ (t : Text). IsRead (name ∷ codes "bound" ∷ codes "--sender" ∷ t ∷ []) (bound n)) (sym k.is)
     (bound_asked name k.d k.ds k.plain ∙ ap (option_map bound) k.read, bound_taken name k.d k.ds k.plain k.passes)
+read_at words (check []) name is fits = absurd fits
+read_at words (check (d ∷ ds)) name is fits =
+    let plain : (d == 45) ≡ false = ne_eqb d 45 fits in
+    (check_asked name d ds plain, check_taken name d ds plain)
 
 pub some_is : {X : Type 0} (x y : X) → Some x ≡ Some y → x ≡ y
 some_is x y e = cc

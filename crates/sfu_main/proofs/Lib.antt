@@ -1,4 +1,7 @@
 pub mod LiveLemmas
+pub mod LineLemmas
+pub mod LastLemmas
+pub mod AskedLemmas
 pub mod RowTextLemmas
 pub mod CommandLineLemmas
 pub mod CommandLemmas

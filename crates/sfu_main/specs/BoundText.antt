@@ -1,5 +1,5 @@
 -- The text that `sfu bound` prints.
-use Rattle.std.specs.Prelude.{ℕ, ◌+◌, ◌*◌, List, ◌∷◌, ◌++◌, length, codes, flat_map, option_map, unwrap_or, slice_get}
+use Rattle.std.specs.Prelude.{ℕ, List, ◌++◌, codes, flat_map, map, option_map, unwrap_or, slice_get, Result, Ok, Err}
 use Rattle.std.specs.Fmt.{decimal}
 use Rattle.hex.specs.Hex.{encode_lower}
 use Rattle.byteorder.specs.Endian.{big_bytes}
@@ -7,24 +7,23 @@ use Rattle.tmmbr_tuple.specs.Tuple.{word_of}
 use Rattle.rate_cert.specs.declared.request.Request.{Request}
 use Rattle.rate_cert.specs.declared.certificate.Kept.{Kept}
 use Rattle.rate_cert.specs.declared.certificate.Implied.{Implied}
+use Rattle.rate_cert.specs.declared.fault.CertFault.{CertFault}
+use Rattle.rate_cert.specs.declared.fault.CertFault.TheVariants.{Place, PairNotForbidden, TwoPairsForbidden, NotImplied, Missing}
 use Rattle.bounding_set.specs.State.{State, announced_of}
+use Rattle.rtcp_compound.specs.Fault.{number_of as rtcp_number}
+use Rattle.rtcp_feedback.specs.declared.tmmb.TmmbrEntry.{TmmbrEntry}
+use Rattle.rtcp_feedback.specs.Fault.{number_of as feedback_number}
+use Rattle.rtcp_feedback.specs.Writing.{packet_bytes, tmmb_body}
 use Rattle.sfu_main.specs.declared.fault.LineFault.{LineFault}
-use Rattle.sfu_main.specs.declared.fault.LineFault.TheVariants.{Hex, Rtcp, Feedback, Full}
-use Rattle.sfu_main.specs.declared.fault.RtcpFault.{RtcpFault}
-use Rattle.sfu_main.specs.declared.fault.RtcpFault.TheVariants.{Short, Version, Length, Padding}
-use Rattle.sfu_main.specs.declared.fault.FeedbackFault.{FeedbackFault}
-use Rattle.sfu_main.specs.declared.fault.FeedbackFault.TheVariants.{Short as ShortBody, OddFci}
+use Rattle.sfu_main.specs.declared.fault.LineFault.TheVariants.{Hex, Rtcp, Feedback, Full, Text}
 use Rattle.sfu_main.specs.Lines.{Refused}
 
--- an entry of a TMMBN: the owner and its tuple (RFC 5104, section 4.2.2.1)
-abbrev pub entry_bytes : Request → List ℕ
-entry_bytes r = big_bytes 4 r.owner.0 ++ big_bytes 4 (word_of r.tuple)
+-- the TMMBN that announces a set (RFC 5104, section 4.2.2): an entry for each request, its owner and its tuple
+abbrev pub entry_for : Request → TmmbrEntry
+entry_for r = record { ssrc = r.owner; word = word_of r.tuple }
 
--- the TMMBN that announces a set: version 2, no padding, FMT 4, RTPFB, the length in words less one, the sender, no
--- source of media, and the entries
 abbrev pub tmmbn_bytes : ℕ → List Request → List ℕ
-tmmbn_bytes sender announced =
-    132 ∷ 205 ∷ big_bytes 2 (2 + 2 * length announced) ++ big_bytes 4 sender ++ big_bytes 4 0 ++ flat_map entry_bytes announced
+tmmbn_bytes sender announced = packet_bytes 4 205 (tmmb_body sender (map entry_for announced))
 
 -- the owner and the tuple of the row at a place
 unfoldable pub owner_at : List Request → ℕ → ℕ
@@ -53,23 +52,23 @@ bound_text sender s =
     encode_lower (tmmbn_bytes sender (announced_of s)) ++ codes "\n" ++ flat_map (kept_line s.rows) s.cert.kept.items
     ++ flat_map (implied_line s.rows) s.cert.implied.items
 
--- the number of a fault, as texts show it
-abbrev pub rtcp_number : RtcpFault → ℕ
-rtcp_number Short = 1
-rtcp_number Version = 2
-rtcp_number Length = 3
-rtcp_number Padding = 5
-
-abbrev pub feedback_number : FeedbackFault → ℕ
-feedback_number ShortBody = 1
-feedback_number OddFci = 2
-
+-- a fault by its number
 abbrev pub fault_text : LineFault → List ℕ
 fault_text Hex = codes "hex\n"
 fault_text (Rtcp f) = codes "rtcp " ++ (decimal (rtcp_number f) ++ codes "\n")
 fault_text (Feedback f) = codes "feedback " ++ (decimal (feedback_number f) ++ codes "\n")
 fault_text Full = codes "full\n"
+fault_text Text = codes "text\n"
 
 -- what goes to the error output for a refused line
 abbrev pub refused_text : Refused → List ℕ
 refused_text r = codes "line " ++ (decimal r.line ++ (codes ": " ++ fault_text r.fault))
+
+-- what `sfu check` prints: yes, or no with the number of the first condition that fails and its place
+abbrev pub answer_text : Result (Unit {0}) CertFault → List ℕ
+answer_text (Ok done) = codes "yes\n"
+answer_text (Err Place) = codes "no 1\n"
+answer_text (Err PairNotForbidden) = codes "no 2\n"
+answer_text (Err (TwoPairsForbidden place)) = codes "no 3 " ++ (decimal place ++ codes "\n")
+answer_text (Err (NotImplied place)) = codes "no 4 " ++ (decimal place ++ codes "\n")
+answer_text (Err (Missing place)) = codes "no 5 " ++ (decimal place ++ codes "\n")

@@ -1,9 +1,15 @@
 -- What `sfu bound` prints, and what it refuses.
-use Rattle.std.specs.Prelude.{◌≡◌, ◌≢◌, ℕ, codes, List, Option, IfSome, Ok, Err}
+use Rattle.std.specs.Prelude.{◌≡◌, ◌≢◌, ◌⊎◌, ℕ, codes, List, Option, IfSome, Ok, Err}
 use Rattle.std.specs.Io.KnownBytes.{Appends, Keeps}
+use Rattle.std.specs.IoError.{error_kind}
+use Rattle.std.specs.declared.io.Error.{Error}
+use Rattle.std.specs.declared.io.ErrorKind.{ErrorKind}
+use Rattle.std.specs.declared.io.ErrorKind.TheVariants.{OutOfMemory}
+use Rattle.rate_cert.specs.declared.fault.CertFault.{CertFault}
+use Rattle.sfu_main.specs.declared.fault.LineFault.TheVariants.{Text}
 use Rattle.bounding_set.specs.State.{State, AnnouncesSmallest}
-use Rattle.sfu_main.specs.BoundText.{bound_text, refused_text}
-use Rattle.sfu_main.specs.Lines.{Asked, Refused, AreRowsOf, left_by}
+use Rattle.sfu_main.specs.BoundText.{answer_text, bound_text, refused_text}
+use Rattle.sfu_main.specs.Lines.{Asked, Refused, AreRowsOf, HoldsLastWords, TextLeaves}
 use Rattle.sfu_main.specs.declared.bound.Refusal.{Refusal}
 use Rattle.sfu_main.specs.declared.bound.Refusal.TheVariants.{NoMemory as NoMemoryAtAll, Line}
 use Rattle.sfu_main.specs.declared.command.Status.{Status}
@@ -12,19 +18,20 @@ use Rattle.sfu_main.specs.declared.command.Failure.{Failure}
 use Rattle.sfu_main.specs.declared.command.Failure.TheVariants.{NoMemory, Refused as RefusedLine, Io}
 
 -- What is printed is the text of the set, and of its certificate, that is announced for the requests which the input
--- leaves: the canonical choice of them, which is smallest.
+-- leaves, the last word of each owner: the canonical choice of them, which is smallest.
 pub record PrintsBound (sender : ℕ) (input : List ℕ) (old new : Option (List ℕ)) : Type 0 where
   pub live : List Asked
   pub state : State
-  pub left : left_by sender input ≡ Ok live
+  pub left : TextLeaves sender input (Ok live)
   pub rows : AreRowsOf live state.rows
+  pub last : HoldsLastWords sender input state.rows
   pub announced : AnnouncesSmallest state
   pub printed : Appends old new (bound_text sender state)
 
 -- What goes to the error output is the stated line for the first fault of the input.
 pub record RefusesBound (sender : ℕ) (input : List ℕ) (old new : Option (List ℕ)) : Type 0 where
   pub refused : Refused
-  pub first : left_by sender input ≡ Err refused
+  pub first : TextLeaves sender input (Err refused)
   pub shown : Appends old new (refused_text refused)
 
 -- where a command isn't done for a fault of its input, nothing was printed
@@ -33,12 +40,25 @@ FailsBound sender input old new NoMemory = Unit {0}
 FailsBound sender input old new Io = Unit {0}
 FailsBound sender input old new (RefusedLine line fault) =
     Keeps old new
-    × IfSome input (λ text. left_by sender text ≡ Err (record { line = line; fault = fault }))
+    × IfSome input (λ text. TextLeaves sender text (Err (record { line = line; fault = fault })))
 
 -- a text's refusal as a command's failure
 abbrev pub failure_of : Refusal → Failure
 failure_of NoMemoryAtAll = NoMemory
 failure_of (Line line fault) = RefusedLine line fault
+
+-- a failed read or write as a command's failure: want of memory by its kind, else io
+abbrev pub failure_at : ErrorKind → Failure
+failure_at OutOfMemory = NoMemory
+failure_at kind = Io
+
+-- a file that can't be opened or read: want of memory by its kind, else its line 0 is refused
+abbrev pub unreadable_at : ErrorKind → Failure
+unreadable_at OutOfMemory = NoMemory
+unreadable_at kind = RefusedLine 0 Text
+
+abbrev pub IsOutOfMemory : Error → Type 0
+IsOutOfMemory e = error_kind e ≡ OutOfMemory
 
 abbrev pub IsNoRefusal : Failure → Type 0
 IsNoRefusal NoMemory = Unit {0}
@@ -69,3 +89,21 @@ pub record ShowsFailure (failure : Failure) (old new : Option (List ℕ)) (s : S
   pub failed : s ≢ status.Done
   pub understood : s ≢ status.CommandLine
   pub refused : s ≡ status.Refused → (status_of failure ≡ status.Refused) × ShowsLine failure old new
+
+-- where a file isn't read, its line can't be
+abbrev pub IsText : Failure → Type 0
+IsText NoMemory = Unit {0}
+IsText Io = Unit {0}
+IsText (RefusedLine line fault) = fault ≡ Text
+
+-- where there is no answer for a fault of the file, nothing was printed
+abbrev pub FailsCheck : Option (List ℕ) → Option (List ℕ) → Failure → Type 0
+FailsCheck old new NoMemory = Unit {0}
+FailsCheck old new Io = Unit {0}
+FailsCheck old new (RefusedLine line fault) = (fault ≡ Text) × Keeps old new
+
+-- a no of `check` is printed; or nothing is, and the line that can't be read is on the error output
+abbrev pub SaysNo : Option (List ℕ) → Option (List ℕ) → Option (List ℕ) → Option (List ℕ) → Type 0
+SaysNo old new errors_old errors_new =
+    ((fault : CertFault) × Appends old new (answer_text (Err fault)))
+    ⊎ ((line : ℕ) × Keeps old new × Appends errors_old errors_new (refused_text (record { line = line; fault = Text })))

@@ -1,4 +1,4 @@
-pub mod Packet
+pub mod Asked
 pub mod Lines
 pub mod BoundText
 pub mod Outcome

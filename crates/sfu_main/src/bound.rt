@@ -1,14 +1,18 @@
 //! The requests that the lines of `sfu bound` leave.
 
-ghost use Rattle.std.specs.Prelude.{◌≡◌, List, [], ◌≤◌, ◌<◌, ◌*◌, ◌/◌, length, IfOk, map};
-ghost use Rattle.sfu_main.specs.Lines.{Asked, AreRowsOf, after_request, after_entry, after_entries, after_packet, after_datagram, after_line, numbered, lines_of, left_by};
-ghost use Rattle.sfu_main.specs.Outcome.{Leaves, LeavesLine, LeavesText};
+ghost use Rattle.std.specs.Prelude.{◌≡◌, List, [], IfOk, map, All, MatchResult};
+ghost use Rattle.rtcp_compound.specs.Content.{content_of, sources_left};
+ghost use Rattle.rtcp_compound.specs.Reading.{contents_left};
+ghost use Rattle.rtcp_feedback.specs.Reading.{entries_left};
+ghost use Rattle.sfu_main.specs.Asked.{AskTogether, Asks, Change, FailsFirst, HasFault, IsReadable, asks, leaves, requests_of};
+ghost use Rattle.sfu_main.specs.Lines.{Asked, AreRowsOf, after_change, after_changes, lines_of};
+ghost use Rattle.sfu_main.specs.Outcome.{HasRowsOf, Leaves, LeavesDatagram, LeavesLine, LeavesText, undecoded_at};
 
 use crate::fault::LineFault;
-use crate::rtcp::{ENTRY, Tmmbr, read_packet};
 use bounding_set::Bounds;
-use byteorder::{BigEndian, ByteOrder};
 use hex::FromHexError;
+use rtcp_compound::{Packets, RtcpView, Sources, split};
+use rtcp_feedback::{FbFault, Feedback, TmmbEntries, read_feedback};
 use std::alloc::{AllocError, Global};
 use tmmbr_tuple::{Ssrc, Tuple};
 
@@ -32,7 +36,7 @@ impl From<AllocError> for Refusal {
 
 /// The live requests for the media sender that the lines of the text leave.
 pub fn read_lines(alloc: Global, text: &[u8], media: Ssrc) -> Result<Bounds, Refusal>
-    ensures { LeavesText (left_by media.0 text.now) result }
+    ensures { LeavesText media.0 text.now result }
 {
     let mut bounds = Bounds::new();
     let lines = lines(alloc, text)?;
@@ -45,13 +49,13 @@ pub fn read_lines(alloc: Global, text: &[u8], media: Ssrc) -> Result<Bounds, Ref
 }
 
 /// The lines of a text, without their newlines.
-fn lines(alloc: Global, text: &[u8]) -> Result<Vec<&[u8]>, AllocError>
+pub fn lines(alloc: Global, text: &[u8]) -> Result<Vec<&[u8]>, AllocError>
     ensures { IfOk result (λ v. map (λ x. x.now) v.items ≡ lines_of text.now) }
 {
     text.split(|b| *b == b'\n').collect(alloc)
 }
 
-/// Takes in the requests of the line with this number.
+/// Does what the line with this number asks for.
 fn take_line(
     alloc: Global,
     bounds: &mut Bounds,
@@ -60,7 +64,7 @@ fn take_line(
     number: u64,
 ) -> Result<(), Refusal>
     ensures { (live : List Asked) → AreRowsOf live bounds.old.rows
-        → LeavesLine (numbered number (after_line media.0 line.now live)) bounds.new.rows result }
+        → LeavesLine media.0 number line.now live bounds.new.rows result }
 {
     if line.is_empty() || line[0] == b'#' {
         return Ok(());
@@ -72,54 +76,124 @@ fn take_line(
                 fault,
             })
         }
-        Err(FromHexError::OutOfMemory) => Err(Refusal::NoMemory),
-        Err(_) => Err(Refusal::Line {
-            line: number,
-            fault: LineFault::Hex,
-        }),
+        Err(error) => Err(undecoded(number, error)),
     }
 }
 
-/// Takes in the requests of a datagram.
+/// Why the line with this number isn't decoded: for want of memory, or since it is no hexadecimal text.
+fn undecoded(line: u64, error: FromHexError) -> Refusal
+    ensures { result ≡ undecoded_at line error }
+{
+    match error {
+        FromHexError::OutOfMemory => Refusal::NoMemory,
+        _ => Refusal::Line {
+            line,
+            fault: LineFault::Hex,
+        },
+    }
+}
+
+/// Does what a datagram asks for. All its feedback is read before the first of it is done.
 fn take_datagram(bounds: &mut Bounds, datagram: &[u8], media: Ssrc) -> Result<(), LineFault>
     ensures { (live : List Asked) → AreRowsOf live bounds.old.rows
-        → Leaves (after_datagram media.0 datagram.now live) bounds.new.rows result }
+        → LeavesDatagram media.0 datagram.now live bounds.new.rows result }
 {
-    match read_packet(datagram)? {
-        Some(tmmbr) => take_entries(bounds, tmmbr, media),
-        None => Ok(()),
+    match split(datagram) {
+        Ok(packets) => match check_feedback(packets) {
+            Ok(()) => take_packets(bounds, packets, media),
+            Err(fault) => Err(LineFault::Feedback(fault)),
+        },
+        Err(fault) => Err(LineFault::Rtcp(fault)),
     }
 }
 
-/// Takes in the entries of a TMMBR that ask the media sender.
-fn take_entries(bounds: &mut Bounds, tmmbr: Tmmbr<'_>, media: Ssrc) -> Result<(), LineFault>
-    ensures { (live : List Asked) → AreRowsOf live bounds.old.rows
-        → Leaves (after_entries media.0 tmmbr.entry.sender.0 (length tmmbr.entry.entries.now / 8) tmmbr.entry.entries.now live)
-        bounds.new.rows result }
+/// Reads all feedback of these packets, and does nothing of it.
+fn check_feedback(packets: Packets<'_>) -> Result<(), FbFault>
+    ensures { MatchResult result (λ _. All IsReadable (contents_left packets.entry)) (FailsFirst (contents_left packets.entry)) }
 {
-    let entries = tmmbr.entries;
-    for i in 0..entries.len() / ENTRY {
-        take_entry(bounds, tmmbr.sender, &entries[ENTRY * i..], media)?;
+    for packet in packets {
+        check_packet(packet)?;
     }
     Ok(())
 }
 
-/// Takes in the entry at the front of these bytes, where it asks the media sender.
-fn take_entry(bounds: &mut Bounds, owner: Ssrc, entry: &[u8], media: Ssrc) -> Result<(), LineFault>
-    requires { 8 ≤ length entry.now }
-    ensures { (live : List Asked) → AreRowsOf live bounds.old.rows
-        → Leaves (after_entry media.0 owner.0 entry.now live) bounds.new.rows result }
+/// Reads the packet where it is feedback.
+fn check_packet(packet: RtcpView<'_>) -> Result<(), FbFault>
+    ensures { MatchResult result (λ _. IsReadable (content_of packet.entry)) (HasFault (content_of packet.entry)) }
 {
-    if BigEndian::read_u32(entry) != media.0 {
-        return Ok(());
+    match packet {
+        RtcpView::Feedback { fmt, kind, body } => match read_feedback(fmt, kind, body) {
+            Ok(_) => Ok(()),
+            Err(fault) => Err(fault),
+        },
+        _ => Ok(()),
     }
-    take_request(bounds, owner, BigEndian::read_u32(&entry[4..]))
+}
+
+/// Does what packets ask for, in order.
+fn take_packets(bounds: &mut Bounds, packets: Packets<'_>, media: Ssrc) -> Result<(), LineFault>
+    ensures { (changes : List Change) (live : List Asked) → AskTogether media.0 (contents_left packets.entry) changes
+        → AreRowsOf live bounds.old.rows → Leaves (after_changes changes live) bounds.new.rows result }
+{
+    for packet in packets {
+        take_packet(bounds, packet, media)?;
+    }
+    Ok(())
+}
+
+/// Does what a packet asks for.
+fn take_packet(bounds: &mut Bounds, packet: RtcpView<'_>, media: Ssrc) -> Result<(), LineFault>
+    ensures { (changes : List Change) (live : List Asked) → Asks media.0 (content_of packet.entry) changes
+        → AreRowsOf live bounds.old.rows → Leaves (after_changes changes live) bounds.new.rows result }
+{
+    match packet {
+        RtcpView::Bye { sources } => {
+            take_goodbye(bounds, sources);
+            Ok(())
+        }
+        RtcpView::Feedback { fmt, kind, body } => match read_feedback(fmt, kind, body) {
+            Ok(Feedback::Tmmbr { sender, entries }) => {
+                take_entries(bounds, sender, entries, media)
+            }
+            Ok(_) => Ok(()),
+            Err(fault) => Err(LineFault::Feedback(fault)),
+        },
+        _ => Ok(()),
+    }
+}
+
+/// Takes out the requests of the sources that leave.
+fn take_goodbye(bounds: &mut Bounds, sources: Sources<'_>)
+    ensures { (live : List Asked) → AreRowsOf live bounds.old.rows
+        → HasRowsOf (after_changes (map leaves (sources_left sources.entry)) live) bounds.new.rows }
+{
+    for source in sources {
+        let _ = bounds.remove(source);
+    }
+}
+
+/// Does the entries of a TMMBR that ask the media sender.
+fn take_entries(
+    bounds: &mut Bounds,
+    owner: Ssrc,
+    entries: TmmbEntries<'_>,
+    media: Ssrc,
+) -> Result<(), LineFault>
+    ensures { (live : List Asked) → AreRowsOf live bounds.old.rows
+        → Leaves (after_changes (requests_of media.0 owner.0 (entries_left entries.entry)) live) bounds.new.rows result }
+{
+    for entry in entries {
+        if entry.ssrc == media {
+            take_request(bounds, owner, entry.word)?;
+        }
+    }
+    Ok(())
 }
 
 /// Takes in one request.
 fn take_request(bounds: &mut Bounds, owner: Ssrc, word: u32) -> Result<(), LineFault>
     ensures { (live : List Asked) → AreRowsOf live bounds.old.rows
-        → Leaves (after_request owner.0 word live) bounds.new.rows result }
+        → Leaves (after_change (asks owner.0 word) live) bounds.new.rows result }
 {
     match bounds.set(owner, Tuple::from_word(word)) {
         Ok(_) => Ok(()),

@@ -1,19 +1,23 @@
 //! The commands of the program, over a reader and writers.
 
-ghost use Rattle.std.specs.Prelude.{◌≡◌, ◌≢◌, ℕ, map, Some, Err, IfSome, IfErr, OnOk};
-ghost use Rattle.std.specs.Io.KnownBytes.{Keeps};
+ghost use Rattle.std.specs.Prelude.{◌≡◌, ◌≢◌, ℕ, map, Some, Err, IfSome, IfErr, OnOk, codes};
+ghost use Rattle.std.specs.Io.KnownBytes.{Appends, Keeps};
 ghost use Rattle.clap.specs.Words.{kind_of};
 ghost use Rattle.sfu_main.specs.CommandLine.{Request, Types, asked_for, bound, request_of};
-ghost use Rattle.sfu_main.specs.Command.{FailsBound, IsNoRefusal, PrintsBound, RefusesBound, ShowsFailure, ShowsLine};
+ghost use Rattle.sfu_main.specs.Command.{FailsBound, IsNoRefusal, IsOutOfMemory, PrintsBound, RefusesBound, ShowsFailure, ShowsLine, unreadable_at};
+ghost use Rattle.std.specs.IoError.{error_kind};
 
 use crate::bound::{Refusal, read_lines};
+use crate::check_file::check_lines;
 use crate::command_line::{Action, read_words};
 use crate::fault::LineFault;
 use crate::text::{bound_text, refused_text};
 use clap::error::ErrorKind;
 use std::alloc::{AllocError, Global};
 use std::convert::AsStr;
+use std::fs;
 use std::io::{self, Read, Write};
+use std::rt::Files;
 use tmmbr_tuple::Ssrc;
 
 /// How a command ended.
@@ -25,7 +29,7 @@ pub enum Status {
     NoMemory,
     /// 2: the words of the command line ask for nothing.
     CommandLine,
-    /// 4: a line of the input was refused.
+    /// 4: a line of the input was refused, or what `sfu check` was asked is not so.
     Refused,
     /// 5: a read or a write failed.
     Io,
@@ -99,9 +103,11 @@ impl From<Refusal> for Failure {
 }
 
 impl From<io::Error> for Failure {
-    ghost use Rattle.sfu_main.specs.Command.{IsNoRefusal};
+    ghost use Rattle.std.specs.Prelude.{◌≡◌};
+    ghost use Rattle.sfu_main.specs.Command.{failure_at};
+    ghost use Rattle.std.specs.IoError.{error_kind};
 
-    ghost from_gives = { λ _ e. IsNoRefusal e };
+    ghost from_gives = { λ error e. e ≡ failure_at (error_kind error) };
 
     fn from(error: io::Error) -> Failure {
         if error.kind() == io::ErrorKind::OutOfMemory {
@@ -112,11 +118,24 @@ impl From<io::Error> for Failure {
     }
 }
 
+/// How a command fails whose file can't be opened or read: as if its line 0 couldn't.
+pub fn unreadable(error: &io::Error) -> Failure
+    ensures { result ≡ unreadable_at (error_kind error.now) }
+{
+    if error.kind() == io::ErrorKind::OutOfMemory {
+        return Failure::NoMemory;
+    }
+    Failure::Refused {
+        line: 0,
+        fault: LineFault::Text,
+    }
+}
+
 /// Runs the command that the words ask for, of which the first is the program's name.
 ///
 /// The input is read whole before its first line is done. What is printed goes to the writer, and why
 /// a command isn't done to the error output.
-pub fn run_command<R: AllocGlobal, S: AsStr, I: Read, O: Write, E: Write>(
+pub fn run_command<R: AllocGlobal + Files, S: AsStr, I: Read, O: Write, E: Write>(
     rt: &R,
     words: &[S],
     reader: &mut I,
@@ -131,29 +150,28 @@ pub fn run_command<R: AllocGlobal, S: AsStr, I: Read, O: Write, E: Write>(
     ensures understood { (asked : Request) → Types (map S.text words.now) asked → result ≢ Status.CommandLine }
 {
     let alloc = rt.alloc();
-    let action = match read_words(alloc, words) {
-        Ok(action) => action,
-        Err(error) => return refuse_words(alloc, errors, &error),
-    };
-    match run_action(alloc, action, reader, writer) {
-        Ok(()) => Status::Done,
-        Err(failure) => report(alloc, errors, failure),
+    match read_words(alloc, words) {
+        Ok(Action::Bound { sender }) => match run_bound(alloc, Ssrc(sender), reader, writer) {
+            Ok(()) => Status::Done,
+            Err(failure) => report(alloc, errors, failure),
+        },
+        Ok(Action::Check { file }) => run_check(rt, file, writer, errors),
+        Err(error) => refuse_words(alloc, errors, &error),
     }
 }
 
-fn run_action<I: Read, O: Write>(
-    alloc: Global,
-    action: Action,
-    reader: &mut I,
+/// `sfu check`: prints whether the file's lines certify a smallest choice.
+fn run_check<R: AllocGlobal + Files, O: Write, E: Write>(
+    rt: &R,
+    file: &str,
     writer: &mut O,
-) -> Result<(), Failure>
-    ensures bound_done { (sender : ℕ) → request_of action ≡ bound sender → OnOk result (IfSome (I.remaining reader.old) (λ input.
-        PrintsBound sender input (O.contents writer.old) (O.contents writer.new))) }
-    ensures bound_refused { (sender : ℕ) → request_of action ≡ bound sender
-        → IfErr result (FailsBound sender (I.remaining reader.old) (O.contents writer.old) (O.contents writer.new)) }
+    errors: &mut E,
+) -> Status
+    ensures { result ≢ Status.CommandLine }
 {
-    match action {
-        Action::Bound { sender } => run_bound(alloc, Ssrc(sender), reader, writer),
+    match fs::open(rt, file) {
+        Ok(mut file) => check_lines(rt.alloc(), &mut file, writer, errors),
+        Err(error) => report(rt.alloc(), errors, unreadable(&error)),
     }
 }
 
@@ -176,8 +194,27 @@ fn run_bound<I: Read, O: Write>(
     Ok(())
 }
 
+/// Says on the error output why the words of the command line can't be had: memory is wanting, or one
+/// of them is no text. This takes no memory.
+pub fn report_words<E: Write>(errors: &mut E, error: &io::Error) -> Status
+    ensures failed { (result ≢ Status.Done) × (result ≢ Status.Refused) }
+    ensures memory { IsOutOfMemory error.now → result ≢ Status.CommandLine }
+    ensures shown { result ≡ Status.CommandLine → Appends (E.contents errors.old) (E.contents errors.new) (codes "a word is no text\n") }
+{
+    if error.kind() == io::ErrorKind::OutOfMemory {
+        return match errors.write_all(b"no memory\n") {
+            Ok(()) => Status::NoMemory,
+            Err(error) => Failure::from(error).status(),
+        };
+    }
+    match errors.write_all(b"a word is no text\n") {
+        Ok(()) => Status::CommandLine,
+        Err(error) => Failure::from(error).status(),
+    }
+}
+
 /// Says on the error output why a command isn't done.
-fn report<E: Write>(alloc: Global, errors: &mut E, failure: Failure) -> Status
+pub fn report<E: Write>(alloc: Global, errors: &mut E, failure: Failure) -> Status
     ensures { ShowsFailure failure (E.contents errors.old) (E.contents errors.new) result }
 {
     match show(alloc, errors, failure) {

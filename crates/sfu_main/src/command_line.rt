@@ -2,7 +2,7 @@
 
 ghost use Rattle.std.specs.Prelude.{◌≡◌, ◌∷◌, ◌<◌, ◌^◌, ℕ, List, [], IfErr, IfOk, MatchResult, Some, codes, map, true, option_map, false};
 ghost use Rattle.clap.specs.Words.{app_of, found_of, kind_of, rows_of, rule_of, subcommand_rows_of, takes};
-ghost use Rattle.sfu_main.specs.CommandLine.{Request, Types, asked_for, asked_in, asked_named, number_in, number_rule, request_of, sfu};
+ghost use Rattle.sfu_main.specs.CommandLine.{Request, Types, asked_for, asked_in, asked_named, file_rule, number_in, number_rule, request_of, sfu};
 
 use clap::error::ErrorKind;
 use clap::{Arg, ArgAction, ArgMatches, Command, Error, value_parser};
@@ -11,13 +11,15 @@ use std::convert::AsStr;
 
 /// What the words ask for.
 #[derive(Clone, Copy, Debug, PartialEq, Eq)]
-pub enum Action {
+pub enum Action<'a> {
     /// `sfu bound --sender N`: the set that is announced for the requests of the lines.
     Bound { sender: u32 },
+    /// `sfu check FILE`: whether the file's lines certify a smallest choice.
+    Check { file: &'a str },
 }
 
 /// The action that the words ask for, of which the first is the program's name.
-pub fn read_words<'a, S: AsStr>(alloc: Global, words: &'a [S]) -> Result<Action, Error>
+pub fn read_words<'a, S: AsStr>(alloc: Global, words: &'a [S]) -> Result<Action<'a>, Error>
     ensures asked { IfOk result (λ action. asked_for (map S.text words.entry.now) ≡ Some (request_of action)) }
     ensures typed { (asked : Request) → Types (map S.text words.entry.now) asked
         → MatchResult result (λ action. request_of action ≡ asked) (λ e. kind_of e ≡ ErrorKind.OutOfMemory) }
@@ -26,7 +28,7 @@ pub fn read_words<'a, S: AsStr>(alloc: Global, words: &'a [S]) -> Result<Action,
 }
 
 /// The action that a parse finds in the words.
-fn action_of<'a, S: AsStr>(alloc: Global, words: &'a [S]) -> Result<Action, Error>
+fn action_of<'a, S: AsStr>(alloc: Global, words: &'a [S]) -> Result<Action<'a>, Error>
     ensures asked { IfOk result (λ action. asked_for (map S.text words.entry.now) ≡ Some (request_of action)) }
     ensures refused { (asked : Request) → asked_for (map S.text words.entry.now) ≡ Some asked → takes sfu (map S.text words.entry.now) ≡ true
         → IfErr result (λ e. kind_of e ≡ ErrorKind.OutOfMemory) }
@@ -44,9 +46,21 @@ fn command<'a>(alloc: Global) -> Result<Command<'a>, AllocError>
     ensures { IfOk result (λ c. app_of c ≡ sfu) }
 {
     let bound = Command::new(alloc, "bound").arg(number(alloc, "sender"))?;
+    let check = Command::new(alloc, "check").arg(file(alloc))?;
     Command::new(alloc, "sfu")
         .subcommand_required(true)
-        .subcommand(bound)
+        .subcommand(bound)?
+        .subcommand(check)
+}
+
+/// A required word that names a file.
+fn file<'a>(alloc: Global) -> Arg<'a>
+    ensures rule { rule_of result ≡ file_rule }
+    ensures local { result.global ≡ false }
+{
+    Arg::new(alloc, "FILE")
+        .required(true)
+        .action(ArgAction::Set)
 }
 
 /// A required option with a number.
@@ -61,19 +75,22 @@ fn number<'a>(alloc: Global, name: &'a str) -> Arg<'a>
         .action(ArgAction::Set)
 }
 
-fn action_in(matches: &ArgMatches<'_>) -> Option<Action>
+fn action_in<'a>(matches: &ArgMatches<'a>) -> Option<Action<'a>>
     ensures { option_map request_of result ≡ asked_in (subcommand_rows_of matches.now) }
 {
     let (name, inner) = matches.subcommand()?;
     action_named(name, inner)
 }
 
-fn action_named(name: &str, matches: &ArgMatches<'_>) -> Option<Action>
+fn action_named<'a>(name: &str, matches: &ArgMatches<'a>) -> Option<Action<'a>>
     ensures { option_map request_of result ≡ asked_named name.now (rows_of (found_of matches.now)) }
 {
     match name {
         "bound" => Some(Action::Bound {
             sender: number_in(matches, "sender")?,
+        }),
+        "check" => Some(Action::Check {
+            file: matches.get_str("FILE")?,
         }),
         _ => None,
     }

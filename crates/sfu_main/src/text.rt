@@ -1,13 +1,14 @@
 //! The text that `sfu bound` prints.
 
-ghost use Rattle.std.specs.Prelude.{◌≡◌, ◌<◌, ◌≤◌, ◌*◌, ◌+◌, ◌++◌, length, IfOk, OnOk, All, flat_map};
+ghost use Rattle.std.specs.Prelude.{◌≡◌, ◌<◌, ◌≤◌, ◌++◌, length, IfOk, OnOk, All, flat_map, map};
 ghost use Rattle.std.specs.String.{string_bytes};
 ghost use Rattle.rate_cert.specs.Certificate.{IsInRange};
-ghost use Rattle.sfu_main.specs.BoundText.{bound_text, refused_text, entry_bytes, implied_line, kept_line, owner_at, row_text, tmmbn_bytes};
+ghost use Rattle.sfu_main.specs.BoundText.{answer_text, bound_text, refused_text, entry_for, implied_line, kept_line, owner_at, row_text, tmmbn_bytes};
 
 use crate::fault::LineFault;
 use bounding_set::Bounds;
-use rate_cert::{Implied, Kept, Request};
+use rate_cert::{CertFault, Implied, Kept, Request};
+use rtcp_feedback::{MAX_ENTRIES, TmmbrEntry, write_tmmbn};
 use std::alloc::{AllocError, Global};
 use tmmbr_tuple::Ssrc;
 
@@ -28,19 +29,26 @@ pub fn bound_text(alloc: Global, sender: Ssrc, bounds: &Bounds) -> Result<String
 
 /// A TMMBN (RFC 5104, section 4.2.2) whose entries are these requests.
 fn tmmbn(alloc: Global, sender: Ssrc, announced: &[Request]) -> Result<Vec<u8>, AllocError>
-    requires { length announced.now ≤ 64 }
+    requires { length announced.now ≤ MAX_ENTRIES }
     ensures { IfOk result (λ packet. packet.items ≡ tmmbn_bytes sender.0 announced.now) }
 {
-    let mut packet = vec![in alloc; 0x84, 205]?;
-    let words = 2 + 2 * announced.len() as u16;
-    packet.extend_from_slice(&words.to_be_bytes())?;
-    packet.extend_from_slice(&sender.0.to_be_bytes())?;
-    packet.extend_from_slice(&[0; 4])?;
-    for request in announced {
-        packet.extend_from_slice(&request.owner.0.to_be_bytes())?;
-        packet.extend_from_slice(&request.tuple.to_word().to_be_bytes())?;
-    }
+    let entries = entries(alloc, announced)?;
+    let mut packet = Vec::new(alloc);
+    write_tmmbn(&mut packet, sender, entries.as_slice())?;
     Ok(packet)
+}
+
+/// An entry for each request: its owner, and the word of its tuple.
+fn entries(alloc: Global, announced: &[Request]) -> Result<Vec<TmmbrEntry>, AllocError>
+    ensures { IfOk result (λ v. v.items ≡ map entry_for announced.now) }
+{
+    announced
+        .iter()
+        .map(|request| TmmbrEntry {
+            ssrc: request.owner,
+            word: request.tuple.to_word(),
+        })
+        .collect(alloc)
 }
 
 /// A line for each kept entry.
@@ -143,5 +151,20 @@ pub fn refused_text(alloc: Global, line: u64, fault: LineFault) -> Result<String
             fault.number()
         ),
         LineFault::Full => format!(in alloc; "line {line}: full\n"),
+        LineFault::Text => format!(in alloc; "line {line}: text\n"),
+    }
+}
+
+/// The line that `sfu check` prints for an answer of `check`.
+pub fn answer_text(alloc: Global, answer: Result<(), CertFault>) -> Result<String, AllocError>
+    ensures { IfOk result (λ text. string_bytes text ≡ answer_text answer) }
+{
+    match answer {
+        Ok(()) => String::from_str(alloc, "yes\n"),
+        Err(CertFault::Place) => String::from_str(alloc, "no 1\n"),
+        Err(CertFault::PairNotForbidden) => String::from_str(alloc, "no 2\n"),
+        Err(CertFault::TwoPairsForbidden(place)) => format!(in alloc; "no 3 {place}\n"),
+        Err(CertFault::NotImplied(place)) => format!(in alloc; "no 4 {place}\n"),
+        Err(CertFault::Missing(place)) => format!(in alloc; "no 5 {place}\n"),
     }
 }

@@ -1,23 +1,23 @@
-use Rattle.std.proofs.Common.{◌≡◌, [], ◌∷◌, ◌++◌, ◌∙◌, sym, ap, subst}
+use Rattle.std.proofs.Common.{◌≡◌, List, length, get_or, map, subst, arith}
+use Rattle.rate_cert.specs.declared.request.Request.{Request}
 use Rattle.rate_cert.specs.declared.certificate.Kept.{Kept}
-use Rattle.bounding_set.specs.State.{AnnouncesSmallest}
-use Rattle.bounding_set.proofs.AloneLemmas.{IsOutermost, AnnouncesSmallest-alone, one_element}
+use Rattle.rate_cert.specs.Certificate.{places_of}
+use Rattle.bounding_set.specs.Certificate.{implied_by, dropped_places}
+use Rattle.bounding_set.specs.Kept.{listed_of}
+use Rattle.bounding_set.proofs.CertificateLemmas.{no_more_than_rows, AnnouncesSmallest-certificate}
 use Rattle.bounding_set.proofs.certificate.certify.Goals as goal
 
-pub returns-in-len1 : goal.returns-in-len1
-returns-in-len1 c =
-    let r = c.request-item.result in
-    let entry : Kept = record { place = 0; pair = c.outermost_pair.result } in
-    let rows = one_element c.args.rows.now r c.in-len1.len_at_least c.in-len1.len_below c.request-item.is in
-    let kept : c.push.new.self.items ≡ entry ∷ [] = c.push.ensures.items ∙ ap (λ xs. xs ++ entry ∷ []) c.clear.ensures in
-    let outermost : IsOutermost r c.outermost_pair.result = record {
-      packets = c.outermost_pair.ensures.packets;
-      bits = c.outermost_pair.ensures.bits;
-      seconds = c.outermost_pair.ensures.seconds;
-    } in
-    subst AnnouncesSmallest
-    (λ i. record {
-      rows = sym rows i;
-      cert = record { kept = record { items = sym kept i }; implied = record { items = sym c.clear-2.ensures i } };
-    })
-    (AnnouncesSmallest-alone r c.outermost_pair.result outermost)
+pub keep-requires-clause-few : goal.keep-requires-clause-few
+keep-requires-clause-few c =
+    let list = c.requires.announced in
+    let few = no_more_than_rows c.args.rows.now c.args.announced.now list.are_rows list.in_order in
+    omega (arith, few, c.requires.within)
+
+pub returns : goal.returns
+returns c =
+    let rows = c.args.rows.now in
+    let implied = c.imply_others.new.implied.items in
+    let Follow : List Kept → Type 0 = λ kept. (d : Request) → implied
+    ≡ map (λ place. implied_by (listed_of rows d kept) place (get_or rows place d).tuple.overhead) (dropped_places (length rows) (places_of kept)) in
+    AnnouncesSmallest-certificate rows c.args.announced.now c.keep.new.kept.items implied c.requires.rising c.requires.announced
+    c.keep.ensures.requests c.keep.ensures.pairs (subst Follow c.as_slice.ensures.value c.imply_others.ensures)

@@ -1,8 +1,9 @@
-use Rattle.std.proofs.Common.{[], ◌+◌, ◌∙◌, sym, ap, refl, subst, Bor, List, ℕ, map, get_or, arith}
+use Rattle.std.proofs.Common.{[], Ok, ◌+◌, ◌∙◌, sym, ap, refl, subst, Bor, List, ℕ, map, get_or, arith}
 use Rattle.std.proofs.lemmas.Result.{err_from_is_err_and}
-use Rattle.sfu_main.specs.Lines.{after_line, after_lines, numbered}
-use Rattle.sfu_main.specs.Outcome.{RefusesAs}
-use Rattle.sfu_main.proofs.LiveLemmas.{next_line, no_rows, bind_ok, refuses_on}
+use Rattle.sfu_main.specs.Lines.{LinesLeave}
+use Rattle.sfu_main.proofs.LineLemmas.{at_end, goes_on, stops}
+use Rattle.sfu_main.proofs.LastLemmas.{holds_last}
+use Rattle.sfu_main.proofs.LiveLemmas.{no_rows}
 use Rattle.sfu_main.proofs.bound.read_lines.Goals as goal
 
 pub loop-line-init : goal.loop-line-init
@@ -11,7 +12,8 @@ loop-line-init c = record {
   left = (
     [],
     no_rows c.new-bounds.result.rows c.new-bounds.ensures,
-    ap (λ lines. after_lines c.args.media.0 1 lines []) (sym (ap (map (λ x. x.now)) c.deref-line-items.ensures.value ∙ c.in_ok-lines.ensures)),
+    λ left lines. subst (λ (ls : List (List ℕ)). LinesLeave c.args.media.0 1 ls [] left)
+        (ap (map (λ x. x.now)) c.deref-line-items.ensures.value ∙ c.in_ok-lines.ensures) lines,
   );
 }
 
@@ -22,30 +24,32 @@ nothing = record { ref_ptr = (0, 0); now = [] }
 pub returns-in_err-take_line : goal.returns-in_err-take_line
 unfolding nothing
 returns-in_err-take_line c =
-    let media = c.args.media.0 in
     let left = c.loop-line.invariant.left in
     let lines = c.deref-line-items.result.now in
-    let i = c.loop-line.line-index in
-    let one = numbered (i + 1) (after_line media (get_or lines i nothing).now left.0) in
     let p = err_from_is_err_and c.from_residual-in_err-take_line.result c.from_residual-in_err-take_line.ensures.1 in
-    let refuses = subst (λ n. RefusesAs (numbered (n + 1) (after_line media (get_or lines i nothing).now left.0)) c.in_err-take_line.field-0.0)
-    c.loop-line.invariant.counted (c.in_err-take_line.ensures left.0 left.1) in
-    rw (p.1, p.2) (refuses_on one _ _ (left.2 ∙ next_line media i lines nothing left.0 c.loop-line-test.true) c.in_err-take_line.field-0.0 refuses)
+    rw (p.1, p.2)
+    (stops c.args.media.0 c.loop-line.line-index c.loop-line.number lines nothing left.0 c.args.text.now c.in_err-take_line.field-0.0
+    c.loop-line-test.true c.loop-line.invariant.counted left.2 (c.in_err-take_line.ensures left.0 left.1))
 
 pub loop-line-preserved : goal.loop-line-preserved
 unfolding nothing
 loop-line-preserved c =
-    let media = c.args.media.0 in
-    let left = c.loop-line.invariant.left in
+    let invariant = c.loop-line.invariant.left in
     let lines = c.deref-line-items.result.now in
-    let i = c.loop-line.line-index in
-    let one = λ (n : ℕ). numbered (n + 1) (after_line media (get_or lines i nothing).now left.0) in
-    let next = c.in_ok-take_line.ensures left.0 left.1 in record {
+    let next = c.in_ok-take_line.ensures invariant.0 invariant.1 in record {
       counted = omega (arith, c.loop-line.invariant.counted);
       left = (
         next.0,
         next.2,
-        left.2 ∙ next_line media i lines nothing left.0 c.loop-line-test.true
-            ∙ bind_ok (one i) next.0 _ (ap one (sym c.loop-line.invariant.counted) ∙ next.1),
+        λ left others. invariant.2 left
+            (goes_on c.args.media.0 c.loop-line.line-index lines nothing invariant.0 next.0 left c.loop-line-test.true next.1 others),
       );
     }
+
+pub returns : goal.returns
+returns c =
+    let media = c.args.media.0 in
+    let left = c.loop-line.invariant.left in
+    let end = at_end media c.loop-line.line-index c.deref-line-items.result.now left.0 c.loop-line-test.false in
+    let all = left.2 (Ok left.0) end in
+    (left.0, all, left.1, holds_last media c.args.text.now left.0 c.loop-line.bounds.rows all left.1)

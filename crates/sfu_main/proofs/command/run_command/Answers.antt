@@ -1,12 +1,19 @@
-use Rattle.std.proofs.Common.{◌∙◌, sym}
-use Rattle.sfu_main.proofs.CommandLemmas.{shown_refusal, same_request}
+use Rattle.std.proofs.Common.{◌≡◌, ◌∙◌, sym}
+use Rattle.sfu_main.proofs.CommandLemmas.{shown_refusal, shown_set, same_sender}
 use Rattle.sfu_main.proofs.command.run_command.Goals as goal
 
 pub returns-in-Err-clause-understood : goal.returns-in-Err-clause-understood
 returns-in-Err-clause-understood g c = λ asked types is. c.refuse_words.ensures.memory (c.in-Err.ensures.typed asked types) is
 
-pub returns-in-Err-run_action-clause-bound_refused : goal.returns-in-Err-run_action-clause-bound_refused
-returns-in-Err-run_action-clause-bound_refused g c = λ sender asked is.
+pub returns-in-Err-run_bound-clause-bound_refused : goal.returns-in-Err-run_bound-clause-bound_refused
+returns-in-Err-run_bound-clause-bound_refused g c = λ sender asked is.
     let refused = c.report.ensures.refused is in
-    let action = same_request _ _ (sym c.in-Ok.ensures.asked ∙ asked) in
-    shown_refusal sender _ _ _ _ _ c.in-Err-run_action.failure refused.0 (c.in-Err-run_action.ensures.bound_refused sender action) refused.1
+    let here = rw c.in-Ok-Bound.field-0-is at c.in-Ok-Bound.ensures.asked in
+    let same : c.in-Ok-Bound.sender ≡ sender = same_sender c.in-Ok-Bound.sender sender (sym here ∙ asked) in
+    shown_refusal _ sender _ _ _ _ _ c.in-Err-run_bound.failure same refused.0 c.in-Err-run_bound.ensures.refused refused.1
+
+pub returns-in-Ok-clause-bound_done : goal.returns-in-Ok-clause-bound_done
+returns-in-Ok-clause-bound_done g c = λ sender asked is.
+    let here = rw c.in-Ok-Bound.field-0-is at c.in-Ok-Bound.ensures.asked in
+    let same : c.in-Ok-Bound.sender ≡ sender = same_sender c.in-Ok-Bound.sender sender (sym here ∙ asked) in
+    shown_set _ sender _ _ _ same c.in-Ok.ensures.done

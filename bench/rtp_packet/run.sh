@@ -1,0 +1,44 @@
+#!/usr/bin/env bash
+# Times parse + rewrite of a 1,200-byte datagram, by rtp_packet and by plain.rs, and prints the ratio.
+# Wants rt and rustc on the path. An argument, if any, is how many rounds a run has (two datagrams each).
+set -euo pipefail
+
+here=$(cd "$(dirname "$0")" && pwd)
+top=$(cd "$here/../.." && pwd)
+rounds=${1:-1000000}
+size=1200
+runs=15
+
+# A repository of its own, so that the program is no crate of this one. What earlier checks kept in out/
+# comes with the copies.
+work=$(mktemp -d /tmp/bench_rtp_packet.XXXXXX)
+trap 'rm -rf "$work"' EXIT
+mkdir -p "$work/crates/rtp_bench/src"
+cp -r "$top/crates/tmmbr_tuple" "$top/crates/rtp_packet" "$work/crates/"
+cp "$here/main.rattle" "$work/crates/rtp_bench/src/main.rt"
+cp "$top/HANDLES" "$work/"
+{
+    grep -E '^(tmmbr_tuple|rtp_packet):' "$top/crates.txt"
+    echo 'rtp_bench: rtp_packet tmmbr_tuple byteorder thiserror'
+} > "$work/crates.txt"
+
+# rt run proves the program and builds it with LLVM, as the file out/rtp_bench.
+if ! (cd "$work/crates/rtp_bench" && rt run -- 1 "$size") > "$work/log" 2>&1; then
+    cat "$work/log" >&2
+    exit 1
+fi
+rustc -O -o "$work/plain" "$here/plain.rs"
+
+# The two take turns, so that what else the machine does falls on both; the least time of each counts.
+for _ in $(seq "$runs"); do
+    "$work/crates/rtp_bench/out/rtp_bench" "$rounds" "$size" | sed 's/^/rattle /'
+    "$work/plain" "$rounds" "$size" | sed 's/^/plain /'
+done | awk -v rounds="$rounds" '
+    NF != 3 || (NR > 1 && $3 != sum) { print "unlike results: " $0; bad = 1; exit 1 }
+    { sum = $3; if (!($1 in least) || $2 < least[$1]) least[$1] = $2 }
+    END {
+        if (bad) exit 1
+        rattle = least["rattle"] / (2 * rounds)
+        plain = least["plain"] / (2 * rounds)
+        printf "rtp_packet %.1f ns, plain Rust %.1f ns, ratio %.2f\n", rattle, plain, rattle / plain
+    }'

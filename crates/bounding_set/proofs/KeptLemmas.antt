@@ -1,0 +1,210 @@
+-- The places of kept requests among the rows.
+use Rattle.std.proofs.Common.{◌≡◌, ℕ, ◌+◌, ◌-◌, ◌*◌, ◌<◌, ◌≤◌, inl, inr, List, [], ◌∷◌, ◌++◌, length, get_or, map, take, drop, suc, refl, sym, ap, ◌∙◌, subst, append_assoc, arith}
+use Rattle.std.specs.Prelude.{All, AllPairs, Contains, slice_get}
+use Rattle.std.specs.List.{cons_option}
+use Rattle.std.proofs.lemmas.Bool.{cases_lt}
+use Rattle.std.proofs.lemmas.List.{append-nil, length-append, map-append, length-map, get_or-map, take_all}
+use Rattle.std.proofs.lemmas.List.Elements.{All-head, All-tail, All-map, All-push, filter_map-append}
+use Rattle.std.proofs.lemmas.Option.{slice_get-get_or}
+use Rattle.tmmbr_tuple.specs.Tuple.{rate_of}
+use Rattle.tmmbr_tuple.specs.RatePair.{pair_of}
+use Rattle.rate_cert.specs.declared.certificate.TheConstants.{MAX_REQUESTS}
+use Rattle.rate_cert.specs.declared.request.Request.{Request}
+use Rattle.rate_cert.specs.declared.certificate.Kept.{Kept}
+use Rattle.rate_cert.specs.Choice.{chosen_requests}
+use Rattle.rate_cert.specs.Certificate.{places_of}
+use Rattle.rate_cert.proofs.CheckerLemmas.{holds_at}
+use Rattle.bounding_set.specs.Rows.{HasRisingOwners, IsRowOf}
+use Rattle.bounding_set.specs.Announced.{Follows}
+use Rattle.bounding_set.specs.Certificate.{End, start_end, right_end, crossing_of, pair_between, pairs_from}
+use Rattle.bounding_set.specs.Kept.{StandsAt, KeepsRequests, IsEndOf, pairs_of}
+
+-- two rows of one owner are one row
+pub same_place : (rows : List Request) (i j : ℕ) (d : Request) → HasRisingOwners rows → i < length rows → j < length rows
+    → (get_or rows i d).owner.0 ≡ (get_or rows j d).owner.0 → i ≡ j
+same_place rows i j d rising in_i in_j same =
+    elim (cases_lt i j) [
+      | inl before ↦ absurd (omega (arith, rising i j d before in_j))
+      | inr not_before ↦
+          elim (cases_lt j i) [
+            | inl after ↦ absurd (omega (arith, rising j i d after in_i))
+            | inr not_after ↦ omega arith
+          ]
+    ]
+
+-- the row of a request's owner is the request
+pub StandsAt-row : (rows : List Request) (request : Request) (place : ℕ) → HasRisingOwners rows → Contains rows request
+    → IsRowOf rows request.owner.0 place → StandsAt rows request place
+StandsAt-row rows request place rising live is =
+    let same : place ≡ live.0 =
+    same_place rows place live.0 request rising is.in_range live.1
+    (is.is_owner request ∙ sym (ap (λ (r : Request). r.owner.0) live.2)) in
+    record {
+      in_range = is.in_range;
+      is = holds_at (λ r. r ≡ request) rows place request is.in_range (ap (λ k. get_or rows k request) same ∙ live.2);
+    }
+
+-- one entry more is one request more
+pub KeepsRequests-push : (rows requests : List Request) (kept : List Kept) (k : Kept) (request : Request)
+    → KeepsRequests rows requests kept → StandsAt rows request k.place
+    → KeepsRequests rows (requests ++ request ∷ []) (kept ++ k ∷ [])
+KeepsRequests-push rows requests kept k request is stands =
+    let before = chosen_requests rows (places_of kept) in
+    record {
+      in_range = All-push (λ (e : Kept). e.place < length rows) kept k is.in_range stands.in_range;
+      in_turn =
+          ap (chosen_requests rows) (map-append (λ (e : Kept). e.place) kept (k ∷ []))
+          ∙ filter_map-append (slice_get rows) (places_of kept) (k.place ∷ [])
+          ∙ ap (λ o. before ++ cons_option o []) (slice_get-get_or rows k.place request stands.in_range)
+          ∙ ap (λ r. before ++ r ∷ []) (stands.is request)
+          ∙ ap (λ rs. rs ++ request ∷ []) is.in_turn;
+    }
+
+pub KeepsRequests-none : (rows : List Request) → KeepsRequests rows [] []
+KeepsRequests-none rows = record { in_range = λ k d below. absurd (omega (arith, below)); in_turn = refl }
+
+-- the chosen requests place by place
+chosen_by_place : (rows : List Request) (d : Request) (places : List ℕ) → All (λ place. place < length rows) places
+    → chosen_requests rows places ≡ map (λ place. get_or rows place d) places
+chosen_by_place rows d [] all = refl
+chosen_by_place rows d (place ∷ places) all =
+    let InRange : ℕ → Type 0 = λ at. at < length rows in
+    ap (λ o. cons_option o (chosen_requests rows places)) (slice_get-get_or rows place d (All-head InRange place places all))
+    ∙ ap (λ rs. get_or rows place d ∷ rs) (chosen_by_place rows d places (All-tail InRange place places all))
+
+module _ (rows requests : List Request) (kept : List Kept) (is : KeepsRequests rows requests kept) where
+  abbrev places : List ℕ
+  places = places_of kept
+
+  pub places_in_range : All (λ place. place < length rows) (places_of kept)
+  places_in_range = All-map (λ place. place < length rows) (λ (k : Kept). k.place) kept is.in_range
+
+  pub requests_by_place : (d : Request) → requests ≡ map (λ place. get_or rows place d) (places_of kept)
+  requests_by_place d = sym is.in_turn ∙ chosen_by_place rows d places places_in_range
+
+  pub as_many_places : length (places_of kept) ≡ length kept
+  as_many_places = length-map kept (λ k. k.place)
+
+  pub as_many_requests : (d : Request) → length kept ≡ length requests
+  as_many_requests d = sym as_many_places ∙ sym (length-map places (λ place. get_or rows place d)) ∙ sym (ap length (requests_by_place d))
+
+  -- the request at a kept place
+  pub request_at : (j p : ℕ) (d : Request) → j < length (places_of kept) → get_or rows (get_or (places_of kept) j p) d ≡ get_or requests j d
+  request_at j p d below =
+      sym (get_or-map (λ place. get_or rows place d) places j p d below) ∙ ap (λ rs. get_or rs j d) (sym (requests_by_place d))
+
+-- where two lines cross, the first still leaves something for media, and so does the second; `more` and `faster` are what
+-- the second has above the first
+before_crossing : (overhead more rate faster : ℕ) → (rate + faster) * overhead ≤ rate * (overhead + more)
+    → 8 * overhead * faster ≤ rate * (8 * more)
+before_crossing overhead more rate faster reach = omega (arith, reach)
+
+after_crossing : (overhead more rate faster : ℕ) → (rate + faster) * overhead ≤ rate * (overhead + more)
+    → 8 * (overhead + more) * faster ≤ (rate + faster) * (8 * more)
+after_crossing overhead more rate faster reach = omega (arith, reach)
+
+-- the same, with differences
+before_at : (overhead greater rate faster : ℕ) → overhead ≤ greater → rate ≤ faster → faster * overhead ≤ rate * greater
+    → 8 * overhead * (faster - rate) ≤ rate * (8 * (greater - overhead))
+before_at overhead greater rate faster more quicker reach =
+    let rates : rate + (faster - rate) ≡ faster = omega arith in
+    let overheads : overhead + (greater - overhead) ≡ greater = omega arith in
+    before_crossing overhead (greater - overhead) rate (faster - rate) (rw (rates, overheads) reach)
+
+after_at : (overhead greater rate faster : ℕ) → overhead ≤ greater → rate ≤ faster → faster * overhead ≤ rate * greater
+    → 8 * greater * (faster - rate) ≤ faster * (8 * (greater - overhead))
+after_at overhead greater rate faster more quicker reach =
+    let rates : rate + (faster - rate) ≡ faster = omega arith in
+    let overheads : overhead + (greater - overhead) ≡ greater = omega arith in
+    let known = after_crossing overhead (greater - overhead) rate (faster - rate) (rw (rates, overheads) reach) in
+    rw (rates, overheads) at known
+
+-- the right end of a line, and the left end of the next one
+pub IsEndOf-right_end : (x : Request) (behind : List Request) → All (Follows x) behind → IsEndOf x (right_end x behind)
+IsEndOf-right_end x [] follow = omega arith
+IsEndOf-right_end x (y ∷ ys) follow =
+    let follows : Follows x y = All-head (Follows x) y ys follow in
+    before_at x.tuple.overhead y.tuple.overhead (rate_of x.tuple) (rate_of y.tuple)
+    (omega (arith, follows.overhead)) (omega (arith, follows.rate)) follows.reach
+
+pub IsEndOf-crossing : (x y : Request) → Follows x y → IsEndOf y (crossing_of x y)
+IsEndOf-crossing x y follows =
+    after_at x.tuple.overhead y.tuple.overhead (rate_of x.tuple) (rate_of y.tuple)
+    (omega (arith, follows.overhead)) (omega (arith, follows.rate)) follows.reach
+
+-- the line of the first of these requests may begin at this end
+abbrev pub HasLeftEnd : End → List Request → Type 0
+HasLeftEnd left [] = Unit {0}
+HasLeftEnd left (x ∷ xs) = (1 ≤ left.lower) × IsEndOf x left
+
+HasLeftEnd-right : (x : Request) (behind : List Request) → All (Follows x) behind → HasLeftEnd (right_end x behind) behind
+HasLeftEnd-right x [] follow = tt
+HasLeftEnd-right x (y ∷ ys) follow =
+    let follows : Follows x y = All-head (Follows x) y ys follow in
+    (omega (arith, follows.overhead), IsEndOf-crossing x y follows)
+
+-- these entries are kept, and the rest of the requests is to come
+pub record KeepsLines (rows announced : List Request) (kept : List Kept) (left : End) (rest : List Request) : Type 0 where
+  pub in_range : All (λ k. k.place < length rows) kept
+  pub in_turn : chosen_requests rows (places_of kept) ++ rest ≡ announced
+  pub pairs : pairs_of kept ++ pairs_from left rest ≡ pairs_from start_end announced
+  pub few : length kept + length rest ≤ MAX_REQUESTS
+  pub are_rows : All (Contains rows) rest
+  pub in_order : AllPairs Follows rest
+  pub left_end : HasLeftEnd left rest
+
+pub follow_first : (x : Request) (behind : List Request) → AllPairs Follows (x ∷ behind) → All (Follows x) behind
+follow_first x behind in_order = λ k d below. in_order 0 (suc k) d (omega arith) (omega arith)
+
+HasLeftEnd-start : (announced : List Request) → HasLeftEnd start_end announced
+HasLeftEnd-start [] = tt
+HasLeftEnd-start (x ∷ xs) = (omega arith, omega arith)
+
+pub KeepsLines-none : (rows announced : List Request) (left : End) → left ≡ start_end → length announced ≤ MAX_REQUESTS → All (Contains rows) announced
+    → AllPairs Follows announced → KeepsLines rows announced [] left announced
+KeepsLines-none rows announced left is few are_rows in_order = record {
+  in_range = λ k d below. absurd (omega (arith, below));
+  in_turn = refl;
+  pairs = ap (λ e. pairs_from e announced) is;
+  few = omega (arith, few);
+  are_rows = are_rows;
+  in_order = in_order;
+  left_end = subst (λ e. HasLeftEnd e announced) (sym is) (HasLeftEnd-start announced);
+}
+
+-- one line more
+pub KeepsLines-more : (rows announced : List Request) (kept after : List Kept) (left right : End) (x : Request) (behind : List Request) (k : Kept)
+    → after ≡ kept ++ k ∷ [] → KeepsLines rows announced kept left (x ∷ behind) → right ≡ right_end x behind
+    → StandsAt rows x k.place → pair_of k.pair ≡ pair_between x left right → KeepsLines rows announced after right behind
+KeepsLines-more rows announced kept after left right x behind k pushed is ends stands pair =
+    let chosen = chosen_requests rows (places_of kept) in
+    let kept_now : KeepsRequests rows chosen kept = record { in_range = is.in_range; in_turn = refl } in
+    let more = KeepsRequests-push rows chosen kept k x kept_now stands in
+    let this : pair_of k.pair ≡ pair_between x left (right_end x behind) = pair ∙ ap (pair_between x left) ends in
+    let next = right_end x behind in
+    let done : KeepsLines rows announced (kept ++ k ∷ []) next behind = record {
+      in_range = more.in_range;
+      in_turn = ap (λ rs. rs ++ behind) more.in_turn ∙ append_assoc chosen (x ∷ []) behind ∙ is.in_turn;
+      pairs =
+          ap (λ ps. ps ++ pairs_from next behind)
+          (map-append (λ (e : Kept). pair_of e.pair) kept (k ∷ []) ∙ ap (λ p. pairs_of kept ++ p ∷ []) this)
+          ∙ append_assoc (pairs_of kept) (pair_between x left next ∷ []) (pairs_from next behind)
+          ∙ is.pairs;
+      few = omega (arith, is.few, length-append kept (k ∷ []));
+      are_rows = All-tail (Contains rows) x behind is.are_rows;
+      in_order = λ i j d before below. is.in_order (suc i) (suc j) d (omega arith) (omega arith);
+      left_end = HasLeftEnd-right x behind (follow_first x behind is.in_order);
+    } in
+    subst (λ ks. KeepsLines rows announced ks right behind) (sym pushed)
+    (subst (λ e. KeepsLines rows announced (kept ++ k ∷ []) e behind) (sym ends) done)
+
+-- a list and its first element, as a pattern takes it apart
+pub first_and_rest : {X : Type 0} (xs : List X) (x : X) → 1 ≤ length xs → x ≡ get_or xs 0 x → xs ≡ x ∷ take (length xs - 1) (drop 1 xs)
+first_and_rest [] x some is = absurd (omega arith)
+first_and_rest (y ∷ ys) x some is = ap (λ z. z ∷ ys) (sym is) ∙ ap (λ zs. x ∷ zs) (sym (take_all (length (y ∷ ys) - 1) ys (omega arith)))
+
+pub two_elements : {X : Type 0} (xs : List X) (x y : X) → 2 ≤ length xs → length xs < 3 → x ≡ get_or xs 0 x → y ≡ get_or xs 1 y → xs ≡ x ∷ y ∷ []
+two_elements [] x y some few is_x is_y = absurd (omega arith)
+two_elements (u ∷ []) x y some few is_x is_y = absurd (omega arith)
+two_elements (u ∷ v ∷ []) x y some few is_x is_y = ap (λ z. z ∷ v ∷ []) (sym is_x) ∙ ap (λ z. x ∷ z ∷ []) (sym is_y)
+two_elements (u ∷ v ∷ w ∷ ws) x y some few is_x is_y = absurd (omega arith)

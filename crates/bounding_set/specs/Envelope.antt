@@ -1,0 +1,55 @@
+-- The envelope of requests of positive rate: the lines that some pair is forbidden by alone, by rising overhead.
+use Rattle.std.specs.Prelude.{◌≡◌, ℕ, ◌+◌, ◌*◌, ◌<◌, ◌≤◌, ◌⊎◌, List, length, All, AllPairs, Contains, slice_index_or}
+use Rattle.std.specs.List.{AllWithin}
+use Rattle.tmmbr_tuple.specs.Tuple.{rate_of}
+use Rattle.tmmbr_tuple.specs.RatePair.{RatePair, Permits}
+use Rattle.rate_cert.specs.declared.request.Request.{Request}
+use Rattle.rate_cert.specs.Requests.{IsFeasible}
+use Rattle.bounding_set.specs.Canonical.{HasSameLine}
+
+-- the order of the walk: by overhead, then by rate, then by owner
+pub record IsNotAfter (x y : Request) : Type 0 where
+  pub overhead : x.tuple.overhead ≤ y.tuple.overhead
+  pub rate : x.tuple.overhead ≡ y.tuple.overhead → rate_of x.tuple ≤ rate_of y.tuple
+  pub owner : x.tuple.overhead ≡ y.tuple.overhead → rate_of x.tuple ≡ rate_of y.tuple → x.owner.0 ≤ y.owner.0
+
+-- x has less overhead than y, and reaches farther
+pub record ReachesBeyond (y x : Request) : Type 0 where
+  pub overhead : x.tuple.overhead < y.tuple.overhead
+  pub reach : rate_of y.tuple * x.tuple.overhead < rate_of x.tuple * y.tuple.overhead
+
+-- y has more overhead and a greater rate than x, and x reaches farther
+pub record Crosses (x y : Request) : Type 0 where
+  pub overhead : x.tuple.overhead < y.tuple.overhead
+  pub rate : rate_of x.tuple < rate_of y.tuple
+  pub reach : rate_of y.tuple * x.tuple.overhead < rate_of x.tuple * y.tuple.overhead
+
+-- the line of b is below the chord from a to c: between its crossings with the two it is the lowest of the three
+abbrev pub Turns : Request → Request → Request → Type 0
+Turns a b c =
+    c.tuple.overhead * rate_of b.tuple + b.tuple.overhead * rate_of a.tuple + a.tuple.overhead * rate_of c.tuple
+    < c.tuple.overhead * rate_of a.tuple + b.tuple.overhead * rate_of c.tuple + a.tuple.overhead * rate_of b.tuple
+
+-- lines by rising overhead, each of which is the lowest somewhere
+pub record IsHull (lines : List Request) : Type 0 where
+  pub crosses : AllPairs Crosses lines
+  pub turns : (i j k : ℕ) (d : Request) → i < j → j < k → k < length lines
+      → Turns (slice_index_or lines i d) (slice_index_or lines j d) (slice_index_or lines k d)
+
+-- what the requests permit together, y permits
+abbrev pub Covers : List Request → Request → Type 0
+Covers lines y = (p : RatePair) → IsFeasible lines p → Permits y.tuple p
+
+-- x stands where it is, or y took its place: then no request that the old lines cover has the line of y
+abbrev pub ComesFrom : List Request → Request → Request → Type 0
+ComesFrom old y x = Contains old x ⊎ ((x ≡ y) × ((z : Request) → Covers old z → ¬ HasSameLine y z))
+
+-- The envelope of the rows below a place: a hull of such rows which covers them, each with the least owner of its line.
+pub record IsEnvelopeBelow (rows : List Request) (lines : List Request) (place : ℕ) : Type 0 where
+  pub hull : IsHull lines
+  pub covers : AllWithin (Covers lines) rows 0 place
+  pub are_rows : All (Contains rows) lines
+  pub least_owner : All (λ x. AllWithin (λ y. HasSameLine x y → x.owner.0 ≤ y.owner.0) rows 0 place) lines
+
+abbrev pub IsEnvelope : List Request → List Request → Type 0
+IsEnvelope rows lines = IsEnvelopeBelow rows lines (length rows)

@@ -1,0 +1,96 @@
+//! The certificate of a choice by the formulas of `docs/FORMATS.md`, one by one: for tests.
+
+use arrayvec::ArrayVec;
+use rate_cert::{Cert, Implied, Kept, Request};
+use std::test::Fail;
+use tmmbr_tuple::Pair;
+
+/// The certificate of the requests at these places, which are listed by rising overhead.
+pub fn certificate(requests: &[Request], places: &[usize]) -> Result<Cert, Fail> {
+    let mut kept = ArrayVec::new();
+    for j in 0..places.len() {
+        let place = u16::try_from(places[j])?;
+        let pair = pair_of_kept(requests, places, j).ok_or("in range")?;
+        kept.try_push(Kept { place, pair })?;
+    }
+    let mut implied = ArrayVec::new();
+    for (place, request) in requests.iter().enumerate() {
+        if !places.contains(&place) {
+            let entry = implied_entry(requests, places, place, request);
+            implied.try_push(entry.ok_or("in range")?)?;
+        }
+    }
+    Ok(Cert { kept, implied })
+}
+
+/// The rate and overhead of the kept request of number j; `None` past the last one.
+fn kept_line(requests: &[Request], places: &[usize], j: usize) -> Option<(u128, u128)> {
+    let request = requests.get(*places.get(j)?)?;
+    Some((request.tuple.rate(), u128::from(request.tuple.overhead)))
+}
+
+/// The pair of the kept request of number j.
+fn pair_of_kept(requests: &[Request], places: &[usize], j: usize) -> Option<Pair> {
+    let (rate, overhead) = kept_line(requests, places, j)?;
+    let (first_rate, _) = kept_line(requests, places, 0)?;
+    if places.len() == 2 && first_rate == 0 {
+        return match j {
+            0 => Pair::new(0, 1, 1),
+            _ => Pair::new(rate.wrapping_add(1), 0, overhead.wrapping_mul(8)),
+        };
+    }
+    let left = left_end(requests, places, j)?;
+    let right = match left_end(requests, places, j.wrapping_add(1)) {
+        Some(end) => end,
+        None => (rate, overhead.wrapping_mul(8)),
+    };
+    let packets = left.0.wrapping_add(right.0);
+    let seconds = left.1.wrapping_add(right.1);
+    let headers = overhead.wrapping_mul(8).wrapping_mul(packets);
+    let bits = rate.wrapping_mul(seconds).wrapping_sub(headers);
+    Pair::new(packets, bits.wrapping_add(1), seconds)
+}
+
+/// The left end of the kept request of number j: upper and lower part.
+fn left_end(requests: &[Request], places: &[usize], j: usize) -> Option<(u128, u128)> {
+    let (rate, overhead) = kept_line(requests, places, j)?;
+    if j == 0 {
+        return Some((0, 1));
+    }
+    let (rate_before, overhead_before) = kept_line(requests, places, j.wrapping_sub(1))?;
+    let lower = overhead.wrapping_sub(overhead_before).wrapping_mul(8);
+    Some((rate.wrapping_sub(rate_before), lower))
+}
+
+/// How the request, which stands at this place and isn't kept, follows from kept ones.
+fn implied_entry(
+    requests: &[Request],
+    places: &[usize],
+    place: usize,
+    request: &Request,
+) -> Option<Implied> {
+    let overhead = request.tuple.overhead;
+    let first = *places.first()?;
+    let last = *places.last()?;
+    let overhead_of = |k: usize| requests.get(k).map_or(0, |r| r.tuple.overhead);
+    let (a, b, p, q, r) = if overhead <= overhead_of(first) {
+        (first, first, 1, 0, 1)
+    } else if overhead >= overhead_of(last) {
+        (last, last, overhead, 0, overhead_of(last))
+    } else {
+        let behind = places.iter().position(|k| overhead < overhead_of(*k))?;
+        let a = *places.get(behind.wrapping_sub(1))?;
+        let b = *places.get(behind)?;
+        let p = overhead_of(b).wrapping_sub(overhead);
+        let q = overhead.wrapping_sub(overhead_of(a));
+        (a, b, p, q, overhead_of(b).wrapping_sub(overhead_of(a)))
+    };
+    Some(Implied {
+        place: u16::try_from(place).ok()?,
+        a: u16::try_from(a).ok()?,
+        b: u16::try_from(b).ok()?,
+        p,
+        q,
+        r,
+    })
+}

@@ -1,0 +1,32 @@
+//! Goodbyes (RFC 3550, section 6.6).
+
+use crate::packet::WORD;
+use byteorder::{BigEndian, ByteOrder};
+use tmmbr_tuple::Ssrc;
+
+/// The sources that a goodbye names, each four bytes of the datagram.
+#[derive(Clone, Copy, Debug)]
+pub struct Sources<'a> {
+    pub(crate) bytes: &'a [u8],
+}
+
+impl Iterator for Sources<'_> {
+    ghost use Rattle.std.specs.Iterator.{YieldsFirstBy, item_count};
+    ghost use Rattle.rtcp_compound.specs.Content.{sources_left};
+
+    type Item = Ssrc;
+
+    ghost next_gives = { YieldsFirstBy (λ source. source.0) sources_left };
+
+    ghost remaining = { item_count sources_left };
+
+    #[tactic(auto, using(crate::proofs::EntryLemmas::sources_more, crate::proofs::EntryLemmas::sources_none))]
+    fn next(&mut self) -> Option<Ssrc> {
+        if self.bytes.len() < WORD {
+            return None;
+        }
+        let (source, others) = self.bytes.split_at(WORD);
+        self.bytes = others;
+        Some(Ssrc(BigEndian::read_u32(source)))
+    }
+}

@@ -1,0 +1,5 @@
+pub mod NumberLemmas
+pub mod EntryLemmas
+pub mod MessageLemmas
+pub mod NackLemmas
+pub mod WriteLemmas

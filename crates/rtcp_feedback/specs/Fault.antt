@@ -1,0 +1,14 @@
+-- The faults of a body: their numbers, as texts show them, and the second one's cause.
+use Rattle.std.specs.Prelude.{◌≡◌, ◌≢◌, ◌⊎◌, ◌≤◌, ◌-◌, ◌%◌, ℕ, List, length}
+use Rattle.rtcp_feedback.specs.declared.fault.FbFault.{FbFault}
+use Rattle.rtcp_feedback.specs.declared.fault.FbFault.TheVariants.{Short, OddFci}
+
+abbrev pub number_of : FbFault → ℕ
+number_of Short = 1
+number_of OddFci = 2
+
+-- behind the two sources, entries of a NACK (4 bytes) or of a TMMBR or TMMBN (8 bytes) don't end where the body ends
+abbrev pub HasOddFci : ℕ → ℕ → List ℕ → Type 0
+HasOddFci fmt kind body =
+    (8 ≤ length body) × (kind ≡ 205)
+    × (((fmt ≡ 1) × ((length body - 8) % 4 ≢ 0)) ⊎ (((fmt ≡ 3) ⊎ (fmt ≡ 4)) × ((length body - 8) % 8 ≢ 0)))

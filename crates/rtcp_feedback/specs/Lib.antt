@@ -1,0 +1,5 @@
+pub mod Fault
+pub mod Nack
+pub mod Grammar
+pub mod Reading
+pub mod Writing

@@ -1,0 +1,83 @@
+//! Generic NACKs (RFC 4585, section 6.2.1).
+
+ghost use Rattle.std.specs.Prelude.{◌≡◌};
+ghost use Rattle.rtcp_feedback.specs.Nack.{lost_numbers};
+
+use crate::fault::FbFault;
+use arrayvec::ArrayVec;
+use byteorder::{BigEndian, ByteOrder};
+
+/// The length of an entry in bytes.
+const ENTRY: usize = 4;
+
+/// How many packets an entry may name behind its first.
+const FOLLOWING: u16 = 16;
+
+/// One entry of a generic NACK (RFC 4585, section 6.2.1): a lost packet, and which of the 16 behind it are
+/// lost too.
+#[derive(Clone, Copy, Debug, PartialEq, Eq, Hash)]
+pub struct Nack {
+    /// The sequence number of a lost packet.
+    pub pid: u16,
+    /// A bit for each packet behind it, from the next one, the least significant bit, on; 0 for none.
+    pub blp: u16,
+}
+
+/// The entries of a generic NACK, in order; a slice of the body.
+#[derive(Clone, Copy, Debug, PartialEq, Eq)]
+pub struct Nacks<'a> {
+    rest: &'a [u8],
+}
+
+impl<'a> Nacks<'a> {
+    ghost use Rattle.std.specs.Prelude.{◌↔◌, ◌%◌, length, IfOk, IsOk, IsOkUnless};
+    ghost use Rattle.rtcp_feedback.specs.Reading.{nacks_in, nacks_left};
+
+    /// The entries that an FCI consists of; `OddFci` where it ends within one.
+    pub(crate) fn read(fci: &'a [u8]) -> Result<Nacks<'a>, FbFault>
+        ensures whole { IsOk result ↔ (length fci.now % 4 ≡ 0) }
+        ensures entries { IfOk result (λ found. nacks_left found ≡ nacks_in fci.now) }
+        ensures fault { IsOkUnless result FbFault.OddFci }
+    {
+        if fci.len() % ENTRY != 0 {
+            return Err(FbFault::OddFci);
+        }
+        Ok(Nacks { rest: fci })
+    }
+}
+
+impl<'a> Iterator for Nacks<'a> {
+    ghost use Rattle.std.specs.Iterator.{YieldsFirst, item_count};
+    ghost use Rattle.rtcp_feedback.specs.Reading.{nacks_left};
+
+    type Item = Nack;
+
+    ghost next_gives = { YieldsFirst nacks_left };
+
+    ghost remaining = { item_count nacks_left };
+
+    #[tactic(auto, using(crate::proofs::EntryLemmas::nacks_next, crate::proofs::EntryLemmas::nacks_end))]
+    fn next(&mut self) -> Option<Nack> {
+        let (entry, rest) = self.rest.split_at_checked(ENTRY)?;
+        self.rest = rest;
+        Some(Nack {
+            pid: BigEndian::read_u16(entry),
+            blp: BigEndian::read_u16(&entry[2..]),
+        })
+    }
+}
+
+/// The sequence numbers that an entry says are lost: its `pid`, then by rising i from 1 to 16 the i-th
+/// behind it, modulo 65,536, where the i-th bit of `blp` is set, counted from the least significant.
+pub fn lost(nack: Nack) -> ArrayVec<u16, 17>
+    ensures { result.items ≡ lost_numbers nack }
+{
+    let mut numbers = ArrayVec::new();
+    numbers.push(nack.pid);
+    for i in 1..FOLLOWING + 1 {
+        if (nack.blp >> (i - 1)) & 1 == 1 {
+            numbers.push(nack.pid.wrapping_add(i));
+        }
+    }
+    numbers
+}

@@ -1,0 +1,48 @@
+//! What feedback packets have in common (RFC 4585, section 6.1).
+
+ghost use Rattle.std.specs.Prelude.{◌≡◌, ◌+◌, ◌≤◌, ◌<◌, ◌++◌, length, vec_len, vec_capacity};
+ghost use Rattle.rtcp_feedback.specs.Writing.{front_bytes};
+
+use tmmbr_tuple::Ssrc;
+
+/// The packet type of transport layer feedback (RFC 4585, section 6.1).
+pub const RTPFB: u8 = 205;
+/// The packet type of payload-specific feedback (RFC 4585, section 6.1).
+pub const PSFB: u8 = 206;
+/// The FMT of a generic NACK, in RTPFB (RFC 4585, section 6.2.1).
+pub const FMT_NACK: u8 = 1;
+/// The FMT of a picture loss indication, in PSFB (RFC 4585, section 6.3.1).
+pub const FMT_PLI: u8 = 1;
+/// The FMT of a request for a greatest rate, in RTPFB (RFC 5104, section 4.2.1).
+pub const FMT_TMMBR: u8 = 3;
+/// The FMT of the notification of such requests, in RTPFB (RFC 5104, section 4.2.2).
+pub const FMT_TMMBN: u8 = 4;
+
+/// The length in bytes of the two sources that a body begins with.
+pub const SOURCES: usize = 8;
+/// The length in bytes of a packet's front, a header and these sources.
+pub const FRONT: usize = 12;
+
+/// Appends the front of a packet without padding, which has so many words behind its header.
+pub fn put_front(out: &mut Vec<u8>, fmt: u8, kind: u8, words: u16, sender: Ssrc, media: Ssrc)
+    requires fmt { fmt < 32 }
+    requires room { vec_len out.old + 12 ≤ vec_capacity out.old }
+    ensures items { out.new.items ≡ out.old.items ++ front_bytes fmt kind words sender.0 media.0 }
+    ensures len { vec_len out.new ≡ vec_len out.old + 12 }
+    ensures capacity { vec_capacity out.old ≤ vec_capacity out.new }
+{
+    put(out, &[0x80 + fmt, kind]);
+    put(out, &words.to_be_bytes());
+    put(out, &sender.0.to_be_bytes());
+    put(out, &media.0.to_be_bytes());
+}
+
+/// Appends bytes that there is room for, so that no memory is asked for.
+pub fn put(out: &mut Vec<u8>, bytes: &[u8])
+    requires { vec_len out.old + length bytes.now ≤ vec_capacity out.old }
+    ensures items { out.new.items ≡ out.old.items ++ bytes.now }
+    ensures len { vec_len out.new ≡ vec_len out.old + length bytes.now }
+    ensures capacity { vec_capacity out.old ≤ vec_capacity out.new }
+{
+    let _ = out.extend_from_slice(bytes);
+}
