@@ -3,7 +3,7 @@ use Rattle.std.proofs.Common.{◌≡◌, ℕ, ◌+◌, ◌-◌, ◌*◌, ◌<◌
 use Rattle.std.specs.Prelude.{All, AllPairs, Contains, slice_get}
 use Rattle.std.specs.List.{cons_option}
 use Rattle.std.proofs.lemmas.Bool.{cases_lt}
-use Rattle.std.proofs.lemmas.List.{append-nil, length-append, map-append, length-map, get_or-map, take_all}
+use Rattle.std.proofs.lemmas.List.{length-append, map-append, length-map, get_or-map, take_all}
 use Rattle.std.proofs.lemmas.List.Elements.{All-head, All-tail, All-map, All-push, filter_map-append}
 use Rattle.std.proofs.lemmas.Option.{slice_get-get_or}
 use Rattle.tmmbr_tuple.specs.Tuple.{rate_of}

@@ -77,8 +77,8 @@ impl Ring {
             return None;
         };
         let behind = ((newest % CYCLE) as u16).wrapping_sub(seq);
-        // A packet of the run is as many places behind the newest as its number is below the newest's. So
-        // none nearer than `behind` has these bits, and that one has, if the run goes so far.
+        // In the run a packet stands as many places behind the newest as its number is below the
+        // newest's. So none nearer than `behind` has these bits, and that one has, if the run goes so far.
         let nearest = self.run.min(usize::from(behind));
         for back in nearest..packets.len() {
             if let Some((number, bytes)) = packets.nth_back(back) {

@@ -6,8 +6,8 @@ ghost use Rattle.resend_ring.specs.Kept.{packet_of, EndsInRun};
 use crate::ring::MAX_CAPACITY;
 use circular_buffer::HeapCircularBuffer;
 
-/// How many packets the run has that ends with a packet of this number, once it stands behind these, which
-/// end in a run of `run`.
+/// How many packets the run has that ends with a packet of this number, once it stands behind these,
+/// which end in a run of `run`.
 pub(crate) fn run_through(
     packets: &HeapCircularBuffer<(u64, Vec<u8>)>,
     run: usize,

@@ -6,8 +6,10 @@ use Rattle.std.proofs.lemmas.List.{append-nil, append_assoc, flat_map_more, nil_
 use Rattle.rtcp_compound.specs.declared.fault.RtcpFault.{RtcpFault}
 use Rattle.rtcp_compound.specs.Grammar.{Packet, packet_bytes, IsPacket, AreJoined, ReadsRtcp}
 use Rattle.rtcp_compound.specs.Content.{shown}
-use Rattle.rtcp_compound.specs.Reading.{packet_at, found_then, packets_within, packets_in, AreUnpadded, Passes, Refuses}
+use Rattle.rtcp_compound.specs.Fault.{AreUnpadded, Passes, Refuses}
+use Rattle.rtcp_compound.specs.Reading.{packet_at, found_then, packets_within, packets_in}
 use Rattle.rtcp_compound.proofs.PacketLemmas.{Takes, IsBytes, packet_again, packet_short, packet_shorter}
+use Rattle.rtcp_compound.proofs.FaultLemmas.{fault_again}
 
 -- what a packet's reading gave
 read_cases : (r : Result (Packet × List ℕ) RtcpFault) → ((x : Packet × List ℕ) × (r ≡ Ok x)) ⊎ ((f : RtcpFault) × (r ≡ Err f))
@@ -137,7 +139,7 @@ refuses_same (p ∷ ps) (q ∷ qs) r s f g ha hb hr hs e =
 
 pub refuses_one : (bytes : List ℕ) (f g : RtcpFault) → Refuses bytes f → Refuses bytes g → f ≡ g
 refuses_one bytes f g a b =
-    refuses_same a.passes.before b.passes.before a.rest b.rest f g a.passes.each b.passes.each a.here b.here (sym a.passes.bytes_are ∙ b.passes.bytes_are)
+    refuses_same a.passes.before b.passes.before a.rest b.rest f g a.passes.each b.passes.each (fault_again a.rest f a.here) (fault_again b.rest g b.here) (sym a.passes.bytes_are ∙ b.passes.bytes_are)
 
 first_read : (ps : List Packet) → 0 < length ps → AreJoined ps → (x : Packet × List ℕ) × (packet_at (flat_map packet_bytes ps) ≡ Ok x)
 first_read [] some h = absurd (omega arith)
@@ -161,4 +163,4 @@ refuses_apart (b ∷ bs) (p ∷ (q ∷ ps)) r f hb more hr some h e =
 
 pub refuses_none : (bytes : List ℕ) (ps : List Packet) (f : RtcpFault) → Refuses bytes f → ReadsRtcp bytes ps → ⊥
 refuses_none bytes ps f a h =
-    refuses_apart a.passes.before ps a.rest f a.passes.each a.passes.goes_on a.here h.some h.joined (sym a.passes.bytes_are ∙ h.bytes_are)
+    refuses_apart a.passes.before ps a.rest f a.passes.each a.passes.goes_on (fault_again a.rest f a.here) h.some h.joined (sym a.passes.bytes_are ∙ h.bytes_are)

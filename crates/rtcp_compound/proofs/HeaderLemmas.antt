@@ -6,7 +6,8 @@ use Rattle.std.proofs.lemmas.List.{take-append-drop, length-take, length-drop, t
 use Rattle.byteorder.specs.Endian.{big_number}
 use Rattle.rtcp_compound.specs.declared.fault.RtcpFault.{RtcpFault}
 use Rattle.rtcp_compound.specs.Grammar.{Packet}
-use Rattle.rtcp_compound.specs.Reading.{◌>>=◌, content_at, padding_in, size_of, is_padded, unless}
+use Rattle.rtcp_compound.specs.Fault.{size_of}
+use Rattle.rtcp_compound.specs.Reading.{◌>>=◌, content_at, padding_in, is_padded, unless}
 
 -- ---- reading in steps
 

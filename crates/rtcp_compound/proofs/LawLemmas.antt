@@ -5,7 +5,7 @@ use Rattle.std.proofs.lemmas.List.{take_at, drop_at}
 use Rattle.std.proofs.lemmas.List.Concat.{flat_map-append}
 use Rattle.rtcp_compound.specs.Content.{Content}
 use Rattle.rtcp_compound.specs.Grammar.{Packet, packet_bytes, AreJoined, ReadsRtcp, Item, item_bytes, AreItems, Chunk, chunk_bytes, IsChunk, AreChunks, HasChunks}
-use Rattle.rtcp_compound.specs.Reading.{AreUnpadded}
+use Rattle.rtcp_compound.specs.Fault.{AreUnpadded}
 use Rattle.rtcp_compound.specs.Written.{Appends}
 
 -- ---- in front of a datagram

@@ -163,14 +163,14 @@ takes_made (b0 ∷ (b1 ∷ (b2 ∷ []))) content rest n fit h pad fits = let hea
 takes_made (b0 ∷ (b1 ∷ (b2 ∷ (b3 ∷ tail)))) content rest n fit h pad fits = packet_made b0 b1 b2 b3 tail content rest n (fit 2) (fit 3) h pad fits
 
 -- reading goes on behind the content, and behind the padding
-abbrev ends_with : ℕ → ℕ → List ℕ → List ℕ → List ℕ → Result (Packet × List ℕ) RtcpFault
+abbrev pub ends_with : ℕ → ℕ → List ℕ → List ℕ → List ℕ → Result (Packet × List ℕ) RtcpFault
 ends_with kind count body padding rest =
     unless (fault_in kind count body) (record { count = count; kind = kind; body = body; padding = padding }) >>= λ p. Ok (p, rest)
 
-abbrev after_padding : List ℕ → List ℕ × List ℕ → ℕ → Result (Packet × List ℕ) RtcpFault
+abbrev pub after_padding : List ℕ → List ℕ × List ℕ → ℕ → Result (Packet × List ℕ) RtcpFault
 after_padding bytes c n = ends_with (slice_index bytes 1) (slice_index bytes 0 % 32) (take (length c.0 - n) c.0) (drop (length c.0 - n) c.0) c.1
 
-abbrev after_content : List ℕ → List ℕ × List ℕ → Result (Packet × List ℕ) RtcpFault
+abbrev pub after_content : List ℕ → List ℕ × List ℕ → Result (Packet × List ℕ) RtcpFault
 after_content bytes c = padding_in (is_padded bytes) c.0 >>= λ n. after_padding bytes c n
 
 pub packet_short : (bytes : List ℕ) → length bytes < 4 → packet_at bytes ≡ Err Short

@@ -1,13 +1,13 @@
--- How a datagram is read: the packet at its front, or the first of seven faults.
-use Rattle.std.specs.Prelude.{◌≡◌, ◌==◌, ℕ, zero, suc, ◌+◌, ◌-◌, ◌*◌, ◌/◌, ◌%◌, ◌<◌, not, ◌&&◌, ◌||◌, Bool, nat_lt, List, [], ◌∷◌, ◌++◌, length, take, drop, map, slice_index, Option, None, Some, Result, Ok, Err, MatchResult, if◌then◌else◌, option_and_then, is_some}
-use Rattle.std.specs.List.{flat_map}
-use Rattle.byteorder.specs.Endian.{big_number}
+-- How the packets of a datagram are read: the packet at the front, or the first of seven faults. What the faults are is
+-- said in Fault.
+use Rattle.std.specs.Prelude.{◌≡◌, ◌==◌, ℕ, zero, suc, ◌+◌, ◌-◌, ◌*◌, ◌/◌, ◌%◌, not, ◌&&◌, ◌||◌, Bool, nat_lt, List, [], ◌∷◌, length, take, drop, map, slice_index, Option, None, Some, Result, Ok, Err, MatchResult, if◌then◌else◌, option_and_then, is_some}
 use Rattle.rtcp_compound.specs.declared.fault.RtcpFault.{RtcpFault}
 use Rattle.rtcp_compound.specs.declared.fault.RtcpFault.TheVariants.{Short, Version, Length, PaddingNotLast, Padding, CountOver, SdesUnended}
 use Rattle.rtcp_compound.specs.declared.packet.Packet.{Packet as ReadPacket}
 use Rattle.rtcp_compound.specs.declared.packets.Packets.{Packets}
 use Rattle.rtcp_compound.specs.Content.{Content, shown}
-use Rattle.rtcp_compound.specs.Grammar.{Packet, packet_bytes, IsPacket}
+use Rattle.rtcp_compound.specs.Fault.{size_of}
+use Rattle.rtcp_compound.specs.Grammar.{Packet}
 
 infixl 10 ◌>>=◌
 abbrev pub ◌>>=◌ : {A B : Type 0} → Result A RtcpFault → (A → Result B RtcpFault) → Result B RtcpFault
@@ -17,10 +17,6 @@ abbrev pub ◌>>=◌ : {A B : Type 0} → Result A RtcpFault → (A → Result B
 -- what a call gives is what reading gives, seen by view
 abbrev pub Gives : {X Y : Type 0} → (X → Y) → Result X RtcpFault → Result Y RtcpFault → Type 0
 Gives view r read = MatchResult r (λ x. read ≡ Ok (view x)) (λ f. read ≡ Err f)
-
--- the packet's length with its header, as the header says
-abbrev pub size_of : List ℕ → ℕ
-size_of bytes = 4 * (big_number 2 (drop 2 bytes) + 1)
 
 abbrev pub is_padded : List ℕ → Bool
 is_padded bytes = slice_index bytes 0 / 32 % 2 == 1
@@ -99,24 +95,6 @@ packets_within (suc n) bytes = found_then (packets_within n) (packet_at bytes)
 
 unfoldable pub packets_in : List ℕ → List Packet
 packets_in bytes = packets_within (length bytes) bytes
-
--- whole packets without padding
-abbrev pub AreUnpadded : List Packet → Type 0
-AreUnpadded [] = Unit {0}
-AreUnpadded (p ∷ ps) = IsPacket p × (p.padding ≡ []) × AreUnpadded ps
-
--- Before the rest stand whole packets without padding. There may be none of them; behind one something follows.
-pub record Passes (bytes rest : List ℕ) : Type 0 where
-  pub before : List Packet
-  pub each : AreUnpadded before
-  pub goes_on : 0 < length before → 0 < length rest
-  pub bytes_are : bytes ≡ flat_map packet_bytes before ++ rest
-
--- Behind such packets stands one with this fault: the first that is faulty.
-pub record Refuses (bytes : List ℕ) (fault : RtcpFault) : Type 0 where
-  pub rest : List ℕ
-  pub passes : Passes bytes rest
-  pub here : packet_at rest ≡ Err fault
 
 -- what a packet that was read stands for
 abbrev pub packet_of : ReadPacket → Packet

@@ -4,7 +4,7 @@ ghost use Rattle.std.specs.Prelude.{ℕ, ◌≡◌, ◌<◌, List, [], ◌∷◌
 ghost use Rattle.std.specs.List.{flat_map};
 ghost use Rattle.rtcp_compound.specs.Content.{Content};
 ghost use Rattle.rtcp_compound.specs.Grammar.{Packet, packet_bytes, HasChunks, ReadsRtcp};
-ghost use Rattle.rtcp_compound.specs.Reading.{AreUnpadded};
+ghost use Rattle.rtcp_compound.specs.Fault.{AreUnpadded};
 ghost use Rattle.rtcp_compound.specs.Written.{Appends};
 
 /// Whole packets without padding are read as themselves, alone or in front of any datagram, whose packets

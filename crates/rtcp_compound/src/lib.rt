@@ -1,9 +1,9 @@
 //! RTCP datagrams: sender and receiver reports, source descriptions and goodbyes (RFC 3550, section 6),
 //! and any other packet by its header.
 //!
-//! Read `packets` first, then `packet`. Reading is lenient (any packet may come first, unknown types are
+//! Read `packets` first, then `writer`. Reading is lenient (any packet may come first, unknown types are
 //! passed on) and takes no memory; each packet is a header, a body as long as the header says, and in the
-//! last one alone padding.
+//! last one alone padding. Writing appends a packet to a `Vec`, and asks for memory once.
 #![tactic(auto)]
 
 mod bye;

@@ -3,7 +3,8 @@
 ghost use Rattle.std.specs.Prelude.{◌≡◌, List, IfOk, IfErr, IsOkAnd, Err};
 ghost use Rattle.rtcp_compound.specs.Grammar.{Packet, ReadsRtcp};
 ghost use Rattle.rtcp_compound.specs.declared.fault.RtcpFault.{RtcpFault};
-ghost use Rattle.rtcp_compound.specs.Reading.{Refuses, packets_left};
+ghost use Rattle.rtcp_compound.specs.Fault.{Refuses};
+ghost use Rattle.rtcp_compound.specs.Reading.{packets_left};
 
 use crate::fault::RtcpFault;
 use crate::packet::read_packet;

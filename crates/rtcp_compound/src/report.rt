@@ -10,7 +10,7 @@ use tmmbr_tuple::Ssrc;
 /// What a receiver reports of one source (RFC 3550, section 6.4.1).
 #[derive(Clone, Copy, Debug, PartialEq, Eq)]
 pub struct Block {
-    /// The source that is reported.
+    /// The source that is reported, any 32 bits.
     pub source: Ssrc,
     /// The share of its packets lost since the last report, in 256ths. 0 where none was lost, or more
     /// came than were expected.
@@ -19,7 +19,7 @@ pub struct Block {
     /// came. Below 0 where more came than were expected.
     pub lost: i32,
     /// The highest sequence number that came, extended: how often the numbers began anew in the upper 16
-    /// bits, the number in the lower.
+    /// bits, the number in the lower. 0 is a number like any other.
     pub highest: u32,
     /// How much the time between packets varies, in units of the source's RTP timestamp. 0 where it
     /// doesn't.

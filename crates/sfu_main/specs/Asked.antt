@@ -3,7 +3,7 @@
 use Rattle.std.specs.Prelude.{◌≡◌, ◌==◌, ◌⊎◌, ◌<◌, ℕ, List, [], ◌∷◌, ◌++◌, length, map, filter, Result, Ok, Err}
 use Rattle.rtcp_compound.specs.Content.{Content, shown, sender_report, receiver_report, description, goodbye, feedback, other}
 use Rattle.rtcp_compound.specs.Grammar.{Packet, ReadsRtcp}
-use Rattle.rtcp_compound.specs.Reading.{Refuses}
+use Rattle.rtcp_compound.specs.Fault.{Refuses}
 use Rattle.rtcp_feedback.specs.declared.fault.FbFault.{FbFault}
 use Rattle.rtcp_feedback.specs.declared.fault.FbFault.TheVariants.{Short, OddFci}
 use Rattle.rtcp_feedback.specs.declared.tmmb.TmmbrEntry.{TmmbrEntry}

@@ -1,7 +1,9 @@
 use Rattle.std.proofs.Common.{◌∙◌, Err, ap, arith, rules}
 use Rattle.std.proofs.lemmas.List.{nil_from_length}
 use Rattle.std.proofs.lemmas.Result.{err_from_is_err_and}
-use Rattle.rtcp_compound.specs.Reading.{Refuses, packet_of}
+use Rattle.rtcp_compound.specs.Fault.{Refuses}
+use Rattle.rtcp_compound.specs.Reading.{packet_of}
+use Rattle.rtcp_compound.proofs.FaultLemmas.{packet_refused}
 use Rattle.rtcp_compound.proofs.PacketLemmas.{packet_takes}
 use Rattle.rtcp_compound.proofs.DatagramLemmas.{rest_bytes, passes_none, passes_more, joined_ends, reads_only, refuses_one, refuses_none}
 use Rattle.rtcp_compound.proofs.packets.split.Goals as goal
@@ -33,10 +35,17 @@ returns-then-is_empty-clause-first c = λ fault h. absurd (refuses_none c.args.d
 
 pub returns-in_err-behind-clause-only : goal.returns-in_err-behind-clause-only
 returns-in_err-behind-clause-only c = λ ps h.
-    absurd (refuses_none c.args.datagram.now ps c.in_err-behind.field-0.0 (record { rest = c.loop-behind.rest.now; passes = c.loop-behind.invariant; here = c.in_err-behind.ensures.reads }) h)
+    absurd (refuses_none c.args.datagram.now ps c.in_err-behind.field-0.0 (record { rest = c.loop-behind.rest.now; passes = c.loop-behind.invariant; here = packet_refused c.loop-behind.rest.now c.in_err-behind.field-0.0 c.in_err-behind.ensures.reads }) h)
 
 pub returns-in_err-behind-clause-first : goal.returns-in_err-behind-clause-first
 returns-in_err-behind-clause-first c = λ fault h.
     let p = err_from_is_err_and c.from_residual.result c.from_residual.ensures.1 in
-    let ours : Refuses c.args.datagram.now c.in_err-behind.field-0.0 = record { rest = c.loop-behind.rest.now; passes = c.loop-behind.invariant; here = c.in_err-behind.ensures.reads } in
+    let ours : Refuses c.args.datagram.now c.in_err-behind.field-0.0 = record { rest = c.loop-behind.rest.now; passes = c.loop-behind.invariant; here = packet_refused c.loop-behind.rest.now c.in_err-behind.field-0.0 c.in_err-behind.ensures.reads } in
     p.1 ∙ ap Err (p.2 ∙ refuses_one c.args.datagram.now c.in_err-behind.field-0.0 fault ours h)
+
+pub returns-in_err-behind-clause-refused : goal.returns-in_err-behind-clause-refused
+returns-in_err-behind-clause-refused c =
+    let p = err_from_is_err_and c.from_residual.result c.from_residual.ensures.1 in
+    let ours : Refuses c.args.datagram.now c.in_err-behind.field-0.0 =
+    record { rest = c.loop-behind.rest.now; passes = c.loop-behind.invariant; here = packet_refused c.loop-behind.rest.now c.in_err-behind.field-0.0 c.in_err-behind.ensures.reads } in
+    rw (p.1, p.2) ours

@@ -1,5 +1,5 @@
 use Rattle.std.proofs.Common.{length}
-use Rattle.rtcp_compound.specs.Reading.{Passes}
+use Rattle.rtcp_compound.specs.Fault.{Passes}
 use Rattle.rtcp_compound.proofs.packets.split.Given as goal
 
 abbrev pub invariant-loop-behind : goal.invariant-loop-behind

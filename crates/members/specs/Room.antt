@@ -1,0 +1,119 @@
+-- What a room holds, and what each call does.
+use Rattle.std.specs.Prelude.{◌==◌, ℕ, ◌+◌, nat_lt, nat_le, max, Bool, true, false, not, List, [], ◌∷◌, ◌++◌, length, map, slice_index_or, slice_set, ◌&&◌, Option, None, Some, Result, Ok, Err, if◌then◌else◌}
+use Rattle.tmmbr_tuple.specs.declared.ssrc.Ssrc.{Ssrc}
+use Rattle.members.specs.declared.order.Order.{Order}
+use Rattle.members.specs.declared.order.Order.TheVariants.{Route}
+use Rattle.members.specs.declared.fault.RoomFault.{RoomFault}
+use Rattle.members.specs.declared.fault.RoomFault.TheVariants.{UnknownEndpoint, WrongSsrc, UnknownLeg, StaysSpent}
+use Rattle.members.specs.declared.presence.Endpoint.{Endpoint}
+use Rattle.members.specs.declared.stays.LegStay.{LegStay}
+use Rattle.members.specs.declared.stays.TheConstants.{MAX_STAY}
+use Rattle.members.specs.declared.settings.LegSettings.{LegSettings}
+use Rattle.members.specs.Settings.{Configuration}
+use Rattle.members.specs.Presence.{is_present_at, source_at, with_heard}
+use Rattle.members.specs.Stays.{Told, leave, leaving, coming_count, come}
+
+-- the timeout, the greatest moment handed in, the next number of a stay or a turn, the endpoints and the legs
+pub record RoomState : Type 0 where
+  pub timeout : ℕ
+  pub moment : ℕ
+  pub next : ℕ
+  pub endpoints : List Endpoint
+  pub legs : List LegStay
+
+-- the orders of a call, and the room after it
+pub record Step : Type 0 where
+  pub orders : List Order
+  pub room : RoomState
+
+abbrev pub step_with : RoomState → ℕ → ℕ → Told → Step
+step_with r moment next t = record {
+  orders = t.orders;
+  room = record { timeout = r.timeout; moment = moment; next = next; endpoints = t.endpoints; legs = t.legs };
+}
+
+-- every present endpoint that is overdue leaves, by rising number
+abbrev pub after_leaving : RoomState → ℕ → Told
+after_leaving r moment = leaving r.timeout moment r.endpoints r.legs
+
+abbrev pub tick_step : RoomState → ℕ → Step
+tick_step r handed = step_with r (max r.moment handed) r.next (after_leaving r (max r.moment handed))
+
+abbrev pub gone : Told → ℕ → Told
+gone t endpoint = if is_present_at t.endpoints endpoint then leave t endpoint else t
+
+abbrev pub bye_step : RoomState → ℕ → ℕ → Result Step RoomFault
+bye_step r handed endpoint =
+    if nat_le (length r.endpoints) endpoint then Err UnknownEndpoint
+    else Ok (step_with r (max r.moment handed) r.next (gone (after_leaving r (max r.moment handed)) endpoint))
+
+-- a present endpoint is heard again
+abbrev pub heard_again : Told → ℕ → ℕ → Told
+heard_again t moment endpoint = record t { endpoints = with_heard t.endpoints endpoint (Some moment) }
+
+-- an endpoint is heard: it was present, or it comes
+abbrev pub heard_step : RoomState → ℕ → ℕ → Told → Result Step RoomFault
+heard_step r moment endpoint t =
+    if is_present_at t.endpoints endpoint then Ok (step_with r moment r.next (heard_again t moment endpoint))
+    else if nat_lt MAX_STAY (r.next + coming_count t.endpoints endpoint t.legs) then Err StaysSpent
+    else Ok (step_with r moment (r.next + coming_count t.endpoints endpoint t.legs) (come t moment r.next endpoint))
+
+abbrev pub hear_step : RoomState → ℕ → ℕ → ℕ → Result Step RoomFault
+hear_step r handed endpoint ssrc =
+    if nat_le (length r.endpoints) endpoint then Err UnknownEndpoint
+    else if not ((source_at r.endpoints endpoint).0 == ssrc) then Err WrongSsrc
+    else heard_step r (max r.moment handed) endpoint (after_leaving r (max r.moment handed))
+
+-- no leg
+abbrev pub no_leg : LegStay
+no_leg = record { subscriber = 0; publisher = 0; stay = 0; turn = 0; selected = false }
+
+abbrev pub leg_at : List LegStay → ℕ → LegStay
+leg_at legs number = slice_index_or legs number no_leg
+
+abbrev pub is_selected : Bool → LegStay → Bool
+is_selected on l = if on then l.selected else not l.selected
+
+-- switching on takes a new number as turn, where a stay stands
+abbrev pub takes_turn : Bool → LegStay → Bool
+takes_turn on l = on && not (l.stay == 0)
+
+abbrev pub switched : Bool → ℕ → LegStay → LegStay
+switched on next l = record l { selected = on; turn = if takes_turn on l then next else l.turn }
+
+-- the leg's row as it is now, where a stay stands
+abbrev pub row_order : ℕ → LegStay → List Order
+row_order number l = if l.stay == 0 then [] else Route number l.stay l.turn l.selected ∷ []
+
+abbrev pub with_leg : Told → ℕ → LegStay → Told
+with_leg t number l = record {
+  endpoints = t.endpoints;
+  legs = slice_set t.legs number l;
+  orders = t.orders ++ row_order number l;
+}
+
+abbrev pub next_after : Bool → ℕ → LegStay → ℕ
+next_after on next l = if takes_turn on l then next + 1 else next
+
+-- another selection than the leg has is noted, and its row changes where a stay stands
+abbrev pub selected_step : RoomState → ℕ → Told → ℕ → Bool → LegStay → Result Step RoomFault
+selected_step r moment t number on l =
+    if is_selected on l then Ok (step_with r moment r.next t)
+    else if takes_turn on l && nat_le MAX_STAY r.next then Err StaysSpent
+    else Ok (step_with r moment (next_after on r.next l) (with_leg t number (switched on r.next l)))
+
+abbrev pub select_step : RoomState → ℕ → ℕ → Bool → Result Step RoomFault
+select_step r handed number on =
+    if nat_le (length r.legs) number then Err UnknownLeg
+    else (let t = after_leaving r (max r.moment handed) in selected_step r (max r.moment handed) t number on (leg_at t.legs number))
+
+-- ---- a new room
+
+abbrev pub absent : Ssrc → Endpoint
+absent ssrc = record { ssrc = ssrc; heard = None }
+
+abbrev pub unstarted : LegSettings → LegStay
+unstarted l = record { subscriber = l.subscriber; publisher = l.publisher; stay = 0; turn = 0; selected = l.on }
+
+abbrev pub new_room : Configuration → RoomState
+new_room s = record { timeout = s.timeout_ms; moment = 0; next = 1; endpoints = map absent s.endpoints; legs = map unstarted s.legs }

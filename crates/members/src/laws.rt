@@ -1,0 +1,49 @@
+//! What holds of a room, and of a reception, over every list of calls. These functions do nothing: their contracts are the
+//! laws. A call that was refused for want of memory changed nothing, so lists leave it out.
+
+ghost use Rattle.std.specs.Prelude.{◌≡◌, ◌≢◌, All, ℕ, ◌<◌, List, length};
+ghost use Rattle.members.specs.Presence.{is_present_at};
+ghost use Rattle.members.specs.Settings.{Configuration, IsInRange};
+ghost use Rattle.members.specs.Room.{new_room};
+ghost use Rattle.members.specs.Calls.{Call, room_after, orders_after, accepted, greatest_moment, is_present_after, arrivals, RiseWithin, StandsByPresence};
+ghost use Rattle.std.specs.Prelude.{Option, ◌∷◌};
+ghost use Rattle.tmmbr_tuple.specs.declared.ssrc.Ssrc.{Ssrc};
+ghost use Rattle.members.specs.Reception.{Block, Call as ReceptionCall, Packet, reception_of, IsBlockAfter, IsHighest, greatest_number};
+ghost use Rattle.members.specs.Stream.{heard_after, IsAnswer};
+
+use crate::stream::SEQ_CYCLE;
+
+/// Who is present after any calls of a new room is what the whole list of its accepted calls says: the
+/// last hear of each endpoint, a goodbye after it, and the greatest moment. The room's moment is that
+/// greatest one.
+pub fn present_by_last_hears()
+    ensures present { (s : Configuration) (calls : List Call) (endpoint : ℕ) → IsInRange s → endpoint < length s.endpoints
+        → is_present_at (room_after (new_room s) calls).endpoints endpoint
+        ≡ is_present_after s.timeout_ms endpoint (accepted (new_room s) calls) }
+    ensures moment { (s : Configuration) (calls : List Call) → IsInRange s
+        → (room_after (new_room s) calls).moment ≡ greatest_moment 0 (accepted (new_room s) calls) }
+{}
+
+/// The stays that begin are numbered by rising numbers, from 1 on: no number is drawn twice.
+pub fn stays_rise()
+    ensures { (s : Configuration) (calls : List Call)
+        → RiseWithin 1 (arrivals (orders_after (new_room s) calls)) (room_after (new_room s) calls).next }
+{}
+
+/// After any calls of a new room the stay of each leg stands exactly while its subscriber and its
+/// publisher are both present.
+pub fn stand_by_presence()
+    ensures { (s : Configuration) (calls : List Call) → IsInRange s
+        → All (StandsByPresence (room_after (new_room s) calls).endpoints) (room_after (new_room s) calls).legs }
+{}
+
+/// After every list of calls a new reception holds what the whole list says of the packets that count,
+/// and answers a wish for a block by that. The highest number is the greatest of those that the packets
+/// stand for.
+pub fn receives()
+    ensures values { (calls : List ReceptionCall) → heard_after calls ≡ reception_of calls }
+    ensures answers { (calls : List ReceptionCall) (moment : ℕ) (source : Ssrc) (answer : Option Block)
+        → IsAnswer (heard_after calls) moment source answer → IsBlockAfter calls moment source answer }
+    ensures highest { (first : Packet) (rest : List Packet) → All (λ p. p.seq < SEQ_CYCLE) (first ∷ rest)
+        → IsHighest (first ∷ rest) (greatest_number (first ∷ rest)) }
+{}

@@ -1,0 +1,32 @@
+//! Who is there: the settings of a room, which endpoints are present in it, and the stays of its legs
+//! (RFC 7667, section 3.7); and what was received of a publisher (RFC 3550, section 6.4.1).
+//!
+//! Read `settings` first, then `room`; `reception` stands by itself. Nothing reads a clock: each call is
+//! handed its moment.
+#![tactic(auto)]
+
+mod fault;
+pub mod laws;
+mod order;
+mod parts;
+mod presence;
+mod reception;
+mod room;
+mod settings;
+mod stays;
+mod stream;
+
+pub use fault::{Key, RoomFault, SettingsFault};
+pub use order::{Order, Row};
+pub use parts::{LegParts, Parts};
+pub use reception::Reception;
+pub use room::Room;
+pub use rtcp_compound::Block;
+pub use settings::{LegSettings, MAX_ENDPOINTS, MAX_LEGS, Settings};
+pub use stays::MAX_STAY;
+pub use stream::COUNTED_PACKETS;
+
+#[cfg(test)]
+mod reception_tests;
+#[cfg(test)]
+mod tests;

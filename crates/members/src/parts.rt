@@ -1,0 +1,41 @@
+//! The parts of a room's settings, as they were found.
+
+/// What was found of the settings. A number is `None` where it is missing or of the wrong kind.
+#[derive(Debug, Drop)]
+pub struct Parts {
+    /// Threads that forward, 1 to 8.
+    pub workers: Option<i64>,
+    /// Packets that a leg keeps for resending, 1 to 512.
+    pub ring: Option<i64>,
+    /// Calls that a desk keeps, 128 to 65,536.
+    pub history: Option<i64>,
+    /// Silence after which an endpoint leaves, in milliseconds, 1 to 86,400,000.
+    pub timeout_ms: Option<i64>,
+    /// Time between two reports, in milliseconds, 1 to 86,400,000.
+    pub report_ms: Option<i64>,
+    /// Least time between two picture loss indications to a publisher, in milliseconds, 0 to 86,400,000.
+    pub pli_gap_ms: Option<i64>,
+    /// The unit's own source, 32 bits.
+    pub unit_ssrc: Option<i64>,
+    /// The unit's canonical name (RFC 3550, section 6.5.1), 1 to 255 bytes of ASCII.
+    pub cname: Option<String>,
+    /// The source of each endpoint, 32 bits.
+    pub endpoints: Vec<Option<i64>>,
+    /// The legs.
+    pub legs: Vec<LegParts>,
+}
+
+/// What was found of a leg's settings.
+#[derive(Clone, Copy, Debug)]
+pub struct LegParts {
+    /// The number of the endpoint that is sent to.
+    pub subscriber: Option<i64>,
+    /// The number of the endpoint whose packets these are, another one.
+    pub publisher: Option<i64>,
+    /// The source of what is sent on, 32 bits.
+    pub out_ssrc: Option<i64>,
+    /// The sequence number of the first packet sent on, 16 bits; 0 where absent.
+    pub first_seq: Option<i64>,
+    /// Whether the leg is selected from the start; true where absent.
+    pub on: Option<bool>,
+}

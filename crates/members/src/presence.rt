@@ -1,0 +1,94 @@
+//! Which endpoints are present.
+
+ghost use Rattle.std.specs.Prelude.{◌≡◌, ◌<◌, length, ℕ, false, All};
+ghost use Rattle.members.specs.Presence.{is_overdue, is_overdue_at, is_present_at, source_at, with_heard};
+
+use tmmbr_tuple::Ssrc;
+
+/// An endpoint of a room.
+#[derive(Clone, Copy, Debug, PartialEq, Eq)]
+pub struct Endpoint {
+    /// Its source.
+    pub ssrc: Ssrc,
+    /// The room's moment when it was last heard in its present presence; `None` while it is absent.
+    pub heard: Option<u64>,
+}
+
+impl Endpoint {
+    ghost use Rattle.std.specs.Prelude.{◌≡◌, ◌<◌, ℕ, false};
+    ghost use Rattle.members.specs.Presence.{is_overdue};
+
+    /// Whether it was last heard as long ago as the timeout, or longer.
+    pub fn is_overdue(&self, timeout: u64, moment: u64) -> bool
+        ensures { result ≡ is_overdue timeout moment self.now }
+    {
+        match self.heard {
+            Some(heard) => heard <= moment && moment - heard >= timeout,
+            None => false,
+        }
+    }
+
+    /// The moment from which on it is overdue, or the last moment of all.
+    pub fn overdue_from(&self, timeout: u64) -> u64
+        ensures { (moment : ℕ) → moment < result → is_overdue timeout moment self.now ≡ false }
+    {
+        match self.heard {
+            Some(heard) => heard.saturating_add(timeout),
+            None => u64::MAX,
+        }
+    }
+}
+
+/// Whether the endpoint of this number is there and overdue.
+#[tactic(auto, unfolding(crate::specs::Presence::is_overdue_at))]
+pub fn is_overdue_at(endpoints: &[Endpoint], timeout: u64, moment: u64, number: usize) -> bool
+    ensures { result ≡ is_overdue_at timeout moment endpoints.now number }
+{
+    match endpoints.get(number) {
+        Some(endpoint) => endpoint.is_overdue(timeout, moment),
+        None => false,
+    }
+}
+
+/// Whether the endpoint of this number is present.
+#[tactic(auto, unfolding(crate::specs::Presence::is_present_at))]
+pub fn is_present_at(endpoints: &[Endpoint], number: usize) -> bool
+    ensures { result ≡ is_present_at endpoints.now number }
+{
+    match endpoints.get(number) {
+        Some(endpoint) => endpoint.heard.is_some(),
+        None => false,
+    }
+}
+
+/// A moment before which no endpoint is overdue; the first at which one is, where there is one.
+pub fn first_overdue(endpoints: &[Endpoint], timeout: u64) -> u64
+    ensures { (moment : ℕ) → moment < result → All (λ e. is_overdue timeout moment e ≡ false) endpoints.now }
+{
+    let mut first = u64::MAX;
+    for endpoint in endpoints {
+        first = first.min(endpoint.overdue_from(timeout));
+    }
+    first
+}
+
+/// The source of the endpoint of this number.
+#[tactic(auto, unfolding(crate::specs::Presence::source_at))]
+pub fn source_at(endpoints: &[Endpoint], number: usize) -> Ssrc
+    requires { number < length endpoints.now }
+    ensures { result ≡ source_at endpoints.now number }
+{
+    match endpoints.get(number) {
+        Some(endpoint) => endpoint.ssrc,
+        None => unreachable!(),
+    }
+}
+
+/// The endpoint was last heard then, or is absent.
+pub fn mark(endpoints: &mut [Endpoint], number: usize, heard: Option<u64>)
+    requires { number < length endpoints.old }
+    ensures { endpoints.new ≡ with_heard endpoints.old number heard }
+{
+    let ssrc = source_at(endpoints, number);
+    endpoints[number] = Endpoint { ssrc, heard };
+}

@@ -1,0 +1,347 @@
+//! A room: who is present, and which stays stand.
+
+ghost use Rattle.std.specs.Prelude.{◌≡◌, ◌<◌, ◌≤◌, ◌++◌, length, map, IfOk};
+ghost use Rattle.members.specs.Stays.{told, leaving, Tells};
+ghost use Rattle.members.specs.Room.{absent, unstarted};
+
+use crate::fault::RoomFault;
+use crate::order::{Draft, Order};
+use crate::presence::{Endpoint, first_overdue, is_present_at, mark, source_at};
+use crate::settings::{LegSettings, MAX_LEGS, Settings};
+use crate::stays::{LegStay, MAX_STAY, arrive, leave_overdue, leave_present, select_leg};
+use std::alloc::{AllocError, Global};
+use std::marker::Model;
+use std::mem;
+use tmmbr_tuple::Ssrc;
+
+/// The endpoints and the legs.
+#[derive(Debug, Drop)]
+pub struct Table {
+    endpoints: Vec<Endpoint>,
+    legs: Vec<LegStay>,
+}
+
+/// Every endpoint, absent.
+fn absent_endpoints(alloc: Global, sources: &[Ssrc]) -> Result<Vec<Endpoint>, AllocError>
+    ensures { IfOk result (λ v. v.items ≡ map absent sources.now) }
+{
+    let endpoints = sources.iter().map(|ssrc| Endpoint {
+        ssrc: *ssrc,
+        heard: None,
+    });
+    endpoints.collect(alloc)
+}
+
+/// Every leg, without a stay.
+fn unstarted_legs(alloc: Global, legs: &[LegSettings]) -> Result<Vec<LegStay>, AllocError>
+    ensures { IfOk result (λ v. v.items ≡ map unstarted legs.now) }
+{
+    let legs = legs.iter().map(|leg| LegStay {
+        subscriber: leg.subscriber,
+        publisher: leg.publisher,
+        stay: 0,
+        turn: 0,
+        selected: leg.on,
+    });
+    legs.collect(alloc)
+}
+
+impl Table {
+    /// The table of a new room.
+    fn new(alloc: Global, settings: &Settings) -> Result<Table, AllocError>
+        ensures endpoints { IfOk result (λ t. t.endpoints.items ≡ map absent settings.now.endpoints) }
+        ensures legs { IfOk result (λ t. t.legs.items ≡ map unstarted settings.now.legs) }
+    {
+        Ok(Table {
+            endpoints: absent_endpoints(alloc, settings.endpoints())?,
+            legs: unstarted_legs(alloc, settings.legs())?,
+        })
+    }
+
+    /// Drafts the table that is left once those overdue at this moment left.
+    fn redraft(&mut self, held: &Table, timeout: u64, moment: u64, orders: &mut Draft)
+        requires endpoints { length self.old.endpoints.items ≡ length held.now.endpoints.items }
+        requires legs { length self.old.legs.items ≡ length held.now.legs.items }
+        requires few { length held.now.legs.items ≤ MAX_LEGS }
+        ensures endpoints { self.new.endpoints.items
+            ≡ (leaving timeout moment held.now.endpoints.items held.now.legs.items).endpoints }
+        ensures legs { self.new.legs.items
+            ≡ (leaving timeout moment held.now.endpoints.items held.now.legs.items).legs }
+        ensures orders { Tells orders.old
+            (leaving timeout moment held.now.endpoints.items held.now.legs.items).orders
+            orders.new }
+        ensures same_endpoints { length self.new.endpoints.items ≡ length held.now.endpoints.items }
+        ensures same_legs { length self.new.legs.items ≡ length held.now.legs.items }
+    {
+        let endpoints = self.endpoints.as_mut_slice();
+        endpoints.copy_from_slice(held.endpoints.as_slice());
+        let legs = self.legs.as_mut_slice();
+        legs.copy_from_slice(held.legs.as_slice());
+        leave_overdue(endpoints, legs, timeout, moment, orders);
+    }
+}
+
+/// Who is present, and which stays stand.
+///
+/// An endpoint is present from a packet of it that is heard until a goodbye, or until nothing was heard
+/// of it for the timeout. A leg's stay begins when its subscriber and its publisher are both present,
+/// and ends when either leaves. Each call first lets those leave that are overdue at its moment; the
+/// room's moment is the greatest that it was handed.
+#[derive(Debug, Drop)]
+pub struct Room {
+    alloc: Global,
+    timeout_ms: u64,
+    moment: u64,
+    /// The next number of a stay or a turn.
+    next: u64,
+    /// No present endpoint is overdue before this moment.
+    quiet_until: u64,
+    held: Table,
+    /// Where a call drafts what it will leave, so that a refusal leaves everything as it was.
+    draft: Table,
+}
+
+impl Model for Room {
+    ghost use Rattle.members.specs.Room.{RoomState};
+    ghost use Rattle.members.specs.Held.{IsWellFormed};
+
+    ghost Value = { RoomState };
+
+    ghost view = { λ r. record {
+      timeout = r.timeout_ms;
+      moment = r.moment;
+      next = r.next;
+      endpoints = r.held.endpoints.items;
+      legs = r.held.legs.items;
+    } };
+
+    ghost invariant = { λ r. IsWellFormed r.timeout_ms r.next r.quiet_until r.held.endpoints.items r.held.legs.items
+        r.draft.endpoints.items r.draft.legs.items };
+}
+
+impl Room {
+    ghost use Rattle.std.specs.Prelude.{◌≡◌, ◌<◌, ◌≤◌, ◌++◌, All, IsTrue, Ok, Err, IfOk, IfErr, OnOk, OnErr, length, false};
+    ghost use Rattle.members.specs.Presence.{is_overdue, is_present_at};
+    ghost use Rattle.members.specs.Room.{RoomState, Step, new_room, tick_step, bye_step, hear_step, heard_step, select_step, after_leaving, leg_at};
+
+    /// The room of these settings: nobody is present, its moment is 0.
+    pub fn new(alloc: Global, settings: &Settings) -> Result<Room, AllocError>
+        ensures { IfOk result (λ room. room ≡ new_room settings.now) }
+    {
+        Ok(Room {
+            alloc,
+            timeout_ms: settings.timeout_ms(),
+            moment: 0,
+            next: 1,
+            quiet_until: 0,
+            held: Table::new(alloc, settings)?,
+            draft: Table::new(alloc, settings)?,
+        })
+    }
+
+    /// The greatest moment handed in, in milliseconds; 0 before any.
+    pub fn moment(&self) -> u64
+        ensures { result ≡ self.now.moment }
+    {
+        self.moment
+    }
+
+    /// Whether the endpoint is present.
+    pub fn is_present(&self, endpoint: u16) -> bool
+        ensures { result ≡ is_present_at self.now.endpoints endpoint }
+    {
+        is_present_at(self.held.endpoints.as_slice(), usize::from(endpoint))
+    }
+
+    /// The stay of the leg; 0 where none stands.
+    pub fn stay(&self, leg: u16) -> u64
+        ensures { result ≡ (leg_at self.now.legs leg).stay }
+    {
+        match self.held.legs.get(usize::from(leg)) {
+            Some(leg) => leg.stay,
+            None => 0,
+        }
+    }
+
+    /// Whether no endpoint is overdue at this moment. Goes over the endpoints only where the moment
+    /// was reached from which one may be.
+    fn is_quiet(&mut self, moment: u64) -> bool
+        ensures same { self.new ≡ self.old }
+        ensures quiet { IsTrue result
+            → leaving self.old.timeout moment self.old.endpoints self.old.legs ≡ told self.old.endpoints self.old.legs }
+    {
+        if moment >= self.quiet_until {
+            self.quiet_until = first_overdue(self.held.endpoints.as_slice(), self.timeout_ms);
+        }
+        moment < self.quiet_until
+    }
+
+    /// Lets every endpoint leave that is overdue at this moment. Refused only for want of memory; then
+    /// nothing changed, the orders and the moment included.
+    pub fn tick(&mut self, moment: u64, orders: &mut Vec<Order>) -> Result<(), AllocError>
+        ensures ok { OnOk result ((self.new ≡ (tick_step self.old moment).room)
+            × (orders.new.items ≡ orders.old.items ++ (tick_step self.old moment).orders)) }
+        ensures unchanged { OnErr result ((self.new ≡ self.old) × (orders.new.items ≡ orders.old.items)) }
+    {
+        let moment = self.moment.max(moment);
+        if self.is_quiet(moment) {
+            self.moment = moment;
+            return Ok(());
+        }
+        let mut draft = Draft::new(self.alloc);
+        self.draft
+            .redraft(&self.held, self.timeout_ms, moment, &mut draft);
+        draft.append_to(orders)?;
+        mem::swap(&mut self.held, &mut self.draft);
+        self.quiet_until = 0;
+        self.moment = moment;
+        Ok(())
+    }
+
+    /// The endpoint says goodbye: after those overdue at this moment it leaves too, where it is present.
+    ///
+    /// Refused as `UnknownEndpoint`, or as `NoMemory`; then nothing changed, the orders and the moment
+    /// included.
+    pub fn bye(
+        &mut self,
+        moment: u64,
+        endpoint: u16,
+        orders: &mut Vec<Order>,
+    ) -> Result<(), RoomFault>
+        ensures ok { IfOk (bye_step self.old moment endpoint) (λ step.
+            OnOk result ((self.new ≡ step.room) × (orders.new.items ≡ orders.old.items ++ step.orders))) }
+        ensures refused { IfErr (bye_step self.old moment endpoint) (λ fault. result ≡ Err fault) }
+        ensures no_memory { OnOk (bye_step self.old moment endpoint) (OnErr result (result ≡ Err RoomFault.NoMemory)) }
+        ensures unchanged { OnErr result ((self.new ≡ self.old) × (orders.new.items ≡ orders.old.items)) }
+    {
+        let at = usize::from(endpoint);
+        if at >= self.held.endpoints.len() {
+            return Err(RoomFault::UnknownEndpoint);
+        }
+        let moment = self.moment.max(moment);
+        let mut draft = Draft::new(self.alloc);
+        self.draft
+            .redraft(&self.held, self.timeout_ms, moment, &mut draft);
+        let endpoints = self.draft.endpoints.as_mut_slice();
+        let legs = self.draft.legs.as_mut_slice();
+        leave_present(endpoints, legs, at, &mut draft);
+        draft.append_to(orders)?;
+        mem::swap(&mut self.held, &mut self.draft);
+        self.quiet_until = 0;
+        self.moment = moment;
+        Ok(())
+    }
+
+    /// A packet of this source was heard at the endpoint, which comes where it isn't present; those
+    /// overdue at this moment leave before.
+    ///
+    /// Refused as `UnknownEndpoint`; as `WrongSsrc` where the source isn't the endpoint's; as `StaysSpent`
+    /// where a stay that begins would get the number `MAX_STAY`; as `NoMemory`. Then nothing changed, the
+    /// orders and the moment included.
+    pub fn hear(
+        &mut self,
+        moment: u64,
+        endpoint: u16,
+        ssrc: Ssrc,
+        orders: &mut Vec<Order>,
+    ) -> Result<(), RoomFault>
+        ensures ok { IfOk (hear_step self.old moment endpoint ssrc.0) (λ step.
+            OnOk result ((self.new ≡ step.room) × (orders.new.items ≡ orders.old.items ++ step.orders))) }
+        ensures refused { IfErr (hear_step self.old moment endpoint ssrc.0) (λ fault. result ≡ Err fault) }
+        ensures no_memory { OnOk (hear_step self.old moment endpoint ssrc.0) (OnErr result (result ≡ Err RoomFault.NoMemory)) }
+        ensures unchanged { OnErr result ((self.new ≡ self.old) × (orders.new.items ≡ orders.old.items)) }
+    {
+        let at = usize::from(endpoint);
+        if at >= self.held.endpoints.len() {
+            return Err(RoomFault::UnknownEndpoint);
+        }
+        if source_at(self.held.endpoints.as_slice(), at).0 != ssrc.0 {
+            return Err(RoomFault::WrongSsrc);
+        }
+        let moment = self.moment.max(moment);
+        self.hear_known(moment, at, orders)
+    }
+
+    /// This endpoint is heard.
+    fn hear_known(
+        &mut self,
+        moment: u64,
+        at: usize,
+        orders: &mut Vec<Order>,
+    ) -> Result<(), RoomFault>
+        requires { at < length self.old.endpoints }
+        ensures ok { IfOk (heard_step self.old moment at (after_leaving self.old moment)) (λ step.
+            OnOk result ((self.new ≡ step.room) × (orders.new.items ≡ orders.old.items ++ step.orders))) }
+        ensures refused { IfErr (heard_step self.old moment at (after_leaving self.old moment)) (λ fault. result ≡ Err fault) }
+        ensures no_memory { OnOk (heard_step self.old moment at (after_leaving self.old moment)) (OnErr result (result ≡ Err RoomFault.NoMemory)) }
+        ensures unchanged { OnErr result ((self.new ≡ self.old) × (orders.new.items ≡ orders.old.items)) }
+    {
+        if !self.is_quiet(moment) || !is_present_at(self.held.endpoints.as_slice(), at) {
+            return self.join(moment, at, orders);
+        }
+        mark(self.held.endpoints.as_mut_slice(), at, Some(moment));
+        let overdue_from = moment.saturating_add(self.timeout_ms);
+        self.quiet_until = self.quiet_until.min(overdue_from);
+        self.moment = moment;
+        Ok(())
+    }
+
+    /// An endpoint is heard where somebody may leave or it may come.
+    fn join(&mut self, moment: u64, at: usize, orders: &mut Vec<Order>) -> Result<(), RoomFault>
+        requires { at < length self.old.endpoints }
+        ensures ok { IfOk (heard_step self.old moment at (after_leaving self.old moment)) (λ step.
+            OnOk result ((self.new ≡ step.room) × (orders.new.items ≡ orders.old.items ++ step.orders))) }
+        ensures refused { IfErr (heard_step self.old moment at (after_leaving self.old moment)) (λ fault. result ≡ Err fault) }
+        ensures no_memory { OnOk (heard_step self.old moment at (after_leaving self.old moment)) (OnErr result (result ≡ Err RoomFault.NoMemory)) }
+        ensures unchanged { OnErr result ((self.new ≡ self.old) × (orders.new.items ≡ orders.old.items)) }
+    {
+        let mut draft = Draft::new(self.alloc);
+        self.draft
+            .redraft(&self.held, self.timeout_ms, moment, &mut draft);
+        let endpoints = self.draft.endpoints.as_mut_slice();
+        let legs = self.draft.legs.as_mut_slice();
+        let next = arrive(endpoints, legs, at, moment, self.next, &mut draft)?;
+        draft.append_to(orders)?;
+        mem::swap(&mut self.held, &mut self.draft);
+        self.quiet_until = 0;
+        self.next = next;
+        self.moment = moment;
+        Ok(())
+    }
+
+    /// Selects the leg or not, after those overdue at this moment left. The selection that the leg has
+    /// gives no order. Another is noted; where a stay stands the leg's row changes, and switching on
+    /// takes a new number as turn.
+    ///
+    /// Refused as `UnknownLeg`; as `StaysSpent` where the new number would be `MAX_STAY`; as `NoMemory`.
+    /// Then nothing changed, the orders and the moment included.
+    pub fn select(
+        &mut self,
+        moment: u64,
+        leg: u16,
+        on: bool,
+        orders: &mut Vec<Order>,
+    ) -> Result<(), RoomFault>
+        ensures ok { IfOk (select_step self.old moment leg on) (λ step.
+            OnOk result ((self.new ≡ step.room) × (orders.new.items ≡ orders.old.items ++ step.orders))) }
+        ensures refused { IfErr (select_step self.old moment leg on) (λ fault. result ≡ Err fault) }
+        ensures no_memory { OnOk (select_step self.old moment leg on) (OnErr result (result ≡ Err RoomFault.NoMemory)) }
+        ensures unchanged { OnErr result ((self.new ≡ self.old) × (orders.new.items ≡ orders.old.items)) }
+    {
+        if usize::from(leg) >= self.held.legs.len() {
+            return Err(RoomFault::UnknownLeg);
+        }
+        let moment = self.moment.max(moment);
+        let mut draft = Draft::new(self.alloc);
+        self.draft
+            .redraft(&self.held, self.timeout_ms, moment, &mut draft);
+        let legs = self.draft.legs.as_mut_slice();
+        let next = select_leg(legs, leg, on, self.next, &mut draft)?;
+        draft.append_to(orders)?;
+        mem::swap(&mut self.held, &mut self.draft);
+        self.quiet_until = 0;
+        self.next = next;
+        self.moment = moment;
+        Ok(())
+    }
+}
