@@ -4,5 +4,6 @@ pub mod Certificate
 pub mod State
 pub mod Announced
 pub mod Envelope
+pub mod Spliced
 pub mod Reach
 pub mod Kept

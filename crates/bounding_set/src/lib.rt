@@ -6,11 +6,16 @@
 #![tactic(auto)]
 
 mod announced;
+mod beside;
 mod bounds;
 mod certificate;
 mod envelope;
+mod implies;
+pub mod laws;
 mod line_end;
 mod rows;
+mod splice;
+mod unsplice;
 mod zero_rates;
 
 pub use bounds::Bounds;
