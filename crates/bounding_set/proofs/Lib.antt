@@ -12,3 +12,5 @@ pub mod KeptLemmas
 pub mod ImpliedLemmas
 pub mod CertificateLemmas
 pub mod SplicedLemmas
+pub mod UnspliceLemmas
+pub mod PutBackLemmas
