@@ -178,15 +178,7 @@ covered_by rows (x ∷ xs) k d ends start some below = (
   λ more. covered_from rows x xs k d ends below (omega (arith, more)),
 )
 
-module _ (rows lines : List Request) (envelope : IsEnvelope rows lines) (send : All (λ r. ¬ StopsMedia r) rows) where
-  covers : All (Covers lines) rows
-  covers = All-from_all_within (Covers lines) rows envelope.covers
-
-  lines_send : All (λ l. 0 < rate_of l.tuple) lines
-  lines_send = λ k d below.
-      let sends = All-contains (λ r. ¬ StopsMedia r) rows (get_or lines k d) send (envelope.are_rows k d below) in
-      omega (arith, sends)
-
+module _ (lines : List Request) (hull : IsHull lines) where
   -- no line is below the chord of two neighbours
   chord_at : (j k : ℕ) (d : Request) → j + 1 < length lines → k < length lines
       → IsAboveChord (get_or lines j d) (get_or lines (j + 1) d) (get_or lines k d)
@@ -198,15 +190,24 @@ module _ (rows lines : List Request) (envelope : IsEnvelope rows lines) (send : 
               | inl second ↦ rw second (omega arith)
               | inr not_second ↦
                   elim (cases_lt k j) [
-                    | inl before ↦ omega (arith, envelope.hull.turns k j (j + 1) d before (omega arith) next)
-                    | inr behind ↦ omega (arith, envelope.hull.turns j (j + 1) k d (omega arith) (omega (arith, not_first, not_second, behind)) below)
+                    | inl before ↦ omega (arith, hull.turns k j (j + 1) d before (omega arith) next)
+                    | inr behind ↦ omega (arith, hull.turns j (j + 1) k d (omega arith) (omega (arith, not_first, not_second, behind)) below)
                   ]
             ]
       ]
 
-  chords : (j : ℕ) (d : Request) → j + 1 < length lines → All (IsAboveChord (get_or lines j d) (get_or lines (j + 1) d)) lines
+  pub chords : (j : ℕ) (d : Request) → j + 1 < length lines → All (IsAboveChord (get_or lines j d) (get_or lines (j + 1) d)) lines
   chords j d next = λ k e below.
       subst (IsAboveChord (get_or lines j d) (get_or lines (j + 1) d)) (get_or_default lines k d e below) (chord_at j k d next below)
+
+module _ (rows lines : List Request) (envelope : IsEnvelope rows lines) (send : All (λ r. ¬ StopsMedia r) rows) where
+  covers : All (Covers lines) rows
+  covers = All-from_all_within (Covers lines) rows envelope.covers
+
+  lines_send : All (λ l. 0 < rate_of l.tuple) lines
+  lines_send = λ k d below.
+      let sends = All-contains (λ r. ¬ StopsMedia r) rows (get_or lines k d) send (envelope.are_rows k d below) in
+      omega (arith, sends)
 
   -- the last line reaches least
   reaches_least : (j k : ℕ) (d : Request) → j + 1 ≡ length lines → k < length lines
@@ -222,9 +223,9 @@ module _ (rows lines : List Request) (envelope : IsEnvelope rows lines) (send : 
     hull = envelope.hull;
     send = lines_send;
     left = λ j k d next below. rw next (left_of_crossing (get_or lines j d) (get_or lines (j + 1) d)
-        (envelope.hull.crosses j (j + 1) d (omega arith) (omega (arith, next))) rows lines covers (chords j d (omega (arith, next))));
+        (envelope.hull.crosses j (j + 1) d (omega arith) (omega (arith, next))) rows lines covers (chords lines envelope.hull j d (omega (arith, next))));
     right = λ j k d next below. rw next (right_of_crossing (get_or lines j d) (get_or lines (j + 1) d)
-        (envelope.hull.crosses j (j + 1) d (omega arith) (omega (arith, next))) rows lines covers (chords j d (omega (arith, next))));
+        (envelope.hull.crosses j (j + 1) d (omega arith) (omega (arith, next))) rows lines covers (chords lines envelope.hull j d (omega (arith, next))));
     reach = λ j d last. IsLowestEnd-from_covers rows lines (get_or lines j d) (reach_of (get_or lines j d)) covers (omega arith)
         (λ k e below.
         let least = reaches_least j k d last below in

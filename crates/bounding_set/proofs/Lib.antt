@@ -4,6 +4,8 @@ pub mod EnvelopeLemmas
 pub mod AddLemmas
 pub mod SortLemmas
 pub mod WalkLemmas
+pub mod SpliceTurns
+pub mod SpliceLemmas
 pub mod EndLemmas
 pub mod EssentialLemmas
 pub mod StopScans

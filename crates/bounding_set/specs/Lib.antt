@@ -5,5 +5,6 @@ pub mod State
 pub mod Announced
 pub mod Envelope
 pub mod Spliced
+pub mod Place
 pub mod Reach
 pub mod Kept
