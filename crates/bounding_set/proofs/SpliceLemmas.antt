@@ -14,7 +14,8 @@ use Rattle.bounding_set.specs.Announced.{IsAboveChord}
 use Rattle.bounding_set.specs.Envelope.{IsNotAfter, ReachesBeyond, IsBehind, Crosses, Turns, IsHull, Covers}
 use Rattle.bounding_set.specs.Place.{IsPlaceOf, IsNeededAt}
 use Rattle.bounding_set.specs.Spliced.{ImplyTogether}
-use Rattle.bounding_set.proofs.TurnLemmas.{beyond_beyond, permitted_by_reach, permitted_between, permitted_by_stricter}
+use Rattle.bounding_set.proofs.TurnLemmas.{beyond_beyond}
+use Rattle.bounding_set.proofs.BesideLemmas.{turns_from_needed, rises_from_needed, reach_from_needed}
 use Rattle.bounding_set.proofs.SpliceTurns.{rate_below, reach_below, still_below, turns_from_left, turns_to_right, rate_at_end}
 use Rattle.bounding_set.proofs.EndLemmas.{right_of_crossing, left_of_crossing, IsAboveChord-from_end}
 use Rattle.bounding_set.proofs.EssentialLemmas.{chords}
@@ -103,18 +104,13 @@ module _ (lines : List Request) (x : Request) (hull : IsHull lines) (at : ℕ) (
   }
 
   -- the last line reaches beyond x
-  needed_last : at ≡ length lines → 0 < length lines → (¬ ReachesNoFarther (get_or lines (length lines - 1) x) x) → IsNeededAt lines x at at
-  needed_last last some beyond = record {
+  needed_last : at ≡ length lines → 0 < length lines → rate_of x.tuple * (get_or lines (length lines - 1) x).tuple.overhead < rate_of (get_or lines (length lines - 1) x).tuple * x.tuple.overhead → IsNeededAt lines x at at
+  needed_last last some farther = record {
     beyond = λ k d low below.
         let top = get_or lines (length lines - 1) x in
         let l = get_or lines k d in
         let top_is : get_or lines (length lines - 1) d ≡ top = get_or_default lines (length lines - 1) d x (omega arith) in
         let less : top.tuple.overhead < x.tuple.overhead = place.before (length lines - 1) x (omega arith) (omega (arith, last)) in
-        let farther : rate_of x.tuple * top.tuple.overhead < rate_of top.tuple * x.tuple.overhead =
-        elim (cases_lt (rate_of x.tuple * top.tuple.overhead) (rate_of top.tuple * x.tuple.overhead)) [
-          | inl farther ↦ farther
-          | inr no_farther ↦ absurd (beyond no_farther)
-        ] in
         record {
           overhead = place.before k d low below;
           reach = elim (cases_eq k (length lines - 1)) [
@@ -127,7 +123,7 @@ module _ (lines : List Request) (x : Request) (hull : IsHull lines) (at : ℕ) (
     behind = λ k d low below. absurd (omega (arith, last));
     first = λ k d low below. absurd (omega arith);
     turns = λ i j d before behind below. absurd (omega (arith, last));
-    new = λ z covers same. absurd (no_same_line lines x hull x some beyond z covers same);
+    new = λ z covers same. absurd (no_same_line lines x hull x some (λ no_farther. omega (arith, no_farther, farther)) z covers same);
   }
 
   module _ (some : 0 < at) (within : at < length lines) (turn : (d : Request) → Turns (get_or lines (at - 1) d) x (get_or lines at d)) where
@@ -243,39 +239,26 @@ module _ (lines : List Request) (x : Request) (hull : IsHull lines) (at : ℕ) (
       (not_implied : ¬ ImplyTogether a.tuple b.tuple x.tuple) where
     less_at_start : at ≡ 0 → rate_of x.tuple < rate_of (get_or lines 0 x).tuple
     less_at_start first =
-        let here : a ≡ get_or lines 0 x = subst (λ n. a ≡ get_or lines n x) {x = at - 1} (omega (arith, first)) (a_is x) in
-        let more : x.tuple.overhead < (get_or lines 0 x).tuple.overhead = place.behind 0 x (omega (arith, first)) some in
-        elim (cases_lt (rate_of x.tuple) (rate_of (get_or lines 0 x).tuple)) [
-          | inl less ↦ less
-          | inr no_less ↦ absurd (not_implied (λ p by_a by_b.
-              permitted_by_stricter p.bits p.packets p.seconds x.tuple.overhead (get_or lines 0 x).tuple.overhead (rate_of x.tuple) (rate_of (get_or lines 0 x).tuple)
-              (omega arith) no_less (subst (λ (l : Request). Permits l.tuple p) here by_a)))
-        ]
+        let a_here : a ≡ get_or lines 0 x = subst (λ n. a ≡ get_or lines n x) {x = at - 1} (omega (arith, first)) (a_is x) in
+        let b_here : b ≡ get_or lines 0 x = subst (λ n. b ≡ get_or lines n x) {x = min at (length lines - 1)} (omega (arith, first)) (b_is x) in
+        rises_from_needed x (get_or lines 0 x) (place.behind 0 x (omega (arith, first)) some)
+        (subst (λ (l : Request). ¬ ImplyTogether l.tuple (get_or lines 0 x).tuple x.tuple) a_here
+        (subst (λ (l : Request). ¬ ImplyTogether a.tuple l.tuple x.tuple) b_here not_implied))
 
-    beyond_at_end : at ≡ length lines → ¬ ReachesNoFarther (get_or lines (length lines - 1) x) x
-    beyond_at_end last reach =
+    beyond_at_end : at ≡ length lines → rate_of x.tuple * (get_or lines (length lines - 1) x).tuple.overhead < rate_of (get_or lines (length lines - 1) x).tuple * x.tuple.overhead
+    beyond_at_end last =
         let top = get_or lines (length lines - 1) x in
         let here : a ≡ top = subst (λ n. a ≡ get_or lines n x) {x = at - 1} (omega (arith, last)) (a_is x) in
-        let less : top.tuple.overhead < x.tuple.overhead = place.before (length lines - 1) x (omega arith) (omega (arith, last)) in
-        not_implied (λ p by_a by_b.
-        permitted_by_reach p.bits p.packets p.seconds top.tuple.overhead (rate_of top.tuple) x.tuple.overhead (rate_of x.tuple)
-        (omega arith) (λ same. absurd (omega (arith, less, same))) (omega (arith, send (length lines - 1) x (omega arith))) reach
-        (subst (λ (l : Request). Permits l.tuple p) here by_a))
+        reach_from_needed top x b (place.before (length lines - 1) x (omega arith) (omega (arith, last))) (send (length lines - 1) x (omega arith))
+        (subst (λ (l : Request). ¬ ImplyTogether l.tuple b.tuple x.tuple) here not_implied)
 
     turn_at : 0 < at → at < length lines → (d : Request) → Turns (get_or lines (at - 1) d) x (get_or lines at d)
     turn_at inner within d =
-        let l = get_or lines (at - 1) d in
-        let r = get_or lines at d in
-        let r_is : b ≡ r = subst (λ n. b ≡ get_or lines n d) {x = min at (length lines - 1)} (omega arith) (b_is d) in
-        elim (cases_lt
-        (r.tuple.overhead * rate_of x.tuple + x.tuple.overhead * rate_of l.tuple + l.tuple.overhead * rate_of r.tuple)
-        (r.tuple.overhead * rate_of l.tuple + x.tuple.overhead * rate_of r.tuple + l.tuple.overhead * rate_of x.tuple)) [
-          | inl turn ↦ turn
-          | inr above ↦ absurd (not_implied (λ p by_a by_b.
-              permitted_between p.bits p.packets p.seconds l.tuple.overhead x.tuple.overhead r.tuple.overhead (rate_of l.tuple) (rate_of x.tuple) (rate_of r.tuple)
-              (place.before (at - 1) d (omega arith) (omega arith)) (place.behind at d (omega arith) within) above
-              (subst (λ (l : Request). Permits l.tuple p) (a_is d) by_a) (subst (λ (l : Request). Permits l.tuple p) r_is by_b)))
-        ]
+        let b_here : b ≡ get_or lines at d = subst (λ n. b ≡ get_or lines n d) {x = min at (length lines - 1)} (omega arith) (b_is d) in
+        turns_from_needed (get_or lines (at - 1) d) x (get_or lines at d)
+        (place.before (at - 1) d (omega arith) (omega arith)) (place.behind at d (omega arith) within)
+        (subst (λ (l : Request). ¬ ImplyTogether l.tuple (get_or lines at d).tuple x.tuple) (a_is d)
+        (subst (λ (l : Request). ¬ ImplyTogether a.tuple l.tuple x.tuple) b_here not_implied))
 
     pub needed_from_test : IsNeededAt lines x at at
     needed_from_test =
