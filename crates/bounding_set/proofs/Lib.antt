@@ -8,6 +8,7 @@ pub mod SortLemmas
 pub mod WalkLemmas
 pub mod SpliceTurns
 pub mod SpliceLemmas
+pub mod StandsLemmas
 pub mod EndLemmas
 pub mod EssentialLemmas
 pub mod StopScans

@@ -3,6 +3,7 @@ use Rattle.std.proofs.Common.{◌≡◌, ℕ, ◌+◌, ◌-◌, ◌*◌, ◌<◌
 use Rattle.std.specs.Prelude.{All, Any, min}
 use Rattle.std.specs.List.{AllWithin}
 use Rattle.std.specs.List.Sorted.{IsNonDecreasingBy}
+use Rattle.std.proofs.Math.Nat.{mul-le-mul_right}
 use Rattle.std.proofs.lemmas.Bool.{cases_lt, cases_eq}
 use Rattle.std.proofs.lemmas.List.{get_or_default}
 use Rattle.tmmbr_tuple.specs.Tuple.{rate_of}
@@ -14,7 +15,7 @@ use Rattle.bounding_set.specs.Announced.{IsAboveChord}
 use Rattle.bounding_set.specs.Envelope.{IsNotAfter, ReachesBeyond, IsBehind, Crosses, Turns, IsHull, Covers}
 use Rattle.bounding_set.specs.Place.{IsPlaceOf, IsNeededAt}
 use Rattle.bounding_set.specs.Spliced.{ImplyTogether}
-use Rattle.bounding_set.proofs.TurnLemmas.{beyond_beyond}
+use Rattle.bounding_set.proofs.TurnLemmas.{IsBelowChord, beyond_beyond}
 use Rattle.bounding_set.proofs.BesideLemmas.{turns_from_needed, rises_from_needed, reach_from_needed}
 use Rattle.bounding_set.proofs.SpliceTurns.{rate_below, reach_below, still_below, turns_from_left, turns_to_right, rate_at_end}
 use Rattle.bounding_set.proofs.EndLemmas.{right_of_crossing, left_of_crossing, IsAboveChord-from_end}
@@ -272,3 +273,97 @@ module _ (lines : List Request) (x : Request) (hull : IsHull lines) (at : ℕ) (
                   needed_between behind_start before_end (turn_at behind_start before_end)
             ]
         ]
+
+-- a line of the same overhead stands there
+module _ (lines : List Request) (x : Request) (hull : IsHull lines) (at from : ℕ) (place : IsPlaceOf lines x at from) (some : at < from) where
+  overhead_at : (d : Request) → (get_or lines at d).tuple.overhead ≡ x.tuple.overhead
+  overhead_at d = place.same at d (omega arith) some
+
+  at_in_range : at < length lines
+  at_in_range = omega (arith, place.in_range)
+
+  only_one : from ≡ at + 1
+  only_one =
+      elim (cases_eq from (at + 1)) [
+        | inl one ↦ one
+        | inr more ↦ absurd (omega (
+            arith,
+            (hull.crosses at (at + 1) x (omega arith) (omega (arith, more, place.in_range))).overhead,
+            overhead_at x,
+            place.same (at + 1) x (omega arith) (omega (arith, more)),
+          ))
+      ]
+
+  -- what has the line of x stands there
+  only_there : (k : ℕ) (d : Request) → k < length lines → (get_or lines k d).tuple.overhead ≡ x.tuple.overhead → k ≡ at
+  only_there k d below same =
+      elim (cases_lt k at) [
+        | inl less ↦ absurd (omega (arith, place.before k d (omega arith) less))
+        | inr no_less ↦ elim (cases_lt k from) [
+            | inl there ↦ omega (arith, only_one)
+            | inr more ↦ absurd (omega (arith, place.behind k d more below))
+          ]
+      ]
+
+  pub least_from_first : ((d : Request) → IsNotAfter (get_or lines at d) x) → All (λ l. HasSameLine l x → l.owner.0 ≤ x.owner.0) lines
+  least_from_first first k d below same =
+      let here : k ≡ at = only_there k d below same.overhead in
+      let owners = (first d).owner (subst (λ n. (get_or lines n d).tuple.overhead ≡ x.tuple.overhead) here same.overhead)
+      (subst (λ n. rate_of (get_or lines n d).tuple ≡ rate_of x.tuple) here same.rate) in
+      rw here owners
+
+  module _ (first : (d : Request) → IsNotAfter x (get_or lines at d)) where
+    no_more_rate : (d : Request) → rate_of x.tuple ≤ rate_of (get_or lines at d).tuple
+    no_more_rate d = (first d).rate (sym (overhead_at d))
+
+    -- the lines that it covers have no lesser rate at that overhead
+    covered_rate : (z : Request) → Covers lines z → z.tuple.overhead ≡ x.tuple.overhead → rate_of (get_or lines at x).tuple ≤ rate_of z.tuple
+    covered_rate z covers same =
+        elim (cases_eq at 0) [
+          | inl start ↦ rw start (first_lowest lines hull x z (omega (arith, at_in_range)) covers)
+          | inr inner ↦
+              let a = get_or lines (at - 1) x in
+              let s = get_or lines at x in
+              let next : (at - 1) + 1 ≡ at = omega (arith, inner) in
+              let chord : IsAboveChord a s z = subst (λ n. IsAboveChord a (get_or lines n x) z) next
+              (above_chord lines hull (at - 1) x z (omega (arith, at_in_range, inner)) covers) in
+              let here : z.tuple.overhead ≡ s.tuple.overhead = same ∙ sym (overhead_at x) in
+              rate_at_end a.tuple.overhead s.tuple.overhead (rate_of a.tuple) (rate_of s.tuple) (rate_of z.tuple)
+              (hull.crosses (at - 1) at x (omega (arith, inner)) at_in_range).overhead
+              (subst (λ h. s.tuple.overhead * rate_of a.tuple + h * rate_of s.tuple + a.tuple.overhead * rate_of z.tuple
+              ≤ s.tuple.overhead * rate_of z.tuple + h * rate_of a.tuple + a.tuple.overhead * rate_of s.tuple) here chord)
+        ]
+
+    pub needed_from_first : IsNeededAt lines x at from
+    needed_from_first = record {
+      beyond = λ k d low below.
+          let l = get_or lines k d in
+          let s = get_or lines at d in
+          let crosses = hull.crosses k at d below at_in_range in
+          let reach : rate_of s.tuple * l.tuple.overhead < rate_of l.tuple * x.tuple.overhead =
+          subst (λ h. rate_of s.tuple * l.tuple.overhead < rate_of l.tuple * h) (overhead_at d) crosses.reach in
+          record {
+            overhead = place.before k d low below;
+            reach = omega (arith, reach, mul-le-mul_right l.tuple.overhead (no_more_rate d));
+          };
+      behind = λ k d low below.
+          let crosses = hull.crosses at k d (omega arith) below in
+          record { overhead = place.behind k d low below; rate = omega (arith, crosses.rate, no_more_rate d) };
+      first = λ k d low below.
+          let here : k ≡ at = omega (arith, only_one) in
+          rw here (first d);
+      turns = λ i j d before behind below.
+          let l = get_or lines i d in
+          let s = get_or lines at d in
+          let r = get_or lines j d in
+          let turn : IsBelowChord l.tuple.overhead (rate_of l.tuple) x.tuple.overhead (rate_of s.tuple) r.tuple.overhead (rate_of r.tuple) =
+          subst (λ h. IsBelowChord l.tuple.overhead (rate_of l.tuple) h (rate_of s.tuple) r.tuple.overhead (rate_of r.tuple)) (overhead_at d)
+          (hull.turns i at j d before (omega arith) below) in
+          still_below (rate_of l.tuple) (rate_of x.tuple) (rate_of r.tuple) l.tuple.overhead x.tuple.overhead r.tuple.overhead (rate_of s.tuple)
+          (place.before i d (omega arith) before) (place.behind j d behind below) (no_more_rate d) turn;
+      new = λ z covers same.
+          let s = get_or lines at x in
+          let rates : rate_of x.tuple ≡ rate_of s.tuple = omega (arith, covered_rate z covers (sym same.overhead), same.rate, no_more_rate x) in
+          let overheads : x.tuple.overhead ≡ s.tuple.overhead = sym (overhead_at x) in
+          (at, s, at_in_range, get_or_default lines at s x at_in_range, (record { rate = rates; overhead = overheads }, (first x).owner overheads rates));
+    }
