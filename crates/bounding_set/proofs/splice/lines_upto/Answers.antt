@@ -1,19 +1,20 @@
-use Rattle.std.proofs.Common.{leb, arith, rules}
-use Rattle.std.proofs.lemmas.Bool.{leb-true, leb-false}
-use Rattle.std.proofs.lemmas.List.Sorted.{IsPartitionPoint-from_clause, IsPartitionedBy-leb}
+use Rattle.std.proofs.Common.{leb, leb-true, leb-false, arith, rules}
+use Rattle.std.specs.List.Sorted.{IsPartitionPoint}
+use Rattle.std.proofs.lemmas.Fn.{always_returns_same}
+use Rattle.std.proofs.lemmas.List.Sorted.{IsPartitionedBy-leb}
 use Rattle.bounding_set.proofs.SpliceLemmas.{overheads_rise}
 use Rattle.bounding_set.proofs.splice.lines_upto.Goals as goal
 
 pub returns-clause-before : goal.returns-clause-before
 returns-clause-before c =
-    let x = c.args.x.now in
-    let parted = IsPartitionedBy-leb (λ l. l.tuple.overhead) _ x.tuple.overhead (overheads_rise c.args.lines.now c.requires) in
-    let point = IsPartitionPoint-from_clause (λ l. leb l.tuple.overhead x.tuple.overhead) _ _ c.partition_point.ensures.partitioned parted (λ a r q k. search rules) in
-    λ k d low below. leb-true _ _ (point.0 k d (omega arith) below)
+    let point = c.partition_point.ensures.partitioned (λ l. leb l.tuple.overhead c.args.x.now.tuple.overhead)
+    (always_returns_same _ _ _ (λ a r f k. search rules))
+    (IsPartitionedBy-leb (λ l. l.tuple.overhead) c.args.lines.now c.args.x.now.tuple.overhead (overheads_rise c.args.lines.now c.requires)) in
+    λ k d low below. leb-true _ _ (point.0 k d low below)
 
 pub returns-clause-behind : goal.returns-clause-behind
 returns-clause-behind c =
-    let x = c.args.x.now in
-    let parted = IsPartitionedBy-leb (λ l. l.tuple.overhead) _ x.tuple.overhead (overheads_rise c.args.lines.now c.requires) in
-    let point = IsPartitionPoint-from_clause (λ l. leb l.tuple.overhead x.tuple.overhead) _ _ c.partition_point.ensures.partitioned parted (λ a r q k. search rules) in
+    let point = c.partition_point.ensures.partitioned (λ l. leb l.tuple.overhead c.args.x.now.tuple.overhead)
+    (always_returns_same _ _ _ (λ a r f k. search rules))
+    (IsPartitionedBy-leb (λ l. l.tuple.overhead) c.args.lines.now c.args.x.now.tuple.overhead (overheads_rise c.args.lines.now c.requires)) in
     λ k d low below. leb-false _ _ (point.1 k d low below)
