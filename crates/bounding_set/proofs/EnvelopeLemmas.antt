@@ -24,6 +24,20 @@ all_needed lines x = record {
   covers = λ p by_lines by_x k d below. by_lines k d (omega arith) below;
 }
 
+-- so one less of them does, where they and x permit it
+pub one_less : (lines : List Request) (x : Request) (count : ℕ) → 0 < count → IsNeededBeside lines x count
+    → ((p : RatePair) (d : Request) → AllWithin (λ l. Permits l.tuple p) lines 0 (count - 1) → Permits x.tuple p → Permits (get_or lines (count - 1) d).tuple p)
+    → IsNeededBeside lines x (count - 1)
+one_less lines x count some needed last = record {
+  within = omega (arith, needed.within);
+  covers = λ p by_lines by_x. needed.covers p
+      (λ k d low below. elim (cases_eq k (count - 1)) [
+        | inl here ↦ rw here (last p d by_lines by_x)
+        | inr other ↦ by_lines k d low (omega arith)
+      ])
+      by_x;
+}
+
 module _ (lines : List Request) (x : Request) (hull : IsHull lines) (beyond : All (ReachesBeyond x) lines) where
   -- the last of so many lines permits what those before it and x do
   one_permits : (p : RatePair) (d : Request) → 0 < length lines → rate_of x.tuple ≤ rate_of (get_or lines 0 d).tuple
@@ -52,26 +66,12 @@ module _ (lines : List Request) (x : Request) (hull : IsHull lines) (beyond : Al
       permitted_between p.bits p.packets p.seconds s.tuple.overhead t.tuple.overhead x.tuple.overhead (rate_of s.tuple) (rate_of t.tuple)
       (rate_of x.tuple) crosses.overhead before.overhead above by_s by_x
 
-  -- so one less of them does
-  one_less : (count : ℕ) → 0 < count → IsNeededBeside lines x count
-      → ((p : RatePair) (d : Request) → AllWithin (λ l. Permits l.tuple p) lines 0 (count - 1) → Permits x.tuple p → Permits (get_or lines (count - 1) d).tuple p)
-      → IsNeededBeside lines x (count - 1)
-  one_less count some needed last = record {
-    within = omega (arith, needed.within);
-    covers = λ p by_lines by_x. needed.covers p
-        (λ k d low below. elim (cases_eq k (count - 1)) [
-          | inl here ↦ rw here (last p d by_lines by_x)
-          | inr other ↦ by_lines k d low (omega arith)
-        ])
-        by_x;
-  }
-
   pub without_needless : (count : ℕ) → 0 < count → IsNeededBeside lines x count
       → (count ≡ 1 → (d : Request) → rate_of x.tuple ≤ rate_of (get_or lines 0 d).tuple)
       → (1 < count → (d : Request) → ¬ Turns (get_or lines (count - 2) d) (get_or lines (count - 1) d) x)
       → IsNeededBeside lines x (count - 1)
   without_needless count some needed one more =
-      one_less count some needed (λ p d by_lines by_x. elim (cases_eq count 1) [
+      one_less lines x count some needed (λ p d by_lines by_x. elim (cases_eq count 1) [
         | inl is_one ↦ rw is_one (one_permits p d (omega (arith, needed.within)) (one is_one d) by_x)
         | inr is_more ↦
             between_permits p d count (omega arith) needed.within (more (omega arith) d)

@@ -1,9 +1,14 @@
 pub mod RowLemmas
 pub mod TurnLemmas
 pub mod EnvelopeLemmas
+pub mod ImpliesLemmas
+pub mod BesideLemmas
 pub mod AddLemmas
 pub mod SortLemmas
 pub mod WalkLemmas
+pub mod SpliceTurns
+pub mod SpliceLemmas
+pub mod StandsLemmas
 pub mod EndLemmas
 pub mod EssentialLemmas
 pub mod StopScans

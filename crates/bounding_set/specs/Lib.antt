@@ -6,5 +6,6 @@ pub mod Announced
 pub mod Envelope
 pub mod Spliced
 pub mod Gap
+pub mod Place
 pub mod Reach
 pub mod Kept
