@@ -183,9 +183,6 @@ module _ (lines : List Request) (x : Request) (hull : IsHull lines) where
           ];
     }
 
-    pub Covers-last : Covers (ends_with lines x count) x
-    Covers-last = λ p feasible. last_from_all lines x count within (λ l. Permits l.tuple p) feasible
-
     pub Covers-before : CoversBeside lines x count → All (Covers (ends_with lines x count)) lines
     Covers-before covers = λ k d below p feasible.
         covers p (first_from_all lines x count within (λ l. Permits l.tuple p) feasible)

@@ -18,12 +18,6 @@ pub record IsNeededBeside (lines : List Request) (x : Request) (count : ℕ) : T
   pub within : count ≤ length lines
   pub covers : CoversBeside lines x count
 
-pub all_needed : (lines : List Request) (x : Request) → IsNeededBeside lines x (length lines)
-all_needed lines x = record {
-  within = omega arith;
-  covers = λ p by_lines by_x k d below. by_lines k d (omega arith) below;
-}
-
 -- so one less of them does, where they and x permit it
 pub one_less : (lines : List Request) (x : Request) (count : ℕ) → 0 < count → IsNeededBeside lines x count
     → ((p : RatePair) (d : Request) → AllWithin (λ l. Permits l.tuple p) lines 0 (count - 1) → Permits x.tuple p → Permits (get_or lines (count - 1) d).tuple p)
