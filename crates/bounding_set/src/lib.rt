@@ -13,6 +13,7 @@ mod envelope;
 mod implies;
 pub mod laws;
 mod line_end;
+mod live;
 mod rows;
 mod splice;
 mod unsplice;
