@@ -11,3 +11,4 @@ pub mod StopLemmas
 pub mod KeptLemmas
 pub mod ImpliedLemmas
 pub mod CertificateLemmas
+pub mod SplicedLemmas

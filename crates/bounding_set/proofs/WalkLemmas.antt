@@ -34,7 +34,7 @@ walked_none rows lines none =
     }
 
 -- lines that cover old lines cover what those cover
-Covers-through : (lines new : List Request) (y : Request) → All (Covers new) lines → Covers lines y → Covers new y
+pub Covers-through : (lines new : List Request) (y : Request) → All (Covers new) lines → Covers lines y → Covers new y
 Covers-through lines new y again covers = λ p feasible. covers p (λ k d below. again k d below p feasible)
 
 module _ (rows lines new : List Request) (place : ℕ) (walked : IsWalkedTo rows lines place) where
