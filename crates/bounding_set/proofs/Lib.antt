@@ -12,3 +12,6 @@ pub mod KeptLemmas
 pub mod ImpliedLemmas
 pub mod CertificateLemmas
 pub mod SplicedLemmas
+pub mod MemberLemmas
+pub mod DropLemmas
+pub mod BoundsLemmas

@@ -9,7 +9,7 @@ ghost use Rattle.bounding_set.specs.Envelope.{IsEnvelopeOf};
 ghost use Rattle.bounding_set.specs.State.{AnnouncesFor};
 
 use crate::certificate::certify;
-use rate_cert::{Cert, Request};
+use rate_cert::{Cert, MAX_REQUESTS, Request};
 
 /// Makes the certificate of the set that is announced for these rows: the lines of their envelope, or
 /// what stands for them where a rate is 0.
@@ -17,7 +17,7 @@ pub fn announce(rows: &[Request], lines: &[Request], stops: &[Request], cert: &m
     requires rising { HasRisingOwners rows.now }
     requires within { length rows.now ≤ MAX_REQUESTS }
     requires envelope { IsEnvelopeOf rows.now lines.now }
-    requires stops { HoldsStops rows.now stops.now }
+    requires holds { HoldsStops rows.now stops.now }
     ensures announced { AnnouncesFor rows.now cert.new }
     ensures chosen { chosen_requests rows.now (kept_places cert.new) ≡ announced_among stops.now lines.now }
 {

@@ -28,3 +28,12 @@ returns-in_default-least_reach-clause-stopped c =
     λ _. subst (AnnouncesList c.args.rows.now) (sym listed)
     (AnnouncesList-first_stop c.args.rows.now c.requires.rising stop c.in-Some-first_stop.ensures.0 c.in-Some-first_stop.ensures.1
     c.in_default-least_reach.ensures)
+
+pub returns-in-Some-clause-some : goal.returns-in-Some-clause-some
+returns-in-Some-clause-some c = ?
+
+pub returns-in-Some-least_reach-clause-some : goal.returns-in-Some-least_reach-clause-some
+returns-in-Some-least_reach-clause-some c = ?
+
+pub returns-in_default-least_reach-clause-some : goal.returns-in_default-least_reach-clause-some
+returns-in_default-least_reach-clause-some c = ?
