@@ -1,6 +1,8 @@
 pub mod RowLemmas
 pub mod TurnLemmas
 pub mod EnvelopeLemmas
+pub mod ImpliesLemmas
+pub mod BesideLemmas
 pub mod AddLemmas
 pub mod SortLemmas
 pub mod WalkLemmas

@@ -1,6 +1,6 @@
 //! Which lines of an envelope are essential beside one more.
 
-ghost use Rattle.std.specs.Prelude.{◌≡◌, ℕ, ◌<◌, ◌≤◌, ◌+◌, ◌-◌, ◌^◌, length, All, slice_index_or};
+ghost use Rattle.std.specs.Prelude.{◌≡◌, ℕ, ◌<◌, ◌≤◌, ◌+◌, ◌-◌, ◌^◌, ◌↔◌, length, All, IsTrue, slice_index_or};
 ghost use Rattle.std.specs.List.{AllWithin};
 ghost use Rattle.tmmbr_tuple.specs.Tuple.{rate_of};
 ghost use Rattle.tmmbr_tuple.specs.RatePair.{RatePair, Permits};
@@ -8,11 +8,14 @@ ghost use Rattle.rate_cert.specs.declared.request.Request.{Request as RateReques
 ghost use Rattle.rate_cert.specs.Requests.{IsFeasible};
 ghost use Rattle.bounding_set.specs.Canonical.{StopsMedia};
 ghost use Rattle.bounding_set.specs.Envelope.{ReachesBeyond, IsBehind, Crosses, Turns, IsHull};
+ghost use Rattle.bounding_set.specs.Spliced.{ImplyTogether};
 
 use crate::implies::implies;
 use rate_cert::Request;
 
 /// How many of the lines, from the first on, are essential beside one that they reach beyond.
+///
+/// `count` grows by one for each test whether two lines imply a third.
 pub fn needed_before(lines: &[Request], x: &Request, count: &mut u32) -> usize
     requires hull { IsHull lines.now }
     requires beyond { All (ReachesBeyond x.now) lines.now }
@@ -25,13 +28,15 @@ pub fn needed_before(lines: &[Request], x: &Request, count: &mut u32) -> usize
     ensures few { count.new + result ≤ count.old + length lines.now + 1 }
 {
     let mut needed = lines.len();
-    while needed > 0 && is_needless_before(lines, needed, x, count) {
+    while is_needless_before(lines, needed, x, count) {
         needed -= 1;
     }
     needed
 }
 
 /// From which of the lines on they are essential beside one that stands before them.
+///
+/// `count` grows by one for each test whether two lines imply a third.
 pub fn needed_behind(lines: &[Request], x: &Request, count: &mut u32) -> usize
     requires hull { IsHull lines.now }
     requires behind { All (IsBehind x.now) lines.now }
@@ -46,27 +51,56 @@ pub fn needed_behind(lines: &[Request], x: &Request, count: &mut u32) -> usize
     ensures few { count.new ≤ count.old + result + 1 }
 {
     let mut first = 0;
-    while first < lines.len() && is_needless_behind(lines, first, x, count) {
+    while is_needless_behind(lines, first, x, count) {
         first += 1;
     }
     first
 }
 
-/// Whether the last of so many lines isn't essential between the one before it and x.
-fn is_needless_before(lines: &[Request], count: usize, x: &Request, tests: &mut u32) -> bool {
-    let last = &lines[count - 1].tuple;
-    let before = match count {
-        1 => &x.tuple,
-        _ => &lines[count - 2].tuple,
-    };
-    implies(before, last, &x.tuple, tests)
+/// Whether the line before it, or x where there is none, and x imply the last of so many lines.
+fn is_needless_before(lines: &[Request], needed: usize, x: &Request, count: &mut u32) -> bool
+    requires within { needed ≤ length lines.now }
+    requires countable { count.old + 1 < 2 ^ 32 }
+    ensures some { IsTrue result → 0 < needed }
+    ensures one { (d : RateRequest) → needed ≡ 1
+        → (IsTrue result ↔ ImplyTogether x.now.tuple x.now.tuple (slice_index_or lines.now 0 d).tuple) }
+    ensures more { (d : RateRequest) → 1 < needed
+        → (IsTrue result ↔ ImplyTogether (slice_index_or lines.now (needed - 2) d).tuple x.now.tuple (slice_index_or lines.now (needed - 1) d).tuple) }
+    ensures counted { count.old ≤ count.new }
+    ensures few { count.new ≤ count.old + 1 }
+{
+    match needed {
+        0 => false,
+        1 => implies(&x.tuple, &lines[0].tuple, &x.tuple, count),
+        _ => implies(
+            &lines[needed - 2].tuple,
+            &lines[needed - 1].tuple,
+            &x.tuple,
+            count,
+        ),
+    }
 }
 
-/// Whether the line at this place isn't essential between x and the one behind it.
-fn is_needless_behind(lines: &[Request], place: usize, x: &Request, tests: &mut u32) -> bool {
-    let behind = match lines.get(place + 1) {
-        Some(line) => &line.tuple,
-        None => &x.tuple,
-    };
-    implies(&x.tuple, &lines[place].tuple, behind, tests)
+/// Whether x and the line behind it, or x alone where there is none, imply the line at this place.
+fn is_needless_behind(lines: &[Request], place: usize, x: &Request, count: &mut u32) -> bool
+    requires within { place ≤ length lines.now }
+    requires countable { count.old + 1 < 2 ^ 32 }
+    ensures some { IsTrue result → place < length lines.now }
+    ensures last { (d : RateRequest) → place + 1 ≡ length lines.now
+        → (IsTrue result ↔ ImplyTogether x.now.tuple x.now.tuple (slice_index_or lines.now place d).tuple) }
+    ensures more { (d : RateRequest) → place + 1 < length lines.now
+        → (IsTrue result ↔ ImplyTogether x.now.tuple (slice_index_or lines.now (place + 1) d).tuple (slice_index_or lines.now place d).tuple) }
+    ensures counted { count.old ≤ count.new }
+    ensures few { count.new ≤ count.old + 1 }
+{
+    match lines.len() - place {
+        0 => false,
+        1 => implies(&x.tuple, &lines[place].tuple, &x.tuple, count),
+        _ => implies(
+            &x.tuple,
+            &lines[place].tuple,
+            &lines[place + 1].tuple,
+            count,
+        ),
+    }
 }

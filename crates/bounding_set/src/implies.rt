@@ -1,7 +1,7 @@
 //! Whether two lines imply a third.
 
 ghost use Rattle.std.specs.Prelude.{◌≡◌, ◌+◌, ◌^◌, ◌<◌, ◌↔◌, IsTrue};
-ghost use Rattle.bounding_set.specs.Spliced.{ImplyTogether};
+ghost use Rattle.bounding_set.specs.Spliced.{ImplyTogether, ImpliesAlone, StandsAbove};
 
 use tmmbr_tuple::Tuple;
 
@@ -13,14 +13,13 @@ pub fn implies(a: &Tuple, x: &Tuple, b: &Tuple, count: &mut u32) -> bool
     ensures counted { count.new ≡ count.old + 1 }
 {
     *count += 1;
-    implies_alone(a, x)
-        || implies_alone(b, x)
-        || is_above_chord(a, x, b)
-        || is_above_chord(b, x, a)
+    implies_alone(a, x) || implies_alone(b, x) || is_above_chord(a, x, b) || is_above_chord(b, x, a)
 }
 
 /// Whether `x` permits each pair that `a` permits: at no packets, and where `a` leaves no media.
-fn implies_alone(a: &Tuple, x: &Tuple) -> bool {
+fn implies_alone(a: &Tuple, x: &Tuple) -> bool
+    ensures { IsTrue result ↔ ImpliesAlone a.now x.now }
+{
     a.rate() <= x.rate()
         && a.rate() * u128::from(x.overhead) <= x.rate() * u128::from(a.overhead)
         && (a.overhead > 0 || x.overhead == 0)
@@ -28,7 +27,9 @@ fn implies_alone(a: &Tuple, x: &Tuple) -> bool {
 
 /// Whether the overhead of `x` is between those of `a` and `b`, and its line isn't below the chord
 /// from `a` to `b`.
-fn is_above_chord(a: &Tuple, x: &Tuple, b: &Tuple) -> bool {
+fn is_above_chord(a: &Tuple, x: &Tuple, b: &Tuple) -> bool
+    ensures { IsTrue result ↔ StandsAbove a.now b.now x.now }
+{
     let (at_a, at_x, at_b) = (
         u128::from(a.overhead),
         u128::from(x.overhead),
