@@ -90,11 +90,7 @@ impl Bounds {
         }
         let x = Request { owner, tuple };
         let lines_changed = replace(&mut self.rows, &mut self.lines, &x, &mut self.steps);
-        let stops_changed = update_stops(
-            self.rows.as_slice(),
-            &mut self.stops,
-            tuple.rate() == 0,
-        );
+        let stops_changed = update_stops(self.rows.as_slice(), &mut self.stops, tuple.rate() == 0);
         announce(
             self.rows.as_slice(),
             self.lines.as_slice(),
