@@ -31,7 +31,7 @@ asked_is None t b is = no_of b is (λ e. cc)
 asked_is (Some s) t b is = (λ true_is. ap Some ((Decides-tuple_eq s t).0 (sym is ∙ true_is)), λ e. is ∙ (Decides-tuple_eq s t).1 (cc))
 
 -- a row's owner asks for its tuple
-pub tuple_of-member : (rows : List Request) (r : Request) → HasRisingOwners rows → Contains rows r → tuple_of rows r.owner.0 ≡ Some r.tuple
+tuple_of-member : (rows : List Request) (r : Request) → HasRisingOwners rows → Contains rows r → tuple_of rows r.owner.0 ≡ Some r.tuple
 tuple_of-member rows r rising (k, below, is) =
     let row : IsRowOf rows r.owner.0 k = record {
       in_range = below;
@@ -40,7 +40,7 @@ tuple_of-member rows r rising (k, below, is) =
     tuple_of-row rows k r.owner.0 r rising row ∙ ap (λ (q : Request). Some q.tuple) is
 
 -- who is live has a row
-pub member_of-live : (rows : List Request) (r : Request) → tuple_of rows r.owner.0 ≡ Some r.tuple → Contains rows r
+member_of-live : (rows : List Request) (r : Request) → tuple_of rows r.owner.0 ≡ Some r.tuple → Contains rows r
 member_of-live [] r live = cc
 member_of-live (x ∷ rows) r live =
     elim (cases_eq x.owner.0 r.owner.0) [

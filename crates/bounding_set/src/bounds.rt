@@ -113,9 +113,10 @@ impl Bounds {
     {
         let tuple = take(&mut self.rows, owner)?;
         self.steps = 0;
+        let gone = Request { owner, tuple };
         unsplice(
             &mut self.lines,
-            &Request { owner, tuple },
+            &gone,
             self.rows.as_slice(),
             &mut self.steps,
         );

@@ -40,7 +40,7 @@ pub fn update_stops(
 /// request of least reach behind it where one has an overhead.
 ///
 /// False leaves the list as it was: no request has the rate 0.
-fn announce_stops(rows: &[Request], announced: &mut ArrayVec<Request, MAX_STOPS>) -> bool
+pub fn announce_stops(rows: &[Request], announced: &mut ArrayVec<Request, MAX_STOPS>) -> bool
     requires rising { HasRisingOwners rows.now }
     requires empty { announced.old.items ≡ [] }
     ensures stopped { IsTrue result → AnnouncesList rows.now announced.new.items }
