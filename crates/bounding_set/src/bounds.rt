@@ -90,13 +90,10 @@ impl Bounds {
         }
         let x = Request { owner, tuple };
         let lines_changed = replace(&mut self.rows, &mut self.lines, &x, &mut self.steps);
-        let stops_changed = update_stops(self.rows.as_slice(), &mut self.stops, tuple.rate() == 0);
-        announce(
-            self.rows.as_slice(),
-            self.lines.as_slice(),
-            self.stops.as_slice(),
-            &mut self.cert,
-        );
+        let rows = self.rows.as_slice();
+        let stops_changed = update_stops(rows, &mut self.stops, tuple.rate() == 0);
+        let (lines, stops) = (self.lines.as_slice(), self.stops.as_slice());
+        announce(rows, lines, stops, &mut self.cert);
         Ok(stops_changed || lines_changed && self.stops.is_empty())
     }
 
@@ -114,19 +111,11 @@ impl Bounds {
         let tuple = take(&mut self.rows, owner)?;
         self.steps = 0;
         let gone = Request { owner, tuple };
-        unsplice(
-            &mut self.lines,
-            &gone,
-            self.rows.as_slice(),
-            &mut self.steps,
-        );
-        update_stops(self.rows.as_slice(), &mut self.stops, false);
-        announce(
-            self.rows.as_slice(),
-            self.lines.as_slice(),
-            self.stops.as_slice(),
-            &mut self.cert,
-        );
+        let rows = self.rows.as_slice();
+        unsplice(&mut self.lines, &gone, rows, &mut self.steps);
+        update_stops(rows, &mut self.stops, false);
+        let (lines, stops) = (self.lines.as_slice(), self.stops.as_slice());
+        announce(rows, lines, stops, &mut self.cert);
         Some(tuple)
     }
 

@@ -11,13 +11,13 @@ unsplice-requires-clause-envelope c =
     let gone : Request = record { owner = c.args.owner; tuple = c.in_ok-tuple.tuple } in
     let old = c.self.inside.rows.items in
     let new = c.take.new.rows.items in
-    subst (λ rows. IsEnvelopeOf (gone ∷ rows) c.self.inside.lines.items) (sym c.as_slice.ensures.value)
+    subst (λ rows. IsEnvelopeOf (gone ∷ rows) c.self.inside.lines.items) (sym c.as_slice-rows.ensures.value)
     (IsEnvelopeOf-fewer old new c.self.inside.lines.items gone
     (HasOneMore-taken old new gone c.self.invariant.1 c.take.ensures.rising (sym c.take.ensures.value ∙ c.in_ok-tuple.was) c.take.ensures.taken) c.self.invariant.2)
 
 pub unsplice-requires-clause-others : goal.unsplice-requires-clause-others
 unsplice-requires-clause-others c =
-    subst (All (λ r. r.owner.0 ≢ c.args.owner.0)) (sym c.as_slice.ensures.value)
+    subst (All (λ r. r.owner.0 ≢ c.args.owner.0)) (sym c.as_slice-rows.ensures.value)
     (absent_owner c.take.new.rows.items c.args.owner.0 c.take.ensures.rising c.take.ensures.taken.changed)
 
 pub update_stops-requires-clause-none : goal.update_stops-requires-clause-none
@@ -25,6 +25,6 @@ update_stops-requires-clause-none c =
     let gone : Request = record { owner = c.args.owner; tuple = c.in_ok-tuple.tuple } in
     let old = c.self.inside.rows.items in
     let new = c.take.new.rows.items in
-    λ no empty. subst (All (λ r. ¬ StopsMedia r)) (sym c.as_slice-2.ensures.value)
+    λ no empty. subst (All (λ r. ¬ StopsMedia r)) (sym c.as_slice-rows.ensures.value)
     (All-fewer (λ r. ¬ StopsMedia r) old new gone
     (HasOneMore-taken old new gone c.self.invariant.1 c.take.ensures.rising (sym c.take.ensures.value ∙ c.in_ok-tuple.was) c.take.ensures.taken) (c.self.invariant.3.none empty))

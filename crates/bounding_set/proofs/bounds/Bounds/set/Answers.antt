@@ -17,7 +17,7 @@ update_stops-stops_changed-requires-clause-none c =
     let x : Request = record { owner = c.args.owner; tuple = c.args.tuple } in
     λ not_zero empty.
     let sends : ¬ StopsMedia x = λ stops. grind (arith, nat_tests, c.rate.ensures.value, not_zero, stops) in
-    subst (All (λ r. ¬ StopsMedia r)) (sym c.as_slice-2.ensures.value)
+    subst (All (λ r. ¬ StopsMedia r)) (sym c.as_slice-rows.ensures.value)
     (All-put (λ r. ¬ StopsMedia r) c.self.inside.rows.items c.replace-lines_changed.new.rows.items x
     c.replace-lines_changed.ensures.rising c.replace-lines_changed.ensures.put (c.self.invariant.3.none empty) sends)
 
@@ -31,13 +31,13 @@ AnnouncedNow c = announced_of (record { rows = c.replace-lines_changed.new.rows.
 now : (c : goal.Joined-stops_changed)
     → AnnouncedNow c ≡ announced_among c.update_stops-stops_changed.new.stops.items c.replace-lines_changed.new.lines.items
 now c =
-    chosen_among c.replace-lines_changed.new.rows.items c.as_slice-3.result.now c.replace-lines_changed.new.lines.items c.as_slice-4.result.now
-    c.update_stops-stops_changed.new.stops.items c.as_slice-5.result.now c.announce.new.cert c.as_slice-3.ensures.value c.as_slice-4.ensures.value
-    c.as_slice-5.ensures.value c.announce.ensures.chosen
+    chosen_among c.replace-lines_changed.new.rows.items c.as_slice-rows.result.now c.replace-lines_changed.new.lines.items c.as_slice-lines.result.now
+    c.update_stops-stops_changed.new.stops.items c.as_slice-stops.result.now c.announce.new.cert c.as_slice-rows.ensures.value c.as_slice-lines.ensures.value
+    c.as_slice-stops.ensures.value c.announce.ensures.chosen
 
 holds : (c : goal.Joined-stops_changed) → HoldsStops c.replace-lines_changed.new.rows.items c.update_stops-stops_changed.new.stops.items
 holds c =
-    subst (λ rows. HoldsStops rows c.update_stops-stops_changed.new.stops.items) c.as_slice-2.ensures.value c.update_stops-stops_changed.ensures.holds
+    subst (λ rows. HoldsStops rows c.update_stops-stops_changed.new.stops.items) c.as_slice-rows.ensures.value c.update_stops-stops_changed.ensures.holds
 
 pub returns-clause-changed : goal.returns-clause-changed
 returns-clause-changed c =
