@@ -19,3 +19,6 @@ pub mod CertificateLemmas
 pub mod SplicedLemmas
 pub mod UnspliceLemmas
 pub mod PutBackLemmas
+pub mod MemberLemmas
+pub mod DropLemmas
+pub mod BoundsLemmas

@@ -13,6 +13,7 @@ mod envelope;
 mod implies;
 pub mod laws;
 mod line_end;
+mod live;
 mod rows;
 mod splice;
 mod unsplice;
@@ -21,6 +22,8 @@ mod zero_rates;
 pub use bounds::Bounds;
 pub use rows::{Full, LIVE_LIMIT};
 
+#[cfg(test)]
+mod in_place_tests;
 #[cfg(test)]
 mod lists;
 #[cfg(test)]
