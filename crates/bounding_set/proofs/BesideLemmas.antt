@@ -61,12 +61,6 @@ pub record IsNeededBehind (lines : List Request) (x : Request) (first : ℕ) : T
   pub within : first ≤ length lines
   pub covers : (p : RatePair) → AllWithin (λ l. Permits l.tuple p) lines first (length lines) → Permits x.tuple p → IsFeasible lines p
 
-pub all_behind : (lines : List Request) (x : Request) → IsNeededBehind lines x 0
-all_behind lines x = record {
-  within = omega arith;
-  covers = λ p by_lines by_x k d below. by_lines k d (omega arith) below;
-}
-
 pub without_first : (lines : List Request) (x : Request) (first : ℕ) → first < length lines → IsNeededBehind lines x first
     → (first + 1 ≡ length lines → (d : Request) → ImplyTogether x.tuple x.tuple (get_or lines first d).tuple)
     → (first + 1 < length lines → (d : Request) → ImplyTogether x.tuple (get_or lines (first + 1) d).tuple (get_or lines first d).tuple)

@@ -19,7 +19,7 @@ pub fn announce(rows: &[Request], cert: &mut Cert)
 {
     let mut announced = ArrayVec::new();
     if !announce_stops(rows, &mut announced) {
-        walk(rows, &mut announced);
+        walk(rows, &mut announced, &mut 0);
     }
     certify(rows, announced.as_slice(), cert);
 }

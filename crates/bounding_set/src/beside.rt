@@ -14,6 +14,8 @@ use crate::implies::implies;
 use rate_cert::Request;
 
 /// How many of the lines, from the first on, are essential beside one that they reach beyond.
+///
+/// `count` grows by one for each test whether two lines imply a third.
 pub fn needed_before(lines: &[Request], x: &Request, count: &mut u32) -> usize
     requires hull { IsHull lines.now }
     requires beyond { All (ReachesBeyond x.now) lines.now }
@@ -33,6 +35,8 @@ pub fn needed_before(lines: &[Request], x: &Request, count: &mut u32) -> usize
 }
 
 /// From which of the lines on they are essential beside one that stands before them.
+///
+/// `count` grows by one for each test whether two lines imply a third.
 pub fn needed_behind(lines: &[Request], x: &Request, count: &mut u32) -> usize
     requires hull { IsHull lines.now }
     requires behind { All (IsBehind x.now) lines.now }
