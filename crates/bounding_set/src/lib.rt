@@ -22,6 +22,8 @@ pub use bounds::Bounds;
 pub use rows::{Full, LIVE_LIMIT};
 
 #[cfg(test)]
+mod implies_tests;
+#[cfg(test)]
 mod lists;
 #[cfg(test)]
 mod slow;
