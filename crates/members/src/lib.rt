@@ -15,11 +15,11 @@ mod room;
 mod settings;
 mod stays;
 mod stream;
+mod table;
 
 pub use fault::{Key, RoomFault, SettingsFault};
 pub use order::{Order, Row};
 pub use parts::{LegParts, Parts};
-pub use reception::Reception;
 pub use room::Room;
 pub use rtcp_compound::Block;
 pub use settings::{LegSettings, MAX_ENDPOINTS, MAX_LEGS, Settings};

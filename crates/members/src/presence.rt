@@ -1,6 +1,6 @@
 //! Which endpoints are present.
 
-ghost use Rattle.std.specs.Prelude.{◌≡◌, ◌<◌, length, ℕ, false, All};
+ghost use Rattle.std.specs.Prelude.{◌≡◌, ◌<◌, length, ℕ, false, All, IsTrue};
 ghost use Rattle.members.specs.Presence.{is_overdue, is_overdue_at, is_present_at, source_at, with_heard};
 
 use tmmbr_tuple::Ssrc;
@@ -53,7 +53,8 @@ pub fn is_overdue_at(endpoints: &[Endpoint], timeout: u64, moment: u64, number: 
 /// Whether the endpoint of this number is present.
 #[tactic(auto, unfolding(crate::specs::Presence::is_present_at))]
 pub fn is_present_at(endpoints: &[Endpoint], number: usize) -> bool
-    ensures { result ≡ is_present_at endpoints.now number }
+    ensures value { result ≡ is_present_at endpoints.now number }
+    ensures known { IsTrue result → number < length endpoints.now }
 {
     match endpoints.get(number) {
         Some(endpoint) => endpoint.heard.is_some(),

@@ -1,85 +1,21 @@
 //! A room: who is present, and which stays stand.
 
-ghost use Rattle.std.specs.Prelude.{◌≡◌, ◌<◌, ◌≤◌, ◌++◌, length, map, IfOk};
-ghost use Rattle.members.specs.Stays.{told, leaving, Tells};
-ghost use Rattle.members.specs.Room.{absent, unstarted};
+ghost use Rattle.std.specs.Prelude.{◌≡◌, map, IfOk};
+ghost use Rattle.members.specs.Stays.{told, leaving};
+ghost use Rattle.members.specs.Stream.{nothing_heard};
 
 use crate::fault::RoomFault;
 use crate::order::{Draft, Order};
-use crate::presence::{Endpoint, first_overdue, is_present_at, mark, source_at};
-use crate::settings::{LegSettings, MAX_LEGS, Settings};
-use crate::stays::{LegStay, MAX_STAY, arrive, leave_overdue, leave_present, select_leg};
+use crate::presence::{first_overdue, is_present_at, mark, source_at};
+use crate::reception::Reception;
+use crate::settings::Settings;
+use crate::stays::{arrive, leave_present, select_leg};
+use crate::table::Table;
+use rtcp_compound::Block;
 use std::alloc::{AllocError, Global};
 use std::marker::Model;
 use std::mem;
 use tmmbr_tuple::Ssrc;
-
-/// The endpoints and the legs.
-#[derive(Debug, Drop)]
-pub struct Table {
-    endpoints: Vec<Endpoint>,
-    legs: Vec<LegStay>,
-}
-
-/// Every endpoint, absent.
-fn absent_endpoints(alloc: Global, sources: &[Ssrc]) -> Result<Vec<Endpoint>, AllocError>
-    ensures { IfOk result (λ v. v.items ≡ map absent sources.now) }
-{
-    let endpoints = sources.iter().map(|ssrc| Endpoint {
-        ssrc: *ssrc,
-        heard: None,
-    });
-    endpoints.collect(alloc)
-}
-
-/// Every leg, without a stay.
-fn unstarted_legs(alloc: Global, legs: &[LegSettings]) -> Result<Vec<LegStay>, AllocError>
-    ensures { IfOk result (λ v. v.items ≡ map unstarted legs.now) }
-{
-    let legs = legs.iter().map(|leg| LegStay {
-        subscriber: leg.subscriber,
-        publisher: leg.publisher,
-        stay: 0,
-        turn: 0,
-        selected: leg.on,
-    });
-    legs.collect(alloc)
-}
-
-impl Table {
-    /// The table of a new room.
-    fn new(alloc: Global, settings: &Settings) -> Result<Table, AllocError>
-        ensures endpoints { IfOk result (λ t. t.endpoints.items ≡ map absent settings.now.endpoints) }
-        ensures legs { IfOk result (λ t. t.legs.items ≡ map unstarted settings.now.legs) }
-    {
-        Ok(Table {
-            endpoints: absent_endpoints(alloc, settings.endpoints())?,
-            legs: unstarted_legs(alloc, settings.legs())?,
-        })
-    }
-
-    /// Drafts the table that is left once those overdue at this moment left.
-    fn redraft(&mut self, held: &Table, timeout: u64, moment: u64, orders: &mut Draft)
-        requires endpoints { length self.old.endpoints.items ≡ length held.now.endpoints.items }
-        requires legs { length self.old.legs.items ≡ length held.now.legs.items }
-        requires few { length held.now.legs.items ≤ MAX_LEGS }
-        ensures endpoints { self.new.endpoints.items
-            ≡ (leaving timeout moment held.now.endpoints.items held.now.legs.items).endpoints }
-        ensures legs { self.new.legs.items
-            ≡ (leaving timeout moment held.now.endpoints.items held.now.legs.items).legs }
-        ensures orders { Tells orders.old
-            (leaving timeout moment held.now.endpoints.items held.now.legs.items).orders
-            orders.new }
-        ensures same_endpoints { length self.new.endpoints.items ≡ length held.now.endpoints.items }
-        ensures same_legs { length self.new.legs.items ≡ length held.now.legs.items }
-    {
-        let endpoints = self.endpoints.as_mut_slice();
-        endpoints.copy_from_slice(held.endpoints.as_slice());
-        let legs = self.legs.as_mut_slice();
-        legs.copy_from_slice(held.legs.as_slice());
-        leave_overdue(endpoints, legs, timeout, moment, orders);
-    }
-}
 
 /// Who is present, and which stays stand.
 ///
@@ -99,6 +35,15 @@ pub struct Room {
     held: Table,
     /// Where a call drafts what it will leave, so that a refusal leaves everything as it was.
     draft: Table,
+    /// What was received of each endpoint since it last came.
+    receptions: Vec<Reception>,
+}
+
+/// Of each endpoint nothing was received.
+fn new_receptions(alloc: Global, sources: &[Ssrc]) -> Result<Vec<Reception>, AllocError>
+    ensures { IfOk result (λ v. v.items ≡ map (λ _. nothing_heard) sources.now) }
+{
+    sources.iter().map(|_| Reception::new()).collect(alloc)
 }
 
 impl Model for Room {
@@ -113,16 +58,19 @@ impl Model for Room {
       next = r.next;
       endpoints = r.held.endpoints.items;
       legs = r.held.legs.items;
+      receptions = r.receptions.items;
     } };
 
     ghost invariant = { λ r. IsWellFormed r.timeout_ms r.next r.quiet_until r.held.endpoints.items r.held.legs.items
-        r.draft.endpoints.items r.draft.legs.items };
+        r.draft.endpoints.items r.draft.legs.items r.receptions.items };
 }
 
 impl Room {
-    ghost use Rattle.std.specs.Prelude.{◌≡◌, ◌<◌, ◌≤◌, ◌++◌, All, IsTrue, Ok, Err, IfOk, IfErr, OnOk, OnErr, length, false};
-    ghost use Rattle.members.specs.Presence.{is_overdue, is_present_at};
-    ghost use Rattle.members.specs.Room.{RoomState, Step, new_room, tick_step, bye_step, hear_step, heard_step, select_step, after_leaving, leg_at};
+    ghost use Rattle.std.specs.Prelude.{◌≡◌, ◌<◌, ◌++◌, ◌↔◌, IsTrue, IsNone, IfNone, Ok, Err, IfOk, IfErr, OnOk, OnErr, length};
+    ghost use Rattle.members.specs.Presence.{is_present_at, source_at};
+    ghost use Rattle.members.specs.Room.{new_room, tick_step, bye_step, hear_step, heard_step, select_step, after_leaving, leg_at};
+    ghost use Rattle.members.specs.Room.{reception_at, with_packet, with_report, with_block};
+    ghost use Rattle.members.specs.Stream.{IsAnswer, timestamps_of};
 
     /// The room of these settings: nobody is present, its moment is 0.
     pub fn new(alloc: Global, settings: &Settings) -> Result<Room, AllocError>
@@ -136,6 +84,7 @@ impl Room {
             quiet_until: 0,
             held: Table::new(alloc, settings)?,
             draft: Table::new(alloc, settings)?,
+            receptions: new_receptions(alloc, settings.endpoints())?,
         })
     }
 
@@ -148,7 +97,8 @@ impl Room {
 
     /// Whether the endpoint is present.
     pub fn is_present(&self, endpoint: u16) -> bool
-        ensures { result ≡ is_present_at self.now.endpoints endpoint }
+        ensures value { result ≡ is_present_at self.now.endpoints endpoint }
+        ensures known { IsTrue result → endpoint < length self.now.endpoints }
     {
         is_present_at(self.held.endpoints.as_slice(), usize::from(endpoint))
     }
@@ -232,8 +182,8 @@ impl Room {
         Ok(())
     }
 
-    /// A packet of this source was heard at the endpoint, which comes where it isn't present; those
-    /// overdue at this moment leave before.
+    /// A packet of this source was heard at the endpoint, which comes where it isn't present: its
+    /// reception begins anew. Those overdue at this moment leave before.
     ///
     /// Refused as `UnknownEndpoint`; as `WrongSsrc` where the source isn't the endpoint's; as `StaysSpent`
     /// where a stay that begins would get the number `MAX_STAY`; as `NoMemory`. Then nothing changed, the
@@ -298,11 +248,15 @@ impl Room {
         let mut draft = Draft::new(self.alloc);
         self.draft
             .redraft(&self.held, self.timeout_ms, moment, &mut draft);
+        let comes = !is_present_at(self.draft.endpoints.as_slice(), at);
         let endpoints = self.draft.endpoints.as_mut_slice();
         let legs = self.draft.legs.as_mut_slice();
         let next = arrive(endpoints, legs, at, moment, self.next, &mut draft)?;
         draft.append_to(orders)?;
         mem::swap(&mut self.held, &mut self.draft);
+        if comes {
+            self.receptions[at] = Reception::new();
+        }
         self.quiet_until = 0;
         self.next = next;
         self.moment = moment;
@@ -343,5 +297,53 @@ impl Room {
         self.next = next;
         self.moment = moment;
         Ok(())
+    }
+    /// A packet of the endpoint came, with this sequence number and timestamp, at the room's moment. Does
+    /// nothing where the endpoint is absent, or there is none of this number. The first
+    /// `COUNTED_PACKETS` of a presence count.
+    pub fn received(&mut self, endpoint: u16, seq: u16, timestamp: u32)
+        ensures { self.new ≡ with_packet self.old endpoint seq timestamp }
+    {
+        if self.is_present(endpoint) {
+            self.receptions[usize::from(endpoint)].received(self.moment, seq, timestamp);
+        }
+    }
+
+    /// A sender report of the endpoint came, with these NTP and RTP timestamps, at the room's moment. Does
+    /// nothing where the endpoint is absent, or there is none of this number.
+    pub fn sender_report(&mut self, endpoint: u16, ntp: u64, rtp: u32)
+        ensures { self.new ≡ with_report self.old endpoint ntp rtp }
+    {
+        if self.is_present(endpoint) {
+            self.receptions[usize::from(endpoint)].sender_report(self.moment, ntp, rtp);
+        }
+    }
+
+    /// The report block about the endpoint's source, at the room's moment (RFC 3550, section 6.4.1);
+    /// `None` exactly where no packet of it was received in its present presence, and then nothing
+    /// changes. The next block's interval begins where this one's ends.
+    pub fn block(&mut self, endpoint: u16) -> Option<Block>
+        ensures answer { IsAnswer (reception_at self.old endpoint) self.old.moment (source_at self.old.endpoints endpoint) result }
+        ensures none { IsNone result ↔ ((reception_at self.old endpoint).stream ≡ None) }
+        ensures kept { self.new ≡ with_block self.old endpoint }
+        ensures unchanged { IfNone result (self.new ≡ self.old) }
+    {
+        if !self.is_present(endpoint) {
+            return None;
+        }
+        let at = usize::from(endpoint);
+        let source = source_at(self.held.endpoints.as_slice(), at);
+        self.receptions[at].block(self.moment, source)
+    }
+
+    /// The NTP and RTP timestamps of the endpoint's last sender report since it came; `None` where none
+    /// came, or the endpoint is absent.
+    pub fn last_sr(&self, endpoint: u16) -> Option<(u64, u32)>
+        ensures { result ≡ timestamps_of (reception_at self.now endpoint).report }
+    {
+        if !self.is_present(endpoint) {
+            return None;
+        }
+        self.receptions[usize::from(endpoint)].last_sr()
     }
 }
