@@ -1,6 +1,7 @@
 pub mod CallLemmas
+pub mod EndedLemmas
 pub mod NumberLemmas
+pub mod ReceptionLemmas
 pub mod SettingsLemmas
 pub mod StandLemmas
 pub mod StayLemmas
-pub mod ReceptionLemmas

@@ -5,8 +5,8 @@ ghost use Rattle.std.specs.Prelude.{◌≡◌, ◌≢◌, All, ℕ, ◌<◌, Lis
 ghost use Rattle.members.specs.Presence.{is_present_at};
 ghost use Rattle.members.specs.Settings.{Configuration, IsInRange};
 ghost use Rattle.members.specs.Room.{new_room};
-ghost use Rattle.members.specs.Calls.{Call, room_after, orders_after, accepted, greatest_moment, is_present_after, arrivals, RiseWithin, StandsByPresence};
-ghost use Rattle.std.specs.Prelude.{Option, ◌∷◌};
+ghost use Rattle.members.specs.Calls.{Call, room_after, orders_after, accepted, greatest_moment, is_present_after, arrivals, departures, RiseWithin, StandsByPresence, StandsNowhere};
+ghost use Rattle.std.specs.Prelude.{Option, ◌∷◌, ◌++◌};
 ghost use Rattle.tmmbr_tuple.specs.declared.ssrc.Ssrc.{Ssrc};
 ghost use Rattle.members.specs.Reception.{Block, Call as ReceptionCall, Packet, reception_of, IsBlockAfter, IsHighest, greatest_number};
 ghost use Rattle.members.specs.Stream.{heard_after, IsAnswer};
@@ -28,6 +28,12 @@ pub fn present_by_last_hears()
 pub fn stays_rise()
     ensures { (s : Configuration) (calls : List Call)
         → RiseWithin 1 (arrivals (orders_after (new_room s) calls)) (room_after (new_room s) calls).next }
+{}
+
+/// A stay that ended never stands again: no leg has its number after any further calls.
+pub fn ended_stays_never_stand()
+    ensures { (s : Configuration) (before after : List Call)
+        → All (StandsNowhere (room_after (new_room s) (before ++ after)).legs) (departures (orders_after (new_room s) before)) }
 {}
 
 /// After any calls of a new room the stay of each leg stands exactly while its subscriber and its
