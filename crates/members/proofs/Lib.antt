@@ -1,6 +1,7 @@
 pub mod CallLemmas
 pub mod EndedLemmas
 pub mod NumberLemmas
+pub mod ReceivedLemmas
 pub mod ReceptionLemmas
 pub mod SettingsLemmas
 pub mod StandLemmas
