@@ -70,8 +70,12 @@ moved : (n e k : ℕ) (ls : List LegStay) → 1 ≤ n
 unfolding standing times
 moved n e k [] least = refl
 moved n e k (l ∷ ls) least =
-    omega (arith, ends-append n (ending_of e (k, l)) (flat_map (ending_of e) (enumerate_from (k + 1) ls)),
-    moved_one n e k l least, moved n e (k + 1) ls least)
+    omega (
+      arith,
+      ends-append n (ending_of e (k, l)) (flat_map (ending_of e) (enumerate_from (k + 1) ls)),
+      moved_one n e k l least,
+      moved n e (k + 1) ls least,
+    )
 
 -- no stay of number 0 ends
 real_one : (e k : ℕ) (l : LegStay) → times 0 (departures (ending_of e (k, l))) ≡ 0
@@ -127,7 +131,7 @@ begun_standing n begins next (l ∷ ls) =
     first true is more none h = let same : next ≡ n = grind (arith, nat_tests) in omega (arith, h.before (omega arith))
     first false is more none h =
         let apart : ¬ (next ≡ n) = λ same. absurd (grind (arith, nat_tests)) in
-        let above : next + 1 ≤ n = elim (cases_lt next n) [ | inl less ↦ omega arith | inr most ↦ absurd (apart (omega arith)) ] in
+        let above : next + 1 ≤ n = elim (cases_lt next n) [ inl less ↦ omega arith | inr most ↦ absurd (apart (omega arith)) ] in
         omega (arith, h.once above none)
 
     step : (b : Bool) → Begun n (next + 1) (count_by begins ls) (standing n ls) (standing n (begun begins (next + 1) ls))

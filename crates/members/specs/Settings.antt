@@ -7,7 +7,7 @@ use Rattle.tmmbr_tuple.specs.declared.ssrc.Ssrc.{Ssrc}
 use Rattle.members.specs.declared.parts.Parts.{Parts}
 use Rattle.members.specs.declared.parts.LegParts.{LegParts}
 use Rattle.members.specs.declared.settings.LegSettings.{LegSettings}
-use Rattle.members.specs.declared.settings.Numbers.{Numbers}
+use Rattle.members.specs.declared.checks.Numbers.{Numbers}
 use Rattle.members.specs.declared.settings.TheConstants.{MAX_ENDPOINTS, MAX_LEGS, MAX_WORKERS, MAX_RING, LEAST_HISTORY, MAX_HISTORY, MAX_PERIOD_MS, MAX_CNAME, SSRCS, SEQS}
 use Rattle.members.specs.declared.fault.SettingsFault.{SettingsFault}
 use Rattle.members.specs.declared.fault.SettingsFault.TheVariants.{Top, Endpoint, Leg, SameSsrc}

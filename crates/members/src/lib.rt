@@ -5,6 +5,7 @@
 //! handed its moment.
 #![tactic(auto)]
 
+mod checks;
 mod fault;
 pub mod laws;
 mod order;
@@ -27,6 +28,10 @@ pub use stays::MAX_STAY;
 pub use stream::COUNTED_PACKETS;
 
 #[cfg(test)]
+mod memory_tests;
+#[cfg(test)]
 mod reception_tests;
 #[cfg(test)]
-mod tests;
+mod room_tests;
+#[cfg(test)]
+mod settings_tests;

@@ -1,7 +1,7 @@
 use Rattle.std.proofs.Common.{sym, arith}
 use Rattle.std.proofs.lemmas.Result.{err_from_is_err_and}
 use Rattle.members.proofs.SettingsLemmas.{top_fails, endpoints_fail, legs_fail, sources_fail, all_pass, endpoint_bounds, leg_bound}
-use Rattle.members.proofs.settings.checked.Goals as goal
+use Rattle.members.proofs.checks.checked.Goals as goal
 
 pub returns-in_err-numbers : goal.returns-in_err-numbers
 returns-in_err-numbers c =

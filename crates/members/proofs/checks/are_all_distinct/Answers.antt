@@ -2,7 +2,7 @@ use Rattle.std.proofs.Common.{◌<◌, ◌≤◌, length, arith, ◌∙◌, sym,
 use Rattle.members.specs.Settings.{sources, are_distinct}
 use Rattle.std.proofs.lemmas.List.{drop_all}
 use Rattle.members.proofs.SettingsLemmas.{length-sources, distinct_more, distinct_fails}
-use Rattle.members.proofs.settings.are_all_distinct.Goals as goal
+use Rattle.members.proofs.checks.are_all_distinct.Goals as goal
 
 pub loop-place-preserved : goal.loop-place-preserved
 loop-place-preserved c =

@@ -4,7 +4,7 @@ use Rattle.std.specs.List.{list_any}
 use Rattle.std.specs.Prelude.{◌==◌}
 use Rattle.members.specs.Settings.{sources}
 use Rattle.members.proofs.SettingsLemmas.{length-sources, any_more, any_here}
-use Rattle.members.proofs.settings.is_single.Goals as goal
+use Rattle.members.proofs.checks.is_single.Goals as goal
 
 pub loop-other-preserved : goal.loop-other-preserved
 loop-other-preserved c =

@@ -3,7 +3,7 @@ use Rattle.members.specs.Settings.{sources, number_or_zero}
 use Rattle.members.specs.declared.settings.TheConstants.{SSRCS}
 use Rattle.members.specs.declared.parts.LegParts.{LegParts}
 use Rattle.members.proofs.SettingsLemmas.{source_unit, source_endpoint, source_leg}
-use Rattle.members.proofs.settings.source_at.Goals as goal
+use Rattle.members.proofs.checks.source_at.Goals as goal
 
 pub returns-then-place-eq0 : goal.returns-then-place-eq0
 returns-then-place-eq0 c = rw c.if-place-eq0.true (c.number_or_none.ensures.value ∙ sym (source_unit c.args.parts.now))

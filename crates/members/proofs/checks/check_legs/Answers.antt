@@ -2,7 +2,7 @@ use Rattle.std.proofs.Common.{◌<◌, length, arith, ◌∙◌}
 use Rattle.std.proofs.lemmas.Result.{err_from_is_err_and}
 use Rattle.members.specs.Settings.{leg_checks}
 use Rattle.members.proofs.SettingsLemmas.{checks_more, checks_here}
-use Rattle.members.proofs.settings.check_legs.Goals as goal
+use Rattle.members.proofs.checks.check_legs.Goals as goal
 
 pub loop-k-preserved : goal.loop-k-preserved
 loop-k-preserved c =
