@@ -1,20 +1,18 @@
 -- From one call to every list of calls.
-use Rattle.std.proofs.Common.{◌≡◌, ℕ, zero, suc, ◌+◌, ◌-◌, ◌<◌, ◌≤◌, List, [], ◌∷◌, ◌++◌, length, get_or, set, map, refl, sym, ap, subst, ◌∙◌, arith, add-one, append_assoc, Some, None, Ok, Err, Result, Bool, true, false, cond, length-set, inl, inr}
-use Rattle.std.specs.Prelude.{◌==◌, flat_map, not, Option, ◌&&◌, ◌||◌, slice_get, nat_le, nat_lt, max, is_some, count_by, option_and_then, if◌then◌else◌}
+use Rattle.std.proofs.Common.{◌≡◌, ℕ, zero, suc, ◌+◌, ◌<◌, ◌≤◌, List, [], ◌∷◌, ◌++◌, length, set, map, refl, sym, ap, subst, ◌∙◌, arith, Some, None, Ok, Err, Result, Bool, true, false, cond, length-set, inl, inr}
+use Rattle.std.specs.Prelude.{◌==◌, not, Option, ◌&&◌, slice_get, nat_le, nat_lt, max, is_some, option_and_then, if◌then◌else◌}
 use Rattle.std.specs.Option.{option_map_or}
 use Rattle.std.proofs.lemmas.Bool.Decides.{nat_tests}
 use Rattle.std.proofs.lemmas.Bool.{cases_lt}
 use Rattle.std.proofs.lemmas.List.{length-map}
-use Rattle.members.specs.declared.order.Order.{Order}
 use Rattle.members.specs.declared.fault.RoomFault.{RoomFault}
 use Rattle.members.specs.declared.presence.Endpoint.{Endpoint}
-use Rattle.members.specs.declared.stays.LegStay.{LegStay}
 use Rattle.members.specs.declared.stays.TheConstants.{MAX_STAY}
-use Rattle.members.specs.Presence.{is_overdue, is_overdue_at, is_present_at, source_at, with_heard}
-use Rattle.members.specs.Stays.{Told, told, leave, leave_if_overdue, left, leaving, coming_count}
+use Rattle.members.specs.Presence.{is_overdue_at, is_present_at, source_at, with_heard}
+use Rattle.members.specs.Stays.{Told, told, leave, left, leaving, coming_count}
 use Rattle.tmmbr_tuple.specs.declared.ssrc.Ssrc.{Ssrc}
 use Rattle.members.specs.Settings.{Configuration}
-use Rattle.members.specs.Room.{RoomState, Step, step_with, after_leaving, gone, heard_again, heard_step, hear_step, bye_step, tick_step, select_step, selected_step, leg_at, is_selected, takes_turn, absent, new_room}
+use Rattle.members.specs.Room.{RoomState, Step, step_with, after_leaving, leg_at, is_selected, takes_turn, absent, new_room}
 use Rattle.members.specs.Calls.{Call, Hear, Bye, Tick, Select, Receive, Report, MakeBlock, step_of, room_of, if_accepted, room_after, accepted, moment_of, greatest_moment, heard_by, last_heard, is_recent, is_present_after}
 
 -- ---- when an endpoint was heard

@@ -7,7 +7,7 @@ use Rattle.std.proofs.lemmas.Bool.{cases_lt}
 use Rattle.std.proofs.lemmas.List.Elements.{All-nil, All-cons}
 use Rattle.std.proofs.lemmas.List.Sums.{sum_by-cons}
 use Rattle.members.specs.declared.order.Order.{Order}
-use Rattle.members.specs.declared.order.Order.TheVariants.{Arrive, Depart, Route}
+use Rattle.members.specs.declared.order.Order.TheVariants.{Route}
 use Rattle.members.specs.declared.fault.RoomFault.{RoomFault}
 use Rattle.members.specs.declared.presence.Endpoint.{Endpoint}
 use Rattle.members.specs.declared.stays.LegStay.{LegStay}

@@ -13,8 +13,8 @@ use Rattle.members.specs.Stays.{Told, leave, coming_count}
 use Rattle.members.specs.Stream.{nothing_heard, heard_packet, heard_report, heard_block, IsAnswer}
 use Rattle.members.specs.Reception.{Block, Heard, Call as ReceptionCall, Received, SenderReported, BlockMade, reception_of, IsBlockAfter}
 use Rattle.members.specs.Room.{RoomState, Step, after_leaving, gone, leg_at, is_selected, takes_turn, reception_at, with_reception, new_room}
-use Rattle.members.specs.Calls.{Call, Hear, Bye, Tick, Select, Receive, Report, MakeBlock, step_of, room_of, if_accepted, room_after, accepted, moment_of, heard_by, is_recent, is_present_after, received_by, received_since, received_in_presence}
-use Rattle.members.proofs.CallLemmas.{heard_at, present_heard, lapsed, fresh, is_some-fresh, leaving_count, leaving_lapsed, leaving_heard, Keeps, IfKeeps, keeps, Before, before_new, presence_law}
+use Rattle.members.specs.Calls.{Call, Hear, Bye, Tick, Select, Receive, Report, MakeBlock, step_of, room_of, if_accepted, room_after, accepted, moment_of, heard_by, is_recent, received_by, received_since, received_in_presence}
+use Rattle.members.proofs.CallLemmas.{heard_at, present_heard, lapsed, is_some-fresh, leaving_count, leaving_lapsed, leaving_heard, IfKeeps, keeps, Before, before_new, presence_law}
 use Rattle.members.proofs.StandLemmas.{absent_now, other_now, equal_of}
 use Rattle.members.proofs.ReceptionLemmas.{one_more, heard_after-is, answers_by}
 

@@ -1,6 +1,6 @@
 -- Which stays stand.
-use Rattle.std.proofs.Common.{◌≡◌, ℕ, zero, suc, ◌+◌, ◌<◌, ◌≤◌, List, [], ◌∷◌, length, get_or, set, map, refl, sym, ap, subst, ◌∙◌, arith, Ok, Err, Result, Some, None, Bool, true, false, cond}
-use Rattle.std.specs.Prelude.{◌==◌, ◌≢◌, not, ◌&&◌, ◌||◌, nat_le, nat_lt, max, is_some, count_by, All, Option}
+use Rattle.std.proofs.Common.{◌≡◌, ℕ, zero, suc, ◌+◌, ◌<◌, ◌≤◌, List, [], ◌∷◌, length, get_or, set, map, refl, sym, ◌∙◌, arith, Ok, Err, Result, Some, None, Bool, true, false, cond}
+use Rattle.std.specs.Prelude.{◌==◌, ◌≢◌, not, ◌&&◌, ◌||◌, nat_le, nat_lt, max, All}
 use Rattle.std.proofs.lemmas.Bool.Decides.{nat_tests}
 use Rattle.std.proofs.lemmas.List.{length-map}
 use Rattle.std.proofs.lemmas.List.Elements.{All-nil, All-cons, All-tail, All-map, All-set, All-weaker}

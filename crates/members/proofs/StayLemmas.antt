@@ -1,16 +1,14 @@
 -- Orders one after another, legs one after another, endpoints one after another.
-use Rattle.std.proofs.Common.{◌≡◌, ℕ, zero, suc, ◌+◌, ◌-◌, ◌<◌, ◌≤◌, List, [], ◌∷◌, ◌++◌, length, take, drop, get_or, set, map, refl, sym, ap, subst, ◌∙◌, arith, add-one, append_assoc, Some, None, Bool, true, false, cond}
-use Rattle.std.specs.Prelude.{◌==◌, flat_map, not, Option, ◌&&◌, ◌||◌, All, slice_get, nat_le, nat_lt, IsSomeAnd, count_by}
+use Rattle.std.proofs.Common.{◌≡◌, ℕ, zero, suc, ◌+◌, ◌<◌, ◌≤◌, List, [], ◌∷◌, ◌++◌, length, take, drop, get_or, set, refl, sym, ap, ◌∙◌, arith, add-one, append_assoc, Some, None, true, false}
+use Rattle.std.specs.Prelude.{flat_map, Option, All, IsSomeAnd}
 use Rattle.std.specs.List.{enumerate_from}
-use Rattle.std.proofs.lemmas.Bool.Decides.{nat_tests}
-use Rattle.std.proofs.lemmas.List.{drop_more, drop_all, take_all, take_more, take_more_set, drop-set-lt, append-nil}
+use Rattle.std.proofs.lemmas.List.{drop_more, take_all, take_more, take_more_set, append-nil}
 use Rattle.std.proofs.lemmas.List.Elements.{All-push}
-use Rattle.std.proofs.lemmas.Option.{slice_get-get_or}
 use Rattle.members.specs.declared.order.Order.{Order}
 use Rattle.members.specs.declared.presence.Endpoint.{Endpoint}
 use Rattle.members.specs.declared.stays.LegStay.{LegStay}
-use Rattle.members.specs.Presence.{is_overdue, is_overdue_at, is_present_at, source_at, with_heard}
-use Rattle.members.specs.Stays.{Told, told, leaving, told_more, Tells, leave, leave_if_overdue, left, turn_from, beginning, beginnings, begun}
+use Rattle.members.specs.Presence.{is_overdue, is_overdue_at}
+use Rattle.members.specs.Stays.{Told, told, leaving, told_more, Tells, leave, leave_if_overdue, left}
 
 -- ---- drafts
 

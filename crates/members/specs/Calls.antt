@@ -1,5 +1,5 @@
 -- Calls of a room one after another, and what the whole list of them says of who is present and what was received.
-use Rattle.std.specs.Prelude.{◌≡◌, ◌≢◌, ◌==◌, not, All, ◌&&◌, ℕ, ◌+◌, ◌<◌, ◌≤◌, nat_lt, max, Bool, false, List, [], ◌∷◌, ◌++◌, flat_map, Option, None, Some, Result, Ok, Err, if◌then◌else◌}
+use Rattle.std.specs.Prelude.{◌≡◌, ◌≢◌, ◌==◌, not, All, ◌&&◌, ℕ, ◌+◌, ◌≤◌, nat_lt, max, Bool, false, List, [], ◌∷◌, ◌++◌, flat_map, Option, None, Some, Result, Ok, Err, if◌then◌else◌}
 use Rattle.std.specs.Option.{option_map_or}
 use Rattle.members.specs.declared.order.Order.{Order}
 use Rattle.members.specs.declared.order.Order.TheVariants.{Arrive, Depart, Route}

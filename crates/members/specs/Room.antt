@@ -1,5 +1,5 @@
 -- What a room holds, and what each call does.
-use Rattle.std.specs.Prelude.{◌==◌, ℕ, ◌+◌, nat_lt, nat_le, max, Bool, true, false, not, List, [], ◌∷◌, ◌++◌, length, map, slice_index_or, slice_set, ◌&&◌, Option, None, Some, Result, Ok, Err, if◌then◌else◌}
+use Rattle.std.specs.Prelude.{◌==◌, ℕ, ◌+◌, nat_lt, nat_le, max, Bool, false, not, List, [], ◌∷◌, ◌++◌, length, map, slice_index_or, slice_set, ◌&&◌, None, Some, Result, Ok, Err, if◌then◌else◌}
 use Rattle.tmmbr_tuple.specs.declared.ssrc.Ssrc.{Ssrc}
 use Rattle.members.specs.declared.order.Order.{Order}
 use Rattle.members.specs.declared.order.Order.TheVariants.{Route}

@@ -1,8 +1,7 @@
 -- What settings may hold: a list of checks in order, and what passes them all.
-use Rattle.std.specs.Prelude.{◌≡◌, ◌≢◌, ◌==◌, ℕ, ◌+◌, ◌-◌, ◌^◌, ◌<◌, ◌≤◌, nat_lt, nat_le, Bool, true, false, not, ◌&&◌, List, [], ◌∷◌, ◌++◌, map, length, take, find, flat_map, All, Option, None, Some, is_some, unwrap_or, option_map, String, string_bytes, if◌then◌else◌, ℤ, pos, negsuc}
+use Rattle.std.specs.Prelude.{◌≡◌, ◌≢◌, ◌==◌, ℕ, ◌<◌, ◌≤◌, nat_lt, nat_le, Bool, true, false, not, ◌&&◌, List, [], ◌∷◌, ◌++◌, map, length, take, flat_map, All, Option, None, Some, is_some, unwrap_or, String, string_bytes, if◌then◌else◌, ℤ, pos, negsuc}
 use Rattle.std.specs.Global.{Global}
 use Rattle.std.specs.List.{list_all, list_any, enumerate_from}
-use Rattle.std.specs.Option.{option_map_or}
 use Rattle.tmmbr_tuple.specs.declared.ssrc.Ssrc.{Ssrc}
 use Rattle.members.specs.declared.parts.Parts.{Parts}
 use Rattle.members.specs.declared.parts.LegParts.{LegParts}

@@ -1,5 +1,5 @@
-use Rattle.std.proofs.Common.{◌≡◌, ◌+◌, ◌-◌, ◌<◌, ◌≤◌, suc, length, arith, ◌∙◌, sym, ap, refl, get_or}
-use Rattle.members.specs.Settings.{sources, number_or_zero}
+use Rattle.std.proofs.Common.{◌≡◌, ◌+◌, ◌-◌, ◌<◌, ◌≤◌, suc, length, arith, ◌∙◌, sym, ap, get_or}
+use Rattle.members.specs.Settings.{number_or_zero}
 use Rattle.members.specs.declared.settings.TheConstants.{SSRCS}
 use Rattle.members.specs.declared.parts.LegParts.{LegParts}
 use Rattle.members.proofs.SettingsLemmas.{source_unit, source_endpoint, source_leg}
