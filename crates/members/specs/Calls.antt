@@ -7,7 +7,7 @@ use Rattle.members.specs.declared.fault.RoomFault.{RoomFault}
 use Rattle.members.specs.declared.presence.Endpoint.{Endpoint}
 use Rattle.members.specs.declared.stays.LegStay.{LegStay}
 use Rattle.members.specs.Presence.{is_present_at}
-use Rattle.members.specs.Room.{RoomState, Step, tick_step, bye_step, hear_step, select_step, with_packet, with_report, with_block}
+use Rattle.members.specs.Room.{RoomState, Step, tick_step, bye_step, hear_step, select_step, after_packet, after_report, after_block}
 use Rattle.members.specs.Reception.{Call as ReceptionCall, Received, SenderReported, BlockMade}
 
 pub data Call : Type 0 where
@@ -31,9 +31,9 @@ step_of r (Hear moment endpoint ssrc) = hear_step r moment endpoint ssrc
 step_of r (Bye moment endpoint) = bye_step r moment endpoint
 step_of r (Tick moment) = Ok (tick_step r moment)
 step_of r (Select moment leg on) = select_step r moment leg on
-step_of r (Receive endpoint seq timestamp) = quietly (with_packet r endpoint seq timestamp)
-step_of r (Report endpoint ntp rtp) = quietly (with_report r endpoint ntp rtp)
-step_of r (MakeBlock endpoint) = quietly (with_block r endpoint)
+step_of r (Receive endpoint seq timestamp) = quietly (after_packet r endpoint seq timestamp)
+step_of r (Report endpoint ntp rtp) = quietly (after_report r endpoint ntp rtp)
+step_of r (MakeBlock endpoint) = quietly (after_block r endpoint)
 
 -- a refused call changes nothing, and tells nothing
 abbrev pub room_of : RoomState → Result Step RoomFault → RoomState

@@ -136,17 +136,17 @@ with_reception r endpoint h = record r {
 }
 
 -- a packet of the endpoint came at the room's moment
-abbrev pub with_packet : RoomState → ℕ → ℕ → ℕ → RoomState
-with_packet r endpoint seq timestamp =
+abbrev pub after_packet : RoomState → ℕ → ℕ → ℕ → RoomState
+after_packet r endpoint seq timestamp =
     with_reception r endpoint (heard_packet (reception_at r endpoint) r.moment seq timestamp)
 
 -- a sender report of the endpoint came at the room's moment
-abbrev pub with_report : RoomState → ℕ → ℕ → ℕ → RoomState
-with_report r endpoint ntp rtp = with_reception r endpoint (heard_report (reception_at r endpoint) r.moment ntp rtp)
+abbrev pub after_report : RoomState → ℕ → ℕ → ℕ → RoomState
+after_report r endpoint ntp rtp = with_reception r endpoint (heard_report (reception_at r endpoint) r.moment ntp rtp)
 
 -- a block about the endpoint was made
-abbrev pub with_block : RoomState → ℕ → RoomState
-with_block r endpoint = with_reception r endpoint (heard_block (reception_at r endpoint))
+abbrev pub after_block : RoomState → ℕ → RoomState
+after_block r endpoint = with_reception r endpoint (heard_block (reception_at r endpoint))
 
 -- ---- a new room
 

@@ -1,4 +1,4 @@
-//! A room: who is present, and which stays stand.
+//! A room: who is present, which stays stand, and what was received of whom.
 
 ghost use Rattle.std.specs.Prelude.{◌≡◌, map, IfOk};
 ghost use Rattle.members.specs.Stays.{told, leaving};
@@ -17,12 +17,15 @@ use std::marker::Model;
 use std::mem;
 use tmmbr_tuple::Ssrc;
 
-/// Who is present, and which stays stand.
+/// Who is present, which stays stand, and what was received of whom.
 ///
 /// An endpoint is present from a packet of it that is heard until a goodbye, or until nothing was heard
 /// of it for the timeout. A leg's stay begins when its subscriber and its publisher are both present,
-/// and ends when either leaves. Each call first lets those leave that are overdue at its moment; the
-/// room's moment is the greatest that it was handed.
+/// and ends when either leaves. Each call that is handed a moment first lets those leave that are overdue
+/// at it; the room's moment is the greatest that it was handed.
+///
+/// What is received of an endpoint while it is present is counted at the room's moment, anew whenever it
+/// comes.
 #[derive(Debug, Drop)]
 pub struct Room {
     alloc: Global,
@@ -69,7 +72,7 @@ impl Room {
     ghost use Rattle.std.specs.Prelude.{◌≡◌, ◌<◌, ◌++◌, ◌↔◌, IsTrue, IsNone, IfNone, Ok, Err, IfOk, IfErr, OnOk, OnErr, length};
     ghost use Rattle.members.specs.Presence.{is_present_at, source_at};
     ghost use Rattle.members.specs.Room.{new_room, tick_step, bye_step, hear_step, heard_step, select_step, after_leaving, leg_at};
-    ghost use Rattle.members.specs.Room.{reception_at, with_packet, with_report, with_block};
+    ghost use Rattle.members.specs.Room.{reception_at, after_packet, after_report, after_block};
     ghost use Rattle.members.specs.Stream.{IsAnswer, timestamps_of};
 
     /// The room of these settings: nobody is present, its moment is 0.
@@ -302,7 +305,7 @@ impl Room {
     /// nothing where the endpoint is absent, or there is none of this number. The first
     /// `COUNTED_PACKETS` of a presence count.
     pub fn received(&mut self, endpoint: u16, seq: u16, timestamp: u32)
-        ensures { self.new ≡ with_packet self.old endpoint seq timestamp }
+        ensures { self.new ≡ after_packet self.old endpoint seq timestamp }
     {
         if self.is_present(endpoint) {
             self.receptions[usize::from(endpoint)].received(self.moment, seq, timestamp);
@@ -312,7 +315,7 @@ impl Room {
     /// A sender report of the endpoint came, with these NTP and RTP timestamps, at the room's moment. Does
     /// nothing where the endpoint is absent, or there is none of this number.
     pub fn sender_report(&mut self, endpoint: u16, ntp: u64, rtp: u32)
-        ensures { self.new ≡ with_report self.old endpoint ntp rtp }
+        ensures { self.new ≡ after_report self.old endpoint ntp rtp }
     {
         if self.is_present(endpoint) {
             self.receptions[usize::from(endpoint)].sender_report(self.moment, ntp, rtp);
@@ -325,7 +328,7 @@ impl Room {
     pub fn block(&mut self, endpoint: u16) -> Option<Block>
         ensures answer { IsAnswer (reception_at self.old endpoint) self.old.moment (source_at self.old.endpoints endpoint) result }
         ensures none { IsNone result ↔ ((reception_at self.old endpoint).stream ≡ None) }
-        ensures kept { self.new ≡ with_block self.old endpoint }
+        ensures kept { self.new ≡ after_block self.old endpoint }
         ensures unchanged { IfNone result (self.new ≡ self.old) }
     {
         if !self.is_present(endpoint) {
