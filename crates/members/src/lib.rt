@@ -1,8 +1,8 @@
 //! Who is there: the settings of a room, which endpoints are present in it, and the stays of its legs
-//! (RFC 7667, section 3.7); and what was received of a publisher (RFC 3550, section 6.4.1).
+//! (RFC 7667, section 3.7); and what was received of each endpoint (RFC 3550, section 6.4.1).
 //!
-//! Read `settings` first, then `room`; `reception` stands by itself. Nothing reads a clock: each call is
-//! handed its moment.
+//! Read `settings` first, then `room`; `reception` stands by itself. Nothing reads a clock: calls are handed
+//! their moment.
 #![tactic(auto)]
 
 mod checks;

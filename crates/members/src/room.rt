@@ -6,7 +6,7 @@ ghost use Rattle.members.specs.Stream.{nothing_heard};
 
 use crate::fault::RoomFault;
 use crate::order::{Draft, Order};
-use crate::presence::{first_overdue, is_present_at, mark, source_at};
+use crate::presence::{LAST_MOMENT, first_overdue, is_present_at, mark, source_at};
 use crate::reception::Reception;
 use crate::settings::Settings;
 use crate::stays::{arrive, leave_present, select_leg};
@@ -69,8 +69,8 @@ impl Model for Room {
 }
 
 impl Room {
-    ghost use Rattle.std.specs.Prelude.{◌≡◌, ◌<◌, ◌++◌, ◌↔◌, IsTrue, IsNone, IfNone, Ok, Err, IfOk, IfErr, OnOk, OnErr, length};
-    ghost use Rattle.members.specs.Presence.{is_present_at, source_at};
+    ghost use Rattle.std.specs.Prelude.{◌≡◌, ◌<◌, ◌++◌, ◌↔◌, max, true, IsTrue, IsOk, IsNone, IfNone, Ok, Err, IfOk, IfErr, OnOk, OnErr, length};
+    ghost use Rattle.members.specs.Presence.{NobodyOverdue, is_present_at, source_at};
     ghost use Rattle.members.specs.Room.{new_room, tick_step, bye_step, hear_step, heard_step, select_step, after_leaving, leg_at};
     ghost use Rattle.members.specs.Room.{reception_at, after_packet, after_report, after_block};
     ghost use Rattle.members.specs.Stream.{IsAnswer, timestamps_of};
@@ -116,25 +116,30 @@ impl Room {
         }
     }
 
-    /// Whether no endpoint is overdue at this moment. Goes over the endpoints only where the moment
-    /// was reached from which one may be.
+    /// Whether no endpoint is overdue at this moment, and the moment isn't the last of all. Goes over the
+    /// endpoints only where the moment was reached from which one may be.
     fn is_quiet(&mut self, moment: u64) -> bool
         ensures same { self.new ≡ self.old }
         ensures quiet { IsTrue result
             → leaving self.old.timeout moment self.old.endpoints self.old.legs ≡ told self.old.endpoints self.old.legs }
+        ensures finds { NobodyOverdue self.old.timeout moment self.old.endpoints → moment < LAST_MOMENT → IsTrue result }
     {
-        if moment >= self.quiet_until {
-            self.quiet_until = first_overdue(self.held.endpoints.as_slice(), self.timeout_ms);
+        if moment < self.quiet_until {
+            return true;
         }
+        self.quiet_until = first_overdue(self.held.endpoints.as_slice(), self.timeout_ms);
         moment < self.quiet_until
     }
 
     /// Lets every endpoint leave that is overdue at this moment. Refused only for want of memory; then
-    /// nothing changed, the orders and the moment included.
+    /// nothing changed, the orders and the moment included. Where nobody is overdue it takes none and isn't
+    /// refused, unless the moment is the last of all.
     pub fn tick(&mut self, moment: u64, orders: &mut Vec<Order>) -> Result<(), AllocError>
         ensures ok { OnOk result ((self.new ≡ (tick_step self.old moment).room)
             × (orders.new.items ≡ orders.old.items ++ (tick_step self.old moment).orders)) }
         ensures unchanged { OnErr result ((self.new ≡ self.old) × (orders.new.items ≡ orders.old.items)) }
+        ensures calm { NobodyOverdue self.old.timeout (max self.old.moment moment) self.old.endpoints
+            → max self.old.moment moment < LAST_MOMENT → IsOk result }
     {
         let moment = self.moment.max(moment);
         if self.is_quiet(moment) {
@@ -190,7 +195,8 @@ impl Room {
     ///
     /// Refused as `UnknownEndpoint`; as `WrongSsrc` where the source isn't the endpoint's; as `StaysSpent`
     /// where a stay that begins would get the number `MAX_STAY`; as `NoMemory`. Then nothing changed, the
-    /// orders and the moment included.
+    /// orders and the moment included. A present endpoint's own packet takes no memory and isn't refused
+    /// where nobody is overdue, unless the moment is the last of all.
     pub fn hear(
         &mut self,
         moment: u64,
@@ -203,6 +209,9 @@ impl Room {
         ensures refused { IfErr (hear_step self.old moment endpoint ssrc.0) (λ fault. result ≡ Err fault) }
         ensures no_memory { OnOk (hear_step self.old moment endpoint ssrc.0) (OnErr result (result ≡ Err RoomFault.NoMemory)) }
         ensures unchanged { OnErr result ((self.new ≡ self.old) × (orders.new.items ≡ orders.old.items)) }
+        ensures calm { (source_at self.old.endpoints endpoint).0 ≡ ssrc.0 → is_present_at self.old.endpoints endpoint ≡ true
+            → NobodyOverdue self.old.timeout (max self.old.moment moment) self.old.endpoints
+            → max self.old.moment moment < LAST_MOMENT → IsOk result }
     {
         let at = usize::from(endpoint);
         if at >= self.held.endpoints.len() {
@@ -228,6 +237,8 @@ impl Room {
         ensures refused { IfErr (heard_step self.old moment at (after_leaving self.old moment)) (λ fault. result ≡ Err fault) }
         ensures no_memory { OnOk (heard_step self.old moment at (after_leaving self.old moment)) (OnErr result (result ≡ Err RoomFault.NoMemory)) }
         ensures unchanged { OnErr result ((self.new ≡ self.old) × (orders.new.items ≡ orders.old.items)) }
+        ensures calm { is_present_at self.old.endpoints at ≡ true → NobodyOverdue self.old.timeout moment self.old.endpoints
+            → moment < LAST_MOMENT → IsOk result }
     {
         if !self.is_quiet(moment) || !is_present_at(self.held.endpoints.as_slice(), at) {
             return self.join(moment, at, orders);
