@@ -1,28 +1,26 @@
 -- From one call to every list of calls.
-use Rattle.std.proofs.Common.{◌≡◌, ℕ, zero, suc, ◌+◌, ◌-◌, ◌<◌, ◌≤◌, List, [], ◌∷◌, ◌++◌, length, get_or, set, map, refl, sym, ap, subst, ◌∙◌, arith, add-one, append_assoc, Some, None, Ok, Err, Result, Bool, true, false, cond, length-set, inl, inr}
-use Rattle.std.specs.Prelude.{◌==◌, flat_map, not, Option, ◌&&◌, ◌||◌, slice_get, nat_le, nat_lt, max, is_some, count_by, option_and_then, if◌then◌else◌}
+use Rattle.std.proofs.Common.{◌≡◌, ℕ, zero, suc, ◌+◌, ◌<◌, ◌≤◌, List, [], ◌∷◌, ◌++◌, length, set, map, refl, sym, ap, subst, ◌∙◌, arith, Some, None, Ok, Err, Result, Bool, true, false, cond, length-set, inl, inr}
+use Rattle.std.specs.Prelude.{◌==◌, not, Option, ◌&&◌, slice_get, nat_le, nat_lt, max, is_some, option_and_then, if◌then◌else◌}
 use Rattle.std.specs.Option.{option_map_or}
 use Rattle.std.proofs.lemmas.Bool.Decides.{nat_tests}
 use Rattle.std.proofs.lemmas.Bool.{cases_lt}
 use Rattle.std.proofs.lemmas.List.{length-map}
-use Rattle.members.specs.declared.order.Order.{Order}
 use Rattle.members.specs.declared.fault.RoomFault.{RoomFault}
 use Rattle.members.specs.declared.presence.Endpoint.{Endpoint}
-use Rattle.members.specs.declared.stays.LegStay.{LegStay}
 use Rattle.members.specs.declared.stays.TheConstants.{MAX_STAY}
-use Rattle.members.specs.Presence.{is_overdue, is_overdue_at, is_present_at, source_at, with_heard}
-use Rattle.members.specs.Stays.{Told, told, leave, leave_if_overdue, left, leaving, coming_count}
+use Rattle.members.specs.Presence.{is_overdue_at, is_present_at, source_at, with_heard}
+use Rattle.members.specs.Stays.{Told, told, leave, left, leaving, coming_count}
 use Rattle.tmmbr_tuple.specs.declared.ssrc.Ssrc.{Ssrc}
 use Rattle.members.specs.Settings.{Configuration}
-use Rattle.members.specs.Room.{RoomState, Step, step_with, after_leaving, gone, heard_again, heard_step, hear_step, bye_step, tick_step, select_step, selected_step, leg_at, is_selected, takes_turn, absent, new_room}
-use Rattle.members.specs.Calls.{Call, Hear, Bye, Tick, Select, step_of, room_of, if_accepted, room_after, accepted, moment_of, greatest_moment, heard_by, last_heard, is_recent, is_present_after}
+use Rattle.members.specs.Room.{RoomState, Step, step_with, after_leaving, leg_at, is_selected, takes_turn, absent, new_room}
+use Rattle.members.specs.Calls.{Call, Hear, Bye, Tick, Select, Receive, Report, MakeBlock, step_of, room_of, if_accepted, room_after, accepted, moment_of, greatest_moment, heard_by, last_heard, is_recent, is_present_after}
 
 -- ---- when an endpoint was heard
 
 abbrev pub heard_at : List Endpoint → ℕ → Option ℕ
 heard_at es k = option_and_then (λ (e : Endpoint). e.heard) (slice_get es k)
 
-abbrev overdue_of : ℕ → ℕ → Option ℕ → Bool
+abbrev pub overdue_of : ℕ → ℕ → Option ℕ → Bool
 overdue_of t m heard = option_map_or (λ h. nat_le (h + t) m) heard false
 
 overdue_heard : (t m : ℕ) (es : List Endpoint) (k : ℕ) → is_overdue_at t m es k ≡ overdue_of t m (heard_at es k)
@@ -50,7 +48,7 @@ heard_set_other (x ∷ es) (suc k) zero e other = refl
 heard_set_other (x ∷ es) (suc k) (suc j) e other = heard_set_other es k j e (λ same. other (ap suc same))
 
 -- once those overdue have left
-abbrev lapsed : ℕ → ℕ → Option ℕ → Option ℕ
+abbrev pub lapsed : ℕ → ℕ → Option ℕ → Option ℕ
 lapsed t m heard = if overdue_of t m heard then None else heard
 
 record LeftEndpoints (t m : ℕ) (s : Told) (n : ℕ) : Type 0 where
@@ -90,7 +88,7 @@ left_endpoints t m s (suc n) = step (is_overdue_at t m (left t m s n).endpoints 
 -- ---- what a room holds of a last hear
 
 -- the last hear, where it was less than the timeout ago
-abbrev fresh : ℕ → ℕ → Option ℕ → Option ℕ
+abbrev pub fresh : ℕ → ℕ → Option ℕ → Option ℕ
 fresh t m heard = if is_recent t m heard then heard else None
 
 lapsed-fresh : (t m later : ℕ) (heard : Option ℕ) → m ≤ later → lapsed t later (fresh t m heard) ≡ fresh t later heard
@@ -103,7 +101,7 @@ lapsed-fresh t m later (Some h) more = lapsing t m later h more
 fresh-now : (t m : ℕ) → 1 ≤ t → fresh t m (Some m) ≡ Some m
 fresh-now t m least = grind (arith, nat_tests)
 
-is_some-fresh : (t m : ℕ) (heard : Option ℕ) → is_some (fresh t m heard) ≡ is_recent t m heard
+pub is_some-fresh : (t m : ℕ) (heard : Option ℕ) → is_some (fresh t m heard) ≡ is_recent t m heard
 is_some-fresh t m None = refl
 is_some-fresh t m (Some h) = some_recent t m h
   where
@@ -111,13 +109,13 @@ is_some-fresh t m (Some h) = some_recent t m h
     some_recent t m h = grind (arith, nat_tests)
 
 -- what a call leaves of one endpoint, where the room held its last hear
-record Keeps (e : ℕ) (heard : Option ℕ) (r : RoomState) (c : Call) (step : Step) : Type 0 where
-  timeout : step.room.timeout ≡ r.timeout
-  moment : step.room.moment ≡ max r.moment (moment_of c)
-  count : length step.room.endpoints ≡ length r.endpoints
-  marks : heard_at step.room.endpoints e ≡ fresh r.timeout (max r.moment (moment_of c)) (heard_by e (max r.moment (moment_of c)) heard c)
+pub record Keeps (e : ℕ) (heard : Option ℕ) (r : RoomState) (c : Call) (step : Step) : Type 0 where
+  pub timeout : step.room.timeout ≡ r.timeout
+  pub moment : step.room.moment ≡ max r.moment (moment_of c)
+  pub count : length step.room.endpoints ≡ length r.endpoints
+  pub marks : heard_at step.room.endpoints e ≡ fresh r.timeout (max r.moment (moment_of c)) (heard_by e (max r.moment (moment_of c)) heard c)
 
-abbrev IfKeeps : ℕ → Option ℕ → RoomState → Call → Result Step RoomFault → Type 0
+abbrev pub IfKeeps : ℕ → Option ℕ → RoomState → Call → Result Step RoomFault → Type 0
 IfKeeps e heard r c (Ok step) = Keeps e heard r c step
 IfKeeps e heard r c (Err fault) = Unit {0}
 
@@ -131,12 +129,12 @@ pub leaving_count : (r : RoomState) (m : ℕ) → length (after_leaving r m).end
 unfolding leaving
 leaving_count r m = (left_endpoints r.timeout m (told r.endpoints r.legs) (length r.endpoints)).count
 
-leaving_lapsed : (r : RoomState) (m e : ℕ) → e < length r.endpoints
+pub leaving_lapsed : (r : RoomState) (m e : ℕ) → e < length r.endpoints
     → heard_at (after_leaving r m).endpoints e ≡ lapsed r.timeout m (heard_at r.endpoints e)
 unfolding leaving
 leaving_lapsed r m e inside = (left_endpoints r.timeout m (told r.endpoints r.legs) (length r.endpoints)).below e inside inside
 
-leaving_heard : (r : RoomState) (m e : ℕ) (heard : Option ℕ) → r.moment ≤ m → e < length r.endpoints
+pub leaving_heard : (r : RoomState) (m e : ℕ) (heard : Option ℕ) → r.moment ≤ m → e < length r.endpoints
     → heard_at r.endpoints e ≡ fresh r.timeout r.moment heard → heard_at (after_leaving r m).endpoints e ≡ fresh r.timeout m heard
 leaving_heard r m e heard later inside is =
     leaving_lapsed r m e inside ∙ (ap (lapsed r.timeout m) is ∙ lapsed-fresh r.timeout r.moment m heard later)
@@ -173,10 +171,10 @@ absent_heard r m other e heard later inside is absent = step (other == e) refl
         (sym (present_heard (after_leaving r m).endpoints e) ∙ (ap (is_present_at (after_leaving r m).endpoints) (sym equal) ∙ absent))
     step false apart = leaving_heard r m e heard later inside is
 
-record Before (e : ℕ) (heard : Option ℕ) (r : RoomState) : Type 0 where
-  least : 1 ≤ r.timeout
-  inside : e < length r.endpoints
-  is : heard_at r.endpoints e ≡ fresh r.timeout r.moment heard
+pub record Before (e : ℕ) (heard : Option ℕ) (r : RoomState) : Type 0 where
+  pub least : 1 ≤ r.timeout
+  pub inside : e < length r.endpoints
+  pub is : heard_at r.endpoints e ≡ fresh r.timeout r.moment heard
 
 keeps_tick : (e : ℕ) (heard : Option ℕ) (r : RoomState) (handed : ℕ) → Before e heard r → IfKeeps e heard r (Tick handed) (step_of r (Tick handed))
 keeps_tick e heard r handed b = record {
@@ -237,11 +235,20 @@ keeps_select e heard r handed number on b =
     (λ _. if_keeps e heard r (Select handed number on) (takes_turn on l && nat_le MAX_STAY r.next) _ _ (λ _. tt)
     (λ _. record { timeout = refl; moment = refl; count = count; marks = is })))
 
-keeps : (e : ℕ) (heard : Option ℕ) (r : RoomState) (c : Call) → Before e heard r → IfKeeps e heard r c (step_of r c)
+-- a call that changes receptions alone
+keeps_marks : (e : ℕ) (heard : Option ℕ) (r : RoomState) → Before e heard r → heard_at r.endpoints e ≡ fresh r.timeout (max r.moment 0) heard
+keeps_marks e heard r b =
+    let same : r.moment ≡ max r.moment 0 = omega arith in
+    subst (λ m. heard_at r.endpoints e ≡ fresh r.timeout m heard) same b.is
+
+pub keeps : (e : ℕ) (heard : Option ℕ) (r : RoomState) (c : Call) → Before e heard r → IfKeeps e heard r c (step_of r c)
 keeps e heard r (Hear handed other ssrc) b = keeps_hear e heard r handed other ssrc b
 keeps e heard r (Bye handed other) b = keeps_bye e heard r handed other b
 keeps e heard r (Tick handed) b = keeps_tick e heard r handed b
 keeps e heard r (Select handed number on) b = keeps_select e heard r handed number on b
+keeps e heard r (Receive other seq timestamp) b = record { timeout = refl; moment = omega arith; count = refl; marks = keeps_marks e heard r b }
+keeps e heard r (Report other ntp rtp) b = record { timeout = refl; moment = omega arith; count = refl; marks = keeps_marks e heard r b }
+keeps e heard r (MakeBlock other) b = record { timeout = refl; moment = omega arith; count = refl; marks = keeps_marks e heard r b }
 
 -- ---- every list of calls
 
@@ -282,7 +289,7 @@ absent_at [] e = refl
 absent_at (s ∷ ssrcs) zero = refl
 absent_at (s ∷ ssrcs) (suc e) = absent_at ssrcs e
 
-before_new : (s : Configuration) (e : ℕ) → 1 ≤ s.timeout_ms → e < length s.endpoints → Before e None (new_room s)
+pub before_new : (s : Configuration) (e : ℕ) → 1 ≤ s.timeout_ms → e < length s.endpoints → Before e None (new_room s)
 before_new s e least inside = record {
   least = least;
   inside = rw length-map inside;

@@ -1,6 +1,8 @@
 pub mod CallLemmas
+pub mod EndedLemmas
 pub mod NumberLemmas
+pub mod ReceivedLemmas
+pub mod ReceptionLemmas
 pub mod SettingsLemmas
 pub mod StandLemmas
 pub mod StayLemmas
-pub mod ReceptionLemmas

@@ -1,19 +1,19 @@
 -- The numbers of the stays that begin.
-use Rattle.std.proofs.Common.{◌≡◌, ℕ, zero, suc, ◌+◌, ◌<◌, ◌≤◌, List, [], ◌∷◌, ◌++◌, length, map, refl, sym, ap, subst, ◌∙◌, arith, append_assoc, Ok, Err, Result, Bool, true, false, cond}
+use Rattle.std.proofs.Common.{◌≡◌, ℕ, zero, suc, ◌+◌, ◌≤◌, List, [], ◌∷◌, ◌++◌, length, refl, sym, ap, subst, ◌∙◌, arith, append_assoc, Ok, Err, Result, Bool, true, false, cond}
 use Rattle.std.specs.Prelude.{◌==◌, flat_map, not, ◌&&◌, nat_le, nat_lt, max, count_by}
 use Rattle.std.specs.List.{enumerate_from}
 use Rattle.std.proofs.lemmas.List.Sums.{sum_by-cons}
 use Rattle.members.specs.declared.order.Order.{Order}
-use Rattle.members.specs.declared.order.Order.TheVariants.{Arrive, Depart, Route}
+use Rattle.members.specs.declared.order.Order.TheVariants.{Arrive, Route}
 use Rattle.members.specs.declared.fault.RoomFault.{RoomFault}
 use Rattle.members.specs.declared.presence.Endpoint.{Endpoint}
 use Rattle.members.specs.declared.stays.LegStay.{LegStay}
 use Rattle.members.specs.declared.stays.TheConstants.{MAX_STAY}
 use Rattle.members.specs.Presence.{is_overdue_at, is_present_at, source_at}
 use Rattle.members.specs.Settings.{Configuration}
-use Rattle.members.specs.Stays.{Told, told, leave, left, leaving, is_of, ending, ending_of, endings, begins_with, beginning, beginnings, coming_orders, coming_count, come}
-use Rattle.members.specs.Room.{RoomState, Step, step_with, after_leaving, gone, heard_again, leg_at, is_selected, takes_turn, row_order, switched, new_room}
-use Rattle.members.specs.Calls.{Call, Hear, Bye, Tick, Select, step_of, room_of, orders_of, room_after, orders_after, arrival_of, arrivals, RiseWithin}
+use Rattle.members.specs.Stays.{Told, told, leave, left, leaving, is_of, ending, ending_of, endings, begins_with, beginnings, coming_orders, coming_count}
+use Rattle.members.specs.Room.{RoomState, Step, after_leaving, gone, leg_at, is_selected, takes_turn, row_order, switched, new_room}
+use Rattle.members.specs.Calls.{Call, Hear, Bye, Tick, Select, Receive, Report, MakeBlock, step_of, room_of, orders_of, room_after, orders_after, arrival_of, arrivals, RiseWithin}
 
 arrivals-append : (xs ys : List Order) → arrivals (xs ++ ys) ≡ arrivals xs ++ arrivals ys
 arrivals-append [] ys = refl
@@ -134,6 +134,9 @@ draws r (Select handed number on) =
     least : (b : Bool) (n : ℕ) → n ≤ cond b (n + 1) n
     least true n = omega arith
     least false n = omega arith
+draws r (Receive e seq timestamp) = omega arith
+draws r (Report e ntp rtp) = omega arith
+draws r (MakeBlock e) = omega arith
 
 rise_after : (r : RoomState) (calls : List Call) → RiseWithin r.next (arrivals (orders_after r calls)) (room_after r calls).next
 rise_after r [] = omega arith

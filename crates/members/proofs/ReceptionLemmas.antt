@@ -195,17 +195,17 @@ heard_same s s' r r' a b =
     ap (λ x. h x r) a ∙ ap (h s') b
 
 -- what the calls come to, and one more call, is what all of them come to
-step : (calls : List Call) (c : Call) → heard_call (reception_of calls) c ≡ reception_of (calls ++ c ∷ [])
-step calls (Received p) = heard_same _ _ _ _ (stream_received calls p) (report-none calls (Received p) refl)
-step calls (SenderReported r) = heard_same _ _ _ _ (stream_reported calls r) (report-some calls r)
-step calls BlockMade = heard_same _ _ _ _ (stream_block calls) (report-none calls BlockMade refl)
+pub one_more : (calls : List Call) (c : Call) → heard_call (reception_of calls) c ≡ reception_of (calls ++ c ∷ [])
+one_more calls (Received p) = heard_same _ _ _ _ (stream_received calls p) (report-none calls (Received p) refl)
+one_more calls (SenderReported r) = heard_same _ _ _ _ (stream_reported calls r) (report-some calls r)
+one_more calls BlockMade = heard_same _ _ _ _ (stream_block calls) (report-none calls BlockMade refl)
 
 -- ---- a whole list
 
 after : (past calls : List Call) → fold heard_call (reception_of past) calls ≡ reception_of (past ++ calls)
 after past [] = ap reception_of (sym (append-nil past))
 after past (c ∷ calls) =
-    ap (λ h. fold heard_call h calls) (step past c)
+    ap (λ h. fold heard_call h calls) (one_more past c)
     ∙ (after (past ++ c ∷ []) calls ∙ ap reception_of (append_assoc past (c ∷ []) calls))
 
 pub heard_after-is : (calls : List Call) → heard_after calls ≡ reception_of calls

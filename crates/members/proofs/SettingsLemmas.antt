@@ -1,15 +1,15 @@
 -- Checks one after another.
-use Rattle.std.proofs.Common.{◌≡◌, ℕ, zero, suc, ◌+◌, ◌-◌, ◌<◌, ◌≤◌, List, [], ◌∷◌, ◌++◌, length, drop, get_or, refl, sym, ap, ◌∙◌, arith, length-append, append_assoc, Some, None, Bool, true, false, cond}
+use Rattle.std.proofs.Common.{◌≡◌, ℕ, suc, ◌+◌, ◌-◌, ◌<◌, ◌≤◌, List, [], ◌∷◌, ◌++◌, length, drop, get_or, refl, sym, ap, ◌∙◌, arith, length-append, append_assoc, Some, None, Bool, true, false, cond}
 use Rattle.std.specs.Prelude.{◌==◌, flat_map, not, Option, ◌&&◌, ◌||◌, map}
 use Rattle.std.specs.Prelude.{All}
 use Rattle.std.proofs.lemmas.List.Elements.{All-nil, All-cons}
 use Rattle.std.proofs.lemmas.Bool.Decides.{nat_tests}
 use Rattle.std.specs.List.{enumerate_from, list_any}
-use Rattle.std.proofs.lemmas.List.{drop_more, drop_all, length-map, get_or_append_left, get_or-append_right, get_or-map}
+use Rattle.std.proofs.lemmas.List.{drop_more, length-map, get_or_append_left, get_or-append_right, get_or-map}
 use Rattle.members.specs.declared.parts.Parts.{Parts}
 use Rattle.members.specs.declared.fault.SettingsFault.{SettingsFault}
 use Rattle.members.specs.Settings.{Check, check, checks, top_checks, endpoint_checks, leg_checks, first_fault, are_distinct, sources, number_or_zero, number_within, is_cname, name_of, ssrc_of, leg_of, number_below, is_same, has_pair, is_publisher, AreNumbersOf, IsInRange, IsLegAmong}
-use Rattle.members.specs.declared.settings.Numbers.{Numbers}
+use Rattle.members.specs.declared.checks.Numbers.{Numbers}
 use Rattle.members.specs.declared.fault.SettingsFault.TheVariants.{SameSsrc}
 use Rattle.members.specs.declared.settings.TheConstants.{SSRCS, MAX_WORKERS, MAX_RING, LEAST_HISTORY, MAX_HISTORY, MAX_PERIOD_MS, MAX_CNAME, MAX_ENDPOINTS, MAX_LEGS}
 use Rattle.members.specs.declared.parts.LegParts.{LegParts}

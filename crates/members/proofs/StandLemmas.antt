@@ -1,6 +1,6 @@
 -- Which stays stand.
-use Rattle.std.proofs.Common.{◌≡◌, ℕ, zero, suc, ◌+◌, ◌<◌, ◌≤◌, List, [], ◌∷◌, length, get_or, set, map, refl, sym, ap, subst, ◌∙◌, arith, Ok, Err, Result, Some, None, Bool, true, false, cond}
-use Rattle.std.specs.Prelude.{◌==◌, ◌≢◌, not, ◌&&◌, ◌||◌, nat_le, nat_lt, max, is_some, count_by, All, Option}
+use Rattle.std.proofs.Common.{◌≡◌, ℕ, zero, suc, ◌+◌, ◌<◌, ◌≤◌, List, [], ◌∷◌, length, get_or, set, map, refl, sym, ◌∙◌, arith, Ok, Err, Result, Some, None, Bool, true, false, cond}
+use Rattle.std.specs.Prelude.{◌==◌, ◌≢◌, not, ◌&&◌, ◌||◌, nat_le, nat_lt, max, All}
 use Rattle.std.proofs.lemmas.Bool.Decides.{nat_tests}
 use Rattle.std.proofs.lemmas.List.{length-map}
 use Rattle.std.proofs.lemmas.List.Elements.{All-nil, All-cons, All-tail, All-map, All-set, All-weaker}
@@ -14,7 +14,7 @@ use Rattle.members.specs.declared.settings.LegSettings.{LegSettings}
 use Rattle.tmmbr_tuple.specs.declared.ssrc.Ssrc.{Ssrc}
 use Rattle.members.specs.Settings.{Configuration}
 use Rattle.members.specs.Room.{RoomState, Step, after_leaving, gone, leg_at, no_leg, is_selected, takes_turn, switched, absent, unstarted, new_room}
-use Rattle.members.specs.Calls.{Call, Hear, Bye, Tick, Select, step_of, room_of, room_after}
+use Rattle.members.specs.Calls.{Call, Hear, Bye, Tick, Select, Receive, Report, MakeBlock, step_of, room_of, room_after}
 use Rattle.members.proofs.CallLemmas.{leaving_count}
 
 -- what a stay stands by
@@ -25,19 +25,19 @@ abbrev pub Matches : List Endpoint → LegStay → Type 0
 Matches es l = not (l.stay == 0) ≡ both_present es l
 
 -- an endpoint is marked as absent, or as heard
-absent_now : (es : List Endpoint) (k : ℕ) (e : Endpoint) → e.heard ≡ None → is_present_at (set es k e) k ≡ false
+pub absent_now : (es : List Endpoint) (k : ℕ) (e : Endpoint) → e.heard ≡ None → is_present_at (set es k e) k ≡ false
 unfolding is_present_at
 absent_now [] k e none = refl
 absent_now (x ∷ es) zero e none = rw none refl
 absent_now (x ∷ es) (suc k) e none = absent_now es k e none
 
-present_now : (es : List Endpoint) (k m : ℕ) (e : Endpoint) → k < length es → e.heard ≡ Some m → is_present_at (set es k e) k ≡ true
+pub present_now : (es : List Endpoint) (k m : ℕ) (e : Endpoint) → k < length es → e.heard ≡ Some m → is_present_at (set es k e) k ≡ true
 unfolding is_present_at
 present_now [] k m e below some = absurd (omega arith)
 present_now (x ∷ es) zero m e below some = rw some refl
 present_now (x ∷ es) (suc k) m e below some = present_now es k m e (omega arith) some
 
-other_now : (es : List Endpoint) (k j : ℕ) (e : Endpoint) → (k == j) ≡ false → is_present_at (set es k e) j ≡ is_present_at es j
+pub other_now : (es : List Endpoint) (k j : ℕ) (e : Endpoint) → (k == j) ≡ false → is_present_at (set es k e) j ≡ is_present_at es j
 unfolding is_present_at
 other_now [] k j e other = refl
 other_now (x ∷ es) zero zero e other = absurd (cc)
@@ -45,10 +45,10 @@ other_now (x ∷ es) zero (suc j) e other = refl
 other_now (x ∷ es) (suc k) zero e other = refl
 other_now (x ∷ es) (suc k) (suc j) e other = other_now es k j e (grind (arith, nat_tests))
 
-same_test : (a b : ℕ) → (a == b) ≡ (b == a)
+pub same_test : (a b : ℕ) → (a == b) ≡ (b == a)
 same_test a b = grind (arith, nat_tests)
 
-equal_of : (a b : ℕ) → (a == b) ≡ true → a ≡ b
+pub equal_of : (a b : ℕ) → (a == b) ≡ true → a ≡ b
 equal_of a b is = grind (arith, nat_tests)
 
 and_false : (p : Bool) → (p && false) ≡ false
@@ -299,6 +299,9 @@ stands r (Select handed number on) s =
     later : (b : Bool) (n : ℕ) → 1 ≤ n → 1 ≤ cond b (n + 1) n
     later true n least = omega arith
     later false n least = least
+stands r (Receive e seq timestamp) s = record { stand = s.stand; numbered = s.numbered }
+stands r (Report e ntp rtp) s = record { stand = s.stand; numbered = s.numbered }
+stands r (MakeBlock e) s = record { stand = s.stand; numbered = s.numbered }
 
 -- ---- every list of calls
 

@@ -1,5 +1,5 @@
--- Calls of a room one after another, and what the whole list of them says of who is present.
-use Rattle.std.specs.Prelude.{◌≡◌, ◌==◌, not, ◌&&◌, ℕ, ◌+◌, ◌<◌, ◌≤◌, nat_lt, max, Bool, false, List, [], ◌∷◌, ◌++◌, flat_map, Option, None, Some, Result, Ok, Err, if◌then◌else◌}
+-- Calls of a room one after another, and what the whole list of them says of who is present and what was received.
+use Rattle.std.specs.Prelude.{◌≡◌, ◌≢◌, ◌==◌, not, All, ◌&&◌, ℕ, ◌+◌, ◌≤◌, nat_lt, max, Bool, false, List, [], ◌∷◌, ◌++◌, flat_map, Option, None, Some, Result, Ok, Err, if◌then◌else◌}
 use Rattle.std.specs.Option.{option_map_or}
 use Rattle.members.specs.declared.order.Order.{Order}
 use Rattle.members.specs.declared.order.Order.TheVariants.{Arrive, Depart, Route}
@@ -7,20 +7,33 @@ use Rattle.members.specs.declared.fault.RoomFault.{RoomFault}
 use Rattle.members.specs.declared.presence.Endpoint.{Endpoint}
 use Rattle.members.specs.declared.stays.LegStay.{LegStay}
 use Rattle.members.specs.Presence.{is_present_at}
-use Rattle.members.specs.Room.{RoomState, Step, tick_step, bye_step, hear_step, select_step}
+use Rattle.members.specs.Room.{RoomState, Step, tick_step, bye_step, hear_step, select_step, after_packet, after_report, after_block}
+use Rattle.members.specs.Reception.{Call as ReceptionCall, Received, SenderReported, BlockMade}
 
 pub data Call : Type 0 where
   Hear : ℕ → ℕ → ℕ → Call
   Bye : ℕ → ℕ → Call
   Tick : ℕ → Call
   Select : ℕ → ℕ → Bool → Call
+  Receive : ℕ → ℕ → ℕ → Call
+  Report : ℕ → ℕ → ℕ → Call
+  MakeBlock : ℕ → Call
 
--- what a room does at a call: the moment first, then the endpoint with its source, or the leg with its selection
+-- a call that is never refused, and gives no order
+abbrev pub quietly : RoomState → Result Step RoomFault
+quietly r = Ok (record { orders = []; room = r })
+
+-- What a room does at a call. Those of presence name the moment first, then the endpoint with its source, or the leg with
+-- its selection; those of a reception name the endpoint, then a packet's sequence number and timestamp, or a sender
+-- report's NTP and RTP timestamps.
 abbrev pub step_of : RoomState → Call → Result Step RoomFault
 step_of r (Hear moment endpoint ssrc) = hear_step r moment endpoint ssrc
 step_of r (Bye moment endpoint) = bye_step r moment endpoint
 step_of r (Tick moment) = Ok (tick_step r moment)
 step_of r (Select moment leg on) = select_step r moment leg on
+step_of r (Receive endpoint seq timestamp) = quietly (after_packet r endpoint seq timestamp)
+step_of r (Report endpoint ntp rtp) = quietly (after_report r endpoint ntp rtp)
+step_of r (MakeBlock endpoint) = quietly (after_block r endpoint)
 
 -- a refused call changes nothing, and tells nothing
 abbrev pub room_of : RoomState → Result Step RoomFault → RoomState
@@ -50,11 +63,15 @@ accepted r (c ∷ calls) = if_accepted c (step_of r c) ++ accepted (room_of r (s
 
 -- ---- presence, by the whole list of accepted calls
 
+-- the moment that a call is handed; 0 where it is handed none
 abbrev pub moment_of : Call → ℕ
 moment_of (Hear moment endpoint ssrc) = moment
 moment_of (Bye moment endpoint) = moment
 moment_of (Tick moment) = moment
 moment_of (Select moment leg on) = moment
+moment_of (Receive endpoint seq timestamp) = 0
+moment_of (Report endpoint ntp rtp) = 0
+moment_of (MakeBlock endpoint) = 0
 
 -- the greatest moment handed in, from a first one on
 abbrev pub greatest_moment : ℕ → List Call → ℕ
@@ -67,6 +84,9 @@ heard_by endpoint moment heard (Hear handed other ssrc) = if other == endpoint t
 heard_by endpoint moment heard (Bye handed other) = if other == endpoint then None else heard
 heard_by endpoint moment heard (Tick handed) = heard
 heard_by endpoint moment heard (Select handed leg on) = heard
+heard_by endpoint moment heard (Receive other seq timestamp) = heard
+heard_by endpoint moment heard (Report other ntp rtp) = heard
+heard_by endpoint moment heard (MakeBlock other) = heard
 
 -- the greatest moment up to the endpoint's last hear, where no goodbye of it came after
 abbrev pub last_heard : ℕ → ℕ → Option ℕ → List Call → Option ℕ
@@ -82,6 +102,47 @@ is_recent timeout moment heard = option_map_or (λ h. nat_lt moment (h + timeout
 -- less than the timeout past that of the hear.
 abbrev pub is_present_after : ℕ → ℕ → List Call → Bool
 is_present_after timeout endpoint calls = is_recent timeout (greatest_moment 0 calls) (last_heard endpoint 0 None calls)
+
+-- ---- what was received, by the whole list of accepted calls
+
+-- the endpoint comes by this call at this moment: it is heard, and no hear of it was recent
+abbrev pub comes_by : ℕ → ℕ → ℕ → Option ℕ → Call → Bool
+comes_by timeout endpoint moment heard (Hear handed other ssrc) = other == endpoint && not (is_recent timeout moment heard)
+comes_by timeout endpoint moment heard (Bye handed other) = false
+comes_by timeout endpoint moment heard (Tick handed) = false
+comes_by timeout endpoint moment heard (Select handed leg on) = false
+comes_by timeout endpoint moment heard (Receive other seq timestamp) = false
+comes_by timeout endpoint moment heard (Report other ntp rtp) = false
+comes_by timeout endpoint moment heard (MakeBlock other) = false
+
+-- what a call at this moment says of what was received of the endpoint
+abbrev pub reception_call : ℕ → ℕ → Call → List ReceptionCall
+reception_call endpoint moment (Hear handed other ssrc) = []
+reception_call endpoint moment (Bye handed other) = []
+reception_call endpoint moment (Tick handed) = []
+reception_call endpoint moment (Select handed leg on) = []
+reception_call endpoint moment (Receive other seq timestamp) =
+    if other == endpoint then Received (record { moment = moment; seq = seq; timestamp = timestamp }) ∷ [] else []
+reception_call endpoint moment (Report other ntp rtp) =
+    if other == endpoint then SenderReported (record { moment = moment; ntp = ntp; rtp = rtp }) ∷ [] else []
+reception_call endpoint moment (MakeBlock other) = if other == endpoint then BlockMade ∷ [] else []
+
+-- these, and that of one more call, begun anew where the endpoint comes by it
+abbrev pub received_by : ℕ → ℕ → ℕ → Option ℕ → List ReceptionCall → Call → List ReceptionCall
+received_by timeout endpoint moment heard since c =
+    if comes_by timeout endpoint moment heard c then [] else since ++ reception_call endpoint moment c
+
+-- the reception calls of the endpoint since it last came, each at the greatest moment handed in before it
+abbrev pub received_since : ℕ → ℕ → ℕ → Option ℕ → List ReceptionCall → List Call → List ReceptionCall
+received_since timeout endpoint moment heard since [] = since
+received_since timeout endpoint moment heard since (c ∷ calls) =
+    let now = max moment (moment_of c) in
+    received_since timeout endpoint now (heard_by endpoint now heard c) (received_by timeout endpoint now heard since c) calls
+
+-- the reception calls of the endpoint in its present presence: none where it is absent
+abbrev pub received_in_presence : ℕ → ℕ → List Call → List ReceptionCall
+received_in_presence timeout endpoint calls =
+    if is_present_after timeout endpoint calls then received_since timeout endpoint 0 None [] calls else []
 
 -- ---- numbers of stays
 
@@ -113,3 +174,7 @@ RiseWithin first (x ∷ xs) last = (first ≤ x) × RiseWithin (x + 1) xs last
 -- the leg's stay stands exactly while its subscriber and its publisher are both present
 abbrev pub StandsByPresence : List Endpoint → LegStay → Type 0
 StandsByPresence endpoints l = not (l.stay == 0) ≡ (is_present_at endpoints l.subscriber && is_present_at endpoints l.publisher)
+
+-- no leg has this stay
+abbrev pub StandsNowhere : List LegStay → ℕ → Type 0
+StandsNowhere legs stay = All (λ l. l.stay ≢ stay) legs

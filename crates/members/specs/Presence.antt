@@ -1,5 +1,5 @@
 -- Which endpoints of a room are present.
-use Rattle.std.specs.Prelude.{ℕ, ◌+◌, nat_le, Bool, false, List, Option, is_some, slice_get, slice_set}
+use Rattle.std.specs.Prelude.{◌≡◌, All, ℕ, ◌+◌, nat_le, Bool, false, List, Option, is_some, slice_get, slice_set}
 use Rattle.std.specs.Option.{option_map_or}
 use Rattle.tmmbr_tuple.specs.declared.ssrc.Ssrc.{Ssrc}
 use Rattle.members.specs.declared.presence.Endpoint.{Endpoint}
@@ -7,6 +7,10 @@ use Rattle.members.specs.declared.presence.Endpoint.{Endpoint}
 -- it was last heard as long ago as the timeout, or longer: the moment less that of the hear is no less than the timeout
 abbrev pub is_overdue : ℕ → ℕ → Endpoint → Bool
 is_overdue timeout moment e = option_map_or (λ heard. nat_le (heard + timeout) moment) e.heard false
+
+-- no endpoint is overdue at this moment
+abbrev pub NobodyOverdue : ℕ → ℕ → List Endpoint → Type 0
+NobodyOverdue timeout moment endpoints = All (λ e. is_overdue timeout moment e ≡ false) endpoints
 
 -- the endpoint of this number is there, and overdue
 unfoldable pub is_overdue_at : ℕ → ℕ → List Endpoint → ℕ → Bool

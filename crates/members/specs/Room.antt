@@ -1,5 +1,5 @@
 -- What a room holds, and what each call does.
-use Rattle.std.specs.Prelude.{◌==◌, ℕ, ◌+◌, nat_lt, nat_le, max, Bool, true, false, not, List, [], ◌∷◌, ◌++◌, length, map, slice_index_or, slice_set, ◌&&◌, Option, None, Some, Result, Ok, Err, if◌then◌else◌}
+use Rattle.std.specs.Prelude.{◌==◌, ℕ, ◌+◌, nat_lt, nat_le, max, Bool, false, not, List, [], ◌∷◌, ◌++◌, length, map, slice_index_or, slice_set, ◌&&◌, None, Some, Result, Ok, Err, if◌then◌else◌}
 use Rattle.tmmbr_tuple.specs.declared.ssrc.Ssrc.{Ssrc}
 use Rattle.members.specs.declared.order.Order.{Order}
 use Rattle.members.specs.declared.order.Order.TheVariants.{Route}
@@ -12,14 +12,18 @@ use Rattle.members.specs.declared.settings.LegSettings.{LegSettings}
 use Rattle.members.specs.Settings.{Configuration}
 use Rattle.members.specs.Presence.{is_present_at, source_at, with_heard}
 use Rattle.members.specs.Stays.{Told, leave, leaving, coming_count, come}
+use Rattle.members.specs.Reception.{Heard}
+use Rattle.members.specs.Stream.{nothing_heard, heard_packet, heard_report, heard_block}
 
--- the timeout, the greatest moment handed in, the next number of a stay or a turn, the endpoints and the legs
+-- the timeout, the greatest moment handed in, the next number of a stay or a turn, the endpoints, the legs, and what was
+-- received of each endpoint since it last came
 pub record RoomState : Type 0 where
   pub timeout : ℕ
   pub moment : ℕ
   pub next : ℕ
   pub endpoints : List Endpoint
   pub legs : List LegStay
+  pub receptions : List Heard
 
 -- the orders of a call, and the room after it
 pub record Step : Type 0 where
@@ -29,7 +33,14 @@ pub record Step : Type 0 where
 abbrev pub step_with : RoomState → ℕ → ℕ → Told → Step
 step_with r moment next t = record {
   orders = t.orders;
-  room = record { timeout = r.timeout; moment = moment; next = next; endpoints = t.endpoints; legs = t.legs };
+  room = record {
+    timeout = r.timeout;
+    moment = moment;
+    next = next;
+    endpoints = t.endpoints;
+    legs = t.legs;
+    receptions = r.receptions;
+  };
 }
 
 -- every present endpoint that is overdue leaves, by rising number
@@ -51,12 +62,16 @@ bye_step r handed endpoint =
 abbrev pub heard_again : Told → ℕ → ℕ → Told
 heard_again t moment endpoint = record t { endpoints = with_heard t.endpoints endpoint (Some moment) }
 
--- an endpoint is heard: it was present, or it comes
+-- nothing was received yet of the endpoint
+abbrev pub anew : RoomState → ℕ → RoomState
+anew r endpoint = record r { receptions = slice_set r.receptions endpoint nothing_heard }
+
+-- an endpoint is heard: it was present, or it comes, and its reception begins anew
 abbrev pub heard_step : RoomState → ℕ → ℕ → Told → Result Step RoomFault
 heard_step r moment endpoint t =
     if is_present_at t.endpoints endpoint then Ok (step_with r moment r.next (heard_again t moment endpoint))
     else if nat_lt MAX_STAY (r.next + coming_count t.endpoints endpoint t.legs) then Err StaysSpent
-    else Ok (step_with r moment (r.next + coming_count t.endpoints endpoint t.legs) (come t moment r.next endpoint))
+    else Ok (step_with (anew r endpoint) moment (r.next + coming_count t.endpoints endpoint t.legs) (come t moment r.next endpoint))
 
 abbrev pub hear_step : RoomState → ℕ → ℕ → ℕ → Result Step RoomFault
 hear_step r handed endpoint ssrc =
@@ -107,6 +122,32 @@ select_step r handed number on =
     if nat_le (length r.legs) number then Err UnknownLeg
     else (let t = after_leaving r (max r.moment handed) in selected_step r (max r.moment handed) t number on (leg_at t.legs number))
 
+-- ---- what is received
+
+-- what was received of the endpoint in its present presence: nothing where it is absent
+abbrev pub reception_at : RoomState → ℕ → Heard
+reception_at r endpoint =
+    if is_present_at r.endpoints endpoint then slice_index_or r.receptions endpoint nothing_heard else nothing_heard
+
+-- the room with this as what was received of the endpoint, where it is present
+abbrev pub with_reception : RoomState → ℕ → Heard → RoomState
+with_reception r endpoint h = record r {
+  receptions = if is_present_at r.endpoints endpoint then slice_set r.receptions endpoint h else r.receptions;
+}
+
+-- a packet of the endpoint came at the room's moment
+abbrev pub after_packet : RoomState → ℕ → ℕ → ℕ → RoomState
+after_packet r endpoint seq timestamp =
+    with_reception r endpoint (heard_packet (reception_at r endpoint) r.moment seq timestamp)
+
+-- a sender report of the endpoint came at the room's moment
+abbrev pub after_report : RoomState → ℕ → ℕ → ℕ → RoomState
+after_report r endpoint ntp rtp = with_reception r endpoint (heard_report (reception_at r endpoint) r.moment ntp rtp)
+
+-- a block about the endpoint was made
+abbrev pub after_block : RoomState → ℕ → RoomState
+after_block r endpoint = with_reception r endpoint (heard_block (reception_at r endpoint))
+
 -- ---- a new room
 
 abbrev pub absent : Ssrc → Endpoint
@@ -116,4 +157,11 @@ abbrev pub unstarted : LegSettings → LegStay
 unstarted l = record { subscriber = l.subscriber; publisher = l.publisher; stay = 0; turn = 0; selected = l.on }
 
 abbrev pub new_room : Configuration → RoomState
-new_room s = record { timeout = s.timeout_ms; moment = 0; next = 1; endpoints = map absent s.endpoints; legs = map unstarted s.legs }
+new_room s = record {
+  timeout = s.timeout_ms;
+  moment = 0;
+  next = 1;
+  endpoints = map absent s.endpoints;
+  legs = map unstarted s.legs;
+  receptions = map (λ _. nothing_heard) s.endpoints;
+}

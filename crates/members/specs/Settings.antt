@@ -1,13 +1,12 @@
 -- What settings may hold: a list of checks in order, and what passes them all.
-use Rattle.std.specs.Prelude.{◌≡◌, ◌≢◌, ◌==◌, ℕ, ◌+◌, ◌-◌, ◌^◌, ◌<◌, ◌≤◌, nat_lt, nat_le, Bool, true, false, not, ◌&&◌, List, [], ◌∷◌, ◌++◌, map, length, take, find, flat_map, All, Option, None, Some, is_some, unwrap_or, option_map, String, string_bytes, if◌then◌else◌, ℤ, pos, negsuc}
+use Rattle.std.specs.Prelude.{◌≡◌, ◌≢◌, ◌==◌, ℕ, ◌<◌, ◌≤◌, nat_lt, nat_le, Bool, true, false, not, ◌&&◌, List, [], ◌∷◌, ◌++◌, map, length, take, flat_map, All, Option, None, Some, is_some, unwrap_or, String, string_bytes, if◌then◌else◌, ℤ, pos, negsuc}
 use Rattle.std.specs.Global.{Global}
 use Rattle.std.specs.List.{list_all, list_any, enumerate_from}
-use Rattle.std.specs.Option.{option_map_or}
 use Rattle.tmmbr_tuple.specs.declared.ssrc.Ssrc.{Ssrc}
 use Rattle.members.specs.declared.parts.Parts.{Parts}
 use Rattle.members.specs.declared.parts.LegParts.{LegParts}
 use Rattle.members.specs.declared.settings.LegSettings.{LegSettings}
-use Rattle.members.specs.declared.settings.Numbers.{Numbers}
+use Rattle.members.specs.declared.checks.Numbers.{Numbers}
 use Rattle.members.specs.declared.settings.TheConstants.{MAX_ENDPOINTS, MAX_LEGS, MAX_WORKERS, MAX_RING, LEAST_HISTORY, MAX_HISTORY, MAX_PERIOD_MS, MAX_CNAME, SSRCS, SEQS}
 use Rattle.members.specs.declared.fault.SettingsFault.{SettingsFault}
 use Rattle.members.specs.declared.fault.SettingsFault.TheVariants.{Top, Endpoint, Leg, SameSsrc}

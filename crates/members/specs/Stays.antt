@@ -1,5 +1,5 @@
 -- Which stays end and begin as endpoints leave and come, and the orders that say so.
-use Rattle.std.specs.Prelude.{◌≡◌, ◌==◌, ℕ, zero, suc, ◌+◌, Bool, true, false, not, ◌&&◌, ◌||◌, List, [], ◌∷◌, ◌++◌, map, length, count_by, flat_map, Option, None, Some, if◌then◌else◌}
+use Rattle.std.specs.Prelude.{◌≡◌, ◌==◌, ℕ, zero, suc, ◌+◌, Bool, false, not, ◌&&◌, ◌||◌, List, [], ◌∷◌, ◌++◌, map, length, count_by, flat_map, Option, None, Some, if◌then◌else◌}
 use Rattle.std.specs.List.{enumerate_from}
 use Rattle.members.specs.declared.order.Order.{Order}
 use Rattle.members.specs.declared.order.Order.TheVariants.{Arrive, Depart, Route}

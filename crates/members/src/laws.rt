@@ -4,9 +4,9 @@
 ghost use Rattle.std.specs.Prelude.{◌≡◌, ◌≢◌, All, ℕ, ◌<◌, List, length};
 ghost use Rattle.members.specs.Presence.{is_present_at};
 ghost use Rattle.members.specs.Settings.{Configuration, IsInRange};
-ghost use Rattle.members.specs.Room.{new_room};
-ghost use Rattle.members.specs.Calls.{Call, room_after, orders_after, accepted, greatest_moment, is_present_after, arrivals, RiseWithin, StandsByPresence};
-ghost use Rattle.std.specs.Prelude.{Option, ◌∷◌};
+ghost use Rattle.members.specs.Room.{new_room, reception_at};
+ghost use Rattle.members.specs.Calls.{Call, room_after, orders_after, accepted, greatest_moment, is_present_after, arrivals, departures, received_in_presence, RiseWithin, StandsByPresence, StandsNowhere};
+ghost use Rattle.std.specs.Prelude.{Option, ◌∷◌, ◌++◌};
 ghost use Rattle.tmmbr_tuple.specs.declared.ssrc.Ssrc.{Ssrc};
 ghost use Rattle.members.specs.Reception.{Block, Call as ReceptionCall, Packet, reception_of, IsBlockAfter, IsHighest, greatest_number};
 ghost use Rattle.members.specs.Stream.{heard_after, IsAnswer};
@@ -30,6 +30,12 @@ pub fn stays_rise()
         → RiseWithin 1 (arrivals (orders_after (new_room s) calls)) (room_after (new_room s) calls).next }
 {}
 
+/// A stay that ended never stands again: no leg has its number after any further calls.
+pub fn ended_stays_never_stand()
+    ensures { (s : Configuration) (before after : List Call)
+        → All (StandsNowhere (room_after (new_room s) (before ++ after)).legs) (departures (orders_after (new_room s) before)) }
+{}
+
 /// After any calls of a new room the stay of each leg stands exactly while its subscriber and its
 /// publisher are both present.
 pub fn stand_by_presence()
@@ -46,4 +52,16 @@ pub fn receives()
         → IsAnswer (heard_after calls) moment source answer → IsBlockAfter calls moment source answer }
     ensures highest { (first : Packet) (rest : List Packet) → All (λ p. p.seq < SEQ_CYCLE) (first ∷ rest)
         → IsHighest (first ∷ rest) (greatest_number (first ∷ rest)) }
+{}
+
+/// After any calls of a new room what it holds of an endpoint's reception, and the answer to a wish for a
+/// block about it, are what the reception calls of the endpoint in its present presence come to: those since
+/// it last came, each at the greatest moment handed in before it; none where it is absent.
+pub fn receives_since_it_came()
+    ensures values { (s : Configuration) (calls : List Call) (endpoint : ℕ) → IsInRange s → endpoint < length s.endpoints
+        → reception_at (room_after (new_room s) calls) endpoint
+        ≡ reception_of (received_in_presence s.timeout_ms endpoint (accepted (new_room s) calls)) }
+    ensures answers { (s : Configuration) (calls : List Call) (endpoint moment : ℕ) (source : Ssrc) (answer : Option Block) → IsInRange s
+        → endpoint < length s.endpoints → IsAnswer (reception_at (room_after (new_room s) calls) endpoint) moment source answer
+        → IsBlockAfter (received_in_presence s.timeout_ms endpoint (accepted (new_room s) calls)) moment source answer }
 {}

@@ -1,10 +1,11 @@
 //! Who is there: the settings of a room, which endpoints are present in it, and the stays of its legs
-//! (RFC 7667, section 3.7); and what was received of a publisher (RFC 3550, section 6.4.1).
+//! (RFC 7667, section 3.7); and what was received of each endpoint (RFC 3550, section 6.4.1).
 //!
-//! Read `settings` first, then `room`; `reception` stands by itself. Nothing reads a clock: each call is
-//! handed its moment.
+//! Read `settings` first, then `room`; `reception` stands by itself. Nothing reads a clock: calls are handed
+//! their moment.
 #![tactic(auto)]
 
+mod checks;
 mod fault;
 pub mod laws;
 mod order;
@@ -15,11 +16,11 @@ mod room;
 mod settings;
 mod stays;
 mod stream;
+mod table;
 
 pub use fault::{Key, RoomFault, SettingsFault};
 pub use order::{Order, Row};
 pub use parts::{LegParts, Parts};
-pub use reception::Reception;
 pub use room::Room;
 pub use rtcp_compound::Block;
 pub use settings::{LegSettings, MAX_ENDPOINTS, MAX_LEGS, Settings};
@@ -27,6 +28,10 @@ pub use stays::MAX_STAY;
 pub use stream::COUNTED_PACKETS;
 
 #[cfg(test)]
+mod memory_tests;
+#[cfg(test)]
 mod reception_tests;
 #[cfg(test)]
-mod tests;
+mod room_tests;
+#[cfg(test)]
+mod settings_tests;

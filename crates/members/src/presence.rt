@@ -1,9 +1,13 @@
 //! Which endpoints are present.
 
-ghost use Rattle.std.specs.Prelude.{◌≡◌, ◌<◌, length, ℕ, false, All};
-ghost use Rattle.members.specs.Presence.{is_overdue, is_overdue_at, is_present_at, source_at, with_heard};
+ghost use Rattle.std.specs.Prelude.{◌≡◌, ◌<◌, length, ℕ, true, IsTrue};
+ghost use Rattle.std.specs.List.{list_any};
+ghost use Rattle.members.specs.Presence.{is_overdue, NobodyOverdue, is_overdue_at, is_present_at, source_at, with_heard};
 
 use tmmbr_tuple::Ssrc;
+
+/// The last moment of all.
+pub const LAST_MOMENT: u64 = u64::MAX;
 
 /// An endpoint of a room.
 #[derive(Clone, Copy, Debug, PartialEq, Eq)]
@@ -15,7 +19,7 @@ pub struct Endpoint {
 }
 
 impl Endpoint {
-    ghost use Rattle.std.specs.Prelude.{◌≡◌, ◌<◌, ℕ, false};
+    ghost use Rattle.std.specs.Prelude.{◌≡◌, ◌<◌, ℕ, true, false};
     ghost use Rattle.members.specs.Presence.{is_overdue};
 
     /// Whether it was last heard as long ago as the timeout, or longer.
@@ -30,11 +34,12 @@ impl Endpoint {
 
     /// The moment from which on it is overdue, or the last moment of all.
     pub fn overdue_from(&self, timeout: u64) -> u64
-        ensures { (moment : ℕ) → moment < result → is_overdue timeout moment self.now ≡ false }
+        ensures before { (moment : ℕ) → moment < result → is_overdue timeout moment self.now ≡ false }
+        ensures first { result < LAST_MOMENT → is_overdue timeout result self.now ≡ true }
     {
         match self.heard {
             Some(heard) => heard.saturating_add(timeout),
-            None => u64::MAX,
+            None => LAST_MOMENT,
         }
     }
 }
@@ -53,7 +58,8 @@ pub fn is_overdue_at(endpoints: &[Endpoint], timeout: u64, moment: u64, number: 
 /// Whether the endpoint of this number is present.
 #[tactic(auto, unfolding(crate::specs::Presence::is_present_at))]
 pub fn is_present_at(endpoints: &[Endpoint], number: usize) -> bool
-    ensures { result ≡ is_present_at endpoints.now number }
+    ensures value { result ≡ is_present_at endpoints.now number }
+    ensures known { IsTrue result → number < length endpoints.now }
 {
     match endpoints.get(number) {
         Some(endpoint) => endpoint.heard.is_some(),
@@ -61,11 +67,12 @@ pub fn is_present_at(endpoints: &[Endpoint], number: usize) -> bool
     }
 }
 
-/// A moment before which no endpoint is overdue; the first at which one is, where there is one.
+/// The first moment at which an endpoint is overdue; the last moment of all where there is none before it.
 pub fn first_overdue(endpoints: &[Endpoint], timeout: u64) -> u64
-    ensures { (moment : ℕ) → moment < result → All (λ e. is_overdue timeout moment e ≡ false) endpoints.now }
+    ensures before { (moment : ℕ) → moment < result → NobodyOverdue timeout moment endpoints.now }
+    ensures first { result < LAST_MOMENT → list_any (is_overdue timeout result) endpoints.now ≡ true }
 {
-    let mut first = u64::MAX;
+    let mut first = LAST_MOMENT;
     for endpoint in endpoints {
         first = first.min(endpoint.overdue_from(timeout));
     }

@@ -1,5 +1,6 @@
 //! Packets in, blocks out.
 use super::*;
+use crate::reception::Reception;
 use crate::stream::{self, Stream};
 use std::test::Fail;
 use tmmbr_tuple::Ssrc;

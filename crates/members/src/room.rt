@@ -1,92 +1,31 @@
-//! A room: who is present, and which stays stand.
+//! A room: who is present, which stays stand, and what was received of whom.
 
-ghost use Rattle.std.specs.Prelude.{◌≡◌, ◌<◌, ◌≤◌, ◌++◌, length, map, IfOk};
-ghost use Rattle.members.specs.Stays.{told, leaving, Tells};
-ghost use Rattle.members.specs.Room.{absent, unstarted};
+ghost use Rattle.std.specs.Prelude.{◌≡◌, map, IfOk};
+ghost use Rattle.members.specs.Stays.{told, leaving};
+ghost use Rattle.members.specs.Stream.{nothing_heard};
 
 use crate::fault::RoomFault;
 use crate::order::{Draft, Order};
-use crate::presence::{Endpoint, first_overdue, is_present_at, mark, source_at};
-use crate::settings::{LegSettings, MAX_LEGS, Settings};
-use crate::stays::{LegStay, MAX_STAY, arrive, leave_overdue, leave_present, select_leg};
+use crate::presence::{LAST_MOMENT, first_overdue, is_present_at, mark, source_at};
+use crate::reception::Reception;
+use crate::settings::Settings;
+use crate::stays::{arrive, leave_present, select_leg};
+use crate::table::Table;
+use rtcp_compound::Block;
 use std::alloc::{AllocError, Global};
 use std::marker::Model;
 use std::mem;
 use tmmbr_tuple::Ssrc;
 
-/// The endpoints and the legs.
-#[derive(Debug, Drop)]
-pub struct Table {
-    endpoints: Vec<Endpoint>,
-    legs: Vec<LegStay>,
-}
-
-/// Every endpoint, absent.
-fn absent_endpoints(alloc: Global, sources: &[Ssrc]) -> Result<Vec<Endpoint>, AllocError>
-    ensures { IfOk result (λ v. v.items ≡ map absent sources.now) }
-{
-    let endpoints = sources.iter().map(|ssrc| Endpoint {
-        ssrc: *ssrc,
-        heard: None,
-    });
-    endpoints.collect(alloc)
-}
-
-/// Every leg, without a stay.
-fn unstarted_legs(alloc: Global, legs: &[LegSettings]) -> Result<Vec<LegStay>, AllocError>
-    ensures { IfOk result (λ v. v.items ≡ map unstarted legs.now) }
-{
-    let legs = legs.iter().map(|leg| LegStay {
-        subscriber: leg.subscriber,
-        publisher: leg.publisher,
-        stay: 0,
-        turn: 0,
-        selected: leg.on,
-    });
-    legs.collect(alloc)
-}
-
-impl Table {
-    /// The table of a new room.
-    fn new(alloc: Global, settings: &Settings) -> Result<Table, AllocError>
-        ensures endpoints { IfOk result (λ t. t.endpoints.items ≡ map absent settings.now.endpoints) }
-        ensures legs { IfOk result (λ t. t.legs.items ≡ map unstarted settings.now.legs) }
-    {
-        Ok(Table {
-            endpoints: absent_endpoints(alloc, settings.endpoints())?,
-            legs: unstarted_legs(alloc, settings.legs())?,
-        })
-    }
-
-    /// Drafts the table that is left once those overdue at this moment left.
-    fn redraft(&mut self, held: &Table, timeout: u64, moment: u64, orders: &mut Draft)
-        requires endpoints { length self.old.endpoints.items ≡ length held.now.endpoints.items }
-        requires legs { length self.old.legs.items ≡ length held.now.legs.items }
-        requires few { length held.now.legs.items ≤ MAX_LEGS }
-        ensures endpoints { self.new.endpoints.items
-            ≡ (leaving timeout moment held.now.endpoints.items held.now.legs.items).endpoints }
-        ensures legs { self.new.legs.items
-            ≡ (leaving timeout moment held.now.endpoints.items held.now.legs.items).legs }
-        ensures orders { Tells orders.old
-            (leaving timeout moment held.now.endpoints.items held.now.legs.items).orders
-            orders.new }
-        ensures same_endpoints { length self.new.endpoints.items ≡ length held.now.endpoints.items }
-        ensures same_legs { length self.new.legs.items ≡ length held.now.legs.items }
-    {
-        let endpoints = self.endpoints.as_mut_slice();
-        endpoints.copy_from_slice(held.endpoints.as_slice());
-        let legs = self.legs.as_mut_slice();
-        legs.copy_from_slice(held.legs.as_slice());
-        leave_overdue(endpoints, legs, timeout, moment, orders);
-    }
-}
-
-/// Who is present, and which stays stand.
+/// Who is present, which stays stand, and what was received of whom.
 ///
 /// An endpoint is present from a packet of it that is heard until a goodbye, or until nothing was heard
 /// of it for the timeout. A leg's stay begins when its subscriber and its publisher are both present,
-/// and ends when either leaves. Each call first lets those leave that are overdue at its moment; the
-/// room's moment is the greatest that it was handed.
+/// and ends when either leaves. Each call that is handed a moment first lets those leave that are overdue
+/// at it; the room's moment is the greatest that it was handed.
+///
+/// What is received of an endpoint while it is present is counted at the room's moment, anew whenever it
+/// comes.
 #[derive(Debug, Drop)]
 pub struct Room {
     alloc: Global,
@@ -99,6 +38,15 @@ pub struct Room {
     held: Table,
     /// Where a call drafts what it will leave, so that a refusal leaves everything as it was.
     draft: Table,
+    /// What was received of each endpoint since it last came.
+    receptions: Vec<Reception>,
+}
+
+/// Of each endpoint nothing was received.
+fn new_receptions(alloc: Global, sources: &[Ssrc]) -> Result<Vec<Reception>, AllocError>
+    ensures { IfOk result (λ v. v.items ≡ map (λ _. nothing_heard) sources.now) }
+{
+    sources.iter().map(|_| Reception::new()).collect(alloc)
 }
 
 impl Model for Room {
@@ -113,16 +61,19 @@ impl Model for Room {
       next = r.next;
       endpoints = r.held.endpoints.items;
       legs = r.held.legs.items;
+      receptions = r.receptions.items;
     } };
 
     ghost invariant = { λ r. IsWellFormed r.timeout_ms r.next r.quiet_until r.held.endpoints.items r.held.legs.items
-        r.draft.endpoints.items r.draft.legs.items };
+        r.draft.endpoints.items r.draft.legs.items r.receptions.items };
 }
 
 impl Room {
-    ghost use Rattle.std.specs.Prelude.{◌≡◌, ◌<◌, ◌≤◌, ◌++◌, All, IsTrue, Ok, Err, IfOk, IfErr, OnOk, OnErr, length, false};
-    ghost use Rattle.members.specs.Presence.{is_overdue, is_present_at};
-    ghost use Rattle.members.specs.Room.{RoomState, Step, new_room, tick_step, bye_step, hear_step, heard_step, select_step, after_leaving, leg_at};
+    ghost use Rattle.std.specs.Prelude.{◌≡◌, ◌<◌, ◌++◌, ◌↔◌, max, true, IsTrue, IsOk, IsNone, IfNone, Ok, Err, IfOk, IfErr, OnOk, OnErr, length};
+    ghost use Rattle.members.specs.Presence.{NobodyOverdue, is_present_at, source_at};
+    ghost use Rattle.members.specs.Room.{new_room, tick_step, bye_step, hear_step, heard_step, select_step, after_leaving, leg_at};
+    ghost use Rattle.members.specs.Room.{reception_at, after_packet, after_report, after_block};
+    ghost use Rattle.members.specs.Stream.{IsAnswer, timestamps_of};
 
     /// The room of these settings: nobody is present, its moment is 0.
     pub fn new(alloc: Global, settings: &Settings) -> Result<Room, AllocError>
@@ -136,6 +87,7 @@ impl Room {
             quiet_until: 0,
             held: Table::new(alloc, settings)?,
             draft: Table::new(alloc, settings)?,
+            receptions: new_receptions(alloc, settings.endpoints())?,
         })
     }
 
@@ -148,7 +100,8 @@ impl Room {
 
     /// Whether the endpoint is present.
     pub fn is_present(&self, endpoint: u16) -> bool
-        ensures { result ≡ is_present_at self.now.endpoints endpoint }
+        ensures value { result ≡ is_present_at self.now.endpoints endpoint }
+        ensures known { IsTrue result → endpoint < length self.now.endpoints }
     {
         is_present_at(self.held.endpoints.as_slice(), usize::from(endpoint))
     }
@@ -163,25 +116,30 @@ impl Room {
         }
     }
 
-    /// Whether no endpoint is overdue at this moment. Goes over the endpoints only where the moment
-    /// was reached from which one may be.
+    /// Whether no endpoint is overdue at this moment, and the moment isn't the last of all. Goes over the
+    /// endpoints only where the moment was reached from which one may be.
     fn is_quiet(&mut self, moment: u64) -> bool
         ensures same { self.new ≡ self.old }
         ensures quiet { IsTrue result
             → leaving self.old.timeout moment self.old.endpoints self.old.legs ≡ told self.old.endpoints self.old.legs }
+        ensures finds { NobodyOverdue self.old.timeout moment self.old.endpoints → moment < LAST_MOMENT → IsTrue result }
     {
-        if moment >= self.quiet_until {
-            self.quiet_until = first_overdue(self.held.endpoints.as_slice(), self.timeout_ms);
+        if moment < self.quiet_until {
+            return true;
         }
+        self.quiet_until = first_overdue(self.held.endpoints.as_slice(), self.timeout_ms);
         moment < self.quiet_until
     }
 
     /// Lets every endpoint leave that is overdue at this moment. Refused only for want of memory; then
-    /// nothing changed, the orders and the moment included.
+    /// nothing changed, the orders and the moment included. Where nobody is overdue it takes none and isn't
+    /// refused, unless the moment is the last of all.
     pub fn tick(&mut self, moment: u64, orders: &mut Vec<Order>) -> Result<(), AllocError>
         ensures ok { OnOk result ((self.new ≡ (tick_step self.old moment).room)
             × (orders.new.items ≡ orders.old.items ++ (tick_step self.old moment).orders)) }
         ensures unchanged { OnErr result ((self.new ≡ self.old) × (orders.new.items ≡ orders.old.items)) }
+        ensures calm { NobodyOverdue self.old.timeout (max self.old.moment moment) self.old.endpoints
+            → max self.old.moment moment < LAST_MOMENT → IsOk result }
     {
         let moment = self.moment.max(moment);
         if self.is_quiet(moment) {
@@ -232,12 +190,13 @@ impl Room {
         Ok(())
     }
 
-    /// A packet of this source was heard at the endpoint, which comes where it isn't present; those
-    /// overdue at this moment leave before.
+    /// A packet of this source was heard at the endpoint, which comes where it isn't present: its
+    /// reception begins anew. Those overdue at this moment leave before.
     ///
     /// Refused as `UnknownEndpoint`; as `WrongSsrc` where the source isn't the endpoint's; as `StaysSpent`
     /// where a stay that begins would get the number `MAX_STAY`; as `NoMemory`. Then nothing changed, the
-    /// orders and the moment included.
+    /// orders and the moment included. A present endpoint's own packet takes no memory and isn't refused
+    /// where nobody is overdue, unless the moment is the last of all.
     pub fn hear(
         &mut self,
         moment: u64,
@@ -250,6 +209,9 @@ impl Room {
         ensures refused { IfErr (hear_step self.old moment endpoint ssrc.0) (λ fault. result ≡ Err fault) }
         ensures no_memory { OnOk (hear_step self.old moment endpoint ssrc.0) (OnErr result (result ≡ Err RoomFault.NoMemory)) }
         ensures unchanged { OnErr result ((self.new ≡ self.old) × (orders.new.items ≡ orders.old.items)) }
+        ensures calm { (source_at self.old.endpoints endpoint).0 ≡ ssrc.0 → is_present_at self.old.endpoints endpoint ≡ true
+            → NobodyOverdue self.old.timeout (max self.old.moment moment) self.old.endpoints
+            → max self.old.moment moment < LAST_MOMENT → IsOk result }
     {
         let at = usize::from(endpoint);
         if at >= self.held.endpoints.len() {
@@ -275,6 +237,8 @@ impl Room {
         ensures refused { IfErr (heard_step self.old moment at (after_leaving self.old moment)) (λ fault. result ≡ Err fault) }
         ensures no_memory { OnOk (heard_step self.old moment at (after_leaving self.old moment)) (OnErr result (result ≡ Err RoomFault.NoMemory)) }
         ensures unchanged { OnErr result ((self.new ≡ self.old) × (orders.new.items ≡ orders.old.items)) }
+        ensures calm { is_present_at self.old.endpoints at ≡ true → NobodyOverdue self.old.timeout moment self.old.endpoints
+            → moment < LAST_MOMENT → IsOk result }
     {
         if !self.is_quiet(moment) || !is_present_at(self.held.endpoints.as_slice(), at) {
             return self.join(moment, at, orders);
@@ -298,11 +262,15 @@ impl Room {
         let mut draft = Draft::new(self.alloc);
         self.draft
             .redraft(&self.held, self.timeout_ms, moment, &mut draft);
+        let comes = !is_present_at(self.draft.endpoints.as_slice(), at);
         let endpoints = self.draft.endpoints.as_mut_slice();
         let legs = self.draft.legs.as_mut_slice();
         let next = arrive(endpoints, legs, at, moment, self.next, &mut draft)?;
         draft.append_to(orders)?;
         mem::swap(&mut self.held, &mut self.draft);
+        if comes {
+            self.receptions[at] = Reception::new();
+        }
         self.quiet_until = 0;
         self.next = next;
         self.moment = moment;
@@ -343,5 +311,53 @@ impl Room {
         self.next = next;
         self.moment = moment;
         Ok(())
+    }
+    /// A packet of the endpoint came, with this sequence number and timestamp, at the room's moment. Does
+    /// nothing where the endpoint is absent, or there is none of this number. The first
+    /// `COUNTED_PACKETS` of a presence count.
+    pub fn received(&mut self, endpoint: u16, seq: u16, timestamp: u32)
+        ensures { self.new ≡ after_packet self.old endpoint seq timestamp }
+    {
+        if self.is_present(endpoint) {
+            self.receptions[usize::from(endpoint)].received(self.moment, seq, timestamp);
+        }
+    }
+
+    /// A sender report of the endpoint came, with these NTP and RTP timestamps, at the room's moment. Does
+    /// nothing where the endpoint is absent, or there is none of this number.
+    pub fn sender_report(&mut self, endpoint: u16, ntp: u64, rtp: u32)
+        ensures { self.new ≡ after_report self.old endpoint ntp rtp }
+    {
+        if self.is_present(endpoint) {
+            self.receptions[usize::from(endpoint)].sender_report(self.moment, ntp, rtp);
+        }
+    }
+
+    /// The report block about the endpoint's source, at the room's moment (RFC 3550, section 6.4.1);
+    /// `None` exactly where no packet of it was received in its present presence, and then nothing
+    /// changes. The next block's interval begins where this one's ends.
+    pub fn block(&mut self, endpoint: u16) -> Option<Block>
+        ensures answer { IsAnswer (reception_at self.old endpoint) self.old.moment (source_at self.old.endpoints endpoint) result }
+        ensures none { IsNone result ↔ ((reception_at self.old endpoint).stream ≡ None) }
+        ensures kept { self.new ≡ after_block self.old endpoint }
+        ensures unchanged { IfNone result (self.new ≡ self.old) }
+    {
+        if !self.is_present(endpoint) {
+            return None;
+        }
+        let at = usize::from(endpoint);
+        let source = source_at(self.held.endpoints.as_slice(), at);
+        self.receptions[at].block(self.moment, source)
+    }
+
+    /// The NTP and RTP timestamps of the endpoint's last sender report since it came; `None` where none
+    /// came, or the endpoint is absent.
+    pub fn last_sr(&self, endpoint: u16) -> Option<(u64, u32)>
+        ensures { result ≡ timestamps_of (reception_at self.now endpoint).report }
+    {
+        if !self.is_present(endpoint) {
+            return None;
+        }
+        self.receptions[usize::from(endpoint)].last_sr()
     }
 }
