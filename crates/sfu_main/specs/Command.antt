@@ -90,10 +90,10 @@ pub record ShowsFailure (failure : Failure) (old new : Option (List ℕ)) (s : S
   pub understood : s ≢ status.CommandLine
   pub refused : s ≡ status.Refused → (status_of failure ≡ status.Refused) × ShowsLine failure old new
 
--- where a file isn't read, its line can't be
+-- where a text isn't read, one of its lines can't be
 abbrev pub IsText : Failure → Type 0
 IsText NoMemory = Unit {0}
-IsText Io = Unit {0}
+IsText Io = ⊥
 IsText (RefusedLine line fault) = fault ≡ Text
 
 -- where there is no answer for a fault of the file, nothing was printed

@@ -1,10 +1,10 @@
 //! The commands of the program, over a reader and writers.
 
-ghost use Rattle.std.specs.Prelude.{◌≡◌, ◌≢◌, ℕ, map, Some, Err, IfSome, IfErr, OnOk, codes};
+ghost use Rattle.std.specs.Prelude.{◌≡◌, ◌≢◌, ℕ, List, map, Some, Err, IfSome, IfErr, OnOk, codes};
 ghost use Rattle.std.specs.Io.KnownBytes.{Appends, Keeps};
 ghost use Rattle.clap.specs.Words.{kind_of};
-ghost use Rattle.sfu_main.specs.CommandLine.{Request, Types, asked_for, bound, request_of};
-ghost use Rattle.sfu_main.specs.Command.{FailsBound, IsNoRefusal, IsOutOfMemory, PrintsBound, RefusesBound, ShowsFailure, ShowsLine, unreadable_at};
+ghost use Rattle.sfu_main.specs.CommandLine.{Request, Types, asked_for, bound, check, request_of};
+ghost use Rattle.sfu_main.specs.Command.{FailsBound, IsNoRefusal, IsOutOfMemory, PrintsBound, RefusesBound, SaysNo, ShowsFailure, ShowsLine, unreadable_at};
 ghost use Rattle.std.specs.IoError.{error_kind};
 
 use crate::bound::{Refusal, read_lines};
@@ -147,6 +147,10 @@ pub fn run_command<R: AllocGlobal + Files, S: AsStr, I: Read, O: Write, E: Write
     ensures bound_refused { (sender : ℕ) → asked_for (map S.text words.now) ≡ Some (bound sender) → result ≡ Status.Refused
         → IfSome (I.remaining reader.old) (λ input. Keeps (O.contents writer.old) (O.contents writer.new)
         × RefusesBound sender input (E.contents errors.old) (E.contents errors.new)) }
+    ensures check_done { (file : List ℕ) → asked_for (map S.text words.now) ≡ Some (check file) → result ≡ Status.Done
+        → Appends (O.contents writer.old) (O.contents writer.new) (codes "yes\n") }
+    ensures check_refused { (file : List ℕ) → asked_for (map S.text words.now) ≡ Some (check file) → result ≡ Status.Refused
+        → SaysNo (O.contents writer.old) (O.contents writer.new) (E.contents errors.old) (E.contents errors.new) }
     ensures understood { (asked : Request) → Types (map S.text words.now) asked → result ≢ Status.CommandLine }
 {
     let alloc = rt.alloc();
@@ -167,7 +171,10 @@ fn run_check<R: AllocGlobal + Files, O: Write, E: Write>(
     writer: &mut O,
     errors: &mut E,
 ) -> Status
-    ensures { result ≢ Status.CommandLine }
+    ensures yes { result ≡ Status.Done → Appends (O.contents writer.old) (O.contents writer.new) (codes "yes\n") }
+    ensures no { result ≡ Status.Refused
+        → SaysNo (O.contents writer.old) (O.contents writer.new) (E.contents errors.old) (E.contents errors.new) }
+    ensures understood { result ≢ Status.CommandLine }
 {
     match fs::open(rt, file) {
         Ok(mut file) => check_lines(rt.alloc(), &mut file, writer, errors),
