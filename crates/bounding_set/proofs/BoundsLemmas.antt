@@ -1,13 +1,12 @@
 -- What is announced: the lines, or the stops, and when that changes.
-use Rattle.std.proofs.Common.{◌≡◌, ◌≢◌, ℕ, ◌<◌, IsTrue, Bool, true, false, List, [], ◌∷◌, length, get_or, Some, None, inl, inr, refl, sym, ap, ◌∙◌, subst, arith}
+use Rattle.std.proofs.Common.{◌≡◌, ◌≢◌, IsTrue, Bool, List, [], ◌∷◌, length, refl, sym, ap, ◌∙◌, subst, arith}
 use Rattle.std.specs.Prelude.{◌↔◌, All, Any, Contains}
-use Rattle.std.proofs.lemmas.Bool.{cases_Bool}
 use Rattle.std.proofs.lemmas.List.Elements.{All-contains}
 use Rattle.rate_cert.specs.declared.request.Request.{Request}
 use Rattle.rate_cert.specs.declared.certificate.Cert.{Cert}
 use Rattle.rate_cert.specs.Choice.{chosen_requests}
 use Rattle.rate_cert.specs.Certificate.{kept_places}
-use Rattle.bounding_set.specs.Rows.{HasRisingOwners, Puts, tuple_of}
+use Rattle.bounding_set.specs.Rows.{HasRisingOwners}
 use Rattle.bounding_set.specs.Canonical.{StopsMedia}
 use Rattle.bounding_set.specs.Announced.{AnnouncesList, HoldsStops, announced_among}
 use Rattle.bounding_set.specs.Envelope.{IsEnvelopeOf}

@@ -1,10 +1,9 @@
 -- How many lines a splice drops, and how many tests a call takes.
-use Rattle.std.proofs.Common.{◌≡◌, ◌≢◌, ℕ, zero, suc, ◌+◌, ◌-◌, ◌*◌, ◌<◌, ◌≤◌, Bool, true, cond, List, [], ◌∷◌, ◌++◌, length, get_or, take, drop, None, inl, inr, sym, ap, ◌∙◌, subst, lit<, arith}
-use Rattle.std.specs.Prelude.{All, Contains, count_by, not, is_some}
-use Rattle.std.proofs.lemmas.Bool.{cases_lt}
+use Rattle.std.proofs.Common.{◌≡◌, ◌≢◌, ℕ, zero, suc, ◌+◌, ◌-◌, ◌*◌, ◌<◌, ◌≤◌, Bool, true, cond, List, [], ◌∷◌, ◌++◌, length, get_or, take, drop, None, sym, ap, ◌∙◌, subst, lit<, arith}
+use Rattle.std.specs.Prelude.{All, count_by, not, is_some}
 use Rattle.std.proofs.lemmas.Bool.Decides.{nat_tests}
 use Rattle.std.proofs.lemmas.List.{get_or_default, get_or-take, get_or-drop, length-take, length-drop}
-use Rattle.std.proofs.lemmas.List.Elements.{All-append, All-cons, All-contains, Contains-get_or, AllWithin-from_all}
+use Rattle.std.proofs.lemmas.List.Elements.{All-append, All-cons, All-contains, AllWithin-from_all}
 use Rattle.std.proofs.lemmas.List.Sums.{sum_by-cons}
 use Rattle.rate_cert.specs.declared.certificate.TheConstants.{MAX_REQUESTS}
 use Rattle.rate_cert.specs.declared.request.Request.{Request}

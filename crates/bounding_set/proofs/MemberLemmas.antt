@@ -1,6 +1,6 @@
 -- Live requests as members of the rows: who is live has a row, and what an edit does to the rows' envelope.
-use Rattle.std.proofs.Common.{◌≡◌, ◌≢◌, ℕ, ◌<◌, ◌≤◌, IsTrue, Bool, List, [], ◌∷◌, ◌++◌, length, get_or, take, drop, Some, None, Option, inl, inr, refl, sym, ap, ◌∙◌, subst, arith}
-use Rattle.std.specs.Prelude.{◌↔◌, ◌⊎◌, All, Any, Contains}
+use Rattle.std.proofs.Common.{◌≡◌, ◌≢◌, ℕ, IsTrue, Bool, List, [], ◌∷◌, get_or, take, drop, Some, None, Option, inl, inr, refl, sym, ap, ◌∙◌, subst, arith}
+use Rattle.std.specs.Prelude.{◌↔◌, All, Any, Contains}
 use Rattle.std.specs.Bool.{Decides}
 use Rattle.std.specs.Option.{option_eq}
 use Rattle.std.proofs.lemmas.Bool.{cases_eq}
@@ -12,11 +12,10 @@ use Rattle.tmmbr_tuple.proofs.TupleLemmas.{same_tuple}
 use Rattle.rate_cert.specs.declared.request.Request.{Request}
 use Rattle.rate_cert.proofs.CheckerLemmas.{holds_at, no_of}
 use Rattle.bounding_set.specs.Rows.{HasRisingOwners, IsRowOf, Puts, tuple_of}
-use Rattle.bounding_set.specs.Canonical.{StopsMedia}
 use Rattle.bounding_set.specs.Envelope.{IsEnvelopeOf}
 use Rattle.bounding_set.specs.Spliced.{IsSpliced}
 use Rattle.bounding_set.proofs.RowLemmas.{tuple_of-row}
-use Rattle.bounding_set.proofs.SplicedLemmas.{Contains-cons_cases, Contains-head, Contains-tail, IsEnvelopeOf-members, IsEnvelopeOf-stopped}
+use Rattle.bounding_set.proofs.SplicedLemmas.{Contains-cons_cases, Contains-head, Contains-tail, IsEnvelopeOf-members}
 
 -- `==` of tuples, and of what was asked for
 Decides-tuple_eq : (a b : Tuple) → Decides (tuple_eq.it a b) (a ≡ b)

@@ -48,7 +48,7 @@ pub record AnnouncesList (rows kept : List Request) : Type 0 where
   pub pairs : HasPairs rows kept (kept_pairs kept)
   pub covered : All (IsCovered kept) rows
 
--- The stops are what is announced for the rows while a rate is 0, one of them such a row, and nothing else.
+-- The stops are none where all rows send; else they are what is announced, a row whose rate is 0 among them.
 pub record HoldsStops (rows stops : List Request) : Type 0 where
   pub none : length stops ≡ 0 → All (λ r. ¬ StopsMedia r) rows
   pub announced : 0 < length stops → AnnouncesList rows stops

@@ -23,6 +23,7 @@ pub struct Bounds {
     /// What is announced while a rate is 0; empty while none is.
     stops: ArrayVec<Request, MAX_STOPS>,
     cert: Cert,
+    /// How many tests the last change took.
     steps: u32,
 }
 

@@ -1,10 +1,8 @@
-use Rattle.std.proofs.Common.{◌≡◌, ◌<◌, ◌≤◌, ◌∷◌, length, inl, inr, sym, ap, ◌∙◌, subst, arith}
+use Rattle.std.proofs.Common.{inl, inr, sym, ap, ◌∙◌, arith}
 use Rattle.std.proofs.lemmas.Bool.{cases_Bool}
-use Rattle.rate_cert.specs.declared.certificate.TheConstants.{MAX_REQUESTS}
 use Rattle.bounding_set.specs.Canonical.{StopsMedia}
-use Rattle.bounding_set.specs.Envelope.{IsEnvelopeOf}
 use Rattle.bounding_set.proofs.SplicedLemmas.{IsEnvelopeOf-spliced, IsEnvelopeOf-stopped}
-use Rattle.bounding_set.proofs.MemberLemmas.{HasOneMore, HasOneMore-put, IsEnvelopeOf-more, HasLineOf-line, Contains-spliced}
+use Rattle.bounding_set.proofs.MemberLemmas.{HasOneMore-put, IsEnvelopeOf-more, HasLineOf-line, Contains-spliced}
 use Rattle.bounding_set.proofs.DropLemmas.{tests_fit, lines_within, dropped_between}
 use Rattle.bounding_set.proofs.live.put_in.Goals as goal
 

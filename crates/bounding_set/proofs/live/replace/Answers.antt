@@ -1,6 +1,5 @@
-use Rattle.std.proofs.Common.{◌≡◌, inl, inr, sym, ap, ◌∙◌, subst}
+use Rattle.std.proofs.Common.{◌≡◌, inl, inr, ap, ◌∙◌, subst}
 use Rattle.std.proofs.lemmas.Bool.{cases_Bool}
-use Rattle.bounding_set.specs.Rows.{tuple_of}
 use Rattle.bounding_set.proofs.MemberLemmas.{HasLineOf, lines_differ}
 use Rattle.bounding_set.proofs.live.replace.Goals as goal
 

@@ -1,6 +1,6 @@
 use Rattle.std.proofs.Common.{refl, sym, subst, Some}
 use Rattle.std.specs.Prelude.{IsNone}
-use Rattle.bounding_set.specs.Rows.{HasRisingOwners, IsRowOf, IsGapFor, Puts, tuple_of}
+use Rattle.bounding_set.specs.Rows.{HasRisingOwners, IsRowOf, IsGapFor, Puts}
 use Rattle.bounding_set.proofs.RowLemmas.{Puts-insert, HasRisingOwners-insert, live_at_row}
 use Rattle.bounding_set.proofs.rows.add.Goals as goal
 

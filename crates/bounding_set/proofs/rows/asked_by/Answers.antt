@@ -1,5 +1,4 @@
-use Rattle.std.proofs.Common.{◌∙◌, sym, ap, Some}
-use Rattle.rate_cert.specs.declared.request.Request.{Request}
+use Rattle.std.proofs.Common.{sym}
 use Rattle.bounding_set.proofs.RowLemmas.{tuple_of-row, tuple_of-no_row}
 use Rattle.bounding_set.proofs.rows.asked_by.Goals as goal
 

@@ -3,7 +3,7 @@ use Rattle.std.specs.Prelude.{All, ◌≢◌}
 use Rattle.rate_cert.specs.declared.request.Request.{Request}
 use Rattle.bounding_set.specs.Canonical.{StopsMedia}
 use Rattle.bounding_set.specs.Envelope.{IsEnvelopeOf}
-use Rattle.bounding_set.proofs.MemberLemmas.{HasOneMore, HasOneMore-taken, IsEnvelopeOf-fewer, All-fewer, absent_owner}
+use Rattle.bounding_set.proofs.MemberLemmas.{HasOneMore-taken, IsEnvelopeOf-fewer, All-fewer, absent_owner}
 use Rattle.bounding_set.proofs.bounds.Bounds.remove.Goals as goal
 
 pub unsplice-requires-clause-envelope : goal.unsplice-requires-clause-envelope

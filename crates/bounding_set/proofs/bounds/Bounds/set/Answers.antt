@@ -1,8 +1,8 @@
-use Rattle.std.proofs.Common.{◌≡◌, ◌≢◌, IsTrue, List, [], length, None, sym, ap, ◌∙◌, subst, arith}
+use Rattle.std.proofs.Common.{◌≡◌, ◌≢◌, IsTrue, List, None, sym, ap, ◌∙◌, subst, arith}
 use Rattle.std.specs.Prelude.{◌↔◌, All}
 use Rattle.std.proofs.lemmas.Bool.Decides.{nat_tests}
 use Rattle.rate_cert.specs.declared.request.Request.{Request}
-use Rattle.rate_cert.proofs.CheckerLemmas.{shown, refuted, no_of}
+use Rattle.rate_cert.proofs.CheckerLemmas.{refuted, no_of}
 use Rattle.bounding_set.specs.Canonical.{StopsMedia}
 use Rattle.bounding_set.specs.Announced.{HoldsStops, announced_among}
 use Rattle.bounding_set.specs.State.{State, announced_of, dropped_count}
