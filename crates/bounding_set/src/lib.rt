@@ -34,3 +34,5 @@ mod slow;
 mod slow_certificate;
 #[cfg(test)]
 mod tests;
+#[cfg(test)]
+mod unsplice_tests;

@@ -1,0 +1,74 @@
+//! What comes back where a line goes, worked out by hand.
+use super::*;
+use rate_cert::Request;
+use std::test::Fail;
+use tmmbr_tuple::{Ssrc, Tuple};
+
+/// A request for this rate with this overhead.
+fn asks(owner: u32, rate: u32, overhead: u16) -> Result<Request, Fail> {
+    let tuple = Tuple::new(0, rate, overhead).ok_or("out of range")?;
+    Ok(Request {
+        owner: Ssrc(owner),
+        tuple,
+    })
+}
+
+#[test]
+fn looks_between_the_neighbours(rt: HostRuntime) -> Result<(), Fail> {
+    // Rate over overhead falls: 10, 2 and 3/2. Slopes rise: 10/9 and 5/4.
+    let first = asks(1, 10, 1)?;
+    let middle = asks(2, 20, 10)?;
+    let last = asks(3, 45, 30)?;
+    // Behind the last line: 61/40 is more than its 3/2.
+    let beyond = asks(4, 61, 40)?;
+    let mut bounds = Bounds::new();
+    for request in [first, middle, last, beyond] {
+        let _changed = bounds.set(request.owner, request.tuple)?;
+    }
+    assert_eq!(rt;
+        bounds.announced().as_slice(),
+        [first, middle, last].as_slice()
+    );
+    // No row lies between its neighbours, so none is looked at.
+    assert_eq!(rt; bounds.remove(Ssrc(2)), Some(middle.tuple));
+    assert_eq!(rt; bounds.steps(), 0);
+    assert_eq!(rt; bounds.announced().as_slice(), [first, last].as_slice());
+    Ok(())
+}
+
+#[test]
+fn brings_back_what_it_hid(rt: HostRuntime) -> Result<(), Fail> {
+    let first = asks(1, 10, 1)?;
+    let middle = asks(2, 20, 10)?;
+    let last = asks(3, 45, 30)?;
+    // At 12 the middle and the last ask for 22 1/2, and the first and the last for about 23.28.
+    let hidden = asks(4, 23, 12)?;
+    // Without overhead the first asks for less.
+    let low = asks(5, 12, 0)?;
+    let mut bounds = Bounds::new();
+    for request in [first, middle, last, hidden, low] {
+        let _changed = bounds.set(request.owner, request.tuple)?;
+    }
+    assert_eq!(rt;
+        bounds.announced().as_slice(),
+        [first, middle, last].as_slice()
+    );
+    assert_eq!(rt; bounds.remove(Ssrc(2)), Some(middle.tuple));
+    assert_eq!(rt;
+        bounds.announced().as_slice(),
+        [first, hidden, last].as_slice()
+    );
+    // At an end, first on the right and then on the left, a neighbour is missing.
+    assert_eq!(rt; bounds.set(Ssrc(2), middle.tuple), Ok(true));
+    assert_eq!(rt; bounds.remove(Ssrc(3)), Some(last.tuple));
+    assert_eq!(rt;
+        bounds.announced().as_slice(),
+        [first, middle, hidden].as_slice()
+    );
+    assert_eq!(rt; bounds.remove(Ssrc(1)), Some(first.tuple));
+    assert_eq!(rt;
+        bounds.announced().as_slice(),
+        [low, middle, hidden].as_slice()
+    );
+    Ok(())
+}
