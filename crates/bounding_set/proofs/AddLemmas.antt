@@ -75,7 +75,7 @@ module _ (lines : List Request) (x : Request) (hull : IsHull lines) where
       ]
 
   -- so no request that the lines cover has the line of one that the last line reaches beyond
-  no_same_line : (d : Request) → 0 < length lines → (¬ ReachesNoFarther (get_or lines (length lines - 1) d) x)
+  pub no_same_line : (d : Request) → 0 < length lines → (¬ ReachesNoFarther (get_or lines (length lines - 1) d) x)
       → (z : Request) → Covers lines z → ¬ HasSameLine x z
   unfolding reach_pair
   no_same_line d some beyond z covers same =
@@ -85,7 +85,7 @@ module _ (lines : List Request) (x : Request) (hull : IsHull lines) where
       beyond (rw (same.rate, same.overhead) reach)
 
   -- without any line, no request is covered
-  none_covered : length lines ≡ 0 → (z : Request) → Covers lines z → ⊥
+  pub none_covered : length lines ≡ 0 → (z : Request) → Covers lines z → ⊥
   none_covered none z covers =
       let permitted = covers (record { packets = 0; bits = rate_of z.tuple + 1; seconds = 1 }) (λ k d below. absurd (omega (arith, none))) in
       omega (arith, permitted)

@@ -6,6 +6,9 @@ pub mod BesideLemmas
 pub mod AddLemmas
 pub mod SortLemmas
 pub mod WalkLemmas
+pub mod SpliceTurns
+pub mod SpliceLemmas
+pub mod StandsLemmas
 pub mod EndLemmas
 pub mod EssentialLemmas
 pub mod StopScans
@@ -14,6 +17,8 @@ pub mod KeptLemmas
 pub mod ImpliedLemmas
 pub mod CertificateLemmas
 pub mod SplicedLemmas
+pub mod UnspliceLemmas
+pub mod PutBackLemmas
 pub mod MemberLemmas
 pub mod DropLemmas
 pub mod BoundsLemmas
