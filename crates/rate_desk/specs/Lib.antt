@@ -1,0 +1,9 @@
+pub mod Presence
+pub mod Plis
+pub mod Trace
+pub mod Answer
+pub mod History
+pub mod Effect
+pub mod Kept
+pub mod State
+pub mod Held
