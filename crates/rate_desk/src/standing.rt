@@ -3,7 +3,7 @@
 
 ghost use Rattle.std.specs.Prelude.{◌≡◌, ◌≤◌, length, None};
 ghost use Rattle.bounding_set.specs.State.{AnnouncesSmallest};
-ghost use Rattle.rate_desk.specs.Presence.{HasRisingOwners, HasStay, live_requests, present_by, refusal_of};
+ghost use Rattle.rate_desk.specs.Presence.{HasRisingOwners, HasStays, HasStay, live_requests, present_by, refusal_of};
 
 use crate::call::{Answer, Call};
 use crate::kept::kept_bits;
@@ -104,6 +104,7 @@ fn follow(bounds: &mut Bounds, present: &[Present], call: &Call)
     requires stays { HasStay call.now }
     requires accepted { refusal_of present.now call.now ≡ None }
     requires rising { HasRisingOwners present.now }
+    requires numbered { HasStays present.now }
     requires few { length present.now ≤ PRESENT_LIMIT }
     requires live { bounds.old.rows ≡ live_requests present.now }
     ensures live { bounds.new.rows ≡ live_requests (present_by present.now call.now) }
