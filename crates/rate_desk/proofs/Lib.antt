@@ -1,0 +1,2 @@
+pub mod GateLemmas
+pub mod HistoryLemmas
