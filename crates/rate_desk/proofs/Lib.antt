@@ -1,2 +1,4 @@
 pub mod PresenceLemmas
 pub mod LiveLemmas
+pub mod GateLemmas
+pub mod HistoryLemmas
