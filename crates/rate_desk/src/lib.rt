@@ -12,6 +12,7 @@ mod effect;
 mod kept;
 mod pli;
 mod presence;
+mod standing;
 
 pub use call::{Answer, Call, Entry};
 pub use desk::{Desk, HistoryFull, Reply};
