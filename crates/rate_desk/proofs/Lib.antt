@@ -2,3 +2,5 @@ pub mod PresenceLemmas
 pub mod LiveLemmas
 pub mod GateLemmas
 pub mod HistoryLemmas
+pub mod KeptLemmas
+pub mod EffectLemmas
