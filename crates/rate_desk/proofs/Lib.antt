@@ -4,3 +4,4 @@ pub mod GateLemmas
 pub mod HistoryLemmas
 pub mod KeptLemmas
 pub mod EffectLemmas
+pub mod StandingLemmas

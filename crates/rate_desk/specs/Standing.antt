@@ -1,7 +1,9 @@
 -- What a contract sees of a `Standing`.
-use Rattle.std.specs.Prelude.{◌≡◌, ℕ, ◌≤◌, List, length}
+use Rattle.std.specs.Prelude.{◌≡◌, ℕ, ◌+◌, ◌-◌, ◌≤◌, List, length}
 use Rattle.bounding_set.specs.State.{State, AnnouncesSmallest}
+use Rattle.tmmbr_tuple.specs.declared.ssrc.Ssrc.{Ssrc}
 use Rattle.rate_desk.specs.declared.call.Call.{Call}
+use Rattle.rate_desk.specs.declared.call.Call.TheVariants.{Arrive, Request, Depart, Pli, Tick}
 use Rattle.rate_desk.specs.declared.call.Answer.{Answer}
 use Rattle.rate_desk.specs.declared.call.Answer.TheVariants.{Done}
 use Rattle.rate_desk.specs.declared.presence.Present.{Present}
@@ -29,3 +31,14 @@ pub record IsDoneAt (gap : ℕ) (gate : Gate) (call : Call) (bounds : State) (an
   pub kept : ℕ
   pub is : answer ≡ Done (sends_at gap gate call) kept
   pub keeps : KeepsRows bounds.rows kept
+
+-- how many are present behind a call that isn't refused, of so many before it
+abbrev pub count_by : Call → ℕ → ℕ
+count_by (Arrive owner stay) count = count + 1
+count_by (Request owner stay tuple) count = count
+count_by (Depart owner stay) count = count - 1
+count_by (Pli moment) count = count
+count_by (Tick moment) count = count
+
+abbrev pub IsDepart : Call → Type 0
+IsDepart call = (owner : Ssrc) × (stay : ℕ) × (call ≡ Depart owner stay)

@@ -192,6 +192,7 @@ impl Desk {
 
     /// Whether the history has no room for the call.
     fn is_over_limit(&self, call: &Call) -> bool
+        requires { HasStay call.now }
         ensures { IsTrue result ↔ IsOverLimit self.now.limit empty_base self.now.history call.now }
     {
         let room = self.history.capacity() - self.history.len();

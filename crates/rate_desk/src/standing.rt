@@ -4,6 +4,7 @@
 ghost use Rattle.std.specs.Prelude.{◌≡◌, ◌≤◌, length, None};
 ghost use Rattle.bounding_set.specs.State.{AnnouncesSmallest};
 ghost use Rattle.rate_desk.specs.Presence.{HasRisingOwners, HasStays, HasStay, live_requests, present_by, refusal_of};
+ghost use Rattle.rate_desk.specs.Standing.{IsDepart, count_by};
 
 use crate::call::{Answer, Call};
 use crate::kept::kept_bits;
@@ -71,14 +72,14 @@ impl Standing {
 
     /// How many will be present behind a call.
     pub fn count_behind(&self, call: &Call) -> usize
+        requires { HasStay call.now }
         ensures count { result ≡ length (present_with self.now.present call.now) }
         ensures few { result ≤ PRESENT_LIMIT }
     {
         let count = self.present.len();
-        match (self.refusal(call), call) {
-            (None, Call::Arrive { .. }) => count + 1,
-            (None, Call::Depart { .. }) => count - 1,
-            _ => count,
+        match self.refusal(call) {
+            Some(_) => count,
+            None => count_by(count, call),
         }
     }
 
@@ -96,6 +97,19 @@ impl Standing {
         let pli = self.gate.take_in(gap, call);
         let kept = kept_bits(self.bounds.cert());
         Answer::Done { pli, kept }
+    }
+}
+
+/// How many are present behind a call that isn't refused, of so many before it.
+fn count_by(count: usize, call: &Call) -> usize
+    requires few { count ≤ PRESENT_LIMIT }
+    requires some { IsDepart call.now → 1 ≤ count }
+    ensures { result ≡ count_by call.now count }
+{
+    match call {
+        Call::Arrive { .. } => count + 1,
+        Call::Depart { .. } => count - 1,
+        Call::Request { .. } | Call::Pli { .. } | Call::Tick { .. } => count,
     }
 }
 
