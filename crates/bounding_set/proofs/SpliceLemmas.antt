@@ -1,24 +1,22 @@
 -- Where a line goes in an envelope, and whether it is needed there.
-use Rattle.std.proofs.Common.{◌≡◌, ℕ, ◌+◌, ◌-◌, ◌*◌, ◌<◌, ◌≤◌, List, [], ◌∷◌, length, get_or, inl, inr, refl, sym, ◌∙◌, ap, subst, arith}
-use Rattle.std.specs.Prelude.{All, Any, min}
+use Rattle.std.proofs.Common.{◌≡◌, ℕ, ◌+◌, ◌-◌, ◌*◌, ◌<◌, ◌≤◌, List, [], ◌∷◌, length, get_or, inl, inr, sym, ◌∙◌, subst, arith}
+use Rattle.std.specs.Prelude.{All, min}
 use Rattle.std.specs.List.{AllWithin}
 use Rattle.std.specs.List.Sorted.{IsNonDecreasingBy}
 use Rattle.std.proofs.Math.Nat.{mul-le-mul_right}
 use Rattle.std.proofs.lemmas.Bool.{cases_lt, cases_eq}
 use Rattle.std.proofs.lemmas.List.{get_or_default}
 use Rattle.tmmbr_tuple.specs.Tuple.{rate_of}
-use Rattle.tmmbr_tuple.specs.RatePair.{RatePair, Permits}
 use Rattle.rate_cert.specs.declared.request.Request.{Request}
-use Rattle.rate_cert.specs.Requests.{IsFeasible}
-use Rattle.bounding_set.specs.Canonical.{HasSameLine, StopsMedia, ReachesNoFarther}
+use Rattle.bounding_set.specs.Canonical.{HasSameLine, StopsMedia}
 use Rattle.bounding_set.specs.Announced.{IsAboveChord}
 use Rattle.bounding_set.specs.Envelope.{IsNotAfter, ReachesBeyond, IsBehind, Crosses, Turns, IsHull, Covers}
 use Rattle.bounding_set.specs.Place.{IsPlaceOf, IsNeededAt}
 use Rattle.bounding_set.specs.Spliced.{ImplyTogether}
-use Rattle.bounding_set.proofs.TurnLemmas.{IsBelowChord, beyond_beyond}
+use Rattle.bounding_set.proofs.TurnLemmas.{IsBelowChord, beyond_beyond, permitted_by_stricter}
 use Rattle.bounding_set.proofs.BesideLemmas.{turns_from_needed, rises_from_needed, reach_from_needed}
 use Rattle.bounding_set.proofs.SpliceTurns.{rate_below, reach_below, still_below, turns_from_left, turns_to_right, rate_at_end}
-use Rattle.bounding_set.proofs.EndLemmas.{right_of_crossing, left_of_crossing, IsAboveChord-from_end}
+use Rattle.bounding_set.proofs.EndLemmas.{left_of_crossing, IsAboveChord-from_end}
 use Rattle.bounding_set.proofs.EssentialLemmas.{chords}
 use Rattle.bounding_set.proofs.AddLemmas.{none_covered, no_same_line}
 
@@ -58,7 +56,8 @@ module _ (lines : List Request) (hull : IsHull lines) where
       elim (cases_eq k 0) [
         | inl here ↦ rw (here, first_is) (omega arith)
         | inr behind ↦
-            let crosses : Crosses first (get_or lines k e) = subst (λ l. Crosses l (get_or lines k e)) first_is (hull.crosses 0 k e (omega (arith, behind)) below) in
+            let crosses : Crosses first (get_or lines k e) =
+            subst (λ l. Crosses l (get_or lines k e)) first_is (hull.crosses 0 k e (omega (arith, behind)) below) in
             omega (arith, crosses.rate)
       ]) in
       omega (arith, permitted)
@@ -90,41 +89,40 @@ module _ (lines : List Request) (x : Request) (hull : IsHull lines) (at : ℕ) (
     behind = λ k d low below. record {
       overhead = place.behind k d low below;
       rate = elim (cases_eq k 0) [
-          | inl here ↦
-              let is : get_or lines 0 d ≡ get_or lines 0 x = get_or_default lines 0 d x some in
-              rw (here, is) less
-          | inr later ↦
-              let is : get_or lines 0 d ≡ get_or lines 0 x = get_or_default lines 0 d x some in
-              let crosses : Crosses (get_or lines 0 x) (get_or lines k d) = subst (λ l. Crosses l (get_or lines k d)) is (hull.crosses 0 k d (omega (arith, later)) below) in
-              omega (arith, crosses.rate, less)
-        ];
+        | inl here ↦
+            let is : get_or lines 0 d ≡ get_or lines 0 x = get_or_default lines 0 d x some in
+            rw (here, is) less
+        | inr later ↦
+            let is : get_or lines 0 d ≡ get_or lines 0 x = get_or_default lines 0 d x some in
+            let crosses : Crosses (get_or lines 0 x) (get_or lines k d) = subst (λ l. Crosses l (get_or lines k d)) is (hull.crosses 0 k d (omega (arith, later)) below) in
+            omega (arith, crosses.rate, less)
+      ];
     };
     first = λ k d low below. absurd (omega arith);
     turns = λ i j d before behind below. absurd (omega (arith, first));
     new = λ z covers same. absurd (omega (arith, first_lowest lines hull x z some covers, same.rate, less));
   }
 
-  -- the last line reaches beyond x
-  needed_last : at ≡ length lines → 0 < length lines → rate_of x.tuple * (get_or lines (length lines - 1) x).tuple.overhead < rate_of (get_or lines (length lines - 1) x).tuple * x.tuple.overhead → IsNeededAt lines x at at
-  needed_last last some farther = record {
+  needed_last : at ≡ length lines → 0 < length lines → ReachesBeyond x (get_or lines (length lines - 1) x) → IsNeededAt lines x at at
+  needed_last last some of_top = record {
     beyond = λ k d low below.
         let top = get_or lines (length lines - 1) x in
         let l = get_or lines k d in
         let top_is : get_or lines (length lines - 1) d ≡ top = get_or_default lines (length lines - 1) d x (omega arith) in
-        let less : top.tuple.overhead < x.tuple.overhead = place.before (length lines - 1) x (omega arith) (omega (arith, last)) in
-        record {
-          overhead = place.before k d low below;
-          reach = elim (cases_eq k (length lines - 1)) [
-              | inl here ↦ rw (here, top_is) farther
-              | inr before ↦
-                  let crosses : Crosses l top = subst (Crosses l) top_is (hull.crosses k (length lines - 1) d (omega (arith, before, last)) (omega arith)) in
-                  beyond_beyond l.tuple.overhead (rate_of l.tuple) top.tuple.overhead (rate_of top.tuple) x.tuple.overhead (rate_of x.tuple) less crosses.reach farther
-            ];
-        };
+        elim (cases_eq k (length lines - 1)) [
+          | inl here ↦ rw (here, top_is) of_top
+          | inr before ↦
+              let crosses : Crosses l top = subst (Crosses l) top_is (hull.crosses k (length lines - 1) d (omega (arith, before, last)) (omega arith)) in
+              record {
+                overhead = place.before k d low below;
+                reach = beyond_beyond l.tuple.overhead (rate_of l.tuple) top.tuple.overhead (rate_of top.tuple) x.tuple.overhead (rate_of x.tuple)
+                    of_top.overhead crosses.reach of_top.reach;
+              }
+        ];
     behind = λ k d low below. absurd (omega (arith, last));
     first = λ k d low below. absurd (omega arith);
     turns = λ i j d before behind below. absurd (omega (arith, last));
-    new = λ z covers same. absurd (no_same_line lines x hull x some (λ no_farther. omega (arith, no_farther, farther)) z covers same);
+    new = λ z covers same. absurd (no_same_line lines x hull x some (λ no_farther. omega (arith, no_farther, of_top.reach)) z covers same);
   }
 
   module _ (some : 0 < at) (within : at < length lines) (turn : (d : Request) → Turns (get_or lines (at - 1) d) x (get_or lines at d)) where
@@ -216,14 +214,14 @@ module _ (lines : List Request) (x : Request) (hull : IsHull lines) (at : ℕ) (
     none_has_line : (z : Request) → Covers lines z → ¬ HasSameLine x z
     none_has_line z covers same =
         let a = get_or lines (at - 1) x in
+        let b = get_or lines at x in
+        let covers_x : Covers lines x = λ p feasible.
+        permitted_by_stricter p.bits p.packets p.seconds x.tuple.overhead z.tuple.overhead (rate_of x.tuple) (rate_of z.tuple)
+        (omega (arith, same.overhead)) (omega (arith, same.rate)) (covers p feasible) in
         let next : (at - 1) + 1 ≡ at = omega arith in
-        let chord = above_chord lines hull (at - 1) x z (omega arith) covers in
-        let above : IsAboveChord a (get_or lines at x) z = subst (λ n. IsAboveChord a (get_or lines n x) z) next chord in
-        let here : IsAboveChord a (get_or lines at x) x = subst (λ h. (get_or lines at x).tuple.overhead * rate_of a.tuple + h * rate_of (get_or lines at x).tuple + a.tuple.overhead * rate_of x.tuple
-        ≤ (get_or lines at x).tuple.overhead * rate_of x.tuple + h * rate_of a.tuple + a.tuple.overhead * rate_of (get_or lines at x).tuple) (sym same.overhead)
-        (subst (λ r. (get_or lines at x).tuple.overhead * rate_of a.tuple + z.tuple.overhead * rate_of (get_or lines at x).tuple + a.tuple.overhead * r
-        ≤ (get_or lines at x).tuple.overhead * r + z.tuple.overhead * rate_of a.tuple + a.tuple.overhead * rate_of (get_or lines at x).tuple) (sym same.rate) above) in
-        omega (arith, here, turn x)
+        let above : IsAboveChord a b x = subst (λ n. IsAboveChord a (get_or lines n x) x) next
+        (above_chord lines hull (at - 1) x x (omega arith) covers_x) in
+        omega (arith, above, turn x)
 
     needed_between : IsNeededAt lines x at at
     needed_between = record {
@@ -246,12 +244,16 @@ module _ (lines : List Request) (x : Request) (hull : IsHull lines) (at : ℕ) (
         (subst (λ (l : Request). ¬ ImplyTogether l.tuple (get_or lines 0 x).tuple x.tuple) a_here
         (subst (λ (l : Request). ¬ ImplyTogether a.tuple l.tuple x.tuple) b_here not_implied))
 
-    beyond_at_end : at ≡ length lines → rate_of x.tuple * (get_or lines (length lines - 1) x).tuple.overhead < rate_of (get_or lines (length lines - 1) x).tuple * x.tuple.overhead
+    beyond_at_end : at ≡ length lines → ReachesBeyond x (get_or lines (length lines - 1) x)
     beyond_at_end last =
         let top = get_or lines (length lines - 1) x in
         let here : a ≡ top = subst (λ n. a ≡ get_or lines n x) {x = at - 1} (omega (arith, last)) (a_is x) in
-        reach_from_needed top x b (place.before (length lines - 1) x (omega arith) (omega (arith, last))) (send (length lines - 1) x (omega arith))
-        (subst (λ (l : Request). ¬ ImplyTogether l.tuple b.tuple x.tuple) here not_implied)
+        let less : top.tuple.overhead < x.tuple.overhead = place.before (length lines - 1) x (omega arith) (omega (arith, last)) in
+        record {
+          overhead = less;
+          reach = reach_from_needed top x b less (send (length lines - 1) x (omega arith))
+              (subst (λ (l : Request). ¬ ImplyTogether l.tuple b.tuple x.tuple) here not_implied);
+        }
 
     turn_at : 0 < at → at < length lines → (d : Request) → Turns (get_or lines (at - 1) d) x (get_or lines at d)
     turn_at inner within d =
@@ -266,12 +268,12 @@ module _ (lines : List Request) (x : Request) (hull : IsHull lines) (at : ℕ) (
         elim (cases_eq at 0) [
           | inl first ↦ needed_first first some (less_at_start first)
           | inr inner ↦ elim (cases_eq at (length lines)) [
-              | inl last ↦ needed_last last some (beyond_at_end last)
-              | inr within ↦
-                  let before_end : at < length lines = omega (arith, within, place.in_range) in
-                  let behind_start : 0 < at = omega (arith, inner) in
-                  needed_between behind_start before_end (turn_at behind_start before_end)
-            ]
+            | inl last ↦ needed_last last some (beyond_at_end last)
+            | inr within ↦
+                let before_end : at < length lines = omega (arith, within, place.in_range) in
+                let behind_start : 0 < at = omega (arith, inner) in
+                needed_between behind_start before_end (turn_at behind_start before_end)
+          ]
         ]
 
 -- a line of the same overhead stands there
@@ -287,11 +289,11 @@ module _ (lines : List Request) (x : Request) (hull : IsHull lines) (at from : �
       elim (cases_eq from (at + 1)) [
         | inl one ↦ one
         | inr more ↦ absurd (omega (
-            arith,
-            (hull.crosses at (at + 1) x (omega arith) (omega (arith, more, place.in_range))).overhead,
-            overhead_at x,
-            place.same (at + 1) x (omega arith) (omega (arith, more)),
-          ))
+          arith,
+          (hull.crosses at (at + 1) x (omega arith) (omega (arith, more, place.in_range))).overhead,
+          overhead_at x,
+          place.same (at + 1) x (omega arith) (omega (arith, more)),
+        ))
       ]
 
   -- what has the line of x stands there
@@ -300,9 +302,9 @@ module _ (lines : List Request) (x : Request) (hull : IsHull lines) (at from : �
       elim (cases_lt k at) [
         | inl less ↦ absurd (omega (arith, place.before k d (omega arith) less))
         | inr no_less ↦ elim (cases_lt k from) [
-            | inl there ↦ omega (arith, only_one)
-            | inr more ↦ absurd (omega (arith, place.behind k d more below))
-          ]
+          | inl there ↦ omega (arith, only_one)
+          | inr more ↦ absurd (omega (arith, place.behind k d more below))
+        ]
       ]
 
   pub least_from_first : ((d : Request) → IsNotAfter (get_or lines at d) x) → All (λ l. HasSameLine l x → l.owner.0 ≤ x.owner.0) lines

@@ -1,5 +1,5 @@
 -- Envelopes and their rows: one row more or less, and a line that is put in.
-use Rattle.std.proofs.Common.{◌≡◌, ℕ, zero, suc, ◌<◌, ◌≤◌, ◌↔◌, Bool, false, IsTrue, List, [], ◌∷◌, get_or, take, drop, inl, inr, refl, sym, ◌∙◌, subst, arith}
+use Rattle.std.proofs.Common.{◌≡◌, ℕ, zero, suc, ◌≤◌, ◌↔◌, Bool, false, IsTrue, List, [], ◌∷◌, get_or, take, drop, inl, inr, refl, sym, ◌∙◌, subst, arith}
 use Rattle.std.specs.Prelude.{All, Any, Contains, ◌⊎◌}
 use Rattle.std.proofs.lemmas.Bool.{cases_Bool}
 use Rattle.std.proofs.lemmas.List.Elements.{All-contains, All-cons, All-tail, All-append, All-take, All-drop, Contains-get_or, Contains-append_right, AllWithin-from_all}

@@ -1,6 +1,6 @@
 -- A line in place of those that it makes needless: what remains is a hull.
-use Rattle.std.proofs.Common.{◌≡◌, ◌≢◌, ℕ, suc, ◌+◌, ◌-◌, ◌*◌, ◌<◌, ◌≤◌, List, ◌∷◌, ◌++◌, length, get_or, take, drop, inl, inr, refl, sym, ◌∙◌, ap, subst, arith}
-use Rattle.std.specs.Prelude.{All, Any}
+use Rattle.std.proofs.Common.{◌≡◌, ◌≢◌, ℕ, suc, ◌+◌, ◌-◌, ◌<◌, ◌≤◌, List, ◌∷◌, ◌++◌, length, get_or, take, drop, inl, inr, refl, sym, ◌∙◌, ap, subst, arith}
+use Rattle.std.specs.Prelude.{All}
 use Rattle.std.specs.List.{AllWithin}
 use Rattle.std.proofs.lemmas.Bool.{cases_lt, cases_eq}
 use Rattle.std.proofs.lemmas.List.{length-append, length-take-le, length-drop, get_or-take, get_or-drop, get_or_append_left, get_or-append_right}
@@ -9,7 +9,7 @@ use Rattle.tmmbr_tuple.specs.RatePair.{RatePair, Permits}
 use Rattle.rate_cert.specs.declared.request.Request.{Request}
 use Rattle.rate_cert.specs.Requests.{IsFeasible}
 use Rattle.bounding_set.specs.Canonical.{HasSameLine}
-use Rattle.bounding_set.specs.Envelope.{ReachesBeyond, IsBehind, Crosses, Turns, IsHull, Covers}
+use Rattle.bounding_set.specs.Envelope.{Crosses, Turns, IsHull, Covers}
 use Rattle.bounding_set.specs.Place.{IsPlaceOf, IsNeededAt, StandsFor}
 use Rattle.bounding_set.proofs.TurnLemmas.{permitted_by_stricter}
 
@@ -59,21 +59,21 @@ module _ {X : Type 0} (xs : List X) (x : X) (low high : ℕ) (rising : low ≤ h
       elim (cases_lt j low) [
         | inl both_first ↦ omega (arith, a.before (omega arith), b.before both_first)
         | inr j_last ↦ elim (cases_lt i low) [
-            | inl i_first ↦ omega (arith, a.before i_first, b.behind (omega (arith, j_other)))
-            | inr i_last ↦ omega (arith, a.behind (omega (arith, i_other)), b.behind (omega (arith, j_other)))
-          ]
+          | inl i_first ↦ omega (arith, a.before i_first, b.behind (omega (arith, j_other)))
+          | inr i_last ↦ omega (arith, a.behind (omega (arith, i_other)), b.behind (omega (arith, j_other)))
+        ]
       ]
 
   came_from : (k : ℕ) → k < length (replaced xs x low high) → k ≢ low → CameFrom xs (replaced xs x low high) low high k
   came_from k below other =
       elim (cases_lt k low) [
         | inl first ↦ record {
-            place = k;
-            in_range = omega arith;
-            is = λ d. at_before k d first;
-            before = λ less. refl;
-            behind = λ more. absurd (omega arith);
-          }
+          place = k;
+          in_range = omega arith;
+          is = λ d. at_before k d first;
+          before = λ less. refl;
+          behind = λ more. absurd (omega arith);
+        }
         | inr last ↦
             let is : (k - low - 1) + high + low + 1 ≡ k + high = omega (arith, other) in
             record {
@@ -264,18 +264,18 @@ module _ (lines : List Request) (x : Request) (at from low more : ℕ) (place : 
             (λ j e low_j j_below. covers_before p (within_take (λ l. Permits l.tuple p) lines at low low_in first) by_x j e (omega (arith, length-take-le at lines at_in)))
             k d (omega arith) before
         | inr no_less ↦ elim (cases_lt k from) [
-            | inl same ↦
-                let s = get_or lines k d in
-                let order = needed.first k d no_less same in
-                let is = place.same k d no_less same in
-                permitted_by_stricter p.bits p.packets p.seconds s.tuple.overhead x.tuple.overhead (rate_of s.tuple) (rate_of x.tuple)
-                (omega arith) (order.rate (sym is)) by_x
-            | inr behind ↦
-                from_drop (λ l. Permits l.tuple p) lines from k d behind
-                (covers_behind p
-                (λ j e low_j j_below. subst (λ l. Permits l.tuple p) (sym (get_or-drop from lines j e)) (last (from + j) e (omega arith) (omega (arith, length-drop from lines))))
-                by_x (k - from) d (omega (arith, length-drop from lines)))
-          ]
+          | inl same ↦
+              let s = get_or lines k d in
+              let order = needed.first k d no_less same in
+              let is = place.same k d no_less same in
+              permitted_by_stricter p.bits p.packets p.seconds s.tuple.overhead x.tuple.overhead (rate_of s.tuple) (rate_of x.tuple)
+              (omega arith) (order.rate (sym is)) by_x
+          | inr behind ↦
+              from_drop (λ l. Permits l.tuple p) lines from k d behind
+              (covers_behind p
+              (λ j e low_j j_below. subst (λ l. Permits l.tuple p) (sym (get_or-drop from lines j e)) (last (from + j) e (omega arith) (omega (arith, length-drop from lines))))
+              by_x (k - from) d (omega (arith, length-drop from lines)))
+        ]
       ]
 
   pub StandsFor-from_parts : StandsFor lines x low (from + more)

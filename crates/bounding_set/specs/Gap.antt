@@ -1,5 +1,5 @@
 -- An envelope with a gap, where a line was taken out.
-use Rattle.std.specs.Prelude.{◌≡◌, ℕ, ◌-◌, ◌<◌, ◌≤◌, List, length, All, Contains}
+use Rattle.std.specs.Prelude.{ℕ, ◌-◌, ◌<◌, ◌≤◌, List, length, All, Contains}
 use Rattle.std.specs.List.{HoldsAt}
 use Rattle.rate_cert.specs.declared.request.Request.{Request}
 use Rattle.bounding_set.specs.Canonical.{HasSameLine, StopsMedia}

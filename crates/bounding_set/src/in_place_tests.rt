@@ -69,13 +69,14 @@ fn steps_of_sixty_four_owners(rt: HostRuntime) -> Result<(), Fail> {
         let _changed = bounds.set(Ssrc(u32::from(i)), tuple_of_64(i))?;
     }
     // The last comes behind the others and hides none, while the walk looks at each.
-    assert!(rt; bounds.steps() <= 4);
+    assert!(rt; bounds.steps() >= 1 && bounds.steps() <= 4);
     let walk_steps = assert_as_walked(&rt, rt.alloc(), &bounds)?;
     assert!(rt; walk_steps.is_some_and(|steps| steps >= 62));
     let before = printed(rt.alloc(), &bounds)?;
     // One bit per second without overhead: only the farthest of the others still bounds.
     let one_bit = Tuple::from_word(0x0000_0200);
     assert_eq!(rt; bounds.set(Ssrc(64), one_bit), Ok(true));
+    assert!(rt; bounds.steps() >= 62);
     let lines = printed(rt.alloc(), &bounds)?;
     assert_eq!(rt; lines.len(), 64);
     assert_eq!(rt; lines[0].as_str(), "kept 64 00000200 pair 8968 506 505");

@@ -114,7 +114,13 @@ fn is_implied(lines: &[Request], at: usize, x: &Request, count: &mut u32) -> boo
 }
 
 /// From where to where x makes lines needless.
-fn needless_beside(lines: &[Request], at: usize, from: usize, x: &Request, count: &mut u32) -> (usize, usize)
+fn needless_beside(
+    lines: &[Request],
+    at: usize,
+    from: usize,
+    x: &Request,
+    count: &mut u32,
+) -> (usize, usize)
     requires hull { IsHull lines.now }
     requires sends { ¬ StopsMedia x.now }
     requires place { IsPlaceOf lines.now x.now at from }

@@ -1,4 +1,4 @@
-use Rattle.std.proofs.Common.{◌≡◌, ℕ, ◌-◌, ◌<◌, ◌≤◌, List, length, get_or, take, drop, sym, subst, arith}
+use Rattle.std.proofs.Common.{ℕ, ◌<◌, ◌≤◌, List, length, get_or, sym, subst, arith}
 use Rattle.std.specs.List.{AllWithin}
 use Rattle.std.proofs.lemmas.List.{take_rest, length-take-le}
 use Rattle.tmmbr_tuple.specs.RatePair.{RatePair, Permits}

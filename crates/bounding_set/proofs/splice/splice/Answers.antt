@@ -1,12 +1,11 @@
-use Rattle.std.proofs.Common.{◌≡◌, ◌<◌, ◌≤◌, sym, ◌∙◌, subst, length}
+use Rattle.std.proofs.Common.{◌<◌, ◌≤◌, sym, ◌∙◌, subst, length}
 use Rattle.std.specs.Prelude.{All}
 use Rattle.std.specs.List.{AllWithin}
-use Rattle.rate_cert.specs.declared.request.Request.{Request as RateRequest}
 use Rattle.bounding_set.specs.Canonical.{HasSameLine}
 use Rattle.bounding_set.specs.Envelope.{IsHull, Covers}
-use Rattle.bounding_set.specs.Place.{IsPlaceOf, IsNeededAt, StandsFor}
+use Rattle.bounding_set.specs.Place.{IsNeededAt, StandsFor}
 use Rattle.bounding_set.proofs.SpliceLemmas.{place_from_counts}
-use Rattle.bounding_set.proofs.StandsLemmas.{replaced, IsHull-replaced, Covers-x, Covers-replaced, least-replaced}
+use Rattle.bounding_set.proofs.StandsLemmas.{IsHull-replaced, Covers-x, Covers-replaced, least-replaced}
 use Rattle.bounding_set.proofs.splice.splice.Goals as goal
 
 pub needless_beside-low-requires-clause-place : goal.needless_beside-low-requires-clause-place
