@@ -20,7 +20,7 @@ use Rattle.rate_desk.proofs.LiveLemmas.{room_for_request}
 
 none_is : {X : Type 0} (o : Option X) → IsNone o → o ≡ None
 none_is None is = refl
-none_is (Some x) is = absurd is
+none_is (Some x) is = absurd (cc)
 
 pub present_with-accepted : (present : List Present) (call : Call) → refusal_of present call ≡ None → present_with present call ≡ present_by present call
 present_with-accepted present call accepted = ap (present_unless present call) accepted
@@ -55,9 +55,9 @@ some_present present call rising from accepted is =
 pub never_full : (present : List Present) (owner : Ssrc) (stay : ℕ) (tuple : Tuple) (rows : List RateRequest) (r : Result Bool FullRows)
     → length present ≤ PRESENT_LIMIT → rows ≡ live_requests present → 1 ≤ stay → refusal_of present (Request owner stay tuple) ≡ None
     → (IsErr r ↔ (IsNone (tuple_of rows owner.0) × (length rows ≡ LIVE_LIMIT))) → IsOk r
-never_full present owner stay tuple rows (Ok changed) few live from accepted full = tt
+never_full present owner stay tuple rows (Ok changed) few live from accepted full = refl
 never_full present owner stay tuple rows (Err e) few live from accepted full =
-    let why = full.0 tt in
+    let why = full.0 refl in
     let is : stay_in present owner.0 ≡ stay = stay_in-request present owner stay tuple accepted in
     let none : tuple_of (live_requests present) owner.0 ≡ None = ap (λ rs. tuple_of rs owner.0) (sym live) ∙ none_is (tuple_of rows owner.0) why.0 in
     let room = room_for_request present owner.0 (omega (arith, is, from)) none in

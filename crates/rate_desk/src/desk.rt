@@ -208,10 +208,7 @@ impl Desk {
         ensures limit { self.new.limit ≡ self.old.limit }
         ensures legal { HoldsLegalDesk self.new }
     {
-        let answer = match self.standing.refusal(&call) {
-            Some(refusal) => refusal,
-            None => self.standing.take_in(self.gap, &call),
-        };
+        let answer = self.standing.answer(self.gap, &call);
         self.history.push_back(Entry { call, answer });
         answer
     }

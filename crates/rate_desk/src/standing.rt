@@ -40,7 +40,7 @@ impl Standing {
     ghost use Rattle.rate_desk.specs.Plis.{new_gate, gate_by};
     ghost use Rattle.rate_desk.specs.Presence.{HasStay, present_by, refusal_of, live_requests};
     ghost use Rattle.rate_desk.specs.History.{present_with};
-    ghost use Rattle.rate_desk.specs.Standing.{Stand, IsStand, IsDoneAt};
+    ghost use Rattle.rate_desk.specs.Standing.{Stand, IsStand, IsDoneAt, IsAnswered};
 
     /// Nobody is present, and no picture is wanted.
     pub fn new() -> Standing
@@ -64,7 +64,7 @@ impl Standing {
     }
 
     /// Why a call isn't done; `None` where it is.
-    pub fn refusal(&self, call: &Call) -> Option<Answer>
+    fn refusal(&self, call: &Call) -> Option<Answer>
         ensures { result ≡ refusal_of self.now.present call.now }
     {
         refusal(self.present.as_slice(), call)
@@ -83,8 +83,19 @@ impl Standing {
         }
     }
 
+    /// Answers a call: it is refused, and changes nothing, or it is done.
+    pub fn answer(&mut self, gap: u64, call: &Call) -> Answer
+        requires { HasStay call.now }
+        ensures { IsAnswered gap self.old call.now self.new result }
+    {
+        match self.refusal(call) {
+            Some(refusal) => refusal,
+            None => self.take_in(gap, call),
+        }
+    }
+
     /// Does a call that isn't refused.
-    pub fn take_in(&mut self, gap: u64, call: &Call) -> Answer
+    fn take_in(&mut self, gap: u64, call: &Call) -> Answer
         requires stays { HasStay call.now }
         requires accepted { refusal_of self.old.present call.now ≡ None }
         ensures answer { IsDoneAt gap self.old.gate call.now self.new.bounds result }

@@ -1,9 +1,7 @@
-use Rattle.std.proofs.Common.{◌≡◌, ◌+◌, ◌<◌, ◌≤◌, List, length, Some, None, sym, ap, subst, ◌∙◌, arith}
-use Rattle.std.specs.Prelude.{IsOk}
-use Rattle.rate_cert.specs.declared.request.Request.{Request as RateRequest}
-use Rattle.bounding_set.specs.Rows.{Puts, tuple_of}
+use Rattle.std.proofs.Common.{◌≡◌, Some, None, inl, inr, sym, ap, subst, ◌∙◌}
+use Rattle.bounding_set.specs.Rows.{Puts}
 use Rattle.rate_desk.specs.declared.call.Call.{Call}
-use Rattle.rate_desk.specs.declared.call.Call.TheVariants.{Arrive, Request, Depart, Pli, Tick}
+use Rattle.rate_desk.specs.declared.call.Call.TheVariants.{Arrive, Pli, Tick}
 use Rattle.rate_desk.specs.Presence.{HasStay, live_requests, present_by, refusal_of}
 use Rattle.rate_desk.proofs.LiveLemmas.{live-requested, live-departed, live-arrived}
 use Rattle.rate_desk.proofs.StandingLemmas.{never_full}
@@ -27,5 +25,5 @@ returns-in-Depart-clause-live c =
     c.remove-removed.ensures.rising puts
     ∙ ap (λ call. live_requests (present_by c.args.present.now call)) (sym c.in-Depart.is)
 
-pub returns-in-Arrive : goal.returns-in-Arrive
-returns-in-Arrive c = ?
+pub returns-in-Arrive-clause-live : goal.returns-in-Arrive-clause-live
+returns-in-Arrive-clause-live c = ?
