@@ -1,2 +1,6 @@
+pub mod PresenceLemmas
+pub mod LiveLemmas
+pub mod GateLemmas
+pub mod HistoryLemmas
 pub mod KeptLemmas
 pub mod EffectLemmas

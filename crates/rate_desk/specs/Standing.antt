@@ -6,7 +6,7 @@ use Rattle.rate_desk.specs.declared.call.Answer.{Answer}
 use Rattle.rate_desk.specs.declared.call.Answer.TheVariants.{Done}
 use Rattle.rate_desk.specs.declared.presence.Present.{Present}
 use Rattle.rate_desk.specs.declared.presence.TheConstants.{PRESENT_LIMIT}
-use Rattle.rate_desk.specs.Presence.{HasRisingOwners, live_requests}
+use Rattle.rate_desk.specs.Presence.{HasRisingOwners, HasStays, live_requests}
 use Rattle.rate_desk.specs.Plis.{Gate, sends_at}
 use Rattle.rate_desk.specs.Kept.{KeepsRows}
 
@@ -19,6 +19,7 @@ pub record Stand : Type 0 where
 -- what always holds of them: the rows are the live requests of those present
 pub record IsStand (present : List Present) (bounds : State) : Type 0 where
   pub rising : HasRisingOwners present
+  pub stays : HasStays present
   pub few : length present ≤ PRESENT_LIMIT
   pub live : bounds.rows ≡ live_requests present
   pub announced : AnnouncesSmallest bounds

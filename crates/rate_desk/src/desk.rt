@@ -194,7 +194,8 @@ impl Desk {
     fn is_over_limit(&self, call: &Call) -> bool
         ensures { IsTrue result ↔ IsOverLimit self.now.limit empty_base self.now.history call.now }
     {
-        self.history.capacity() < self.history.len() + 1 + self.standing.count_behind(call)
+        let room = self.history.capacity() - self.history.len();
+        room < 1 + self.standing.count_behind(call)
     }
 
     /// Answers a call for which there is room, and records it.

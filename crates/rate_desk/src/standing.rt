@@ -2,7 +2,8 @@
 //! picture.
 
 ghost use Rattle.std.specs.Prelude.{◌≡◌, ◌≤◌, length, None};
-ghost use Rattle.rate_desk.specs.Presence.{HasRisingOwners, HasStay, live_requests, present_by, refusal_of};
+ghost use Rattle.bounding_set.specs.State.{AnnouncesSmallest};
+ghost use Rattle.rate_desk.specs.Presence.{HasRisingOwners, HasStays, HasStay, live_requests, present_by, refusal_of};
 
 use crate::call::{Answer, Call};
 use crate::kept::kept_bits;
@@ -33,7 +34,7 @@ impl Model for Standing {
 }
 
 impl Standing {
-    ghost use Rattle.std.specs.Prelude.{◌≡◌, [], length, None};
+    ghost use Rattle.std.specs.Prelude.{◌≡◌, ◌≤◌, [], length, None};
     ghost use Rattle.bounding_set.specs.State.{announced_of};
     ghost use Rattle.rate_desk.specs.Plis.{new_gate, gate_by};
     ghost use Rattle.rate_desk.specs.Presence.{HasStay, present_by, refusal_of, live_requests};
@@ -70,7 +71,8 @@ impl Standing {
 
     /// How many will be present behind a call.
     pub fn count_behind(&self, call: &Call) -> usize
-        ensures { result ≡ length (present_with self.now.present call.now) }
+        ensures count { result ≡ length (present_with self.now.present call.now) }
+        ensures few { result ≤ PRESENT_LIMIT }
     {
         let count = self.present.len();
         match (self.refusal(call), call) {
@@ -102,9 +104,11 @@ fn follow(bounds: &mut Bounds, present: &[Present], call: &Call)
     requires stays { HasStay call.now }
     requires accepted { refusal_of present.now call.now ≡ None }
     requires rising { HasRisingOwners present.now }
+    requires numbered { HasStays present.now }
     requires few { length present.now ≤ PRESENT_LIMIT }
     requires live { bounds.old.rows ≡ live_requests present.now }
-    ensures { bounds.new.rows ≡ live_requests (present_by present.now call.now) }
+    ensures live { bounds.new.rows ≡ live_requests (present_by present.now call.now) }
+    ensures announced { AnnouncesSmallest bounds.new }
 {
     match *call {
         Call::Request { owner, tuple, .. } => {
