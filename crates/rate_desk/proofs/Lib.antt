@@ -5,3 +5,4 @@ pub mod HistoryLemmas
 pub mod KeptLemmas
 pub mod EffectLemmas
 pub mod StandingLemmas
+pub mod DeskLemmas

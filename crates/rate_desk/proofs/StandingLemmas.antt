@@ -1,12 +1,13 @@
 -- Who stands at a desk behind a call.
 use Rattle.std.proofs.Common.{◌≡◌, ℕ, ◌+◌, ◌-◌, ◌≤◌, List, length, None, Some, refl, sym, ap, subst, ◌∙◌, arith}
-use Rattle.std.specs.Prelude.{◌↔◌, Bool, Result, Ok, Err, IsOk, IsErr, IsNone, Option}
+use Rattle.std.specs.Prelude.{◌↔◌, Bool, Result, Ok, Err, IsOk, IsErr, OnOk, IsNone, Option}
 use Rattle.tmmbr_tuple.specs.declared.ssrc.Ssrc.{Ssrc}
 use Rattle.tmmbr_tuple.specs.declared.tuple.Tuple.{Tuple}
 use Rattle.rate_cert.specs.declared.request.Request.{Request as RateRequest}
 use Rattle.bounding_set.specs.declared.rows.Full.{Full as FullRows}
 use Rattle.bounding_set.specs.declared.rows.TheConstants.{LIVE_LIMIT}
 use Rattle.bounding_set.specs.Rows.{tuple_of}
+use Rattle.bounding_set.specs.State.{State, AnnouncesSmallest}
 use Rattle.rate_desk.specs.declared.presence.TheConstants.{PRESENT_LIMIT}
 use Rattle.rate_desk.specs.declared.call.Call.{Call}
 use Rattle.rate_desk.specs.declared.call.Call.TheVariants.{Arrive, Request, Depart, Pli, Tick}
@@ -14,9 +15,9 @@ use Rattle.rate_desk.specs.declared.call.Answer.{Answer}
 use Rattle.rate_desk.specs.declared.presence.Present.{Present}
 use Rattle.rate_desk.specs.Presence.{HasRisingOwners, HasStays, HasStay, present_by, refusal_of, live_requests, stay_in}
 use Rattle.rate_desk.specs.History.{present_unless, present_with}
-use Rattle.rate_desk.specs.Standing.{count_by, IsDepart}
-use Rattle.rate_desk.proofs.PresenceLemmas.{length-arrive, length-request, length-depart, stay_in-request}
-use Rattle.rate_desk.proofs.LiveLemmas.{room_for_request}
+use Rattle.rate_desk.specs.Standing.{IsStand, count_by, IsDepart}
+use Rattle.rate_desk.proofs.PresenceLemmas.{stays-by, few-by, length-arrive, length-request, length-depart, stay_in-request}
+use Rattle.rate_desk.proofs.LiveLemmas.{few_live, room_for_request}
 
 none_is : {X : Type 0} (o : Option X) → IsNone o → o ≡ None
 none_is None is = refl
@@ -51,6 +52,10 @@ some_present present call rising from accepted is =
     let unrefused : refusal_of present (Depart owner stay) ≡ None = subst (λ c. refusal_of present c ≡ None) is.2 accepted in
     omega (arith, length-depart present owner stay rising from_stay unrefused)
 
+pub from_ok : {X E : Type 0} (r : Result X E) (P : Type 0) → IsOk r → OnOk r P → P
+from_ok (Ok x) P ok holds = holds
+from_ok (Err e) P ok holds = absurd (cc)
+
 -- the request of an owner that is present always finds room: fewer are live than present
 pub never_full : (present : List Present) (owner : Ssrc) (stay : ℕ) (tuple : Tuple) (rows : List RateRequest) (r : Result Bool FullRows)
     → length present ≤ PRESENT_LIMIT → rows ≡ live_requests present → 1 ≤ stay → refusal_of present (Request owner stay tuple) ≡ None
@@ -62,3 +67,18 @@ never_full present owner stay tuple rows (Err e) few live from accepted full =
     let none : tuple_of (live_requests present) owner.0 ≡ None = ap (λ rs. tuple_of rs owner.0) (sym live) ∙ none_is (tuple_of rows owner.0) why.0 in
     let room = room_for_request present owner.0 (omega (arith, is, from)) none in
     absurd (omega (arith, room, few, why.1, ap length live))
+
+-- what stands behind a call that was taken in
+pub stand-by : (present new shown : List Present) (call : Call) (bounds : State) → HasRisingOwners present → HasStays present
+    → length present ≤ PRESENT_LIMIT → HasStay call → refusal_of present call ≡ None → new ≡ present_by present call → HasRisingOwners new
+    → shown ≡ present → bounds.rows ≡ live_requests (present_by shown call) → AnnouncesSmallest bounds → IsStand new bounds
+stand-by present new shown call bounds rising stays few from accepted is new_rising same live announced = record {
+  rising = new_rising;
+  stays = subst HasStays (sym is) (stays-by present call from stays);
+  few = subst (λ (ps : List Present). length ps ≤ PRESENT_LIMIT) (sym is) (few-by present call rising stays from accepted few);
+  live = live ∙ ap (λ (ps : List Present). live_requests (present_by ps call)) same ∙ ap live_requests (sym is);
+  announced = announced;
+}
+
+pub few_rows : (present : List Present) (bounds : State) → IsStand present bounds → length bounds.rows ≤ LIVE_LIMIT
+few_rows present bounds stand = omega (arith, stand.few, ap length stand.live, few_live present)

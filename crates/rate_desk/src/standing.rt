@@ -132,6 +132,7 @@ fn follow(bounds: &mut Bounds, present: &[Present], call: &Call)
     requires numbered { HasStays present.now }
     requires few { length present.now ≤ PRESENT_LIMIT }
     requires live { bounds.old.rows ≡ live_requests present.now }
+    requires announced { AnnouncesSmallest bounds.old }
     ensures live { bounds.new.rows ≡ live_requests (present_by present.now call.now) }
     ensures announced { AnnouncesSmallest bounds.new }
 {
