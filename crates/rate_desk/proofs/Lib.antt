@@ -1,2 +1,5 @@
 pub mod GateLemmas
 pub mod HistoryLemmas
+pub mod ScheduleLemmas
+pub mod SinceLemmas
+pub mod RequestLemmas
