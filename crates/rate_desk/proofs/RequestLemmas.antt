@@ -13,7 +13,7 @@ use Rattle.rate_desk.specs.declared.call.Call.{Call}
 use Rattle.rate_desk.specs.declared.call.Call.TheVariants.{Arrive, Request, Depart, Pli, Tick}
 use Rattle.rate_desk.specs.declared.call.Entry.{Entry}
 use Rattle.rate_desk.specs.declared.presence.Present.{Present}
-use Rattle.rate_desk.specs.Presence.{HasRisingOwners, presence_of, with_presence, without_owner, request_of, live_requests, present_by}
+use Rattle.rate_desk.specs.Presence.{HasRisingOwners, HasStay, presence_of, stay_in, with_presence, live_requests, present_by}
 use Rattle.rate_desk.specs.Trace.{empty_base, is_done, present_behind, present_after, live_after, StandsAt, WasDone, IsArriveOf, IsRequestOf, IsDepartOf, IsPresentSince, IsLastRequestSince}
 use Rattle.rate_desk.specs.History.{IsLegalHistory}
 use Rattle.rate_desk.proofs.SinceLemmas.{stay_of, tuple_known, known_by, known_behind, Fits, Runs, known_after, presence_after, legal_runs, not_in_nil, at_head, head_is, at_tail, from_tail, NoneFrom, none_later, none_cons, none_tail, stay_on, arrived_by}
@@ -386,3 +386,39 @@ request_law gap entries owner stay place t legal least since =
       λ asks. last_back owner stay None entries place t least run since (sym same ∙ asks),
       λ l. same ∙ last_on owner stay None entries place t l.asked least run since l.later (record { request = l.request; last = λ u other after. l.last other u after }),
     )
+
+-- ---- absent owners
+
+abbrev Numbered : Option Present → Type 0
+Numbered None = Unit {0}
+Numbered (Some p) = 1 ≤ p.stay
+
+either_numbered : (b : Bool) (x y : Option Present) → Numbered x → Numbered y → Numbered (cond b x y)
+either_numbered true x y first second = first
+either_numbered false x y first second = second
+
+numbered_call : (owner : ℕ) (known : Option Present) (call : Call) → HasStay call → Numbered known → Numbered (known_by owner known call)
+numbered_call owner known (Arrive o s) has is = either_numbered (o.0 == owner) (Some (record { owner = o; stay = s; tuple = None })) known has is
+numbered_call owner known (Request o s t) has is = either_numbered (o.0 == owner) (Some (record { owner = o; stay = s; tuple = Some t })) known has is
+numbered_call owner known (Depart o s) has is = either_numbered (o.0 == owner) None known tt is
+numbered_call owner known (Pli moment) has is = is
+numbered_call owner known (Tick moment) has is = is
+
+numbered : (owner : ℕ) (known : Option Present) (entries : List Entry) → All (λ (e : Entry). HasStay e.call) entries → Numbered known
+    → Numbered (known_after owner known entries)
+numbered owner known [] all is = is
+numbered owner known (e ∷ entries) all is =
+    numbered owner (known_behind owner known e) entries (All-tail (λ (x : Entry). HasStay x.call) e entries all)
+    (either_numbered (is_done e.answer) (known_by owner known e.call) known
+    (numbered_call owner known e.call (All-head (λ (x : Entry). HasStay x.call) e entries all) is) is)
+
+nothing_asked : (known : Option Present) → Numbered known → stay_of known ≡ 0 → tuple_known known ≡ None
+nothing_asked None is absent = refl
+nothing_asked (Some p) is absent = absurd (omega arith)
+
+pub absent_law : (entries : List Entry) (owner : ℕ) → All (λ (e : Entry). HasStay e.call) entries → stay_in (present_after empty_base entries) owner ≡ 0
+    → tuple_of (live_after empty_base entries) owner ≡ None
+absent_law entries owner all absent =
+    let same = presence_after owner [] entries in
+    tuple_of-live (present_after empty_base entries) owner (rising_after [] entries (λ i j d before below. absurd (omega arith)))
+    ∙ (ap tuple_known same ∙ nothing_asked (known_after owner None entries) (numbered owner None entries all tt) (sym (ap stay_of same) ∙ absent))

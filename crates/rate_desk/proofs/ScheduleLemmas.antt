@@ -1,17 +1,17 @@
 -- PLIs by places: what `goes_up` says call by call is the schedule.
-use Rattle.std.proofs.Common.{◌≡◌, ℕ, zero, suc, ◌+◌, ◌-◌, ◌<◌, ◌≤◌, max, Bool, true, false, cond, List, [], ◌∷◌, ◌++◌, length, take, drop, get_or, refl, sym, ap, subst, ◌∙◌, arith, add-one, Some, None, Option, inl, inr}
+use Rattle.std.proofs.Common.{◌≡◌, ℕ, zero, suc, ◌+◌, ◌-◌, ◌<◌, ◌≤◌, max, Bool, true, false, cond, List, [], ◌∷◌, ◌++◌, length, take, drop, get_or, fold, refl, sym, ap, subst, ◌∙◌, arith, add-one, Some, None, Option, inl, inr}
 use Rattle.std.specs.Prelude.{not, ◌&&◌, ◌||◌, ◌↔◌, ◌⊎◌, nat_le, slice_get, reverse}
 use Rattle.std.specs.List.{list_any, after_last, suffix_len, prefix_len}
 use Rattle.std.proofs.lemmas.Bool.{cases_lt, both_ways, le-leb, leb-true, le-leb, or_cases, and_parts, not-true, not-false}
-use Rattle.std.proofs.lemmas.List.{length-drop, length-take-le, take-take, take_more, length-reverse, get_or-reverse, drop_more}
+use Rattle.std.proofs.lemmas.List.{length-drop, length-take, length-take-le, take-take, take_more, length-reverse, get_or-reverse, drop_more}
 use Rattle.std.proofs.lemmas.List.Sums.{prefix_len_passes, prefix_len_stops, suffix_len-le-length}
-use Rattle.std.proofs.lemmas.Option.{slice_get-get_or, slice_get_within, get_or_from_slice_get}
+use Rattle.std.proofs.lemmas.Option.{slice_get-get_or, slice_get_within, get_or_from_slice_get, none-some, same_Some}
 use Rattle.rate_desk.specs.declared.call.Call.{Call}
 use Rattle.rate_desk.specs.declared.call.Entry.{Entry}
 use Rattle.rate_desk.specs.Plis.{is_timed, moment_of, is_pli, went_up, wishes, Gate, new_gate, greatest_moment, is_wanted, up_to_last_up, last_up, is_due, goes_up}
 use Rattle.rate_desk.specs.Trace.{Base, empty_base, StandsAt}
 use Rattle.rate_desk.specs.History.{IsLegalHistory}
-use Rattle.rate_desk.specs.Schedule.{WentUpAt, greatest_until, IsUnanswered, IsLastUpBefore, IsDueAt, IsPliSchedule}
+use Rattle.rate_desk.specs.Schedule.{WentUpAt, greatest_until, IsUnanswered, IsLastUpBefore, IsDueAt, IsPliSchedule, IsGreatestUntil}
 use Rattle.rate_desk.proofs.GateLemmas.{greatest_moment-push}
 use Rattle.rate_desk.proofs.HistoryLemmas.{answer_up}
 
@@ -278,3 +278,52 @@ pub schedule_law : (gap : ℕ) (entries : List Entry) → IsLegalHistory gap emp
 schedule_law gap [] legal place below = absurd (omega arith)
 schedule_law gap (first ∷ rest) legal place below =
     (due_from_up gap (first ∷ rest) legal place first below, up_from_due gap (first ∷ rest) legal place first below)
+
+-- ---- the greatest moment
+
+abbrev greatest_from : ℕ → List Entry → ℕ
+greatest_from least entries = fold (λ m e. max m (moment_of e.call)) least entries
+
+least_below : (least : ℕ) (entries : List Entry) → least ≤ greatest_from least entries
+least_below least [] = omega arith
+least_below least (e ∷ entries) = omega (arith, least_below (max least (moment_of e.call)) entries)
+
+moment_below : (least : ℕ) (entries : List Entry) (place : ℕ) (e : Entry) → slice_get entries place ≡ Some e
+    → moment_of e.call ≤ greatest_from least entries
+moment_below least [] place e there = absurd (none-some e there)
+moment_below least (x ∷ entries) zero e there =
+    let same = ap (λ (y : Entry). moment_of y.call) (same_Some x e there) in
+    omega (arith, same, least_below (max least (moment_of x.call)) entries)
+moment_below least (x ∷ entries) (suc place) e there = moment_below (max least (moment_of x.call)) entries place e there
+
+abbrev Reaches : List Entry → ℕ → Type 0
+Reaches entries m = (place : ℕ) × StandsAt (λ e. moment_of e.call ≡ m) entries place
+
+reached : (least : ℕ) (entries : List Entry) → (greatest_from least entries ≡ least) ⊎ Reaches entries (greatest_from least entries)
+reached least [] = inl refl
+reached least (x ∷ entries) = step (reached (max least (moment_of x.call)) entries) (cases_lt least (moment_of x.call))
+  where
+    step : (greatest_from (max least (moment_of x.call)) entries ≡ max least (moment_of x.call)) ⊎ Reaches entries (greatest_from (max least (moment_of x.call)) entries)
+        → (least < moment_of x.call) ⊎ (moment_of x.call ≤ least)
+        → (greatest_from (max least (moment_of x.call)) entries ≡ least) ⊎ Reaches (x ∷ entries) (greatest_from (max least (moment_of x.call)) entries)
+    step (inl same) (inl more) = inr (0, record { entry = x; there = refl; is = omega arith })
+    step (inl same) (inr most) = inl (omega arith)
+    step (inr later) order = inr (suc later.0, record { entry = later.1.entry; there = later.1.there; is = later.1.is })
+
+pub greatest_law : (entries : List Entry) (place : ℕ) → IsGreatestUntil entries place (greatest_until entries place)
+greatest_law entries place = record {
+  bound = λ earlier e not_after there.
+      moment_below 0 (take (place + 1) entries) earlier e (slice_get-take (place + 1) entries earlier (omega arith) ∙ there);
+  reached = step (reached 0 (take (place + 1) entries));
+}
+  where
+    step : (greatest_until entries place ≡ 0) ⊎ Reaches (take (place + 1) entries) (greatest_until entries place)
+        → (greatest_until entries place ≡ 0) ⊎ ((earlier : ℕ) × (earlier ≤ place) × StandsAt (λ e. moment_of e.call ≡ greatest_until entries place) entries earlier)
+    step (inl none) = inl none
+    step (inr found) =
+        let inside : found.0 < place + 1 = omega (
+          arith,
+          within (λ e. moment_of e.call ≡ greatest_until entries place) (take (place + 1) entries) found.0 found.1,
+          length-take (place + 1) entries,
+        ) in
+        inr (found.0, omega arith, to_whole (λ e. moment_of e.call ≡ greatest_until entries place) (place + 1) entries found.0 inside found.1)

@@ -1,7 +1,7 @@
 -- When PLIs are sent upstream, by places in a history (RFC 4585, section 6.3.1; the gap is this project's own).
-use Rattle.std.specs.Prelude.{◌≡◌, ℕ, ◌+◌, ◌<◌, ◌≤◌, ◌↔◌, true, List, length, take}
+use Rattle.std.specs.Prelude.{◌≡◌, ℕ, ◌+◌, ◌<◌, ◌≤◌, ◌↔◌, ◌⊎◌, true, List, length, take, slice_get, Some}
 use Rattle.rate_desk.specs.declared.call.Entry.{Entry}
-use Rattle.rate_desk.specs.Plis.{is_timed, wishes, went_up, new_gate, greatest_moment}
+use Rattle.rate_desk.specs.Plis.{is_timed, moment_of, wishes, went_up, new_gate, greatest_moment}
 use Rattle.rate_desk.specs.Trace.{StandsAt}
 
 -- a PLI was sent upstream at this place
@@ -11,6 +11,11 @@ WentUpAt entries place = StandsAt (λ e. went_up e ≡ true) entries place
 -- the greatest moment up to this place
 abbrev pub greatest_until : List Entry → ℕ → ℕ
 greatest_until entries place = greatest_moment new_gate (take (place + 1) entries)
+
+-- it is the greatest moment up to this place, 0 where no call showed one
+pub record IsGreatestUntil (entries : List Entry) (place moment : ℕ) : Type 0 where
+  pub bound : (earlier : ℕ) (e : Entry) → earlier ≤ place → slice_get entries earlier ≡ Some e → moment_of e.call ≤ moment
+  pub reached : (moment ≡ 0) ⊎ ((earlier : ℕ) × (earlier ≤ place) × StandsAt (λ e. moment_of e.call ≡ moment) entries earlier)
 
 -- a wish for a picture at this place or before it, with no PLI sent upstream since
 pub record IsUnanswered (entries : List Entry) (place wish : ℕ) : Type 0 where
