@@ -1,7 +1,6 @@
 -- One entry more in a history.
-use Rattle.std.proofs.Common.{◌≡◌, ℕ, ◌+◌, ◌-◌, ◌<◌, ◌≤◌, Bool, true, false, cond, List, [], ◌∷◌, ◌++◌, length, take, get_or, refl, sym, ap, subst, ◌∙◌, arith, Some, None, Option, inl, inr}
-use Rattle.std.specs.Prelude.{not, ◌==◌, nat_le}
-use Rattle.std.specs.Prelude.{◌⊎◌}
+use Rattle.std.proofs.Common.{◌≡◌, ℕ, Bool, true, false, cond, List, [], ◌∷◌, ◌++◌, length, refl, sym, ap, subst, ◌∙◌, arith, Some, None, Option, inl, inr}
+use Rattle.std.specs.Prelude.{not, ◌==◌, nat_le, ◌⊎◌}
 use Rattle.std.proofs.lemmas.Bool.{cases_lt}
 use Rattle.std.proofs.lemmas.List.{take_at, take-append-le, get_or_append_left, get_or_at, length_push}
 use Rattle.std.proofs.lemmas.List.Sums.{fold_push}
@@ -13,7 +12,7 @@ use Rattle.rate_desk.specs.declared.call.Entry.{Entry}
 use Rattle.rate_desk.specs.declared.presence.Present.{Present}
 use Rattle.rate_desk.specs.declared.presence.TheConstants.{PRESENT_LIMIT}
 use Rattle.rate_desk.specs.Presence.{refusal_of, stay_in, present_by}
-use Rattle.rate_desk.specs.Plis.{Gate, is_timed, is_answered_up, went_up, goes_up, sends_at, gate_by, gate_after}
+use Rattle.rate_desk.specs.Plis.{Gate, is_timed, is_answered_up, goes_up, sends_at, gate_by, gate_after}
 use Rattle.rate_desk.specs.Trace.{Base, is_done, present_behind, present_after}
 use Rattle.rate_desk.specs.Answer.{IsDone, IsAnswerOr, IsAnswerTo}
 use Rattle.rate_desk.specs.History.{IsLegalHistory, present_unless, present_with}

@@ -1,137 +1,20 @@
 -- The live request of an owner is the last one since it arrived.
-use Rattle.std.proofs.Common.{◌≡◌, ℕ, zero, suc, ◌+◌, ◌<◌, ◌≤◌, Bool, true, false, cond, List, [], ◌∷◌, length, take, filter, get_or, fold, refl, sym, ap, subst, ◌∙◌, arith, Some, None, Option, inl, inr}
-use Rattle.std.specs.Prelude.{not, ◌==◌, nat_lt, ◌⊎◌, ◌↔◌, All, option_map}
-use Rattle.std.specs.List.{filter_map, cons_option}
-use Rattle.std.proofs.lemmas.Bool.{eqb-true, eqb-false, eq-eqb, ne_eqb, both_ways, ltb-true, ltb-false}
+use Rattle.std.proofs.Common.{◌≡◌, ℕ, zero, suc, ◌<◌, ◌≤◌, Bool, true, false, cond, List, [], ◌∷◌, refl, sym, ap, ◌∙◌, arith, Some, None, Option, inl, inr}
+use Rattle.std.specs.Prelude.{◌==◌, ◌⊎◌, ◌↔◌, All}
+use Rattle.std.proofs.lemmas.Bool.{eqb-true, eqb-false, eq-eqb, both_ways}
 use Rattle.std.proofs.lemmas.Option.{none-some, same_Some}
-use Rattle.std.proofs.lemmas.List.Elements.{All-nil, All-cons, All-head, All-tail, All-weaker}
-use Rattle.std.proofs.lemmas.List.Kept.{AllPairs-filter, AllPairs-cons}
+use Rattle.std.proofs.lemmas.List.Elements.{All-head, All-tail}
 use Rattle.tmmbr_tuple.specs.declared.tuple.Tuple.{Tuple}
-use Rattle.rate_cert.specs.declared.request.Request.{Request as RateRequest}
 use Rattle.bounding_set.specs.Rows.{tuple_of}
 use Rattle.rate_desk.specs.declared.call.Call.{Call}
 use Rattle.rate_desk.specs.declared.call.Call.TheVariants.{Arrive, Request, Depart, Pli, Tick}
 use Rattle.rate_desk.specs.declared.call.Entry.{Entry}
 use Rattle.rate_desk.specs.declared.presence.Present.{Present}
-use Rattle.rate_desk.specs.Presence.{HasRisingOwners, HasStay, presence_of, stay_in, with_presence, live_requests, present_by}
-use Rattle.rate_desk.specs.Trace.{empty_base, is_done, present_behind, present_after, live_after, StandsAt, WasDone, IsArriveOf, IsRequestOf, IsDepartOf, IsPresentSince, IsLastRequestSince}
+use Rattle.rate_desk.specs.Presence.{HasStay, stay_in}
+use Rattle.rate_desk.specs.Trace.{empty_base, is_done, present_after, live_after, StandsAt, WasDone, IsArriveOf, IsRequestOf, IsDepartOf, IsPresentSince, IsLastRequestSince}
 use Rattle.rate_desk.specs.History.{IsLegalHistory}
 use Rattle.rate_desk.proofs.SinceLemmas.{stay_of, tuple_known, known_by, known_behind, Fits, Runs, known_after, presence_after, legal_runs, not_in_nil, at_head, head_is, at_tail, from_tail, NoneFrom, none_later, none_cons, none_tail, stay_on, arrived_by}
-
--- ---- owners rise
-
-abbrev Lower : Present → Present → Type 0
-Lower x y = x.owner.0 < y.owner.0
-
-pub rising_first : (p : Present) (present : List Present) → HasRisingOwners (p ∷ present) → All (Lower p) present
-rising_first p present rising = λ k d below. rising 0 (suc k) d (omega arith) (omega arith)
-
-pub rising_rest : (p : Present) (present : List Present) → HasRisingOwners (p ∷ present) → HasRisingOwners present
-rising_rest p present rising = λ i j d before below. rising (suc i) (suc j) d (omega arith) (omega arith)
-
-all_with : (P : Present → Type 0) (present : List Present) (new : Present) → All P present → P new → All P (with_presence present new)
-all_with P [] new all is = All-cons P new [] is (All-nil P)
-all_with P (p ∷ present) new all is =
-    step (nat_lt new.owner.0 p.owner.0) refl (p.owner.0 == new.owner.0) refl (all_with P present new (All-tail P p present all) is)
-  where
-    step : (less : Bool) → nat_lt new.owner.0 p.owner.0 ≡ less → (same : Bool) → (p.owner.0 == new.owner.0) ≡ same
-        → All P (with_presence present new) → All P (with_presence (p ∷ present) new)
-    step true less same equal ih =
-        subst (λ b. All P (cond b (new ∷ p ∷ present) (cond (p.owner.0 == new.owner.0) (new ∷ present) (p ∷ with_presence present new)))) (sym less)
-        (All-cons P new (p ∷ present) is all)
-    step false less true equal ih =
-        subst (λ b. All P (cond b (new ∷ p ∷ present) (cond (p.owner.0 == new.owner.0) (new ∷ present) (p ∷ with_presence present new)))) (sym less)
-        (subst (λ b. All P (cond b (new ∷ present) (p ∷ with_presence present new))) (sym equal)
-        (All-cons P new present is (All-tail P p present all)))
-    step false less false equal ih =
-        subst (λ b. All P (cond b (new ∷ p ∷ present) (cond (p.owner.0 == new.owner.0) (new ∷ present) (p ∷ with_presence present new)))) (sym less)
-        (subst (λ b. All P (cond b (new ∷ present) (p ∷ with_presence present new))) (sym equal)
-        (All-cons P p (with_presence present new) (All-head P p present all) ih))
-
-rising_with : (present : List Present) (new : Present) → HasRisingOwners present → HasRisingOwners (with_presence present new)
-rising_with [] new rising = λ i j d before below. absurd (omega arith)
-rising_with (p ∷ present) new rising =
-    step (nat_lt new.owner.0 p.owner.0) refl (p.owner.0 == new.owner.0) refl (rising_with present new (rising_rest p present rising))
-  where
-    higher : All (Lower p) present
-    higher = rising_first p present rising
-
-    step : (less : Bool) → nat_lt new.owner.0 p.owner.0 ≡ less → (same : Bool) → (p.owner.0 == new.owner.0) ≡ same
-        → HasRisingOwners (with_presence present new) → HasRisingOwners (with_presence (p ∷ present) new)
-    step true less same equal ih =
-        let lower : new.owner.0 < p.owner.0 = ltb-true new.owner.0 p.owner.0 less in
-        subst (λ b. HasRisingOwners (cond b (new ∷ p ∷ present) (cond (p.owner.0 == new.owner.0) (new ∷ present) (p ∷ with_presence present new)))) (sym less)
-        (AllPairs-cons Lower new (p ∷ present)
-        (All-cons (Lower new) p present lower (All-weaker (Lower p) (Lower new) (λ q more. omega arith) present (rising_first p present rising))) rising)
-    step false less true equal ih =
-        let same_owner : p.owner.0 ≡ new.owner.0 = eqb-true p.owner.0 new.owner.0 equal in
-        subst (λ b. HasRisingOwners (cond b (new ∷ p ∷ present) (cond (p.owner.0 == new.owner.0) (new ∷ present) (p ∷ with_presence present new)))) (sym less)
-        (subst (λ b. HasRisingOwners (cond b (new ∷ present) (p ∷ with_presence present new))) (sym equal)
-        (AllPairs-cons Lower new present (All-weaker (Lower p) (Lower new) (λ q more. omega arith) present (rising_first p present rising)) (rising_rest p present rising)))
-    step false less false equal ih =
-        let most : p.owner.0 ≤ new.owner.0 = ltb-false new.owner.0 p.owner.0 less in
-        let differ : ¬ (p.owner.0 ≡ new.owner.0) = λ same_owner. eqb-false p.owner.0 new.owner.0 equal same_owner in
-        let lower : p.owner.0 < new.owner.0 = omega arith in
-        subst (λ b. HasRisingOwners (cond b (new ∷ p ∷ present) (cond (p.owner.0 == new.owner.0) (new ∷ present) (p ∷ with_presence present new)))) (sym less)
-        (subst (λ b. HasRisingOwners (cond b (new ∷ present) (p ∷ with_presence present new))) (sym equal)
-        (AllPairs-cons Lower p (with_presence present new) (all_with (Lower p) present new (rising_first p present rising) lower) ih))
-
-rising_by_call : (present : List Present) (call : Call) → HasRisingOwners present → HasRisingOwners (present_by present call)
-rising_by_call present (Arrive o s) rising = rising_with present (record { owner = o; stay = s; tuple = None }) rising
-rising_by_call present (Request o s t) rising = rising_with present (record { owner = o; stay = s; tuple = Some t }) rising
-rising_by_call present (Depart o s) rising = AllPairs-filter Lower (λ (p : Present). not (p.owner.0 == o.0)) present rising
-rising_by_call present (Pli moment) rising = rising
-rising_by_call present (Tick moment) rising = rising
-
-rising_behind : (present : List Present) (e : Entry) → HasRisingOwners present → HasRisingOwners (present_behind present e)
-rising_behind present e rising = step (is_done e.answer) refl
-  where
-    step : (done : Bool) → is_done e.answer ≡ done → HasRisingOwners (present_behind present e)
-    step true done = subst (λ b. HasRisingOwners (cond b (present_by present e.call) present)) (sym done) (rising_by_call present e.call rising)
-    step false done = subst (λ b. HasRisingOwners (cond b (present_by present e.call) present)) (sym done) rising
-
-pub rising_after : (present : List Present) (entries : List Entry) → HasRisingOwners present → HasRisingOwners (fold present_behind present entries)
-rising_after present [] rising = rising
-rising_after present (e ∷ entries) rising = rising_after (present_behind present e) entries (rising_behind present e rising)
-
--- ---- what an owner asks for
-
-absent_above : (present : List Present) (owner : ℕ) → All (λ (q : Present). owner < q.owner.0) present → presence_of present owner ≡ None
-absent_above [] owner above = refl
-absent_above (p ∷ present) owner above =
-    let more : owner < p.owner.0 = All-head (λ (q : Present). owner < q.owner.0) p present above in
-    let other : (p.owner.0 == owner) ≡ false = ne_eqb p.owner.0 owner (λ same. omega arith) in
-    ap (λ b. cond b (Some p) (presence_of present owner)) other
-    ∙ absent_above present owner (All-tail (λ (q : Present). owner < q.owner.0) p present above)
-
-abbrev row_of : Present → Option Tuple → Option RateRequest
-row_of p asked = option_map (λ t. record { owner = p.owner; tuple = t }) asked
-
-pub tuple_of-live : (present : List Present) (owner : ℕ) → HasRisingOwners present → tuple_of (live_requests present) owner ≡ tuple_known (presence_of present owner)
-tuple_of-live [] owner rising = refl
-tuple_of-live (p ∷ present) owner rising =
-    step p.tuple refl (p.owner.0 == owner) refl (tuple_of-live present owner (rising_rest p present rising))
-  where
-    step : (asked : Option Tuple) → p.tuple ≡ asked → (same : Bool) → (p.owner.0 == owner) ≡ same
-        → tuple_of (live_requests present) owner ≡ tuple_known (presence_of present owner)
-        → tuple_of (live_requests (p ∷ present)) owner ≡ tuple_known (presence_of (p ∷ present) owner)
-    step (Some t) asks true equal ih =
-        ap (λ o. tuple_of (cons_option (row_of p o) (live_requests present)) owner) asks
-        ∙ (ap (λ b. cond b (Some t) (tuple_of (live_requests present) owner)) equal
-        ∙ (sym asks ∙ sym (ap (λ b. tuple_known (cond b (Some p) (presence_of present owner))) equal)))
-    step (Some t) asks false equal ih =
-        ap (λ o. tuple_of (cons_option (row_of p o) (live_requests present)) owner) asks
-        ∙ (ap (λ b. cond b (Some t) (tuple_of (live_requests present) owner)) equal
-        ∙ (ih ∙ sym (ap (λ b. tuple_known (cond b (Some p) (presence_of present owner))) equal)))
-    step None asks true equal ih =
-        let here : p.owner.0 ≡ owner = eqb-true p.owner.0 owner equal in
-        let above = All-weaker (Lower p) (λ (q : Present). owner < q.owner.0) (λ q more. omega arith) present (rising_first p present rising) in
-        ap (λ o. tuple_of (cons_option (row_of p o) (live_requests present)) owner) asks
-        ∙ (ih ∙ (ap tuple_known (absent_above present owner above)
-        ∙ (sym asks ∙ sym (ap (λ b. tuple_known (cond b (Some p) (presence_of present owner))) equal))))
-    step None asks false equal ih =
-        ap (λ o. tuple_of (cons_option (row_of p o) (live_requests present)) owner) asks
-        ∙ (ih ∙ sym (ap (λ b. tuple_known (cond b (Some p) (presence_of present owner))) equal))
+use Rattle.rate_desk.proofs.RisingLemmas.{rising_after, tuple_of-live}
 
 -- ---- the request, over one call
 
@@ -159,8 +42,11 @@ request_back_call owner stay known (Request o s asked) t h asks = step (o.0 == o
     step : (same : Bool) → (o.0 == owner) ≡ same
         → IsRequestOf owner t (Request o s asked) ⊎ ((tuple_known known ≡ Some t) × ((u : Tuple) → ¬ IsRequestOf owner u (Request o s asked)))
     step true equal =
-        inl (eqb-true o.0 owner equal, same_Some asked t
-        (sym (ap (λ b. tuple_known (cond b (Some (record { owner = o; stay = s; tuple = Some asked })) known)) equal) ∙ asks))
+        inl (
+          eqb-true o.0 owner equal,
+          same_Some asked t
+              (sym (ap (λ b. tuple_known (cond b (Some (record { owner = o; stay = s; tuple = Some asked })) known)) equal) ∙ asks),
+        )
     step false equal =
         inr (sym (ap (λ b. tuple_known (cond b (Some (record { owner = o; stay = s; tuple = Some asked })) known)) equal) ∙ asks, λ u is. eqb-false o.0 owner equal is.0)
 request_back_call owner stay known (Depart o s) t h asks = step (o.0 == owner) refl
@@ -283,17 +169,23 @@ asks_back owner stay known (e ∷ entries) t h asks =
     here : ((u : Tuple) → NoneFrom (WasDone (IsRequestOf owner u)) entries 0)
         → WasDone (IsRequestOf owner t) e ⊎ ((tuple_known known ≡ Some t) × ((u : Tuple) → ¬ WasDone (IsRequestOf owner u) e))
         → Asks owner t known (e ∷ entries)
-    here none (inl asked) = inl (0, record {
-      request = at_head (WasDone (IsRequestOf owner t)) e entries asked;
-      last = λ u. none_later (WasDone (IsRequestOf owner u)) e entries 0 (none u);
-    })
+    here none (inl asked) = inl (
+      0,
+      record {
+        request = at_head (WasDone (IsRequestOf owner t)) e entries asked;
+        last = λ u. none_later (WasDone (IsRequestOf owner u)) e entries 0 (none u);
+      },
+    )
     here none (inr other) = inr (other.0, λ u. none_cons (WasDone (IsRequestOf owner u)) e entries (other.1 u) (none u))
 
     behind : Asks owner t (known_behind owner known e) entries → Asks owner t known (e ∷ entries)
-    behind (inl found) = inl (suc found.0, record {
-      request = at_tail (WasDone (IsRequestOf owner t)) e entries found.0 found.1.request;
-      last = λ u. none_later (WasDone (IsRequestOf owner u)) e entries (suc found.0) (found.1.last u);
-    })
+    behind (inl found) = inl (
+      suc found.0,
+      record {
+        request = at_tail (WasDone (IsRequestOf owner t)) e entries found.0 found.1.request;
+        last = λ u. none_later (WasDone (IsRequestOf owner u)) e entries (suc found.0) (found.1.last u);
+      },
+    )
     behind (inr later) = here later.1 (request_back owner stay known e t (stay_head owner stay known e entries h) later.0)
 
 asks_keep : (owner stay : ℕ) (known : Option Present) (entries : List Entry) (t : Tuple) → InStay owner stay known entries
@@ -381,8 +273,7 @@ pub request_law : (gap : ℕ) (entries : List Entry) (owner stay place : ℕ) (t
     → IsPresentSince entries owner stay place → tuple_of (live_after empty_base entries) owner ≡ Some t ↔ IsLastRequestSince entries owner place t
 request_law gap entries owner stay place t legal least since =
     let run = legal_runs gap owner entries legal in
-    let same = tuple_of-live (present_after empty_base entries) owner (rising_after [] entries (λ i j d before below. absurd (omega arith))) ∙ ap tuple_known (presence_after owner [] entries) in
-    (
+    let same = tuple_of-live (present_after empty_base entries) owner (rising_after [] entries (λ i j d before below. absurd (omega arith))) ∙ ap tuple_known (presence_after owner [] entries) in (
       λ asks. last_back owner stay None entries place t least run since (sym same ∙ asks),
       λ l. same ∙ last_on owner stay None entries place t l.asked least run since l.later (record { request = l.request; last = λ u other after. l.last other u after }),
     )

@@ -1,15 +1,14 @@
 -- PLIs by places: what `goes_up` says call by call is the schedule.
-use Rattle.std.proofs.Common.{◌≡◌, ℕ, zero, suc, ◌+◌, ◌-◌, ◌<◌, ◌≤◌, max, Bool, true, false, cond, List, [], ◌∷◌, ◌++◌, length, take, drop, get_or, fold, refl, sym, ap, subst, ◌∙◌, arith, add-one, Some, None, Option, inl, inr}
-use Rattle.std.specs.Prelude.{not, ◌&&◌, ◌||◌, ◌↔◌, ◌⊎◌, nat_le, slice_get, reverse}
-use Rattle.std.specs.List.{list_any, after_last, suffix_len, prefix_len}
-use Rattle.std.proofs.lemmas.Bool.{cases_lt, both_ways, le-leb, leb-true, le-leb, or_cases, and_parts, not-true, not-false}
-use Rattle.std.proofs.lemmas.List.{length-drop, length-take, length-take-le, take-take, take_more, length-reverse, get_or-reverse, drop_more}
+use Rattle.std.proofs.Common.{◌≡◌, ℕ, zero, suc, ◌+◌, ◌-◌, ◌<◌, ◌≤◌, max, Bool, true, false, cond, List, [], ◌∷◌, length, take, drop, get_or, fold, refl, sym, ap, subst, ◌∙◌, arith, add-one, Some, None, inl, inr}
+use Rattle.std.specs.Prelude.{not, ◌&&◌, ◌||◌, ◌⊎◌, slice_get, reverse}
+use Rattle.std.specs.List.{list_any, after_last, suffix_len}
+use Rattle.std.proofs.lemmas.Bool.{cases_lt, both_ways, le-leb, leb-true, or_cases, not-true, not-false}
+use Rattle.std.proofs.lemmas.List.{length-drop, length-take, length-take-le, take-take, take_more, length-reverse, get_or-reverse}
 use Rattle.std.proofs.lemmas.List.Sums.{prefix_len_passes, prefix_len_stops, suffix_len-le-length}
 use Rattle.std.proofs.lemmas.Option.{slice_get-get_or, slice_get_within, get_or_from_slice_get, none-some, same_Some}
-use Rattle.rate_desk.specs.declared.call.Call.{Call}
 use Rattle.rate_desk.specs.declared.call.Entry.{Entry}
-use Rattle.rate_desk.specs.Plis.{is_timed, moment_of, is_pli, went_up, wishes, Gate, new_gate, greatest_moment, is_wanted, up_to_last_up, last_up, is_due, goes_up}
-use Rattle.rate_desk.specs.Trace.{Base, empty_base, StandsAt}
+use Rattle.rate_desk.specs.Plis.{is_timed, moment_of, is_pli, went_up, wishes, new_gate, greatest_moment, is_wanted, up_to_last_up, last_up, is_due, goes_up}
+use Rattle.rate_desk.specs.Trace.{empty_base, StandsAt}
 use Rattle.rate_desk.specs.History.{IsLegalHistory}
 use Rattle.rate_desk.specs.Schedule.{WentUpAt, greatest_until, IsUnanswered, IsLastUpBefore, IsDueAt, IsPliSchedule, IsGreatestUntil}
 use Rattle.rate_desk.proofs.GateLemmas.{greatest_moment-push}
@@ -220,19 +219,24 @@ module _ (gap : ℕ) (entries : List Entry) (legal : IsLegalHistory gap empty_ba
       earlier : (wish : ℕ) × PassesAt wishes (take place entries) wish × ((between : ℕ) → wish ≤ between → ¬ WentUpAt (take place entries) between)
           → (wish : ℕ) × IsUnanswered entries place wish
       earlier (wish, s, none) =
-          let inside : wish < place = omega (arith, within (λ e. wishes e ≡ true) (take place entries) wish s, length_past) in
-          (wish, record {
-            not_after = omega arith;
-            wished = to_whole (λ e. wishes e ≡ true) place entries wish inside s;
-            unanswered = λ between from before went. none between from (to_part (λ e. went_up e ≡ true) place entries between before went);
-          })
+          let inside : wish < place = omega (arith, within (λ e. wishes e ≡ true) (take place entries) wish s, length_past) in (
+            wish,
+            record {
+              not_after = omega arith;
+              wished = to_whole (λ e. wishes e ≡ true) place entries wish inside s;
+              unanswered = λ between from before went. none between from (to_part (λ e. went_up e ≡ true) place entries between before went);
+            },
+          )
 
       wished : (is_pli (get_or entries place d).call ≡ true) ⊎ (is_wanted new_gate (take place entries) ≡ true) → (wish : ℕ) × IsUnanswered entries place wish
-      wished (inl here) = (place, record {
-        not_after = omega arith;
-        wished = stands wishes entries place d below here;
-        unanswered = λ between from before went. absurd (omega arith);
-      })
+      wished (inl here) = (
+        place,
+        record {
+          not_after = omega arith;
+          wished = stands wishes entries place d below here;
+          unanswered = λ between from before went. absurd (omega arith);
+        },
+      )
       wished (inr w) = earlier (wanted_at (take place entries) w)
 
   up_from_due : IsDueAt gap entries place → WentUpAt entries place

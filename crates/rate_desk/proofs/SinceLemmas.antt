@@ -1,6 +1,6 @@
 -- What is known of one owner, since it arrived.
-use Rattle.std.proofs.Common.{◌≡◌, ℕ, zero, suc, ◌+◌, ◌<◌, ◌≤◌, Bool, true, false, cond, List, [], ◌∷◌, length, take, filter, get_or, fold, refl, sym, ap, subst, ◌∙◌, arith, Some, None, Option, inl, inr}
-use Rattle.std.specs.Prelude.{not, ◌==◌, nat_lt, nat_le, ◌⊎◌, ◌↔◌, slice_get, option_and_then, if◌then◌else◌}
+use Rattle.std.proofs.Common.{◌≡◌, ℕ, zero, suc, ◌<◌, ◌≤◌, Bool, true, false, cond, List, [], ◌∷◌, length, take, get_or, fold, refl, sym, ap, subst, ◌∙◌, arith, Some, None, Option, inl, inr}
+use Rattle.std.specs.Prelude.{not, ◌==◌, nat_lt, nat_le, ◌⊎◌, ◌↔◌, option_and_then}
 use Rattle.std.specs.Option.{option_map_or}
 use Rattle.std.proofs.lemmas.Bool.{eqb-true, eqb-false, eq-eqb, both_ways}
 use Rattle.std.proofs.lemmas.Option.{none-some, same_Some}
@@ -13,7 +13,7 @@ use Rattle.rate_desk.specs.declared.call.Entry.{Entry}
 use Rattle.rate_desk.specs.declared.presence.Present.{Present}
 use Rattle.rate_desk.specs.declared.presence.TheConstants.{PRESENT_LIMIT}
 use Rattle.rate_desk.specs.Presence.{presence_of, stay_in, with_presence, without_owner, present_by, refusal_of}
-use Rattle.rate_desk.specs.Trace.{empty_base, is_done, present_behind, present_after, StandsAt, WasDone, IsArriveOf, IsRequestOf, IsDepartOf, IsPresentSince, IsPresent, IsLastRequestSince}
+use Rattle.rate_desk.specs.Trace.{empty_base, is_done, present_behind, present_after, StandsAt, WasDone, IsArriveOf, IsDepartOf, IsPresentSince, IsPresent}
 use Rattle.rate_desk.specs.History.{IsLegalHistory}
 use Rattle.rate_desk.proofs.HistoryLemmas.{done_accepted}
 
@@ -155,12 +155,11 @@ Accepts present entries =
 
 runs : (owner : ℕ) (present : List Present) (entries : List Entry) → Accepts present entries → Runs owner (presence_of present owner) entries
 runs owner present [] accepts = tt
-runs owner present (e ∷ entries) accepts =
-    (
-      λ done. fits present owner e.call (accepts 0 e (omega arith) done),
-      subst (λ known. Runs owner known entries) (presence_behind present owner e)
+runs owner present (e ∷ entries) accepts = (
+  λ done. fits present owner e.call (accepts 0 e (omega arith) done),
+  subst (λ known. Runs owner known entries) (presence_behind present owner e)
       (runs owner (present_behind present e) entries (λ i d below. accepts (suc i) d (omega arith))),
-    )
+)
 
 pub presence_after : (owner : ℕ) (present : List Present) (entries : List Entry)
     → presence_of (fold present_behind present entries) owner ≡ known_after owner (presence_of present owner) entries
@@ -325,26 +324,31 @@ present_back owner stay known (e ∷ entries) least run is = behind (present_bac
   where
     here : NoneFrom (WasDone (IsDepartOf owner)) entries 0 → WasDone (IsArriveOf owner stay) e ⊎ ((stay_of known ≡ stay) × ¬ WasDone (IsDepartOf owner) e)
         → IsPresent (e ∷ entries) owner stay ⊎ ((stay_of known ≡ stay) × NoneFrom (WasDone (IsDepartOf owner)) (e ∷ entries) 0)
-    here none (inl arrived) = inl (0, record {
-      arrived = at_head (WasDone (IsArriveOf owner stay)) e entries arrived;
-      stayed = none_later (WasDone (IsDepartOf owner)) e entries 0 none;
-    })
+    here none (inl arrived) = inl (
+      0,
+      record {
+        arrived = at_head (WasDone (IsArriveOf owner stay)) e entries arrived;
+        stayed = none_later (WasDone (IsDepartOf owner)) e entries 0 none;
+      },
+    )
     here none (inr other) = inr (other.0, none_cons (WasDone (IsDepartOf owner)) e entries other.1 none)
 
     behind : IsPresent entries owner stay ⊎ ((stay_of (known_behind owner known e) ≡ stay) × NoneFrom (WasDone (IsDepartOf owner)) entries 0)
         → IsPresent (e ∷ entries) owner stay ⊎ ((stay_of known ≡ stay) × NoneFrom (WasDone (IsDepartOf owner)) (e ∷ entries) 0)
-    behind (inl since) = inl (suc since.0, record {
-      arrived = at_tail (WasDone (IsArriveOf owner stay)) e entries since.0 since.1.arrived;
-      stayed = none_later (WasDone (IsDepartOf owner)) e entries (suc since.0) since.1.stayed;
-    })
+    behind (inl since) = inl (
+      suc since.0,
+      record {
+        arrived = at_tail (WasDone (IsArriveOf owner stay)) e entries since.0 since.1.arrived;
+        stayed = none_later (WasDone (IsDepartOf owner)) e entries (suc since.0) since.1.stayed;
+      },
+    )
     behind (inr later) = here later.1 (stay_back owner stay known e least run.0 later.0)
 
 pub present_law : (gap : ℕ) (entries : List Entry) (owner stay : ℕ) → IsLegalHistory gap empty_base entries → 1 ≤ stay
     → stay_in (present_after empty_base entries) owner ≡ stay ↔ IsPresent entries owner stay
 present_law gap entries owner stay legal least =
     let run = legal_runs gap owner entries legal in
-    let same = presence_after owner [] entries in
-    (
+    let same = presence_after owner [] entries in (
       λ is. elim (present_back owner stay None entries least run (sym (ap stay_of same) ∙ is)) [
         | inl since ↦ since
         | inr never ↦ absurd (omega (arith, never.0))

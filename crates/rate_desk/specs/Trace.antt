@@ -1,5 +1,5 @@
 -- The trace of a desk: what is left of calls that aren't listed any more, and the recorded calls with their answers.
-use Rattle.std.specs.Prelude.{◌≡◌, ℕ, ◌<◌, Bool, true, false, List, [], ◌∷◌, ◌++◌, fold, slice_get, Option, None, Some, if◌then◌else◌}
+use Rattle.std.specs.Prelude.{◌≡◌, ℕ, ◌<◌, Bool, true, false, List, [], fold, slice_get, Some, if◌then◌else◌}
 use Rattle.rate_cert.specs.declared.request.Request.{Request}
 use Rattle.tmmbr_tuple.specs.declared.tuple.Tuple.{Tuple}
 use Rattle.rate_desk.specs.declared.call.Call.{Call}
