@@ -13,6 +13,7 @@ use Rattle.rate_cert.specs.Requests.{IsFeasible}
 use Rattle.rate_cert.proofs.CheckerLemmas.{refuted}
 use Rattle.bounding_set.specs.Canonical.{HasSameLine, StopsMedia, ReachesNoFarther}
 use Rattle.bounding_set.specs.Envelope.{IsNotAfter, ReachesBeyond, Crosses, Turns, IsHull, Covers, ComesFrom}
+use Rattle.bounding_set.specs.Spliced.{ImpliesAlone}
 use Rattle.bounding_set.proofs.TurnLemmas.{beyond_beyond, permitted_by_reach}
 use Rattle.bounding_set.proofs.EnvelopeLemmas.{CoversBeside}
 
@@ -49,6 +50,13 @@ module _ {X : Type 0} (xs : List X) (x : X) (count : ℕ) (within : count ≤ le
   pub last_from_all : (P : X → Type 0) → All P (ends_with xs x count) → P x
   last_from_all P all = subst P (at_end x) (all count x (omega (arith, length-ends_with)))
 
+-- a test of a slice of the lines
+pub tests_last : (slice lines : List Request) (x : Request) (r : Bool) → slice ≡ lines
+    → ((d : Request) → 0 < length slice → (IsTrue r ↔ ImpliesAlone (get_or slice (length slice - 1) d).tuple x.tuple))
+    → (d : Request) → 0 < length lines → (IsTrue r ↔ ImpliesAlone (get_or lines (length lines - 1) d).tuple x.tuple)
+tests_last slice lines x r same tests =
+    subst (λ s. (d : Request) → 0 < length s → (IsTrue r ↔ ImpliesAlone (get_or s (length s - 1) d).tuple x.tuple)) same tests
+
 module _ (lines : List Request) (x : Request) (hull : IsHull lines) where
   -- the last line permits a pair of its own reach, and so do all
   reach_pair : Request → RatePair
@@ -67,7 +75,7 @@ module _ (lines : List Request) (x : Request) (hull : IsHull lines) where
       ]
 
   -- so no request that the lines cover has the line of one that the last line reaches beyond
-  no_same_line : (d : Request) → 0 < length lines → (¬ ReachesNoFarther (get_or lines (length lines - 1) d) x)
+  pub no_same_line : (d : Request) → 0 < length lines → (¬ ReachesNoFarther (get_or lines (length lines - 1) d) x)
       → (z : Request) → Covers lines z → ¬ HasSameLine x z
   unfolding reach_pair
   no_same_line d some beyond z covers same =
@@ -77,20 +85,27 @@ module _ (lines : List Request) (x : Request) (hull : IsHull lines) where
       beyond (rw (same.rate, same.overhead) reach)
 
   -- without any line, no request is covered
-  none_covered : length lines ≡ 0 → (z : Request) → Covers lines z → ⊥
+  pub none_covered : length lines ≡ 0 → (z : Request) → Covers lines z → ⊥
   none_covered none z covers =
       let permitted = covers (record { packets = 0; bits = rate_of z.tuple + 1; seconds = 1 }) (λ k d below. absurd (omega (arith, none))) in
       omega (arith, permitted)
 
   module _ (last : All (λ l. IsNotAfter l x) lines) where
-    -- a line that reaches no farther than x, and whose overhead isn't greater, covers it
-    pub Covers-reached : (d : Request) → 0 < length lines → (¬ StopsMedia (get_or lines (length lines - 1) d))
-        → ReachesNoFarther (get_or lines (length lines - 1) d) x → Covers lines x
-    Covers-reached d some sends reach = λ p feasible.
+    -- a line that reaches no farther than x, and whose overhead isn't greater, implies it
+    implies_reached : (d : Request) → 0 < length lines → (¬ StopsMedia (get_or lines (length lines - 1) d))
+        → ReachesNoFarther (get_or lines (length lines - 1) d) x → ImpliesAlone (get_or lines (length lines - 1) d).tuple x.tuple
+    implies_reached d some sends reach = λ p by_top.
         let top = get_or lines (length lines - 1) d in
         let not_after = last (length lines - 1) d (omega arith) in
         permitted_by_reach p.bits p.packets p.seconds top.tuple.overhead (rate_of top.tuple) x.tuple.overhead (rate_of x.tuple)
-        not_after.overhead not_after.rate (omega (arith, sends)) reach (feasible (length lines - 1) d (omega arith))
+        not_after.overhead not_after.rate (omega (arith, sends)) reach by_top
+
+    -- so one that was found not to imply it, by a test of a slice of the lines, reaches farther
+    pub not_reached : (slice : List Request) (r : Bool) → slice ≡ lines
+        → ((d : Request) → 0 < length slice → (IsTrue r ↔ ImpliesAlone (get_or slice (length slice - 1) d).tuple x.tuple)) → r ≡ false
+        → All (λ l. ¬ StopsMedia l) lines → (d : Request) → 0 < length lines → ¬ ReachesNoFarther (get_or lines (length lines - 1) d) x
+    not_reached slice r same tests is send d some reach =
+        refuted r (tests_last slice lines x r same tests d some) is (implies_reached d some (send (length lines - 1) d (omega arith)) reach)
 
     module _ (beyond : (d : Request) → 0 < length lines → ¬ ReachesNoFarther (get_or lines (length lines - 1) d) x) where
       last_beyond : (d : Request) → 0 < length lines → ReachesBeyond x (get_or lines (length lines - 1) d)
@@ -168,17 +183,12 @@ module _ (lines : List Request) (x : Request) (hull : IsHull lines) where
           ];
     }
 
-    pub Covers-last : Covers (ends_with lines x count) x
-    Covers-last = λ p feasible. last_from_all lines x count within (λ l. Permits l.tuple p) feasible
-
     pub Covers-before : CoversBeside lines x count → All (Covers (ends_with lines x count)) lines
     Covers-before covers = λ k d below p feasible.
         covers p (first_from_all lines x count within (λ l. Permits l.tuple p) feasible)
         (last_from_all lines x count within (λ l. Permits l.tuple p) feasible) k d below
 
--- the same of a slice of the lines, and of a test that answered false
-pub not_reached : (slice lines : List Request) (x : Request) (r : Bool) → slice ≡ lines
-    → ((d : Request) → 0 < length slice → (IsTrue r ↔ ReachesNoFarther (get_or slice (length slice - 1) d) x)) → r ≡ false
-    → (d : Request) → 0 < length lines → ¬ ReachesNoFarther (get_or lines (length lines - 1) d) x
-not_reached slice lines x r same reach is d =
-    subst (λ s. 0 < length s → ¬ ReachesNoFarther (get_or s (length s - 1) d) x) same (λ some. refuted r (reach d some) is)
+-- what the last line implies, the lines cover
+pub Covers-implied : (lines : List Request) (x d : Request) → 0 < length lines → ImpliesAlone (get_or lines (length lines - 1) d).tuple x.tuple
+    → Covers lines x
+Covers-implied lines x d some implied = λ p feasible. implied p (feasible (length lines - 1) d (omega arith))

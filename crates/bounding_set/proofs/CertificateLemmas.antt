@@ -17,7 +17,7 @@ use Rattle.bounding_set.specs.Announced.{AnnouncesList, Follows, IsCovered}
 use Rattle.bounding_set.specs.Canonical.{IsAnnounced, IsCanonical}
 use Rattle.bounding_set.specs.Certificate.{kept_pairs, dropped_places, implied_by}
 use Rattle.bounding_set.specs.Kept.{KeepsRequests, pairs_of, listed_of}
-use Rattle.bounding_set.specs.State.{AnnouncesSmallest}
+use Rattle.bounding_set.specs.State.{AnnouncesFor}
 use Rattle.bounding_set.proofs.KeptLemmas.{same_place, places_in_range, requests_by_place, as_many_places, as_many_requests, request_at}
 use Rattle.bounding_set.proofs.ImpliedLemmas.{AllPairs-append, IsEntryFor, entry_by, dropped_in_range, dropped_are_distinct, dropped_isn't_kept, kept_or_dropped}
 
@@ -191,8 +191,8 @@ module _ (rows announced : List Request) (kept : List Kept) (implied : List Impl
     complete = λ place below. subst (λ ps. Contains (places ++ ps) place) (sym implied_places) (kept_or_dropped (length rows) places place below);
   }
 
-  pub AnnouncesSmallest-certificate : AnnouncesSmallest (record { rows = rows; cert = record { kept = record { items = kept }; implied = record { items = implied } } })
-  AnnouncesSmallest-certificate = record {
+  pub AnnouncesFor-certificate : AnnouncesFor rows (record { kept = record { items = kept }; implied = record { items = implied } })
+  AnnouncesFor-certificate = record {
     canonical = canonical;
     smallest = IsSmallest-from_MeetsConditions rows kept implied meets;
     certified = meets;

@@ -1,14 +1,14 @@
 -- Lines of an envelope: which are needed beside another, and what becomes of it.
-use Rattle.std.proofs.Common.{◌≡◌, ℕ, ◌+◌, ◌-◌, ◌*◌, ◌<◌, ◌≤◌, List, length, get_or, inl, inr, arith}
+use Rattle.std.proofs.Common.{◌≡◌, ℕ, ◌+◌, ◌-◌, ◌<◌, ◌≤◌, List, length, get_or, inl, inr, arith}
 use Rattle.std.specs.Prelude.{All}
 use Rattle.std.specs.List.{AllWithin}
-use Rattle.std.proofs.lemmas.Bool.{cases_lt, cases_eq}
+use Rattle.std.proofs.lemmas.Bool.{cases_eq}
 use Rattle.tmmbr_tuple.specs.Tuple.{rate_of}
 use Rattle.tmmbr_tuple.specs.RatePair.{RatePair, Permits}
 use Rattle.rate_cert.specs.declared.request.Request.{Request}
 use Rattle.rate_cert.specs.Requests.{IsFeasible}
 use Rattle.bounding_set.specs.Envelope.{ReachesBeyond, Turns, IsHull}
-use Rattle.bounding_set.proofs.TurnLemmas.{IsNotBelowChord, second_below, third_below, rate_rises, permitted_between, permitted_by_stricter}
+use Rattle.bounding_set.proofs.TurnLemmas.{second_below, third_below, rate_rises}
 
 -- what the first lines and x permit, all lines permit
 abbrev pub CoversBeside : List Request → Request → ℕ → Type 0
@@ -18,66 +18,21 @@ pub record IsNeededBeside (lines : List Request) (x : Request) (count : ℕ) : T
   pub within : count ≤ length lines
   pub covers : CoversBeside lines x count
 
-pub all_needed : (lines : List Request) (x : Request) → IsNeededBeside lines x (length lines)
-all_needed lines x = record {
-  within = omega arith;
-  covers = λ p by_lines by_x k d below. by_lines k d (omega arith) below;
+-- so one less of them does, where they and x permit it
+pub one_less : (lines : List Request) (x : Request) (count : ℕ) → 0 < count → IsNeededBeside lines x count
+    → ((p : RatePair) (d : Request) → AllWithin (λ l. Permits l.tuple p) lines 0 (count - 1) → Permits x.tuple p → Permits (get_or lines (count - 1) d).tuple p)
+    → IsNeededBeside lines x (count - 1)
+one_less lines x count some needed last = record {
+  within = omega (arith, needed.within);
+  covers = λ p by_lines by_x. needed.covers p
+      (λ k d low below. elim (cases_eq k (count - 1)) [
+        | inl here ↦ rw here (last p d by_lines by_x)
+        | inr other ↦ by_lines k d low (omega arith)
+      ])
+      by_x;
 }
 
 module _ (lines : List Request) (x : Request) (hull : IsHull lines) (beyond : All (ReachesBeyond x) lines) where
-  -- the last of so many lines permits what those before it and x do
-  one_permits : (p : RatePair) (d : Request) → 0 < length lines → rate_of x.tuple ≤ rate_of (get_or lines 0 d).tuple
-      → Permits x.tuple p → Permits (get_or lines 0 d).tuple p
-  one_permits p d some rates by_x =
-      let t = get_or lines 0 d in
-      let before = beyond 0 d some in
-      permitted_by_stricter p.bits p.packets p.seconds t.tuple.overhead x.tuple.overhead (rate_of t.tuple) (rate_of x.tuple)
-      (omega (arith, before.overhead)) rates by_x
-
-  between_permits : (p : RatePair) (d : Request) (count : ℕ) → 1 < count → count ≤ length lines
-      → (¬ Turns (get_or lines (count - 2) d) (get_or lines (count - 1) d) x)
-      → Permits (get_or lines (count - 2) d).tuple p → Permits x.tuple p → Permits (get_or lines (count - 1) d).tuple p
-  between_permits p d count some within no_turn by_s by_x =
-      let s = get_or lines (count - 2) d in
-      let t = get_or lines (count - 1) d in
-      let crosses = hull.crosses (count - 2) (count - 1) d (omega arith) (omega arith) in
-      let before = beyond (count - 1) d (omega arith) in
-      let above : IsNotBelowChord s.tuple.overhead (rate_of s.tuple) t.tuple.overhead (rate_of t.tuple) x.tuple.overhead (rate_of x.tuple) =
-      elim (cases_lt
-      (x.tuple.overhead * rate_of t.tuple + t.tuple.overhead * rate_of s.tuple + s.tuple.overhead * rate_of x.tuple)
-      (x.tuple.overhead * rate_of s.tuple + t.tuple.overhead * rate_of x.tuple + s.tuple.overhead * rate_of t.tuple)) [
-        | inl turn ↦ absurd (no_turn turn)
-        | inr not_below ↦ not_below
-      ] in
-      permitted_between p.bits p.packets p.seconds s.tuple.overhead t.tuple.overhead x.tuple.overhead (rate_of s.tuple) (rate_of t.tuple)
-      (rate_of x.tuple) crosses.overhead before.overhead above by_s by_x
-
-  -- so one less of them does
-  one_less : (count : ℕ) → 0 < count → IsNeededBeside lines x count
-      → ((p : RatePair) (d : Request) → AllWithin (λ l. Permits l.tuple p) lines 0 (count - 1) → Permits x.tuple p → Permits (get_or lines (count - 1) d).tuple p)
-      → IsNeededBeside lines x (count - 1)
-  one_less count some needed last = record {
-    within = omega (arith, needed.within);
-    covers = λ p by_lines by_x. needed.covers p
-        (λ k d low below. elim (cases_eq k (count - 1)) [
-          | inl here ↦ rw here (last p d by_lines by_x)
-          | inr other ↦ by_lines k d low (omega arith)
-        ])
-        by_x;
-  }
-
-  pub without_needless : (count : ℕ) → 0 < count → IsNeededBeside lines x count
-      → (count ≡ 1 → (d : Request) → rate_of x.tuple ≤ rate_of (get_or lines 0 d).tuple)
-      → (1 < count → (d : Request) → ¬ Turns (get_or lines (count - 2) d) (get_or lines (count - 1) d) x)
-      → IsNeededBeside lines x (count - 1)
-  without_needless count some needed one more =
-      one_less count some needed (λ p d by_lines by_x. elim (cases_eq count 1) [
-        | inl is_one ↦ rw is_one (one_permits p d (omega (arith, needed.within)) (one is_one d) by_x)
-        | inr is_more ↦
-            between_permits p d count (omega arith) needed.within (more (omega arith) d)
-            (by_lines (count - 2) d (omega arith) (omega arith)) by_x
-      ])
-
   module _ (count : ℕ) (within : count ≤ length lines)
       (one : count ≡ 1 → (d : Request) → rate_of (get_or lines 0 d).tuple < rate_of x.tuple)
       (more : 1 < count → (d : Request) → Turns (get_or lines (count - 2) d) (get_or lines (count - 1) d) x) where

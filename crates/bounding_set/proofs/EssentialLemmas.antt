@@ -178,16 +178,8 @@ covered_by rows (x ∷ xs) k d ends start some below = (
   λ more. covered_from rows x xs k d ends below (omega (arith, more)),
 )
 
-module _ (rows lines : List Request) (envelope : IsEnvelope rows lines) (send : All (λ r. ¬ StopsMedia r) rows) where
-  covers : All (Covers lines) rows
-  covers = All-from_all_within (Covers lines) rows envelope.covers
-
-  lines_send : All (λ l. 0 < rate_of l.tuple) lines
-  lines_send = λ k d below.
-      let sends = All-contains (λ r. ¬ StopsMedia r) rows (get_or lines k d) send (envelope.are_rows k d below) in
-      omega (arith, sends)
-
-  -- no line is below the chord of two neighbours
+-- a hull's lines beside two neighbours, and beside the last
+module _ (lines : List Request) (hull : IsHull lines) where
   chord_at : (j k : ℕ) (d : Request) → j + 1 < length lines → k < length lines
       → IsAboveChord (get_or lines j d) (get_or lines (j + 1) d) (get_or lines k d)
   chord_at j k d next below =
@@ -198,36 +190,46 @@ module _ (rows lines : List Request) (envelope : IsEnvelope rows lines) (send : 
               | inl second ↦ rw second (omega arith)
               | inr not_second ↦
                   elim (cases_lt k j) [
-                    | inl before ↦ omega (arith, envelope.hull.turns k j (j + 1) d before (omega arith) next)
-                    | inr behind ↦ omega (arith, envelope.hull.turns j (j + 1) k d (omega arith) (omega (arith, not_first, not_second, behind)) below)
+                    | inl before ↦ omega (arith, hull.turns k j (j + 1) d before (omega arith) next)
+                    | inr behind ↦ omega (arith, hull.turns j (j + 1) k d (omega arith) (omega (arith, not_first, not_second, behind)) below)
                   ]
             ]
       ]
 
-  chords : (j : ℕ) (d : Request) → j + 1 < length lines → All (IsAboveChord (get_or lines j d) (get_or lines (j + 1) d)) lines
+  -- no line is below the chord of two neighbours
+  pub chords : (j : ℕ) (d : Request) → j + 1 < length lines → All (IsAboveChord (get_or lines j d) (get_or lines (j + 1) d)) lines
   chords j d next = λ k e below.
       subst (IsAboveChord (get_or lines j d) (get_or lines (j + 1) d)) (get_or_default lines k d e below) (chord_at j k d next below)
 
   -- the last line reaches least
-  reaches_least : (j k : ℕ) (d : Request) → j + 1 ≡ length lines → k < length lines
+  pub reaches_least : (j k : ℕ) (d : Request) → j + 1 ≡ length lines → k < length lines
       → rate_of (get_or lines j d).tuple * (get_or lines k d).tuple.overhead ≤ rate_of (get_or lines k d).tuple * (get_or lines j d).tuple.overhead
   reaches_least j k d last below =
       elim (cases_eq k j) [
         | inl here ↦ rw here (omega arith)
-        | inr before ↦ omega (arith, (envelope.hull.crosses k j d (omega (arith, last, before)) (omega (arith, last))).reach)
+        | inr before ↦ omega (arith, (hull.crosses k j d (omega (arith, last, before)) (omega (arith, last))).reach)
       ]
+
+module _ (rows lines : List Request) (envelope : IsEnvelope rows lines) (send : All (λ r. ¬ StopsMedia r) rows) where
+  covers : All (Covers lines) rows
+  covers = All-from_all_within (Covers lines) rows envelope.covers
+
+  lines_send : All (λ l. 0 < rate_of l.tuple) lines
+  lines_send = λ k d below.
+      let sends = All-contains (λ r. ¬ StopsMedia r) rows (get_or lines k d) send (envelope.are_rows k d below) in
+      omega (arith, sends)
 
   has_ends : HasEnds rows lines
   has_ends = record {
     hull = envelope.hull;
     send = lines_send;
     left = λ j k d next below. rw next (left_of_crossing (get_or lines j d) (get_or lines (j + 1) d)
-        (envelope.hull.crosses j (j + 1) d (omega arith) (omega (arith, next))) rows lines covers (chords j d (omega (arith, next))));
+        (envelope.hull.crosses j (j + 1) d (omega arith) (omega (arith, next))) rows lines covers (chords lines envelope.hull j d (omega (arith, next))));
     right = λ j k d next below. rw next (right_of_crossing (get_or lines j d) (get_or lines (j + 1) d)
-        (envelope.hull.crosses j (j + 1) d (omega arith) (omega (arith, next))) rows lines covers (chords j d (omega (arith, next))));
+        (envelope.hull.crosses j (j + 1) d (omega arith) (omega (arith, next))) rows lines covers (chords lines envelope.hull j d (omega (arith, next))));
     reach = λ j d last. IsLowestEnd-from_covers rows lines (get_or lines j d) (reach_of (get_or lines j d)) covers (omega arith)
         (λ k e below.
-        let least = reaches_least j k d last below in
+        let least = reaches_least lines envelope.hull j k d last below in
         subst (λ (l : Request). rate_of (get_or lines j d).tuple * (8 * (get_or lines j d).tuple.overhead) + 8 * l.tuple.overhead * rate_of (get_or lines j d).tuple
         ≤ rate_of l.tuple * (8 * (get_or lines j d).tuple.overhead) + 8 * (get_or lines j d).tuple.overhead * rate_of (get_or lines j d).tuple)
         (get_or_default lines k d e below) (omega (arith, least)));

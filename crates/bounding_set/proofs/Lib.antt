@@ -1,9 +1,14 @@
 pub mod RowLemmas
 pub mod TurnLemmas
 pub mod EnvelopeLemmas
+pub mod ImpliesLemmas
+pub mod BesideLemmas
 pub mod AddLemmas
 pub mod SortLemmas
 pub mod WalkLemmas
+pub mod SpliceTurns
+pub mod SpliceLemmas
+pub mod StandsLemmas
 pub mod EndLemmas
 pub mod EssentialLemmas
 pub mod StopScans
@@ -11,3 +16,9 @@ pub mod StopLemmas
 pub mod KeptLemmas
 pub mod ImpliedLemmas
 pub mod CertificateLemmas
+pub mod SplicedLemmas
+pub mod UnspliceLemmas
+pub mod PutBackLemmas
+pub mod MemberLemmas
+pub mod DropLemmas
+pub mod BoundsLemmas

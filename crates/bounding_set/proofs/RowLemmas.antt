@@ -54,34 +54,12 @@ tuple_of-present (r ∷ rows) owner (suc place) d is before =
       tuple_of-present rows owner place d (is_row_tail r rows owner place is) (not_before_tail r rows owner place before),
     )
 
--- a request over the owner's row
-gets_set : (rows : List Request) (place : ℕ) (new : Request) → IsRowOf rows new.owner.0 place → NotBefore rows new.owner.0 place
-    → Gets rows (set rows place new) new.owner.0 new.tuple
-gets_set [] place new is before q = absurd (omega (arith, is.in_range))
-gets_set (r ∷ rows) zero new is before q = grind (arith, nat_tests, is.is_owner r)
-gets_set (r ∷ rows) (suc place) new is before q =
-    grind (
-      arith,
-      nat_tests,
-      before 0 r (omega arith) (omega arith),
-      gets_set rows place new (is_row_tail r rows _ place is) (not_before_tail r rows _ place before) q,
-    )
-
 -- a new row before any row of the owner
 gets_insert : (rows : List Request) (place : ℕ) (new : Request) → NotBefore rows new.owner.0 place → Gets rows (insert rows place new) new.owner.0 new.tuple
 gets_insert rows zero new before q = refl
 gets_insert [] (suc place) new before q = refl
 gets_insert (r ∷ rows) (suc place) new before q =
     grind (arith, nat_tests, before 0 r (omega arith) (omega arith), gets_insert rows place new (not_before_tail r rows _ place before) q)
-
--- what an `ArrayVec` has after a write through its slice
-pub refill-set : (rows slice : List Request) (place : ℕ) (new : Request) → slice ≡ rows
-    → refill (length rows) rows (set slice place new) ≡ set rows place new
-refill-set rows slice place new is =
-    let written = set rows place new in
-    ap (λ s. refill (length rows) rows (set s place new)) is
-    ∙ ap (λ n. take n (written ++ drop (length written) rows)) (sym (length-set rows place new))
-    ∙ take-append_seam written (drop (length written) rows)
 
 -- what a binary search by owner answers
 pub searched : (rows : List Request) (owner : ℕ) (r : Result ℕ ℕ) → HasRisingOwners rows → IsSearchInRange r (length rows)
@@ -111,29 +89,8 @@ module _ (rows : List Request) (rising : HasRisingOwners rows) (place : ℕ) (ne
   not_before_row : NotBefore rows new.owner.0 place
   not_before_row k d low below same = omega (arith, rising k place d below is.in_range, is.is_owner d)
 
-  pub Puts-set : Puts rows (set rows place new) new.owner.0 (Some new.tuple)
-  Puts-set = puts_from_gets _ _ _ _ (gets_set rows place new is not_before_row)
-
   pub live_at_row : IsNone (tuple_of rows new.owner.0) → ⊥
   live_at_row none = false≢true (sym (rw (tuple_of-present rows new.owner.0 place new is not_before_row) at none))
-
-  pub count_with-row : count_with rows new.owner.0 ≡ length rows
-  count_with-row = rw (tuple_of-present rows new.owner.0 place new is not_before_row)
-
-  -- its owner is that of the row before
-  same_owner : (k : ℕ) (d : Request) → (get_or (set rows place new) k d).owner.0 ≡ (get_or rows k d).owner.0
-  same_owner k d =
-      elim (cases_eq k place) [
-        | inl here ↦
-            ap (λ (r : Request). r.owner.0) (get_or-set_at rows place k new d here is.in_range)
-            ∙ rw here (sym (is.is_owner d))
-        | inr elsewhere ↦ ap (λ (r : Request). r.owner.0) (get_or-set_other rows place k new d elsewhere)
-      ]
-
-  pub HasRisingOwners-set : HasRisingOwners (set rows place new)
-  HasRisingOwners-set i j d before below =
-      let in_rows : j < length rows = rw length-set at below in
-      rw (same_owner i d, same_owner j d) (rising i j d before in_rows)
 
 -- rows without the owner's
 tuple_of-remove : (rows : List Request) (place owner q : ℕ) → HasRisingOwners rows → IsRowOf rows owner place

@@ -4,7 +4,7 @@ use Rattle.std.proofs.Math.Nat.{mul-le-mul_left, mul-le-mul_right}
 use Rattle.std.proofs.lemmas.Bool.{cases_lt, cases_eq}
 
 -- what holds of a sum with a holds of each greater number
-by_difference : (P : ℕ → Type 0) (a b : ℕ) → a ≤ b → ((m : ℕ) → P (a + m)) → P b
+pub by_difference : (P : ℕ → Type 0) (a b : ℕ) → a ≤ b → ((m : ℕ) → P (a + m)) → P b
 by_difference P a b le holds =
     let sum : a + (b - a) ≡ b = omega arith in
     subst P sum (holds (b - a))

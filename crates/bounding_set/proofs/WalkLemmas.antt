@@ -16,33 +16,13 @@ pub record IsWalkedTo (rows lines : List Request) (place : ℕ) : Type 0 where
   pub in_order : All (λ l. AllWithin (IsNotAfter l) rows place (length rows)) lines
   pub few : length lines ≤ place
 
-pub walked_none : (rows lines : List Request) → lines ≡ [] → IsWalkedTo rows lines 0
-walked_none rows lines none =
-    let empty : length lines ≡ 0 = ap length none in
-    record {
-      envelope = record {
-        hull = record {
-          crosses = λ i j d before below. absurd (omega (arith, empty));
-          turns = λ i j k d before then below. absurd (omega (arith, empty));
-        };
-        covers = λ k d low below. absurd (omega arith);
-        are_rows = λ k d below. absurd (omega (arith, empty));
-        least_owner = λ k d below. absurd (omega (arith, empty));
-      };
-      in_order = λ k d below. absurd (omega (arith, empty));
-      few = omega (arith, empty);
-    }
-
 -- lines that cover old lines cover what those cover
-Covers-through : (lines new : List Request) (y : Request) → All (Covers new) lines → Covers lines y → Covers new y
+pub Covers-through : (lines new : List Request) (y : Request) → All (Covers new) lines → Covers lines y → Covers new y
 Covers-through lines new y again covers = λ p feasible. covers p (λ k d below. again k d below p feasible)
 
 module _ (rows lines new : List Request) (place : ℕ) (walked : IsWalkedTo rows lines place) where
   last_in_order : (x : Request) → place < length rows → x ≡ get_or rows place x → All (λ l. IsNotAfter l x) lines
   last_in_order x below is = λ k d at. rw is (walked.in_order k d at place x (omega arith) below)
-
-  pub lines_in_order : (x : Request) → place < length rows → x ≡ get_or rows place x → All (λ l. IsNotAfter l x) lines
-  lines_in_order = last_in_order
 
   pub lines_send : All (λ r. ¬ StopsMedia r) rows → All (λ l. ¬ StopsMedia l) lines
   lines_send send = λ k d below. All-contains (λ r. ¬ StopsMedia r) rows (get_or lines k d) send (walked.envelope.are_rows k d below)

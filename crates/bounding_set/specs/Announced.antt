@@ -1,9 +1,9 @@
 -- The announced requests as a list: what they owe to the live requests and to their certificate.
-use Rattle.std.specs.Prelude.{◌≡◌, ℕ, ◌+◌, ◌*◌, ◌<◌, ◌≤◌, ◌↔◌, List, [], ◌∷◌, length, All, AllPairs, Contains, slice_index_or}
+use Rattle.std.specs.Prelude.{◌≡◌, ℕ, ◌+◌, ◌*◌, ◌<◌, ◌≤◌, ◌↔◌, List, [], ◌∷◌, length, All, AllPairs, Any, Contains, slice_index_or}
 use Rattle.tmmbr_tuple.specs.Tuple.{rate_of}
 use Rattle.tmmbr_tuple.specs.RatePair.{RatePair, Forbids}
 use Rattle.rate_cert.specs.declared.request.Request.{Request}
-use Rattle.bounding_set.specs.Canonical.{IsAnnounced}
+use Rattle.bounding_set.specs.Canonical.{IsAnnounced, StopsMedia}
 use Rattle.bounding_set.specs.Certificate.{kept_pairs}
 
 -- y has more overhead and a greater rate than x, and reaches no farther
@@ -47,3 +47,14 @@ pub record AnnouncesList (rows kept : List Request) : Type 0 where
   pub announced : (r : Request) → Contains rows r → (Contains kept r ↔ IsAnnounced rows r)
   pub pairs : HasPairs rows kept (kept_pairs kept)
   pub covered : All (IsCovered kept) rows
+
+-- The stops are what is announced for the rows while a rate is 0, one of them such a row, and nothing else.
+pub record HoldsStops (rows stops : List Request) : Type 0 where
+  pub none : length stops ≡ 0 → All (λ r. ¬ StopsMedia r) rows
+  pub announced : 0 < length stops → AnnouncesList rows stops
+  pub stopped : 0 < length stops → Any StopsMedia stops
+
+-- what is announced: the stops, or the lines where there are none
+abbrev pub announced_among : List Request → List Request → List Request
+announced_among [] lines = lines
+announced_among (stop ∷ stops) lines = stop ∷ stops

@@ -5,7 +5,7 @@ use Rattle.tmmbr_tuple.specs.Tuple.{rate_of}
 use Rattle.tmmbr_tuple.specs.RatePair.{RatePair, Permits}
 use Rattle.rate_cert.specs.declared.request.Request.{Request}
 use Rattle.rate_cert.specs.Requests.{IsFeasible}
-use Rattle.bounding_set.specs.Canonical.{HasSameLine}
+use Rattle.bounding_set.specs.Canonical.{HasSameLine, StopsMedia}
 
 -- the order of the walk: by overhead, then by rate, then by owner
 pub record IsNotAfter (x y : Request) : Type 0 where
@@ -17,6 +17,11 @@ pub record IsNotAfter (x y : Request) : Type 0 where
 pub record ReachesBeyond (y x : Request) : Type 0 where
   pub overhead : x.tuple.overhead < y.tuple.overhead
   pub reach : rate_of y.tuple * x.tuple.overhead < rate_of x.tuple * y.tuple.overhead
+
+-- y has more overhead and a greater rate than x
+pub record IsBehind (x y : Request) : Type 0 where
+  pub overhead : x.tuple.overhead < y.tuple.overhead
+  pub rate : rate_of x.tuple < rate_of y.tuple
 
 -- y has more overhead and a greater rate than x, and x reaches farther
 pub record Crosses (x y : Request) : Type 0 where
@@ -53,3 +58,11 @@ pub record IsEnvelopeBelow (rows : List Request) (lines : List Request) (place :
 
 abbrev pub IsEnvelope : List Request → List Request → Type 0
 IsEnvelope rows lines = IsEnvelopeBelow rows lines (length rows)
+
+-- The envelope of those rows whose rate isn't 0: a hull of such rows which covers them, each with the least owner of its line.
+pub record IsEnvelopeOf (rows lines : List Request) : Type 0 where
+  pub hull : IsHull lines
+  pub covers : All (λ r. ¬ StopsMedia r → Covers lines r) rows
+  pub are_rows : All (Contains rows) lines
+  pub send : All (λ l. ¬ StopsMedia l) lines
+  pub least_owner : All (λ x. All (λ y. HasSameLine x y → x.owner.0 ≤ y.owner.0) rows) lines

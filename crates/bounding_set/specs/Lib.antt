@@ -4,5 +4,8 @@ pub mod Certificate
 pub mod State
 pub mod Announced
 pub mod Envelope
+pub mod Spliced
+pub mod Gap
+pub mod Place
 pub mod Reach
 pub mod Kept

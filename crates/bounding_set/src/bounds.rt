@@ -1,10 +1,13 @@
 //! The live requests of one media sender.
 
-ghost use Rattle.std.specs.Prelude.{◌≡◌, ◌≢◌, ◌<◌, ◌≤◌, ◌↔◌, [], length, Some, None, IsTrue, IsOk, IsErr, IfOk, OnOk, OnErr, OnSome, IfNone, IsNone, ◌+◌};
+ghost use Rattle.std.specs.Prelude.{◌≡◌, ◌≢◌, ◌<◌, ◌≤◌, ◌↔◌, [], length, All, Some, None, IsTrue, IsOk, IsErr, IfOk, OnOk, OnErr, OnSome, IfNone, IsNone, ◌+◌};
 
 use crate::announced::announce;
 use crate::certificate::chosen;
-use crate::rows::{Full, LIVE_LIMIT, are_same, put, take};
+use crate::live::replace;
+use crate::rows::{Full, LIVE_LIMIT, asked_by, is_asked, take};
+use crate::unsplice::unsplice;
+use crate::zero_rates::{MAX_STOPS, update_stops};
 use arrayvec::ArrayVec;
 use rate_cert::{Cert, MAX_REQUESTS, Request};
 use std::marker::Model;
@@ -15,25 +18,36 @@ use tmmbr_tuple::{Ssrc, Tuple};
 pub struct Bounds {
     /// By rising owner, each owner once.
     rows: ArrayVec<Request, MAX_REQUESTS>,
+    /// The envelope of the rows whose rate isn't 0.
+    lines: ArrayVec<Request, MAX_REQUESTS>,
+    /// What is announced while a rate is 0; empty while none is.
+    stops: ArrayVec<Request, MAX_STOPS>,
     cert: Cert,
+    steps: u32,
 }
 
 impl Model for Bounds {
-    ghost use Rattle.std.specs.Prelude.{◌≤◌, length};
+    ghost use Rattle.std.specs.Prelude.{◌≡◌, ◌≤◌, length};
+    ghost use Rattle.rate_cert.specs.Choice.{chosen_requests};
+    ghost use Rattle.rate_cert.specs.Certificate.{kept_places};
     ghost use Rattle.bounding_set.specs.Rows.{HasRisingOwners};
-    ghost use Rattle.bounding_set.specs.State.{State, AnnouncesSmallest};
+    ghost use Rattle.bounding_set.specs.Announced.{HoldsStops, announced_among};
+    ghost use Rattle.bounding_set.specs.Envelope.{IsEnvelopeOf};
+    ghost use Rattle.bounding_set.specs.State.{State, AnnouncesFor};
     ghost use Rattle.bounding_set.specs.declared.rows.TheConstants.{LIVE_LIMIT};
 
     ghost Value = { State };
 
-    ghost view = { λ b. record { rows = b.rows.items; cert = b.cert } };
+    ghost view = { λ b. record { rows = b.rows.items; cert = b.cert; steps = b.steps } };
 
     ghost invariant = { λ b. (length b.rows.items ≤ LIVE_LIMIT) × HasRisingOwners b.rows.items
-        × AnnouncesSmallest (record { rows = b.rows.items; cert = b.cert }) };
+        × IsEnvelopeOf b.rows.items b.lines.items × HoldsStops b.rows.items b.stops.items × AnnouncesFor b.rows.items b.cert
+        × (chosen_requests b.rows.items (kept_places b.cert) ≡ announced_among b.stops.items b.lines.items) };
 }
 
 impl Bounds {
-    ghost use Rattle.bounding_set.specs.State.{State, AnnouncesSmallest, announced_of};
+    ghost use Rattle.bounding_set.specs.Canonical.{StopsMedia};
+    ghost use Rattle.bounding_set.specs.State.{State, AnnouncesSmallest, announced_of, dropped_count};
     ghost use Rattle.bounding_set.specs.Rows.{HasRisingOwners, Puts, tuple_of, count_with};
 
     /// No live request: nothing is announced, and every pair is permitted.
@@ -42,7 +56,10 @@ impl Bounds {
     {
         Bounds {
             rows: ArrayVec::new(),
+            lines: ArrayVec::new(),
+            stops: ArrayVec::new(),
             cert: Cert::default(),
+            steps: 0,
         }
     }
 
@@ -60,12 +77,24 @@ impl Bounds {
         ensures rising { HasRisingOwners self.new.rows }
         ensures within { length self.new.rows ≤ LIVE_LIMIT }
         ensures announced { AnnouncesSmallest self.new }
+        ensures steps { tuple_of self.old.rows owner.0 ≡ None → All (λ r. ¬ StopsMedia r) self.new.rows
+            → OnOk result (self.new.steps ≤ dropped_count (announced_of self.old) (announced_of self.new) + 4) }
     {
-        let before = chosen(self.rows.as_slice(), &self.cert);
-        put(&mut self.rows, Request { owner, tuple })?;
-        announce(self.rows.as_slice(), &mut self.cert);
-        let after = chosen(self.rows.as_slice(), &self.cert);
-        Ok(!are_same(before.as_slice(), after.as_slice()))
+        let asked = asked_by(self.rows.as_slice(), owner);
+        if asked.is_none() && self.rows.len() == LIVE_LIMIT {
+            return Err(Full);
+        }
+        self.steps = 0;
+        if is_asked(asked, tuple) {
+            return Ok(false);
+        }
+        let x = Request { owner, tuple };
+        let lines_changed = replace(&mut self.rows, &mut self.lines, &x, &mut self.steps);
+        let rows = self.rows.as_slice();
+        let stops_changed = update_stops(rows, &mut self.stops, tuple.rate() == 0);
+        let (lines, stops) = (self.lines.as_slice(), self.stops.as_slice());
+        announce(rows, lines, stops, &mut self.cert);
+        Ok(stops_changed || lines_changed && self.stops.is_empty())
     }
 
     /// Removes the owner's request, and answers what it asked for. `None` where it has none; then
@@ -80,7 +109,13 @@ impl Bounds {
         ensures announced { AnnouncesSmallest self.new }
     {
         let tuple = take(&mut self.rows, owner)?;
-        announce(self.rows.as_slice(), &mut self.cert);
+        self.steps = 0;
+        let gone = Request { owner, tuple };
+        let rows = self.rows.as_slice();
+        unsplice(&mut self.lines, &gone, rows, &mut self.steps);
+        update_stops(rows, &mut self.stops, false);
+        let (lines, stops) = (self.lines.as_slice(), self.stops.as_slice());
+        announce(rows, lines, stops, &mut self.cert);
         Some(tuple)
     }
 
@@ -107,5 +142,13 @@ impl Bounds {
         ensures announced { AnnouncesSmallest self.now }
     {
         chosen(self.rows.as_slice(), &self.cert)
+    }
+
+    /// How many tests whether two lines imply a third the last `set` or `remove` that wasn't refused
+    /// took; 0 before.
+    pub fn steps(&self) -> u32
+        ensures value { result ≡ self.now.steps }
+    {
+        self.steps
     }
 }

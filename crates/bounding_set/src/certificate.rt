@@ -9,7 +9,7 @@ ghost use Rattle.bounding_set.specs.Rows.{HasRisingOwners};
 ghost use Rattle.bounding_set.specs.Announced.{AnnouncesList, Follows};
 ghost use Rattle.bounding_set.specs.Certificate.{pairs_from, start_end, kept_pairs, implied_above, implied_by, dropped_places};
 ghost use Rattle.bounding_set.specs.Kept.{StandsAt, KeepsRequests, pairs_of, listed_as, listed_at, listed_of};
-ghost use Rattle.bounding_set.specs.State.{AnnouncesSmallest};
+ghost use Rattle.bounding_set.specs.State.{AnnouncesFor};
 
 use crate::line_end::LineEnd;
 use crate::rows::place_of;
@@ -22,7 +22,8 @@ pub fn certify(rows: &[Request], announced: &[Request], cert: &mut Cert)
     requires rising { HasRisingOwners rows.now }
     requires within { length rows.now ≤ MAX_REQUESTS }
     requires announced { AnnouncesList rows.now announced.now }
-    ensures { AnnouncesSmallest (record { rows = rows.now; cert = cert.new }) }
+    ensures announced { AnnouncesFor rows.now cert.new }
+    ensures chosen { chosen_requests rows.now (kept_places cert.new) ≡ announced.now }
 {
     keep(rows, announced, &mut cert.kept);
     imply_others(rows, cert.kept.as_slice(), &mut cert.implied);

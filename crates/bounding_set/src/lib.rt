@@ -6,16 +6,24 @@
 #![tactic(auto)]
 
 mod announced;
+mod beside;
 mod bounds;
 mod certificate;
 mod envelope;
+mod implies;
+pub mod laws;
 mod line_end;
+mod live;
 mod rows;
+mod splice;
+mod unsplice;
 mod zero_rates;
 
 pub use bounds::Bounds;
 pub use rows::{Full, LIVE_LIMIT};
 
+#[cfg(test)]
+mod in_place_tests;
 #[cfg(test)]
 mod lists;
 #[cfg(test)]

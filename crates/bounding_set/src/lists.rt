@@ -117,3 +117,11 @@ pub enum Kind {
     Extremes,
     Rounded,
 }
+
+pub const KINDS: [Kind; 5] = [
+    Kind::FewLines,
+    Kind::MeetAtZero,
+    Kind::Stops,
+    Kind::Extremes,
+    Kind::Rounded,
+];

@@ -1,7 +1,7 @@
 //! Rows of live requests, by rising owner.
 
-ghost use Rattle.std.specs.Prelude.{◌≡◌, ◌+◌, ◌≤◌, ◌↔◌, length, None, Some, IfNone, OnSome, IsTrue, IsErr, IsNone, IfOk, IfErr, OnOk, OnErr};
-ghost use Rattle.bounding_set.specs.Rows.{HasRisingOwners, IsRowOf, IsGapFor, Puts, tuple_of, count_with};
+ghost use Rattle.std.specs.Prelude.{◌≡◌, ◌+◌, ◌<◌, ◌↔◌, length, None, Some, IfNone, OnSome, IsTrue, IfOk, IfErr};
+ghost use Rattle.bounding_set.specs.Rows.{HasRisingOwners, IsRowOf, IsGapFor, Puts, tuple_of};
 
 use arrayvec::ArrayVec;
 use rate_cert::{MAX_REQUESTS, Request};
@@ -16,30 +16,29 @@ pub const LIVE_LIMIT: usize = MAX_REQUESTS;
 #[error("as many requests are live as may be")]
 pub struct Full;
 
-/// Puts the owner's request, or replaces it. `Full` leaves the rows as they are.
-pub fn put(rows: &mut ArrayVec<Request, MAX_REQUESTS>, request: Request) -> Result<(), Full>
-    requires rising { HasRisingOwners rows.old.items }
-    requires within { length rows.old.items ≤ LIVE_LIMIT }
-    ensures full { IsErr result ↔ (IsNone (tuple_of rows.old.items request.owner.0) × (length rows.old.items ≡ LIVE_LIMIT)) }
-    ensures unchanged { OnErr result (rows.new ≡ rows.old) }
-    ensures put { OnOk result (Puts rows.old.items rows.new.items request.owner.0 (Some request.tuple)) }
-    ensures grows { OnOk result (length rows.new.items ≡ count_with rows.old.items request.owner.0) }
-    ensures rising { HasRisingOwners rows.new.items }
-    ensures within { length rows.new.items ≤ LIVE_LIMIT }
+/// What the owner asks for, where it is live.
+pub fn asked_by(rows: &[Request], owner: Ssrc) -> Option<Tuple>
+    requires { HasRisingOwners rows.now }
+    ensures { result ≡ tuple_of rows.now owner.0 }
 {
-    match place_of(rows.as_slice(), request.owner) {
-        Ok(place) => {
-            let slice = rows.as_mut_slice();
-            slice[place] = request;
-        }
-        Err(place) => {
-            if rows.len() == LIVE_LIMIT {
-                return Err(Full);
-            }
-            rows.insert(place, request);
-        }
+    match place_of(rows, owner) {
+        Ok(place) => Some(rows[place].tuple),
+        Err(_) => None,
     }
-    Ok(())
+}
+
+/// Adds the row of an owner that isn't live.
+pub fn add(rows: &mut ArrayVec<Request, MAX_REQUESTS>, request: Request)
+    requires rising { HasRisingOwners rows.old.items }
+    requires absent { tuple_of rows.old.items request.owner.0 ≡ None }
+    requires room { length rows.old.items < MAX_REQUESTS }
+    ensures put { Puts rows.old.items rows.new.items request.owner.0 (Some request.tuple) }
+    ensures grows { length rows.new.items ≡ length rows.old.items + 1 }
+    ensures rising { HasRisingOwners rows.new.items }
+{
+    if let Err(place) = place_of(rows.as_slice(), request.owner) {
+        rows.insert(place, request);
+    }
 }
 
 /// Takes the owner's row out, and answers what it asked for. `None` leaves the rows as they are.
@@ -64,6 +63,13 @@ pub fn place_of(rows: &[Request], owner: Ssrc) -> Result<usize, usize>
     ensures absent { IfErr result (IsGapFor rows.now owner.0) }
 {
     rows.binary_search_by_key(&owner.0, |row| row.owner.0)
+}
+
+/// Whether this is what was asked for.
+pub fn is_asked(asked: Option<Tuple>, tuple: Tuple) -> bool
+    ensures { IsTrue result ↔ (asked ≡ Some tuple) }
+{
+    asked == Some(tuple)
 }
 
 /// Whether two lists have the same requests in the same order.

@@ -1,6 +1,6 @@
 //! The worked examples, the greatest number of live requests, and the definition on many lists.
 use super::*;
-use crate::lists::{Generator, Kind};
+use crate::lists::{Generator, KINDS};
 use crate::slow::canonical_places;
 use crate::slow_certificate::certificate;
 use rate_cert::{Request, check};
@@ -215,7 +215,7 @@ fn row_at(alloc: Global, bounds: &Bounds, place: u16) -> Result<String, Fail> {
 }
 
 /// The certificate as it is printed, line by line.
-fn printed(alloc: Global, bounds: &Bounds) -> Result<Vec<String>, Fail> {
+pub fn printed(alloc: Global, bounds: &Bounds) -> Result<Vec<String>, Fail> {
     let mut lines = Vec::new(alloc);
     for k in bounds.cert().kept.as_slice() {
         let row = row_at(alloc, bounds, k.place)?;
@@ -250,7 +250,7 @@ fn kept_places(alloc: Global, bounds: &Bounds) -> Result<Vec<usize>, AllocError>
 
 /// The announced requests are those of the definition, the certificate is the one of the formulas,
 /// and `check` accepts it.
-fn assert_as_defined(rt: &impl Abort, alloc: Global, bounds: &Bounds) -> Result<(), Fail> {
+pub fn assert_as_defined(rt: &impl Abort, alloc: Global, bounds: &Bounds) -> Result<(), Fail> {
     let rows = bounds.rows();
     let places = canonical_places(alloc, rows)?;
     let kept = kept_places(alloc, bounds)?;
@@ -345,7 +345,7 @@ fn one_live_request(rt: HostRuntime) -> Result<(), Fail> {
 }
 
 /// What owner i of 64 asks for: 5,000 + i * i bits per second, with i bytes per packet.
-fn tuple_of_64(i: u16) -> Tuple {
+pub fn tuple_of_64(i: u16) -> Tuple {
     let number = u32::from(i % 128);
     Tuple::new(0, 5000 + number * number, i % 128).unwrap_or_default()
 }
@@ -385,15 +385,8 @@ fn sixty_four_owners(rt: HostRuntime) -> Result<(), Fail> {
 #[test]
 fn lists_as_defined(rt: HostRuntime) -> Result<(), Fail> {
     let mut generator = Generator::new();
-    let kinds = [
-        Kind::FewLines,
-        Kind::MeetAtZero,
-        Kind::Stops,
-        Kind::Extremes,
-        Kind::Rounded,
-    ];
     for number in 0..1000_usize {
-        let kind = kinds[number % 5];
+        let kind = KINDS[number % 5];
         let mut bounds = Bounds::new();
         for _ in 0..generator.count() {
             let asked = generator.request(kind);

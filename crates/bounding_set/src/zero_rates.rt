@@ -1,24 +1,50 @@
 //! What is announced where a live request has the rate 0.
 
-ghost use Rattle.std.specs.Prelude.{◌≡◌, ◌<◌, ◌↔◌, [], All, Any, Contains, IfSome, IsTrue, MatchOption, false};
+ghost use Rattle.std.specs.Prelude.{◌≡◌, ◌≢◌, ◌<◌, ◌↔◌, [], length, All, Any, Contains, IfSome, IsTrue, MatchOption, false};
 ghost use Rattle.bounding_set.specs.Rows.{HasRisingOwners};
 ghost use Rattle.bounding_set.specs.Canonical.{StopsMedia, StopsEverything, IsStrictestStop, IsFirstStop, IsLeastReach};
-ghost use Rattle.bounding_set.specs.Announced.{AnnouncesList};
+ghost use Rattle.bounding_set.specs.Announced.{AnnouncesList, HoldsStops};
 ghost use Rattle.bounding_set.specs.Reach.{ReachesSooner};
 
+use crate::rows::are_same;
 use arrayvec::ArrayVec;
-use rate_cert::{MAX_REQUESTS, Request};
+use rate_cert::Request;
+
+/// How many requests are announced at most where one has the rate 0.
+pub const MAX_STOPS: usize = 2;
+
+/// Keeps the stops, what is announced while a rate is 0, up to date once the rows have changed, where
+/// `one_stops` is true if a row came whose rate is 0. True where the stops changed.
+pub fn update_stops(
+    rows: &[Request],
+    stops: &mut ArrayVec<Request, MAX_STOPS>,
+    one_stops: bool,
+) -> bool
+    requires rising { HasRisingOwners rows.now }
+    requires none { one_stops ≡ false → length stops.old.items ≡ 0 → All (λ r. ¬ StopsMedia r) rows.now }
+    ensures holds { HoldsStops rows.now stops.new.items }
+    ensures changed { IsTrue result ↔ (stops.new.items ≢ stops.old.items) }
+{
+    if !one_stops && stops.is_empty() {
+        return false;
+    }
+    let mut renewed = ArrayVec::new();
+    announce_stops(rows, &mut renewed);
+    let changed = !are_same(renewed.as_slice(), stops.as_slice());
+    *stops = renewed;
+    changed
+}
 
 /// Where a request has the rate 0, makes the list of what is announced then, and answers true: the
 /// strictest of those that stop everything, or else the first that stops the media, with the
 /// request of least reach behind it where one has an overhead.
 ///
 /// False leaves the list as it was: no request has the rate 0.
-pub fn announce_stops(rows: &[Request], announced: &mut ArrayVec<Request, MAX_REQUESTS>) -> bool
+pub fn announce_stops(rows: &[Request], announced: &mut ArrayVec<Request, MAX_STOPS>) -> bool
     requires rising { HasRisingOwners rows.now }
     requires empty { announced.old.items ≡ [] }
     ensures stopped { IsTrue result → AnnouncesList rows.now announced.new.items }
-    ensures some { IsTrue result → Any StopsMedia rows.now }
+    ensures some { IsTrue result → Any StopsMedia announced.new.items }
     ensures none { result ≡ false → All (λ r. ¬ StopsMedia r) rows.now }
     ensures unchanged { result ≡ false → announced.new ≡ announced.old }
 {

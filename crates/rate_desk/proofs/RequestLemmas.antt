@@ -1,5 +1,5 @@
 -- The live request of an owner is the last one since it arrived.
-use Rattle.std.proofs.Common.{◌≡◌, ℕ, zero, suc, ◌<◌, ◌≤◌, Bool, true, false, cond, List, [], ◌∷◌, refl, sym, ap, ◌∙◌, arith, Some, None, Option, inl, inr}
+use Rattle.std.proofs.Common.{◌≡◌, ℕ, zero, suc, ◌<◌, ◌≤◌, Bool, true, false, cond, List, [], ◌∷◌, fold, refl, sym, ap, ◌∙◌, arith, Some, None, Option, inl, inr}
 use Rattle.std.specs.Prelude.{◌==◌, ◌⊎◌, ◌↔◌, All}
 use Rattle.std.proofs.lemmas.Bool.{eqb-true, eqb-false, eq-eqb, both_ways}
 use Rattle.std.proofs.lemmas.Option.{none-some, same_Some}
@@ -10,11 +10,12 @@ use Rattle.rate_desk.specs.declared.call.Call.{Call}
 use Rattle.rate_desk.specs.declared.call.Call.TheVariants.{Arrive, Request, Depart, Pli, Tick}
 use Rattle.rate_desk.specs.declared.call.Entry.{Entry}
 use Rattle.rate_desk.specs.declared.presence.Present.{Present}
-use Rattle.rate_desk.specs.Presence.{HasStay, stay_in}
-use Rattle.rate_desk.specs.Trace.{empty_base, is_done, present_after, live_after, StandsAt, WasDone, IsArriveOf, IsRequestOf, IsDepartOf, IsPresentSince, IsLastRequestSince}
+use Rattle.rate_desk.specs.Presence.{HasRisingOwners, HasStay, stay_in, present_by}
+use Rattle.rate_desk.specs.Trace.{empty_base, is_done, present_behind, present_after, live_after, StandsAt, WasDone, IsArriveOf, IsRequestOf, IsDepartOf, IsPresentSince, IsLastRequestSince}
 use Rattle.rate_desk.specs.History.{IsLegalHistory}
-use Rattle.rate_desk.proofs.SinceLemmas.{stay_of, tuple_known, known_by, known_behind, Fits, Runs, known_after, presence_after, legal_runs, not_in_nil, at_head, head_is, at_tail, from_tail, NoneFrom, none_later, none_cons, none_tail, stay_on, arrived_by}
-use Rattle.rate_desk.proofs.RisingLemmas.{rising_after, tuple_of-live}
+use Rattle.rate_desk.proofs.SinceLemmas.{stay_of, known_by, known_behind, Fits, Runs, known_after, presence_after, legal_runs, not_in_nil, at_head, head_is, at_tail, from_tail, NoneFrom, none_later, none_cons, none_tail, stay_on, arrived_by}
+use Rattle.rate_desk.proofs.PresenceLemmas.{rising-by}
+use Rattle.rate_desk.proofs.LiveLemmas.{asked_by, tuple_of-live}
 
 -- ---- the request, over one call
 
@@ -28,60 +29,60 @@ record Stays (owner stay : ℕ) (known : Option Present) (call : Call) : Type 0 
 no_arrive : (stay s : ℕ) → 1 ≤ stay → s ≡ stay → s ≡ 0 → ⊥
 no_arrive stay s least is none = omega arith
 
-request_back_call : (owner stay : ℕ) (known : Option Present) (call : Call) (t : Tuple) → Stays owner stay known call → tuple_known (known_by owner known call) ≡ Some t
-    → IsRequestOf owner t call ⊎ ((tuple_known known ≡ Some t) × ((u : Tuple) → ¬ IsRequestOf owner u call))
+request_back_call : (owner stay : ℕ) (known : Option Present) (call : Call) (t : Tuple) → Stays owner stay known call → asked_by (known_by owner known call) ≡ Some t
+    → IsRequestOf owner t call ⊎ ((asked_by known ≡ Some t) × ((u : Tuple) → ¬ IsRequestOf owner u call))
 request_back_call owner stay known (Arrive o s) t h asks = step (o.0 == owner) refl
   where
     step : (same : Bool) → (o.0 == owner) ≡ same
-        → IsRequestOf owner t (Arrive o s) ⊎ ((tuple_known known ≡ Some t) × ((u : Tuple) → ¬ IsRequestOf owner u (Arrive o s)))
+        → IsRequestOf owner t (Arrive o s) ⊎ ((asked_by known ≡ Some t) × ((u : Tuple) → ¬ IsRequestOf owner u (Arrive o s)))
     step true equal = absurd (no_arrive stay (stay_of known) h.least h.is (h.fit (eqb-true o.0 owner equal)))
     step false equal =
-        inr (sym (ap (λ b. tuple_known (cond b (Some (record { owner = o; stay = s; tuple = None })) known)) equal) ∙ asks, λ u bad. bad)
+        inr (sym (ap (λ b. asked_by (cond b (Some (record { owner = o; stay = s; tuple = None })) known)) equal) ∙ asks, λ u bad. bad)
 request_back_call owner stay known (Request o s asked) t h asks = step (o.0 == owner) refl
   where
     step : (same : Bool) → (o.0 == owner) ≡ same
-        → IsRequestOf owner t (Request o s asked) ⊎ ((tuple_known known ≡ Some t) × ((u : Tuple) → ¬ IsRequestOf owner u (Request o s asked)))
+        → IsRequestOf owner t (Request o s asked) ⊎ ((asked_by known ≡ Some t) × ((u : Tuple) → ¬ IsRequestOf owner u (Request o s asked)))
     step true equal =
         inl (
           eqb-true o.0 owner equal,
           same_Some asked t
-              (sym (ap (λ b. tuple_known (cond b (Some (record { owner = o; stay = s; tuple = Some asked })) known)) equal) ∙ asks),
+              (sym (ap (λ b. asked_by (cond b (Some (record { owner = o; stay = s; tuple = Some asked })) known)) equal) ∙ asks),
         )
     step false equal =
-        inr (sym (ap (λ b. tuple_known (cond b (Some (record { owner = o; stay = s; tuple = Some asked })) known)) equal) ∙ asks, λ u is. eqb-false o.0 owner equal is.0)
+        inr (sym (ap (λ b. asked_by (cond b (Some (record { owner = o; stay = s; tuple = Some asked })) known)) equal) ∙ asks, λ u is. eqb-false o.0 owner equal is.0)
 request_back_call owner stay known (Depart o s) t h asks = step (o.0 == owner) refl
   where
     step : (same : Bool) → (o.0 == owner) ≡ same
-        → IsRequestOf owner t (Depart o s) ⊎ ((tuple_known known ≡ Some t) × ((u : Tuple) → ¬ IsRequestOf owner u (Depart o s)))
+        → IsRequestOf owner t (Depart o s) ⊎ ((asked_by known ≡ Some t) × ((u : Tuple) → ¬ IsRequestOf owner u (Depart o s)))
     step true equal = absurd (h.not_gone (eqb-true o.0 owner equal))
-    step false equal = inr (sym (ap (λ b. tuple_known (cond b None known)) equal) ∙ asks, λ u bad. bad)
+    step false equal = inr (sym (ap (λ b. asked_by (cond b None known)) equal) ∙ asks, λ u bad. bad)
 request_back_call owner stay known (Pli moment) t h asks = inr (asks, λ u bad. bad)
 request_back_call owner stay known (Tick moment) t h asks = inr (asks, λ u bad. bad)
 
-request_keeps_call : (owner stay : ℕ) (known : Option Present) (call : Call) (t : Tuple) → Stays owner stay known call → tuple_known known ≡ Some t
-    → ((u : Tuple) → ¬ IsRequestOf owner u call) → tuple_known (known_by owner known call) ≡ Some t
+request_keeps_call : (owner stay : ℕ) (known : Option Present) (call : Call) (t : Tuple) → Stays owner stay known call → asked_by known ≡ Some t
+    → ((u : Tuple) → ¬ IsRequestOf owner u call) → asked_by (known_by owner known call) ≡ Some t
 request_keeps_call owner stay known (Arrive o s) t h asks none = step (o.0 == owner) refl
   where
-    step : (same : Bool) → (o.0 == owner) ≡ same → tuple_known (known_by owner known (Arrive o s)) ≡ Some t
+    step : (same : Bool) → (o.0 == owner) ≡ same → asked_by (known_by owner known (Arrive o s)) ≡ Some t
     step true equal = absurd (no_arrive stay (stay_of known) h.least h.is (h.fit (eqb-true o.0 owner equal)))
-    step false equal = ap (λ b. tuple_known (cond b (Some (record { owner = o; stay = s; tuple = None })) known)) equal ∙ asks
+    step false equal = ap (λ b. asked_by (cond b (Some (record { owner = o; stay = s; tuple = None })) known)) equal ∙ asks
 request_keeps_call owner stay known (Request o s asked) t h asks none = step (o.0 == owner) refl
   where
-    step : (same : Bool) → (o.0 == owner) ≡ same → tuple_known (known_by owner known (Request o s asked)) ≡ Some t
+    step : (same : Bool) → (o.0 == owner) ≡ same → asked_by (known_by owner known (Request o s asked)) ≡ Some t
     step true equal = absurd (none asked (eqb-true o.0 owner equal, refl))
-    step false equal = ap (λ b. tuple_known (cond b (Some (record { owner = o; stay = s; tuple = Some asked })) known)) equal ∙ asks
+    step false equal = ap (λ b. asked_by (cond b (Some (record { owner = o; stay = s; tuple = Some asked })) known)) equal ∙ asks
 request_keeps_call owner stay known (Depart o s) t h asks none = step (o.0 == owner) refl
   where
-    step : (same : Bool) → (o.0 == owner) ≡ same → tuple_known (known_by owner known (Depart o s)) ≡ Some t
+    step : (same : Bool) → (o.0 == owner) ≡ same → asked_by (known_by owner known (Depart o s)) ≡ Some t
     step true equal = absurd (h.not_gone (eqb-true o.0 owner equal))
-    step false equal = ap (λ b. tuple_known (cond b None known)) equal ∙ asks
+    step false equal = ap (λ b. asked_by (cond b None known)) equal ∙ asks
 request_keeps_call owner stay known (Pli moment) t h asks none = asks
 request_keeps_call owner stay known (Tick moment) t h asks none = asks
 
-request_on_call : (owner : ℕ) (known : Option Present) (call : Call) (t : Tuple) → IsRequestOf owner t call → tuple_known (known_by owner known call) ≡ Some t
+request_on_call : (owner : ℕ) (known : Option Present) (call : Call) (t : Tuple) → IsRequestOf owner t call → asked_by (known_by owner known call) ≡ Some t
 request_on_call owner known (Arrive o s) t is = absurd is
 request_on_call owner known (Request o s asked) t is =
-    ap (λ b. tuple_known (cond b (Some (record { owner = o; stay = s; tuple = Some asked })) known)) (eq-eqb o.0 owner is.0) ∙ ap Some is.1
+    ap (λ b. asked_by (cond b (Some (record { owner = o; stay = s; tuple = Some asked })) known)) (eq-eqb o.0 owner is.0) ∙ ap Some is.1
 request_on_call owner known (Depart o s) t is = absurd is
 request_on_call owner known (Pli moment) t is = absurd is
 request_on_call owner known (Tick moment) t is = absurd is
@@ -97,34 +98,34 @@ record StaysAt (owner stay : ℕ) (known : Option Present) (e : Entry) : Type 0 
 over_call : (owner stay : ℕ) (known : Option Present) (e : Entry) → StaysAt owner stay known e → is_done e.answer ≡ true → Stays owner stay known e.call
 over_call owner stay known e h done = record { least = h.least; fit = h.fit done; is = h.is; not_gone = λ gone. h.not_gone (done, gone) }
 
-request_back : (owner stay : ℕ) (known : Option Present) (e : Entry) (t : Tuple) → StaysAt owner stay known e → tuple_known (known_behind owner known e) ≡ Some t
-    → WasDone (IsRequestOf owner t) e ⊎ ((tuple_known known ≡ Some t) × ((u : Tuple) → ¬ WasDone (IsRequestOf owner u) e))
+request_back : (owner stay : ℕ) (known : Option Present) (e : Entry) (t : Tuple) → StaysAt owner stay known e → asked_by (known_behind owner known e) ≡ Some t
+    → WasDone (IsRequestOf owner t) e ⊎ ((asked_by known ≡ Some t) × ((u : Tuple) → ¬ WasDone (IsRequestOf owner u) e))
 request_back owner stay known e t h asks = step (is_done e.answer) refl
   where
     step : (done : Bool) → is_done e.answer ≡ done
-        → WasDone (IsRequestOf owner t) e ⊎ ((tuple_known known ≡ Some t) × ((u : Tuple) → ¬ WasDone (IsRequestOf owner u) e))
+        → WasDone (IsRequestOf owner t) e ⊎ ((asked_by known ≡ Some t) × ((u : Tuple) → ¬ WasDone (IsRequestOf owner u) e))
     step true done =
         elim (request_back_call owner stay known e.call t (over_call owner stay known e h done)
-        (sym (ap (λ b. tuple_known (cond b (known_by owner known e.call) known)) done) ∙ asks)) [
+        (sym (ap (λ b. asked_by (cond b (known_by owner known e.call) known)) done) ∙ asks)) [
           | inl asked ↦ inl (done, asked)
           | inr other ↦ inr (other.0, λ u asked. other.1 u asked.1)
         ]
     step false done =
-        inr (sym (ap (λ b. tuple_known (cond b (known_by owner known e.call) known)) done) ∙ asks, λ u asked. both_ways (is_done e.answer) done asked.0)
+        inr (sym (ap (λ b. asked_by (cond b (known_by owner known e.call) known)) done) ∙ asks, λ u asked. both_ways (is_done e.answer) done asked.0)
 
-request_keeps : (owner stay : ℕ) (known : Option Present) (e : Entry) (t : Tuple) → StaysAt owner stay known e → tuple_known known ≡ Some t
-    → ((u : Tuple) → ¬ WasDone (IsRequestOf owner u) e) → tuple_known (known_behind owner known e) ≡ Some t
+request_keeps : (owner stay : ℕ) (known : Option Present) (e : Entry) (t : Tuple) → StaysAt owner stay known e → asked_by known ≡ Some t
+    → ((u : Tuple) → ¬ WasDone (IsRequestOf owner u) e) → asked_by (known_behind owner known e) ≡ Some t
 request_keeps owner stay known e t h asks none = step (is_done e.answer) refl
   where
-    step : (done : Bool) → is_done e.answer ≡ done → tuple_known (known_behind owner known e) ≡ Some t
+    step : (done : Bool) → is_done e.answer ≡ done → asked_by (known_behind owner known e) ≡ Some t
     step true done =
-        ap (λ b. tuple_known (cond b (known_by owner known e.call) known)) done
+        ap (λ b. asked_by (cond b (known_by owner known e.call) known)) done
         ∙ request_keeps_call owner stay known e.call t (over_call owner stay known e h done) asks (λ u asked. none u (done, asked))
-    step false done = ap (λ b. tuple_known (cond b (known_by owner known e.call) known)) done ∙ asks
+    step false done = ap (λ b. asked_by (cond b (known_by owner known e.call) known)) done ∙ asks
 
-request_on : (owner : ℕ) (known : Option Present) (e : Entry) (t : Tuple) → WasDone (IsRequestOf owner t) e → tuple_known (known_behind owner known e) ≡ Some t
+request_on : (owner : ℕ) (known : Option Present) (e : Entry) (t : Tuple) → WasDone (IsRequestOf owner t) e → asked_by (known_behind owner known e) ≡ Some t
 request_on owner known e t is =
-    ap (λ b. tuple_known (cond b (known_by owner known e.call) known)) is.0 ∙ request_on_call owner known e.call t is.1
+    ap (λ b. asked_by (cond b (known_by owner known e.call) known)) is.0 ∙ request_on_call owner known e.call t is.1
 
 -- ---- the request, over the entries of one stay
 
@@ -158,16 +159,16 @@ record LastRequest (owner : ℕ) (t : Tuple) (entries : List Entry) (asked : ℕ
 
 abbrev Asks : ℕ → Tuple → Option Present → List Entry → Type 0
 Asks owner t known entries =
-    ((asked : ℕ) × LastRequest owner t entries asked) ⊎ ((tuple_known known ≡ Some t) × ((u : Tuple) → NoneFrom (WasDone (IsRequestOf owner u)) entries 0))
+    ((asked : ℕ) × LastRequest owner t entries asked) ⊎ ((asked_by known ≡ Some t) × ((u : Tuple) → NoneFrom (WasDone (IsRequestOf owner u)) entries 0))
 
 asks_back : (owner stay : ℕ) (known : Option Present) (entries : List Entry) (t : Tuple) → InStay owner stay known entries
-    → tuple_known (known_after owner known entries) ≡ Some t → Asks owner t known entries
+    → asked_by (known_after owner known entries) ≡ Some t → Asks owner t known entries
 asks_back owner stay known [] t h asks = inr (asks, λ u place after. not_in_nil (WasDone (IsRequestOf owner u)) place)
 asks_back owner stay known (e ∷ entries) t h asks =
     behind (asks_back owner stay (known_behind owner known e) entries t (stay_rest owner stay known e entries h) asks)
   where
     here : ((u : Tuple) → NoneFrom (WasDone (IsRequestOf owner u)) entries 0)
-        → WasDone (IsRequestOf owner t) e ⊎ ((tuple_known known ≡ Some t) × ((u : Tuple) → ¬ WasDone (IsRequestOf owner u) e))
+        → WasDone (IsRequestOf owner t) e ⊎ ((asked_by known ≡ Some t) × ((u : Tuple) → ¬ WasDone (IsRequestOf owner u) e))
         → Asks owner t known (e ∷ entries)
     here none (inl asked) = inl (
       0,
@@ -189,8 +190,8 @@ asks_back owner stay known (e ∷ entries) t h asks =
     behind (inr later) = here later.1 (request_back owner stay known e t (stay_head owner stay known e entries h) later.0)
 
 asks_keep : (owner stay : ℕ) (known : Option Present) (entries : List Entry) (t : Tuple) → InStay owner stay known entries
-    → tuple_known known ≡ Some t → ((u : Tuple) → NoneFrom (WasDone (IsRequestOf owner u)) entries 0)
-    → tuple_known (known_after owner known entries) ≡ Some t
+    → asked_by known ≡ Some t → ((u : Tuple) → NoneFrom (WasDone (IsRequestOf owner u)) entries 0)
+    → asked_by (known_after owner known entries) ≡ Some t
 asks_keep owner stay known [] t h asks none = asks
 asks_keep owner stay known (e ∷ entries) t h asks none =
     asks_keep owner stay (known_behind owner known e) entries t (stay_rest owner stay known e entries h)
@@ -199,7 +200,7 @@ asks_keep owner stay known (e ∷ entries) t h asks none =
     (λ u place after s. none u (suc place) (omega arith) (at_tail (WasDone (IsRequestOf owner u)) e entries place s))
 
 asks_on : (owner stay : ℕ) (known : Option Present) (entries : List Entry) (t : Tuple) (asked : ℕ) → InStay owner stay known entries
-    → LastRequest owner t entries asked → tuple_known (known_after owner known entries) ≡ Some t
+    → LastRequest owner t entries asked → asked_by (known_after owner known entries) ≡ Some t
 asks_on owner stay known [] t asked h l = absurd (not_in_nil (WasDone (IsRequestOf owner t)) asked l.request)
 asks_on owner stay known (e ∷ entries) t zero h l =
     asks_keep owner stay (known_behind owner known e) entries t (stay_rest owner stay known e entries h)
@@ -210,6 +211,19 @@ asks_on owner stay known (e ∷ entries) t (suc asked) h l =
       request = from_tail (WasDone (IsRequestOf owner t)) e entries asked l.request;
       last = λ u. none_tail (WasDone (IsRequestOf owner u)) e entries (suc asked) (l.last u);
     })
+
+-- ---- owners rise after every list of entries
+
+rising_behind : (present : List Present) (e : Entry) → HasRisingOwners present → HasRisingOwners (present_behind present e)
+rising_behind present e rising = step (is_done e.answer)
+  where
+    step : (done : Bool) → HasRisingOwners (cond done (present_by present e.call) present)
+    step true = rising-by present e.call rising
+    step false = rising
+
+pub rising_after : (present : List Present) (entries : List Entry) → HasRisingOwners present → HasRisingOwners (fold present_behind present entries)
+rising_after present [] rising = rising
+rising_after present (e ∷ entries) rising = rising_after (present_behind present e) entries (rising_behind present e rising)
 
 -- ---- since the owner arrived
 
@@ -229,7 +243,7 @@ tail_since owner stay e entries place since = record {
 }
 
 last_back : (owner stay : ℕ) (known : Option Present) (entries : List Entry) (place : ℕ) (t : Tuple) → 1 ≤ stay → Runs owner known entries
-    → IsPresentSince entries owner stay place → tuple_known (known_after owner known entries) ≡ Some t → IsLastRequestSince entries owner place t
+    → IsPresentSince entries owner stay place → asked_by (known_after owner known entries) ≡ Some t → IsLastRequestSince entries owner place t
 last_back owner stay known [] place t least run since asks = absurd (not_in_nil (WasDone (IsArriveOf owner stay)) place since.arrived)
 last_back owner stay known (e ∷ entries) zero t least run since asks =
     first (asks_back owner stay (known_behind owner known e) entries t (in_stay owner stay known e entries least run since) asks)
@@ -255,7 +269,7 @@ last_back owner stay known (e ∷ entries) (suc place) t least run since asks =
     }
 
 last_on : (owner stay : ℕ) (known : Option Present) (entries : List Entry) (place : ℕ) (t : Tuple) (asked : ℕ) → 1 ≤ stay → Runs owner known entries
-    → IsPresentSince entries owner stay place → place < asked → LastRequest owner t entries asked → tuple_known (known_after owner known entries) ≡ Some t
+    → IsPresentSince entries owner stay place → place < asked → LastRequest owner t entries asked → asked_by (known_after owner known entries) ≡ Some t
 last_on owner stay known [] place t asked least run since after l = absurd (not_in_nil (WasDone (IsArriveOf owner stay)) place since.arrived)
 last_on owner stay known (e ∷ entries) place t zero least run since after l = absurd (omega arith)
 last_on owner stay known (e ∷ entries) zero t (suc asked) least run since after l =
@@ -273,7 +287,7 @@ pub request_law : (gap : ℕ) (entries : List Entry) (owner stay place : ℕ) (t
     → IsPresentSince entries owner stay place → tuple_of (live_after empty_base entries) owner ≡ Some t ↔ IsLastRequestSince entries owner place t
 request_law gap entries owner stay place t legal least since =
     let run = legal_runs gap owner entries legal in
-    let same = tuple_of-live (present_after empty_base entries) owner (rising_after [] entries (λ i j d before below. absurd (omega arith))) ∙ ap tuple_known (presence_after owner [] entries) in (
+    let same = tuple_of-live (present_after empty_base entries) owner (rising_after [] entries (λ i j d before below. absurd (omega arith))) ∙ ap asked_by (presence_after owner [] entries) in (
       λ asks. last_back owner stay None entries place t least run since (sym same ∙ asks),
       λ l. same ∙ last_on owner stay None entries place t l.asked least run since l.later (record { request = l.request; last = λ u other after. l.last other u after }),
     )
@@ -303,7 +317,7 @@ numbered owner known (e ∷ entries) all is =
     (either_numbered (is_done e.answer) (known_by owner known e.call) known
     (numbered_call owner known e.call (All-head (λ (x : Entry). HasStay x.call) e entries all) is) is)
 
-nothing_asked : (known : Option Present) → Numbered known → stay_of known ≡ 0 → tuple_known known ≡ None
+nothing_asked : (known : Option Present) → Numbered known → stay_of known ≡ 0 → asked_by known ≡ None
 nothing_asked None is absent = refl
 nothing_asked (Some p) is absent = absurd (omega arith)
 
@@ -312,4 +326,4 @@ pub absent_law : (entries : List Entry) (owner : ℕ) → All (λ (e : Entry). H
 absent_law entries owner all absent =
     let same = presence_after owner [] entries in
     tuple_of-live (present_after empty_base entries) owner (rising_after [] entries (λ i j d before below. absurd (omega arith)))
-    ∙ (ap tuple_known same ∙ nothing_asked (known_after owner None entries) (numbered owner None entries all tt) (sym (ap stay_of same) ∙ absent))
+    ∙ (ap asked_by same ∙ nothing_asked (known_after owner None entries) (numbered owner None entries all tt) (sym (ap stay_of same) ∙ absent))

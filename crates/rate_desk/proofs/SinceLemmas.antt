@@ -1,10 +1,9 @@
 -- What is known of one owner, since it arrived.
 use Rattle.std.proofs.Common.{◌≡◌, ℕ, zero, suc, ◌<◌, ◌≤◌, Bool, true, false, cond, List, [], ◌∷◌, length, take, get_or, fold, refl, sym, ap, subst, ◌∙◌, arith, Some, None, Option, inl, inr}
-use Rattle.std.specs.Prelude.{not, ◌==◌, nat_lt, nat_le, ◌⊎◌, ◌↔◌, option_and_then}
+use Rattle.std.specs.Prelude.{not, ◌==◌, nat_le, ◌⊎◌, ◌↔◌}
 use Rattle.std.specs.Option.{option_map_or}
 use Rattle.std.proofs.lemmas.Bool.{eqb-true, eqb-false, eq-eqb, both_ways}
 use Rattle.std.proofs.lemmas.Option.{none-some, same_Some}
-use Rattle.tmmbr_tuple.specs.declared.tuple.Tuple.{Tuple}
 use Rattle.rate_desk.specs.declared.call.Call.{Call}
 use Rattle.rate_desk.specs.declared.call.Call.TheVariants.{Arrive, Request, Depart, Pli, Tick}
 use Rattle.rate_desk.specs.declared.call.Answer.{Answer}
@@ -16,72 +15,41 @@ use Rattle.rate_desk.specs.Presence.{presence_of, stay_in, with_presence, withou
 use Rattle.rate_desk.specs.Trace.{empty_base, is_done, present_behind, present_after, StandsAt, WasDone, IsArriveOf, IsDepartOf, IsPresentSince, IsPresent}
 use Rattle.rate_desk.specs.History.{IsLegalHistory}
 use Rattle.rate_desk.proofs.HistoryLemmas.{done_accepted}
+use Rattle.rate_desk.proofs.PresenceLemmas.{presence_of-with, presence_of-with_other, presence_of-without, presence_of-without_other}
+use Rattle.rate_desk.proofs.LiveLemmas.{asked_by}
 
 -- ---- one owner among those present
 
-swap : (x y : Bool) (s t r : Option Present) → (x ≡ true → y ≡ true → ⊥) → cond x s (cond y t r) ≡ cond y t (cond x s r)
-swap true true s t r apart = absurd (apart refl refl)
-swap true false s t r apart = refl
-swap false true s t r apart = refl
-swap false false s t r apart = refl
-
-covers : (x y : Bool) (s t r : Option Present) → x ≡ y → cond x s r ≡ cond x s (cond y t r)
-covers true y s t r same = refl
-covers false true s t r same = absurd (cc)
-covers false false s t r same = refl
-
-presence_of-with : (present : List Present) (new : Present) (owner : ℕ)
+known-with : (present : List Present) (new : Present) (owner : ℕ)
     → presence_of (with_presence present new) owner ≡ cond (new.owner.0 == owner) (Some new) (presence_of present owner)
-presence_of-with [] new owner = refl
-presence_of-with (p ∷ present) new owner =
-    step (nat_lt new.owner.0 p.owner.0) refl (p.owner.0 == new.owner.0) refl (presence_of-with present new owner)
+known-with present new owner = step (new.owner.0 == owner) refl
   where
-    step : (less : Bool) → nat_lt new.owner.0 p.owner.0 ≡ less → (same : Bool) → (p.owner.0 == new.owner.0) ≡ same
+    step : (same : Bool) → (new.owner.0 == owner) ≡ same
         → presence_of (with_presence present new) owner ≡ cond (new.owner.0 == owner) (Some new) (presence_of present owner)
-        → presence_of (with_presence (p ∷ present) new) owner ≡ cond (new.owner.0 == owner) (Some new) (presence_of (p ∷ present) owner)
-    step true less same equal ih =
-        ap (λ b. presence_of (cond b (new ∷ p ∷ present) (cond (p.owner.0 == new.owner.0) (new ∷ present) (p ∷ with_presence present new))) owner) less
-    step false less true equal ih =
-        ap (λ b. presence_of (cond b (new ∷ p ∷ present) (cond (p.owner.0 == new.owner.0) (new ∷ present) (p ∷ with_presence present new))) owner) less
-        ∙ (ap (λ b. presence_of (cond b (new ∷ present) (p ∷ with_presence present new)) owner) equal
-        ∙ covers (new.owner.0 == owner) (p.owner.0 == owner) (Some new) (Some p) (presence_of present owner)
-        (ap (λ k. k == owner) (sym (eqb-true p.owner.0 new.owner.0 equal))))
-    step false less false equal ih =
-        ap (λ b. presence_of (cond b (new ∷ p ∷ present) (cond (p.owner.0 == new.owner.0) (new ∷ present) (p ∷ with_presence present new))) owner) less
-        ∙ (ap (λ b. presence_of (cond b (new ∷ present) (p ∷ with_presence present new)) owner) equal
-        ∙ (ap (λ r. cond (p.owner.0 == owner) (Some p) r) ih
-        ∙ swap (p.owner.0 == owner) (new.owner.0 == owner) (Some p) (Some new) (presence_of present owner)
-        (λ x y. eqb-false p.owner.0 new.owner.0 equal (eqb-true p.owner.0 owner x ∙ sym (eqb-true new.owner.0 owner y)))))
+    step true same =
+        ap (presence_of (with_presence present new)) (sym (eqb-true new.owner.0 owner same))
+        ∙ (presence_of-with present new ∙ sym (ap (λ b. cond b (Some new) (presence_of present owner)) same))
+    step false other =
+        presence_of-with_other present new owner (λ is. eqb-false new.owner.0 owner other (sym is))
+        ∙ sym (ap (λ b. cond b (Some new) (presence_of present owner)) other)
 
-presence_of-without : (present : List Present) (out owner : ℕ)
+known-without : (present : List Present) (out owner : ℕ)
     → presence_of (without_owner present out) owner ≡ cond (out == owner) None (presence_of present owner)
-presence_of-without [] out owner = nothing (out == owner)
+known-without present out owner = step (out == owner) refl
   where
-    nothing : (b : Bool) → ◌≡◌ {A = Option Present} None (cond b None None)
-    nothing true = refl
-    nothing false = refl
-presence_of-without (p ∷ present) out owner = step (p.owner.0 == out) refl (presence_of-without present out owner)
-  where
-    step : (same : Bool) → (p.owner.0 == out) ≡ same
+    step : (same : Bool) → (out == owner) ≡ same
         → presence_of (without_owner present out) owner ≡ cond (out == owner) None (presence_of present owner)
-        → presence_of (without_owner (p ∷ present) out) owner ≡ cond (out == owner) None (presence_of (p ∷ present) owner)
-    step true equal ih =
-        ap (λ b. presence_of (cond (not b) (p ∷ without_owner present out) (without_owner present out)) owner) equal
-        ∙ (ih ∙ covers (out == owner) (p.owner.0 == owner) None (Some p) (presence_of present owner)
-        (ap (λ k. k == owner) (sym (eqb-true p.owner.0 out equal))))
-    step false equal ih =
-        ap (λ b. presence_of (cond (not b) (p ∷ without_owner present out) (without_owner present out)) owner) equal
-        ∙ (ap (λ r. cond (p.owner.0 == owner) (Some p) r) ih
-        ∙ swap (p.owner.0 == owner) (out == owner) (Some p) None (presence_of present owner)
-        (λ x y. eqb-false p.owner.0 out equal (eqb-true p.owner.0 owner x ∙ sym (eqb-true out owner y))))
+    step true same =
+        ap (presence_of (without_owner present out)) (sym (eqb-true out owner same))
+        ∙ (presence_of-without present out ∙ sym (ap (λ b. cond b None (presence_of present owner)) same))
+    step false other =
+        presence_of-without_other present out owner (λ is. eqb-false out owner other (sym is))
+        ∙ sym (ap (λ b. cond b None (presence_of present owner)) other)
 
 -- ---- what a call makes of what is known of one owner
 
 abbrev pub stay_of : Option Present → ℕ
 stay_of known = option_map_or (λ (p : Present). p.stay) known 0
-
-abbrev pub tuple_known : Option Present → Option Tuple
-tuple_known known = option_and_then (λ (p : Present). p.tuple) known
 
 abbrev pub known_by : ℕ → Option Present → Call → Option Present
 known_by owner known (Arrive o s) = cond (o.0 == owner) (Some (record { owner = o; stay = s; tuple = None })) known
@@ -102,9 +70,9 @@ Fits owner known (Pli moment) = Unit {0}
 Fits owner known (Tick moment) = Unit {0}
 
 presence_by : (present : List Present) (owner : ℕ) (call : Call) → presence_of (present_by present call) owner ≡ known_by owner (presence_of present owner) call
-presence_by present owner (Arrive o s) = presence_of-with present (record { owner = o; stay = s; tuple = None }) owner
-presence_by present owner (Request o s t) = presence_of-with present (record { owner = o; stay = s; tuple = Some t }) owner
-presence_by present owner (Depart o s) = presence_of-without present o.0 owner
+presence_by present owner (Arrive o s) = known-with present (record { owner = o; stay = s; tuple = None }) owner
+presence_by present owner (Request o s t) = known-with present (record { owner = o; stay = s; tuple = Some t }) owner
+presence_by present owner (Depart o s) = known-without present o.0 owner
 presence_by present owner (Pli moment) = refl
 presence_by present owner (Tick moment) = refl
 
@@ -277,7 +245,7 @@ stay_on owner stay known e least fit is stays = step (is_done e.answer) refl
 -- what an arrive makes known
 pub record Arrived (stay : ℕ) (known : Option Present) : Type 0 where
   pub stays : stay_of known ≡ stay
-  pub asks : tuple_known known ≡ None
+  pub asks : asked_by known ≡ None
 
 arrived_call : (owner stay : ℕ) (known : Option Present) (call : Call) → IsArriveOf owner stay call → Arrived stay (known_by owner known call)
 arrived_call owner stay known (Arrive o s) is =

@@ -6,5 +6,6 @@ pub mod Answer
 pub mod History
 pub mod Effect
 pub mod Kept
+pub mod Standing
 pub mod State
 pub mod Held

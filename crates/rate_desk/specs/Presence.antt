@@ -1,5 +1,5 @@
 -- Who is present at a desk, with which stay, and what they ask for.
-use Rattle.std.specs.Prelude.{◌≡◌, ◌==◌, ℕ, ◌<◌, ◌≤◌, nat_lt, nat_le, not, Bool, List, [], ◌∷◌, length, filter, AllPairs, Option, None, Some, option_map, if◌then◌else◌}
+use Rattle.std.specs.Prelude.{◌≡◌, ◌==◌, ℕ, ◌<◌, ◌≤◌, nat_lt, nat_le, not, List, [], ◌∷◌, length, filter, All, AllPairs, Option, None, Some, option_map, if◌then◌else◌}
 use Rattle.std.specs.Option.{option_map_or}
 use Rattle.std.specs.List.{filter_map, HoldsAt, AllWithin}
 use Rattle.rate_cert.specs.declared.request.Request.{Request}
@@ -13,6 +13,10 @@ use Rattle.rate_desk.specs.declared.call.Answer.TheVariants.{NotPresent, Already
 -- owners rise, so none is present twice
 abbrev pub HasRisingOwners : List Present → Type 0
 HasRisingOwners present = AllPairs (λ x y. x.owner.0 < y.owner.0) present
+
+-- stays are numbered from 1
+abbrev pub HasStays : List Present → Type 0
+HasStays present = All (λ p. 1 ≤ p.stay) present
 
 -- what is known of the owner, where it is present
 abbrev pub presence_of : List Present → ℕ → Option Present
@@ -43,7 +47,6 @@ live_requests present = filter_map request_of present
 
 -- ---- what a call makes of it
 
--- stays are numbered from 1
 abbrev pub HasStay : Call → Type 0
 HasStay (Arrive owner stay) = 1 ≤ stay
 HasStay (Ask owner stay tuple) = 1 ≤ stay

@@ -1,14 +1,9 @@
 //! One publisher's desk: who may ask it for rates, what is asked, and what is announced.
 
-ghost use Rattle.std.specs.Prelude.{◌≡◌, ◌↔◌, IsErr, IfOk, OnErr, Err};
-
 use crate::call::{Answer, Call, Entry};
 use crate::effect::{Effect, effect_of};
-use crate::kept::kept_bits;
-use crate::pli::PliGate;
-use crate::presence::{Present, refusal, take_in};
+use crate::standing::Standing;
 use arrayvec::ArrayVec;
-use bounding_set::Bounds;
 use circular_buffer::HeapCircularBuffer;
 use rate_cert::{Cert, MAX_REQUESTS, Request};
 use std::alloc::{AllocError, Global};
@@ -36,10 +31,7 @@ pub struct Reply {
 /// requests (RFC 5104, sections 3.5.4.2 and 4.2.2).
 #[derive(Debug, Drop)]
 pub struct Desk {
-    /// By rising owner.
-    present: ArrayVec<Present, MAX_REQUESTS>,
-    bounds: Bounds,
-    gate: PliGate,
+    standing: Standing,
     /// Every call, from the first on.
     history: HeapCircularBuffer<Entry>,
     gap: u64,
@@ -51,14 +43,14 @@ impl Model for Desk {
 
     ghost Value = { DeskState };
 
-    ghost view = { λ d. record { gap = d.gap; limit = d.history.capacity; history = d.history.items; bounds = d.bounds } };
+    ghost view = { λ d. record { gap = d.gap; limit = d.history.capacity; history = d.history.items; bounds = d.standing.bounds } };
 
-    ghost invariant = { λ d. IsHeld d.gap d.history.capacity d.history.items d.bounds d.present.items d.gate };
+    ghost invariant = { λ d. IsHeld d.gap d.history.capacity d.history.items d.standing };
 }
 
 impl Desk {
-    ghost use Rattle.std.specs.Prelude.{◌≡◌, ◌≤◌, ◌↔◌, [], IsErr, IfOk, OnErr};
-    ghost use Rattle.bounding_set.specs.State.{AnnouncesSmallest, announced_of};
+    ghost use Rattle.std.specs.Prelude.{◌≡◌, ◌≤◌, ◌↔◌, ◌++◌, ◌∷◌, [], IsErr, IsTrue, IfOk, OnErr};
+    ghost use Rattle.bounding_set.specs.State.{announced_of};
     ghost use Rattle.rate_desk.specs.declared.call.Call.TheVariants as call;
     ghost use Rattle.rate_desk.specs.Presence.{HasStay};
     ghost use Rattle.rate_desk.specs.Trace.{empty_base, live_after};
@@ -74,9 +66,7 @@ impl Desk {
         ensures legal { IfOk result HoldsLegalDesk }
     {
         Ok(Desk {
-            present: ArrayVec::new(),
-            bounds: Bounds::new(),
-            gate: PliGate::new(),
+            standing: Standing::new(),
             history: HeapCircularBuffer::with_capacity(alloc, history)?,
             gap,
         })
@@ -159,7 +149,7 @@ impl Desk {
         ensures value { result.now ≡ live_after empty_base self.now.history }
         ensures legal { HoldsLegalDesk self.now }
     {
-        self.bounds.rows()
+        self.standing.bounds().rows()
     }
 
     /// The announced set, by rising overhead.
@@ -167,7 +157,7 @@ impl Desk {
         ensures value { result.items ≡ announced_of self.now.bounds }
         ensures legal { HoldsLegalDesk self.now }
     {
-        self.bounds.announced()
+        self.standing.bounds().announced()
     }
 
     /// The certificate of the announced set; its places count the live requests from 0.
@@ -175,7 +165,7 @@ impl Desk {
         ensures value { result.now ≡ self.now.bounds.cert }
         ensures legal { HoldsLegalDesk self.now }
     {
-        self.bounds.cert()
+        self.standing.bounds().cert()
     }
 
     /// Answers a call and records it.
@@ -186,18 +176,13 @@ impl Desk {
         ensures recorded { IfOk result (λ reply. Records self.old call reply self.new) }
         ensures legal { HoldsLegalDesk self.new }
     {
-        let refusal = refusal(self.present.as_slice(), &call);
-        if self.is_over_limit(&call, refusal) {
+        if self.is_over_limit(&call) {
             return Err(HistoryFull);
         }
-        let former = self.bounds.announced();
+        let former = self.announced();
         let number = self.history.len() as u64;
-        let answer = match refusal {
-            Some(answer) => answer,
-            None => self.done(&call),
-        };
-        self.history.push_back(Entry { call, answer });
-        let effect = effect_of(former.as_slice(), self.bounds.announced());
+        let answer = self.record(call);
+        let effect = effect_of(former.as_slice(), self.announced());
         Ok(Reply {
             number,
             answer,
@@ -206,30 +191,27 @@ impl Desk {
     }
 
     /// Whether the history has no room for the call.
-    fn is_over_limit(&self, call: &Call, refusal: Option<Answer>) -> bool {
-        let present = match (refusal, call) {
-            (None, Call::Arrive { .. }) => self.present.len() + 1,
-            (None, Call::Depart { .. }) => self.present.len() - 1,
-            _ => self.present.len(),
-        };
-        self.history.len() + 1 + present > self.history.capacity()
+    fn is_over_limit(&self, call: &Call) -> bool
+        ensures { IsTrue result ↔ IsOverLimit self.now.limit empty_base self.now.history call.now }
+    {
+        let room = self.history.capacity() - self.history.len();
+        room < 1 + self.standing.count_behind(call)
     }
 
-    /// Does a call that isn't refused.
-    fn done(&mut self, call: &Call) -> Answer {
-        match *call {
-            Call::Request { owner, tuple, .. } => {
-                let _ = self.bounds.set(owner, tuple).unwrap();
-            }
-            Call::Depart { owner, .. } => {
-                let _ = self.bounds.remove(owner);
-            }
-            Call::Arrive { .. } | Call::Pli { .. } | Call::Tick { .. } => {}
-        }
-        take_in(&mut self.present, call);
-        Answer::Done {
-            pli: self.gate.take_in(self.gap, call),
-            kept: kept_bits(self.bounds.cert()),
-        }
+    /// Answers a call for which there is room, and records it.
+    fn record(&mut self, call: Call) -> Answer
+        requires stays { HasStay call }
+        requires room { ¬ IsOverLimit self.old.limit empty_base self.old.history call }
+        ensures history { self.new.history ≡ self.old.history ++ record { call = call; answer = result } ∷ [] }
+        ensures gap { self.new.gap ≡ self.old.gap }
+        ensures limit { self.new.limit ≡ self.old.limit }
+        ensures legal { HoldsLegalDesk self.new }
+    {
+        let answer = match self.standing.refusal(&call) {
+            Some(refusal) => refusal,
+            None => self.standing.take_in(self.gap, &call),
+        };
+        self.history.push_back(Entry { call, answer });
+        answer
     }
 }

@@ -1,6 +1,7 @@
 //! What a call changed in the announced set.
 
-ghost use Rattle.std.specs.Prelude.{◌≡◌, ◌≢◌, ◌≤◌, not, length, filter, AllPairs};
+ghost use Rattle.std.specs.Prelude.{◌≡◌, ◌≢◌, ◌==◌, ◌≤◌, not, length, filter, AllPairs};
+ghost use Rattle.std.specs.List.{list_any};
 ghost use Rattle.rate_desk.specs.Effect.{IsEffect, IsLifted, owners_of, numbers_of, is_member};
 ghost use Rattle.rate_cert.specs.declared.certificate.TheConstants.{MAX_REQUESTS as REQUESTS};
 
@@ -63,7 +64,9 @@ fn fresh(former: &[Request], set: &[Request]) -> ArrayVec<Request, MAX_REQUESTS>
 }
 
 /// Whether the owner has a request among these.
-fn has_owner(requests: &[Request], owner: Ssrc) -> bool {
+fn has_owner(requests: &[Request], owner: Ssrc) -> bool
+    ensures { result ≡ list_any (λ r. r.owner.0 == owner.0) requests.now }
+{
     requests.iter().any(|r| r.owner == owner)
 }
 

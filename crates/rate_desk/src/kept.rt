@@ -1,6 +1,6 @@
 //! Which rows are announced, as bits.
 
-ghost use Rattle.std.specs.Prelude.{◌≡◌, ◌≤◌, length};
+ghost use Rattle.std.specs.Prelude.{◌≡◌, ◌<◌, ◌≤◌, length, All};
 ghost use Rattle.rate_cert.specs.declared.request.Request.{Request as RateRequest};
 ghost use Rattle.std.specs.Prelude.{List};
 ghost use Rattle.rate_cert.specs.Certificate.{kept_places};
@@ -12,11 +12,12 @@ use rate_cert::Cert;
 
 /// The rows that a certificate keeps: bit i says that row i is kept. No more than 64 rows can be live.
 pub fn kept_bits(cert: &Cert) -> u64
+    requires { All (λ k. k.place < LIVE_LIMIT) cert.now.kept.items }
     ensures { (rows : List RateRequest) → length rows ≤ LIVE_LIMIT → IsCanonical rows (kept_places cert.now) → KeepsRows rows result }
 {
     let mut bits = 0;
     for kept in cert.kept.as_slice() {
-        bits |= 1_u64 << (kept.place % 64);
+        bits |= 1_u64 << kept.place;
     }
     bits
 }

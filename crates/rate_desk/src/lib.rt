@@ -13,6 +13,7 @@ mod kept;
 pub mod laws;
 mod pli;
 mod presence;
+mod standing;
 
 pub use call::{Answer, Call, Entry};
 pub use desk::{Desk, HistoryFull, Reply};

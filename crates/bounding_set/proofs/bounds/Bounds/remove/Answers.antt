@@ -1,0 +1,30 @@
+use Rattle.std.proofs.Common.{◌∷◌, sym, ◌∙◌, subst}
+use Rattle.std.specs.Prelude.{All, ◌≢◌}
+use Rattle.rate_cert.specs.declared.request.Request.{Request}
+use Rattle.bounding_set.specs.Canonical.{StopsMedia}
+use Rattle.bounding_set.specs.Envelope.{IsEnvelopeOf}
+use Rattle.bounding_set.proofs.MemberLemmas.{HasOneMore, HasOneMore-taken, IsEnvelopeOf-fewer, All-fewer, absent_owner}
+use Rattle.bounding_set.proofs.bounds.Bounds.remove.Goals as goal
+
+pub unsplice-requires-clause-envelope : goal.unsplice-requires-clause-envelope
+unsplice-requires-clause-envelope c =
+    let gone : Request = record { owner = c.args.owner; tuple = c.in_ok-tuple.tuple } in
+    let old = c.self.inside.rows.items in
+    let new = c.take.new.rows.items in
+    subst (λ rows. IsEnvelopeOf (gone ∷ rows) c.self.inside.lines.items) (sym c.as_slice-rows.ensures.value)
+    (IsEnvelopeOf-fewer old new c.self.inside.lines.items gone
+    (HasOneMore-taken old new gone c.self.invariant.1 c.take.ensures.rising (sym c.take.ensures.value ∙ c.in_ok-tuple.was) c.take.ensures.taken) c.self.invariant.2)
+
+pub unsplice-requires-clause-others : goal.unsplice-requires-clause-others
+unsplice-requires-clause-others c =
+    subst (All (λ r. r.owner.0 ≢ c.args.owner.0)) (sym c.as_slice-rows.ensures.value)
+    (absent_owner c.take.new.rows.items c.args.owner.0 c.take.ensures.rising c.take.ensures.taken.changed)
+
+pub update_stops-requires-clause-none : goal.update_stops-requires-clause-none
+update_stops-requires-clause-none c =
+    let gone : Request = record { owner = c.args.owner; tuple = c.in_ok-tuple.tuple } in
+    let old = c.self.inside.rows.items in
+    let new = c.take.new.rows.items in
+    λ no empty. subst (All (λ r. ¬ StopsMedia r)) (sym c.as_slice-rows.ensures.value)
+    (All-fewer (λ r. ¬ StopsMedia r) old new gone
+    (HasOneMore-taken old new gone c.self.invariant.1 c.take.ensures.rising (sym c.take.ensures.value ∙ c.in_ok-tuple.was) c.take.ensures.taken) (c.self.invariant.3.none empty))

@@ -1,0 +1,33 @@
+use Rattle.std.proofs.Common.{◌≡◌, ℕ, ◌-◌, ◌<◌, ◌≤◌, List, length, get_or, take, drop, sym, subst, arith}
+use Rattle.std.specs.List.{AllWithin}
+use Rattle.std.proofs.lemmas.List.{take_rest, length-take-le}
+use Rattle.tmmbr_tuple.specs.RatePair.{RatePair, Permits}
+use Rattle.rate_cert.specs.declared.request.Request.{Request as RateRequest}
+use Rattle.rate_cert.specs.Requests.{IsFeasible}
+use Rattle.bounding_set.specs.Envelope.{Crosses, Turns, IsHull}
+use Rattle.bounding_set.proofs.StandsLemmas.{IsHull-take, IsHull-drop, StandsFor-from_parts}
+use Rattle.bounding_set.proofs.splice.needless_beside.Goals as goal
+
+pub needed_before-low-requires-clause-hull : goal.needed_before-low-requires-clause-hull
+needed_before-low-requires-clause-hull c =
+    IsHull-take c.args.lines.now c.args.at (omega (arith, c.requires.place.rising, c.requires.place.in_range)) c.requires.hull
+
+pub needed_behind-requires-clause-hull : goal.needed_behind-requires-clause-hull
+needed_behind-requires-clause-hull c =
+    subst IsHull (sym (take_rest c.args.lines.now c.args.from)) (IsHull-drop c.args.lines.now c.args.from c.requires.hull)
+
+pub returns-clause-stands : goal.returns-clause-stands
+returns-clause-stands c =
+    let lines = c.args.lines.now in
+    let x = c.args.x.now in
+    let low = c.needed_before-low.ensures in
+    let more = c.needed_behind.ensures in
+    let rest = take_rest lines c.args.from in
+    let at_in : c.args.at ≤ length lines = omega (arith, c.requires.place.rising, c.requires.place.in_range) in
+    StandsFor-from_parts lines x c.args.at c.args.from c.needed_before-low.result c.needed_behind.result c.requires.place c.requires.needed
+    (omega (arith, low.within, length-take-le c.args.at lines at_in))
+    low.covers low.rates low.turns
+    (subst (λ (s : List RateRequest). c.needed_behind.result ≤ length s) rest more.within)
+    (subst (λ (s : List RateRequest). (p : RatePair) → AllWithin (λ l. Permits l.tuple p) s c.needed_behind.result (length s) → Permits x.tuple p → IsFeasible s p) rest more.covers)
+    (subst (λ (s : List RateRequest). AllWithin (Crosses x) s c.needed_behind.result (length s)) rest more.crosses)
+    (subst (λ (s : List RateRequest). (i j : ℕ) (d : RateRequest) → c.needed_behind.result ≤ i → i < j → j < length s → Turns x (get_or s i d) (get_or s j d)) rest more.turns)

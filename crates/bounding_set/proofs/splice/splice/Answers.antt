@@ -1,0 +1,54 @@
+use Rattle.std.proofs.Common.{◌≡◌, ◌<◌, ◌≤◌, sym, ◌∙◌, subst, length}
+use Rattle.std.specs.Prelude.{All}
+use Rattle.std.specs.List.{AllWithin}
+use Rattle.rate_cert.specs.declared.request.Request.{Request as RateRequest}
+use Rattle.bounding_set.specs.Canonical.{HasSameLine}
+use Rattle.bounding_set.specs.Envelope.{IsHull, Covers}
+use Rattle.bounding_set.specs.Place.{IsPlaceOf, IsNeededAt, StandsFor}
+use Rattle.bounding_set.proofs.SpliceLemmas.{place_from_counts}
+use Rattle.bounding_set.proofs.StandsLemmas.{replaced, IsHull-replaced, Covers-x, Covers-replaced, least-replaced}
+use Rattle.bounding_set.proofs.splice.splice.Goals as goal
+
+pub needless_beside-low-requires-clause-place : goal.needless_beside-low-requires-clause-place
+needless_beside-low-requires-clause-place c =
+    let x = c.args.x.now in
+    let at = c.lines_before-at in
+    let from = c.lines_upto-from in
+    let before = c.as_slice.ensures.value ∙ sym c.as_slice-4.ensures.value in
+    let upto = c.as_slice-2.ensures.value ∙ sym c.as_slice-4.ensures.value in
+    place_from_counts c.as_slice-4.result.now x at.result from.result
+    (subst (λ ls. at.result ≤ length ls) before at.ensures.within)
+    (subst (λ ls. from.result ≤ length ls) upto from.ensures.within)
+    (subst (λ ls. AllWithin (λ l. l.tuple.overhead < x.tuple.overhead) ls 0 at.result) before at.ensures.before)
+    (subst (λ ls. AllWithin (λ l. x.tuple.overhead ≤ l.tuple.overhead) ls at.result (length ls)) before at.ensures.behind)
+    (subst (λ ls. AllWithin (λ l. l.tuple.overhead ≤ x.tuple.overhead) ls 0 from.result) upto from.ensures.before)
+    (subst (λ ls. AllWithin (λ l. x.tuple.overhead < l.tuple.overhead) ls from.result (length ls)) upto from.ensures.behind)
+
+stands : (c : goal.After-replace) → StandsFor c.args.lines.now.items c.args.x.now c.needless_beside-low.result.0 c.needless_beside-low.result.1
+stands c =
+    subst (λ ls. StandsFor ls c.args.x.now c.needless_beside-low.result.0 c.needless_beside-low.result.1) c.as_slice-4.ensures.value c.needless_beside-low.ensures.stands
+
+pub returns-clause-hull : goal.returns-clause-hull
+returns-clause-hull c =
+    subst IsHull (sym c.replace.ensures)
+    (IsHull-replaced c.args.lines.now.items c.args.x.now c.requires.hull c.needless_beside-low.result.0 c.needless_beside-low.result.1 (stands c))
+
+pub returns-clause-covers : goal.returns-clause-covers
+returns-clause-covers c =
+    subst (λ new. Covers new c.args.x.now) (sym c.replace.ensures)
+    (Covers-x c.args.lines.now.items c.args.x.now c.requires.hull c.needless_beside-low.result.0 c.needless_beside-low.result.1 (stands c))
+
+pub returns-clause-covers_old : goal.returns-clause-covers_old
+returns-clause-covers_old c =
+    subst (λ new. All (Covers new) c.args.lines.now.items) (sym c.replace.ensures)
+    (Covers-replaced c.args.lines.now.items c.args.x.now c.requires.hull c.needless_beside-low.result.0 c.needless_beside-low.result.1 (stands c))
+
+pub returns-clause-least : goal.returns-clause-least
+returns-clause-least c =
+    subst (All (λ l. HasSameLine l c.args.x.now → l.owner.0 ≤ c.args.x.now.owner.0)) (sym c.replace.ensures)
+    (least-replaced c.args.lines.now.items c.args.x.now c.requires.hull c.needless_beside-low.result.0 c.needless_beside-low.result.1 (stands c))
+
+pub returns-clause-least_new : goal.returns-clause-least_new
+returns-clause-least_new c is =
+    let needed : IsNeededAt c.as_slice-3.result.now c.args.x.now c.lines_before-at.result c.lines_upto-from.result = c.is_needless.ensures.needed c.if-is_needless.false in
+    (subst (λ ls. IsNeededAt ls c.args.x.now c.lines_before-at.result c.lines_upto-from.result) c.as_slice-3.ensures.value needed).new

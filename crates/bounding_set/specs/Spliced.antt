@@ -1,0 +1,31 @@
+-- A line that is put into an envelope, and the tests that it takes.
+use Rattle.std.specs.Prelude.{◌≡◌, ℕ, ◌+◌, ◌-◌, ◌*◌, ◌<◌, ◌≤◌, List, ◌∷◌, ◌++◌, length, take, drop}
+use Rattle.tmmbr_tuple.specs.declared.tuple.Tuple.{Tuple}
+use Rattle.tmmbr_tuple.specs.Tuple.{rate_of}
+use Rattle.tmmbr_tuple.specs.RatePair.{RatePair, Permits}
+use Rattle.rate_cert.specs.declared.request.Request.{Request}
+
+-- two tuples imply a third where it permits each pair that both permit
+abbrev pub ImplyTogether : Tuple → Tuple → Tuple → Type 0
+ImplyTogether a b x = (p : RatePair) → Permits a p → Permits b p → Permits x p
+
+-- one tuple implies another where that permits each pair that it permits
+abbrev pub ImpliesAlone : Tuple → Tuple → Type 0
+ImpliesAlone a x = (p : RatePair) → Permits a p → Permits x p
+
+-- the overhead of x is between those of a and b, and its line isn't below the chord from a to b
+pub record StandsAbove (a b x : Tuple) : Type 0 where
+  pub more : a.overhead < x.overhead
+  pub less : x.overhead < b.overhead
+  pub above : b.overhead * rate_of a + x.overhead * rate_of b + a.overhead * rate_of x
+      ≤ b.overhead * rate_of x + x.overhead * rate_of a + a.overhead * rate_of b
+
+-- x stands behind the first lines, up to `low`, and before the last ones, from `high` on; those between are dropped, and the tests
+-- are at most four more than these
+pub record IsSpliced (old : List Request) (x : Request) (new : List Request) (tests : ℕ) : Type 0 where
+  pub low : ℕ
+  pub high : ℕ
+  pub rising : low ≤ high
+  pub in_range : high ≤ length old
+  pub is : new ≡ take low old ++ x ∷ drop high old
+  pub few_tests : tests ≤ (high - low) + 4
