@@ -1,10 +1,10 @@
 -- What is left of calls, call by call.
-use Rattle.std.proofs.Common.{◌≡◌, ℕ, ◌+◌, ◌-◌, ◌<◌, ◌≤◌, Bool, true, false, cond, List, [], ◌∷◌, ◌++◌, length, take, drop, refl, sym, ap, ◌∙◌, arith, Some, None, Option, length-append, append-nil}
-use Rattle.std.specs.Prelude.{max, not, ◌&&◌, ◌||◌, if◌then◌else◌}
+use Rattle.std.proofs.Common.{◌≡◌, ℕ, ◌+◌, ◌-◌, Bool, true, false, cond, List, [], ◌∷◌, ◌++◌, length, take, drop, refl, ap, ◌∙◌, arith, Some, Option}
+use Rattle.std.specs.Prelude.{max, not, ◌&&◌, ◌||◌}
 use Rattle.std.specs.List.{list_any, after_last, suffix_len, prefix_len}
 use Rattle.std.proofs.lemmas.List.{length_push, take_all, take-append-le, drop-append-le, drop_all, reverse-append}
 use Rattle.std.proofs.lemmas.List.Folds.{list_any-append}
-use Rattle.std.proofs.lemmas.List.Sums.{fold_push, suffix_len-le-length}
+use Rattle.std.proofs.lemmas.List.Sums.{fold_push}
 use Rattle.rate_desk.specs.declared.call.Call.{Call}
 use Rattle.rate_desk.specs.declared.call.Call.TheVariants.{Arrive, Request, Depart, Pli, Tick}
 use Rattle.rate_desk.specs.declared.call.Entry.{Entry}

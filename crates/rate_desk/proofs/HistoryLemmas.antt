@@ -1,7 +1,6 @@
 -- One entry more in a history.
-use Rattle.std.proofs.Common.{◌≡◌, ℕ, ◌+◌, ◌-◌, ◌<◌, ◌≤◌, Bool, true, false, cond, List, [], ◌∷◌, ◌++◌, length, take, get_or, refl, sym, ap, subst, ◌∙◌, arith, Some, None, Option, inl, inr}
-use Rattle.std.specs.Prelude.{not, ◌==◌, nat_le}
-use Rattle.std.specs.Prelude.{◌⊎◌}
+use Rattle.std.proofs.Common.{◌≡◌, ℕ, Bool, true, false, cond, List, [], ◌∷◌, ◌++◌, length, refl, sym, ap, subst, ◌∙◌, arith, Some, None, Option, inl, inr}
+use Rattle.std.specs.Prelude.{not, ◌==◌, nat_le, ◌⊎◌}
 use Rattle.std.proofs.lemmas.Bool.{cases_lt}
 use Rattle.std.proofs.lemmas.List.{take_at, take-append-le, get_or_append_left, get_or_at, length_push}
 use Rattle.std.proofs.lemmas.List.Sums.{fold_push}
@@ -12,11 +11,11 @@ use Rattle.rate_desk.specs.declared.call.Answer.TheVariants.{NotPresent, Already
 use Rattle.rate_desk.specs.declared.call.Entry.{Entry}
 use Rattle.rate_desk.specs.declared.presence.Present.{Present}
 use Rattle.rate_desk.specs.declared.presence.TheConstants.{PRESENT_LIMIT}
-use Rattle.rate_desk.specs.Presence.{refusal_of, stay_in}
-use Rattle.rate_desk.specs.Plis.{Gate, is_timed, is_answered_up, went_up, goes_up, sends_at, gate_by, gate_after}
+use Rattle.rate_desk.specs.Presence.{refusal_of, stay_in, present_by}
+use Rattle.rate_desk.specs.Plis.{Gate, is_timed, is_answered_up, goes_up, sends_at, gate_by, gate_after}
 use Rattle.rate_desk.specs.Trace.{Base, is_done, present_behind, present_after}
 use Rattle.rate_desk.specs.Answer.{IsDone, IsAnswerOr, IsAnswerTo}
-use Rattle.rate_desk.specs.History.{IsLegalHistory}
+use Rattle.rate_desk.specs.History.{IsLegalHistory, present_unless, present_with}
 use Rattle.rate_desk.proofs.GateLemmas.{gate_after-push, gate_after-stays}
 
 -- ---- answers
@@ -119,3 +118,27 @@ pub gate_after-refused : (base : Base) (entries : List Entry) (e : Entry) → re
 gate_after-refused base entries e is =
     let refused = refusal-is (present_after base entries) e.call e.answer is in
     gate_after-stays base.gate entries e refused.untimed refused.not_up
+
+-- ---- what a call owes, and who is present behind it
+
+pub answers_refused : (gap : ℕ) (base : Base) (past : List Entry) (call : Call) (answer : Answer) → refusal_of (present_after base past) call ≡ Some answer
+    → IsAnswerTo gap base past call answer
+answers_refused gap base past call answer refused = subst (λ o. IsAnswerOr gap base past call o answer) (sym refused) refl
+
+pub answers_accepted : (gap : ℕ) (base : Base) (past : List Entry) (call : Call) (answer : Answer) → refusal_of (present_after base past) call ≡ None
+    → IsDone gap base past call answer → IsAnswerTo gap base past call answer
+answers_accepted gap base past call answer accepted done = subst (λ o. IsAnswerOr gap base past call o answer) (sym accepted) done
+
+pub present_after-answered : (gap : ℕ) (base : Base) (entries : List Entry) (e : Entry) → IsAnswerTo gap base entries e.call e.answer
+    → present_after base (entries ++ e ∷ []) ≡ present_with (present_after base entries) e.call
+present_after-answered gap base entries e is = present_after-push base entries e ∙ step (refusal_of (present_after base entries) e.call) refl is
+  where
+    step : (o : Option Answer) → refusal_of (present_after base entries) e.call ≡ o → IsAnswerOr gap base entries e.call o e.answer
+        → present_behind (present_after base entries) e ≡ present_with (present_after base entries) e.call
+    step None none h =
+        ap (λ b. cond b (present_by (present_after base entries) e.call) (present_after base entries)) (ap is_done h.is)
+        ∙ sym (ap (present_unless (present_after base entries) e.call) none)
+    step (Some r) some h =
+        let refused = refusal-is (present_after base entries) e.call r some in
+        ap (λ b. cond b (present_by (present_after base entries) e.call) (present_after base entries)) (ap is_done h ∙ refused.not_done)
+        ∙ sym (ap (present_unless (present_after base entries) e.call) some)

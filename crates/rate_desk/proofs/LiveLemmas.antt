@@ -129,7 +129,7 @@ few_live (p ∷ present) =
 
 -- ---- what an owner asks for
 
-abbrev asked_by : Option Present → Option Tuple
+abbrev pub asked_by : Option Present → Option Tuple
 asked_by None = None
 asked_by (Some p) = p.tuple
 

@@ -1,6 +1,7 @@
 pub mod Presence
 pub mod Plis
 pub mod Trace
+pub mod Schedule
 pub mod Answer
 pub mod History
 pub mod Effect

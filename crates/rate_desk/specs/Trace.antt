@@ -1,6 +1,9 @@
 -- The trace of a desk: what is left of calls that aren't listed any more, and the recorded calls with their answers.
-use Rattle.std.specs.Prelude.{ℕ, Bool, true, false, List, [], ◌∷◌, ◌++◌, fold, Option, None, if◌then◌else◌}
+use Rattle.std.specs.Prelude.{◌≡◌, ℕ, ◌<◌, Bool, true, false, List, [], fold, slice_get, Some, if◌then◌else◌}
 use Rattle.rate_cert.specs.declared.request.Request.{Request}
+use Rattle.tmmbr_tuple.specs.declared.tuple.Tuple.{Tuple}
+use Rattle.rate_desk.specs.declared.call.Call.{Call}
+use Rattle.rate_desk.specs.declared.call.Call.TheVariants.{Arrive, Request as Ask, Depart, Pli, Tick}
 use Rattle.rate_desk.specs.declared.call.Answer.{Answer}
 use Rattle.rate_desk.specs.declared.call.Answer.TheVariants.{Done, NotPresent, AlreadyPresent, Full}
 use Rattle.rate_desk.specs.declared.call.Entry.{Entry}
@@ -37,3 +40,55 @@ present_after base entries = fold present_behind base.present entries
 -- the live requests after these calls, by rising owner
 abbrev pub live_after : Base → List Entry → List Request
 live_after base entries = live_requests (present_after base entries)
+
+-- ---- by places in a history
+
+-- at this place stands an entry of this kind
+pub record StandsAt (P : Entry → Type 0) (entries : List Entry) (place : ℕ) : Type 0 where
+  pub entry : Entry
+  pub there : slice_get entries place ≡ Some entry
+  pub is : P entry
+
+-- a call of this kind, which was done
+abbrev pub WasDone : (Call → Type 0) → Entry → Type 0
+WasDone P e = (is_done e.answer ≡ true) × P e.call
+
+-- an arrive of the owner with this stay
+abbrev pub IsArriveOf : ℕ → ℕ → Call → Type 0
+IsArriveOf owner stay (Arrive o s) = (o.0 ≡ owner) × (s ≡ stay)
+IsArriveOf owner stay (Ask o s tuple) = ⊥
+IsArriveOf owner stay (Depart o s) = ⊥
+IsArriveOf owner stay (Pli moment) = ⊥
+IsArriveOf owner stay (Tick moment) = ⊥
+
+-- a request of the owner for this tuple
+abbrev pub IsRequestOf : ℕ → Tuple → Call → Type 0
+IsRequestOf owner tuple (Arrive o s) = ⊥
+IsRequestOf owner tuple (Ask o s t) = (o.0 ≡ owner) × (t ≡ tuple)
+IsRequestOf owner tuple (Depart o s) = ⊥
+IsRequestOf owner tuple (Pli moment) = ⊥
+IsRequestOf owner tuple (Tick moment) = ⊥
+
+-- a depart of the owner
+abbrev pub IsDepartOf : ℕ → Call → Type 0
+IsDepartOf owner (Arrive o s) = ⊥
+IsDepartOf owner (Ask o s tuple) = ⊥
+IsDepartOf owner (Depart o s) = o.0 ≡ owner
+IsDepartOf owner (Pli moment) = ⊥
+IsDepartOf owner (Tick moment) = ⊥
+
+-- the owner arrived at this place with this stay, and no depart of it was done since
+pub record IsPresentSince (entries : List Entry) (owner stay place : ℕ) : Type 0 where
+  pub arrived : StandsAt (WasDone (IsArriveOf owner stay)) entries place
+  pub stayed : (later : ℕ) → place < later → ¬ StandsAt (WasDone (IsDepartOf owner)) entries later
+
+-- the owner is present with this stay
+abbrev pub IsPresent : List Entry → ℕ → ℕ → Type 0
+IsPresent entries owner stay = (place : ℕ) × IsPresentSince entries owner stay place
+
+-- the last request of the owner that was done behind this place asks for this tuple
+pub record IsLastRequestSince (entries : List Entry) (owner place : ℕ) (tuple : Tuple) : Type 0 where
+  pub asked : ℕ
+  pub later : place < asked
+  pub request : StandsAt (WasDone (IsRequestOf owner tuple)) entries asked
+  pub last : (other : ℕ) (t : Tuple) → asked < other → ¬ StandsAt (WasDone (IsRequestOf owner t)) entries other

@@ -10,6 +10,7 @@ mod call;
 mod desk;
 mod effect;
 mod kept;
+pub mod laws;
 mod pli;
 mod presence;
 mod standing;
