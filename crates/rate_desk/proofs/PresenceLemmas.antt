@@ -1,0 +1,366 @@
+-- Who is present, by rising owner: what a search finds, and what an edit does.
+use Rattle.std.proofs.Common.{◌≡◌, ℕ, zero, suc, ◌+◌, ◌<◌, ◌≤◌, ◌≢◌, List, [], ◌∷◌, length, get_or, set, take, drop, ◌++◌, Some, None, Result, Ok, Err, IfOk, IfErr, refl, sym, ap, inl, inr, subst, ◌∙◌, arith}
+use Rattle.std.specs.Prelude.{All}
+use Rattle.std.specs.List.{insert, remove, refill}
+use Rattle.std.specs.List.Sorted.{IsSearchInRange, IsBinarySearchResult, IsNonDecreasingBy}
+use Rattle.std.specs.Option.{option_map_or}
+use Rattle.std.specs.Ordering.{nat_cmp, ordering_index}
+use Rattle.std.proofs.Math.Seq.{take-append_seam}
+use Rattle.std.proofs.lemmas.Bool.{cases_lt, cases_eq}
+use Rattle.std.proofs.lemmas.Bool.Decides.{nat_tests}
+use Rattle.std.proofs.lemmas.Cmp.{ranked}
+use Rattle.std.proofs.lemmas.List.{length-set}
+use Rattle.std.proofs.lemmas.List.Kept.{AllPairs-cons, AllPairs-filter}
+use Rattle.std.proofs.lemmas.List.Elements.{All-cons, All-filter}
+use Rattle.tmmbr_tuple.specs.declared.ssrc.Ssrc.{Ssrc}
+use Rattle.tmmbr_tuple.specs.declared.tuple.Tuple.{Tuple}
+use Rattle.rate_desk.specs.declared.presence.Present.{Present}
+use Rattle.rate_desk.specs.declared.presence.TheConstants.{PRESENT_LIMIT}
+use Rattle.rate_desk.specs.declared.call.Call.{Call}
+use Rattle.rate_desk.specs.declared.call.Call.TheVariants.{Arrive, Request as Ask, Depart, Pli, Tick}
+use Rattle.rate_desk.specs.Presence.{HasRisingOwners, HasStays, HasStay, IsPlaceOf, IsGapFor, presence_of, present_by, refusal_of, stay_in, with_presence, without_owner}
+
+-- those present have greater owners than this one
+abbrev pub IsBelow : ℕ → List Present → Type 0
+IsBelow owner present = All (λ (p : Present). owner < p.owner.0) present
+
+-- ---- the first one and the others
+
+pub rising_tail : (p : Present) (present : List Present) → HasRisingOwners (p ∷ present) → HasRisingOwners present
+rising_tail p present rising = λ i j d before below. rising (suc i) (suc j) d (omega arith) (omega arith)
+
+pub rising_head : (p : Present) (present : List Present) → HasRisingOwners (p ∷ present) → IsBelow p.owner.0 present
+rising_head p present rising = λ k d below. rising zero (suc k) d (omega arith) (omega arith)
+
+pub below_tail : (owner : ℕ) (p : Present) (present : List Present) → IsBelow owner (p ∷ present) → IsBelow owner present
+below_tail owner p present is = λ k d below. is (suc k) d (omega arith)
+
+pub below_lesser : (owner lesser : ℕ) (present : List Present) → lesser < owner → IsBelow owner present → IsBelow lesser present
+below_lesser owner lesser present lt is = λ k d below. omega (arith, is k d below)
+
+place_tail : (p : Present) (present : List Present) (owner place : ℕ) → IsPlaceOf (p ∷ present) owner (suc place) → IsPlaceOf present owner place
+place_tail p present owner place is = record { in_range = omega (arith, is.in_range); is_owner = λ d. is.is_owner d }
+
+gap_tail : (p : Present) (present : List Present) (owner place : ℕ) → IsGapFor (p ∷ present) owner (suc place) → IsGapFor present owner place
+gap_tail p present owner place gap = record {
+  in_range = omega (arith, gap.in_range);
+  lesser_before = λ k d low below. gap.lesser_before (suc k) d (omega arith) (omega arith);
+  greater_after = λ k d low below. gap.greater_after (suc k) d (omega arith) (omega arith);
+}
+
+-- the owner at a later place is greater than the first
+place_above : (p : Present) (present : List Present) (owner place : ℕ) → HasRisingOwners (p ∷ present) → IsPlaceOf (p ∷ present) owner (suc place)
+    → p.owner.0 < owner
+place_above p present owner place rising is = omega (arith, rising zero (suc place) p (omega arith) is.in_range, is.is_owner p)
+
+-- ---- what is known of an owner
+
+pub presence_of-below : (present : List Present) (owner : ℕ) → IsBelow owner present → presence_of present owner ≡ None
+presence_of-below [] owner is = refl
+presence_of-below (p ∷ present) owner is =
+    grind (arith, nat_tests, is zero p (omega arith), presence_of-below present owner (below_tail owner p present is))
+
+pub presence_of-place : (present : List Present) (owner place : ℕ) (d : Present) → HasRisingOwners present → IsPlaceOf present owner place
+    → presence_of present owner ≡ Some (get_or present place d)
+presence_of-place [] owner place d rising is = absurd (omega (arith, is.in_range))
+presence_of-place (p ∷ present) owner zero d rising is = grind (arith, nat_tests, is.is_owner p)
+presence_of-place (p ∷ present) owner (suc place) d rising is =
+    grind (
+      arith,
+      nat_tests,
+      place_above p present owner place rising is,
+      presence_of-place present owner place d (rising_tail p present rising) (place_tail p present owner place is),
+    )
+
+pub presence_of-gap : (present : List Present) (owner place : ℕ) → IsGapFor present owner place → presence_of present owner ≡ None
+presence_of-gap [] owner place gap = refl
+presence_of-gap (p ∷ present) owner zero gap = presence_of-below (p ∷ present) owner (λ k d below. gap.greater_after k d (omega arith) below)
+presence_of-gap (p ∷ present) owner (suc place) gap =
+    grind (
+      arith,
+      nat_tests,
+      gap.lesser_before zero p (omega arith) (omega arith),
+      presence_of-gap present owner place (gap_tail p present owner place gap),
+    )
+
+-- ---- a search
+
+-- what a binary search by owner answers
+pub searched : (present : List Present) (owner : ℕ) (r : Result ℕ ℕ) → HasRisingOwners present → IsSearchInRange r (length present)
+    → IsBinarySearchResult (λ p. nat_cmp p.owner.0 owner) present r
+    → record { found : IfOk r (IsPlaceOf present owner); absent : IfErr r (IsGapFor present owner) }
+searched present owner (Ok at) rising in_range equal = record {
+  found = record { in_range = in_range; is_owner = λ d. ranked _ owner _ (sym (equal d)) };
+  absent = tt;
+}
+searched present owner (Err at) rising in_range parted =
+    let comparisons_rise : IsNonDecreasingBy (λ (p : Present). ordering_index (nat_cmp p.owner.0 owner)) present = λ i j d le below.
+    elim (cases_lt i j) [
+      | inl before ↦ let rise = rising i j d before below in grind (arith, nat_tests)
+      | inr after ↦
+          let same : i ≡ j = omega arith in
+          subst (λ k. ordering_index (nat_cmp (get_or present i d).owner.0 owner) ≤ ordering_index (nat_cmp (get_or present k d).owner.0 owner)) same (omega arith)
+    ] in
+    let parts = parted comparisons_rise in record {
+      found = tt;
+      absent = record {
+        in_range = in_range;
+        lesser_before = λ k d low below. ranked _ owner _ (sym (parts.0 k d low below));
+        greater_after = λ k d low below. ranked _ owner _ (sym (parts.1 k d low below));
+      };
+    }
+
+-- ---- edits
+
+-- a write over what was known of the owner
+pub set_is : (present : List Present) (place : ℕ) (new : Present) → HasRisingOwners present → IsPlaceOf present new.owner.0 place
+    → set present place new ≡ with_presence present new
+set_is [] place new rising is = absurd (omega (arith, is.in_range))
+set_is (p ∷ present) zero new rising is = grind (arith, nat_tests, is.is_owner p)
+set_is (p ∷ present) (suc place) new rising is =
+    grind (
+      arith,
+      nat_tests,
+      place_above p present new.owner.0 place rising is,
+      set_is present place new (rising_tail p present rising) (place_tail p present new.owner.0 place is),
+    )
+
+-- what an `ArrayVec` has after a write through its slice
+pub refill-set : (present slice : List Present) (place : ℕ) (new : Present) → slice ≡ present
+    → refill (length present) present (set slice place new) ≡ set present place new
+refill-set present slice place new is =
+    let written = set present place new in
+    ap (λ s. refill (length present) present (set s place new)) is
+    ∙ ap (λ n. take n (written ++ drop (length written) present)) (sym (length-set present place new))
+    ∙ take-append_seam written (drop (length written) present)
+
+-- a new one at the place where it goes
+pub insert_is : (present : List Present) (place : ℕ) (new : Present) → IsGapFor present new.owner.0 place
+    → insert present place new ≡ with_presence present new
+insert_is [] zero new gap = refl
+insert_is [] (suc place) new gap = absurd (omega (arith, gap.in_range))
+insert_is (p ∷ present) zero new gap = grind (arith, nat_tests, gap.greater_after zero p (omega arith) (omega arith))
+insert_is (p ∷ present) (suc place) new gap =
+    grind (
+      arith,
+      nat_tests,
+      gap.lesser_before zero p (omega arith) (omega arith),
+      insert_is present place new (gap_tail p present new.owner.0 place gap),
+    )
+
+pub without_owner-absent : (present : List Present) (owner : ℕ) → presence_of present owner ≡ None → without_owner present owner ≡ present
+without_owner-absent [] owner none = refl
+without_owner-absent (p ∷ present) owner none =
+    elim (cases_eq p.owner.0 owner) [
+      | inl same ↦ grind (arith, nat_tests, same, none)
+      | inr differs ↦
+          let rest : presence_of present owner ≡ None = grind (arith, nat_tests, differs, none) in
+          grind (arith, nat_tests, differs, without_owner-absent present owner rest)
+    ]
+
+-- taking the one at its place out
+pub remove_is : (present : List Present) (place owner : ℕ) → HasRisingOwners present → IsPlaceOf present owner place
+    → remove present place ≡ without_owner present owner
+remove_is [] place owner rising is = absurd (omega (arith, is.in_range))
+remove_is (p ∷ present) zero owner rising is =
+    let same : p.owner.0 ≡ owner = is.is_owner p in
+    let below : IsBelow owner present = λ k d within. omega (arith, same, rising_head p present rising k d within) in
+    grind (arith, nat_tests, same, without_owner-absent present owner (presence_of-below present owner below))
+remove_is (p ∷ present) (suc place) owner rising is =
+    grind (
+      arith,
+      nat_tests,
+      place_above p present owner place rising is,
+      remove_is present place owner (rising_tail p present rising) (place_tail p present owner place is),
+    )
+
+-- the three ways in which a list goes on that has this one put among it
+pub with_cases : (P : List Present → Type 0) (p : Present) (present : List Present) (new : Present)
+    → (new.owner.0 < p.owner.0 → P (new ∷ p ∷ present)) → (p.owner.0 ≡ new.owner.0 → P (new ∷ present))
+    → (p.owner.0 < new.owner.0 → P (p ∷ with_presence present new)) → P (with_presence (p ∷ present) new)
+with_cases P p present new before same after =
+    elim (cases_lt new.owner.0 p.owner.0) [
+      | inl lt ↦
+          let e : new ∷ p ∷ present ≡ with_presence (p ∷ present) new = grind (arith, nat_tests, lt) in
+          subst P e (before lt)
+      | inr from ↦
+          elim (cases_eq p.owner.0 new.owner.0) [
+            | inl is ↦
+                let e : new ∷ present ≡ with_presence (p ∷ present) new = grind (arith, nat_tests, is) in
+                subst P e (same is)
+            | inr differs ↦
+                let e : p ∷ with_presence present new ≡ with_presence (p ∷ present) new = grind (arith, nat_tests, from, differs) in
+                subst P e (after (omega (arith, from, differs)))
+          ]
+    ]
+
+pub all-with : (Q : Present → Type 0) (present : List Present) (new : Present) → Q new → All Q present → All Q (with_presence present new)
+all-with Q [] new holds all = All-cons Q new [] holds all
+all-with Q (p ∷ present) new holds all =
+    let rest : All Q present = λ k d within. all (suc k) d (omega arith) in
+    with_cases (All Q) p present new
+    (λ before. All-cons Q new (p ∷ present) holds all)
+    (λ same. All-cons Q new present holds rest)
+    (λ after. All-cons Q p (with_presence present new) (all zero p (omega arith)) (all-with Q present new holds rest))
+
+-- ---- what is known of owners after an edit
+
+pub presence_of-with : (present : List Present) (new : Present) → presence_of (with_presence present new) new.owner.0 ≡ Some new
+presence_of-with [] new = grind (arith, nat_tests)
+presence_of-with (p ∷ present) new = grind (arith, nat_tests, presence_of-with present new)
+
+pub presence_of-with_other : (present : List Present) (new : Present) (other : ℕ) → other ≢ new.owner.0
+    → presence_of (with_presence present new) other ≡ presence_of present other
+presence_of-with_other [] new other differs = grind (arith, nat_tests, differs)
+presence_of-with_other (p ∷ present) new other differs = grind (arith, nat_tests, differs, presence_of-with_other present new other differs)
+
+pub presence_of-without : (present : List Present) (owner : ℕ) → presence_of (without_owner present owner) owner ≡ None
+presence_of-without [] owner = refl
+presence_of-without (p ∷ present) owner = grind (arith, nat_tests, presence_of-without present owner)
+
+pub presence_of-without_other : (present : List Present) (owner other : ℕ) → other ≢ owner
+    → presence_of (without_owner present owner) other ≡ presence_of present other
+presence_of-without_other [] owner other differs = refl
+presence_of-without_other (p ∷ present) owner other differs =
+    grind (arith, nat_tests, differs, presence_of-without_other present owner other differs)
+
+-- ---- stays
+
+-- an owner whose stay isn't 0 is present
+pub present_with_stay : (present : List Present) (owner : ℕ) → 1 ≤ stay_in present owner → presence_of present owner ≡ None → ⊥
+present_with_stay present owner from none =
+    let nothing : stay_in present owner ≡ 0 = ap (λ known. option_map_or (λ (p : Present). p.stay) known 0) none in
+    omega (arith, nothing, from)
+
+-- and where stays are numbered from 1, no other is
+pub absent_without_stay : (present : List Present) (owner : ℕ) → HasStays present → stay_in present owner ≡ 0 → presence_of present owner ≡ None
+absent_without_stay [] owner stays is = refl
+absent_without_stay (p ∷ present) owner stays is =
+    elim (cases_eq p.owner.0 owner) [
+      | inl same ↦
+          let its : stay_in (p ∷ present) owner ≡ p.stay = grind (arith, nat_tests, same) in
+          absurd (omega (arith, stays zero p (omega arith), its, is))
+      | inr differs ↦
+          let its : presence_of (p ∷ present) owner ≡ presence_of present owner = grind (arith, nat_tests, differs) in
+          let rest : stay_in present owner ≡ 0 = sym (ap (λ known. option_map_or (λ (p : Present). p.stay) known 0) its) ∙ is in
+          its ∙ absent_without_stay present owner (λ k d below. stays (suc k) d (omega arith)) rest
+    ]
+
+-- ---- how many are present
+
+pub length-with_absent : (present : List Present) (new : Present) → presence_of present new.owner.0 ≡ None
+    → length (with_presence present new) ≡ length present + 1
+length-with_absent [] new none = refl
+length-with_absent (p ∷ present) new none =
+    elim (cases_eq p.owner.0 new.owner.0) [
+      | inl same ↦ grind (arith, nat_tests, same, none)
+      | inr differs ↦
+          let rest : presence_of present new.owner.0 ≡ None = grind (arith, nat_tests, differs, none) in
+          grind (arith, nat_tests, differs, length-with_absent present new rest)
+    ]
+
+pub length-with_present : (present : List Present) (new : Present) → HasRisingOwners present → (presence_of present new.owner.0 ≡ None → ⊥)
+    → length (with_presence present new) ≡ length present
+length-with_present [] new rising is = absurd (is refl)
+length-with_present (p ∷ present) new rising is =
+    elim (cases_lt new.owner.0 p.owner.0) [
+      | inl before ↦
+          absurd (is (presence_of-below (p ∷ present) new.owner.0
+          (All-cons (λ (q : Present). new.owner.0 < q.owner.0) p present before
+          (below_lesser p.owner.0 new.owner.0 present before (rising_head p present rising)))))
+      | inr from ↦
+          elim (cases_eq p.owner.0 new.owner.0) [
+            | inl same ↦ grind (arith, nat_tests, same)
+            | inr differs ↦
+                let its : presence_of (p ∷ present) new.owner.0 ≡ presence_of present new.owner.0 = grind (arith, nat_tests, differs) in
+                grind (arith, nat_tests, from, differs, length-with_present present new (rising_tail p present rising) (λ none. is (its ∙ none)))
+          ]
+    ]
+
+pub length-without : (present : List Present) (owner : ℕ) → HasRisingOwners present → (presence_of present owner ≡ None → ⊥)
+    → length (without_owner present owner) + 1 ≡ length present
+length-without [] owner rising is = absurd (is refl)
+length-without (p ∷ present) owner rising is =
+    elim (cases_eq p.owner.0 owner) [
+      | inl same ↦
+          let below : IsBelow owner present = λ k d within. omega (arith, same, rising_head p present rising k d within) in
+          grind (arith, nat_tests, same, ap length (without_owner-absent present owner (presence_of-below present owner below)))
+      | inr differs ↦
+          let its : presence_of (p ∷ present) owner ≡ presence_of present owner = grind (arith, nat_tests, differs) in
+          grind (arith, nat_tests, differs, length-without present owner (rising_tail p present rising) (λ none. is (its ∙ none)))
+    ]
+
+-- ---- order
+
+pub rising-with : (present : List Present) (new : Present) → HasRisingOwners present → HasRisingOwners (with_presence present new)
+rising-with [] new rising = λ i j d before within. absurd (omega arith)
+rising-with (p ∷ present) new rising =
+    let R : Present → Present → Type 0 = λ x y. x.owner.0 < y.owner.0 in
+    let head : IsBelow p.owner.0 present = rising_head p present rising in
+    with_cases HasRisingOwners p present new
+    (λ before. AllPairs-cons R new (p ∷ present) (All-cons (R new) p present before (below_lesser p.owner.0 new.owner.0 present before head)) rising)
+    (λ same. AllPairs-cons R new present (λ k d within. omega (arith, same, head k d within)) (rising_tail p present rising))
+    (λ after. AllPairs-cons R p (with_presence present new) (all-with (R p) present new after head)
+    (rising-with present new (rising_tail p present rising)))
+
+pub rising-without : (present : List Present) (owner : ℕ) → HasRisingOwners present → HasRisingOwners (without_owner present owner)
+rising-without present owner rising = AllPairs-filter (λ (x y : Present). x.owner.0 < y.owner.0) _ present rising
+
+-- ---- calls
+
+pub rising-by : (present : List Present) (call : Call) → HasRisingOwners present → HasRisingOwners (present_by present call)
+rising-by present (Arrive owner stay) rising = rising-with present _ rising
+rising-by present (Ask owner stay tuple) rising = rising-with present _ rising
+rising-by present (Depart owner stay) rising = rising-without present owner.0 rising
+rising-by present (Pli moment) rising = rising
+rising-by present (Tick moment) rising = rising
+
+pub stays-by : (present : List Present) (call : Call) → HasStay call → HasStays present → HasStays (present_by present call)
+stays-by present (Arrive owner stay) from stays = all-with (λ (p : Present). 1 ≤ p.stay) present _ from stays
+stays-by present (Ask owner stay tuple) from stays = all-with (λ (p : Present). 1 ≤ p.stay) present _ from stays
+stays-by present (Depart owner stay) from stays = All-filter _ (λ (p : Present). 1 ≤ p.stay) present stays
+stays-by present (Pli moment) from stays = stays
+stays-by present (Tick moment) from stays = stays
+
+-- an arrive that isn't refused is of an owner that isn't present, and there is room for it
+pub absent-arrive : (present : List Present) (owner : Ssrc) (stay : ℕ) → HasStays present → refusal_of present (Arrive owner stay) ≡ None
+    → presence_of present owner.0 ≡ None
+absent-arrive present owner stay stays accepted = absent_without_stay present owner.0 stays (grind (arith, nat_tests, accepted))
+
+pub room-arrive : (present : List Present) (owner : Ssrc) (stay : ℕ) → refusal_of present (Arrive owner stay) ≡ None
+    → length present < PRESENT_LIMIT
+room-arrive present owner stay accepted = grind (arith, nat_tests, accepted)
+
+-- a request or a depart that isn't refused names the stay with which its owner is present
+pub stay_in-request : (present : List Present) (owner : Ssrc) (stay : ℕ) (tuple : Tuple) → refusal_of present (Ask owner stay tuple) ≡ None
+    → stay_in present owner.0 ≡ stay
+stay_in-request present owner stay tuple accepted = grind (arith, nat_tests, accepted)
+
+pub stay_in-depart : (present : List Present) (owner : Ssrc) (stay : ℕ) → refusal_of present (Depart owner stay) ≡ None
+    → stay_in present owner.0 ≡ stay
+stay_in-depart present owner stay accepted = grind (arith, nat_tests, accepted)
+
+pub length-arrive : (present : List Present) (owner : Ssrc) (stay : ℕ) → HasStays present → refusal_of present (Arrive owner stay) ≡ None
+    → length (present_by present (Arrive owner stay)) ≡ length present + 1
+length-arrive present owner stay stays accepted = length-with_absent present _ (absent-arrive present owner stay stays accepted)
+
+pub length-request : (present : List Present) (owner : Ssrc) (stay : ℕ) (tuple : Tuple) → HasRisingOwners present → 1 ≤ stay
+    → refusal_of present (Ask owner stay tuple) ≡ None → length (present_by present (Ask owner stay tuple)) ≡ length present
+length-request present owner stay tuple rising from accepted =
+    let is : stay_in present owner.0 ≡ stay = stay_in-request present owner stay tuple accepted in
+    length-with_present present _ rising (present_with_stay present owner.0 (omega (arith, is, from)))
+
+pub length-depart : (present : List Present) (owner : Ssrc) (stay : ℕ) → HasRisingOwners present → 1 ≤ stay
+    → refusal_of present (Depart owner stay) ≡ None → length (present_by present (Depart owner stay)) + 1 ≡ length present
+length-depart present owner stay rising from accepted =
+    let is : stay_in present owner.0 ≡ stay = stay_in-depart present owner stay accepted in
+    length-without present owner.0 rising (present_with_stay present owner.0 (omega (arith, is, from)))
+
+pub few-by : (present : List Present) (call : Call) → HasRisingOwners present → HasStays present → HasStay call → refusal_of present call ≡ None
+    → length present ≤ PRESENT_LIMIT → length (present_by present call) ≤ PRESENT_LIMIT
+few-by present (Arrive owner stay) rising stays from accepted few =
+    omega (arith, length-arrive present owner stay stays accepted, room-arrive present owner stay accepted)
+few-by present (Ask owner stay tuple) rising stays from accepted few = omega (arith, length-request present owner stay tuple rising from accepted, few)
+few-by present (Depart owner stay) rising stays from accepted few = omega (arith, length-depart present owner stay rising from accepted, few)
+few-by present (Pli moment) rising stays from accepted few = few
+few-by present (Tick moment) rising stays from accepted few = few

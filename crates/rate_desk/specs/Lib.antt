@@ -1,0 +1,11 @@
+pub mod Presence
+pub mod Plis
+pub mod Trace
+pub mod Schedule
+pub mod Answer
+pub mod History
+pub mod Effect
+pub mod Kept
+pub mod Standing
+pub mod State
+pub mod Held

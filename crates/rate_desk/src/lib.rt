@@ -1,0 +1,24 @@
+//! One publisher's desk: who may ask it for rates, what they ask for, and what is announced to them (RFC
+//! 5104, sections 3.5.4 and 4.2); and when wishes for a picture are sent on to it (RFC 4585, section
+//! 6.3.1).
+//!
+//! Read `desk` first. A desk records each call with its answer; what it holds and announces is a function
+//! of that history. Nothing reads a clock: moments are handed in. No call of a made desk allocates.
+#![tactic(auto)]
+
+mod call;
+mod desk;
+mod effect;
+mod kept;
+pub mod laws;
+mod pli;
+mod presence;
+mod standing;
+
+pub use call::{Answer, Call, Entry};
+pub use desk::{Desk, HistoryFull, Reply};
+pub use effect::Effect;
+pub use presence::PRESENT_LIMIT;
+
+#[cfg(test)]
+mod tests;
