@@ -53,7 +53,8 @@ impl Bounds {
 
     /// No live request: nothing is announced, and every pair is permitted.
     pub fn new() -> Self
-        ensures { result.rows ≡ [] }
+        ensures rows { result.rows ≡ [] }
+        ensures steps { result.steps ≡ 0 }
     {
         Bounds {
             rows: ArrayVec::new(),

@@ -312,6 +312,7 @@ impl Room {
         self.moment = moment;
         Ok(())
     }
+
     /// A packet of the endpoint came, with this sequence number and timestamp, at the room's moment. Does
     /// nothing where the endpoint is absent, or there is none of this number. The first
     /// `COUNTED_PACKETS` of a presence count.

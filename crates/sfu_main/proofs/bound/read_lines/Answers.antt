@@ -11,7 +11,7 @@ loop-line-init c = record {
   counted = refl;
   left = (
     [],
-    no_rows c.new-bounds.result.rows c.new-bounds.ensures,
+    no_rows c.new-bounds.result.rows c.new-bounds.ensures.rows,
     λ left lines. subst (λ (ls : List (List ℕ)). LinesLeave c.args.media.0 1 ls [] left)
         (ap (map (λ x. x.now)) c.deref-line-items.ensures.value ∙ c.in_ok-lines.ensures) lines,
   );
