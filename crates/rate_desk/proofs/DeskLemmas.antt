@@ -1,23 +1,21 @@
 -- What a desk holds behind a call that it recorded.
-use Rattle.std.proofs.Common.{◌≡◌, ℕ, ◌+◌, ◌-◌, ◌<◌, ◌≤◌, Bool, true, false, cond, List, [], ◌∷◌, ◌++◌, length, drop, inl, inr, Option, None, Some, refl, sym, ap, subst, ◌∙◌, arith}
+use Rattle.std.proofs.Common.{◌≡◌, ℕ, ◌+◌, ◌≤◌, Bool, true, false, cond, List, [], ◌∷◌, ◌++◌, length, drop, inl, inr, Option, None, Some, refl, sym, ap, subst, ◌∙◌, arith}
 use Rattle.std.specs.Prelude.{fold}
 use Rattle.std.proofs.lemmas.Bool.{cases_lt}
 use Rattle.std.proofs.lemmas.List.{length_push}
 use Rattle.circular_buffer.specs.Buffer.{keep_last}
-use Rattle.rate_cert.specs.declared.request.Request.{Request}
 use Rattle.rate_desk.specs.declared.call.Call.{Call}
 use Rattle.rate_desk.specs.declared.call.Answer.{Answer}
 use Rattle.rate_desk.specs.declared.call.Answer.TheVariants.{Done}
 use Rattle.rate_desk.specs.declared.call.Entry.{Entry}
 use Rattle.rate_desk.specs.declared.presence.Present.{Present}
 use Rattle.rate_desk.specs.Presence.{HasRisingOwners, live_requests, present_by, refusal_of}
-use Rattle.rate_desk.specs.Plis.{Gate, goes_up, sends_at, gate_by, gate_after}
-use Rattle.rate_desk.specs.Trace.{empty_base, is_done, present_behind, present_after, live_after}
+use Rattle.rate_desk.specs.Plis.{sends_at, gate_by}
+use Rattle.rate_desk.specs.Trace.{empty_base, is_done, present_behind, present_after}
 use Rattle.rate_desk.specs.Answer.{IsDone, IsAnswerOr, IsAnswerTo}
 use Rattle.rate_desk.specs.History.{IsOverLimit, present_with}
 use Rattle.rate_desk.specs.Kept.{KeepsRows}
 use Rattle.rate_desk.specs.Standing.{Stand, IsTakenIn, IsAnswered, IsAnsweredOr}
-use Rattle.rate_desk.specs.State.{DeskState, HoldsLegalDesk}
 use Rattle.rate_desk.specs.Held.{IsHeld}
 use Rattle.rate_desk.proofs.PresenceLemmas.{rising-by}
 use Rattle.rate_desk.proofs.GateLemmas.{goes_up-is}

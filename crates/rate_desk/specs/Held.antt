@@ -4,7 +4,7 @@ use Rattle.rate_desk.specs.declared.call.Entry.{Entry}
 use Rattle.rate_desk.specs.Plis.{gate_after}
 use Rattle.rate_desk.specs.Trace.{empty_base, present_after}
 use Rattle.rate_desk.specs.Standing.{Stand}
-use Rattle.rate_desk.specs.State.{DeskState, HoldsLegalDesk}
+use Rattle.rate_desk.specs.State.{HoldsLegalDesk}
 
 -- who is present and the wishes for a picture are those of the trace
 pub record IsHeld (gap limit : ℕ) (history : List Entry) (s : Stand) : Type 0 where

@@ -1,5 +1,5 @@
 -- When wishes for a picture are sent upstream (RFC 4585, section 6.3.1; the gap is this project's own).
-use Rattle.std.specs.Prelude.{◌≡◌, ◌==◌, ℕ, ◌+◌, ◌-◌, ◌<◌, nat_le, max, Bool, true, false, not, ◌&&◌, ◌||◌, List, [], ◌∷◌, ◌++◌, length, fold, take, Option, None, Some, if◌then◌else◌}
+use Rattle.std.specs.Prelude.{ℕ, ◌+◌, ◌-◌, nat_le, max, Bool, true, false, not, ◌&&◌, ◌||◌, List, length, fold, take, Option, None, Some, if◌then◌else◌}
 use Rattle.std.specs.Option.{option_map_or}
 use Rattle.std.specs.List.{list_any, after_last}
 use Rattle.rate_desk.specs.declared.call.Call.{Call}

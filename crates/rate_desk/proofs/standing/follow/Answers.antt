@@ -17,10 +17,10 @@ pub returns-in-Request-clause-live : goal.returns-in-Request-clause-live
 returns-in-Request-clause-live c =
     let present = c.args.present.now in
     let ok = never_full present c.in-Request.owner c.in-Request.stay c.in-Request.tuple c.args.bounds.now.rows c.set.result
-        c.requires.few c.requires.live
-        (subst HasStay c.in-Request.is c.requires.stays)
-        (subst (λ call. refusal_of present call ≡ None) c.in-Request.is c.requires.accepted)
-        c.set.ensures.full in
+    c.requires.few c.requires.live
+    (subst HasStay c.in-Request.is c.requires.stays)
+    (subst (λ call. refusal_of present call ≡ None) c.in-Request.is c.requires.accepted)
+    c.set.ensures.full in
     let put = from_ok c.set.result _ ok c.set.ensures.put in
     let puts = subst (λ rows. Puts rows c.set.new.self.rows c.in-Request.owner.0 (Some c.in-Request.tuple)) c.requires.live put in
     live-requested present c.set.new.self.rows c.in-Request.owner c.in-Request.stay c.in-Request.tuple c.requires.rising

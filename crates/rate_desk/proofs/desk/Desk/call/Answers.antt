@@ -1,4 +1,4 @@
-use Rattle.std.proofs.Common.{◌≡◌, ◌≢◌, List, sym, subst, ◌∙◌}
+use Rattle.std.proofs.Common.{◌≢◌, List, sym, subst, ◌∙◌}
 use Rattle.std.specs.Prelude.{AllPairs}
 use Rattle.rate_cert.specs.declared.request.Request.{Request}
 use Rattle.bounding_set.specs.Rows.{HasRisingOwners}

@@ -1,5 +1,4 @@
-use Rattle.std.proofs.Common.{◌≡◌, List, ◌∷◌, ◌++◌, [], sym, ap, subst, ◌∙◌}
-use Rattle.rate_desk.specs.declared.call.Entry.{Entry}
+use Rattle.std.proofs.Common.{◌≡◌, ◌∷◌, ◌++◌, [], sym, ap, subst, ◌∙◌}
 use Rattle.rate_desk.specs.Trace.{empty_base}
 use Rattle.rate_desk.specs.History.{IsOverLimit}
 use Rattle.rate_desk.specs.State.{DeskState}

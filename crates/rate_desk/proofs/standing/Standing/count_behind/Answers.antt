@@ -1,4 +1,4 @@
-use Rattle.std.proofs.Common.{◌≡◌, sym, ap, ◌∙◌, length}
+use Rattle.std.proofs.Common.{sym, ap, ◌∙◌, length}
 use Rattle.rate_desk.specs.History.{present_with}
 use Rattle.rate_desk.specs.Standing.{Stand, count_by}
 use Rattle.rate_desk.specs.Presence.{refusal_of}
