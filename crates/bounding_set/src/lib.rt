@@ -23,6 +23,8 @@ pub use bounds::Bounds;
 pub use rows::{Full, LIVE_LIMIT};
 
 #[cfg(test)]
+mod examples;
+#[cfg(test)]
 mod implies_tests;
 #[cfg(test)]
 mod in_place_tests;
