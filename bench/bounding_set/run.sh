@@ -1,6 +1,7 @@
 #!/usr/bin/env bash
-# Prints the size of Bounds and the time of one Bounds::set, for 1, 4, 16 and 64 live requests.
-# Wants rt on the path. An argument, if any, is how many calls are timed at once, about.
+# Prints the size of Bounds and the time of one change of the live requests, at 1, 4, 16 and 64 of them: a whole
+# Bounds::set, the envelope changed in place alone, and the plain walk alone.
+# Wants rt on the path. An argument, if any, is how many changes are timed at once, about.
 set -euo pipefail
 
 here=$(cd "$(dirname "$0")" && pwd)
@@ -19,6 +20,14 @@ cp "$top/HANDLES" "$work/"
     grep -E '^(tmmbr_tuple|rate_cert|bounding_set):' "$top/crates.txt"
     echo 'bounding_bench: bounding_set rate_cert tmmbr_tuple arrayvec thiserror'
 } > "$work/crates.txt"
+
+# The copy of bounding_set shows two parts of it alone.
+copy=$work/crates/bounding_set
+cp "$here/in_place.rattle" "$copy/src/in_place.rt"
+cp "$here/plain.rattle" "$copy/src/plain.rt"
+printf '\npub mod in_place;\npub mod plain;\n' >> "$copy/src/lib.rt"
+mkdir -p "$copy/proofs/plain/replace_row"
+cp "$here/replace_row.answers" "$copy/proofs/plain/replace_row/Answers.antt"
 
 # rt run proves the program and builds it with LLVM, as the file out/bounding_bench.
 if ! (cd "$work/crates/bounding_bench" && rt run -- 1) > "$work/log" 2>&1; then

@@ -7,7 +7,7 @@ use Rattle.std.proofs.lemmas.Bool.{cases_lt, cases_eq}
 use Rattle.std.proofs.lemmas.List.{get_or_default}
 use Rattle.std.proofs.lemmas.List.Edits.{length-remove, get_or-remove_below, get_or-remove_above}
 use Rattle.std.proofs.lemmas.List.Quantifiers.{all_pairs_remove}
-use Rattle.std.proofs.lemmas.List.Elements.{All-nil, All-cons, All-tail, All-take, All-drop, All-append}
+use Rattle.std.proofs.lemmas.List.Elements.{at_from_Contains, All-nil, All-cons, All-tail, All-take, All-drop, All-append}
 use Rattle.tmmbr_tuple.specs.Tuple.{rate_of}
 use Rattle.tmmbr_tuple.specs.RatePair.{RatePair, Permits}
 use Rattle.rate_cert.specs.declared.request.Request.{Request}
@@ -244,3 +244,23 @@ module _ (gone : Request) (rows lines : List Request) (place : ℕ) (envelope : 
     least_owner = λ k d below. All-tail (λ y. HasSameLine (get_or others k d) y → (get_or others k d).owner.0 ≤ y.owner.0) gone rows
         (of_others (λ x. All (λ y. HasSameLine x y → x.owner.0 ≤ y.owner.0) (gone ∷ rows)) envelope.least_owner k d below);
   }
+
+-- a line stands where those of less overhead end
+pub StandsAt-overhead : (lines : List Request) (x : Request) (at : ℕ) → IsHull lines
+    → AllWithin (λ l. l.tuple.overhead < x.tuple.overhead) lines 0 at
+    → AllWithin (λ l. x.tuple.overhead ≤ l.tuple.overhead) lines at (length lines)
+    → Contains lines x → StandsAt lines x at
+StandsAt-overhead lines x at hull before behind is =
+    let found = at_from_Contains lines x is in
+    let k = found.0 in
+    let same : (get_or lines k x).tuple.overhead ≡ x.tuple.overhead = ap (λ (r : Request). r.tuple.overhead) (found.2 x) in
+    let place : k ≡ at = elim (cases_lt k at) [
+      | inl less ↦ absurd (omega (arith, before k x (omega arith) less, same))
+      | inr no_less ↦
+          elim (cases_lt at k) [
+            | inl more ↦
+                absurd (omega (arith, (hull.crosses at k x more found.1).overhead, behind at x (omega arith) (omega (arith, more, found.1)), same))
+            | inr no_more ↦ omega (arith, no_less, no_more)
+          ]
+    ] in
+    subst (StandsAt lines x) place (record { in_range = found.1; is = found.2 })

@@ -46,7 +46,7 @@ pub fn splice(lines: &mut ArrayVec<Request, MAX_REQUESTS>, x: &Request, count: &
 }
 
 /// How many lines have less overhead than x.
-fn lines_before(lines: &[Request], x: &Request) -> usize
+pub fn lines_before(lines: &[Request], x: &Request) -> usize
     requires { IsHull lines.now }
     ensures within { result ≤ length lines.now }
     ensures before { AllWithin (λ l. l.tuple.overhead < x.now.tuple.overhead) lines.now 0 result }

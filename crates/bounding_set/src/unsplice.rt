@@ -3,12 +3,12 @@
 ghost use Rattle.std.specs.Prelude.{◌≡◌, ◌≢◌, ◌+◌, ◌-◌, ◌*◌, ◌^◌, ◌<◌, ◌≤◌, ◌↔◌, ◌∷◌, length, slice_index_or, All, Contains, IsTrue, false, None, Some, IfSome, IfNone};
 ghost use Rattle.rate_cert.specs.declared.request.Request.{Request as RateRequest};
 ghost use Rattle.bounding_set.specs.Canonical.{StopsMedia};
-ghost use Rattle.bounding_set.specs.Envelope.{IsEnvelopeOf};
+ghost use Rattle.bounding_set.specs.Envelope.{IsEnvelopeOf, IsHull};
 ghost use Rattle.bounding_set.specs.Gap.{IsEnvelopeButAt};
 ghost use Rattle.bounding_set.specs.Kept.{StandsAt};
 ghost use Rattle.bounding_set.specs.Rows.{HasRisingOwners};
 
-use crate::splice::splice;
+use crate::splice::{lines_before, splice};
 use arrayvec::ArrayVec;
 use rate_cert::{MAX_REQUESTS, Request};
 
@@ -46,10 +46,16 @@ pub fn unsplice(
 
 /// Where the request stands among the lines; `None` where it is no line.
 fn place_of_line(lines: &[Request], request: &Request) -> Option<usize>
+    requires { IsHull lines.now }
     ensures found { IfSome result (StandsAt lines.now request.now) }
     ensures absent { IfNone result (¬ Contains lines.now request.now) }
 {
-    lines.iter().position(|line| line == request)
+    let at = lines_before(lines, request);
+    if at < lines.len() && lines[at] == *request {
+        Some(at)
+    } else {
+        None
+    }
 }
 
 /// Puts in the rows whose overhead lies between those of the line before this place and of the line at it.

@@ -1,25 +1,29 @@
-use Rattle.std.proofs.Common.{rules, ◌≡◌, ◌≢◌, ◌<◌, Option, Some, None, length, ℕ, List, ◌∙◌}
+use Rattle.std.proofs.Common.{◌<◌, length, sym, ◌∙◌, arith}
 use Rattle.std.proofs.lemmas.Bool.{false≢true}
-use borrow.Author.Tests.{tests}
-use Rattle.std.specs.Prelude.{IfSome}
-use Rattle.std.specs.Option.{MatchOption}
-use Rattle.std.specs.List.{HoldsAt, AllWithin}
-use Rattle.std.proofs.lemmas.Iterator.{IsFirst-from_position, YieldsList-from_slice}
-use Rattle.rate_cert.specs.declared.request.Request.{Request}
+use Rattle.std.proofs.lemmas.List.{get_or_read}
 use Rattle.rate_cert.proofs.RequestLemmas.{Decides-request_eq}
-use Rattle.bounding_set.specs.Kept.{StandsAt}
+use Rattle.bounding_set.proofs.UnspliceLemmas.{StandsAt-overhead}
 use Rattle.bounding_set.proofs.unsplice.place_of_line.Goals as goal
+use Rattle.bounding_set.proofs.unsplice.place_of_line.Goals.{else-at-lines-via-then-at-lines+else-eq, else-at-lines-via-else-at-lines}
 
-found_there : (r : Option ℕ) (lines : List Request) (x : Request) (No : Request → Type 0)
-    → MatchOption r (AllWithin No lines 0 (length lines)) (λ i. (i < length lines) × HoldsAt (λ l. l ≡ x) lines i × AllWithin No lines 0 i)
-    → IfSome r (StandsAt lines x)
-found_there None lines x No first = tt
-found_there (Some i) lines x No first = record { in_range = first.0; is = first.1 }
+pub returns-then-eq-clause-found : goal.returns-then-eq-clause-found
+returns-then-eq-clause-found c =
+    let lines = c.args.lines.now in
+    let at = c.lines_before-at.result in
+    let below : at < length lines = omega (arith, c.if-at-lines.true) in
+    let same = (Decides-request_eq c.index-lines-at.result c.args.request.now).0 (sym c.eq.ensures ∙ c.if-eq.true) in
+    record { in_range = below; is = λ d. sym (get_or_read lines at c.index-lines-at.result below c.index-lines-at.is d) ∙ same }
 
-pub returns-clause-found : goal.returns-clause-found
-returns-clause-found c =
+pub returns-else-at-lines-clause-absent : goal.returns-else-at-lines-clause-absent
+returns-else-at-lines-clause-absent c =
+    let lines = c.args.lines.now in
     let x = c.args.request.now in
-    found_there c.position.result c.args.lines.now x (λ l. l ≢ x)
-    (IsFirst-from_position _ _ c.position.result (λ l. l ≡ x) (λ l. l ≢ x) c.position.ensures.ran (YieldsList-from_slice c.args.lines.now cc)
-    (λ l q called. (Decides-request_eq l.now x).0 (search (rules, tests)))
-    (λ l q called. (search rules, λ same. false≢true (search (rules, tests) ∙ (Decides-request_eq l.now x).1 same))))
+    let at = c.lines_before-at.result in
+    λ is.
+    let stands = StandsAt-overhead lines x at c.requires c.lines_before-at.ensures.before c.lines_before-at.ensures.behind is in
+    elim c.else-at-lines.branch [
+      | else-at-lines-via-then-at-lines+else-eq w ↦
+          let same = get_or_read lines at w.index-lines-at.result stands.in_range w.index-lines-at.is x ∙ stands.is x in
+          false≢true (sym w.if-eq.false ∙ w.eq.ensures ∙ (Decides-request_eq w.index-lines-at.result x).1 same)
+      | else-at-lines-via-else-at-lines w ↦ omega (arith, stands.in_range, w.if-at-lines.false)
+    ]
