@@ -5,7 +5,7 @@ ghost use Rattle.std.specs.Prelude.{◌≡◌, ◌<◌, ◌↔◌, List, map, le
 ghost use Rattle.rate_desk.specs.State.{DeskState};
 ghost use Rattle.rate_desk.specs.Shares.{words_of, calls_to, words_to, StandsIn, IsApart, AddsUp, GathersAll};
 
-use crate::call::Entry;
+use crate::call::{Answer, Call, Entry};
 use crate::desk::Desk;
 use crate::held::HeldDesk;
 use crate::house::House;
@@ -16,6 +16,7 @@ use circular_buffer::HeapCircularBuffer;
 use std::alloc::Global;
 use std::sync::Mutex;
 use std::sync::ledger::Ledger;
+use tmmbr_tuple::Tuple;
 
 impl<D: Ledger, S: SeatCalls> House<D, S> {
     /// The desks in the order of their publishers, once all threads are done. The house and the seats are
@@ -103,8 +104,59 @@ fn is_entry(history: &HeapCircularBuffer<Entry>, receipt: &Receipt) -> bool
     ensures { IsTrue result → slice_get history.now.items receipt.now.number ≡ Some (record { call = receipt.now.call; answer = receipt.now.answer }) }
 {
     match history.get(receipt.number as usize) {
-        Some(entry) => entry.call == receipt.call && entry.answer == receipt.answer,
+        Some(entry) => {
+            is_call(&entry.call, &receipt.call) && is_answer(&entry.answer, &receipt.answer)
+        },
         None => false,
+    }
+}
+
+/// Whether the two calls are one.
+fn is_call(one: &Call, other: &Call) -> bool
+    ensures { IsTrue result → one.now ≡ other.now }
+{
+    match (*one, *other) {
+        (Call::Arrive { owner: a, stay: s }, Call::Arrive { owner: b, stay: t }) => a.0 == b.0
+            && s == t,
+        (
+            Call::Request {
+                owner: a,
+                stay: s,
+                tuple: x,
+            },
+            Call::Request {
+                owner: b,
+                stay: t,
+                tuple: y,
+            },
+        ) => a.0 == b.0 && s == t && is_tuple(x, y),
+        (Call::Depart { owner: a, stay: s }, Call::Depart { owner: b, stay: t }) => a.0 == b.0
+            && s == t,
+        (Call::Pli { moment: s }, Call::Pli { moment: t }) => s == t,
+        (Call::Tick { moment: s }, Call::Tick { moment: t }) => s == t,
+        _ => false,
+    }
+}
+
+/// Whether the two tuples are one: their words are.
+fn is_tuple(one: Tuple, other: Tuple) -> bool
+    ensures { IsTrue result → one ≡ other }
+{
+    let word = one.to_word();
+    let second = other.to_word();
+    word == second
+}
+
+/// Whether the two answers are one.
+fn is_answer(one: &Answer, other: &Answer) -> bool
+    ensures { IsTrue result → one.now ≡ other.now }
+{
+    match (*one, *other) {
+        (Answer::Done { pli: p, kept: k }, Answer::Done { pli: q, kept: l }) => p == q && k == l,
+        (Answer::NotPresent(s), Answer::NotPresent(t)) => s == t,
+        (Answer::AlreadyPresent(s), Answer::AlreadyPresent(t)) => s == t,
+        (Answer::Full, Answer::Full) => true,
+        _ => false,
     }
 }
 
@@ -133,14 +185,23 @@ fn check_totals<S: SeatCalls>(
     ensures { OnOk result ((p : ℕ) (d : DeskState) → p < length desks.now → AddsUp seats.now (slice_index_or desks.now p d) p) }
 {
     for publisher in 0..desks.len() {
-        let calls = desks[publisher].history().len() as u64;
-        if calls_of(seats, publisher) != Some(calls)
-            || requested_of(seats, publisher) != Some(words[publisher])
-        {
+        if !adds_up(seats, &desks[publisher], words[publisher], publisher) {
             return Err(GatherFault::Totals(publisher));
         }
     }
     Ok(())
+}
+
+/// Whether the seats' counts of a publisher add up to its desk's calls, and to these words of its history.
+fn adds_up<S: SeatCalls>(seats: &[DeskSeat<S>], desk: &Desk, words: u128, publisher: usize) -> bool
+    requires { words ≡ words_of desk.now.history }
+    ensures { IsTrue result → AddsUp seats.now desk.now publisher }
+{
+    let calls = desk.history().len() as u64;
+    match (calls_of(seats, publisher), requested_of(seats, publisher)) {
+        (Some(made), Some(requested)) => made == calls && requested == words,
+        _ => false,
+    }
 }
 
 /// The calls to a publisher that all seats counted; `None` where they don't fit.

@@ -111,11 +111,7 @@ impl<D: Ledger, S: SeatCalls> House<D, S> {
         ensures fault { IfErr result (IsFaultOf publisher seat.old) }
         ensures unchanged { OnErr result (seat.new ≡ seat.old) }
     {
-        let call = Call::Request {
-            owner,
-            stay,
-            tuple,
-        };
+        let call = Call::Request { owner, stay, tuple };
         self.call(rt, seat, publisher, call)
     }
 
