@@ -31,4 +31,6 @@ pub use receipt::{GatherFault, HouseFault, Receipt};
 pub use seat::DeskSeat;
 
 #[cfg(test)]
+mod house_tests;
+#[cfg(test)]
 mod tests;
