@@ -3,6 +3,7 @@ pub mod LiveLemmas
 pub mod GateLemmas
 pub mod HistoryLemmas
 pub mod ScheduleLemmas
+pub mod ShareLemmas
 pub mod SinceLemmas
 pub mod RequestLemmas
 pub mod KeptLemmas

@@ -8,4 +8,5 @@ pub mod Effect
 pub mod Kept
 pub mod Standing
 pub mod State
+pub mod Shares
 pub mod Held

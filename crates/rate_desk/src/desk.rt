@@ -169,7 +169,7 @@ impl Desk {
     }
 
     /// Answers a call and records it.
-    fn call(&mut self, call: Call) -> Result<Reply, HistoryFull>
+    pub(crate) fn call(&mut self, call: Call) -> Result<Reply, HistoryFull>
         requires { HasStay call }
         ensures full { IsErr result ↔ IsOverLimit self.old.limit empty_base self.old.history call }
         ensures unchanged { OnErr result (self.new ≡ self.old) }

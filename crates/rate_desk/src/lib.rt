@@ -9,16 +9,28 @@
 mod call;
 mod desk;
 mod effect;
+mod gathering;
+mod held;
+mod house;
 mod kept;
 pub mod laws;
+mod ledger;
 mod pli;
 mod presence;
+mod receipt;
+mod seat;
 mod standing;
 
 pub use call::{Answer, Call, Entry};
 pub use desk::{Desk, HistoryFull, Reply};
 pub use effect::Effect;
+pub use house::House;
+pub use ledger::SeatCalls;
 pub use presence::PRESENT_LIMIT;
+pub use receipt::{GatherFault, HouseFault, Receipt};
+pub use seat::DeskSeat;
 
+#[cfg(test)]
+mod house_tests;
 #[cfg(test)]
 mod tests;

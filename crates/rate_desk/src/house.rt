@@ -1,0 +1,238 @@
+//! Desks under locks of their own, one for each publisher, which several threads call.
+
+ghost use Rattle.std.specs.Prelude.{◌≡◌, ◌≤◌, replicate, vec_len, IfOk};
+ghost use Rattle.rate_desk.specs.Shares.{new_seat};
+
+use crate::call::Call;
+use crate::desk::Desk;
+use crate::effect::Effect;
+use crate::held::HeldDesk;
+use crate::ledger::{SeatCalls, Tally};
+use crate::receipt::{HouseFault, Receipt};
+use crate::seat::DeskSeat;
+use std::alloc::{AllocError, Global};
+use std::sync::ledger::{Blank, Ledger, Share};
+use std::sync::{Mutex, Wait};
+use tmmbr_tuple::{Ssrc, Tuple};
+
+/// A desk for each publisher. Each call locks its publisher's desk, and inside it the tally, by which as
+/// many calls are recorded by the desks as are made by the seats.
+///
+/// `D` names the ledger of the recorded calls, `S` that of the calls made. Calls wait for other threads'
+/// calls of the same publisher.
+#[derive(Drop)]
+pub struct House<D: Ledger, S: SeatCalls> {
+    pub(crate) desks: Vec<Mutex<HeldDesk<D>>>,
+    pub(crate) tally: Mutex<Tally<D, S>>,
+    pub(crate) seats: usize,
+    pub(crate) ghost all_here: { vec_len desks ≡ S.publishers },
+}
+
+impl<D: Ledger, S: SeatCalls> House<D, S> {
+    ghost use Rattle.std.specs.Prelude.{◌≡◌, ◌<◌, ◌≤◌, replicate, IfOk, IfErr, OnOk, OnErr};
+    ghost use Rattle.rate_desk.specs.declared.call.Call.TheVariants as call;
+    ghost use Rattle.rate_desk.specs.Presence.{HasStay};
+    ghost use Rattle.rate_desk.specs.Shares.{new_seat, Counts, IsReceiptOf, IsFaultOf};
+
+    /// A house of so many publishers and seats. Each desk records calls as long as they and the present
+    /// owners together are no more than `history`, and sends PLIs upstream at least `gap` milliseconds
+    /// apart. The first ledger has a part for each publisher, the second one for each seat.
+    pub fn new(
+        alloc: Global,
+        recorded: Blank,
+        made: Blank,
+        publishers: usize,
+        seats: usize,
+        history: usize,
+        gap: u64,
+    ) -> Result<(House<D, S>, Vec<DeskSeat<S>>), AllocError>
+        requires publishers { publishers ≡ S.publishers }
+        requires recorded { (recorded.name ≡ D.name) × (recorded.parts ≡ D.parts) }
+        requires made { (made.name ≡ S.name) × (made.parts ≡ S.parts) }
+        requires parts { (publishers ≤ D.parts) × (seats ≤ S.parts) }
+        ensures seats { IfOk result (λ r. r.1.items ≡ replicate seats (new_seat publishers)) }
+    {
+        let (recorded, desk_shares) = recorded.open::<D>();
+        let (made, seat_shares) = made.open::<S>();
+        let desks = new_desks(alloc, desk_shares, publishers, history, gap)?;
+        let free = new_seats(alloc, seat_shares, publishers, seats)?;
+        let tally = Mutex::new(Tally { recorded, made });
+        Ok((
+            House {
+                desks,
+                tally,
+                seats,
+            },
+            free,
+        ))
+    }
+
+    /// How many publishers it has a desk for.
+    pub fn publishers(&self) -> usize
+        ensures { result ≡ S.publishers }
+    {
+        self.desks.len()
+    }
+
+    /// The owner comes to ask the publisher: a stay of it begins. What it answers and leaves is said at
+    /// `Desk::arrive`. A fault leaves all as it was.
+    pub fn arrive<R: Wait>(
+        &self,
+        rt: &R,
+        seat: &mut DeskSeat<S>,
+        publisher: usize,
+        owner: Ssrc,
+        stay: u64,
+    ) -> Result<(Receipt, Effect), HouseFault>
+        requires publisher { publisher < S.publishers }
+        requires stay { 1 ≤ stay }
+        ensures receipt { IfOk result (λ r. IsReceiptOf publisher (call.Arrive owner stay) seat.old r.0) }
+        ensures counted { OnOk result (Counts publisher (call.Arrive owner stay) seat.old seat.new) }
+        ensures fault { IfErr result (IsFaultOf publisher seat.old) }
+        ensures unchanged { OnErr result (seat.new ≡ seat.old) }
+    {
+        self.call(rt, seat, publisher, Call::Arrive { owner, stay })
+    }
+
+    /// The owner asks the publisher for a tuple, as `Desk::request` says. A fault leaves all as it was.
+    pub fn request<R: Wait>(
+        &self,
+        rt: &R,
+        seat: &mut DeskSeat<S>,
+        publisher: usize,
+        owner: Ssrc,
+        stay: u64,
+        tuple: Tuple,
+    ) -> Result<(Receipt, Effect), HouseFault>
+        requires publisher { publisher < S.publishers }
+        requires stay { 1 ≤ stay }
+        ensures receipt { IfOk result (λ r. IsReceiptOf publisher (call.Request owner stay tuple) seat.old r.0) }
+        ensures counted { OnOk result (Counts publisher (call.Request owner stay tuple) seat.old seat.new) }
+        ensures fault { IfErr result (IsFaultOf publisher seat.old) }
+        ensures unchanged { OnErr result (seat.new ≡ seat.old) }
+    {
+        let call = Call::Request { owner, stay, tuple };
+        self.call(rt, seat, publisher, call)
+    }
+
+    /// The owner's stay at the publisher ends, as `Desk::depart` says. A fault leaves all as it was.
+    pub fn depart<R: Wait>(
+        &self,
+        rt: &R,
+        seat: &mut DeskSeat<S>,
+        publisher: usize,
+        owner: Ssrc,
+        stay: u64,
+    ) -> Result<(Receipt, Effect), HouseFault>
+        requires publisher { publisher < S.publishers }
+        requires stay { 1 ≤ stay }
+        ensures receipt { IfOk result (λ r. IsReceiptOf publisher (call.Depart owner stay) seat.old r.0) }
+        ensures counted { OnOk result (Counts publisher (call.Depart owner stay) seat.old seat.new) }
+        ensures fault { IfErr result (IsFaultOf publisher seat.old) }
+        ensures unchanged { OnErr result (seat.new ≡ seat.old) }
+    {
+        self.call(rt, seat, publisher, Call::Depart { owner, stay })
+    }
+
+    /// Somebody wants a picture of the publisher at this moment, as `Desk::pli` says. A fault leaves all
+    /// as it was.
+    pub fn pli<R: Wait>(
+        &self,
+        rt: &R,
+        seat: &mut DeskSeat<S>,
+        publisher: usize,
+        moment: u64,
+    ) -> Result<(Receipt, Effect), HouseFault>
+        requires publisher { publisher < S.publishers }
+        ensures receipt { IfOk result (λ r. IsReceiptOf publisher (call.Pli moment) seat.old r.0) }
+        ensures counted { OnOk result (Counts publisher (call.Pli moment) seat.old seat.new) }
+        ensures fault { IfErr result (IsFaultOf publisher seat.old) }
+        ensures unchanged { OnErr result (seat.new ≡ seat.old) }
+    {
+        self.call(rt, seat, publisher, Call::Pli { moment })
+    }
+
+    /// It is this moment now, as `Desk::tick` says. A fault leaves all as it was.
+    pub fn tick<R: Wait>(
+        &self,
+        rt: &R,
+        seat: &mut DeskSeat<S>,
+        publisher: usize,
+        moment: u64,
+    ) -> Result<(Receipt, Effect), HouseFault>
+        requires publisher { publisher < S.publishers }
+        ensures receipt { IfOk result (λ r. IsReceiptOf publisher (call.Tick moment) seat.old r.0) }
+        ensures counted { OnOk result (Counts publisher (call.Tick moment) seat.old seat.new) }
+        ensures fault { IfErr result (IsFaultOf publisher seat.old) }
+        ensures unchanged { OnErr result (seat.new ≡ seat.old) }
+    {
+        self.call(rt, seat, publisher, Call::Tick { moment })
+    }
+
+    /// Locks the publisher's desk, then the tally, and makes the call.
+    fn call<R: Wait>(
+        &self,
+        rt: &R,
+        seat: &mut DeskSeat<S>,
+        publisher: usize,
+        call: Call,
+    ) -> Result<(Receipt, Effect), HouseFault>
+        requires publisher { publisher < S.publishers }
+        requires stays { HasStay call }
+        ensures receipt { IfOk result (λ r. IsReceiptOf publisher call seat.old r.0) }
+        ensures counted { OnOk result (Counts publisher call seat.old seat.new) }
+        ensures fault { IfErr result (IsFaultOf publisher seat.old) }
+        ensures unchanged { OnErr result (seat.new ≡ seat.old) }
+    {
+        let mut held = self.desks[publisher].lock(rt);
+        let mut tally = self.tally.lock(rt);
+        seat.call(&mut *held, &mut *tally, publisher, call)
+    }
+}
+
+/// A desk for each publisher, each with a part of the ledger.
+fn new_desks<D: Ledger>(
+    alloc: Global,
+    shares: Share<D>,
+    publishers: usize,
+    history: usize,
+    gap: u64,
+) -> Result<Vec<Mutex<HeldDesk<D>>>, AllocError>
+    requires parts { publishers ≤ shares.parts }
+    requires no_calls { shares.amount ≡ 0 }
+    ensures { IfOk result (λ desks. vec_len desks ≡ publishers) }
+{
+    let mut shares = shares;
+    let mut desks = Vec::with_capacity(alloc, publishers)?;
+    for _at in 0..publishers {
+        let desk = Desk::new(alloc, history, gap)?;
+        let share = shares.split_off(1, 0);
+        desks.push(Mutex::new(HeldDesk {
+            desk,
+            words: 0,
+            share,
+        }))?;
+    }
+    Ok(desks)
+}
+
+/// Seats that made no calls, each with a part of the ledger.
+fn new_seats<S: SeatCalls>(
+    alloc: Global,
+    shares: Share<S>,
+    publishers: usize,
+    seats: usize,
+) -> Result<Vec<DeskSeat<S>>, AllocError>
+    requires publishers { publishers ≡ S.publishers }
+    requires parts { seats ≤ shares.parts }
+    requires no_calls { shares.amount ≡ 0 }
+    ensures { IfOk result (λ free. free.items ≡ replicate seats (new_seat publishers)) }
+{
+    let mut shares = shares;
+    let mut free = Vec::with_capacity(alloc, seats)?;
+    for _at in 0..seats {
+        let share = shares.split_off(1, 0);
+        free.push(DeskSeat::new(alloc, publishers, share)?)?;
+    }
+    Ok(free)
+}
