@@ -6,7 +6,8 @@ ghost use Rattle.rate_desk.specs.Shares.{words_of};
 use crate::desk::Desk;
 use std::sync::ledger::{Ledger, Share};
 
-/// A desk, whose type keeps that its history is legal and its announced set the smallest; the sum of the words that its calls requested, and its share of the ledger of recorded calls.
+/// A desk, whose type keeps that its history is legal and its announced set the smallest; the sum of the
+/// words that its calls requested; and its share of the ledger of recorded calls.
 #[derive(Drop)]
 pub struct HeldDesk<D: Ledger> {
     pub desk: Desk,

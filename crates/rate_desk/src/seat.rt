@@ -30,7 +30,8 @@ impl<S: SeatCalls> Model for DeskSeat<S> {
 
     ghost view = { λ s. record { calls = s.calls.items; words = s.words.items; share = s.share.amount } };
 
-    ghost invariant = { λ s. (length s.calls.items ≡ S.publishers) × (length s.words.items ≡ S.publishers) × (s.share.parts ≡ 1) × HasSmallWords s.calls.items s.words.items };
+    ghost invariant = { λ s. (length s.calls.items ≡ S.publishers) × (length s.words.items ≡ S.publishers)
+        × (s.share.parts ≡ 1) × HasSmallWords s.calls.items s.words.items };
 }
 
 impl<S: SeatCalls> DeskSeat<S> {
