@@ -1,0 +1,27 @@
+-- The rows of a route table, and what changes make of them.
+use Rattle.std.specs.Prelude.{ℕ, nat_lt, List, [], ◌∷◌, replicate, fold, slice_set, false, if◌then◌else◌}
+use Rattle.members.specs.declared.order.Order.{Order}
+use Rattle.members.specs.declared.order.Order.TheVariants.{Arrive, Depart, Route}
+use Rattle.members.specs.declared.order.Row.{Row}
+use Rattle.routes.specs.declared.change.Change.{Change}
+
+-- nothing stands on the leg, and nothing is forwarded
+abbrev pub opening_row : Row
+opening_row = record { stay = 0; turn = 0; on = false }
+
+abbrev pub opening_rows : ℕ → List Row
+opening_rows legs = replicate legs opening_row
+
+-- the rows once the change was done
+abbrev pub changed : List Row → Change → List Row
+changed rows c = slice_set rows c.leg c.row
+
+-- the rows of so many legs after these changes
+abbrev pub rows_after : ℕ → List Change → List Row
+rows_after legs changes = fold changed (opening_rows legs) changes
+
+-- what an order changes in a table of so many legs
+abbrev pub changes_by : ℕ → Order → List Change
+changes_by legs (Arrive leg stay) = []
+changes_by legs (Depart leg stay) = []
+changes_by legs (Route leg stay turn on) = if nat_lt leg legs then record { leg = leg; row = record { stay = stay; turn = turn; on = on } } ∷ [] else []

@@ -1,0 +1,133 @@
+//! How far the publications are known: their number, and a token that stands for them.
+
+ghost use Rattle.std.specs.Prelude.{◌≡◌, ◌<◌, ◌^◌, ◌++◌, ◌∷◌, [], length, MatchBool, IfSome};
+ghost use mathlib.Core.List.{IsPrefix};
+ghost use Rattle.routes.specs.Publications.{head_of};
+
+use crate::change::Change;
+use logbook::{Gain, Offer, Plain, Play, Rule, Seen, Word};
+
+/// The rule of the book of publications.
+pub struct Law;
+
+impl Rule<[Change; 0], u64> for Law {
+    ghost use Rattle.std.specs.Prelude.{[]};
+    ghost use base.Fml.{ftrue};
+    ghost use Rattle.routes.specs.Publications.{IsCounted};
+
+    ghost holds = { λ cells log. IsCounted cells log };
+
+    ghost first = { [] };
+
+    ghost hinted = { λ n log. Unit {0} };
+
+    ghost shows = { λ log. [] };
+
+    ghost keeps = { λ names log. ftrue };
+
+    ghost moves = { λ ask before after answer. Unit {0} };
+}
+
+/// Nobody trades anything for a publication.
+pub struct Nothing;
+
+impl Gain<[Change; 0], u64> for Nothing {
+    ghost use base.Fml.{ftrue};
+
+    ghost after = { λ names about answer. ftrue };
+}
+
+/// A step that puts a publication behind all others.
+pub struct Publish;
+
+impl Play<[Change; 0], u64> for Publish {
+    ghost use Rattle.routes.specs.Publications.{Publishes};
+
+    ghost then = { Publishes };
+}
+
+impl Plain<Vec<Change>, [Change; 0], u64> for Publish {
+    ghost use Rattle.std.specs.Prelude.{None};
+
+    ghost ask = { λ changes. changes.items };
+
+    ghost state = { λ changes. None };
+}
+
+/// A beginning of the book of publications. It keeps their number alone; what they are is known to
+/// contracts.
+#[derive(Drop)]
+pub struct Mark {
+    pub(crate) count: u64,
+    pub(crate) seen: Seen<[Change; 0], u64, Law>,
+    ghost counted: { count ≡ length seen.log },
+}
+
+/// The count that the book never goes beyond.
+const MOST: u64 = 1 << 62;
+
+impl Mark {
+    /// The mark of no publication.
+    pub(crate) fn first(seen: Seen<[Change; 0], u64, Law>) -> Mark
+        requires { seen.log ≡ [] }
+        ensures { result.seen ≡ seen }
+    {
+        Mark { count: 0, seen }
+    }
+
+    /// A copy.
+    pub(crate) fn again(&self) -> Mark
+        ensures { result.seen ≡ self.now.seen }
+    {
+        Mark {
+            count: self.count,
+            seen: self.seen.again(),
+        }
+    }
+
+    /// Whether this one has no more publications than the other. Then the other begins with it.
+    pub(crate) fn begins(&self, other: &Mark) -> bool
+        requires { other.now.seen.book ≡ self.now.seen.book }
+        ensures { MatchBool result (IsPrefix self.now.seen.log other.now.seen.log) (IsPrefix other.now.seen.log self.now.seen.log) }
+    {
+        let mut both = self.seen.again();
+        both.learn(&other.seen);
+        self.count <= other.count
+    }
+
+    /// One publication more, if nobody else made one.
+    pub(crate) fn publish(
+        &self,
+        head: &Word<[Change; 0], u64, Law>,
+        changes: &Vec<Change>,
+    ) -> Option<Mark>
+        requires { head.now ≡ head_of self.now.seen.book }
+        ensures { IfSome result (λ m. (m.seen.book ≡ self.now.seen.book) × (m.seen.log ≡ self.now.seen.log ++ changes.now.items ∷ [])) }
+    {
+        if self.count >= MOST {
+            return None;
+        }
+        let mut seen = self.seen.again();
+        let mut offer: Offer<[Change; 0], u64, Law, Nothing> = seen.plain::<
+            Nothing,
+            Vec<Change>,
+            Publish,
+        >(changes);
+        let mut pen = seen.no_pen();
+        let count = self.count;
+        let found = head.compare_exchange::<Publish, Nothing>(
+            count,
+            count + 1,
+            &mut seen,
+            &mut offer,
+            &mut pen,
+        );
+        if found != count {
+            return None;
+        }
+        Some(Mark {
+            count: count + 1,
+            seen,
+        })
+    }
+}

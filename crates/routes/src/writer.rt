@@ -1,0 +1,201 @@
+//! The writer of the route table: it notes changes, and publishes them all at once.
+
+ghost use Rattle.std.specs.Prelude.{◌≡◌, ◌++◌, ◌∷◌, [], drop};
+ghost use Rattle.routes.specs.Publications.{head_of};
+ghost use Rattle.routes.specs.Views.{IsAhead, IsNext};
+
+use crate::change::Change;
+use crate::mark::{Law, Mark};
+use crate::note::RouteNote;
+use crate::rule::{Naming, Published};
+use crate::table::{Batch, Table};
+use core::mem::{replace, replace_with};
+use left_right::writer::Writer;
+use logbook::Word;
+use members::{Order, Row};
+use std::alloc::Global;
+use std::marker::Model;
+use std::sync::Wait;
+use std::thread;
+use thiserror::Error;
+
+/// There is no memory for one change more.
+#[derive(Clone, Copy, Debug, PartialEq, Eq, Error)]
+#[error("no memory")]
+pub struct NoMemory;
+
+pub(crate) type TableWriter<J> = Writer<Table, Batch, (), Published<J>>;
+
+/// The one writer. It can't be let go, since that waits for the readers: end it by `end`.
+pub struct RouteWriter<J: Naming> {
+    writer: TableWriter<J>,
+    head: Word<[Change; 0], u64, Law>,
+    mark: Mark,
+    noted: Vec<Change>,
+    legs: u16,
+    alloc: Global,
+}
+
+impl<J: Naming> Model for RouteWriter<J> {
+    ghost use Rattle.std.specs.Prelude.{◌≡◌, drop};
+    ghost use Rattle.routes.specs.Publications.{changes_of, head_of};
+    ghost use Rattle.routes.specs.Views.{WriterView, IsAhead};
+
+    ghost Value = { WriterView };
+
+    ghost view = { λ w. record { published = changes_of w.mark.seen.log; noted = w.noted.items } };
+
+    ghost invariant = { λ w. (w.legs ≡ J.legs) × (w.head ≡ head_of J.book) × (w.mark.seen.book ≡ J.book) × IsAhead J.book J.legs w.mark.seen.log (drop w.writer.behind w.writer.log.items) w.writer.desk.shown.value };
+}
+
+impl<J: Naming> RouteWriter<J> {
+    ghost use Rattle.std.specs.Prelude.{◌≡◌, ◌++◌, [], drop, OnOk, OnErr};
+    ghost use Rattle.routes.specs.Rows.{changes_by};
+    ghost use Rattle.routes.specs.Publications.{changes_of, head_of};
+    ghost use Rattle.routes.specs.Views.{IsAhead, IsNext};
+
+    /// A writer that has noted nothing.
+    pub(crate) fn new(
+        alloc: Global,
+        writer: TableWriter<J>,
+        head: Word<[Change; 0], u64, Law>,
+        mark: Mark,
+        legs: u16,
+    ) -> RouteWriter<J>
+        requires legs { legs ≡ J.legs }
+        requires head { head ≡ head_of J.book }
+        requires book { mark.seen.book ≡ J.book }
+        requires ahead { IsAhead J.book J.legs mark.seen.log (drop writer.behind writer.log.items) writer.desk.shown.value }
+        ensures published { result.published ≡ changes_of mark.seen.log }
+        ensures noted { result.noted ≡ [] }
+    {
+        RouteWriter {
+            writer,
+            head,
+            mark,
+            noted: Vec::new(alloc),
+            legs,
+            alloc,
+        }
+    }
+
+    /// Notes a `Route` of a leg of the table, to be published. Any other order is Ok and notes nothing.
+    /// Refused where no memory is left; then nothing is noted.
+    pub fn change(&mut self, order: &Order) -> Result<(), NoMemory>
+        ensures published { self.new.published ≡ self.old.published }
+        ensures ok { OnOk result (self.new.noted ≡ self.old.noted ++ changes_by J.legs order.now) }
+        ensures err { OnErr result (self.new.noted ≡ self.old.noted) }
+    {
+        match *order {
+            Order::Route {
+                leg,
+                stay,
+                turn,
+                on,
+            } => {
+                if leg >= self.legs {
+                    return Ok(());
+                }
+                let row = Row { stay, turn, on };
+                self.noted.push(Change { leg, row }).map_err(|_| NoMemory)
+            }
+            Order::Arrive { .. } | Order::Depart { .. } => Ok(()),
+        }
+    }
+
+    /// Publishes all that was noted at once, and gives the note of all that is then published. It waits
+    /// for readers that are at the rows from before the last publication. It is not refused: where no
+    /// memory is left it waits for some.
+    pub fn publish<R: Wait>(&mut self, rt: &R) -> RouteNote<J>
+        ensures published { self.new.published ≡ self.old.published ++ self.old.noted }
+        ensures noted { self.new.noted ≡ [] }
+        ensures note { result ≡ self.new.published }
+    {
+        let changes = replace(&mut self.noted, Vec::new(self.alloc));
+        let mark = advance(rt, &self.head, &self.mark, &changes);
+        let before = replace(&mut self.mark, mark.again());
+        let batch = Batch { changes, mark };
+        replace_with(
+            &mut self.writer,
+            batch,
+            |writer: TableWriter<J>, batch: Batch| -> (TableWriter<J>, ())
+                requires { IsNext J.book before.seen.log batch × IsAhead J.book J.legs before.seen.log (drop writer.behind writer.log.items) writer.desk.shown.value }
+                ensures { IsAhead J.book J.legs batch.mark.seen.log (drop result.0.behind result.0.log.items) result.0.desk.shown.value }
+            { (show(rt, writer, &before, batch), ()) },
+        );
+        self.note()
+    }
+
+    /// The note of all that is published.
+    pub fn note(&self) -> RouteNote<J>
+        ensures { result ≡ self.now.published }
+    {
+        RouteNote::of(&self.mark)
+    }
+
+    /// Waits for the readers, and lets the table go. From then on no reader gets a view.
+    pub fn end<R: Wait>(self, rt: &R) {
+        let RouteWriter {
+            writer,
+            head: _,
+            mark: _,
+            noted: _,
+            legs: _,
+            alloc: _,
+        } = self;
+        drop(writer.take(rt));
+    }
+}
+
+/// Makes the publication once nobody else makes one. Nobody does: the word is the writer's alone.
+fn advance<R: Wait>(
+    rt: &R,
+    head: &Word<[Change; 0], u64, Law>,
+    mark: &Mark,
+    changes: &Vec<Change>,
+) -> Mark
+    requires { head.now ≡ head_of mark.now.seen.book }
+    ensures book { result.seen.book ≡ mark.now.seen.book }
+    ensures log { result.seen.log ≡ mark.now.seen.log ++ changes.now.items ∷ [] }
+{
+    for _ in rt.forever() {
+        if let Some(next) = mark.publish(head, changes) {
+            return next;
+        }
+        thread::yield_now();
+    }
+    unreachable!()
+}
+
+/// Puts the batch behind what the table has still to take in, once there is memory for it.
+fn queue<J: Naming, R: Wait>(rt: &R, writer: &mut TableWriter<J>, batch: Batch)
+    ensures desk { writer.new.desk ≡ writer.old.desk }
+    ensures pending { drop writer.new.behind writer.new.log.items ≡ drop writer.old.behind writer.old.log.items ++ batch ∷ [] }
+{
+    let mut batch = batch;
+    for _ in rt.forever() {
+        match writer.append(batch) {
+            Ok(()) => return,
+            Err(back) => batch = back,
+        }
+        thread::yield_now();
+    }
+    unreachable!()
+}
+
+/// Shows readers the rows after the batch, which follows the mark.
+fn show<J: Naming, R: Wait>(
+    rt: &R,
+    writer: TableWriter<J>,
+    before: &Mark,
+    batch: Batch,
+) -> TableWriter<J>
+    requires next { IsNext J.book before.now.seen.log batch }
+    requires ahead { IsAhead J.book J.legs before.now.seen.log (drop writer.behind writer.log.items) writer.desk.shown.value }
+    ensures ahead { IsAhead J.book J.legs batch.mark.seen.log (drop result.behind result.log.items) result.desk.shown.value }
+{
+    let mut writer = writer;
+    queue(rt, &mut writer, batch);
+    let (writer, _shown) = writer.publish_as::<Published<J>, R>(rt);
+    writer
+}
