@@ -4,5 +4,5 @@ use Rattle.routes.proofs.tests.readers_take_what_was_published.Given as goal
 abbrev pub ghosts-take_published : goal.ghosts-take_published
 ghosts-take_published g a = record {
   book = a.blank.book;
-  legs = a.blank.legs
+  legs = a.blank.legs;
 }
