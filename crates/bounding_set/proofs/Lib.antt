@@ -15,6 +15,7 @@ pub mod StopScans
 pub mod StopLemmas
 pub mod KeptLemmas
 pub mod ImpliedLemmas
+pub mod NeighbourLemmas
 pub mod CertificateLemmas
 pub mod SplicedLemmas
 pub mod UnspliceLemmas

@@ -1,6 +1,6 @@
 -- How the entries of a certificate stand for requests.
-use Rattle.std.specs.Prelude.{◌≡◌, ℕ, ◌*◌, ◌<◌, ◌≤◌, List, length, map, All, slice_index_or}
-use Rattle.std.specs.List.{HoldsAt}
+use Rattle.std.specs.Prelude.{◌≡◌, ◌==◌, ℕ, ◌*◌, ◌<◌, ◌≤◌, Bool, List, length, map, All, slice_index_or}
+use Rattle.std.specs.List.{HoldsAt, list_any}
 use Rattle.tmmbr_tuple.specs.Tuple.{rate_of}
 use Rattle.tmmbr_tuple.specs.RatePair.{RatePair, pair_of}
 use Rattle.rate_cert.specs.declared.request.Request.{Request}
@@ -8,7 +8,6 @@ use Rattle.rate_cert.specs.declared.certificate.Kept.{Kept}
 use Rattle.rate_cert.specs.Choice.{chosen_requests}
 use Rattle.rate_cert.specs.Certificate.{places_of}
 use Rattle.bounding_set.specs.Certificate.{End, Listed}
-use Rattle.bounding_set.specs.declared.certificate.ListedLine.{ListedLine}
 use Rattle.bounding_set.specs.declared.line_end.LineEnd.{LineEnd}
 
 -- the packet rate that a value of the program stands for
@@ -40,6 +39,12 @@ listed_at rows d place = record { place = place; overhead = (slice_index_or rows
 abbrev pub listed_of : List Request → Request → List Kept → List Listed
 listed_of rows d kept = map (listed_at rows d) (places_of kept)
 
--- the same as a value of the program
-abbrev pub listed_as : ListedLine → Listed
-listed_as l = record { place = l.place; overhead = l.overhead }
+-- these entries keep these requests with these places and overheads
+pub record Lists (announced : List Request) (kept : List Kept) (listed : List Listed) : Type 0 where
+  pub as_many : length listed ≡ length kept
+  pub each : (j : ℕ) (l : Listed) (k : Kept) (r : Request) → j < length kept
+      → slice_index_or listed j l ≡ record { place = (slice_index_or kept j k).place; overhead = (slice_index_or announced j r).tuple.overhead }
+
+-- just the places of the kept entries are marked
+abbrev pub IsMarked : List Kept → List Bool → Type 0
+IsMarked kept marks = (place : ℕ) (d : Bool) → place < length marks → slice_index_or marks place d ≡ list_any (λ k. k.place == place) kept

@@ -1,17 +1,17 @@
 //! The certificate for the announced set.
 
-ghost use Rattle.std.specs.Prelude.{◌≡◌, ◌==◌, ◌<◌, ◌≤◌, [], length, map, All, AllPairs, Contains, slice_index_or};
-ghost use Rattle.std.specs.List.{list_any};
+ghost use Rattle.std.specs.Prelude.{◌≡◌, ◌<◌, ◌≤◌, [], length, map, false, All, AllPairs, Contains, slice_index_or};
 ghost use Rattle.rate_cert.specs.declared.request.Request.{Request};
 ghost use Rattle.rate_cert.specs.Choice.{IsChoice, chosen_requests};
 ghost use Rattle.rate_cert.specs.Certificate.{kept_places, places_of};
 ghost use Rattle.bounding_set.specs.Rows.{HasRisingOwners};
 ghost use Rattle.bounding_set.specs.Announced.{AnnouncesList, Follows};
-ghost use Rattle.bounding_set.specs.Certificate.{pairs_from, start_end, kept_pairs, implied_above, implied_by, dropped_places};
-ghost use Rattle.bounding_set.specs.Kept.{StandsAt, KeepsRequests, pairs_of, listed_as, listed_at, listed_of};
+ghost use Rattle.bounding_set.specs.Certificate.{pairs_from, start_end, kept_pairs, implied_by, dropped_places};
+ghost use Rattle.bounding_set.specs.Kept.{StandsAt, KeepsRequests, IsMarked, pairs_of, listed_of};
 ghost use Rattle.bounding_set.specs.State.{AnnouncesFor};
 
 use crate::line_end::LineEnd;
+use crate::neighbours::implied_by;
 use crate::rows::place_of;
 use arrayvec::ArrayVec;
 use rate_cert::{Cert, Implied, Kept, MAX_REQUESTS, Request};
@@ -26,7 +26,10 @@ pub fn certify(rows: &[Request], announced: &[Request], cert: &mut Cert)
     ensures chosen { chosen_requests rows.now (kept_places cert.new) ≡ announced.now }
 {
     keep(rows, announced, &mut cert.kept);
-    imply_others(rows, cert.kept.as_slice(), &mut cert.implied);
+    let entries = cert.kept.as_slice();
+    let mut marks = [false; MAX_REQUESTS];
+    mark_kept(entries, &mut marks);
+    imply_others(rows, announced, entries, &marks, &mut cert.implied);
 }
 
 /// Keeps the announced requests, each with a pair that no other of them forbids.
@@ -97,112 +100,39 @@ fn place_in(rows: &[Request], request: &Request) -> u16
     place_of(rows, request.owner).unwrap() as u16
 }
 
+/// Marks the places of the kept entries.
+fn mark_kept(kept: &[Kept], marks: &mut [bool])
+    requires in_range { All (λ k. k.place < length marks.old) kept.now }
+    requires unmarked { All (λ mark. mark ≡ false) marks.old }
+    ensures { IsMarked kept.now marks.new }
+{
+    for entry in kept {
+        marks[usize::from(entry.place)] = true;
+    }
+}
+
 /// Says how each row that isn't kept follows from the kept ones, by rising place.
-fn imply_others(rows: &[Request], kept: &[Kept], implied: &mut ArrayVec<Implied, MAX_REQUESTS>)
+fn imply_others(
+    rows: &[Request],
+    announced: &[Request],
+    kept: &[Kept],
+    marks: &[bool],
+    implied: &mut ArrayVec<Implied, MAX_REQUESTS>,
+)
     requires within { length rows.now ≤ MAX_REQUESTS }
-    requires in_range { All (λ k. k.place < length rows.now) kept.now }
+    requires keeps { KeepsRequests rows.now announced.now kept.now }
+    requires in_order { AllPairs Follows announced.now }
+    requires room { length rows.now ≤ length marks.now }
+    requires marked { IsMarked kept.now marks.now }
     ensures { (d : Request) → implied.new.items
         ≡ map (λ place. implied_by (listed_of rows.now d kept.now) place (slice_index_or rows.now place d).tuple.overhead)
         (dropped_places (length rows.now) (places_of kept.now)) }
 {
     implied.clear();
     for (place, row) in rows.iter().enumerate() {
-        let at = place as u16;
-        if !has_place(kept, at) {
-            implied.push(implied_by(rows, kept, at, row.tuple.overhead));
+        if !marks[place] {
+            implied.push(implied_by(announced, kept, place as u16, row.tuple.overhead));
         }
-    }
-}
-
-/// Whether the row at this place is kept.
-fn has_place(kept: &[Kept], place: u16) -> bool
-    ensures { result ≡ list_any (λ k. k.place == place) kept.now }
-{
-    kept.iter().any(|k| k.place == place)
-}
-
-/// How a request follows from the first kept one, where its overhead isn't greater, or from others.
-fn implied_by(rows: &[Request], kept: &[Kept], place: u16, overhead: u16) -> Implied
-    requires { All (λ k. k.place < length rows.now) kept.now }
-    ensures { (d : Request) → result ≡ implied_by (listed_of rows.now d kept.now) place overhead }
-{
-    let [entry, behind @ ..] = kept else {
-        return Implied {
-            place,
-            a: 0,
-            b: 0,
-            p: 0,
-            q: 0,
-            r: 0,
-        };
-    };
-    let first = listed(rows, entry);
-    if overhead <= first.overhead {
-        return Implied {
-            place,
-            a: first.place,
-            b: first.place,
-            p: 1,
-            q: 0,
-            r: 1,
-        };
-    }
-    implied_above(rows, first, behind, place, overhead)
-}
-
-/// How a request of greater overhead than the first kept one follows from its two neighbours, or
-/// from the last kept one.
-fn implied_above(
-    rows: &[Request],
-    first: ListedLine,
-    behind: &[Kept],
-    place: u16,
-    overhead: u16,
-) -> Implied
-    requires in_range { All (λ k. k.place < length rows.now) behind.now }
-    requires above { first.overhead ≤ overhead }
-    ensures { (d : Request) → result ≡ implied_above place overhead (listed_as first) (listed_of rows.now d behind.now) }
-{
-    let mut a = first;
-    for entry in behind {
-        let b = listed(rows, entry);
-        if overhead < b.overhead {
-            return Implied {
-                place,
-                a: a.place,
-                b: b.place,
-                p: b.overhead - overhead,
-                q: overhead - a.overhead,
-                r: b.overhead - a.overhead,
-            };
-        }
-        a = b;
-    }
-    Implied {
-        place,
-        a: a.place,
-        b: a.place,
-        p: overhead,
-        q: 0,
-        r: a.overhead,
-    }
-}
-
-/// A kept request's place and overhead.
-#[derive(Clone, Copy)]
-struct ListedLine {
-    place: u16,
-    overhead: u16,
-}
-
-/// What a kept entry has of its request.
-fn listed(rows: &[Request], entry: &Kept) -> ListedLine
-    requires { entry.now.place < length rows.now }
-    ensures { (d : Request) → listed_as result ≡ listed_at rows.now d entry.now.place }
-{
-    ListedLine {
-        place: entry.place,
-        overhead: rows[usize::from(entry.place)].tuple.overhead,
     }
 }
 

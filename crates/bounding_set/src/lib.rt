@@ -14,6 +14,7 @@ mod implies;
 pub mod laws;
 mod line_end;
 mod live;
+mod neighbours;
 mod rows;
 mod splice;
 mod unsplice;

@@ -20,4 +20,4 @@ returns-clause-announced c =
     let Follow : List Kept → Type 0 = λ kept. (d : Request) → implied
     ≡ map (λ place. implied_by (listed_of rows d kept) place (get_or rows place d).tuple.overhead) (dropped_places (length rows) (places_of kept)) in
     AnnouncesFor-certificate rows c.args.announced.now c.keep.new.kept.items implied c.requires.rising c.requires.announced
-    c.keep.ensures.requests c.keep.ensures.pairs (subst Follow c.as_slice.ensures.value c.imply_others.ensures)
+    c.keep.ensures.requests c.keep.ensures.pairs (subst Follow c.as_slice-entries.ensures.value c.imply_others.ensures)
