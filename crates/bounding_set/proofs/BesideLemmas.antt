@@ -12,6 +12,7 @@ use Rattle.bounding_set.specs.Envelope.{IsBehind, Crosses, Turns, IsHull}
 use Rattle.bounding_set.specs.Spliced.{ImplyTogether}
 use Rattle.bounding_set.proofs.TurnLemmas.{second_below, third_below, beyond_beyond, permitted_between, permitted_by_reach, permitted_by_stricter}
 use Rattle.bounding_set.proofs.EnvelopeLemmas.{IsNeededBeside, one_less}
+use Rattle.bounding_set.proofs.ImpliesLemmas.{at_any_time}
 
 -- a line between two others that they don't imply turns there
 pub turns_from_needed : (s t x : Request) → s.tuple.overhead < t.tuple.overhead → t.tuple.overhead < x.tuple.overhead
@@ -21,7 +22,7 @@ turns_from_needed s t x st tx needed =
     (x.tuple.overhead * rate_of t.tuple + t.tuple.overhead * rate_of s.tuple + s.tuple.overhead * rate_of x.tuple)
     (x.tuple.overhead * rate_of s.tuple + t.tuple.overhead * rate_of x.tuple + s.tuple.overhead * rate_of t.tuple)) [
       | inl turn ↦ turn
-      | inr above ↦ absurd (needed (λ p by_s by_x. permitted_between p.bits p.packets p.seconds
+      | inr above ↦ absurd (needed (λ p time by_s by_x. permitted_between p.bits p.packets p.seconds
           s.tuple.overhead t.tuple.overhead x.tuple.overhead (rate_of s.tuple) (rate_of t.tuple) (rate_of x.tuple) st tx above by_s by_x))
     ]
 
@@ -31,7 +32,7 @@ pub rises_from_needed : (t x : Request) → t.tuple.overhead < x.tuple.overhead 
 rises_from_needed t x tx needed =
     elim (cases_lt (rate_of t.tuple) (rate_of x.tuple)) [
       | inl less ↦ less
-      | inr more ↦ absurd (needed (λ p by_x again. permitted_by_stricter p.bits p.packets p.seconds
+      | inr more ↦ absurd (needed (λ p time by_x again. permitted_by_stricter p.bits p.packets p.seconds
           t.tuple.overhead x.tuple.overhead (rate_of t.tuple) (rate_of x.tuple) (omega arith) more by_x))
     ]
 
@@ -41,7 +42,7 @@ pub reach_from_needed : (x t u : Request) → x.tuple.overhead < t.tuple.overhea
 reach_from_needed x t u xt sends needed =
     elim (cases_lt (rate_of t.tuple * x.tuple.overhead) (rate_of x.tuple * t.tuple.overhead)) [
       | inl less ↦ less
-      | inr more ↦ absurd (needed (λ p by_x by_u. permitted_by_reach p.bits p.packets p.seconds
+      | inr more ↦ absurd (needed (λ p time by_x by_u. permitted_by_reach p.bits p.packets p.seconds
           x.tuple.overhead (rate_of x.tuple) t.tuple.overhead (rate_of t.tuple) (omega arith) (λ same. absurd (omega arith))
           (omega (arith, sends)) more by_x))
     ]
@@ -52,8 +53,9 @@ pub without_last : (lines : List Request) (x : Request) (needed : ℕ) → 0 < n
     → IsNeededBeside lines x (needed - 1)
 without_last lines x needed some is one more =
     one_less lines x needed some is (λ p d by_lines by_x. elim (cases_eq needed 1) [
-      | inl is_one ↦ rw is_one (one is_one d p by_x by_x)
-      | inr is_more ↦ more (omega arith) d p (by_lines (needed - 2) d (omega arith) (omega arith)) by_x
+      | inl is_one ↦ rw is_one (at_any_time x.tuple x.tuple (get_or lines 0 d).tuple (one is_one d) p by_x by_x)
+      | inr is_more ↦ at_any_time (get_or lines (needed - 2) d).tuple x.tuple (get_or lines (needed - 1) d).tuple (more (omega arith) d)
+          p (by_lines (needed - 2) d (omega arith) (omega arith)) by_x
     ])
 
 -- what the last lines, from a place on, and x permit, all lines permit
@@ -70,8 +72,8 @@ without_first lines x first some is last more = record {
   covers = λ p by_lines by_x. is.covers p
       (λ k d low below. elim (cases_eq k first) [
         | inl here ↦ rw here (elim (cases_lt (first + 1) (length lines)) [
-          | inl has ↦ more has d p by_x (by_lines (first + 1) d (omega arith) has)
-          | inr ends ↦ last (omega arith) d p by_x by_x
+          | inl has ↦ at_any_time x.tuple (get_or lines (first + 1) d).tuple (get_or lines first d).tuple (more has d) p by_x (by_lines (first + 1) d (omega arith) has)
+          | inr ends ↦ at_any_time x.tuple x.tuple (get_or lines first d).tuple (last (omega arith) d) p by_x by_x
         ])
         | inr other ↦ by_lines k d (omega arith) below
       ])

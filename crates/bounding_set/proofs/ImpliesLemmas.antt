@@ -1,12 +1,55 @@
 -- Whether two lines imply a third: by the pairs that decide it.
-use Rattle.std.proofs.Common.{◌≡◌, ℕ, ◌+◌, ◌-◌, ◌*◌, ◌<◌, ◌≤◌, ◌↔◌, Bool, IsTrue, inl, inr, subst, arith}
+use Rattle.std.proofs.Common.{sym, zero, suc, ◌≡◌, ℕ, ◌+◌, ◌-◌, ◌*◌, ◌<◌, ◌≤◌, ◌↔◌, Bool, IsTrue, inl, inr, subst, arith}
 use Rattle.std.specs.Prelude.{◌⊎◌}
 use Rattle.std.proofs.Math.Nat.{mul-le-mul_left, mul-le-mul_right}
 use Rattle.std.proofs.lemmas.Bool.{cases_lt, cases_eq}
 use Rattle.tmmbr_tuple.specs.declared.tuple.Tuple.{Tuple}
 use Rattle.tmmbr_tuple.specs.Tuple.{rate_of}
+use Rattle.tmmbr_tuple.specs.RatePair.{RatePair, Permits}
 use Rattle.bounding_set.specs.Spliced.{ImplyTogether, ImpliesAlone, StandsAbove}
 use Rattle.bounding_set.proofs.TurnLemmas.{by_difference, permitted_between, permitted_by_stricter}
+
+-- two tuples imply a third for any three numbers, those without time among them
+abbrev pub ImplyAtAnyTime : Tuple → Tuple → Tuple → Type 0
+ImplyAtAnyTime a b x = (p : RatePair) → Permits a p → Permits b p → Permits x p
+
+-- without time no bits are permitted, and packets only where there is no overhead
+without_time : (m n d ha hb hx ra rb rx : ℕ) → d ≡ 0 → m + 8 * ha * n ≤ ra * d → m + 8 * hb * n ≤ rb * d → (ha ≡ 0 → hb ≡ 0 → hx ≡ 0)
+    → m + 8 * hx * n ≤ rx * d
+without_time m n (suc d) ha hb hx ra rb rx none by_a by_b same = absurd (omega (arith, none))
+without_time m zero zero ha hb hx ra rb rx none by_a by_b same = omega (arith, by_a)
+without_time m (suc n) zero ha hb hx ra rb rx none by_a by_b same =
+    let no_overhead : hx ≡ 0 = same (omega (arith, by_a)) (omega (arith, by_b)) in
+    subst (λ h. m + 8 * h * suc n ≤ rx * 0) (sym no_overhead) (omega (arith, by_a))
+
+-- where both have no overhead, pairs of one second show that the third has none
+no_overhead : (a b x : Tuple) → ImplyTogether a b x → a.overhead ≡ 0 → b.overhead ≡ 0 → x.overhead ≡ 0
+no_overhead a b x together none_a none_b =
+    let many = rate_of x + 1 in
+    let free : (h r : ℕ) → h ≡ 0 → 0 + 8 * h * many ≤ r * 1 = λ h r none. subst (λ z. 0 + 8 * z * many ≤ r * 1) (sym none) (omega arith) in
+    let at = together (record { packets = many; bits = 0; seconds = 1 }) (omega arith) (free a.overhead (rate_of a) none_a) (free b.overhead (rate_of b) none_b) in
+    elim (cases_eq x.overhead 0) [
+      | inl none ↦ none
+      | inr some ↦
+          let one : 1 ≤ x.overhead = omega (arith, some) in
+          absurd (omega (arith, at, mul-le-mul_left (rate_of x + 1) one))
+    ]
+
+-- pairs of at least one second decide it for all three numbers
+pub at_any_time : (a b x : Tuple) → ImplyTogether a b x → ImplyAtAnyTime a b x
+at_any_time a b x together p by_a by_b =
+    elim (cases_eq p.seconds 0) [
+      | inl none ↦
+          without_time p.bits p.packets p.seconds a.overhead b.overhead x.overhead (rate_of a) (rate_of b) (rate_of x) none by_a by_b (no_overhead a b x together)
+      | inr some ↦ together p (omega (arith, some)) by_a by_b
+    ]
+
+-- a tuple alone, where a test was of it twice
+pub alone_from_twice : (a x : Tuple) (r : Bool) → (IsTrue r ↔ ImplyTogether a a x) → (IsTrue r ↔ ImpliesAlone a x)
+alone_from_twice a x r iff = (
+  λ is p by_a. at_any_time a a x (iff.0 is) p by_a by_a,
+  λ alone. iff.1 (λ p time by_a again. alone p by_a),
+)
 
 -- one tuple alone: it bounds no less without packets, and none the less where it leaves no media
 pub record IsWithin (a x : Tuple) : Type 0 where
@@ -64,12 +107,12 @@ module _ (a x : Tuple) where
 abbrev pub ImplyByParts : Tuple → Tuple → Tuple → Type 0
 ImplyByParts a b x = (ImpliesAlone a x ⊎ ImpliesAlone b x) ⊎ (StandsAbove a b x ⊎ StandsAbove b a x)
 
-above_implies : (a b x : Tuple) → StandsAbove a b x → ImplyTogether a b x
+above_implies : (a b x : Tuple) → StandsAbove a b x → ImplyAtAnyTime a b x
 above_implies a b x stands = λ p by_a by_b.
     permitted_between p.bits p.packets p.seconds a.overhead x.overhead b.overhead (rate_of a) (rate_of x) (rate_of b)
     stands.more stands.less stands.above by_a by_b
 
-together_from_parts : (a b x : Tuple) → ImplyByParts a b x → ImplyTogether a b x
+together_from_parts : (a b x : Tuple) → ImplyByParts a b x → ImplyAtAnyTime a b x
 together_from_parts a b x parts = λ p by_a by_b.
     elim parts [
       | inl (inl alone) ↦ alone p by_a
@@ -106,7 +149,7 @@ crossing ha hb ra rb hx rx le rates =
     ra rb rates
     (λ r. crossing_above ha h r ra hx rx))
 
-module _ (a b x : Tuple) (together : ImplyTogether a b x) where
+module _ (a b x : Tuple) (together : ImplyAtAnyTime a b x) where
   -- a rate that neither exceeds, x doesn't go below
   least_rate : (r : ℕ) → r ≤ rate_of a → r ≤ rate_of b → r ≤ rate_of x
   least_rate r le_a le_b =
@@ -189,7 +232,7 @@ parts_turned a b x parts =
       | inr (inr stands) ↦ inr (inl stands)
     ]
 
-parts_from_together : (a b x : Tuple) → ImplyTogether a b x → ImplyByParts a b x
+parts_from_together : (a b x : Tuple) → ImplyAtAnyTime a b x → ImplyByParts a b x
 parts_from_together a b x together =
     elim (cases_lt b.overhead a.overhead) [
       | inl less ↦ parts_turned a b x (parts_in_order b a x (λ p by_b by_a. together p by_a by_b) (omega arith))
@@ -198,4 +241,7 @@ parts_from_together a b x together =
 
 module _ (a b x : Tuple) where
   pub together_iff : (r : Bool) → (IsTrue r ↔ ImplyByParts a b x) → (IsTrue r ↔ ImplyTogether a b x)
-  together_iff r iff = (λ is. together_from_parts a b x (iff.0 is), λ together. iff.1 (parts_from_together a b x together))
+  together_iff r iff = (
+    λ is p time. together_from_parts a b x (iff.0 is) p,
+    λ together. iff.1 (parts_from_together a b x (at_any_time a b x together)),
+  )

@@ -7,9 +7,9 @@ use Rattle.rate_cert.specs.declared.request.Request.{Request}
 
 -- two tuples imply a third where it permits each pair that both permit
 abbrev pub ImplyTogether : Tuple → Tuple → Tuple → Type 0
-ImplyTogether a b x = (p : RatePair) → Permits a p → Permits b p → Permits x p
+ImplyTogether a b x = (p : RatePair) → 1 ≤ p.seconds → Permits a p → Permits b p → Permits x p
 
--- one tuple implies another where that permits each pair that it permits
+-- one tuple implies another where that permits all that it permits, three numbers without time too, which are no pair
 abbrev pub ImpliesAlone : Tuple → Tuple → Type 0
 ImpliesAlone a x = (p : RatePair) → Permits a p → Permits x p
 
