@@ -1,18 +1,20 @@
 -- What is announced: the lines, or the stops, and when that changes.
-use Rattle.std.proofs.Common.{◌≡◌, ◌≢◌, IsTrue, Bool, List, [], ◌∷◌, length, refl, sym, ap, ◌∙◌, subst, arith}
-use Rattle.std.specs.Prelude.{◌↔◌, All, Any, Contains}
+use Rattle.std.proofs.Common.{None, ◌≡◌, ◌≢◌, IsTrue, Bool, List, [], ◌∷◌, length, refl, sym, ap, ◌∙◌, subst, arith}
+use Rattle.std.specs.Prelude.{◌↔◌, All, Any, Contains, is_some}
+use Rattle.std.proofs.lemmas.Bool.{false≢true}
 use Rattle.std.proofs.lemmas.List.Elements.{All-contains}
 use Rattle.rate_cert.specs.declared.request.Request.{Request}
 use Rattle.rate_cert.specs.declared.certificate.Cert.{Cert}
 use Rattle.rate_cert.specs.Choice.{chosen_requests}
 use Rattle.rate_cert.specs.Certificate.{kept_places}
-use Rattle.bounding_set.specs.Rows.{HasRisingOwners}
+use Rattle.bounding_set.specs.Rows.{HasRisingOwners, tuple_of}
 use Rattle.bounding_set.specs.Canonical.{StopsMedia}
 use Rattle.bounding_set.specs.Announced.{AnnouncesList, HoldsStops, announced_among}
 use Rattle.bounding_set.specs.Envelope.{IsEnvelopeOf}
 use Rattle.bounding_set.proofs.EssentialLemmas.{AnnouncesList-from_envelope}
 use Rattle.bounding_set.proofs.SplicedLemmas.{IsEnvelope-from_sending}
 use Rattle.bounding_set.proofs.MemberLemmas.{HasOneMore, All-fewer}
+use Rattle.bounding_set.proofs.DropLemmas.{owner_has}
 
 -- where all rows send, the lines of their envelope are announced
 pub AnnouncesList-lines : (rows lines : List Request) → HasRisingOwners rows → IsEnvelopeOf rows lines → All (λ r. ¬ StopsMedia r) rows
@@ -77,3 +79,11 @@ pub nothing_other : (stops stops' lines lines' : List Request) → (stops' ≢ s
 nothing_other stops stops' lines lines' stops_stay lines_stay other =
     stops_stay (λ same. lines_stay (λ same_lines.
     other (ap (announced_among stops') same_lines ∙ ap (λ ss. announced_among ss lines) same)))
+
+-- where all rows send, whose request isn't announced has no line
+pub no_line : (rows stops lines announced : List Request) (r : Request) → HoldsStops rows stops → All (λ q. ¬ StopsMedia q) rows
+    → announced ≡ announced_among stops lines → tuple_of announced r.owner.0 ≡ None → Contains lines r → ⊥
+no_line rows stops lines announced r holds send is absent has =
+    let lines_are : announced ≡ lines = is ∙ ap (λ ss. announced_among ss lines) (no_stops rows stops holds send) in
+    let none : tuple_of lines r.owner.0 ≡ None = sym (ap (λ ls. tuple_of ls r.owner.0) lines_are) ∙ absent in
+    false≢true (sym (ap is_some none) ∙ owner_has lines has.0 r has.1 has.2)

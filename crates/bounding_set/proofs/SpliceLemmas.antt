@@ -27,6 +27,18 @@ overheads_rise lines hull i j d le below =
       | inr before ↦ omega (arith, (hull.crosses i j d (omega (arith, before)) below).overhead)
     ]
 
+-- no two lines have one overhead
+pub one_of_overhead : (lines : List Request) (x : Request) (at from : ℕ) → IsHull lines → IsPlaceOf lines x at from → from ≤ at + 1
+one_of_overhead lines x at from hull place =
+    elim (cases_lt (at + 1) from) [
+      | inr few ↦ few
+      | inl more ↦
+          let first = place.same at x (omega arith) (omega (arith, more)) in
+          let second = place.same (at + 1) x (omega arith) more in
+          let rise = (hull.crosses at (at + 1) x (omega arith) (omega (arith, more, place.in_range))).overhead in
+          absurd (omega (arith, first, second, rise))
+    ]
+
 -- the two counts say where x goes
 pub place_from_counts : (lines : List Request) (x : Request) (at from : ℕ) → at ≤ length lines → from ≤ length lines
     → AllWithin (λ l. l.tuple.overhead < x.tuple.overhead) lines 0 at

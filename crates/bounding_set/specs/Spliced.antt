@@ -20,12 +20,13 @@ pub record StandsAbove (a b x : Tuple) : Type 0 where
   pub above : b.overhead * rate_of a + x.overhead * rate_of b + a.overhead * rate_of x
       ≤ b.overhead * rate_of x + x.overhead * rate_of a + a.overhead * rate_of b
 
--- x stands behind the first lines, up to `low`, and before the last ones, from `high` on; those between are dropped, and the tests
--- are at most four more than these
+-- x stands behind the first lines, up to `low`, and before the last ones, from `high` on; those between are dropped. Each of
+-- these but one of the overhead of x is tested, and the tests are at most four more than these
 pub record IsSpliced (old : List Request) (x : Request) (new : List Request) (tests : ℕ) : Type 0 where
   pub low : ℕ
   pub high : ℕ
   pub rising : low ≤ high
   pub in_range : high ≤ length old
   pub is : new ≡ take low old ++ x ∷ drop high old
+  pub each_tested : high - low ≤ tests + 1
   pub few_tests : tests ≤ (high - low) + 4

@@ -30,7 +30,9 @@ pub fn replace(
     ensures rising { HasRisingOwners rows.new.items }
     ensures envelope { IsEnvelopeOf rows.new.items lines.new.items }
     ensures changed { IsTrue result ↔ (lines.new.items ≢ lines.old.items) }
+    ensures each { tuple_of rows.old.items x.now.owner.0 ≡ None → dropped_count lines.old.items lines.new.items ≤ count.new + 1 }
     ensures few { tuple_of rows.old.items x.now.owner.0 ≡ None → count.new ≤ dropped_count lines.old.items lines.new.items + 4 }
+    ensures bounded { count.new ≤ MAX_REQUESTS * (MAX_REQUESTS + 4) + MAX_REQUESTS + 4 }
 {
     let was_line = take_out(rows, lines, x.owner, count);
     let is_line = put_in(rows, lines, x, count);
@@ -81,7 +83,9 @@ fn put_in(
     ensures envelope { IsEnvelopeOf rows.new.items lines.new.items }
     ensures is_line { IsTrue result → Any (λ l. l.owner.0 ≡ x.now.owner.0) lines.new.items }
     ensures unchanged { result ≡ false → lines.new ≡ lines.old }
+    ensures each { count.old + dropped_count lines.old.items lines.new.items ≤ count.new + 1 }
     ensures few { count.new ≤ count.old + dropped_count lines.old.items lines.new.items + 4 }
+    ensures bounded { count.new ≤ count.old + MAX_REQUESTS + 4 }
 {
     add(rows, *x);
     if x.tuple.rate() == 0 {

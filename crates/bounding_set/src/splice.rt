@@ -130,6 +130,7 @@ fn needless_beside(
     ensures before { result.0 ≤ at }
     ensures behind { from ≤ result.1 }
     ensures counted { count.old ≤ count.new }
+    ensures each { result.1 + count.old ≤ result.0 + count.new + 1 }
     ensures few { count.new ≤ count.old + (result.1 - result.0) + 2 }
 {
     let low = needed_before(&lines[..at], x, count);

@@ -6,6 +6,7 @@ abbrev pub invariant-loop-needed : goal.invariant-loop-needed
 invariant-loop-needed l = record {
   is_needed : IsNeededBeside l.lines l.x l.needed;
   counted : l.fn.count ≤ l.count;
+  each : l.fn.count + length l.lines ≤ l.count + l.needed;
   few : l.count + l.needed ≤ l.fn.count + length l.lines;
 }
 

@@ -6,6 +6,7 @@ abbrev pub invariant-loop-first : goal.invariant-loop-first
 invariant-loop-first l = record {
   is_needed : IsNeededBehind l.lines l.x l.first;
   counted : l.fn.count ≤ l.count;
+  each : l.fn.count + l.first ≤ l.count;
   few : l.count ≤ l.fn.count + l.first;
 }
 

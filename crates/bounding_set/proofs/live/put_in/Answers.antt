@@ -1,9 +1,10 @@
-use Rattle.std.proofs.Common.{inl, inr, sym, ap, ◌∙◌, arith}
+use Rattle.std.proofs.Common.{inl, inr, ◌≡◌, sym, ap, ◌∙◌, arith}
 use Rattle.std.proofs.lemmas.Bool.{cases_Bool}
 use Rattle.bounding_set.specs.Canonical.{StopsMedia}
+use Rattle.bounding_set.specs.State.{dropped_count}
 use Rattle.bounding_set.proofs.SplicedLemmas.{IsEnvelopeOf-spliced, IsEnvelopeOf-stopped}
 use Rattle.bounding_set.proofs.MemberLemmas.{HasOneMore-put, IsEnvelopeOf-more, HasLineOf-line, Contains-spliced}
-use Rattle.bounding_set.proofs.DropLemmas.{tests_fit, lines_within, dropped_between}
+use Rattle.bounding_set.proofs.DropLemmas.{tests_fit, lines_within, dropped_between, dropped_within, none_dropped}
 use Rattle.bounding_set.proofs.live.put_in.Goals as goal
 
 pub returns-then-rate-eq0-clause-envelope : goal.returns-then-rate-eq0-clause-envelope
@@ -52,3 +53,24 @@ returns-clause-few c =
           omega (arith, dropped, spliced.few_tests, c.splice.ensures.counted)
       | inr isn't ↦ omega (arith, c.splice.ensures.few isn't)
     ]
+
+pub returns-then-rate-eq0-clause-each : goal.returns-then-rate-eq0-clause-each
+returns-then-rate-eq0-clause-each c = omega (arith, none_dropped c.args.lines.now.items)
+
+pub returns-clause-each : goal.returns-clause-each
+returns-clause-each c =
+    let lines = c.args.lines.now.items in
+    elim (cases_Bool c.splice.result) [
+      | inl is ↦
+          let spliced = c.splice.ensures.spliced is in
+          let dropped = dropped_within lines c.splice.new.lines.items c.args.x.now _ spliced in
+          omega (arith, dropped, spliced.each_tested, c.splice.ensures.counted)
+      | inr isn't ↦
+          let none : dropped_count lines c.splice.new.lines.items ≡ 0 =
+          ap (λ ls. dropped_count lines ls.items) (c.splice.ensures.unchanged isn't) ∙ none_dropped lines in
+          omega (arith, none, c.splice.ensures.counted)
+    ]
+
+pub returns-clause-bounded : goal.returns-clause-bounded
+returns-clause-bounded c =
+    omega (arith, lines_within c.args.rows.now.items c.args.lines.now.items c.requires.envelope, c.requires.room, c.splice.ensures.bounded)

@@ -6,6 +6,7 @@ use Rattle.rate_cert.specs.declared.request.Request.{Request as RateRequest}
 use Rattle.rate_cert.specs.Requests.{IsFeasible}
 use Rattle.bounding_set.specs.Envelope.{Crosses, Turns, IsHull}
 use Rattle.bounding_set.proofs.StandsLemmas.{IsHull-take, IsHull-drop, StandsFor-from_parts}
+use Rattle.bounding_set.proofs.SpliceLemmas.{one_of_overhead}
 use Rattle.bounding_set.proofs.splice.needless_beside.Goals as goal
 
 pub needed_before-low-requires-clause-hull : goal.needed_before-low-requires-clause-hull
@@ -31,3 +32,12 @@ returns-clause-stands c =
     (subst (λ (s : List RateRequest). (p : RatePair) → AllWithin (λ l. Permits l.tuple p) s c.needed_behind.result (length s) → Permits x.tuple p → IsFeasible s p) rest more.covers)
     (subst (λ (s : List RateRequest). AllWithin (Crosses x) s c.needed_behind.result (length s)) rest more.crosses)
     (subst (λ (s : List RateRequest). (i j : ℕ) (d : RateRequest) → c.needed_behind.result ≤ i → i < j → j < length s → Turns x (get_or s i d) (get_or s j d)) rest more.turns)
+
+pub returns-clause-each : goal.returns-clause-each
+returns-clause-each c =
+    let lines = c.args.lines.now in
+    let low = c.needed_before-low.ensures in
+    let more = c.needed_behind.ensures in
+    let at_in : c.args.at ≤ length lines = omega (arith, c.requires.place.rising, c.requires.place.in_range) in
+    let one = one_of_overhead lines c.args.x.now c.args.at c.args.from c.requires.hull c.requires.place in
+    omega (arith, one, low.each, more.each, length-take-le c.args.at lines at_in)

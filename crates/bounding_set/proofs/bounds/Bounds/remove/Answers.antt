@@ -1,9 +1,13 @@
-use Rattle.std.proofs.Common.{◌∷◌, sym, ◌∙◌, subst}
+use Rattle.std.proofs.Common.{◌≡◌, ◌∷◌, inl, inr, ap, sym, ◌∙◌, subst}
+use Rattle.std.proofs.lemmas.Bool.{cases_Bool}
 use Rattle.std.specs.Prelude.{All, ◌≢◌}
 use Rattle.rate_cert.specs.declared.request.Request.{Request}
 use Rattle.bounding_set.specs.Canonical.{StopsMedia}
 use Rattle.bounding_set.specs.Envelope.{IsEnvelopeOf}
 use Rattle.bounding_set.proofs.MemberLemmas.{HasOneMore-taken, IsEnvelopeOf-fewer, All-fewer, absent_owner}
+use Rattle.bounding_set.specs.Announced.{announced_among}
+use Rattle.bounding_set.specs.State.{State, announced_of}
+use Rattle.bounding_set.proofs.BoundsLemmas.{no_line}
 use Rattle.bounding_set.proofs.bounds.Bounds.remove.Goals as goal
 
 pub unsplice-requires-clause-envelope : goal.unsplice-requires-clause-envelope
@@ -28,3 +32,18 @@ update_stops-requires-clause-none c =
     λ no empty. subst (All (λ r. ¬ StopsMedia r)) (sym c.as_slice-rows.ensures.value)
     (All-fewer (λ r. ¬ StopsMedia r) old new gone
     (HasOneMore-taken old new gone c.self.invariant.1 c.take.ensures.rising (sym c.take.ensures.value ∙ c.in_ok-tuple.was) c.take.ensures.taken) (c.self.invariant.3.none empty))
+
+-- where the owner's request isn't announced and no rate is 0, no line goes
+pub returns-clause-no_step : goal.returns-clause-no_step
+returns-clause-no_step c =
+    let gone : Request = record { owner = c.args.owner; tuple = c.in_ok-tuple.tuple } in
+    let rows = c.self.inside.rows.items in
+    let lines = c.self.inside.lines.items in
+    let announced : announced_of c.args.self.now ≡ announced_among c.self.inside.stops.items lines = sym (ap announced_of c.self.view_is) ∙ c.self.invariant.5 in
+    λ send absent.
+    let send_inside : All (λ r. ¬ StopsMedia r) rows = subst (All (λ r. ¬ StopsMedia r)) (sym (ap (λ (s : State). s.rows) c.self.view_is)) send in
+    elim (cases_Bool c.unsplice.result) [
+      | inl was ↦ absurd (no_line rows c.self.inside.stops.items lines (announced_of c.args.self.now) gone c.self.invariant.3 send_inside announced absent
+          (c.unsplice.ensures.was_line.0 was))
+      | inr wasn't ↦ c.unsplice.ensures.untested wasn't
+    ]

@@ -90,3 +90,25 @@ returns-clause-steps c =
     let same : dropped_count (announced_of c.args.self.now) (AnnouncedNow c) ≡ dropped_count lines lines' =
     ap (λ before. dropped_count before (AnnouncedNow c)) was ∙ ap (dropped_count lines) is in
     omega (arith, few, same)
+
+pub returns-clause-each_step : goal.returns-clause-each_step
+returns-clause-each_step c =
+    let x : Request = record { owner = c.args.owner; tuple = c.args.tuple } in
+    let rows = c.self.inside.rows.items in
+    let rows' = c.replace-lines_changed.new.rows.items in
+    let stops = c.self.inside.stops.items in
+    let stops' = c.update_stops-stops_changed.new.stops.items in
+    let lines = c.self.inside.lines.items in
+    let lines' = c.replace-lines_changed.new.lines.items in
+    λ absent send.
+    let absent_inside : tuple_of rows c.args.owner.0 ≡ None = ap (λ (s : State). tuple_of s.rows c.args.owner.0) c.self.view_is ∙ absent in
+    let one : HasOneMore rows' rows x =
+    HasOneMore-put rows rows' x c.self.invariant.1 c.replace-lines_changed.ensures.rising absent_inside c.replace-lines_changed.ensures.put in
+    let none = no_stops_before rows rows' stops x c.self.invariant.3 one send in
+    let none' = no_stops rows' stops' (holds c) send in
+    let was : announced_of c.args.self.now ≡ lines = before c ∙ ap (λ ss. announced_among ss lines) none in
+    let is : AnnouncedNow c ≡ lines' = now c ∙ ap (λ ss. announced_among ss lines') none' in
+    let each = c.replace-lines_changed.ensures.each absent_inside in
+    let same : dropped_count (announced_of c.args.self.now) (AnnouncedNow c) ≡ dropped_count lines lines' =
+    ap (λ before. dropped_count before (AnnouncedNow c)) was ∙ ap (dropped_count lines) is in
+    omega (arith, each, same)
