@@ -27,6 +27,30 @@ overheads_rise lines hull i j d le below =
       | inr before ↦ omega (arith, (hull.crosses i j d (omega (arith, before)) below).overhead)
     ]
 
+-- a line that is put in without any test has no neighbour, and stands alone then
+pub alone_untested : (new low high old at from slice start middle last : ℕ) → new + high ≡ low + old + 1 → low ≤ at → from ≤ high → slice ≡ old
+    → high ≤ old → start ≤ middle → (0 < at → middle + 1 ≤ last) → (from < slice → middle + 1 ≤ last) → last ≡ start → new ≤ 1
+alone_untested new low high old at from slice start middle last long before behind same in_range counted asked asked_behind none =
+    elim (cases_lt 0 at) [
+      | inl some ↦ absurd (omega (arith, asked some))
+      | inr first ↦ elim (cases_lt from slice) [
+        | inl some ↦ absurd (omega (arith, asked_behind some))
+        | inr end ↦ omega arith
+      ]
+    ]
+
+-- by one line more than the tests at most the lines grow, one put in after the other
+pub grown : (now start first count new after : ℕ) → first ≤ count → now + first ≤ start + count + 1 → new ≤ now + 1 → count ≤ after
+    → (after ≡ count → now < new → new ≤ 1) → new + first ≤ start + after + 1
+grown now start first count new after risen grows one_more counted untested =
+    elim (cases_eq after count) [
+      | inr tested ↦ omega arith
+      | inl same ↦ elim (cases_lt now new) [
+        | inl more ↦ omega (arith, untested same more)
+        | inr fewer ↦ omega arith
+      ]
+    ]
+
 -- no two lines have one overhead
 pub one_of_overhead : (lines : List Request) (x : Request) (at from : ℕ) → IsHull lines → IsPlaceOf lines x at from → from ≤ at + 1
 one_of_overhead lines x at from hull place =

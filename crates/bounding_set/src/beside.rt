@@ -25,6 +25,7 @@ pub fn needed_before(lines: &[Request], x: &Request, count: &mut u32) -> usize
     ensures rates { AllWithin (λ l. rate_of l.tuple < rate_of x.now.tuple) lines.now 0 result }
     ensures turns { (i j : ℕ) (d : RateRequest) → i < j → j < result → Turns (slice_index_or lines.now i d) (slice_index_or lines.now j d) x.now }
     ensures counted { count.old ≤ count.new }
+    ensures asked { 0 < length lines.now → count.old + 1 ≤ count.new }
     ensures each { count.old + length lines.now ≤ count.new + result }
     ensures few { count.new + result ≤ count.old + length lines.now + 1 }
 {
@@ -49,6 +50,7 @@ pub fn needed_behind(lines: &[Request], x: &Request, count: &mut u32) -> usize
     ensures turns { (i j : ℕ) (d : RateRequest) → result ≤ i → i < j → j < length lines.now
         → Turns x.now (slice_index_or lines.now i d) (slice_index_or lines.now j d) }
     ensures counted { count.old ≤ count.new }
+    ensures asked { 0 < length lines.now → count.old + 1 ≤ count.new }
     ensures each { count.old + result ≤ count.new }
     ensures few { count.new ≤ count.old + result + 1 }
 {
@@ -69,7 +71,7 @@ fn is_needless_before(lines: &[Request], needed: usize, x: &Request, count: &mut
     ensures more { (d : RateRequest) → 1 < needed
         → (IsTrue result ↔ ImplyTogether (slice_index_or lines.now (needed - 2) d).tuple x.now.tuple (slice_index_or lines.now (needed - 1) d).tuple) }
     ensures counted { count.old ≤ count.new }
-    ensures asked { IsTrue result → count.new ≡ count.old + 1 }
+    ensures asked { 0 < needed → count.new ≡ count.old + 1 }
     ensures few { count.new ≤ count.old + 1 }
 {
     match needed {
@@ -94,7 +96,7 @@ fn is_needless_behind(lines: &[Request], place: usize, x: &Request, count: &mut 
     ensures more { (d : RateRequest) → place + 1 < length lines.now
         → (IsTrue result ↔ ImplyTogether x.now.tuple (slice_index_or lines.now (place + 1) d).tuple (slice_index_or lines.now place d).tuple) }
     ensures counted { count.old ≤ count.new }
-    ensures asked { IsTrue result → count.new ≡ count.old + 1 }
+    ensures asked { place < length lines.now → count.new ≡ count.old + 1 }
     ensures few { count.new ≤ count.old + 1 }
 {
     match lines.len() - place {

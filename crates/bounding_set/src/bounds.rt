@@ -112,6 +112,8 @@ impl Bounds {
         ensures shrinks { OnSome result (length self.new.rows + 1 ≡ length self.old.rows) }
         ensures no_step { All (λ r. ¬ StopsMedia r) self.old.rows → tuple_of (announced_of self.old) owner.0 ≡ None
             → OnSome result (self.new.steps ≡ 0) }
+        ensures each_step { All (λ r. ¬ StopsMedia r) self.old.rows
+            → OnSome result (length (announced_of self.new) ≤ length (announced_of self.old) + self.new.steps) }
         ensures bounded { OnSome result (self.new.steps ≤ length self.new.rows * (LIVE_LIMIT + 4)) }
         ensures rising { HasRisingOwners self.new.rows }
         ensures within { length self.new.rows ≤ LIVE_LIMIT }

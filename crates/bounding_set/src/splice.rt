@@ -31,6 +31,8 @@ pub fn splice(lines: &mut ArrayVec<Request, MAX_REQUESTS>, x: &Request, count: &
     ensures least { All (λ l. HasSameLine l x.now → l.owner.0 ≤ x.now.owner.0) lines.new.items }
     ensures least_new { IsTrue result → (z : RateRequest) → Covers lines.old.items z → HasSameLine x.now z
         → Any (λ l. HasSameLine x.now l × (x.now.owner.0 ≤ l.owner.0)) lines.old.items }
+    ensures one_more { length lines.new.items ≤ length lines.old.items + 1 }
+    ensures untested { count.new ≡ count.old → length lines.old.items < length lines.new.items → length lines.new.items ≤ 1 }
     ensures counted { count.old ≤ count.new }
     ensures few { result ≡ false → count.new ≤ count.old + 4 }
     ensures bounded { count.new ≤ count.old + length lines.old.items + 4 }
@@ -130,6 +132,8 @@ fn needless_beside(
     ensures before { result.0 ≤ at }
     ensures behind { from ≤ result.1 }
     ensures counted { count.old ≤ count.new }
+    ensures asked_before { 0 < at → count.old + 1 ≤ count.new }
+    ensures asked_behind { from < length lines.now → count.old + 1 ≤ count.new }
     ensures each { result.1 + count.old ≤ result.0 + count.new + 1 }
     ensures few { count.new ≤ count.old + (result.1 - result.0) + 2 }
 {

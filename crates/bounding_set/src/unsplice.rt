@@ -32,6 +32,7 @@ pub fn unsplice(
     ensures unchanged { result ≡ false → lines.new ≡ lines.old }
     ensures untested { result ≡ false → count.new ≡ count.old }
     ensures envelope { IsEnvelopeOf rows.now lines.new.items }
+    ensures grows { length lines.new.items + count.old ≤ length lines.old.items + count.new }
     ensures counted { count.new ≤ count.old + length rows.now * (MAX_REQUESTS + 4) }
 {
     match place_of_line(lines.as_slice(), gone) {
@@ -70,6 +71,7 @@ fn put_back(
     requires within { length rows.now < MAX_REQUESTS }
     requires countable { count.old + length rows.now * (MAX_REQUESTS + 4) < 2 ^ 32 }
     ensures envelope { IsEnvelopeOf rows.now lines.new.items }
+    ensures grows { length lines.new.items + count.old ≤ length lines.old.items + count.new + 1 }
     ensures counted { count.new ≤ count.old + length rows.now * (MAX_REQUESTS + 4) }
 {
     let left = overhead_before(lines.as_slice(), place);

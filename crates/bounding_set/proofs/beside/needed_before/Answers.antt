@@ -16,7 +16,7 @@ loop-needed-preserved c =
           (λ one d. shown test.result (test.ensures.one d one) c.loop-needed-test.true)
           (λ more d. shown test.result (test.ensures.more d more) c.loop-needed-test.true);
       counted = omega (arith, test.ensures.counted, c.loop-needed.invariant.counted);
-      each = omega (arith, some, test.ensures.asked c.loop-needed-test.true, c.loop-needed.invariant.each);
+      each = omega (arith, some, test.ensures.asked some, c.loop-needed.invariant.each);
       few = omega (arith, some, test.ensures.few, c.loop-needed.invariant.few);
     }
 

@@ -15,7 +15,7 @@ loop-first-preserved c =
           (λ last d. shown test.result (test.ensures.last d last) c.loop-first-test.true)
           (λ more d. shown test.result (test.ensures.more d more) c.loop-first-test.true);
       counted = omega (arith, test.ensures.counted, c.loop-first.invariant.counted);
-      each = omega (arith, test.ensures.asked c.loop-first-test.true, c.loop-first.invariant.each);
+      each = omega (arith, test.ensures.asked (test.ensures.some c.loop-first-test.true), c.loop-first.invariant.each);
       few = omega (arith, test.ensures.few, c.loop-first.invariant.few);
     }
 

@@ -1,6 +1,6 @@
-use Rattle.std.proofs.Common.{ℕ, ◌<◌, ◌≤◌, List, length, get_or, sym, subst, arith}
+use Rattle.std.proofs.Common.{ℕ, ◌<◌, ◌≤◌, List, length, get_or, ap, sym, subst, arith}
 use Rattle.std.specs.List.{AllWithin}
-use Rattle.std.proofs.lemmas.List.{take_rest, length-take-le}
+use Rattle.std.proofs.lemmas.List.{take_rest, length-take-le, length-drop}
 use Rattle.tmmbr_tuple.specs.RatePair.{RatePair, Permits}
 use Rattle.rate_cert.specs.declared.request.Request.{Request as RateRequest}
 use Rattle.rate_cert.specs.Requests.{IsFeasible}
@@ -41,3 +41,15 @@ returns-clause-each c =
     let at_in : c.args.at ≤ length lines = omega (arith, c.requires.place.rising, c.requires.place.in_range) in
     let one = one_of_overhead lines c.args.x.now c.args.at c.args.from c.requires.hull c.requires.place in
     omega (arith, one, low.each, more.each, length-take-le c.args.at lines at_in)
+
+pub returns-clause-asked_before : goal.returns-clause-asked_before
+returns-clause-asked_before c =
+    let lines = c.args.lines.now in
+    let at_in : c.args.at ≤ length lines = omega (arith, c.requires.place.rising, c.requires.place.in_range) in
+    λ some. omega (arith, c.needed_before-low.ensures.asked (omega (arith, some, length-take-le c.args.at lines at_in)), c.needed_behind.ensures.counted)
+
+pub returns-clause-asked_behind : goal.returns-clause-asked_behind
+returns-clause-asked_behind c =
+    let lines = c.args.lines.now in
+    let rest = ap length (take_rest lines c.args.from) in
+    λ some. omega (arith, c.needed_behind.ensures.asked (omega (arith, some, rest, length-drop c.args.from lines)), c.needed_before-low.ensures.counted)

@@ -1,10 +1,11 @@
-use Rattle.std.proofs.Common.{◌<◌, ◌≤◌, sym, ◌∙◌, subst, length}
+use Rattle.std.proofs.Common.{◌≡◌, ◌+◌, ◌<◌, ◌≤◌, ◌∷◌, take, drop, sym, ap, ◌∙◌, subst, length, arith}
+use Rattle.std.proofs.lemmas.List.{length-append, length-take, length-drop}
 use Rattle.std.specs.Prelude.{All}
 use Rattle.std.specs.List.{AllWithin}
 use Rattle.bounding_set.specs.Canonical.{HasSameLine}
 use Rattle.bounding_set.specs.Envelope.{IsHull, Covers}
 use Rattle.bounding_set.specs.Place.{IsNeededAt, StandsFor}
-use Rattle.bounding_set.proofs.SpliceLemmas.{place_from_counts}
+use Rattle.bounding_set.proofs.SpliceLemmas.{place_from_counts, alone_untested}
 use Rattle.bounding_set.proofs.StandsLemmas.{IsHull-replaced, Covers-x, Covers-replaced, least-replaced}
 use Rattle.bounding_set.proofs.splice.splice.Goals as goal
 
@@ -51,3 +52,32 @@ pub returns-clause-least_new : goal.returns-clause-least_new
 returns-clause-least_new c is =
     let needed : IsNeededAt c.as_slice-3.result.now c.args.x.now c.lines_before-at.result c.lines_upto-from.result = c.is_needless.ensures.needed c.if-is_needless.false in
     (subst (λ ls. IsNeededAt ls c.args.x.now c.lines_before-at.result c.lines_upto-from.result) c.as_slice-3.ensures.value needed).new
+
+-- how many lines there are then
+long : (c : goal.After-replace) → length c.replace.new.lines.items + c.needless_beside-low.result.1 ≡ c.needless_beside-low.result.0 + length c.args.lines.now.items + 1
+long c =
+    let old = c.args.lines.now.items in
+    let low = c.needless_beside-low.result.0 in
+    let high = c.needless_beside-low.result.1 in
+    let x = c.args.x.now in
+    omega (
+      arith,
+      ap length c.replace.ensures,
+      length-append (take low old) (x ∷ drop high old),
+      length-take low old,
+      length-drop high old,
+      (stands c).rising,
+      (stands c).in_range,
+    )
+
+pub returns-clause-one_more : goal.returns-clause-one_more
+returns-clause-one_more c = omega (arith, long c, (stands c).rising)
+
+pub returns-clause-untested : goal.returns-clause-untested
+returns-clause-untested c =
+    let beside = c.needless_beside-low.ensures in
+    let same : length c.as_slice-4.result.now ≡ length c.args.lines.now.items = ap length c.as_slice-4.ensures.value in
+    λ none more. alone_untested (length c.replace.new.lines.items) c.needless_beside-low.result.0 c.needless_beside-low.result.1
+    (length c.args.lines.now.items) c.lines_before-at.result c.lines_upto-from.result (length c.as_slice-4.result.now) c.args.count.now
+    c.is_needless.new.count c.needless_beside-low.new.count (long c) beside.before beside.behind same (stands c).in_range
+    c.is_needless.ensures.counted beside.asked_before beside.asked_behind none

@@ -1,12 +1,15 @@
 use Rattle.std.proofs.Common.{◌≡◌, ◌-◌, ◌≤◌, length, get_or, Some, refl, subst, arith}
 use Rattle.rate_cert.proofs.CheckerLemmas.{shown, refuted}
 use Rattle.bounding_set.proofs.PutBackLemmas.{IsLeftOf, IsRightOf, put_back_none, put_back_all, put_back_skipped, put_back_spliced, no_more_lines}
+use Rattle.bounding_set.proofs.SpliceLemmas.{grown}
 use Rattle.bounding_set.proofs.unsplice.put_back.Goals as goal
 use Rattle.bounding_set.proofs.unsplice.put_back.Goals.{then-may_return, else-may_return}
 
 pub loop-row-init : goal.loop-row-init
 loop-row-init c = record {
   envelope = put_back_none c.args.rows.now c.args.lines.now.items c.args.place c.requires.envelope;
+  risen = omega arith;
+  grows = omega arith;
   counted = omega arith;
 }
 
@@ -48,6 +51,10 @@ loop-row-preserved c =
                 (shown c.may_return.result c.may_return.ensures w.if-may_return.true).0
                 spliced.hull spliced.covers spliced.covers_old spliced.least w.splice.result (w.splice.new.count - c.loop-row.count)
                 (λ same. rw (spliced.unchanged same) refl) spliced.spliced spliced.least_new);
+            risen = rw w.count-is (omega (arith, c.loop-row.invariant.risen, spliced.counted));
+            grows = rw (w.count-is, w.lines-is)
+                (grown (length c.loop-row.lines.items) (length start) c.args.count.now c.loop-row.count (length w.splice.new.lines.items) w.splice.new.count
+                c.loop-row.invariant.risen c.loop-row.invariant.grows spliced.one_more spliced.counted spliced.untested);
             counted = rw w.count-is (omega (arith, c.loop-row.invariant.counted, spliced.bounded, fewer, c.requires.within));
           }
       | else-may_return w ↦ record {
@@ -55,6 +62,8 @@ loop-row-preserved c =
             (put_back_skipped rows start c.args.place gap c.loop-row.lines.items c.loop-row.row-index c.loop-row.invariant.envelope
             c.row-item.result c.loop-row-test.true c.row-item.is c.requires.rising left right is_left is_right
             (refuted c.may_return.result c.may_return.ensures w.if-may_return.false));
+        risen = rw w.count-is (omega (arith, c.loop-row.invariant.risen));
+        grows = rw (w.count-is, w.lines-is) (omega (arith, c.loop-row.invariant.grows));
         counted = rw w.count-is (omega (arith, c.loop-row.invariant.counted));
       }
     ]
