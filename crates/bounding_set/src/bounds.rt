@@ -83,6 +83,8 @@ impl Bounds {
             → OnOk result (self.new.steps ≤ dropped_count (announced_of self.old) (announced_of self.new) + 4) }
         ensures each_step { tuple_of self.old.rows owner.0 ≡ None → All (λ r. ¬ StopsMedia r) self.new.rows
             → OnOk result (dropped_count (announced_of self.old) (announced_of self.new) ≤ self.new.steps + 1) }
+        ensures each_more { All (λ r. ¬ StopsMedia r) self.old.rows → All (λ r. ¬ StopsMedia r) self.new.rows
+            → OnOk result (length (announced_of self.new) ≤ length (announced_of self.old) + self.new.steps + 1) }
         ensures no_step { tuple_of self.old.rows owner.0 ≡ Some tuple → self.new.steps ≡ 0 }
         ensures bounded { OnOk result (self.new.steps ≤ LIVE_LIMIT * (LIVE_LIMIT + 4) + LIVE_LIMIT + 4) }
     {
@@ -112,7 +114,7 @@ impl Bounds {
         ensures shrinks { OnSome result (length self.new.rows + 1 ≡ length self.old.rows) }
         ensures no_step { All (λ r. ¬ StopsMedia r) self.old.rows → tuple_of (announced_of self.old) owner.0 ≡ None
             → OnSome result (self.new.steps ≡ 0) }
-        ensures each_step { All (λ r. ¬ StopsMedia r) self.old.rows
+        ensures each_more { All (λ r. ¬ StopsMedia r) self.old.rows
             → OnSome result (length (announced_of self.new) ≤ length (announced_of self.old) + self.new.steps) }
         ensures bounded { OnSome result (self.new.steps ≤ length self.new.rows * (LIVE_LIMIT + 4)) }
         ensures rising { HasRisingOwners self.new.rows }
@@ -156,7 +158,7 @@ impl Bounds {
     }
 
     /// How many tests whether two lines imply a third the last `set` or `remove` that wasn't refused
-    /// took; 0 before.
+    /// took; 0 before. A `remove` of an owner that isn't live counts as refused.
     pub fn steps(&self) -> u32
         ensures value { result ≡ self.now.steps }
     {

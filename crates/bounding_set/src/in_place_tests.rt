@@ -1,63 +1,112 @@
 //! The envelope that is changed in place beside the plain walk over all rows.
 use super::*;
 use crate::laws::walk;
-use crate::lists::{Generator, KINDS};
+use crate::lists::{Generator, KINDS, Kind};
 use crate::slow_certificate::certificate;
 use crate::tests::{assert_as_defined, printed, tuple_of_64};
 use crate::zero_rates::announce_stops;
 use arrayvec::ArrayVec;
+use rate_cert::Request;
 use std::alloc::Global;
 use std::process::Abort;
 use std::test::Fail;
 use tmmbr_tuple::{Ssrc, Tuple};
 
-/// How many tests the plain walk takes over all rows; `None` where a rate is 0. It finds the announced
-/// requests, and their certificate is the same.
+/// How many tests the plain walk takes over all rows; `None` where a rate is 0, and all rows are looked
+/// through for the stops. That way finds the announced requests, and their certificate is the same.
 fn assert_as_walked(rt: &impl Abort, alloc: Global, bounds: &Bounds) -> Result<Option<u32>, Fail> {
     let rows = bounds.rows();
     let mut stops = ArrayVec::new();
-    if announce_stops(rows, &mut stops) {
-        return Ok(None);
-    }
     let mut lines = ArrayVec::new();
     let mut count = 0;
-    walk(rows, &mut lines, &mut count);
-    assert_eq!(rt; bounds.announced().as_slice(), lines.as_slice(), "{rows:?}");
+    let is_stopped = announce_stops(rows, &mut stops);
+    if !is_stopped {
+        walk(rows, &mut lines, &mut count);
+    }
+    let announced = if is_stopped {
+        stops.as_slice()
+    } else {
+        lines.as_slice()
+    };
+    assert_eq!(rt; bounds.announced().as_slice(), announced, "{rows:?}");
     let mut places = Vec::new(alloc);
-    for line in lines.as_slice() {
+    for line in announced {
         let place = rows.iter().position(|row| row == line).ok_or("no row")?;
         places.push(place)?;
     }
     let wanted = certificate(rows, places.as_slice())?;
     assert_eq!(rt; bounds.cert(), &wanted, "{rows:?}");
-    Ok(Some(count))
+    Ok(if is_stopped { None } else { Some(count) })
+}
+
+/// Puts or removes a request, and says truly whether the announced set changed.
+fn change(rt: &impl Abort, bounds: &mut Bounds, asked: &Request, goes: bool) -> Result<(), Fail> {
+    let before = bounds.announced();
+    if goes {
+        let _removed = bounds.remove(asked.owner);
+    } else {
+        let changed = bounds.set(asked.owner, asked.tuple)?;
+        assert_eq!(rt; changed, bounds.announced() != before, "{asked:?}");
+    }
+    Ok(())
 }
 
 #[test]
-fn in_place_equals_plain(rt: HostRuntime) -> Result<(), Fail> {
+fn in_place_equals_definition(rt: HostRuntime) -> Result<(), Fail> {
     let mut generator = Generator::new();
     let mut bounds = Bounds::new();
-    let mut walked: u32 = 0;
-    for number in 0..2000_usize {
+    for number in 0..1000_usize {
         // A hundred calls of one kind, then a hundred of all kinds by turns.
         let kind = match number / 100 % 2 {
             0 => KINDS[number / 200 % 5],
             _ => KINDS[number % 5],
         };
         let asked = generator.request(kind);
-        let before = bounds.announced();
-        if generator.once_in(4) {
-            let _removed = bounds.remove(asked.owner);
-        } else {
-            let changed = bounds.set(asked.owner, asked.tuple)?;
-            assert_eq!(rt; changed, bounds.announced() != before, "call {number}");
-        }
+        let goes = generator.once_in(4);
+        change(&rt, &mut bounds, &asked, goes)?;
         assert_as_defined(&rt, rt.alloc(), &bounds)?;
+        assert_as_walked(&rt, rt.alloc(), &bounds)?;
+    }
+    Ok(())
+}
+
+/// The call of this number: first each of 256 owners comes, then they change and go. In each second hundred one of
+/// eight owners asks now and then for something that hides most of the others; then these eight go.
+fn call(generator: &mut Generator, number: usize) -> (Request, bool) {
+    let hides = number / 100 % 2 == 1 && generator.once_in(20);
+    let mut asked = match hides {
+        true => generator.request_of(8, KINDS[number % 5]),
+        false => generator.request_of(256, Kind::ManyLines),
+    };
+    let mut goes = generator.once_in(16);
+    match (number, number % 200) {
+        (0..256, _) => (asked.owner, goes) = (Ssrc(number as u32), false),
+        (_, 0..8) => (asked.owner, goes) = (Ssrc((number % 200) as u32), true),
+        _ => {}
+    }
+    (asked, goes)
+}
+
+#[test]
+fn in_place_equals_plain(rt: HostRuntime) -> Result<(), Fail> {
+    let mut generator = Generator::new();
+    let mut bounds = Bounds::new();
+    let (mut walked, mut most_live, mut most_kept) = (0_u32, 0, 0);
+    for number in 0..2000_usize {
+        let (asked, goes) = call(&mut generator, number);
+        change(&rt, &mut bounds, &asked, goes)?;
         if assert_as_walked(&rt, rt.alloc(), &bounds)?.is_some() {
             walked = walked.saturating_add(1);
         }
+        most_live = most_live.max(bounds.rows().len());
+        most_kept = most_kept.max(bounds.cert().kept.len());
     }
-    assert!(rt; walked > 1000, "{walked} of 2,000 were compared");
+    assert!(rt;
+        walked > 1000,
+        "{walked} of 2,000 were compared with the walk"
+    );
+    assert_eq!(rt; most_live, 256);
+    assert!(rt; most_kept > 100, "{most_kept} were kept");
     Ok(())
 }
 
@@ -68,15 +117,18 @@ fn steps_of_sixty_four_owners(rt: HostRuntime) -> Result<(), Fail> {
     for i in 1..=64_u16 {
         let _changed = bounds.set(Ssrc(u32::from(i)), tuple_of_64(i))?;
     }
-    // The last comes behind the others and hides none, while the walk looks at each.
-    assert!(rt; bounds.steps() >= 1 && bounds.steps() <= 4);
+    // The last comes behind the others and hides none: one test of it, and one of the line before it. The walk
+    // looks at each.
+    assert_eq!(rt; bounds.steps(), 2);
     let walk_steps = assert_as_walked(&rt, rt.alloc(), &bounds)?;
     assert!(rt; walk_steps.is_some_and(|steps| steps >= 62));
     let before = printed(rt.alloc(), &bounds)?;
     // One bit per second without overhead: only the farthest of the others still bounds.
     let one_bit = Tuple::from_word(0x0000_0200);
     assert_eq!(rt; bounds.set(Ssrc(64), one_bit), Ok(true));
-    assert!(rt; bounds.steps() >= 62);
+    // It goes from behind all others, which hides nothing. Then one test of it, 62 of lines that it hides, and one of
+    // the line that it doesn't.
+    assert_eq!(rt; bounds.steps(), 64);
     let lines = printed(rt.alloc(), &bounds)?;
     assert_eq!(rt; lines.len(), 64);
     assert_eq!(rt; lines[0].as_str(), "kept 64 00000200 pair 8968 506 505");
@@ -90,8 +142,19 @@ fn steps_of_sixty_four_owners(rt: HostRuntime) -> Result<(), Fail> {
     assert_eq!(rt; bounds.set(Ssrc(64), tuple_of_64(64)), Ok(true));
     let after = printed(rt.alloc(), &bounds)?;
     assert_eq!(rt; after.as_slice(), before.as_slice());
-    // Asking for the same again takes no test.
+    // The 62 that were hidden came back from the least overhead on: two tests of the first, which has no line before
+    // it, and three of each other one. Then two of owner 64.
+    assert_eq!(rt; bounds.steps(), 2 + 61 * 3 + 2);
+    // Nobody to be removed leaves that.
+    assert_eq!(rt; bounds.remove(Ssrc(65)), None);
+    assert_eq!(rt; bounds.steps(), 187);
+    // Asking for the same again takes no test, nor does a removal from behind all others.
     assert_eq!(rt; bounds.set(Ssrc(64), tuple_of_64(64)), Ok(false));
+    assert_eq!(rt; bounds.steps(), 0);
+    assert_eq!(rt; bounds.remove(Ssrc(64)), Some(tuple_of_64(64)));
+    assert_eq!(rt; bounds.steps(), 0);
+    // One from among them hides nothing either, and no row is looked at between its neighbours.
+    assert_eq!(rt; bounds.remove(Ssrc(32)), Some(tuple_of_64(32)));
     assert_eq!(rt; bounds.steps(), 0);
     Ok(())
 }

@@ -47,13 +47,19 @@ impl Generator {
 
     /// A request of one of twelve owners, of this kind.
     pub fn request(&mut self, kind: Kind) -> Request {
-        let owner = Ssrc(u32::from(self.next() % 12));
+        self.request_of(12, kind)
+    }
+
+    /// A request of one of so many owners, of this kind.
+    pub fn request_of(&mut self, owners: u16, kind: Kind) -> Request {
+        let owner = Ssrc(u32::from(self.next().checked_rem(owners).unwrap_or(0)));
         let tuple = match kind {
             Kind::FewLines => self.few_lines(),
             Kind::MeetAtZero => self.meet_at_zero(),
             Kind::Stops => self.stops(),
             Kind::Extremes => self.extremes(),
             Kind::Rounded => self.rounded(),
+            Kind::ManyLines => self.many_lines(),
         };
         Request { owner, tuple }
     }
@@ -106,6 +112,15 @@ impl Generator {
         let mantissa = number.wrapping_mul(number).wrapping_add(more);
         Tuple::new(0, mantissa.wrapping_add(5_000), overhead).unwrap_or_default()
     }
+
+    /// On or a little above the lines of rate 65,500 + i * i and overhead i, each of which bounds somewhere.
+    fn many_lines(&mut self) -> Tuple {
+        let overhead = self.next() % 257;
+        let number = u32::from(overhead);
+        let more = self.choose(&[0, 0, 0, 1, 2, 3], 0);
+        let mantissa = number.wrapping_mul(number).wrapping_add(more);
+        Tuple::new(0, mantissa.wrapping_add(65_500), overhead).unwrap_or_default()
+    }
 }
 
 /// What the requests of a list have in common.
@@ -116,8 +131,10 @@ pub enum Kind {
     Stops,
     Extremes,
     Rounded,
+    ManyLines,
 }
 
+/// The kinds for lists of few requests.
 pub const KINDS: [Kind; 5] = [
     Kind::FewLines,
     Kind::MeetAtZero,

@@ -32,6 +32,7 @@ pub fn replace(
     ensures changed { IsTrue result ↔ (lines.new.items ≢ lines.old.items) }
     ensures each { tuple_of rows.old.items x.now.owner.0 ≡ None → dropped_count lines.old.items lines.new.items ≤ count.new + 1 }
     ensures few { tuple_of rows.old.items x.now.owner.0 ≡ None → count.new ≤ dropped_count lines.old.items lines.new.items + 4 }
+    ensures each_more { length lines.new.items ≤ length lines.old.items + count.new + 1 }
     ensures bounded { count.new ≤ MAX_REQUESTS * (MAX_REQUESTS + 4) + MAX_REQUESTS + 4 }
 {
     let was_line = take_out(rows, lines, x.owner, count);
@@ -57,6 +58,7 @@ fn take_out(
     ensures was_line { IsTrue result → Any (λ l. l.owner.0 ≡ owner.0) lines.old.items }
     ensures unchanged { result ≡ false → lines.new ≡ lines.old }
     ensures absent { tuple_of rows.old.items owner.0 ≡ None → (result ≡ false) × (count.new ≡ 0) }
+    ensures each_more { length lines.new.items ≤ length lines.old.items + count.new }
     ensures bounded { count.new ≤ MAX_REQUESTS * (MAX_REQUESTS + 4) }
 {
     match take(rows, owner) {
@@ -85,6 +87,8 @@ fn put_in(
     ensures unchanged { result ≡ false → lines.new ≡ lines.old }
     ensures each { count.old + dropped_count lines.old.items lines.new.items ≤ count.new + 1 }
     ensures few { count.new ≤ count.old + dropped_count lines.old.items lines.new.items + 4 }
+    ensures one_more { length lines.new.items ≤ length lines.old.items + 1 }
+    ensures counted { count.old ≤ count.new }
     ensures bounded { count.new ≤ count.old + MAX_REQUESTS + 4 }
 {
     add(rows, *x);

@@ -49,8 +49,8 @@ returns-clause-no_step c =
     ]
 
 -- each request more that is announced then took a test
-pub returns-clause-each_step : goal.returns-clause-each_step
-returns-clause-each_step c =
+pub returns-clause-each_more : goal.returns-clause-each_more
+returns-clause-each_more c =
     let gone : Request = record { owner = c.args.owner; tuple = c.in_ok-tuple.tuple } in
     let rows = c.self.inside.rows.items in
     let rows' = c.take.new.rows.items in

@@ -1,4 +1,4 @@
-use Rattle.std.proofs.Common.{◌≡◌, ◌≢◌, IsTrue, List, None, sym, ap, ◌∙◌, subst, arith}
+use Rattle.std.proofs.Common.{◌≡◌, ◌≢◌, length, IsTrue, List, None, sym, ap, ◌∙◌, subst, arith}
 use Rattle.std.specs.Prelude.{◌↔◌, All}
 use Rattle.std.proofs.lemmas.Bool.Decides.{nat_tests}
 use Rattle.rate_cert.specs.declared.request.Request.{Request}
@@ -112,3 +112,16 @@ returns-clause-each_step c =
     let same : dropped_count (announced_of c.args.self.now) (AnnouncedNow c) ≡ dropped_count lines lines' =
     ap (λ before. dropped_count before (AnnouncedNow c)) was ∙ ap (dropped_count lines) is in
     omega (arith, each, same)
+
+pub returns-clause-each_more : goal.returns-clause-each_more
+returns-clause-each_more c =
+    let rows = c.self.inside.rows.items in
+    let rows' = c.replace-lines_changed.new.rows.items in
+    let stops' = c.update_stops-stops_changed.new.stops.items in
+    let lines = c.self.inside.lines.items in
+    let lines' = c.replace-lines_changed.new.lines.items in
+    λ sent send.
+    let sent_inside : All (λ r. ¬ StopsMedia r) rows = subst (All (λ r. ¬ StopsMedia r)) (sym (ap (λ (s : State). s.rows) c.self.view_is)) sent in
+    let were = ap length (before c ∙ ap (λ ss. announced_among ss lines) (no_stops rows c.self.inside.stops.items c.self.invariant.3 sent_inside)) in
+    let are = ap length (now c ∙ ap (λ ss. announced_among ss lines') (no_stops rows' stops' (holds c) send)) in
+    omega (arith, were, are, c.replace-lines_changed.ensures.each_more)
