@@ -31,7 +31,8 @@ fn assert_as_walked(rt: &impl Abort, alloc: Global, bounds: &Bounds) -> Result<O
     assert_eq!(rt; bounds.announced().as_slice(), announced, "{rows:?}");
     let mut places = Vec::new(alloc);
     for line in announced {
-        let place = rows.iter().position(|row| row == line).ok_or("no row")?;
+        let place = rows.binary_search_by_key(&line.owner.0, |row| row.owner.0);
+        let place = place.map_err(|_| Fail::from("no row"))?;
         places.push(place)?;
     }
     let wanted = certificate(rows, places.as_slice())?;
