@@ -1,5 +1,5 @@
 #!/usr/bin/env bash
-# Prints the size of Bounds and the time of one change of the live requests, at 1, 4, 16 and 64 of them: a whole
+# Prints the size of Bounds and the time of one change of the live requests, at 1, 4, 16, 64 and 256 of them: a whole
 # Bounds::set, the envelope changed in place alone, and the plain walk alone.
 # Wants rt on the path. An argument, if any, is how many changes are timed at once, about.
 set -euo pipefail
