@@ -11,10 +11,10 @@ use std::marker::Model;
 use tmmbr_tuple::Ssrc;
 
 /// How many endpoints there may be.
-pub const MAX_ENDPOINTS: usize = 64;
+pub const MAX_ENDPOINTS: usize = 256;
 
 /// How many legs there may be.
-pub const MAX_LEGS: usize = 1024;
+pub const MAX_LEGS: usize = 4096;
 
 /// How many threads may forward.
 pub const MAX_WORKERS: u64 = 8;
@@ -77,6 +77,7 @@ impl Model for Settings {
       history = s.numbers.history;
       timeout_ms = s.numbers.timeout_ms;
       report_ms = s.numbers.report_ms;
+      request_ms = s.numbers.request_ms;
       pli_gap_ms = s.numbers.pli_gap_ms;
       unit_ssrc = s.unit_ssrc;
       cname = string_bytes s.cname;
@@ -90,6 +91,7 @@ impl Model for Settings {
       history = s.numbers.history;
       timeout_ms = s.numbers.timeout_ms;
       report_ms = s.numbers.report_ms;
+      request_ms = s.numbers.request_ms;
       pli_gap_ms = s.numbers.pli_gap_ms;
       unit_ssrc = s.unit_ssrc;
       cname = string_bytes s.cname;
@@ -230,6 +232,14 @@ impl Settings {
         self.numbers.report_ms
     }
 
+    /// The age at which a request is given up, in milliseconds; 0 where it never is.
+    pub fn request_ms(&self) -> u64
+        ensures value { result ≡ self.now.request_ms }
+        ensures range { IsInRange self.now }
+    {
+        self.numbers.request_ms
+    }
+
     /// The least time between two picture loss indications to a publisher, in milliseconds.
     pub fn pli_gap_ms(&self) -> u64
         ensures value { result ≡ self.now.pli_gap_ms }
@@ -240,7 +250,8 @@ impl Settings {
 
     /// The unit's own source.
     pub fn unit_ssrc(&self) -> Ssrc
-        ensures { result ≡ self.now.unit_ssrc }
+        ensures value { result ≡ self.now.unit_ssrc }
+        ensures range { IsInRange self.now }
     {
         self.unit_ssrc
     }
