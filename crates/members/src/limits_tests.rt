@@ -123,9 +123,13 @@ fn bytes_of_the_name(rt: HostRuntime) -> Result<(), Fail> {
     Ok(())
 }
 
-/// So many endpoints with the sources 10,000, 10,001 and so on.
-fn endpoints(alloc: Global, count: i64) -> Result<Vec<Option<i64>>, AllocError> {
-    (0..count).map(|k| Some(10_000 + k)).collect(alloc)
+/// So many endpoints, with the sources 10,000, 10,001 and so on.
+fn endpoints(alloc: Global, count: u16) -> Result<Vec<Option<i64>>, AllocError> {
+    let mut endpoints = Vec::new(alloc);
+    for k in 0..count {
+        endpoints.push(Some(10_000 + i64::from(k)))?;
+    }
+    Ok(endpoints)
 }
 
 #[test]
@@ -161,10 +165,12 @@ pub fn full_parts(alloc: Global) -> Result<Parts, AllocError> {
     let mut parts = found_parts(alloc)?;
     parts.endpoints = endpoints(alloc, 256)?;
     parts.legs.clear();
-    for publisher in 0..256 {
-        for distance in 1..17 {
-            let subscriber = (publisher + distance) % 256;
-            parts.legs.push(leg(subscriber, publisher, 20_000 + publisher * 16 + distance))?;
+    for publisher in 0u16..256 {
+        for distance in 1u16..17 {
+            let subscriber = i64::from((publisher % 256 + distance % 17) % 256);
+            let publisher = i64::from(publisher);
+            let out_ssrc = 20_000 + publisher * 16 + i64::from(distance);
+            parts.legs.push(leg(subscriber, publisher, out_ssrc))?;
         }
     }
     Ok(parts)
