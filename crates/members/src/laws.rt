@@ -4,9 +4,10 @@
 ghost use Rattle.std.specs.Prelude.{◌≡◌, ◌≢◌, All, ℕ, ◌<◌, List, length};
 ghost use Rattle.members.specs.Presence.{is_present_at};
 ghost use Rattle.members.specs.Settings.{Configuration, IsInRange};
-ghost use Rattle.members.specs.Room.{new_room, reception_at};
+ghost use Rattle.members.specs.Room.{new_room, leg_at, reception_at};
 ghost use Rattle.members.specs.Calls.{Call, room_after, orders_after, accepted, greatest_moment, is_present_after, arrivals, departures, received_in_presence, RiseWithin, StandsByPresence, StandsNowhere};
-ghost use Rattle.std.specs.Prelude.{Option, ◌∷◌, ◌++◌};
+ghost use Rattle.members.specs.Calls.{drawn, RunsFrom, stay_after, IsOnePresence};
+ghost use Rattle.std.specs.Prelude.{Option, ◌∷◌, ◌++◌, ◌↔◌};
 ghost use Rattle.tmmbr_tuple.specs.declared.ssrc.Ssrc.{Ssrc};
 ghost use Rattle.members.specs.Reception.{Block, Call as ReceptionCall, Packet, reception_of, IsBlockAfter, IsHighest, greatest_number};
 ghost use Rattle.members.specs.Stream.{heard_after, IsAnswer};
@@ -28,6 +29,24 @@ pub fn present_by_last_hears()
 pub fn stays_rise()
     ensures { (s : Configuration) (calls : List Call)
         → RiseWithin 1 (arrivals (orders_after (new_room s) calls)) (room_after (new_room s) calls).next }
+{}
+
+/// The numbers that are drawn for stays and turns, in the order of the orders, are 1, 2, 3 and so on: one
+/// counter gives both, and no number is drawn twice.
+pub fn numbers_run()
+    ensures { (s : Configuration) (calls : List Call)
+        → RunsFrom 1 (drawn (orders_after (new_room s) calls)) (room_after (new_room s) calls).next }
+{}
+
+/// A stay's number is that of one presence of its leg's subscriber together with one of its publisher: where
+/// a stay stands after some calls, it is the same after more of them exactly where each is in the presence
+/// that it was in.
+pub fn stays_number_presences()
+    ensures { (s : Configuration) (before after : List Call) (leg : ℕ) → IsInRange s → leg < length s.legs
+        → stay_after s before leg ≢ 0
+        → (stay_after s (before ++ after) leg ≡ stay_after s before leg)
+        ↔ (IsOnePresence s (leg_at (new_room s).legs leg).subscriber before (before ++ after)
+        × IsOnePresence s (leg_at (new_room s).legs leg).publisher before (before ++ after)) }
 {}
 
 /// A stay that ended never stands again: no leg has its number after any further calls.

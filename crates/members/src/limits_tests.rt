@@ -1,8 +1,10 @@
 //! Each limit at both edges: the last value that is accepted and the first that is refused.
 use super::*;
+use crate::room_tests::{arrive, depart, route};
 use crate::settings_tests::{fault_of, found_parts, leg};
 use crate::stream::COUNTED_PACKETS;
 use std::alloc::{AllocError, Global};
+use std::process::Abort;
 use std::test::Fail;
 use tmmbr_tuple::Ssrc;
 
@@ -176,27 +178,50 @@ pub fn full_parts(alloc: Global) -> Result<Parts, AllocError> {
     Ok(parts)
 }
 
+/// The source of an endpoint of the full room.
+fn source(endpoint: u16) -> Ssrc {
+    Ssrc(10_000 + u32::from(endpoint))
+}
+
+/// All endpoints come, and leave in one call.
+fn come_and_leave(rt: &(impl Abort + AllocGlobal), room: &mut Room) -> Result<(), Fail> {
+    let mut orders = Vec::new(rt.alloc());
+    for endpoint in 0u16..255 {
+        room.hear(0, endpoint, source(endpoint), &mut orders)?;
+    }
+    // All legs but those of the last endpoint: 16 that it is sent, and 16 that it sends.
+    assert_eq!(rt; orders.len(), 2 * (4096 - 32));
+    assert!(rt; orders.starts_with(&[arrive(0, 1), route(0, 1, 1, true)]));
+    orders.clear();
+    room.hear(0, 255, source(255), &mut orders)?;
+    assert_eq!(rt; orders.len(), 64);
+    assert!(rt; orders.starts_with(&[arrive(3839, 4065), route(3839, 4065, 4065, true)]));
+    assert!(rt; orders.ends_with(&[arrive(4095, 4096), route(4095, 4096, 4096, true)]));
+    for leg in 0u16..4096 {
+        assert_ne!(rt; room.stay(leg), 0, "{leg}");
+    }
+    orders.clear();
+    // All leave in one call.
+    room.tick(1000, &mut orders)?;
+    assert_eq!(rt; orders.len(), 2 * 4096);
+    assert!(rt; orders.starts_with(&[route(0, 0, 1, false), depart(0, 1)]));
+    assert!(rt; orders.ends_with(&[route(4064, 0, 4080, false), depart(4064, 4080)]));
+    for leg in 0u16..4096 {
+        assert_eq!(rt; room.stay(leg), 0, "{leg}");
+    }
+    Ok(())
+}
+
 #[test]
 fn as_many_endpoints_and_legs_as_may_be(rt: HostRuntime) -> Result<(), Fail> {
     let alloc = rt.alloc();
-    let mut parts = full_parts(alloc)?;
-    let settings = Settings::new(alloc, &parts)?;
+    let settings = Settings::new(alloc, &full_parts(alloc)?)?;
     assert_eq!(rt; settings.endpoints().len(), 256);
-    assert_eq!(rt; settings.endpoints()[255], Ssrc(10_255));
+    assert_eq!(rt; settings.endpoints()[255], source(255));
     assert_eq!(rt; settings.legs().len(), 4096);
     assert_eq!(rt; settings.legs()[4095].subscriber, 15);
     assert_eq!(rt; settings.legs()[4095].publisher, 255);
-    // The last leg has the source of the one before, and then also its ends.
-    let _ = parts.legs.pop();
-    parts.legs.push(leg(16, 255, 20_000 + 4095))?;
-    assert_eq!(rt; fault_of(alloc, &parts), Some(SettingsFault::SameSsrc));
-    let _ = parts.legs.pop();
-    parts.legs.push(leg(14, 255, 20_000 + 4095))?;
-    assert_eq!(rt;
-        fault_of(alloc, &parts),
-        Some(SettingsFault::Leg(4095, Key::Publisher))
-    );
-    Ok(())
+    come_and_leave(&rt, &mut Room::new(alloc, &settings)?)
 }
 
 #[test]

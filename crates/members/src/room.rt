@@ -362,3 +362,6 @@ impl Room {
         self.receptions[usize::from(endpoint)].last_sr()
     }
 }
+
+#[cfg(test)]
+mod quiet_tests;
