@@ -144,7 +144,8 @@ fn copied_endpoints(alloc: Global, parts: &Parts) -> Result<Vec<Ssrc>, AllocErro
 fn copied_legs(alloc: Global, parts: &Parts) -> Result<Vec<LegSettings>, AllocError>
     requires least { 1 ≤ length parts.now.endpoints.items }
     requires most { length parts.now.endpoints.items ≤ MAX_ENDPOINTS }
-    ensures { IfOk result (λ v. v.items ≡ map (leg_of (length parts.now.endpoints.items)) parts.now.legs.items) }
+    ensures { IfOk result (λ v. v.items
+        ≡ map (leg_of (length parts.now.endpoints.items)) parts.now.legs.items) }
 {
     let endpoints = parts.endpoints.len() as u64;
     let mut legs = Vec::with_capacity(alloc, parts.legs.len())?;
@@ -179,9 +180,11 @@ impl Settings {
     /// The settings that these parts spell. Refused with the first fault by the order of the checks, and
     /// as `NoMemory` only where every check passes.
     pub fn new(alloc: Global, parts: &Parts) -> Result<Settings, SettingsFault>
-        ensures ok { IfOk result (λ s. (first_fault (checks parts.now) ≡ None) × (s ≡ configuration_of parts.now)) }
+        ensures ok { IfOk result
+            (λ s. (first_fault (checks parts.now) ≡ None) × (s ≡ configuration_of parts.now)) }
         ensures fault { IfSome (first_fault (checks parts.now)) (λ f. result ≡ Err f) }
-        ensures no_memory { first_fault (checks parts.now) ≡ None → OnErr result (result ≡ Err SettingsFault.NoMemory) }
+        ensures no_memory { first_fault (checks parts.now) ≡ None
+            → OnErr result (result ≡ Err SettingsFault.NoMemory) }
     {
         match checked(parts) {
             Ok(numbers) => match copied(alloc, parts, numbers) {
