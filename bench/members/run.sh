@@ -1,5 +1,5 @@
 #!/usr/bin/env bash
-# Prints the times of the calls of a room of 64 endpoints and 1,024 legs that every packet makes.
+# Prints the times of the calls of a room of 256 endpoints and 4,096 legs.
 # Wants rt on the path. An argument, if any, is how many calls are timed at once, about.
 set -euo pipefail
 

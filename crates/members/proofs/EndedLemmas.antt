@@ -23,12 +23,12 @@ abbrev is_one : ℕ → ℕ → ℕ
 is_one a n = cond (a == n) 1 0
 
 -- how often a number stands in a list
-times : ℕ → List ℕ → ℕ
+pub times : ℕ → List ℕ → ℕ
 times n [] = 0
 times n (x ∷ xs) = cond (x == n) 1 0 + times n xs
 
 -- how many legs have this stay
-standing : ℕ → List LegStay → ℕ
+pub standing : ℕ → List LegStay → ℕ
 standing n [] = 0
 standing n (l ∷ ls) = cond (l.stay == n) 1 0 + standing n ls
 
@@ -160,11 +160,11 @@ coming_departs es e next ls = none_depart (begins_with es e) next 0 ls
 
 -- ---- what always holds: a number stands once, among those that ended before, the orders since, and the legs
 
-record Once (past : List ℕ) (orders : List Order) (next : ℕ) (ls : List LegStay) : Type 0 where
-  bound : (n : ℕ) → 1 ≤ n → times n past + times n (departures orders) + standing n ls ≤ 1
-  fresh : (n : ℕ) → next ≤ n → times n past + times n (departures orders) + standing n ls ≡ 0
-  real_past : times 0 past + times 0 (departures orders) ≡ 0
-  numbered : 1 ≤ next
+pub record Once (past : List ℕ) (orders : List Order) (next : ℕ) (ls : List LegStay) : Type 0 where
+  pub bound : (n : ℕ) → 1 ≤ n → times n past + times n (departures orders) + standing n ls ≤ 1
+  pub fresh : (n : ℕ) → next ≤ n → times n past + times n (departures orders) + standing n ls ≡ 0
+  pub real_past : times 0 past + times 0 (departures orders) ≡ 0
+  pub numbered : 1 ≤ next
 
 once_leave : (past : List ℕ) (next : ℕ) (t : Told) (e : ℕ) → Once past t.orders next t.legs → Once past (leave t e).orders next (leave t e).legs
 once_leave past next t e h = record {
@@ -186,7 +186,7 @@ once_left past next timeout m t (suc n) h =
     let before = once_left past next timeout m t n h in
     once_if past next (is_overdue_at timeout m (left timeout m t n).endpoints n) _ _ (once_leave past next (left timeout m t n) n before) before
 
-once_leaving : (past : List ℕ) (r : RoomState) (m : ℕ) → Once past [] r.next r.legs
+pub once_leaving : (past : List ℕ) (r : RoomState) (m : ℕ) → Once past [] r.next r.legs
     → Once past (after_leaving r m).orders r.next (after_leaving r m).legs
 unfolding leaving
 once_leaving past r m h = once_left past r.next r.timeout m (told r.endpoints r.legs) (length r.endpoints) h
@@ -226,7 +226,7 @@ row_departs number l = step (l.stay == 0)
     step true = refl
     step false = refl
 
-later : (b : Bool) (n : ℕ) → n ≤ cond b (n + 1) n
+pub later : (b : Bool) (n : ℕ) → n ≤ cond b (n + 1) n
 later true n = omega arith
 later false n = omega arith
 
@@ -249,9 +249,25 @@ once_switched past next t number on h = record {
     kept : (n : ℕ) → standing n (set t.legs number (switched on next (leg_at t.legs number))) ≡ standing n t.legs
     kept n = standing-set n number t.legs (switched on next (leg_at t.legs number)) refl
 
+itself : (n : ℕ) → is_one n n ≡ 1
+itself n = grind (arith, nat_tests)
+
+stands_once : (ls : List LegStay) (k : ℕ) → 1 ≤ (leg_at ls k).stay → 1 ≤ standing (leg_at ls k).stay ls
+unfolding standing
+stands_once [] k some = absurd (omega arith)
+stands_once (l ∷ ls) zero some = omega (arith, itself l.stay)
+stands_once (l ∷ ls) (suc k) some = omega (arith, stands_once ls k some)
+
+-- each stay that stands has a number below the next
+pub once_below : (past : List ℕ) (orders : List Order) (next : ℕ) (ls : List LegStay) → Once past orders next ls → (k : ℕ) → (leg_at ls k).stay < next
+once_below past orders next ls h k = elim (cases_lt (leg_at ls k).stay next) [
+  | inl less ↦ less
+  | inr more ↦ absurd (omega (arith, h.numbered, h.fresh (leg_at ls k).stay more, stands_once ls k (omega (arith, h.numbered))))
+]
+
 -- ---- one call
 
-abbrev IfOnce : List ℕ → Result Step RoomFault → Type 0
+abbrev pub IfOnce : List ℕ → Result Step RoomFault → Type 0
 IfOnce past (Ok s) = Once past s.orders s.room.next s.room.legs
 IfOnce past (Err fault) = Unit {0}
 
@@ -259,7 +275,7 @@ if_once : (past : List ℕ) (b : Bool) (x y : Result Step RoomFault) → IfOnce 
 if_once past true x y first second = first
 if_once past false x y first second = second
 
-once_call : (past : List ℕ) (r : RoomState) (c : Call) → Once past [] r.next r.legs → IfOnce past (step_of r c)
+pub once_call : (past : List ℕ) (r : RoomState) (c : Call) → Once past [] r.next r.legs → IfOnce past (step_of r c)
 once_call past r (Tick handed) h = once_leaving past r (max r.moment handed) h
 once_call past r (Bye handed e) h =
     let t = after_leaving r (max r.moment handed) in
@@ -297,7 +313,7 @@ once_moved past orders more next ls h = record {
   numbered = h.numbered;
 }
 
-once_past : (past : List ℕ) (orders : List Order) (next : ℕ) (ls : List LegStay)
+pub once_past : (past : List ℕ) (orders : List Order) (next : ℕ) (ls : List LegStay)
     → Once past orders next ls → Once (past ++ departures orders) [] next ls
 unfolding times
 once_past past orders next ls h = record {
@@ -307,7 +323,7 @@ once_past past orders next ls h = record {
   numbered = h.numbered;
 }
 
-once_after : (past : List ℕ) (r : RoomState) (calls : List Call) → Once past [] r.next r.legs
+pub once_after : (past : List ℕ) (r : RoomState) (calls : List Call) → Once past [] r.next r.legs
     → Once past (orders_after r calls) (room_after r calls).next (room_after r calls).legs
 once_after past r [] h = h
 once_after past r (c ∷ calls) h = step (step_of r c) (once_call past r c h) (λ past' r' h'. once_after past' r' calls h')
@@ -330,7 +346,7 @@ unfolding standing
 unstarted_standing n [] least = refl
 unstarted_standing n (l ∷ legs) least = omega (arith, not_zero n least, unstarted_standing n legs least)
 
-once_new : (s : Configuration) → Once [] [] 1 (map unstarted s.legs)
+pub once_new : (s : Configuration) → Once [] [] 1 (map unstarted s.legs)
 unfolding times
 once_new s = record {
   bound = λ n least. omega (arith, unstarted_standing n s.legs least);

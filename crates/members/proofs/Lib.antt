@@ -1,5 +1,7 @@
 pub mod CallLemmas
+pub mod DrawnLemmas
 pub mod EndedLemmas
+pub mod LastLemmas
 pub mod NumberLemmas
 pub mod ReceivedLemmas
 pub mod ReceptionLemmas

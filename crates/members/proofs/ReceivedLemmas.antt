@@ -72,7 +72,7 @@ present_gone t other e = step (is_present_at t.endpoints other)
     step false present = present
 
 -- who is present has a recent hear
-present_recent : (r : RoomState) (m e : ℕ) (heard : Option ℕ) → r.moment ≤ m → Before e heard r
+pub present_recent : (r : RoomState) (m e : ℕ) (heard : Option ℕ) → r.moment ≤ m → Before e heard r
     → is_present_at (after_leaving r m).endpoints e ≡ is_recent r.timeout m heard
 present_recent r m e heard more b =
     present_heard (after_leaving r m).endpoints e

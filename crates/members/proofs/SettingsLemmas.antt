@@ -1,14 +1,19 @@
 -- Checks one after another.
-use Rattle.std.proofs.Common.{◌≡◌, ℕ, suc, ◌+◌, ◌-◌, ◌<◌, ◌≤◌, List, [], ◌∷◌, ◌++◌, length, drop, get_or, refl, sym, ap, ◌∙◌, arith, length-append, append_assoc, Some, None, Bool, true, false, cond}
+use Rattle.std.proofs.Common.{◌≡◌, ℕ, zero, suc, subst, add-one, eq-eqb, ◌+◌, ◌-◌, ◌<◌, ◌≤◌, List, [], ◌∷◌, ◌++◌, length, drop, get_or, refl, sym, ap, ◌∙◌, arith, length-append, append_assoc, Some, None, Bool, true, false, cond}
 use Rattle.std.specs.Prelude.{◌==◌, flat_map, not, Option, ◌&&◌, ◌||◌, map}
-use Rattle.std.specs.Prelude.{All}
+use Rattle.std.specs.Prelude.{All, AllPairs}
 use Rattle.std.proofs.lemmas.List.Elements.{All-nil, All-cons}
 use Rattle.std.proofs.lemmas.Bool.Decides.{nat_tests}
 use Rattle.std.specs.List.{enumerate_from, list_any}
-use Rattle.std.proofs.lemmas.List.{drop_more, length-map, get_or_append_left, get_or-append_right, get_or-map}
+use Rattle.std.proofs.lemmas.List.{drop_more, length-map, length-take-le, get_or_append_left, get_or-append_right, get_or-map, get_or-take}
+use Rattle.std.proofs.lemmas.List.Kept.{AllPairs-cons}
+use Rattle.std.proofs.lemmas.List.Folds.{list_any_at}
+use Rattle.std.proofs.lemmas.Simd.{map-map}
+use Rattle.tmmbr_tuple.specs.declared.ssrc.Ssrc.{Ssrc}
+use Rattle.members.specs.declared.settings.LegSettings.{LegSettings}
 use Rattle.members.specs.declared.parts.Parts.{Parts}
 use Rattle.members.specs.declared.fault.SettingsFault.{SettingsFault}
-use Rattle.members.specs.Settings.{Check, check, checks, top_checks, endpoint_checks, leg_checks, first_fault, are_distinct, sources, number_or_zero, number_within, is_cname, name_of, ssrc_of, leg_of, number_below, is_same, has_pair, is_publisher, AreNumbersOf, IsInRange, IsLegAmong}
+use Rattle.members.specs.Settings.{Check, check, checks, top_checks, endpoint_checks, leg_checks, first_fault, are_distinct, sources, number_or_zero, number_within, is_cname, name_of, ssrc_of, leg_of, number_below, or_zero, is_same, has_pair, is_publisher, AreNumbersOf, IsInRange, IsLegAmong, HasOtherEnds}
 use Rattle.members.specs.declared.checks.Numbers.{Numbers}
 use Rattle.members.specs.declared.fault.SettingsFault.TheVariants.{SameSsrc}
 use Rattle.members.specs.declared.settings.TheConstants.{SSRCS, MAX_WORKERS, MAX_RING, LEAST_HISTORY, MAX_HISTORY, MAX_PERIOD_MS, MAX_CNAME, MAX_ENDPOINTS, MAX_LEGS}
@@ -211,6 +216,11 @@ legs_of p passes =
     let last = (none_split (endpoints_part p) (legs_part p ++ sources_part p) behind).1 in
     (none_split (legs_part p) (sources_part p) last).0
 
+endpoints_of : (p : Parts) → first_fault (checks p) ≡ None → first_fault (endpoints_part p) ≡ None
+endpoints_of p passes =
+    let behind = (none_split (top_checks p) (endpoints_part p ++ (legs_part p ++ sources_part p)) (sym (checks-is p) ∙ passes)).1 in
+    (none_split (endpoints_part p) (legs_part p ++ sources_part p) behind).0
+
 -- a number that is there is below its limit
 record IsThere (v : Option ℤ) (n : ℕ) : Type 0 where
   below : number_or_zero v n < n
@@ -264,6 +274,115 @@ legs_pass p k (l ∷ ls) passes =
     All-cons (IsLegAmong (length p.endpoints.items)) (leg_of (length p.endpoints.items) l) (map (leg_of (length p.endpoints.items)) ls)
     (leg_passes p k l parts.0) (legs_pass p (k + 1) ls parts.1)
 
+-- where the checks of all pass, so do those of the one at this place
+passes_at : {X : Type 0} (f : ℕ × X → List Check) (xs : List X) (k : ℕ) (d : X) → k < length xs → checks_from f xs k ≡ None
+    → (first_fault (f (k, get_or xs k d)) ≡ None) × (checks_from f xs (k + 1) ≡ None)
+passes_at f xs k d below passes =
+    none_split (f (k, get_or xs k d)) (flat_map f (enumerate_from (k + 1) (drop (k + 1) xs)))
+    (sym (ap (λ ys. first_fault (flat_map f (enumerate_from k ys))) (drop_more xs k d below)) ∙ passes)
+
+passes_from : {X : Type 0} (f : ℕ × X → List Check) (xs : List X) (k : ℕ) (d : X) → k ≤ length xs → checks_from f xs 0 ≡ None
+    → checks_from f xs k ≡ None
+passes_from f xs zero d within passes = passes
+passes_from f xs (suc k) d within passes =
+    let P : ℕ → Type 0 = λ n. checks_from f xs n ≡ None in
+    subst P (add-one k) (passes_at f xs k d (omega arith) (passes_from f xs k d (omega arith) passes)).1
+
+-- what the checks of a leg say: its ends are there, and no leg before it has them both
+record LegPasses (p : Parts) (k : ℕ) (l : LegParts) : Type 0 where
+  subscriber : IsThere l.subscriber (length p.endpoints.items)
+  publisher : IsThere l.publisher (length p.endpoints.items)
+  single : has_pair (take k p.legs.items) (length p.endpoints.items)
+      (number_below l.subscriber (length p.endpoints.items)) (number_below l.publisher (length p.endpoints.items)) ≡ false
+
+single_of : (b : Bool) → not b ≡ true → b ≡ false
+single_of true is = absurd (cc)
+single_of false is = refl
+
+leg_says : (p : Parts) (k : ℕ) (l : LegParts) → first_fault (leg_checks p (k, l)) ≡ None → LegPasses p k l
+leg_says p k l passes =
+    let n = length p.endpoints.items in
+    let subscriber = number_below l.subscriber n in
+    let publisher = number_below l.publisher n in
+    let earlier = has_pair (take k p.legs.items) n subscriber publisher in
+    let each = each_passes (leg_checks p (k, l)) passes in
+    let any : Check = check true SameSsrc in
+    let two : is_publisher (take k p.legs.items) n subscriber publisher ≡ true = each 2 any (omega arith) in
+    let three : is_some subscriber ≡ true = each 3 any (omega arith) in
+    let first = and_left (is_some publisher && not (is_same subscriber publisher)) (not earlier) two in
+    record {
+      subscriber = is_there l.subscriber n three;
+      publisher = is_there l.publisher n (and_left (is_some publisher) (not (is_same subscriber publisher)) first);
+      single = single_of earlier (and_right (is_some publisher && not (is_same subscriber publisher)) (not earlier) two);
+    }
+
+both_same : (a b : Option ℕ) (x y : ℕ) → a ≡ Some x → b ≡ Some y → x ≡ y → is_same a b ≡ true
+both_same a b x y p q same = rw (p, q) (eq-eqb x y same)
+
+both_true : (a b : Bool) → a ≡ true → b ≡ true → (a && b) ≡ true
+both_true a b p q = rw (p, q) refl
+
+-- a leg with the ends of a later one is found among those before that
+found_before : (p : Parts) (i j : ℕ) (d : LegParts) → i < j → j < length p.legs.items
+    → LegPasses p i (get_or p.legs.items i d) → LegPasses p j (get_or p.legs.items j d)
+    → HasOtherEnds (leg_of (length p.endpoints.items) (get_or p.legs.items i d)) (leg_of (length p.endpoints.items) (get_or p.legs.items j d))
+found_before p i j d before below a b subscriber publisher =
+    let n = length p.endpoints.items in
+    let l = get_or p.legs.items i d in
+    let m = get_or p.legs.items j d in
+    let test : LegParts → Bool =
+    λ o. is_same (number_below o.subscriber n) (number_below m.subscriber n) && is_same (number_below o.publisher n) (number_below m.publisher n) in
+    let one = both_same (number_below l.subscriber n) (number_below m.subscriber n) (number_or_zero l.subscriber n) (number_or_zero m.subscriber n) a.subscriber.is b.subscriber.is subscriber in
+    let two = both_same (number_below l.publisher n) (number_below m.publisher n) (number_or_zero l.publisher n) (number_or_zero m.publisher n) a.publisher.is b.publisher.is publisher in
+    let here : test l ≡ true = both_true _ _ one two in
+    let within : i < length (take j p.legs.items) = omega (arith, length-take-le j p.legs.items (omega arith)) in
+    let there : test (get_or (take j p.legs.items) i d) ≡ true = ap test (get_or-take j p.legs.items i d before) ∙ here in
+    absurd (false_true (sym b.single ∙ list_any_at test (take j p.legs.items) i d within there))
+  where
+    false_true : false ≡ true → ⊥
+    false_true e = cc
+
+pairs_differ : (p : Parts) → first_fault (legs_part p) ≡ None → AllPairs HasOtherEnds (map (leg_of (length p.endpoints.items)) p.legs.items)
+pairs_differ p passes i j d before below =
+    let n = length p.endpoints.items in
+    let any : LegParts = record { subscriber = None; publisher = None; out_ssrc = None; first_seq = None; on = None } in
+    let within : j < length p.legs.items = omega (arith, length-map p.legs.items (leg_of n)) in
+    let at = λ (k : ℕ) (h : k < length p.legs.items).
+    leg_says p k (get_or p.legs.items k any) (passes_at (leg_checks p) p.legs.items k any h (passes_from (leg_checks p) p.legs.items k any (omega arith) passes)).0 in
+    rw (get_or-map (leg_of n) p.legs.items i any d (omega arith), get_or-map (leg_of n) p.legs.items j any d within)
+    (found_before p i j any before within (at i (omega arith)) (at j within))
+
+-- numbers that pass the test are distinct
+pairs_distinct : (xs : List ℕ) → are_distinct xs ≡ true → AllPairs (λ x y. x ≢ y) xs
+pairs_distinct [] distinct = λ i j d before below. absurd (omega arith)
+pairs_distinct (x ∷ xs) distinct =
+    let none = single_of (list_any (λ y. y == x) xs) (and_left (not (list_any (λ y. y == x) xs)) (are_distinct xs) distinct) in
+    AllPairs-cons (λ x y. x ≢ y) x xs (others x xs none)
+    (pairs_distinct xs (and_right (not (list_any (λ y. y == x) xs)) (are_distinct xs) distinct))
+  where
+    false_true : false ≡ true → ⊥
+    false_true e = cc
+
+    others : (x : ℕ) (xs : List ℕ) → list_any (λ y. y == x) xs ≡ false → All (λ y. x ≢ y) xs
+    others x xs none k d below same =
+        false_true (sym none ∙ list_any_at (λ y. y == x) xs k d below (eq-eqb (get_or xs k d) x (sym same)))
+
+sources_distinct : (p : Parts) → first_fault (checks p) ≡ None → are_distinct (sources p) ≡ true
+sources_distinct p passes = shown (are_distinct (sources p)) (sym (past_legs p (top_of p passes) (endpoints_of p passes) (legs_of p passes)) ∙ passes)
+  where
+    shown : (b : Bool) → first_fault (check b SameSsrc ∷ []) ≡ None → b ≡ true
+    shown true none = refl
+    shown false none = absurd (cc)
+
+sources_differ : (p : Parts) → are_distinct (sources p) ≡ true
+    → AllPairs (λ a b. a ≢ b)
+    (number_or_zero p.unit_ssrc SSRCS
+    ∷ (map (λ e. e.0) (map ssrc_of p.endpoints.items) ++ map (λ l. l.out_ssrc.0) (map (leg_of (length p.endpoints.items)) p.legs.items)))
+unfolding sources
+sources_differ p distinct =
+    rw (map-map (λ (e : Ssrc). e.0) ssrc_of p.endpoints.items, map-map (λ (l : LegSettings). l.out_ssrc.0) (leg_of (length p.endpoints.items)) p.legs.items)
+    (pairs_distinct (sources p) distinct)
+
 pub in_range : (p : Parts) (n : Numbers) → AreNumbersOf p n → first_fault (checks p) ≡ None
     → IsInRange (record {
       workers = n.workers;
@@ -271,6 +390,7 @@ pub in_range : (p : Parts) (n : Numbers) → AreNumbersOf p n → first_fault (c
       history = n.history;
       timeout_ms = n.timeout_ms;
       report_ms = n.report_ms;
+      request_ms = n.request_ms;
       pli_gap_ms = n.pli_gap_ms;
       unit_ssrc = ssrc_of p.unit_ssrc;
       cname = name_of p.cname;
@@ -293,6 +413,7 @@ in_range p n is whole =
       most_timeout = (within_bounds p.timeout_ms 1 MAX_PERIOD_MS n.timeout_ms is.timeout_ms).1;
       least_report = (within_bounds p.report_ms 1 MAX_PERIOD_MS n.report_ms is.report_ms).0;
       most_report = (within_bounds p.report_ms 1 MAX_PERIOD_MS n.report_ms is.report_ms).1;
+      most_request = (within_bounds (or_zero p.request_ms) 0 MAX_PERIOD_MS n.request_ms is.request_ms).1;
       most_gap = (within_bounds p.pli_gap_ms 0 MAX_PERIOD_MS n.pli_gap_ms is.pli_gap_ms).1;
       least_cname = (name_bounds (name_of p.cname) passes.cname).0;
       most_cname = (name_bounds (name_of p.cname) passes.cname).1;
@@ -300,4 +421,6 @@ in_range p n is whole =
       most_endpoints = rw length-map endpoints.1;
       most_legs = rw length-map legs;
       legs = rw (length-map p.endpoints.items ssrc_of) (legs_pass p 0 p.legs.items (legs_of p whole));
+      pairs = pairs_differ p (legs_of p whole);
+      sources = sources_differ p (sources_distinct p whole);
     }

@@ -202,11 +202,11 @@ leaving_legs : (r : RoomState) (m : ℕ) → length (after_leaving r m).legs ≡
 unfolding leaving
 leaving_legs r m = left_legs r.timeout m (told r.endpoints r.legs) (length r.endpoints)
 
-record StandsIn (r : RoomState) : Type 0 where
-  stand : Stand r.endpoints r.legs
-  numbered : 1 ≤ r.next
+pub record StandsIn (r : RoomState) : Type 0 where
+  pub stand : Stand r.endpoints r.legs
+  pub numbered : 1 ≤ r.next
 
-abbrev IfStands : Result Step RoomFault → Type 0
+abbrev pub IfStands : Result Step RoomFault → Type 0
 IfStands (Ok s) = StandsIn s.room
 IfStands (Err fault) = Unit {0}
 
@@ -256,7 +256,7 @@ stands_switched es ls number next on inside s = record {
   differ = All-set Differs ls number (switched on next (leg_at ls number)) (s.differ number no_leg inside) s.differ;
 }
 
-stands : (r : RoomState) (c : Call) → StandsIn r → IfStands (step_of r c)
+pub stands : (r : RoomState) (c : Call) → StandsIn r → IfStands (step_of r c)
 stands r (Tick handed) s = record {
   stand = stand_leaving r.timeout (max r.moment handed) r.endpoints r.legs s.stand;
   numbered = s.numbered;
@@ -327,7 +327,10 @@ unstarted_stand ssrcs legs differ = record {
   differ = All-map Differs unstarted legs differ;
 }
 
+pub stands_new : (s : Configuration) → All (λ l. l.subscriber ≢ l.publisher) s.legs → StandsIn (new_room s)
+stands_new s differ = record { stand = unstarted_stand s.endpoints s.legs differ; numbered = omega arith }
+
 pub stand_law : (s : Configuration) (calls : List Call) → All (λ l. l.subscriber ≢ l.publisher) s.legs
     → Stand (room_after (new_room s) calls).endpoints (room_after (new_room s) calls).legs
 stand_law s calls differ =
-    (stands_after (new_room s) calls (record { stand = unstarted_stand s.endpoints s.legs differ; numbered = omega arith })).stand
+    (stands_after (new_room s) calls (stands_new s differ)).stand

@@ -1,5 +1,5 @@
 -- Calls of a room one after another, and what the whole list of them says of who is present and what was received.
-use Rattle.std.specs.Prelude.{◌≡◌, ◌≢◌, ◌==◌, not, All, ◌&&◌, ℕ, ◌+◌, ◌≤◌, nat_lt, max, Bool, false, List, [], ◌∷◌, ◌++◌, flat_map, Option, None, Some, Result, Ok, Err, if◌then◌else◌}
+use Rattle.std.specs.Prelude.{◌≡◌, ◌≢◌, ◌==◌, not, All, ◌&&◌, ℕ, ◌+◌, ◌≤◌, nat_lt, max, Bool, true, false, List, [], ◌∷◌, ◌++◌, flat_map, Option, None, Some, Result, Ok, Err, if◌then◌else◌}
 use Rattle.std.specs.Option.{option_map_or}
 use Rattle.members.specs.declared.order.Order.{Order}
 use Rattle.members.specs.declared.order.Order.TheVariants.{Arrive, Depart, Route}
@@ -7,7 +7,8 @@ use Rattle.members.specs.declared.fault.RoomFault.{RoomFault}
 use Rattle.members.specs.declared.presence.Endpoint.{Endpoint}
 use Rattle.members.specs.declared.stays.LegStay.{LegStay}
 use Rattle.members.specs.Presence.{is_present_at}
-use Rattle.members.specs.Room.{RoomState, Step, tick_step, bye_step, hear_step, select_step, after_packet, after_report, after_block}
+use Rattle.members.specs.Settings.{Configuration}
+use Rattle.members.specs.Room.{RoomState, Step, new_room, leg_at, tick_step, bye_step, hear_step, select_step, after_packet, after_report, after_block}
 use Rattle.members.specs.Reception.{Call as ReceptionCall, Received, SenderReported, BlockMade}
 
 pub data Call : Type 0 where
@@ -103,7 +104,7 @@ is_recent timeout moment heard = option_map_or (λ h. nat_lt moment (h + timeout
 abbrev pub is_present_after : ℕ → ℕ → List Call → Bool
 is_present_after timeout endpoint calls = is_recent timeout (greatest_moment 0 calls) (last_heard endpoint 0 None calls)
 
--- ---- what was received, by the whole list of accepted calls
+-- ---- what was received, and how often an endpoint came, by the whole list of accepted calls
 
 -- the endpoint comes by this call at this moment: it is heard, and no hear of it was recent
 abbrev pub comes_by : ℕ → ℕ → ℕ → Option ℕ → Call → Bool
@@ -144,7 +145,31 @@ abbrev pub received_in_presence : ℕ → ℕ → List Call → List ReceptionCa
 received_in_presence timeout endpoint calls =
     if is_present_after timeout endpoint calls then received_since timeout endpoint 0 None [] calls else []
 
--- ---- numbers of stays
+-- how often the endpoint comes
+abbrev pub comings_from : ℕ → ℕ → ℕ → Option ℕ → List Call → ℕ
+comings_from timeout endpoint moment heard [] = 0
+comings_from timeout endpoint moment heard (c ∷ calls) =
+    let now = max moment (moment_of c) in
+    (if comes_by timeout endpoint now heard c then 1 else 0)
+    + comings_from timeout endpoint now (heard_by endpoint now heard c) calls
+
+-- how often the endpoint came by these calls
+abbrev pub comings : ℕ → ℕ → List Call → ℕ
+comings timeout endpoint calls = comings_from timeout endpoint 0 None calls
+
+-- The endpoint is in one presence after the calls before and after all of them: it is present after both, and came no
+-- more between.
+pub record IsOnePresence (s : Configuration) (endpoint : ℕ) (before all : List Call) : Type 0 where
+  pub was : is_present_after s.timeout_ms endpoint (accepted (new_room s) before) ≡ true
+  pub is : is_present_after s.timeout_ms endpoint (accepted (new_room s) all) ≡ true
+  pub same : comings s.timeout_ms endpoint (accepted (new_room s) all)
+      ≡ comings s.timeout_ms endpoint (accepted (new_room s) before)
+
+-- the stay of the leg of this number after these calls; 0 where none stands
+abbrev pub stay_after : Configuration → List Call → ℕ → ℕ
+stay_after s calls leg = (leg_at (room_after (new_room s) calls).legs leg).stay
+
+-- ---- numbers of stays and turns
 
 abbrev pub arrival_of : Order → List ℕ
 arrival_of (Arrive leg stay) = stay ∷ []
@@ -154,6 +179,22 @@ arrival_of (Route leg stay turn on) = []
 -- the stays that began, in the order of the orders
 abbrev pub arrivals : List Order → List ℕ
 arrivals orders = flat_map arrival_of orders
+
+-- A stay's number is drawn as it begins. A row that is on begins a turn: that of the stay's number where it is the first,
+-- else one that is drawn for it.
+abbrev pub drawn_of : Order → List ℕ
+drawn_of (Arrive leg stay) = stay ∷ []
+drawn_of (Depart leg stay) = []
+drawn_of (Route leg stay turn on) = if on && not (turn == stay) then turn ∷ [] else []
+
+-- the numbers drawn for stays and turns, in the order of the orders
+abbrev pub drawn : List Order → List ℕ
+drawn orders = flat_map drawn_of orders
+
+-- the numbers from the first on, one after another, to below the last
+abbrev pub RunsFrom : ℕ → List ℕ → ℕ → Type 0
+RunsFrom first [] last = first ≡ last
+RunsFrom first (x ∷ xs) last = (x ≡ first) × RunsFrom (first + 1) xs last
 
 abbrev pub departure_of : Order → List ℕ
 departure_of (Arrive leg stay) = []

@@ -1,10 +1,10 @@
 -- What a room holds, and what each call does.
-use Rattle.std.specs.Prelude.{◌==◌, ℕ, ◌+◌, nat_lt, nat_le, max, Bool, false, not, List, [], ◌∷◌, ◌++◌, length, map, slice_index_or, slice_set, ◌&&◌, None, Some, Result, Ok, Err, if◌then◌else◌}
+use Rattle.std.specs.Prelude.{◌≡◌, IfOk, IfErr, OnOk, OnErr, ◌==◌, ℕ, ◌+◌, nat_lt, nat_le, max, Bool, false, not, List, [], ◌∷◌, ◌++◌, length, map, slice_index_or, slice_set, ◌&&◌, None, Some, Result, Ok, Err, if◌then◌else◌}
 use Rattle.tmmbr_tuple.specs.declared.ssrc.Ssrc.{Ssrc}
 use Rattle.members.specs.declared.order.Order.{Order}
 use Rattle.members.specs.declared.order.Order.TheVariants.{Route}
 use Rattle.members.specs.declared.fault.RoomFault.{RoomFault}
-use Rattle.members.specs.declared.fault.RoomFault.TheVariants.{UnknownEndpoint, WrongSsrc, UnknownLeg, StaysSpent}
+use Rattle.members.specs.declared.fault.RoomFault.TheVariants.{UnknownEndpoint, WrongSsrc, UnknownLeg, StaysSpent, NoMemory}
 use Rattle.members.specs.declared.presence.Endpoint.{Endpoint}
 use Rattle.members.specs.declared.stays.LegStay.{LegStay}
 use Rattle.members.specs.declared.stays.TheConstants.{MAX_STAY}
@@ -121,6 +121,15 @@ abbrev pub select_step : RoomState → ℕ → ℕ → Bool → Result Step Room
 select_step r handed number on =
     if nat_le (length r.legs) number then Err UnknownLeg
     else (let t = after_leaving r (max r.moment handed) in selected_step r (max r.moment handed) t number on (leg_at t.legs number))
+
+-- What a call answers and leaves. Where its step is a fault it is refused with that, and else for want of memory alone.
+-- Refused it leaves the room and the orders as they were; else the room is the step's, and its orders are appended.
+pub record Answers (old : RoomState) (orders : List Order) (step : Result Step RoomFault)
+    (result : Result (Unit {0}) RoomFault) (new : RoomState) (new_orders : List Order) : Type 0 where
+  pub ok : IfOk step (λ s. OnOk result ((new ≡ s.room) × (new_orders ≡ orders ++ s.orders)))
+  pub refused : IfErr step (λ fault. result ≡ Err fault)
+  pub no_memory : OnOk step (OnErr result (result ≡ Err NoMemory))
+  pub unchanged : OnErr result ((new ≡ old) × (new_orders ≡ orders))
 
 -- ---- what is received
 

@@ -1,5 +1,5 @@
 -- What settings may hold: a list of checks in order, and what passes them all.
-use Rattle.std.specs.Prelude.{◌≡◌, ◌≢◌, ◌==◌, ℕ, ◌<◌, ◌≤◌, nat_lt, nat_le, Bool, true, false, not, ◌&&◌, List, [], ◌∷◌, ◌++◌, map, length, take, flat_map, All, Option, None, Some, is_some, unwrap_or, String, string_bytes, if◌then◌else◌, ℤ, pos, negsuc}
+use Rattle.std.specs.Prelude.{◌≡◌, ◌≢◌, ◌==◌, ℕ, ◌<◌, ◌≤◌, nat_lt, nat_le, Bool, true, false, not, ◌&&◌, List, [], ◌∷◌, ◌++◌, map, length, take, flat_map, All, AllPairs, Option, None, Some, is_some, unwrap_or, String, string_bytes, if◌then◌else◌, ℤ, pos, negsuc}
 use Rattle.std.specs.Global.{Global}
 use Rattle.std.specs.List.{list_all, list_any, enumerate_from}
 use Rattle.tmmbr_tuple.specs.declared.ssrc.Ssrc.{Ssrc}
@@ -23,6 +23,10 @@ abbrev pub number_below : Option ℤ → ℕ → Option ℕ
 number_below None limit = None
 number_below (Some (pos n)) limit = if nat_lt n limit then Some n else None
 number_below (Some (negsuc n)) limit = None
+
+-- a number that may be absent: 0 then
+abbrev pub or_zero : Option ℤ → Option ℤ
+or_zero value = Some (unwrap_or value (pos 0))
 
 -- both are there and equal
 abbrev pub is_same : Option ℕ → Option ℕ → Bool
@@ -54,6 +58,7 @@ top_checks p =
     ∷ check (nat_le (length p.legs.items) MAX_LEGS) (Top key.Leg)
     ∷ check (is_some (number_within p.pli_gap_ms 0 MAX_PERIOD_MS)) (Top key.PliGapMs)
     ∷ check (is_some (number_within p.report_ms 1 MAX_PERIOD_MS)) (Top key.ReportMs)
+    ∷ check (is_some (number_within (or_zero p.request_ms) 0 MAX_PERIOD_MS)) (Top key.RequestMs)
     ∷ check (is_some (number_within p.ring 1 MAX_RING)) (Top key.Ring)
     ∷ check (is_some (number_within p.timeout_ms 1 MAX_PERIOD_MS)) (Top key.TimeoutMs)
     ∷ check (is_some (number_below p.unit_ssrc SSRCS)) (Top key.UnitSsrc)
@@ -78,7 +83,7 @@ abbrev pub leg_checks : Parts → ℕ × LegParts → List Check
 leg_checks p (k, l) =
     let subscriber = number_below l.subscriber (length p.endpoints.items) in
     let publisher = number_below l.publisher (length p.endpoints.items) in
-    check (is_some (number_below (Some (unwrap_or l.first_seq (pos 0))) SEQS)) (Leg k key.FirstSeq)
+    check (is_some (number_below (or_zero l.first_seq) SEQS)) (Leg k key.FirstSeq)
     ∷ check (is_some (number_below l.out_ssrc SSRCS)) (Leg k key.OutSsrc)
     ∷ check (is_publisher (take k p.legs.items) (length p.endpoints.items) subscriber publisher) (Leg k key.Publisher)
     ∷ check (is_some subscriber) (Leg k key.Subscriber)
@@ -118,6 +123,7 @@ pub record Configuration : Type 0 where
   pub history : ℕ
   pub timeout_ms : ℕ
   pub report_ms : ℕ
+  pub request_ms : ℕ
   pub pli_gap_ms : ℕ
   pub unit_ssrc : Ssrc
   pub cname : List ℕ
@@ -144,6 +150,7 @@ configuration_of p = record {
   history = unwrap_or (number_within p.history LEAST_HISTORY MAX_HISTORY) 0;
   timeout_ms = unwrap_or (number_within p.timeout_ms 1 MAX_PERIOD_MS) 0;
   report_ms = unwrap_or (number_within p.report_ms 1 MAX_PERIOD_MS) 0;
+  request_ms = unwrap_or (number_within (or_zero p.request_ms) 0 MAX_PERIOD_MS) 0;
   pli_gap_ms = unwrap_or (number_within p.pli_gap_ms 0 MAX_PERIOD_MS) 0;
   unit_ssrc = ssrc_of p.unit_ssrc;
   cname = name_of p.cname;
@@ -157,6 +164,14 @@ pub record IsLegAmong (endpoints : ℕ) (l : LegSettings) : Type 0 where
   pub publisher : l.publisher < endpoints
   pub different : l.subscriber ≢ l.publisher
 
+-- the legs aren't of one subscriber and one publisher
+abbrev pub HasOtherEnds : LegSettings → LegSettings → Type 0
+HasOtherEnds a b = a.subscriber ≡ b.subscriber → a.publisher ≢ b.publisher
+
+-- the source of the unit, those of the endpoints and those of the legs
+abbrev pub sources_of : Configuration → List ℕ
+sources_of s = s.unit_ssrc.0 ∷ (map (λ e. e.0) s.endpoints ++ map (λ l. l.out_ssrc.0) s.legs)
+
 -- what always holds of settings
 pub record IsInRange (s : Configuration) : Type 0 where
   pub least_workers : 1 ≤ s.workers
@@ -169,6 +184,7 @@ pub record IsInRange (s : Configuration) : Type 0 where
   pub most_timeout : s.timeout_ms ≤ MAX_PERIOD_MS
   pub least_report : 1 ≤ s.report_ms
   pub most_report : s.report_ms ≤ MAX_PERIOD_MS
+  pub most_request : s.request_ms ≤ MAX_PERIOD_MS
   pub most_gap : s.pli_gap_ms ≤ MAX_PERIOD_MS
   pub least_cname : 1 ≤ length s.cname
   pub most_cname : length s.cname ≤ MAX_CNAME
@@ -176,6 +192,8 @@ pub record IsInRange (s : Configuration) : Type 0 where
   pub most_endpoints : length s.endpoints ≤ MAX_ENDPOINTS
   pub most_legs : length s.legs ≤ MAX_LEGS
   pub legs : All (IsLegAmong (length s.endpoints)) s.legs
+  pub pairs : AllPairs HasOtherEnds s.legs
+  pub sources : AllPairs (λ a b. a ≢ b) (sources_of s)
 
 -- the plain numbers of these parts, in their ranges
 pub record AreNumbersOf (p : Parts) (n : Numbers) : Type 0 where
@@ -184,4 +202,5 @@ pub record AreNumbersOf (p : Parts) (n : Numbers) : Type 0 where
   pub history : number_within p.history LEAST_HISTORY MAX_HISTORY ≡ Some n.history
   pub timeout_ms : number_within p.timeout_ms 1 MAX_PERIOD_MS ≡ Some n.timeout_ms
   pub report_ms : number_within p.report_ms 1 MAX_PERIOD_MS ≡ Some n.report_ms
+  pub request_ms : number_within (or_zero p.request_ms) 0 MAX_PERIOD_MS ≡ Some n.request_ms
   pub pli_gap_ms : number_within p.pli_gap_ms 0 MAX_PERIOD_MS ≡ Some n.pli_gap_ms

@@ -2,7 +2,7 @@
 
 ghost use Rattle.std.specs.Prelude.{◌≡◌, ◌+◌, ◌<◌, ◌≤◌, ◌^◌, length, drop, flat_map, MatchResult, IfSome, Some, None, nat_lt, true, false, not, ◌==◌, slice_index, slice_index_or};
 ghost use Rattle.std.specs.List.{list_all, list_any, enumerate_from};
-ghost use Rattle.members.specs.Settings.{number_within, number_below, is_same, name_of, is_cname, top_checks, endpoint_checks, leg_checks, has_pair, sources, number_or_zero, are_distinct, first_fault, AreNumbersOf, checks};
+ghost use Rattle.members.specs.Settings.{number_within, number_below, or_zero, is_same, name_of, is_cname, top_checks, endpoint_checks, leg_checks, has_pair, sources, number_or_zero, are_distinct, first_fault, AreNumbersOf, checks};
 
 use crate::fault::{Key, SettingsFault};
 use crate::parts::{LegParts, Parts};
@@ -19,6 +19,7 @@ pub struct Numbers {
     pub history: u64,
     pub timeout_ms: u64,
     pub report_ms: u64,
+    pub request_ms: u64,
     pub pli_gap_ms: u64,
 }
 
@@ -49,6 +50,13 @@ fn number_under(value: Option<i64>, limit: u64) -> Option<u64>
     }
     let number = value as u64;
     if number < limit { Some(number) } else { None }
+}
+
+/// A number that may be absent: 0 then.
+fn or_zero(value: Option<i64>) -> Option<i64>
+    ensures { result ≡ or_zero value }
+{
+    Some(value.unwrap_or(0))
 }
 
 /// Whether both are there and equal.
@@ -110,6 +118,8 @@ impl Numbers {
         let pli_gap_ms = pli_gap_ms.ok_or(top(Key::PliGapMs))?;
         let report_ms = number_in(parts.report_ms, 1, MAX_PERIOD_MS);
         let report_ms = report_ms.ok_or(top(Key::ReportMs))?;
+        let request_ms = number_in(or_zero(parts.request_ms), 0, MAX_PERIOD_MS);
+        let request_ms = request_ms.ok_or(top(Key::RequestMs))?;
         let ring = number_in(parts.ring, 1, MAX_RING).ok_or(top(Key::Ring))?;
         let timeout_ms = number_in(parts.timeout_ms, 1, MAX_PERIOD_MS);
         let timeout_ms = timeout_ms.ok_or(top(Key::TimeoutMs))?;
@@ -121,6 +131,7 @@ impl Numbers {
             history,
             timeout_ms,
             report_ms,
+            request_ms,
             pli_gap_ms,
         })
     }
@@ -166,7 +177,7 @@ fn check_leg(parts: &Parts, k: usize) -> Result<(), SettingsFault>
     let endpoints = parts.endpoints.len() as u64;
     let subscriber = number_under(leg.subscriber, endpoints);
     let publisher = number_under(leg.publisher, endpoints);
-    let first_seq = number_under(Some(leg.first_seq.unwrap_or(0)), SEQS);
+    let first_seq = number_under(or_zero(leg.first_seq), SEQS);
     require(first_seq.is_some(), SettingsFault::Leg(k, Key::FirstSeq))?;
     let out_ssrc = number_under(leg.out_ssrc, SSRCS);
     require(out_ssrc.is_some(), SettingsFault::Leg(k, Key::OutSsrc))?;

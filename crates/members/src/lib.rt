@@ -28,6 +28,8 @@ pub use stays::MAX_STAY;
 pub use stream::COUNTED_PACKETS;
 
 #[cfg(test)]
+mod limits_tests;
+#[cfg(test)]
 mod memory_tests;
 #[cfg(test)]
 mod reception_tests;

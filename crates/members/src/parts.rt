@@ -13,6 +13,8 @@ pub struct Parts {
     pub timeout_ms: Option<i64>,
     /// Time between two reports, in milliseconds, 1 to 86,400,000.
     pub report_ms: Option<i64>,
+    /// Age at which a request is given up, in milliseconds, 0 to 86,400,000; 0, which is never, where absent.
+    pub request_ms: Option<i64>,
     /// Least time between two picture loss indications to a publisher, in milliseconds, 0 to 86,400,000.
     pub pli_gap_ms: Option<i64>,
     /// The unit's own source, 32 bits.

@@ -64,14 +64,15 @@ impl Model for Room {
       receptions = r.receptions.items;
     } };
 
-    ghost invariant = { λ r. IsWellFormed r.timeout_ms r.next r.quiet_until r.held.endpoints.items r.held.legs.items
+    ghost invariant = { λ r. IsWellFormed r.timeout_ms r.next r.quiet_until
+        r.held.endpoints.items r.held.legs.items
         r.draft.endpoints.items r.draft.legs.items r.receptions.items };
 }
 
 impl Room {
-    ghost use Rattle.std.specs.Prelude.{◌≡◌, ◌<◌, ◌++◌, ◌↔◌, max, true, IsTrue, IsOk, IsNone, IfNone, Ok, Err, IfOk, IfErr, OnOk, OnErr, length};
+    ghost use Rattle.std.specs.Prelude.{◌≡◌, ◌<◌, ◌++◌, ◌↔◌, max, true, IsTrue, IsOk, IsNone, IfNone, IfOk, OnOk, OnErr, length};
     ghost use Rattle.members.specs.Presence.{NobodyOverdue, is_present_at, source_at};
-    ghost use Rattle.members.specs.Room.{new_room, tick_step, bye_step, hear_step, heard_step, select_step, after_leaving, leg_at};
+    ghost use Rattle.members.specs.Room.{new_room, tick_step, bye_step, hear_step, heard_step, select_step, after_leaving, leg_at, Answers};
     ghost use Rattle.members.specs.Room.{reception_at, after_packet, after_report, after_block};
     ghost use Rattle.members.specs.Stream.{IsAnswer, timestamps_of};
 
@@ -121,8 +122,10 @@ impl Room {
     fn is_quiet(&mut self, moment: u64) -> bool
         ensures same { self.new ≡ self.old }
         ensures quiet { IsTrue result
-            → leaving self.old.timeout moment self.old.endpoints self.old.legs ≡ told self.old.endpoints self.old.legs }
-        ensures finds { NobodyOverdue self.old.timeout moment self.old.endpoints → moment < LAST_MOMENT → IsTrue result }
+            → leaving self.old.timeout moment self.old.endpoints self.old.legs
+            ≡ told self.old.endpoints self.old.legs }
+        ensures finds { NobodyOverdue self.old.timeout moment self.old.endpoints
+            → moment < LAST_MOMENT → IsTrue result }
     {
         if moment < self.quiet_until {
             return true;
@@ -137,7 +140,8 @@ impl Room {
     pub fn tick(&mut self, moment: u64, orders: &mut Vec<Order>) -> Result<(), AllocError>
         ensures ok { OnOk result ((self.new ≡ (tick_step self.old moment).room)
             × (orders.new.items ≡ orders.old.items ++ (tick_step self.old moment).orders)) }
-        ensures unchanged { OnErr result ((self.new ≡ self.old) × (orders.new.items ≡ orders.old.items)) }
+        ensures unchanged { OnErr result
+            ((self.new ≡ self.old) × (orders.new.items ≡ orders.old.items)) }
         ensures calm { NobodyOverdue self.old.timeout (max self.old.moment moment) self.old.endpoints
             → max self.old.moment moment < LAST_MOMENT → IsOk result }
     {
@@ -166,11 +170,9 @@ impl Room {
         endpoint: u16,
         orders: &mut Vec<Order>,
     ) -> Result<(), RoomFault>
-        ensures ok { IfOk (bye_step self.old moment endpoint) (λ step.
-            OnOk result ((self.new ≡ step.room) × (orders.new.items ≡ orders.old.items ++ step.orders))) }
-        ensures refused { IfErr (bye_step self.old moment endpoint) (λ fault. result ≡ Err fault) }
-        ensures no_memory { OnOk (bye_step self.old moment endpoint) (OnErr result (result ≡ Err RoomFault.NoMemory)) }
-        ensures unchanged { OnErr result ((self.new ≡ self.old) × (orders.new.items ≡ orders.old.items)) }
+        ensures { Answers self.old orders.old.items
+            (bye_step self.old moment endpoint)
+            result self.new orders.new.items }
     {
         let at = usize::from(endpoint);
         if at >= self.held.endpoints.len() {
@@ -204,12 +206,11 @@ impl Room {
         ssrc: Ssrc,
         orders: &mut Vec<Order>,
     ) -> Result<(), RoomFault>
-        ensures ok { IfOk (hear_step self.old moment endpoint ssrc.0) (λ step.
-            OnOk result ((self.new ≡ step.room) × (orders.new.items ≡ orders.old.items ++ step.orders))) }
-        ensures refused { IfErr (hear_step self.old moment endpoint ssrc.0) (λ fault. result ≡ Err fault) }
-        ensures no_memory { OnOk (hear_step self.old moment endpoint ssrc.0) (OnErr result (result ≡ Err RoomFault.NoMemory)) }
-        ensures unchanged { OnErr result ((self.new ≡ self.old) × (orders.new.items ≡ orders.old.items)) }
-        ensures calm { (source_at self.old.endpoints endpoint).0 ≡ ssrc.0 → is_present_at self.old.endpoints endpoint ≡ true
+        ensures answers { Answers self.old orders.old.items
+            (hear_step self.old moment endpoint ssrc.0)
+            result self.new orders.new.items }
+        ensures calm { (source_at self.old.endpoints endpoint).0 ≡ ssrc.0
+            → is_present_at self.old.endpoints endpoint ≡ true
             → NobodyOverdue self.old.timeout (max self.old.moment moment) self.old.endpoints
             → max self.old.moment moment < LAST_MOMENT → IsOk result }
     {
@@ -232,12 +233,11 @@ impl Room {
         orders: &mut Vec<Order>,
     ) -> Result<(), RoomFault>
         requires { at < length self.old.endpoints }
-        ensures ok { IfOk (heard_step self.old moment at (after_leaving self.old moment)) (λ step.
-            OnOk result ((self.new ≡ step.room) × (orders.new.items ≡ orders.old.items ++ step.orders))) }
-        ensures refused { IfErr (heard_step self.old moment at (after_leaving self.old moment)) (λ fault. result ≡ Err fault) }
-        ensures no_memory { OnOk (heard_step self.old moment at (after_leaving self.old moment)) (OnErr result (result ≡ Err RoomFault.NoMemory)) }
-        ensures unchanged { OnErr result ((self.new ≡ self.old) × (orders.new.items ≡ orders.old.items)) }
-        ensures calm { is_present_at self.old.endpoints at ≡ true → NobodyOverdue self.old.timeout moment self.old.endpoints
+        ensures answers { Answers self.old orders.old.items
+            (heard_step self.old moment at (after_leaving self.old moment))
+            result self.new orders.new.items }
+        ensures calm { is_present_at self.old.endpoints at ≡ true
+            → NobodyOverdue self.old.timeout moment self.old.endpoints
             → moment < LAST_MOMENT → IsOk result }
     {
         if !self.is_quiet(moment) || !is_present_at(self.held.endpoints.as_slice(), at) {
@@ -253,11 +253,9 @@ impl Room {
     /// An endpoint is heard where somebody may leave or it may come.
     fn join(&mut self, moment: u64, at: usize, orders: &mut Vec<Order>) -> Result<(), RoomFault>
         requires { at < length self.old.endpoints }
-        ensures ok { IfOk (heard_step self.old moment at (after_leaving self.old moment)) (λ step.
-            OnOk result ((self.new ≡ step.room) × (orders.new.items ≡ orders.old.items ++ step.orders))) }
-        ensures refused { IfErr (heard_step self.old moment at (after_leaving self.old moment)) (λ fault. result ≡ Err fault) }
-        ensures no_memory { OnOk (heard_step self.old moment at (after_leaving self.old moment)) (OnErr result (result ≡ Err RoomFault.NoMemory)) }
-        ensures unchanged { OnErr result ((self.new ≡ self.old) × (orders.new.items ≡ orders.old.items)) }
+        ensures { Answers self.old orders.old.items
+            (heard_step self.old moment at (after_leaving self.old moment))
+            result self.new orders.new.items }
     {
         let mut draft = Draft::new(self.alloc);
         self.draft
@@ -290,11 +288,9 @@ impl Room {
         on: bool,
         orders: &mut Vec<Order>,
     ) -> Result<(), RoomFault>
-        ensures ok { IfOk (select_step self.old moment leg on) (λ step.
-            OnOk result ((self.new ≡ step.room) × (orders.new.items ≡ orders.old.items ++ step.orders))) }
-        ensures refused { IfErr (select_step self.old moment leg on) (λ fault. result ≡ Err fault) }
-        ensures no_memory { OnOk (select_step self.old moment leg on) (OnErr result (result ≡ Err RoomFault.NoMemory)) }
-        ensures unchanged { OnErr result ((self.new ≡ self.old) × (orders.new.items ≡ orders.old.items)) }
+        ensures { Answers self.old orders.old.items
+            (select_step self.old moment leg on)
+            result self.new orders.new.items }
     {
         if usize::from(leg) >= self.held.legs.len() {
             return Err(RoomFault::UnknownLeg);
@@ -338,7 +334,8 @@ impl Room {
     /// `None` exactly where no packet of it was received in its present presence, and then nothing
     /// changes. The next block's interval begins where this one's ends.
     pub fn block(&mut self, endpoint: u16) -> Option<Block>
-        ensures answer { IsAnswer (reception_at self.old endpoint) self.old.moment (source_at self.old.endpoints endpoint) result }
+        ensures answer { IsAnswer (reception_at self.old endpoint) self.old.moment
+            (source_at self.old.endpoints endpoint) result }
         ensures none { IsNone result ↔ ((reception_at self.old endpoint).stream ≡ None) }
         ensures kept { self.new ≡ after_block self.old endpoint }
         ensures unchanged { IfNone result (self.new ≡ self.old) }
@@ -362,3 +359,6 @@ impl Room {
         self.receptions[usize::from(endpoint)].last_sr()
     }
 }
+
+#[cfg(test)]
+mod quiet_tests;

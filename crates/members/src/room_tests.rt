@@ -1,6 +1,7 @@
 //! Who comes and goes in, orders out; packets in, blocks out.
 use super::*;
 use crate::settings_tests::{found_parts, leg};
+use rtcp_compound::write_rr;
 use std::alloc::{AllocError, Global};
 use std::process::Abort;
 use std::test::Fail;
@@ -35,99 +36,122 @@ pub const fn route(leg: u16, stay: u64, turn: u64, on: bool) -> Order {
     }
 }
 
+/// A call of a room: an endpoint and a source, an endpoint, nothing, or a leg and its selection.
+#[derive(Clone, Copy, Debug)]
+enum Call {
+    Hear(u16, u32),
+    Bye(u16),
+    Tick,
+    Select(u16, bool),
+}
+
+impl Call {
+    /// Makes the call at this moment.
+    fn make(self, room: &mut Room, moment: u64, orders: &mut Vec<Order>) -> Result<(), RoomFault> {
+        match self {
+            Call::Hear(endpoint, ssrc) => room.hear(moment, endpoint, Ssrc(ssrc), orders),
+            Call::Bye(endpoint) => room.bye(moment, endpoint, orders),
+            Call::Tick => Ok(room.tick(moment, orders)?),
+            Call::Select(leg, on) => room.select(moment, leg, on, orders),
+        }
+    }
+}
+
+/// Makes the calls at their moments: each gives these orders.
+fn gives(
+    rt: &(impl Abort + AllocGlobal),
+    room: &mut Room,
+    rows: &[(u64, Call, &[Order])],
+) -> Result<(), Fail> {
+    let mut orders = Vec::new(rt.alloc());
+    for (moment, call, expected) in rows {
+        orders.clear();
+        call.make(room, *moment, &mut orders)?;
+        assert_eq!(rt; orders.as_slice(), *expected, "{call:?} at {moment}");
+    }
+    Ok(())
+}
+
+/// Makes the calls at their moments: each is refused like this, and orders and moment stay as they were.
+fn refuses(
+    rt: &(impl Abort + AllocGlobal),
+    room: &mut Room,
+    rows: &[(u64, Call, RoomFault)],
+) -> Result<(), Fail> {
+    let before = room.moment();
+    let mut orders = vec![in rt.alloc(); arrive(9, 9)]?;
+    for (moment, call, fault) in rows {
+        let answer = call.make(room, *moment, &mut orders);
+        assert_eq!(rt; answer, Err(*fault), "{call:?} at {moment}");
+        assert_eq!(rt; orders.as_slice(), [arrive(9, 9)].as_slice());
+        assert_eq!(rt; room.moment(), before);
+    }
+    Ok(())
+}
+
 #[test]
 fn stays_of_example_17(rt: HostRuntime) -> Result<(), Fail> {
     let mut room = small_room(rt.alloc())?;
-    let mut orders = Vec::new(rt.alloc());
-    room.hear(0, 0, Ssrc(16), &mut orders)?;
-    assert!(rt; orders.is_empty());
-    room.hear(0, 1, Ssrc(17), &mut orders)?;
-    assert_eq!(rt;
-        orders.as_slice(),
-        [arrive(0, 1), route(0, 1, 1, true)].as_slice()
-    );
-    orders.clear();
-    room.hear(500, 0, Ssrc(16), &mut orders)?;
-    room.tick(999, &mut orders)?;
-    assert!(rt; orders.is_empty());
-    room.tick(1000, &mut orders)?;
-    assert_eq!(rt;
-        orders.as_slice(),
-        [route(0, 0, 1, false), depart(0, 1)].as_slice()
-    );
-    assert!(rt; room.is_present(0));
-    assert!(rt; !room.is_present(1));
-    assert_eq!(rt; room.stay(0), 0);
-    orders.clear();
-    room.hear(1000, 1, Ssrc(17), &mut orders)?;
-    assert_eq!(rt;
-        orders.as_slice(),
-        [arrive(0, 2), route(0, 2, 2, true)].as_slice()
-    );
-    orders.clear();
-    assert_eq!(rt;
-        room.hear(1000, 1, Ssrc(18), &mut orders),
-        Err(RoomFault::WrongSsrc)
-    );
-    assert_eq!(rt; room.moment(), 1000);
+    let rows: [(u64, Call, &[Order]); 6] = [
+        (0, Call::Hear(0, 16), &[]),
+        (0, Call::Hear(1, 17), &[arrive(0, 1), route(0, 1, 1, true)]),
+        (500, Call::Hear(0, 16), &[]),
+        (999, Call::Tick, &[]),
+        (1000, Call::Tick, &[route(0, 0, 1, false), depart(0, 1)]),
+        (
+            1000,
+            Call::Hear(1, 17),
+            &[arrive(0, 2), route(0, 2, 2, true)],
+        ),
+    ];
+    gives(&rt, &mut room, &rows)?;
+    refuses(
+        &rt,
+        &mut room,
+        &[(1000, Call::Hear(1, 18), RoomFault::WrongSsrc)],
+    )?;
     assert_eq!(rt; room.stay(0), 2);
-    stays_go_on(&rt, &mut room)
+    let rows: [(u64, Call, &[Order]); 8] = [
+        (1100, Call::Bye(1), &[route(0, 0, 2, false), depart(0, 2)]),
+        (1100, Call::Bye(1), &[]),
+        (
+            1200,
+            Call::Hear(1, 17),
+            &[arrive(0, 3), route(0, 3, 3, true)],
+        ),
+        (1300, Call::Select(0, false), &[route(0, 3, 3, false)]),
+        (1300, Call::Select(0, false), &[]),
+        (1400, Call::Select(0, true), &[route(0, 3, 4, true)]),
+        (1499, Call::Tick, &[]),
+        (1500, Call::Tick, &[route(0, 0, 4, false), depart(0, 3)]),
+    ];
+    gives(&rt, &mut room, &rows)?;
+    let rows = [
+        (1500, Call::Select(1, true), RoomFault::UnknownLeg),
+        (1500, Call::Hear(2, 16), RoomFault::UnknownEndpoint),
+        (1600, Call::Bye(2), RoomFault::UnknownEndpoint),
+        (1600, Call::Hear(65_535, 16), RoomFault::UnknownEndpoint),
+        (1600, Call::Select(65_535, true), RoomFault::UnknownLeg),
+    ];
+    refuses(&rt, &mut room, &rows)
 }
 
-/// Example 17 goes on.
-fn stays_go_on(rt: &(impl Abort + AllocGlobal), room: &mut Room) -> Result<(), Fail> {
-    let mut orders = Vec::new(rt.alloc());
-    room.bye(1100, 1, &mut orders)?;
-    assert_eq!(rt;
-        orders.as_slice(),
-        [route(0, 0, 2, false), depart(0, 2)].as_slice()
-    );
-    orders.clear();
-    room.bye(1100, 1, &mut orders)?;
-    assert!(rt; orders.is_empty());
-    room.hear(1200, 1, Ssrc(17), &mut orders)?;
-    assert_eq!(rt;
-        orders.as_slice(),
-        [arrive(0, 3), route(0, 3, 3, true)].as_slice()
-    );
-    orders.clear();
-    room.select(1300, 0, false, &mut orders)?;
-    assert_eq!(rt; orders.as_slice(), [route(0, 3, 3, false)].as_slice());
-    orders.clear();
-    room.select(1300, 0, false, &mut orders)?;
-    assert!(rt; orders.is_empty());
-    room.select(1400, 0, true, &mut orders)?;
-    assert_eq!(rt; orders.as_slice(), [route(0, 3, 4, true)].as_slice());
-    orders.clear();
-    room.tick(1499, &mut orders)?;
-    assert!(rt; orders.is_empty());
-    room.tick(1500, &mut orders)?;
-    assert_eq!(rt;
-        orders.as_slice(),
-        [route(0, 0, 4, false), depart(0, 3)].as_slice()
-    );
-    orders.clear();
-    assert_eq!(rt;
-        room.select(1600, 1, true, &mut orders),
-        Err(RoomFault::UnknownLeg)
-    );
-    assert_eq!(rt;
-        room.hear(1600, 2, Ssrc(16), &mut orders),
-        Err(RoomFault::UnknownEndpoint)
-    );
-    assert_eq!(rt;
-        room.bye(1600, 2, &mut orders),
-        Err(RoomFault::UnknownEndpoint)
-    );
-    assert!(rt; orders.is_empty());
-    assert_eq!(rt; room.moment(), 1500);
-    // A moment lower than the room's counts as the room's.
-    room.hear(3, 0, Ssrc(16), &mut orders)?;
-    assert_eq!(rt; room.moment(), 1500);
-    room.tick(2499, &mut orders)?;
+#[test]
+fn moments_never_fall(rt: HostRuntime) -> Result<(), Fail> {
+    let mut room = small_room(rt.alloc())?;
+    assert_eq!(rt; room.moment(), 0);
+    // A moment lower than the room's counts as the room's: endpoint 0 is heard at 1500.
+    let rows: [(u64, Call, &[Order]); 3] = [
+        (1500, Call::Tick, &[]),
+        (3, Call::Hear(0, 16), &[]),
+        (2499, Call::Tick, &[]),
+    ];
+    gives(&rt, &mut room, &rows)?;
     assert!(rt; room.is_present(0));
-    room.tick(2500, &mut orders)?;
+    assert!(rt; !room.is_present(1));
+    gives(&rt, &mut room, &[(2500, Call::Tick, &[])])?;
     assert!(rt; !room.is_present(0));
+    assert_eq!(rt; room.moment(), 2500);
     Ok(())
 }
 
@@ -153,11 +177,6 @@ pub fn larger_room(alloc: Global) -> Result<Room, SettingsFault> {
 #[test]
 fn endpoint_by_endpoint_and_leg_by_leg(rt: HostRuntime) -> Result<(), Fail> {
     let mut room = larger_room(rt.alloc())?;
-    let mut orders = Vec::new(rt.alloc());
-    room.hear(0, 2, Ssrc(18), &mut orders)?;
-    room.hear(1, 1, Ssrc(17), &mut orders)?;
-    assert!(rt; orders.is_empty());
-    room.hear(10, 0, Ssrc(16), &mut orders)?;
     let begun = [
         arrive(0, 1),
         route(0, 1, 1, true),
@@ -168,10 +187,7 @@ fn endpoint_by_endpoint_and_leg_by_leg(rt: HostRuntime) -> Result<(), Fail> {
         arrive(3, 4),
         route(3, 4, 4, true),
     ];
-    assert_eq!(rt; orders.as_slice(), begun.as_slice());
-    orders.clear();
     // 1 and 2 leave together: first the legs of 1, then those of 2.
-    room.tick(1001, &mut orders)?;
     let ended = [
         route(0, 0, 1, false),
         depart(0, 1),
@@ -182,22 +198,13 @@ fn endpoint_by_endpoint_and_leg_by_leg(rt: HostRuntime) -> Result<(), Fail> {
         route(3, 0, 4, false),
         depart(3, 4),
     ];
-    assert_eq!(rt; orders.as_slice(), ended.as_slice());
-    orders.clear();
-    // Switched on while no stay stands: noted, and no number is drawn.
-    room.select(1001, 1, true, &mut orders)?;
-    assert!(rt; orders.is_empty());
-    room.hear(1002, 2, Ssrc(18), &mut orders)?;
     let again = [
         arrive(1, 5),
         route(1, 5, 5, true),
         arrive(3, 6),
         route(3, 6, 6, true),
     ];
-    assert_eq!(rt; orders.as_slice(), again.as_slice());
-    orders.clear();
     // An endpoint that is heard too late leaves first, and comes anew.
-    room.hear(1010, 0, Ssrc(16), &mut orders)?;
     let anew = [
         route(1, 0, 5, false),
         depart(1, 5),
@@ -208,8 +215,17 @@ fn endpoint_by_endpoint_and_leg_by_leg(rt: HostRuntime) -> Result<(), Fail> {
         arrive(3, 8),
         route(3, 8, 8, true),
     ];
-    assert_eq!(rt; orders.as_slice(), anew.as_slice());
-    Ok(())
+    let rows: [(u64, Call, &[Order]); 7] = [
+        (0, Call::Hear(2, 18), &[]),
+        (1, Call::Hear(1, 17), &[]),
+        (10, Call::Hear(0, 16), &begun),
+        (1001, Call::Tick, &ended),
+        // Switched on while no stay stands: noted, and no number is drawn.
+        (1001, Call::Select(1, true), &[]),
+        (1002, Call::Hear(2, 18), &again),
+        (1010, Call::Hear(0, 16), &anew),
+    ];
+    gives(&rt, &mut room, &rows)
 }
 
 /// The block about an endpoint, as its fields in order.
@@ -224,6 +240,31 @@ fn fields(room: &mut Room, endpoint: u16) -> Result<(u32, u8, i32, u32, u32, u32
         block.last_sr,
         block.delay,
     ))
+}
+
+#[test]
+fn bytes_of_example_19(rt: HostRuntime) -> Result<(), Fail> {
+    let mut room = small_room(rt.alloc())?;
+    let mut orders = Vec::new(rt.alloc());
+    for (moment, seq, timestamp) in [(0, 10, 0), (20, 11, 1800), (50, 13, 5400)] {
+        room.hear(moment, 0, Ssrc(16), &mut orders)?;
+        room.received(0, seq, timestamp);
+    }
+    let block = room.block(0).ok_or("no block")?;
+    let mut bytes = Vec::new(rt.alloc());
+    write_rr(&mut bytes, Ssrc(9), &[block])?;
+    let report = [
+        0x81, 0xc9, 0x00, 0x07, // one block; eight words with this one
+        0x00, 0x00, 0x00, 0x09, // the sender
+        0x00, 0x00, 0x00, 0x10, // the endpoint's source
+        0x40, 0x00, 0x00, 0x01, // 64 of 256 lost, one in all
+        0x00, 0x00, 0x00, 0x0d, // the highest number
+        0x00, 0x00, 0x00, 0x38, // jitter
+        0x00, 0x00, 0x00, 0x00, // no sender report
+        0x00, 0x00, 0x00, 0x00,
+    ];
+    assert_eq!(rt; bytes.as_slice(), report.as_slice());
+    Ok(())
 }
 
 #[test]

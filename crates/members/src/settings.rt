@@ -11,10 +11,10 @@ use std::marker::Model;
 use tmmbr_tuple::Ssrc;
 
 /// How many endpoints there may be.
-pub const MAX_ENDPOINTS: usize = 64;
+pub const MAX_ENDPOINTS: usize = 256;
 
 /// How many legs there may be.
-pub const MAX_LEGS: usize = 1024;
+pub const MAX_LEGS: usize = 4096;
 
 /// How many threads may forward.
 pub const MAX_WORKERS: u64 = 8;
@@ -77,6 +77,7 @@ impl Model for Settings {
       history = s.numbers.history;
       timeout_ms = s.numbers.timeout_ms;
       report_ms = s.numbers.report_ms;
+      request_ms = s.numbers.request_ms;
       pli_gap_ms = s.numbers.pli_gap_ms;
       unit_ssrc = s.unit_ssrc;
       cname = string_bytes s.cname;
@@ -90,6 +91,7 @@ impl Model for Settings {
       history = s.numbers.history;
       timeout_ms = s.numbers.timeout_ms;
       report_ms = s.numbers.report_ms;
+      request_ms = s.numbers.request_ms;
       pli_gap_ms = s.numbers.pli_gap_ms;
       unit_ssrc = s.unit_ssrc;
       cname = string_bytes s.cname;
@@ -142,7 +144,8 @@ fn copied_endpoints(alloc: Global, parts: &Parts) -> Result<Vec<Ssrc>, AllocErro
 fn copied_legs(alloc: Global, parts: &Parts) -> Result<Vec<LegSettings>, AllocError>
     requires least { 1 ≤ length parts.now.endpoints.items }
     requires most { length parts.now.endpoints.items ≤ MAX_ENDPOINTS }
-    ensures { IfOk result (λ v. v.items ≡ map (leg_of (length parts.now.endpoints.items)) parts.now.legs.items) }
+    ensures { IfOk result (λ v. v.items
+        ≡ map (leg_of (length parts.now.endpoints.items)) parts.now.legs.items) }
 {
     let endpoints = parts.endpoints.len() as u64;
     let mut legs = Vec::with_capacity(alloc, parts.legs.len())?;
@@ -177,9 +180,11 @@ impl Settings {
     /// The settings that these parts spell. Refused with the first fault by the order of the checks, and
     /// as `NoMemory` only where every check passes.
     pub fn new(alloc: Global, parts: &Parts) -> Result<Settings, SettingsFault>
-        ensures ok { IfOk result (λ s. (first_fault (checks parts.now) ≡ None) × (s ≡ configuration_of parts.now)) }
+        ensures ok { IfOk result
+            (λ s. (first_fault (checks parts.now) ≡ None) × (s ≡ configuration_of parts.now)) }
         ensures fault { IfSome (first_fault (checks parts.now)) (λ f. result ≡ Err f) }
-        ensures no_memory { first_fault (checks parts.now) ≡ None → OnErr result (result ≡ Err SettingsFault.NoMemory) }
+        ensures no_memory { first_fault (checks parts.now) ≡ None
+            → OnErr result (result ≡ Err SettingsFault.NoMemory) }
     {
         match checked(parts) {
             Ok(numbers) => match copied(alloc, parts, numbers) {
@@ -230,6 +235,14 @@ impl Settings {
         self.numbers.report_ms
     }
 
+    /// The age at which a request is given up, in milliseconds; 0 where it never is.
+    pub fn request_ms(&self) -> u64
+        ensures value { result ≡ self.now.request_ms }
+        ensures range { IsInRange self.now }
+    {
+        self.numbers.request_ms
+    }
+
     /// The least time between two picture loss indications to a publisher, in milliseconds.
     pub fn pli_gap_ms(&self) -> u64
         ensures value { result ≡ self.now.pli_gap_ms }
@@ -240,7 +253,8 @@ impl Settings {
 
     /// The unit's own source.
     pub fn unit_ssrc(&self) -> Ssrc
-        ensures { result ≡ self.now.unit_ssrc }
+        ensures value { result ≡ self.now.unit_ssrc }
+        ensures range { IsInRange self.now }
     {
         self.unit_ssrc
     }

@@ -27,6 +27,7 @@ pub fn found_parts(alloc: Global) -> Result<Parts, AllocError> {
         history: Some(128),
         timeout_ms: Some(1000),
         report_ms: Some(60000),
+        request_ms: None,
         pli_gap_ms: Some(500),
         unit_ssrc: Some(9),
         cname: Some(String::from_str(alloc, "sfu")?),
@@ -36,7 +37,7 @@ pub fn found_parts(alloc: Global) -> Result<Parts, AllocError> {
 }
 
 /// The fault of these parts.
-fn fault_of(alloc: Global, parts: &Parts) -> Option<SettingsFault> {
+pub fn fault_of(alloc: Global, parts: &Parts) -> Option<SettingsFault> {
     match Settings::new(alloc, parts) {
         Ok(_) => None,
         Err(fault) => Some(fault),
@@ -51,6 +52,7 @@ fn settings_of_the_examples(rt: HostRuntime) -> Result<(), Fail> {
     assert_eq!(rt; settings.history(), 128);
     assert_eq!(rt; settings.timeout_ms(), 1000);
     assert_eq!(rt; settings.report_ms(), 60000);
+    assert_eq!(rt; settings.request_ms(), 0);
     assert_eq!(rt; settings.pli_gap_ms(), 500);
     assert_eq!(rt; settings.unit_ssrc(), Ssrc(9));
     assert_eq!(rt; settings.cname(), b"sfu".as_slice());
@@ -76,6 +78,7 @@ fn top_keys_in_order_of_their_names(rt: HostRuntime) -> Result<(), Fail> {
     p.history = Some(127);
     p.pli_gap_ms = Some(-1);
     p.report_ms = Some(0);
+    p.request_ms = Some(-1);
     p.ring = Some(513);
     p.timeout_ms = Some(86_400_001);
     p.unit_ssrc = Some(4_294_967_296);
@@ -101,6 +104,11 @@ fn top_keys_in_order_of_their_names(rt: HostRuntime) -> Result<(), Fail> {
         Some(SettingsFault::Top(Key::ReportMs))
     );
     p.report_ms = Some(1);
+    assert_eq!(rt;
+        fault_of(alloc, &p),
+        Some(SettingsFault::Top(Key::RequestMs))
+    );
+    p.request_ms = Some(86_400_000);
     assert_eq!(rt; fault_of(alloc, &p), Some(SettingsFault::Top(Key::Ring)));
     p.ring = Some(512);
     assert_eq!(rt;
@@ -120,28 +128,6 @@ fn top_keys_in_order_of_their_names(rt: HostRuntime) -> Result<(), Fail> {
         fault_of(alloc, &p),
         Some(SettingsFault::Leg(0, Key::Subscriber))
     );
-    Ok(())
-}
-
-#[test]
-fn too_many_endpoints_or_legs(rt: HostRuntime) -> Result<(), Fail> {
-    let alloc = rt.alloc();
-    let mut p = found_parts(alloc)?;
-    for ssrc in 18..80 {
-        p.endpoints.push(Some(ssrc))?;
-    }
-    assert_eq!(rt; p.endpoints.len(), MAX_ENDPOINTS);
-    assert_eq!(rt; fault_of(alloc, &p), None);
-    p.endpoints.push(Some(80))?;
-    assert_eq!(rt;
-        fault_of(alloc, &p),
-        Some(SettingsFault::Top(Key::Endpoint))
-    );
-    p.endpoints.truncate(2);
-    for _ in 0..MAX_LEGS {
-        p.legs.push(leg(0, 1, 300))?;
-    }
-    assert_eq!(rt; fault_of(alloc, &p), Some(SettingsFault::Top(Key::Leg)));
     Ok(())
 }
 
