@@ -12,12 +12,12 @@ nacks=${1:-10}
 work=$(mktemp -d /tmp/bench_resend_ring.XXXXXX)
 trap 'rm -rf "$work"' EXIT
 mkdir -p "$work/crates/ring_bench/src"
-cp -r "$top/crates/tmmbr_tuple" "$top/crates/rtcp_feedback" "$top/crates/resend_ring" "$work/crates/"
+cp -r "$top/crates/tmmbr_tuple" "$top/crates/rtcp_compound" "$top/crates/rtcp_feedback" "$top/crates/resend_ring" "$work/crates/"
 cp "$here/main.rattle" "$work/crates/ring_bench/src/main.rt"
 cp "$top/HANDLES" "$work/"
 {
-    grep -E '^(tmmbr_tuple|rtcp_feedback|resend_ring):' "$top/crates.txt"
-    echo 'ring_bench: resend_ring rtcp_feedback tmmbr_tuple byteorder arrayvec circular_buffer thiserror'
+    grep -E '^(tmmbr_tuple|rtcp_compound|rtcp_feedback|resend_ring):' "$top/crates.txt"
+    echo 'ring_bench: resend_ring rtcp_feedback rtcp_compound tmmbr_tuple bumpalo byteorder arrayvec circular_buffer thiserror'
 } > "$work/crates.txt"
 
 # rt run proves the program and builds it with LLVM, as the file out/ring_bench.
