@@ -1,2 +1,2 @@
 pub mod KeptLemmas
-pub mod RunLemmas
+pub mod MarkLemmas

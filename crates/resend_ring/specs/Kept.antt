@@ -1,5 +1,6 @@
 -- What a ring keeps.
-use Rattle.std.specs.Prelude.{◌≡◌, ◌≢◌, ◌==◌, ◌<◌, ◌≤◌, ◌+◌, ℕ, ◌%◌, List, [], ◌∷◌, ◌++◌, length, map, slice_index, find, reverse, Option, option_map}
+use Rattle.std.specs.Prelude.{◌≡◌, ◌==◌, ◌<◌, ◌+◌, ◌-◌, ℕ, ◌%◌, List, [], ◌∷◌, ◌++◌, length, slice_index, find, reverse, Option, option_map}
+use Rattle.std.specs.List.{position_or_len}
 use Rattle.std.specs.Global.{Vec}
 use Rattle.circular_buffer.specs.Buffer.{keep_last}
 use Rattle.resend_ring.specs.declared.ring.TheConstants.{CYCLE}
@@ -26,14 +27,14 @@ abbrev pub kept_in_turn : ℕ → List Packet → List Packet → List Packet
 kept_in_turn capacity items [] = items
 kept_in_turn capacity items (p ∷ packets) = kept_in_turn capacity (keep_last capacity (items ++ p ∷ [])) packets
 
--- the numbers of the packets, from the newest to the oldest
-abbrev pub numbers_back : List Packet → List ℕ
-numbers_back items = map (λ (p : Packet). p.number) (reverse items)
+-- how many places behind the newest the latest packet with this sequence number stands; where there is none, as many
+-- as there are packets
+abbrev pub places_back : ℕ → List Packet → ℕ
+places_back seq items = position_or_len (λ p. p.number % CYCLE == seq) (reverse items)
 
--- the last run packets have consecutive numbers, up to that of the newest, and no more of the last ones have
-pub record EndsInRun (run : ℕ) (items : List Packet) : Type 0 where
-  pub within : run ≤ length items
-  pub consecutive : (back : ℕ) → back < run
-      → slice_index (numbers_back items) back + back ≡ slice_index (numbers_back items) 0
-  pub longest : run < length items
-      → slice_index (numbers_back items) run + run ≢ slice_index (numbers_back items) 0
+-- The clock counts the packets that were kept, modulo 65536. For each sequence number of a packet that is kept, its mark is
+-- what the clock was when the latest such packet came.
+pub record AreMarks (clock : ℕ) (marks : List ℕ) (items : List Packet) : Type 0 where
+  pub every_number : length marks ≡ CYCLE
+  pub latest : (seq : ℕ) → places_back seq items < length items
+      → slice_index marks seq ≡ (clock + CYCLE - places_back seq items) % CYCLE

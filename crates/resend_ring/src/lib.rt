@@ -4,7 +4,6 @@
 
 pub mod laws;
 mod ring;
-mod run;
 
 pub use ring::{MAX_CAPACITY, Ring};
 

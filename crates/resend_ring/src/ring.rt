@@ -4,7 +4,6 @@ ghost use Rattle.std.specs.Prelude.{◌≡◌, ◌≤◌, [], ◌∷◌, ◌++�
 ghost use Rattle.std.specs.Option.{option_to_list};
 ghost use Rattle.circular_buffer.specs.Buffer.{keep_last};
 
-use crate::run::run_through;
 use circular_buffer::HeapCircularBuffer;
 use std::alloc::{AllocError, Global};
 use std::marker::Model;
@@ -20,15 +19,17 @@ const CYCLE: u64 = 1 << 16;
 pub struct Ring {
     /// From the oldest to the newest.
     packets: HeapCircularBuffer<(u64, Vec<u8>)>,
-    /// How many packets the run has that ends with the newest: each one's number is one more than that
-    /// of the packet before it. 0 where none is kept.
-    run: usize,
+    /// How many packets were kept so far, modulo 65,536.
+    clock: u16,
+    /// For each sequence number what the clock was as the latest packet with it came. A packet may have
+    /// left since, so that whoever follows a mark looks whether the packet there is the one.
+    marks: Vec<u16>,
 }
 
 impl Model for Ring {
     ghost use Rattle.std.specs.Prelude.{◌≤◌, length, map};
     ghost use Rattle.resend_ring.specs.declared.ring.TheConstants.{MAX_CAPACITY};
-    ghost use Rattle.resend_ring.specs.Kept.{Kept, packet_of, EndsInRun};
+    ghost use Rattle.resend_ring.specs.Kept.{Kept, packet_of, AreMarks};
 
     ghost Value = { Kept };
 
@@ -37,7 +38,7 @@ impl Model for Ring {
     ghost invariant = { λ r. (1 ≤ r.packets.capacity)
         × (r.packets.capacity ≤ MAX_CAPACITY)
         × (length r.packets.items ≤ r.packets.capacity)
-        × EndsInRun r.run (map packet_of r.packets.items) };
+        × AreMarks r.clock r.marks.items (map packet_of r.packets.items) };
 }
 
 impl Ring {
@@ -50,7 +51,12 @@ impl Ring {
         ensures { IfOk result (λ ring. ring ≡ record { capacity = capacity; items = [] }) }
     {
         let packets = HeapCircularBuffer::with_capacity(alloc, capacity)?;
-        Ok(Ring { packets, run: 0 })
+        let marks = vec![in alloc; 0; CYCLE as usize]?;
+        Ok(Ring {
+            packets,
+            clock: 0,
+            marks,
+        })
     }
 
     /// Keeps a packet as the newest. Answers the packet that it pushed out, the oldest of a full ring.
@@ -62,31 +68,24 @@ impl Ring {
         ensures left { self.old.items ++ record { number = number; bytes = bytes.items } ∷ []
             ≡ option_to_list (option_map packet_of result) ++ self.new.items }
     {
-        let run = run_through(&self.packets, self.run, number);
-        let left = self.packets.push_back((number, bytes));
-        self.run = run.min(self.packets.len());
-        left
+        self.clock = self.clock.wrapping_add(1);
+        self.marks[(number % CYCLE) as usize] = self.clock;
+        self.packets.push_back((number, bytes))
     }
 
     /// The bytes of the latest packet kept whose number has these low 16 bits.
     pub fn find(&self, seq: u16) -> Option<&[u8]>
         ensures { option_copied result ≡ last_kept_with self.now.items seq }
     {
-        let packets = &self.packets;
-        let Some((newest, _)) = packets.back() else {
+        // A packet that stands so many places behind the newest came so many packets earlier.
+        let back = self.clock.wrapping_sub(self.marks[usize::from(seq)]);
+        let Some((number, bytes)) = self.packets.nth_back(usize::from(back)) else {
             return None;
         };
-        let behind = ((newest % CYCLE) as u16).wrapping_sub(seq);
-        // In the run a packet stands as many places behind the newest as its number is below the
-        // newest's. So none nearer than `behind` has these bits, and that one has, if the run goes so far.
-        let nearest = self.run.min(usize::from(behind));
-        for back in nearest..packets.len() {
-            if let Some((number, bytes)) = packets.nth_back(back) {
-                if number % CYCLE == u64::from(seq) {
-                    return Some(bytes.as_slice());
-                }
-            }
+        if number % CYCLE == u64::from(seq) {
+            Some(bytes.as_slice())
+        } else {
+            None
         }
-        None
     }
 }

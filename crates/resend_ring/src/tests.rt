@@ -109,6 +109,21 @@ fn finds_across_gaps(rt: HostRuntime) -> Result<(), Fail> {
     Ok(())
 }
 
+/// The clock of a ring counts modulo 65,536: 65,536 packets after number 9 its mark leads to another
+/// packet.
+#[test]
+fn follows_no_stale_mark(rt: HostRuntime) -> Result<(), Fail> {
+    let mut ring = Ring::new(rt.alloc(), 2)?;
+    let _left = ring.keep(9, vec![in rt.alloc(); 9]?);
+    assert_eq!(rt; ring.find(9).ok_or("kept")?, [9].as_slice());
+    for _ in 0..65536 {
+        let _left = ring.keep(5, vec![in rt.alloc(); 5]?);
+    }
+    assert!(rt; ring.find(9).is_none());
+    assert_eq!(rt; ring.find(5).ok_or("kept")?, [5].as_slice());
+    Ok(())
+}
+
 #[test]
 fn greatest_ring(rt: HostRuntime) -> Result<(), Fail> {
     let ring = Ring::new(rt.alloc(), MAX_CAPACITY)?;

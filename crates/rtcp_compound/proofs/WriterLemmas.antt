@@ -113,7 +113,7 @@ whole_packet count kind words body counted fits long is = record {
   body = is;
 }
 
-appended : (old new : List ℕ) (n count kind words : ℕ) (body : List ℕ) (content : Content) → n ≡ count → count < 32 → words < 65536 → length body ≡ 4 * words
+pub appended : (old new : List ℕ) (n count kind words : ℕ) (body : List ℕ) (content : Content) → n ≡ count → count < 32 → words < 65536 → length body ≡ 4 * words
     → IsBody kind count body → shown (unpadded count kind body) ≡ content → new ≡ old ++ ((128 + n) ∷ (kind ∷ (big_bytes 2 words ++ body)))
     → Appends old new (unpadded count kind body) content
 appended old new n count kind words body content same counted fits long is says e = record {

@@ -18,6 +18,7 @@ mod writer;
 
 pub use bye::Sources;
 pub use fault::RtcpFault;
+pub use packet::{PSFB, RTPFB};
 pub use packets::{Packets, split};
 pub use report::{Block, Blocks};
 pub use view::RtcpView;

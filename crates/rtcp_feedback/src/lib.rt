@@ -20,4 +20,6 @@ pub use pli::write_pli;
 pub use tmmb::{MAX_ENTRIES, TmmbEntries, TmmbrEntry, write_tmmbn, write_tmmbr};
 
 #[cfg(test)]
+mod compound_tests;
+#[cfg(test)]
 mod tests;

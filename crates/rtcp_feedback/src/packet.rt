@@ -3,12 +3,9 @@
 ghost use Rattle.std.specs.Prelude.{◌≡◌, ◌+◌, ◌≤◌, ◌<◌, ◌++◌, length, vec_len, vec_capacity};
 ghost use Rattle.rtcp_feedback.specs.Writing.{front_bytes};
 
+use std::alloc::Allocator;
 use tmmbr_tuple::Ssrc;
 
-/// The packet type of transport layer feedback (RFC 4585, section 6.1).
-pub const RTPFB: u8 = 205;
-/// The packet type of payload-specific feedback (RFC 4585, section 6.1).
-pub const PSFB: u8 = 206;
 /// The FMT of a generic NACK, in RTPFB (RFC 4585, section 6.2.1).
 pub const FMT_NACK: u8 = 1;
 /// The FMT of a picture loss indication, in PSFB (RFC 4585, section 6.3.1).
@@ -24,7 +21,14 @@ pub const SOURCES: usize = 8;
 pub const FRONT: usize = 12;
 
 /// Appends the front of a packet without padding, which has so many words behind its header.
-pub fn put_front(out: &mut Vec<u8>, fmt: u8, kind: u8, words: u16, sender: Ssrc, media: Ssrc)
+pub fn put_front<A: Allocator>(
+    out: &mut Vec<u8, A>,
+    fmt: u8,
+    kind: u8,
+    words: u16,
+    sender: Ssrc,
+    media: Ssrc,
+)
     requires fmt { fmt < 32 }
     requires room { vec_len out.old + 12 ≤ vec_capacity out.old }
     ensures items { out.new.items ≡ out.old.items ++ front_bytes fmt kind words sender.0 media.0 }
@@ -38,7 +42,7 @@ pub fn put_front(out: &mut Vec<u8>, fmt: u8, kind: u8, words: u16, sender: Ssrc,
 }
 
 /// Appends bytes that there is room for, so that no memory is asked for.
-pub fn put(out: &mut Vec<u8>, bytes: &[u8])
+pub fn put<A: Allocator>(out: &mut Vec<u8, A>, bytes: &[u8])
     requires { vec_len out.old + length bytes.now ≤ vec_capacity out.old }
     ensures items { out.new.items ≡ out.old.items ++ bytes.now }
     ensures len { vec_len out.new ≡ vec_len out.old + length bytes.now }

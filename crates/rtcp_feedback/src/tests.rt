@@ -1,7 +1,8 @@
 //! Each public call on its happy path, and bodies built by hand from RFC 4585, sections 6.1, 6.2.1 and
 //! 6.3.1, and RFC 5104, sections 4.2.1 and 4.2.2.
 use super::*;
-use std::alloc::AllocError;
+use bumpalo::Bump;
+use std::alloc::{AllocError, Allocator};
 use std::process::Abort;
 use std::test::Fail;
 use tmmbr_tuple::Ssrc;
@@ -257,17 +258,34 @@ fn as_many_entries_as_may_be(rt: HostRuntime) -> Result<(), Fail> {
     Ok(())
 }
 
-/// Of each writer: `rt try --test` with `--fail-alloc` 2, 4 and 6 refuses its allocation.
+/// Each writer, again and again into memory of 2,000 bytes, until it is refused more: then the bytes that
+/// it appended to are as they were.
 #[test]
 fn memory_refused(rt: HostRuntime) -> Result<(), Fail> {
-    let mut out = vec![in rt.alloc(); 7]?;
-    let answer = write_tmmbr(&mut out, Ssrc(17), &[entry(16, WORD)]);
-    let _ = written(&rt, &out, answer, &TMMBR);
-    let mut out = vec![in rt.alloc(); 7]?;
-    let answer = write_tmmbn(&mut out, Ssrc(1), &[entry(17, WORD)]);
-    let _ = written(&rt, &out, answer, &TMMBN);
-    let mut out = vec![in rt.alloc(); 7]?;
-    let answer = write_pli(&mut out, Ssrc(9), Ssrc(16));
-    let _ = written(&rt, &out, answer, &PLI);
+    for writer in 0..3u8 {
+        let bump = Bump::new(rt.alloc());
+        bump.set_allocation_limit(Some(2000));
+        let mut out = Vec::new(&bump);
+        let mut refused = false;
+        for _ in 0..1000 {
+            let before = out.as_slice().to_vec(rt.alloc())?;
+            if write(writer, &mut out).is_err() {
+                assert_eq!(rt; out.as_slice(), before.as_slice());
+                assert!(rt; !before.is_empty());
+                refused = true;
+                break;
+            }
+        }
+        assert!(rt; refused, "writer {writer}");
+    }
     Ok(())
+}
+
+/// What one of the three writers appends.
+fn write<A: Allocator>(writer: u8, out: &mut Vec<u8, A>) -> Result<(), AllocError> {
+    match writer {
+        0 => write_tmmbr(out, Ssrc(17), &[entry(16, WORD)]),
+        1 => write_tmmbn(out, Ssrc(1), &[entry(17, WORD)]),
+        _ => write_pli(out, Ssrc(9), Ssrc(16)),
+    }
 }

@@ -4,9 +4,10 @@ ghost use Rattle.std.specs.Prelude.{◌≡◌, ◌+◌, ◌*◌, ◌≤◌, ◌<
 ghost use Rattle.rtcp_feedback.specs.Writing.{packet_bytes, tmmb_body};
 
 use crate::fault::FbFault;
-use crate::packet::{FMT_TMMBN, FMT_TMMBR, FRONT, RTPFB, put, put_front};
+use crate::packet::{FMT_TMMBN, FMT_TMMBR, FRONT, put, put_front};
 use byteorder::{BigEndian, ByteOrder};
-use std::alloc::AllocError;
+use rtcp_compound::RTPFB;
+use std::alloc::{AllocError, Allocator};
 use tmmbr_tuple::Ssrc;
 
 /// The length of an entry in bytes.
@@ -70,8 +71,8 @@ impl<'a> Iterator for TmmbEntries<'a> {
 
 /// Appends a TMMBR of this sender with these entries, a whole RTCP packet (RFC 5104, section 4.2.1).
 /// Refused only where memory is wanted and there is none; then `out` is as it was.
-pub fn write_tmmbr(
-    out: &mut Vec<u8>,
+pub fn write_tmmbr<A: Allocator>(
+    out: &mut Vec<u8, A>,
     sender: Ssrc,
     entries: &[TmmbrEntry],
 ) -> Result<(), AllocError>
@@ -85,8 +86,8 @@ pub fn write_tmmbr(
 
 /// Appends a TMMBN of this sender with these entries, a whole RTCP packet (RFC 5104, section 4.2.2).
 /// Refused only where memory is wanted and there is none; then `out` is as it was.
-pub fn write_tmmbn(
-    out: &mut Vec<u8>,
+pub fn write_tmmbn<A: Allocator>(
+    out: &mut Vec<u8, A>,
     sender: Ssrc,
     entries: &[TmmbrEntry],
 ) -> Result<(), AllocError>
@@ -99,8 +100,8 @@ pub fn write_tmmbn(
 }
 
 /// Appends a packet of this FMT whose source of media is written as 0.
-fn write_entries(
-    out: &mut Vec<u8>,
+fn write_entries<A: Allocator>(
+    out: &mut Vec<u8, A>,
     fmt: u8,
     sender: Ssrc,
     entries: &[TmmbrEntry],

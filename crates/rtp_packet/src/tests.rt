@@ -169,3 +169,42 @@ fn every_cut(rt: HostRuntime) {
         assert_eq!(rt; fault_of(&EMPTY_PARTS[..end]), fault);
     }
 }
+
+/// Examples 18, 20 and 22: cut within the header each is `Short`; behind it the payload may end anywhere.
+#[test]
+fn every_cut_of_the_examples(rt: HostRuntime) {
+    let of_endpoint_0 = |number: u8| [
+        0x80, 0x60, 0, number, 0, 0, 0x0b, 0xb8, 0, 0, 0, 0x10, 0xaa, 0xbb,
+    ];
+    let sent_on = [
+        0x80, 0x60, 0, 0x64, 0, 0, 0x0b, 0xb8, 0, 0, 1, 1, 0xaa, 0xbb,
+    ];
+    for datagram in [PLAIN, of_endpoint_0(7), of_endpoint_0(8), sent_on] {
+        for end in 0..datagram.len() + 1 {
+            let fault = if end < 12 {
+                Some(RtpFault::Short)
+            } else {
+                None
+            };
+            assert_eq!(rt; fault_of(&datagram[..end]), fault);
+        }
+    }
+    let padded = [0xa0, 0x60, 0, 7, 0, 0, 0x0b, 0xb8, 0, 0, 0, 0x11, 0];
+    for end in 0..padded.len() + 1 {
+        let fault = if end < 12 {
+            RtpFault::Short
+        } else {
+            RtpFault::Padding
+        };
+        assert_eq!(rt; fault_of(&padded[..end]), Some(fault));
+    }
+    let counted = [0x81, 0x60, 0, 7, 0, 0, 0x0b, 0xb8, 0, 0, 0, 0x11];
+    for end in 0..counted.len() + 1 {
+        let fault = if end < 12 {
+            RtpFault::Short
+        } else {
+            RtpFault::CsrcShort
+        };
+        assert_eq!(rt; fault_of(&counted[..end]), Some(fault));
+    }
+}

@@ -2,7 +2,7 @@
 use Rattle.std.proofs.Common.{◌≡◌, ℕ, List, Option, None, Some, Err, subst}
 use Rattle.std.specs.Prelude.{IfSome}
 use Rattle.std.specs.Io.KnownBytes.{Keeps}
-use Rattle.sfu_main.specs.CommandLine.{Request, bound}
+use Rattle.sfu_main.specs.CommandLine.{bound}
 use Rattle.sfu_main.specs.Lines.{TextLeaves}
 use Rattle.sfu_main.specs.declared.command.Failure.{Failure}
 use Rattle.sfu_main.specs.declared.command.Failure.TheVariants.{NoMemory, Refused, Io}

@@ -1,7 +1,6 @@
 -- Lines one behind the other.
-use Rattle.std.proofs.Common.{◌≡◌, ℕ, suc, ◌+◌, ◌<◌, ◌≤◌, List, [], ◌∷◌, map, Bor, length, drop, get_or, drop-cons, add-one, Result, Ok, Err, refl, sym, ap, subst, ◌∙◌, inl, inr}
+use Rattle.std.proofs.Common.{◌≡◌, ℕ, suc, ◌+◌, ◌<◌, ◌≤◌, List, ◌∷◌, map, Bor, length, drop, get_or, drop-cons, add-one, Result, Ok, Err, refl, sym, ap, subst, ◌∙◌, inl, inr}
 use Rattle.std.proofs.lemmas.List.{drop_all, get_or-map, length-map}
-use Rattle.sfu_main.specs.declared.fault.LineFault.{LineFault}
 use Rattle.sfu_main.specs.declared.bound.Refusal.{Refusal}
 use Rattle.sfu_main.specs.declared.bound.Refusal.TheVariants.{NoMemory, Line}
 use Rattle.sfu_main.specs.Lines.{Asked, LineLeaves, LinesLeave, Refused, TextLeaves}

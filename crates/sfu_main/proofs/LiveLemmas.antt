@@ -1,5 +1,5 @@
 -- Live requests as words by owner, and as rows.
-use Rattle.std.proofs.Common.{◌≡◌, ℕ, suc, ◌+◌, ◌<◌, ◌≤◌, eqb, nat_lt, Bool, List, [], ◌∷◌, ◌++◌, length, if◌then◌else◌, Option, None, Some, Result, Ok, Err, true, false, refl, sym, ap, subst, ◌∙◌, inl, inr, arith}
+use Rattle.std.proofs.Common.{◌≡◌, ℕ, ◌+◌, ◌≤◌, eqb, nat_lt, Bool, List, [], ◌∷◌, ◌++◌, length, if◌then◌else◌, Option, None, Some, Result, Ok, Err, true, false, refl, sym, ap, subst, ◌∙◌, inl, inr, arith}
 use Rattle.std.specs.Prelude.{IfNone, IsNone, OnSome, is_some, option_map}
 use Rattle.std.proofs.lemmas.Bool.{cases_eq, eqb-true}
 use Rattle.std.proofs.lemmas.Bool.Decides.{nat_tests}
@@ -11,7 +11,7 @@ use Rattle.bounding_set.specs.State.{State}
 use Rattle.bounding_set.specs.Rows.{HasRisingOwners, tuple_of, Puts, count_with}
 use Rattle.sfu_main.specs.declared.fault.LineFault.TheVariants.{Full}
 use Rattle.sfu_main.specs.declared.fault.LineFault.{LineFault}
-use Rattle.sfu_main.specs.Asked.{Change, asks, leaves}
+use Rattle.sfu_main.specs.Asked.{Change, asks}
 use Rattle.sfu_main.specs.Lines.{Asked, word_for, put_word, without, after_change, after_changes, ◌>>=◌, AreRowsOf, HasOwnersOnce}
 use Rattle.sfu_main.specs.Outcome.{HasRowsOf}
 

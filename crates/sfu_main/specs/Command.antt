@@ -60,11 +60,6 @@ unreadable_at kind = RefusedLine 0 Text
 abbrev pub IsOutOfMemory : Error → Type 0
 IsOutOfMemory e = error_kind e ≡ OutOfMemory
 
-abbrev pub IsNoRefusal : Failure → Type 0
-IsNoRefusal NoMemory = Unit {0}
-IsNoRefusal Io = Unit {0}
-IsNoRefusal (RefusedLine line fault) = ⊥
-
 -- the numbers that the process exits with
 abbrev pub code_of : Status → ℕ
 code_of status.Done = 0
@@ -72,6 +67,8 @@ code_of status.NoMemory = 1
 code_of status.CommandLine = 2
 code_of status.Refused = 4
 code_of status.Io = 5
+code_of status.UnsaidNoMemory = 1
+code_of status.UnsaidIo = 5
 
 abbrev pub status_of : Failure → Status
 status_of NoMemory = status.NoMemory
@@ -84,11 +81,30 @@ ShowsLine NoMemory old new = Appends old new (codes "no memory\n")
 ShowsLine Io old new = Appends old new (codes "io\n")
 ShowsLine (RefusedLine line fault) old new = Appends old new (refused_text (record { line = line; fault = fault }))
 
--- A command that failed so ends so: where it ends as refused, the line for the fault was shown.
+-- a write to the error output failed, of what there was to say
+abbrev pub IsUnsaid : Status → Type 0
+IsUnsaid status.UnsaidNoMemory = Unit {0}
+IsUnsaid status.UnsaidIo = Unit {0}
+IsUnsaid s = ⊥
+
+-- the text is on the error output and the command ends so, or it couldn't be written
+abbrev pub EndsSaying : Status → List ℕ → Option (List ℕ) → Option (List ℕ) → Status → Type 0
+EndsSaying wanted text old new s = ((s ≡ wanted) × Appends old new text) ⊎ IsUnsaid s
+
+-- What the error output says of a status: nothing where the command is done, else why it isn't. What refuses a line or
+-- words is said elsewhere; and where the error output fails, nothing is.
+pub record SaysWhy (old new : Option (List ℕ)) (s : Status) : Type 0 where
+  pub done : s ≡ status.Done → Keeps old new
+  pub no_memory : s ≡ status.NoMemory → Appends old new (codes "no memory\n")
+  pub io : s ≡ status.Io → Appends old new (codes "io\n")
+
+-- A command that failed so ends so, and what is to be said of that is on the error output: the line for the fault, or why
+-- there is none.
 pub record ShowsFailure (failure : Failure) (old new : Option (List ℕ)) (s : Status) : Type 0 where
   pub failed : s ≢ status.Done
   pub understood : s ≢ status.CommandLine
   pub refused : s ≡ status.Refused → (status_of failure ≡ status.Refused) × ShowsLine failure old new
+  pub said : SaysWhy old new s
 
 -- where a text isn't read, one of its lines can't be
 abbrev pub IsText : Failure → Type 0

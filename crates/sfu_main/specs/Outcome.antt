@@ -9,7 +9,7 @@ use Rattle.sfu_main.specs.declared.fault.LineFault.TheVariants.{Hex}
 use Rattle.sfu_main.specs.declared.bound.Refusal.{Refusal}
 use Rattle.sfu_main.specs.declared.bound.Refusal.TheVariants.{NoMemory, Line}
 use Rattle.sfu_main.specs.Asked.{Change, DatagramAsks}
-use Rattle.sfu_main.specs.Lines.{Asked, AreRowsOf, HoldsLastWords, LineLeaves, Refused, TextLeaves, after_changes, ◌>>=◌}
+use Rattle.sfu_main.specs.Lines.{Asked, AreRowsOf, HoldsLastWords, LineLeaves, TextLeaves, after_changes, ◌>>=◌}
 
 -- the rows are those of what is left
 abbrev pub HasRowsOf : Result (List Asked) LineFault → List Request → Type 0

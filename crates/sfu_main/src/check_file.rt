@@ -3,7 +3,7 @@
 ghost use Rattle.std.specs.Prelude.{◌≡◌, ◌≢◌, ◌≤◌, IfErr, IfOk, codes, vec_len};
 ghost use Rattle.std.specs.Io.KnownBytes.{Appends};
 ghost use Rattle.sfu_main.specs.BoundText.{answer_text};
-ghost use Rattle.sfu_main.specs.Command.{FailsCheck, IsText, SaysNo};
+ghost use Rattle.sfu_main.specs.Command.{FailsCheck, IsText, SaysNo, SaysWhy};
 
 use crate::bound::lines;
 use crate::command::{Failure, Status, report, unreadable};
@@ -42,6 +42,7 @@ pub fn check_lines<I: Read, O: Write, E: Write>(
     ensures no { result ≡ Status.Refused
         → SaysNo (O.contents writer.old) (O.contents writer.new) (E.contents errors.old) (E.contents errors.new) }
     ensures understood { result ≢ Status.CommandLine }
+    ensures said { SaysWhy (E.contents errors.old) (E.contents errors.new) result }
 {
     match answer_lines(alloc, file, writer) {
         Ok(Ok(())) => Status::Done,

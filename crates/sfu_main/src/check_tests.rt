@@ -4,6 +4,7 @@ use super::command::{Status, run_command};
 use std::alloc::{AllocError, Global};
 use std::io::{self, Read, Write};
 use std::test::Fail;
+use std::{fs, process};
 
 /// Runs `check_lines` on these lines, and shows what it printed, what it said on the error output, and how
 /// it ended.
@@ -177,6 +178,26 @@ fn refuses_too_many_lines(rt: HostRuntime) -> Result<(), Fail> {
         assert_eq!(rt; printed.as_str(), "");
         assert_eq!(rt; said.as_str(), text);
         assert_eq!(rt; status.code(), 4);
+    }
+    Ok(())
+}
+
+/// Example 26, through files that are opened.
+#[test]
+fn answers_opened_files(rt: HostRuntime) -> Result<(), Fail> {
+    let path = format!(in rt.alloc(); "/tmp/sfu_check_{}.txt", process::id(rt.process()))?;
+    for (lines, text) in [ANSWERED[0], ANSWERED[1], ANSWERED[2]] {
+        fs::write(&rt, path.as_str(), lines)?;
+        let words = ["sfu", "check", path.as_str()];
+        let mut input = b"".as_slice();
+        let mut printed = Vec::new(rt.alloc());
+        let mut said = Vec::new(rt.alloc());
+        let status = run_command(&rt, words.as_slice(), &mut input, &mut printed, &mut said);
+        fs::remove_file(&rt, path.as_str())?;
+        assert_eq!(rt; printed.as_slice(), text.as_bytes());
+        assert_eq!(rt; said.len(), 0);
+        let wanted = if text == "yes\n" { 0 } else { 4 };
+        assert_eq!(rt; status.code(), wanted);
     }
     Ok(())
 }

@@ -4,7 +4,7 @@ ghost use Rattle.std.specs.Prelude.{◌≡◌, ◌≢◌, ℕ, List, map, Some, 
 ghost use Rattle.std.specs.Io.KnownBytes.{Appends, Keeps};
 ghost use Rattle.clap.specs.Words.{kind_of};
 ghost use Rattle.sfu_main.specs.CommandLine.{Request, Types, asked_for, bound, check, request_of};
-ghost use Rattle.sfu_main.specs.Command.{FailsBound, IsNoRefusal, IsOutOfMemory, PrintsBound, RefusesBound, SaysNo, ShowsFailure, ShowsLine, unreadable_at};
+ghost use Rattle.sfu_main.specs.Command.{EndsSaying, FailsBound, IsOutOfMemory, IsUnsaid, PrintsBound, RefusesBound, SaysNo, SaysWhy, ShowsFailure, unreadable_at};
 ghost use Rattle.std.specs.IoError.{error_kind};
 
 use crate::bound::{Refusal, read_lines};
@@ -33,6 +33,10 @@ pub enum Status {
     Refused,
     /// 5: a read or a write failed.
     Io,
+    /// 1: what there was to say couldn't be written to the error output, for want of memory.
+    UnsaidNoMemory,
+    /// 5: what there was to say couldn't be written to the error output.
+    UnsaidIo,
 }
 
 impl Status {
@@ -45,10 +49,10 @@ impl Status {
     {
         match self {
             Status::Done => 0,
-            Status::NoMemory => 1,
+            Status::NoMemory | Status::UnsaidNoMemory => 1,
             Status::CommandLine => 2,
             Status::Refused => 4,
-            Status::Io => 5,
+            Status::Io | Status::UnsaidIo => 5,
         }
     }
 }
@@ -59,22 +63,6 @@ pub enum Failure {
     NoMemory,
     Refused { line: u64, fault: LineFault },
     Io,
-}
-
-impl Failure {
-    ghost use Rattle.std.specs.Prelude.{◌≡◌};
-    ghost use Rattle.sfu_main.specs.Command.{status_of};
-
-    /// How a command ends that failed so.
-    pub fn status(self) -> Status
-        ensures { result ≡ status_of self }
-    {
-        match self {
-            Failure::NoMemory => Status::NoMemory,
-            Failure::Refused { .. } => Status::Refused,
-            Failure::Io => Status::Io,
-        }
-    }
 }
 
 impl From<AllocError> for Failure {
@@ -152,6 +140,7 @@ pub fn run_command<R: AllocGlobal + Files, S: AsStr, I: Read, O: Write, E: Write
     ensures check_refused { (file : List ℕ) → asked_for (map S.text words.now) ≡ Some (check file) → result ≡ Status.Refused
         → SaysNo (O.contents writer.old) (O.contents writer.new) (E.contents errors.old) (E.contents errors.new) }
     ensures understood { (asked : Request) → Types (map S.text words.now) asked → result ≢ Status.CommandLine }
+    ensures said { SaysWhy (E.contents errors.old) (E.contents errors.new) result }
 {
     let alloc = rt.alloc();
     match read_words(alloc, words) {
@@ -175,6 +164,7 @@ fn run_check<R: AllocGlobal + Files, O: Write, E: Write>(
     ensures no { result ≡ Status.Refused
         → SaysNo (O.contents writer.old) (O.contents writer.new) (E.contents errors.old) (E.contents errors.new) }
     ensures understood { result ≢ Status.CommandLine }
+    ensures said { SaysWhy (E.contents errors.old) (E.contents errors.new) result }
 {
     match fs::open(rt, file) {
         Ok(mut file) => check_lines(rt.alloc(), &mut file, writer, errors),
@@ -207,43 +197,26 @@ pub fn report_words<E: Write>(errors: &mut E, error: &io::Error) -> Status
     ensures failed { (result ≢ Status.Done) × (result ≢ Status.Refused) }
     ensures memory { IsOutOfMemory error.now → result ≢ Status.CommandLine }
     ensures shown { result ≡ Status.CommandLine → Appends (E.contents errors.old) (E.contents errors.new) (codes "a word is no text\n") }
+    ensures said { SaysWhy (E.contents errors.old) (E.contents errors.new) result }
 {
     if error.kind() == io::ErrorKind::OutOfMemory {
-        return match errors.write_all(b"no memory\n") {
-            Ok(()) => Status::NoMemory,
-            Err(error) => Failure::from(error).status(),
-        };
+        return say_no_memory(errors);
     }
-    match errors.write_all(b"a word is no text\n") {
-        Ok(()) => Status::CommandLine,
-        Err(error) => Failure::from(error).status(),
-    }
+    say(errors, b"a word is no text\n", Status::CommandLine)
 }
 
-/// Says on the error output why a command isn't done.
+/// Says on the error output why a command isn't done. Where memory is wanting for a line, says that.
 pub fn report<E: Write>(alloc: Global, errors: &mut E, failure: Failure) -> Status
     ensures { ShowsFailure failure (E.contents errors.old) (E.contents errors.new) result }
 {
-    match show(alloc, errors, failure) {
-        Ok(()) => failure.status(),
-        Err(failure) => failure.status(),
-    }
-}
-
-/// Writes the line for a failure.
-fn show<E: Write>(alloc: Global, errors: &mut E, failure: Failure) -> Result<(), Failure>
-    ensures ok { OnOk result (ShowsLine failure (E.contents errors.old) (E.contents errors.new)) }
-    ensures err { IfErr result IsNoRefusal }
-{
     match failure {
-        Failure::NoMemory => errors.write_all(b"no memory\n")?,
-        Failure::Io => errors.write_all(b"io\n")?,
-        Failure::Refused { line, fault } => {
-            let text = refused_text(alloc, line, fault)?;
-            errors.write_all(text.as_bytes())?;
-        }
+        Failure::NoMemory => say_no_memory(errors),
+        Failure::Io => say(errors, b"io\n", Status::Io),
+        Failure::Refused { line, fault } => match refused_text(alloc, line, fault) {
+            Ok(text) => say(errors, text.as_bytes(), Status::Refused),
+            Err(_) => say_no_memory(errors),
+        },
     }
-    Ok(())
 }
 
 /// Says on the error output why the words of the command line ask for nothing.
@@ -251,20 +224,41 @@ fn refuse_words<E: Write>(alloc: Global, errors: &mut E, error: &clap::Error) ->
     ensures refused { result ≢ Status.Refused }
     ensures done { result ≢ Status.Done }
     ensures memory { kind_of error.now ≡ ErrorKind.OutOfMemory → result ≢ Status.CommandLine }
+    ensures said { SaysWhy (E.contents errors.old) (E.contents errors.new) result }
 {
     if error.kind() == ErrorKind::OutOfMemory {
         return report(alloc, errors, Failure::NoMemory);
     }
-    match write_error(alloc, errors, error) {
-        Ok(()) => Status::CommandLine,
-        Err(failure) => failure.status(),
+    match format!(in alloc; "{error}") {
+        Ok(text) => say(errors, text.as_bytes(), Status::CommandLine),
+        Err(_) => say_no_memory(errors),
     }
 }
 
-fn write_error<E: Write>(alloc: Global, errors: &mut E, error: &clap::Error) -> Result<(), Failure>
-    ensures { IfErr result IsNoRefusal }
+/// Says that memory is wanting. This takes none.
+fn say_no_memory<E: Write>(errors: &mut E) -> Status
+    ensures { EndsSaying Status.NoMemory (codes "no memory\n") (E.contents errors.old) (E.contents errors.new) result }
 {
-    let text = format!(in alloc; "{error}")?;
-    errors.write_all(text.as_bytes())?;
-    Ok(())
+    say(errors, b"no memory\n", Status::NoMemory)
+}
+
+/// Ends so, once this stands on the error output.
+fn say<E: Write>(errors: &mut E, text: &[u8], status: Status) -> Status
+    ensures { EndsSaying status text.now (E.contents errors.old) (E.contents errors.new) result }
+{
+    match errors.write_all(text) {
+        Ok(()) => status,
+        Err(error) => unsaid(&error),
+    }
+}
+
+/// How a command ends that couldn't say what there was to say.
+fn unsaid(error: &io::Error) -> Status
+    ensures { IsUnsaid result }
+{
+    if error.kind() == io::ErrorKind::OutOfMemory {
+        Status::UnsaidNoMemory
+    } else {
+        Status::UnsaidIo
+    }
 }

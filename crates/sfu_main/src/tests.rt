@@ -1,5 +1,5 @@
 //! The examples of docs/EXAMPLES.md, through the public call.
-use super::command::{Status, run_command};
+use super::command::{Failure, Status, report, report_words, run_command};
 use bounding_set::LIVE_LIMIT;
 use std::alloc::{AllocError, Global};
 use std::io::{self, Read, Write};
@@ -401,6 +401,73 @@ fn failing_streams(rt: HostRuntime) -> Result<(), Fail> {
     assert_eq!(rt; status.code(), 5);
     assert_eq!(rt; said.as_slice(), b"io\n".as_slice());
     Ok(())
+}
+
+/// A reader and a writer to which memory is refused.
+#[derive(Drop)]
+struct Starved;
+
+impl Read for Starved {
+    fn read(&mut self, _buf: &mut [u8]) -> io::Result<usize> {
+        Err(io::Error::from(io::ErrorKind::OutOfMemory))
+    }
+}
+
+impl Write for Starved {
+    fn write(&mut self, _buf: &[u8]) -> io::Result<usize> {
+        Err(io::Error::from(io::ErrorKind::OutOfMemory))
+    }
+
+    fn flush(&mut self) -> io::Result<()> {
+        Ok(())
+    }
+}
+
+#[test]
+fn says_no_memory(rt: HostRuntime) -> Result<(), Fail> {
+    let words = ["sfu", "bound", "--sender", "1"];
+    let mut printed = Vec::new(rt.alloc());
+    let mut said = Vec::new(rt.alloc());
+    let status = run_command(&rt, words.as_slice(), &mut Starved, &mut printed, &mut said);
+    assert_eq!(rt; status.code(), 1);
+    assert_eq!(rt; printed.len(), 0);
+    assert_eq!(rt; said.as_slice(), b"no memory\n".as_slice());
+
+    let mut input = b"".as_slice();
+    let mut said = Vec::new(rt.alloc());
+    let status = run_command(&rt, words.as_slice(), &mut input, &mut Starved, &mut said);
+    assert_eq!(rt; status, Status::NoMemory);
+    assert_eq!(rt; said.as_slice(), b"no memory\n".as_slice());
+
+    let mut said = Vec::new(rt.alloc());
+    let error = io::Error::from(io::ErrorKind::OutOfMemory);
+    assert_eq!(rt; report_words(&mut said, &error).code(), 1);
+    assert_eq!(rt; said.as_slice(), b"no memory\n".as_slice());
+
+    let mut said = Vec::new(rt.alloc());
+    let error = io::Error::from(io::ErrorKind::InvalidData);
+    assert_eq!(rt; report_words(&mut said, &error).code(), 2);
+    assert_eq!(rt; said.as_slice(), b"a word is no text\n".as_slice());
+
+    let mut said = Vec::new(rt.alloc());
+    let status = report(rt.alloc(), &mut said, Failure::NoMemory);
+    assert_eq!(rt; status, Status::NoMemory);
+    assert_eq!(rt; said.as_slice(), b"no memory\n".as_slice());
+    Ok(())
+}
+
+/// Where the error output fails, the status says so, and not what it was to say.
+#[test]
+fn failing_error_output(rt: HostRuntime) {
+    let words = ["sfu", "bound", "--sender", "1"];
+    let mut input = b"83c\n".as_slice();
+    let mut printed = Vec::new(rt.alloc());
+    let status = run_command(&rt, words.as_slice(), &mut input, &mut printed, &mut Broken);
+    assert_eq!(rt; status, Status::UnsaidIo);
+    assert_eq!(rt; status.code(), 5);
+    let status = report(rt.alloc(), &mut Starved, Failure::Io);
+    assert_eq!(rt; status, Status::UnsaidNoMemory);
+    assert_eq!(rt; status.code(), 1);
 }
 
 #[test]

@@ -8,7 +8,7 @@ use Rattle.rtcp_feedback.proofs.WriteLemmas.{packet_is}
 use Rattle.rtcp_feedback.proofs.tmmb.write_entries.Goals as goal
 
 pub returns-clause-written : goal.returns-clause-written
-returns-clause-written c =
+returns-clause-written g c =
     let entries = c.args.entries.now in
     let words = 2 + 2 * length entries in
     let all = take_all c.loop-entry.entry-index entries c.loop-entry-test.false in

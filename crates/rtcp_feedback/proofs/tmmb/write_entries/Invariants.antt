@@ -4,7 +4,7 @@ use Rattle.rtcp_feedback.specs.Grammar.{entry_bytes}
 use Rattle.rtcp_feedback.proofs.tmmb.write_entries.Given as goal
 
 abbrev pub invariant-loop-entry : goal.invariant-loop-entry
-invariant-loop-entry l = record {
+invariant-loop-entry g l = record {
   written : l.out.items ≡ l.initial.out.items ++ flat_map entry_bytes (take l.entry-index l.entries);
   room : vec_len l.out + 8 * (length l.entries - l.entry-index) ≤ vec_capacity l.out;
 }

@@ -1,4 +1,4 @@
-use Rattle.std.proofs.Common.{[], Ok, ◌+◌, ◌∙◌, sym, ap, refl, subst, Bor, List, ℕ, map, get_or, arith}
+use Rattle.std.proofs.Common.{[], Ok, ◌∙◌, ap, refl, subst, Bor, List, ℕ, map, arith}
 use Rattle.std.proofs.lemmas.Result.{err_from_is_err_and}
 use Rattle.sfu_main.specs.Lines.{LinesLeave}
 use Rattle.sfu_main.proofs.LineLemmas.{at_end, goes_on, stops}

@@ -1,4 +1,4 @@
-use Rattle.std.proofs.Common.{refl, Ok, Err}
+use Rattle.std.proofs.Common.{refl, Err}
 use Rattle.rtcp_compound.specs.Reading.{packets_left}
 use Rattle.sfu_main.specs.declared.fault.LineFault.TheVariants.{Rtcp, Feedback}
 use Rattle.sfu_main.proofs.AskedLemmas.{asked_together, leaves_datagram}
