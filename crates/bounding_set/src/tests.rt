@@ -190,20 +190,52 @@ fn sixty_four_owners(rt: HostRuntime) -> Result<(), Fail> {
     assert_eq!(rt; lines[0].as_str(), "kept 1 00271201 pair 3 44986 9");
     assert_eq!(rt; lines[63].as_str(), "kept 64 00471040 pair 9223 7745 520");
     assert_as_defined(&rt, rt.alloc(), &bounds)?;
+    // One more is taken in, and kept like the others.
+    assert_eq!(rt; bounds.set(Ssrc(65), tuple_of_64(65)), Ok(true));
+    assert_eq!(rt; bounds.announced().len(), 65);
+    Ok(())
+}
+
+/// What owner i of 256 asks for: 65,500 + i * i bits per second, with i bytes per packet.
+fn tuple_of_256(i: u16) -> Tuple {
+    let number = u32::from(i);
+    Tuple::new(0, number.wrapping_mul(number).wrapping_add(65_500), i).unwrap_or_default()
+}
+
+#[test]
+fn as_many_as_may_be_live(rt: HostRuntime) -> Result<(), Fail> {
+    let mut bounds = Bounds::new();
+    for i in 1..=256_u16 {
+        assert_eq!(rt; bounds.set(Ssrc(u32::from(i)), tuple_of_256(i)), Ok(true));
+    }
+    // All are kept in the order of their numbers.
+    let owners = announced_owners(rt.alloc(), &bounds)?;
+    let all: Vec<u32> = (1..=256_u32).collect(rt.alloc())?;
+    assert_eq!(rt; owners.as_slice(), all.as_slice());
+    let lines = printed(rt.alloc(), &bounds)?;
+    assert_eq!(rt; lines.len(), 256);
+    assert_eq!(rt; lines[0].as_str(), "kept 1 01ffba01 pair 3 589486 9");
+    assert_eq!(rt;
+        lines[255].as_str(),
+        "kept 256 03ffb900 pair 131547 1761 2056"
+    );
+    assert_eq!(rt; check(bounds.rows(), bounds.cert()), Ok(()));
     // One more is refused, whatever it asks for, and changes nothing.
-    assert_eq!(rt; bounds.set(Ssrc(65), Tuple::from_word(0)), Err(Full));
-    assert_eq!(rt; bounds.set(Ssrc(0), tuple_of_64(65)), Err(Full));
-    assert_eq!(rt; bounds.rows().len(), 64);
+    let steps = bounds.steps();
+    assert_eq!(rt; bounds.set(Ssrc(257), Tuple::from_word(0)), Err(Full));
+    assert_eq!(rt; bounds.set(Ssrc(0), tuple_of_256(257)), Err(Full));
+    assert_eq!(rt; bounds.rows().len(), 256);
+    assert_eq!(rt; bounds.steps(), steps);
     let after = printed(rt.alloc(), &bounds)?;
     assert_eq!(rt; after.as_slice(), lines.as_slice());
-    // An owner that is live may ask for something else: owner 64 now hides the others.
+    // An owner that is live may ask for something else: owner 256 now hides the others.
     assert_eq!(rt;
-        bounds.set(Ssrc(64), Tuple::from_word(0x0000_0240)),
+        bounds.set(Ssrc(256), Tuple::from_word(0x0000_0300)),
         Ok(true)
     );
-    assert_eq!(rt; bounds.rows().len(), 64);
+    assert_eq!(rt; bounds.rows().len(), 256);
     let owners = announced_owners(rt.alloc(), &bounds)?;
-    assert_eq!(rt; owners.as_slice(), [64_u32].as_slice());
+    assert_eq!(rt; owners.as_slice(), [256_u32].as_slice());
     assert_as_defined(&rt, rt.alloc(), &bounds)
 }
 

@@ -4,7 +4,7 @@ use arrayvec::ArrayVec;
 use tmmbr_tuple::Pair;
 
 /// How many kept entries a certificate holds at most, and how many implied ones.
-pub const MAX_REQUESTS: usize = 64;
+pub const MAX_REQUESTS: usize = 256;
 
 /// A request of the choice, with a pair that it forbids and no other kept request does.
 #[derive(Clone, Copy, Debug, Default, PartialEq, Eq, Hash)]

@@ -157,13 +157,13 @@ fn refuses_too_many_lines(rt: HostRuntime) -> Result<(), Fail> {
     let rows = [
         (
             "kept 17 0007d028 pair 1000 1001 321\n",
-            64,
-            "line 65: text\n",
+            256,
+            "line 257: text\n",
         ),
         (
             "implied 18 0007d028 by 17 17 times 1 0 1\n",
-            64,
-            "line 65: text\n",
+            256,
+            "line 257: text\n",
         ),
         ("live 1 00000000\n", 65_535, "line 65536: text\n"),
     ];

@@ -3,6 +3,7 @@ use super::command::{Status, run_command};
 use bounding_set::LIVE_LIMIT;
 use std::alloc::{AllocError, Global};
 use std::io::{self, Read, Write};
+use std::process::Abort;
 use std::test::Fail;
 
 /// Runs `sfu bound --sender 1` on these lines, and shows what it printed, what it said on the error
@@ -304,20 +305,63 @@ fn prints_examples_of_several(rt: HostRuntime) -> Result<(), Fail> {
     Ok(())
 }
 
-/// Owners 1 to 64, each with rate 5000 + i * i and overhead i: all are kept, in this order.
+/// Owners 1 to `count`, each with the least rate and i * i more, and i bytes of overhead.
+fn rising(alloc: Global, count: usize, least: usize) -> Result<String, AllocError> {
+    let mut lines = String::new(alloc);
+    for i in 1..count + 1 {
+        lines.push_str(asking(alloc, i, (least + i * i) * 512 + i)?.as_str())?;
+    }
+    Ok(lines)
+}
+
+/// A TMMBN that begins so, and a certificate of so many lines with this first and this last one.
+fn assert_shows_all(rt: &impl Abort, printed: &str, count: usize, shown: [&str; 3]) {
+    let [tmmbn, first, last] = shown;
+    assert!(rt; printed.starts_with(tmmbn));
+    assert_eq!(rt; printed.lines().nth(1), Some(first));
+    assert_eq!(rt; printed.lines().last(), Some(last));
+    assert_eq!(rt; printed.lines().count(), count + 1);
+}
+
 #[test]
 fn prints_sixty_four(rt: HostRuntime) -> Result<(), Fail> {
-    let mut lines = String::new(rt.alloc());
-    for i in 1..65 {
-        lines.push_str(asking(rt.alloc(), i, (5000 + i * i) * 512 + i)?.as_str())?;
-    }
+    let mut lines = rising(rt.alloc(), 64, 5000)?;
+    let shown = [
+        "84cd0082",
+        "kept 1 00271201 pair 3 44986 9",
+        "kept 64 00471040 pair 9223 7745 520",
+    ];
     let (printed, said, _) = bound(&rt, lines.as_str())?;
     assert_eq!(rt; said.as_str(), "");
-    let printed = printed.as_str();
-    assert!(rt; printed.starts_with("84cd0082"));
-    assert!(rt; printed.contains("\nkept 1 00271201 pair 3 44986 9\n"));
-    assert!(rt; printed.ends_with("\nkept 64 00471040 pair 9223 7745 520\n"));
-    assert_eq!(rt; printed.lines().count(), 65);
+    assert_shows_all(&rt, printed.as_str(), 64, shown);
+    // One more is taken in beside them.
+    lines.push_str(asking(rt.alloc(), 65, (5000 + 65 * 65) * 512 + 65)?.as_str())?;
+    let (printed, said, _) = bound(&rt, lines.as_str())?;
+    assert_eq!(rt; said.as_str(), "");
+    assert_eq!(rt; printed.as_str().lines().count(), 66);
+    Ok(())
+}
+
+#[test]
+fn prints_as_many_as_may_be_live(rt: HostRuntime) -> Result<(), Fail> {
+    let mut lines = rising(rt.alloc(), 256, 65_500)?;
+    let shown = [
+        "84cd0202",
+        "kept 1 01ffba01 pair 3 589486 9",
+        "kept 256 03ffb900 pair 131547 1761 2056",
+    ];
+    // The last asks twice: an owner that is live may always ask.
+    lines.push_str(asking(rt.alloc(), 256, 0x03ff_b900)?.as_str())?;
+    let (printed, said, _) = bound(&rt, lines.as_str())?;
+    assert_eq!(rt; said.as_str(), "");
+    assert_shows_all(&rt, printed.as_str(), 256, shown);
+    // One owner more is refused.
+    let mut lines = rising(rt.alloc(), 256, 65_500)?;
+    lines.push_str(asking(rt.alloc(), 257, 0x7d028)?.as_str())?;
+    let (printed, said, status) = bound(&rt, lines.as_str())?;
+    assert_eq!(rt; printed.as_str(), "");
+    assert_eq!(rt; said.as_str(), "line 257: full\n");
+    assert_eq!(rt; status, Status::Refused);
     Ok(())
 }
 
