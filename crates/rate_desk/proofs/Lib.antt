@@ -1,12 +1,3 @@
 pub mod PresenceLemmas
 pub mod LiveLemmas
-pub mod GateLemmas
-pub mod HistoryLemmas
-pub mod ScheduleLemmas
-pub mod ShareLemmas
-pub mod SinceLemmas
-pub mod RequestLemmas
-pub mod KeptLemmas
 pub mod EffectLemmas
-pub mod StandingLemmas
-pub mod DeskLemmas

@@ -5,7 +5,7 @@ use Rattle.rate_desk.specs.Standing.{Stand}
 use Rattle.rate_desk.specs.State.{DeskState, HoldsLegalDesk, now_of}
 
 -- what stands is what the trace comes to, and the ring has room for as many entries as are listed
-pub record IsHeld (d : DeskState) (capacity : ℕ) (s : Stand) : Type 0 where
+pub record IsHeld (d : DeskState) (room : ℕ) (s : Stand) : Type 0 where
   pub legal : HoldsLegalDesk d
-  pub now : s.now ≡ now_of d
-  pub capacity : capacity ≡ HISTORY_LIMIT
+  pub whole : s.whole ≡ now_of d
+  pub capacity : room ≡ HISTORY_LIMIT

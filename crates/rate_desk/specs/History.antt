@@ -11,7 +11,7 @@ abbrev pub IsLegalHistory : ℕ → ℕ → Base → List Entry → Type 0
 IsLegalHistory gap request_ms base entries =
     (i : ℕ) (d : Entry) → i < length entries
     → IsAnswerTo gap request_ms (base_after request_ms base (take i entries))
-      (slice_index_or entries i d).call (slice_index_or entries i d).answer
+    (slice_index_or entries i d).call (slice_index_or entries i d).answer
 
 -- A base and a history stand for these entries behind a former base: the last of them are listed, as many as may be, and those
 -- that left are folded into the base.
@@ -19,4 +19,4 @@ pub record StandsFor (request_ms : ℕ) (former : Base) (entries : List Entry) (
   pub folded : List Entry
   pub in_turn : entries ≡ folded ++ history
   pub listed : length history ≡ min HISTORY_LIMIT (length entries)
-  pub base : base ≡ base_after request_ms former folded
+  pub stands : base ≡ base_after request_ms former folded

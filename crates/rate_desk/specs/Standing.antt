@@ -11,13 +11,13 @@ use Rattle.rate_desk.specs.Trace.{IsBase}
 
 -- what the calls so far come to, and the live requests with what is announced for them
 pub record Stand : Type 0 where
-  pub now : Base
+  pub whole : Base
   pub bounds : State
 
 -- what always holds of them: the rows are the live requests of those present
-pub record IsStand (now : Base) (bounds : State) : Type 0 where
-  pub base : IsBase now
-  pub live : bounds.rows ≡ live_requests now.present.items
+pub record IsStand (whole : Base) (bounds : State) : Type 0 where
+  pub base : IsBase whole
+  pub live : bounds.rows ≡ live_requests whole.present.items
   pub announced : AnnouncesSmallest bounds
 
 -- how many are present behind a call that isn't refused, of so many before it

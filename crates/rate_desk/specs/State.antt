@@ -50,7 +50,7 @@ pub record HoldsLegalDesk (d : DeskState) : Type 0 where
 
 -- The call's number is the count of calls before it. Base and history stand for the former ones and the call with its answer.
 pub record Records (old : DeskState) (call : Call) (number : ℕ) (answer : Answer) (new : DeskState) : Type 0 where
-  pub number : number ≡ calls_of old
+  pub numbered : number ≡ calls_of old
   pub stands : StandsFor old.request_ms old.base (old.history ++ record { call = call; answer = answer } ∷ []) new.base new.history
   pub gap : new.gap ≡ old.gap
   pub request_ms : new.request_ms ≡ old.request_ms

@@ -67,8 +67,20 @@ impl Base {
     {
         let count = self.present.len();
         match (self.refusal(call), call) {
-            (None, Call::Stay { change: Change::Arrive, .. }) => count + 1,
-            (None, Call::Stay { change: Change::Depart, .. }) => count - 1,
+            (
+                None,
+                Call::Stay {
+                    change: Change::Arrive,
+                    ..
+                },
+            ) => count + 1,
+            (
+                None,
+                Call::Stay {
+                    change: Change::Depart,
+                    ..
+                },
+            ) => count - 1,
             _ => count,
         }
     }

@@ -26,14 +26,26 @@ impl Call {
     pub(crate) fn wishes(&self) -> bool
         ensures { result ≡ wishes self.now }
     {
-        matches!(self, Call::Time { signal: Signal::Pli, .. })
+        matches!(
+            self,
+            Call::Time {
+                signal: Signal::Pli,
+                ..
+            }
+        )
     }
 
     /// Whether a PLI may be sent upstream at it.
     pub(crate) fn can_send(&self) -> bool
         ensures { result ≡ can_send self.now }
     {
-        matches!(self, Call::Time { signal: Signal::Pli | Signal::Tick, .. })
+        matches!(
+            self,
+            Call::Time {
+                signal: Signal::Pli | Signal::Tick,
+                ..
+            }
+        )
     }
 
     /// Whether requests may come or go by it.
@@ -51,7 +63,10 @@ impl Call {
         ensures { result ≡ requested_word self.now }
     {
         match *self {
-            Call::Stay { change: Change::Request(tuple), .. } => tuple.to_word(),
+            Call::Stay {
+                change: Change::Request(tuple),
+                ..
+            } => tuple.to_word(),
             _ => 0,
         }
     }
@@ -87,10 +102,7 @@ pub const KEPT_WORDS: usize = 4;
 pub enum Answer {
     /// The call was done. `pli` says that a PLI is to be sent upstream now; bit i modulo 64 of word i / 64
     /// of `kept` says that row i of the live requests, by rising owner, is announced.
-    Done {
-        pli: bool,
-        kept: [u64; KEPT_WORDS],
-    },
+    Done { pli: bool, kept: [u64; KEPT_WORDS] },
     /// 1: the owner isn't present with the stay that was named. Shows the stay with which it is; 0 where it
     /// isn't present.
     NotPresent(u64),

@@ -105,13 +105,11 @@ impl Desk {
         ensures effect { IfOk result (λ r. IsEffect (announced_of self.old.bounds) (announced_of self.new.bounds) r.effect) }
         ensures legal { HoldsLegalDesk self.new }
     {
-        self.reply(
-            Call::Stay {
-                owner,
-                stay,
-                change: Change::Arrive,
-            },
-        )
+        self.reply(Call::Stay {
+            owner,
+            stay,
+            change: Change::Arrive,
+        })
     }
 
     /// The owner asks for a tuple, in the place of what it asked for before.
@@ -126,13 +124,11 @@ impl Desk {
         ensures effect { IfOk result (λ r. IsEffect (announced_of self.old.bounds) (announced_of self.new.bounds) r.effect) }
         ensures legal { HoldsLegalDesk self.new }
     {
-        self.reply(
-            Call::Stay {
-                owner,
-                stay,
-                change: Change::Request(tuple),
-            },
-        )
+        self.reply(Call::Stay {
+            owner,
+            stay,
+            change: Change::Request(tuple),
+        })
     }
 
     /// The owner's stay ends, and its request with it.
@@ -147,13 +143,11 @@ impl Desk {
         ensures effect { IfOk result (λ r. IsEffect (announced_of self.old.bounds) (announced_of self.new.bounds) r.effect) }
         ensures legal { HoldsLegalDesk self.new }
     {
-        self.reply(
-            Call::Stay {
-                owner,
-                stay,
-                change: Change::Depart,
-            },
-        )
+        self.reply(Call::Stay {
+            owner,
+            stay,
+            change: Change::Depart,
+        })
     }
 
     /// Somebody wants a picture at this moment, in milliseconds (RFC 4585, section 6.3.1). `HistoryFull`
@@ -165,12 +159,10 @@ impl Desk {
         ensures effect { IfOk result (λ r. IsEffect (announced_of self.old.bounds) (announced_of self.new.bounds) r.effect) }
         ensures legal { HoldsLegalDesk self.new }
     {
-        self.reply(
-            Call::Time {
-                moment,
-                signal: Signal::Pli,
-            },
-        )
+        self.reply(Call::Time {
+            moment,
+            signal: Signal::Pli,
+        })
     }
 
     /// It is this moment now, in milliseconds: a PLI that is wanted may be due. `HistoryFull` leaves
@@ -182,12 +174,10 @@ impl Desk {
         ensures effect { IfOk result (λ r. IsEffect (announced_of self.old.bounds) (announced_of self.new.bounds) r.effect) }
         ensures legal { HoldsLegalDesk self.new }
     {
-        self.reply(
-            Call::Time {
-                moment,
-                signal: Signal::Tick,
-            },
-        )
+        self.reply(Call::Time {
+            moment,
+            signal: Signal::Tick,
+        })
     }
 
     /// It is this moment now, in milliseconds: requests that are too old are taken away; their owners stay
@@ -199,12 +189,10 @@ impl Desk {
         ensures effect { IfOk result (λ r. IsEffect (announced_of self.old.bounds) (announced_of self.new.bounds) r.effect) }
         ensures legal { HoldsLegalDesk self.new }
     {
-        self.reply(
-            Call::Time {
-                moment,
-                signal: Signal::Expire,
-            },
-        )
+        self.reply(Call::Time {
+            moment,
+            signal: Signal::Expire,
+        })
     }
 
     /// What stands for the calls before the listed ones.
@@ -228,7 +216,7 @@ impl Desk {
         ensures value { result ≡ calls_of self.now }
         ensures legal { HoldsLegalDesk self.now }
     {
-        self.standing.now().calls
+        self.standing.whole().calls
     }
 
     /// The sum of the words that they requested, accepted or refused.
@@ -236,7 +224,7 @@ impl Desk {
         ensures value { result ≡ self.now.base.words + words_of self.now.history }
         ensures legal { HoldsLegalDesk self.now }
     {
-        self.standing.now().words
+        self.standing.whole().words
     }
 
     /// The live requests, by rising owner.
@@ -331,7 +319,7 @@ impl Desk {
         requires { HasStay call.now }
         ensures { IsTrue result ↔ IsOverLimit self.now call.now }
     {
-        let now = self.standing.now();
+        let now = self.standing.whole();
         let room = CALL_LIMIT - now.calls;
         room < 1 + now.count_behind(self.request_ms, call) as u64
     }
@@ -340,7 +328,7 @@ impl Desk {
     fn is_quiet(&self, call: &Call) -> bool
         ensures { IsTrue result → IsQuiet self.now call.now }
     {
-        !call.may_change() || self.standing.now().refusal(call).is_some()
+        !call.may_change() || self.standing.whole().refusal(call).is_some()
     }
 
     /// Answers a call for which there is room, and records it. Where the history is full, its oldest entry
@@ -352,9 +340,12 @@ impl Desk {
         ensures quiet { IsQuiet self.old call.now → self.new.bounds ≡ self.old.bounds }
         ensures legal { HoldsLegalDesk self.new }
     {
-        let number = self.standing.now().calls;
+        let number = self.standing.whole().calls;
         let answer = self.standing.answer(self.gap, self.request_ms, call);
-        let entry = Entry { call: *call, answer };
+        let entry = Entry {
+            call: *call,
+            answer,
+        };
         if let Some(oldest) = self.history.push_back(entry) {
             self.base.take_in(self.request_ms, &oldest);
         }

@@ -128,8 +128,16 @@ fn is_call(one: &Call, other: &Call) -> bool
                 change: y,
             },
         ) => a.0 == b.0 && s == t && is_change(x, y),
-        (Call::Time { moment: m, signal: x }, Call::Time { moment: n, signal: y }) => m == n
-            && is_signal(x, y),
+        (
+            Call::Time {
+                moment: m,
+                signal: x,
+            },
+            Call::Time {
+                moment: n,
+                signal: y,
+            },
+        ) => m == n && is_signal(x, y),
         _ => false,
     }
 }

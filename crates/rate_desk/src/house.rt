@@ -93,7 +93,16 @@ impl<D: Ledger, S: SeatCalls> House<D, S> {
         ensures fault { IfErr result (IsFaultOf publisher seat.old) }
         ensures unchanged { OnErr result (seat.new ≡ seat.old) }
     {
-        self.call(rt, seat, publisher, Call::Stay { owner, stay, change: Change::Arrive })
+        self.call(
+            rt,
+            seat,
+            publisher,
+            Call::Stay {
+                owner,
+                stay,
+                change: Change::Arrive,
+            },
+        )
     }
 
     /// The owner asks the publisher for a tuple, as `Desk::request` says. A fault leaves all as it was.
@@ -113,7 +122,11 @@ impl<D: Ledger, S: SeatCalls> House<D, S> {
         ensures fault { IfErr result (IsFaultOf publisher seat.old) }
         ensures unchanged { OnErr result (seat.new ≡ seat.old) }
     {
-        let call = Call::Stay { owner, stay, change: Change::Request(tuple) };
+        let call = Call::Stay {
+            owner,
+            stay,
+            change: Change::Request(tuple),
+        };
         self.call(rt, seat, publisher, call)
     }
 
@@ -133,7 +146,16 @@ impl<D: Ledger, S: SeatCalls> House<D, S> {
         ensures fault { IfErr result (IsFaultOf publisher seat.old) }
         ensures unchanged { OnErr result (seat.new ≡ seat.old) }
     {
-        self.call(rt, seat, publisher, Call::Stay { owner, stay, change: Change::Depart })
+        self.call(
+            rt,
+            seat,
+            publisher,
+            Call::Stay {
+                owner,
+                stay,
+                change: Change::Depart,
+            },
+        )
     }
 
     /// Somebody wants a picture of the publisher at this moment, as `Desk::pli` says. A fault leaves all
@@ -151,7 +173,15 @@ impl<D: Ledger, S: SeatCalls> House<D, S> {
         ensures fault { IfErr result (IsFaultOf publisher seat.old) }
         ensures unchanged { OnErr result (seat.new ≡ seat.old) }
     {
-        self.call(rt, seat, publisher, Call::Time { moment, signal: Signal::Pli })
+        self.call(
+            rt,
+            seat,
+            publisher,
+            Call::Time {
+                moment,
+                signal: Signal::Pli,
+            },
+        )
     }
 
     /// It is this moment now, as `Desk::tick` says. A fault leaves all as it was.
@@ -168,7 +198,15 @@ impl<D: Ledger, S: SeatCalls> House<D, S> {
         ensures fault { IfErr result (IsFaultOf publisher seat.old) }
         ensures unchanged { OnErr result (seat.new ≡ seat.old) }
     {
-        self.call(rt, seat, publisher, Call::Time { moment, signal: Signal::Tick })
+        self.call(
+            rt,
+            seat,
+            publisher,
+            Call::Time {
+                moment,
+                signal: Signal::Tick,
+            },
+        )
     }
 
     /// Requests of the publisher that are too old at this moment are taken away, as `Desk::expire` says. A
@@ -186,7 +224,15 @@ impl<D: Ledger, S: SeatCalls> House<D, S> {
         ensures fault { IfErr result (IsFaultOf publisher seat.old) }
         ensures unchanged { OnErr result (seat.new ≡ seat.old) }
     {
-        self.call(rt, seat, publisher, Call::Time { moment, signal: Signal::Expire })
+        self.call(
+            rt,
+            seat,
+            publisher,
+            Call::Time {
+                moment,
+                signal: Signal::Expire,
+            },
+        )
     }
 
     /// Locks the publisher's desk, then the tally, and makes the call.

@@ -101,7 +101,10 @@ pub fn take_in(
             stay,
             change,
         } => change_stay(present, now, owner, stay, &change),
-        Call::Time { signal: Signal::Expire, .. } => expire(present, request_ms, now),
+        Call::Time {
+            signal: Signal::Expire,
+            ..
+        } => expire(present, request_ms, now),
         Call::Time { .. } => {}
     }
 }
@@ -124,14 +127,7 @@ fn change_stay(
         Change::Request(tuple) => Some(Asked { tuple, stamp: now }),
         Change::Depart => return leave(present, owner),
     };
-    put(
-        present,
-        Present {
-            owner,
-            stay,
-            asked,
-        },
-    );
+    put(present, Present { owner, stay, asked });
 }
 
 /// Takes the owner out, where it is present.

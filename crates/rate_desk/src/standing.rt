@@ -19,7 +19,7 @@ use tmmbr_tuple::Ssrc;
 /// What the calls of a desk come to, and the live requests of those present with what is announced for them.
 #[derive(Debug, Drop)]
 pub struct Standing {
-    now: Base,
+    whole: Base,
     bounds: Bounds,
 }
 
@@ -28,9 +28,9 @@ impl Model for Standing {
 
     ghost Value = { Stand };
 
-    ghost view = { λ s. record { now = s.now; bounds = s.bounds } };
+    ghost view = { λ s. record { whole = s.whole; bounds = s.bounds } };
 
-    ghost invariant = { λ s. IsStand s.now s.bounds };
+    ghost invariant = { λ s. IsStand s.whole s.bounds };
 }
 
 impl Standing {
@@ -43,27 +43,27 @@ impl Standing {
 
     /// No calls, and nothing is live.
     pub fn new() -> Standing
-        ensures now { result.now ≡ empty_base }
-        ensures stand { IsStand result.now result.bounds }
+        ensures whole { result.whole ≡ empty_base }
+        ensures stand { IsStand result.whole result.bounds }
     {
         Standing {
-            now: Base::new(),
+            whole: Base::new(),
             bounds: Bounds::new(),
         }
     }
 
     /// What the calls so far come to.
-    pub fn now(&self) -> &Base
-        ensures value { result.now ≡ self.now.now }
-        ensures stand { IsStand self.now.now self.now.bounds }
+    pub fn whole(&self) -> &Base
+        ensures value { result.now ≡ self.now.whole }
+        ensures stand { IsStand self.now.whole self.now.bounds }
     {
-        &self.now
+        &self.whole
     }
 
     /// The live requests with what is announced for them.
     pub fn bounds(&self) -> &Bounds
         ensures value { result.now ≡ self.now.bounds }
-        ensures stand { IsStand self.now.now self.now.bounds }
+        ensures stand { IsStand self.now.whole self.now.bounds }
     {
         &self.bounds
     }
@@ -71,15 +71,21 @@ impl Standing {
     /// Answers a call, and takes it in: it is refused, or it is done.
     pub fn answer(&mut self, gap: u64, request_ms: u64, call: &Call) -> Answer
         requires stays { HasStay call.now }
-        requires room { self.old.now.calls < CALL_LIMIT }
-        ensures owed { IsAnswerTo gap request_ms self.old.now call.now result }
-        ensures now { self.new.now ≡ base_with request_ms self.old.now (record { call = call.now; answer = result }) }
+        requires room { self.old.whole.calls < CALL_LIMIT }
+        ensures owed { IsAnswerTo gap request_ms self.old.whole call.now result }
+        ensures whole { self.new.whole ≡ base_with request_ms self.old.whole (record { call = call.now; answer = result }) }
         ensures refused { is_done result ≡ false → self.new.bounds ≡ self.old.bounds }
         ensures quiet { may_change call.now ≡ false → self.new.bounds ≡ self.old.bounds }
-        ensures stand { IsStand self.new.now self.new.bounds }
+        ensures stand { IsStand self.new.whole self.new.bounds }
     {
-        let answer = owed(&mut self.bounds, &self.now, gap, request_ms, call);
-        self.now.take_in(request_ms, &Entry { call: *call, answer });
+        let answer = owed(&mut self.bounds, &self.whole, gap, request_ms, call);
+        self.whole.take_in(
+            request_ms,
+            &Entry {
+                call: *call,
+                answer,
+            },
+        );
         answer
     }
 }
@@ -131,7 +137,10 @@ fn follow(bounds: &mut Bounds, before: &Base, request_ms: u64, call: &Call)
             stay,
             change,
         } => follow_change(bounds, before, owner, stay, &change),
-        Call::Time { moment, signal: Signal::Expire } => {
+        Call::Time {
+            moment,
+            signal: Signal::Expire,
+        } => {
             let now = before.greatest.max(moment);
             remove_old(bounds, before.present.as_slice(), request_ms, now);
         }
