@@ -1,3 +1,7 @@
 pub mod PresenceLemmas
 pub mod LiveLemmas
+pub mod TraceLemmas
+pub mod KeptLemmas
 pub mod EffectLemmas
+pub mod StandingLemmas
+pub mod DeskLemmas
