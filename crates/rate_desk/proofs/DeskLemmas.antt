@@ -1,6 +1,6 @@
 -- What a desk holds behind a call that it recorded.
 use Rattle.std.proofs.Common.{◌≡◌, ℕ, ◌+◌, ◌-◌, ◌≤◌, ◌<◌, Bool, true, false, cond, List, [], ◌∷◌, ◌++◌, length, drop, inl, inr, Option, None, Some, refl, sym, ap, subst, ◌∙◌, arith}
-use Rattle.std.specs.Prelude.{nat_lt, min, slice_get, All}
+use Rattle.std.specs.Prelude.{◌↔◌, nat_lt, min, slice_get, All}
 use Rattle.std.proofs.lemmas.Bool.{cases_lt}
 use Rattle.std.proofs.lemmas.Bool.Decides.{nat_tests}
 use Rattle.std.proofs.lemmas.List.{length_push}
@@ -15,7 +15,7 @@ use Rattle.rate_desk.specs.declared.base.Base.{Base}
 use Rattle.rate_desk.specs.declared.base.TheConstants.{CALL_LIMIT}
 use Rattle.rate_desk.specs.declared.desk.TheConstants.{HISTORY_LIMIT}
 use Rattle.rate_desk.specs.Call.{HasStay}
-use Rattle.rate_desk.specs.Trace.{IsBase, base_with, base_after, present_with}
+use Rattle.rate_desk.specs.Trace.{IsBase, empty_base, base_with, base_after, present_with}
 use Rattle.rate_desk.specs.Presence.{live_requests}
 use Rattle.rate_desk.specs.Answer.{IsAnswerTo}
 use Rattle.rate_desk.specs.History.{IsLegalHistory, StandsFor, Follows, FirstFollows}
@@ -24,7 +24,7 @@ use Rattle.rate_desk.specs.State.{DeskState, HoldsLegalDesk, IsOverLimit, now_of
 use Rattle.rate_desk.specs.Held.{IsHeld}
 use Rattle.rate_desk.proofs.LiveLemmas.{live-rising}
 use Rattle.rate_desk.proofs.EffectLemmas.{announced_once}
-use Rattle.rate_desk.proofs.TraceLemmas.{base_after-push, base_after-append, calls-after, present-answered, legal-push, legal-folded, legal-first, all-rest, answer_follows}
+use Rattle.rate_desk.proofs.TraceLemmas.{base_after-push, base_after-append, calls-after, present-answered, legal-none, legal-push, legal-folded, legal-first, all-rest, answer_follows}
 
 -- ---- the list
 
@@ -103,6 +103,48 @@ first_follows gap request_ms base (e ∷ rest) legal stays first is =
 
 pub calls_of-now : (d : DeskState) → (now_of d).calls ≡ calls_of d
 calls_of-now d = calls-after d.request_ms d.base d.history
+
+pub whole_calls : (d : DeskState) (room : ℕ) (s : Stand) → IsHeld d room s → s.whole.calls ≡ calls_of d
+whole_calls d room s held = ap (λ (b : Base). b.calls) held.whole ∙ calls_of-now d
+
+pub room_for_call : (d : DeskState) (room : ℕ) (s : Stand) (call : Call) → IsHeld d room s → ¬ IsOverLimit d call → s.whole.calls < CALL_LIMIT
+room_for_call d room s call held fits =
+    elim (cases_lt CALL_LIMIT (calls_of d + 1 + length (present_with d.request_ms (now_of d) call))) [
+      | inl over ↦ absurd (fits over)
+      | inr within ↦ omega (arith, within, whole_calls d room s held)
+    ]
+
+-- what is tested before a call is recorded
+pub over_limit_is : (d : DeskState) (room : ℕ) (s : Stand) (call : Call) (count : ℕ) → IsHeld d room s
+    → ((request_ms : ℕ) → count ≡ length (present_with request_ms s.whole call))
+    → (CALL_LIMIT - s.whole.calls < 1 + count ↔ IsOverLimit d call)
+over_limit_is d room s call count held counted =
+    let calls = whole_calls d room s held in
+    let within = held.legal.within in
+    let same : count ≡ length (present_with d.request_ms (now_of d) call) =
+    counted d.request_ms ∙ ap (λ (b : Base). length (present_with d.request_ms b call)) held.whole in
+    (λ less. omega (arith, less, calls, within, same), λ over. omega (arith, over, calls, within, same))
+
+-- a new desk
+pub held-new : (gap request_ms : ℕ) (s : Stand) → s.whole ≡ empty_base → IsStand s.whole s.bounds → IsBase empty_base
+    → IsHeld (record { gap = gap; request_ms = request_ms; base = empty_base; history = []; bounds = s.bounds }) HISTORY_LIMIT s
+held-new gap request_ms s whole stand is =
+    let rising : RowsRise s.bounds.rows = subst RowsRise (sym stand.live) (live-rising s.whole.present.items stand.base.rising) in
+    record {
+      legal = record {
+        base = is;
+        legal = legal-none gap request_ms empty_base;
+        stays = λ k d below. absurd (omega (arith, below));
+        listed = omega arith;
+        within = omega arith;
+        live = stand.live ∙ ap (λ (b : Base). live_requests b.present.items) whole;
+        rising = rising;
+        announced = stand.announced;
+        once = announced_once s.bounds rising stand.announced;
+      };
+      whole = whole;
+      capacity = refl;
+    }
 
 module _ (d : DeskState) (room : ℕ) (old new : Stand) (call : Call) (answer : Answer) (held : IsHeld d room old)
     (fits : ¬ IsOverLimit d call) (from : HasStay call) (owed : IsAnswerTo d.gap d.request_ms old.whole call answer) where

@@ -124,11 +124,11 @@ IsBase-with request_ms base e is follows =
     }
 
 pub calls-after : (request_ms : ℕ) (base : Base) (entries : List Entry) → (base_after request_ms base entries).calls ≡ base.calls + length entries
-calls-after request_ms base [] = refl
+calls-after request_ms base [] = omega arith
 calls-after request_ms base (e ∷ entries) = omega (arith, calls-after request_ms (base_with request_ms base e) entries)
 
 pub words-after : (request_ms : ℕ) (base : Base) (entries : List Entry) → (base_after request_ms base entries).words ≡ base.words + words_of entries
-words-after request_ms base [] = refl
+words-after request_ms base [] = omega arith
 words-after request_ms base (e ∷ entries) =
     omega (arith, words-after request_ms (base_with request_ms base e) entries, sum_by-cons (λ (x : Entry). requested_word x.call) e entries)
 

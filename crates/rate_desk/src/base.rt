@@ -98,8 +98,7 @@ impl Base {
         requires base { IsBase self.old }
         requires follows { Follows self.old entry.now }
         requires room { self.old.calls < CALL_LIMIT }
-        ensures value { self.new ≡ base_with request_ms self.old entry.now }
-        ensures base { IsBase self.new }
+        ensures { self.new ≡ base_with request_ms self.old entry.now }
     {
         let now = self.moment_after(&entry.call);
         let (is_done, went_up) = match entry.answer {

@@ -318,7 +318,8 @@ impl Desk {
     /// Whether the call would be one too many.
     fn is_over_limit(&self, call: &Call) -> bool
         requires { HasStay call.now }
-        ensures { IsTrue result ↔ IsOverLimit self.now call.now }
+        ensures over { IsTrue result ↔ IsOverLimit self.now call.now }
+        ensures legal { HoldsLegalDesk self.now }
     {
         let now = self.standing.whole();
         let room = CALL_LIMIT - now.calls;

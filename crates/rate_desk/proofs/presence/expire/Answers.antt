@@ -1,6 +1,6 @@
 use Rattle.std.proofs.Common.{◌<◌, length, ◌∙◌, sym, ap, arith}
 use Rattle.rate_desk.proofs.EffectLemmas.{refill-whole}
-use Rattle.rate_desk.proofs.PresenceLemmas.{aged-all, aged_old, aged_young}
+use Rattle.rate_desk.proofs.PresenceLemmas.{aged-all, aged_old, aged_young, is_aged}
 use Rattle.rate_desk.proofs.presence.expire.Goals as goal
 use Rattle.rate_desk.proofs.presence.expire.Goals.{then-is_too_old, else-is_too_old}
 
@@ -16,11 +16,11 @@ loop-p-preserved c =
       | then-is_too_old w ↦
           w.slice-is
           ∙ aged_old c.args.request_ms c.args.now i present c.loop-p.slice c.p-item.result below c.loop-p.invariant c.p-item.is
-          (sym c.is_too_old.ensures ∙ w.if-is_too_old.true)
+          (ap (is_aged c.args.request_ms c.args.now) c.p-item.is ∙ sym c.is_too_old.ensures ∙ w.if-is_too_old.true)
       | else-is_too_old w ↦
           w.slice-is
           ∙ aged_young c.args.request_ms c.args.now i present c.loop-p.slice c.p-item.result below c.loop-p.invariant c.p-item.is
-          (sym c.is_too_old.ensures ∙ w.if-is_too_old.false)
+          (ap (is_aged c.args.request_ms c.args.now) c.p-item.is ∙ sym c.is_too_old.ensures ∙ w.if-is_too_old.false)
     ]
 
 pub returns : goal.returns
