@@ -37,3 +37,5 @@ pub use seat::DeskSeat;
 mod house_tests;
 #[cfg(test)]
 mod tests;
+#[cfg(test)]
+mod whole_list_tests;
