@@ -1,11 +1,6 @@
 pub mod PresenceLemmas
 pub mod LiveLemmas
-pub mod GateLemmas
-pub mod HistoryLemmas
-pub mod ScheduleLemmas
-pub mod ShareLemmas
-pub mod SinceLemmas
-pub mod RequestLemmas
+pub mod TraceLemmas
 pub mod KeptLemmas
 pub mod EffectLemmas
 pub mod StandingLemmas

@@ -1,13 +1,11 @@
 -- What always holds of a desk's fields.
-use Rattle.std.specs.Prelude.{◌≡◌, ℕ, List}
-use Rattle.rate_desk.specs.declared.call.Entry.{Entry}
-use Rattle.rate_desk.specs.Plis.{gate_after}
-use Rattle.rate_desk.specs.Trace.{empty_base, present_after}
+use Rattle.std.specs.Prelude.{◌≡◌, ℕ}
+use Rattle.rate_desk.specs.declared.desk.TheConstants.{HISTORY_LIMIT}
 use Rattle.rate_desk.specs.Standing.{Stand}
-use Rattle.rate_desk.specs.State.{HoldsLegalDesk}
+use Rattle.rate_desk.specs.State.{DeskState, HoldsLegalDesk, now_of}
 
--- who is present and the wishes for a picture are those of the trace
-pub record IsHeld (gap limit : ℕ) (history : List Entry) (s : Stand) : Type 0 where
-  pub legal : HoldsLegalDesk (record { gap = gap; limit = limit; history = history; bounds = s.bounds })
-  pub present : s.present ≡ present_after empty_base history
-  pub gate : s.gate ≡ gate_after empty_base.gate history
+-- what stands is what the trace comes to, and the ring has room for as many entries as are listed
+pub record IsHeld (d : DeskState) (room : ℕ) (s : Stand) : Type 0 where
+  pub legal : HoldsLegalDesk d
+  pub whole : s.whole ≡ now_of d
+  pub capacity : room ≡ HISTORY_LIMIT

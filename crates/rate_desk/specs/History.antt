@@ -1,28 +1,33 @@
--- What a desk recorded, and when it records no more.
-use Rattle.std.specs.Prelude.{ℕ, ◌+◌, ◌<◌, List, length, take, slice_index_or, Option, None, Some}
-use Rattle.rate_desk.specs.declared.call.Call.{Call}
-use Rattle.rate_desk.specs.declared.call.Answer.{Answer}
+-- What a desk lists of its calls.
+use Rattle.std.specs.Prelude.{◌≡◌, ℕ, ◌<◌, ◌++◌, true, min, List, length, take, slice_get, slice_index_or, Some, None}
 use Rattle.rate_desk.specs.declared.call.Entry.{Entry}
-use Rattle.rate_desk.specs.declared.presence.Present.{Present}
-use Rattle.rate_desk.specs.Presence.{present_by, refusal_of}
-use Rattle.rate_desk.specs.Trace.{Base, present_after}
+use Rattle.rate_desk.specs.declared.base.Base.{Base}
+use Rattle.rate_desk.specs.declared.desk.TheConstants.{HISTORY_LIMIT}
+use Rattle.rate_desk.specs.Call.{HasStay, is_done}
+use Rattle.rate_desk.specs.Presence.{refusal_of}
+use Rattle.rate_desk.specs.Trace.{base_after}
 use Rattle.rate_desk.specs.Answer.{IsAnswerTo}
 
--- each recorded answer is the one that the trace before its call owes
-abbrev pub IsLegalHistory : ℕ → Base → List Entry → Type 0
-IsLegalHistory gap base entries =
+-- each listed answer is the one that is owed to its call by the base and the entries before it
+abbrev pub IsLegalHistory : ℕ → ℕ → Base → List Entry → Type 0
+IsLegalHistory gap request_ms base entries =
     (i : ℕ) (d : Entry) → i < length entries
-    → IsAnswerTo gap base (take i entries) (slice_index_or entries i d).call (slice_index_or entries i d).answer
+    → IsAnswerTo gap request_ms (base_after request_ms base (take i entries))
+    (slice_index_or entries i d).call (slice_index_or entries i d).answer
 
--- who is present behind a call
-abbrev pub present_unless : List Present → Call → Option Answer → List Present
-present_unless present call None = present_by present call
-present_unless present call (Some refusal) = present
+-- A base and a history stand for these entries behind a former base: the last of them are listed, as many as may be, and those
+-- that left are folded into the base.
+pub record StandsFor (request_ms : ℕ) (former : Base) (entries : List Entry) (base : Base) (history : List Entry) : Type 0 where
+  pub folded : List Entry
+  pub in_turn : entries ≡ folded ++ history
+  pub listed : length history ≡ min HISTORY_LIMIT (length entries)
+  pub stands : base ≡ base_after request_ms former folded
 
-abbrev pub present_with : List Present → Call → List Present
-present_with present call = present_unless present call (refusal_of present call)
+-- the entry may follow what the calls before it come to: where it was done it wasn't refused
+pub record Follows (before : Base) (e : Entry) : Type 0 where
+  pub stay : HasStay e.call
+  pub accepted : is_done e.answer ≡ true → refusal_of before.present.items e.call ≡ None
 
--- A call isn't recorded where the calls, with it, and the owners that are then present would be more than the limit: so each
--- that is present can still depart.
-abbrev pub IsOverLimit : ℕ → Base → List Entry → Call → Type 0
-IsOverLimit limit base past call = limit < length past + 1 + length (present_with (present_after base past) call)
+-- the first of these entries may follow the base
+abbrev pub FirstFollows : Base → List Entry → Type 0
+FirstFollows base entries = (first : Entry) → slice_get entries 0 ≡ Some first → Follows base first

@@ -1,12 +1,13 @@
+pub mod Call
 pub mod Presence
-pub mod Plis
 pub mod Trace
+pub mod Places
 pub mod Schedule
+pub mod Kept
 pub mod Answer
 pub mod History
 pub mod Effect
-pub mod Kept
 pub mod Standing
 pub mod State
-pub mod Shares
 pub mod Held
+pub mod Shares

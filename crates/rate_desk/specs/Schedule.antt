@@ -1,27 +1,40 @@
 -- When PLIs are sent upstream, by places in a history (RFC 4585, section 6.3.1; the gap is this project's own).
-use Rattle.std.specs.Prelude.{◌≡◌, ℕ, ◌+◌, ◌<◌, ◌≤◌, ◌↔◌, ◌⊎◌, true, List, length, take, slice_get, Some}
+use Rattle.std.specs.Prelude.{◌≡◌, ℕ, ◌+◌, ◌<◌, ◌≤◌, ◌↔◌, ◌⊎◌, true, List, length, slice_get, Some, IfSome}
+use Rattle.rate_desk.specs.declared.call.Call.{Call}
+use Rattle.rate_desk.specs.declared.call.Call.TheVariants.{Stay, Time}
 use Rattle.rate_desk.specs.declared.call.Entry.{Entry}
-use Rattle.rate_desk.specs.Plis.{is_timed, moment_of, wishes, went_up, new_gate, greatest_moment}
-use Rattle.rate_desk.specs.Trace.{StandsAt}
+use Rattle.rate_desk.specs.declared.base.Base.{Base}
+use Rattle.rate_desk.specs.Call.{can_send, wishes, went_up}
+use Rattle.rate_desk.specs.Places.{StandsAt, greatest_until}
 
 -- a PLI was sent upstream at this place
 abbrev pub WentUpAt : List Entry → ℕ → Type 0
 WentUpAt entries place = StandsAt (λ e. went_up e ≡ true) entries place
 
--- the greatest moment up to this place
-abbrev pub greatest_until : List Entry → ℕ → ℕ
-greatest_until entries place = greatest_moment new_gate (take (place + 1) entries)
+-- the call shows this moment
+abbrev pub IsAt : ℕ → Call → Type 0
+IsAt moment (Stay owner stay change) = ⊥
+IsAt moment (Time shown signal) = shown ≡ moment
 
--- it is the greatest moment up to this place, 0 where no call showed one
-pub record IsGreatestUntil (entries : List Entry) (place moment : ℕ) : Type 0 where
-  pub bound : (earlier : ℕ) (e : Entry) → earlier ≤ place → slice_get entries earlier ≡ Some e → moment_of e.call ≤ moment
-  pub reached : (moment ≡ 0) ⊎ ((earlier : ℕ) × (earlier ≤ place) × StandsAt (λ e. moment_of e.call ≡ moment) entries earlier)
+-- it is the greatest moment up to this place, that of the base included
+pub record IsGreatestUntil (base : Base) (entries : List Entry) (place moment : ℕ) : Type 0 where
+  pub base_bound : base.greatest ≤ moment
+  pub bound : (earlier shown : ℕ) → earlier ≤ place → StandsAt (λ e. IsAt shown e.call) entries earlier → shown ≤ moment
+  pub reached : (moment ≡ base.greatest) ⊎ ((earlier : ℕ) × (earlier ≤ place) × StandsAt (λ e. IsAt moment e.call) entries earlier)
 
 -- a wish for a picture at this place or before it, with no PLI sent upstream since
 pub record IsUnanswered (entries : List Entry) (place wish : ℕ) : Type 0 where
   pub not_after : wish ≤ place
-  pub wished : StandsAt (λ e. wishes e ≡ true) entries wish
+  pub wished : StandsAt (λ e. wishes e.call ≡ true) entries wish
   pub unanswered : (between : ℕ) → wish ≤ between → between < place → ¬ WentUpAt entries between
+
+-- no PLI was sent upstream at any place before this one
+abbrev pub NoneUpBefore : List Entry → ℕ → Type 0
+NoneUpBefore entries place = (before : ℕ) → before < place → ¬ WentUpAt entries before
+
+-- a wish before the base that the base left unanswered, with no PLI sent upstream since
+abbrev pub IsWantedSinceBase : Base → List Entry → ℕ → Type 0
+IsWantedSinceBase base entries place = (base.wanted ≡ true) × NoneUpBefore entries place
 
 -- the last place before this one at which a PLI was sent upstream
 pub record IsLastUpBefore (entries : List Entry) (place last : ℕ) : Type 0 where
@@ -29,12 +42,15 @@ pub record IsLastUpBefore (entries : List Entry) (place last : ℕ) : Type 0 whe
   pub went_up : WentUpAt entries last
   pub none_since : (between : ℕ) → last < between → between < place → ¬ WentUpAt entries between
 
--- a PLI is due at this place: it shows a time, a picture is wanted, and the last PLI was sent upstream at least the gap ago
-pub record IsDueAt (gap : ℕ) (entries : List Entry) (place : ℕ) : Type 0 where
-  pub timed : StandsAt (λ e. is_timed e.call ≡ true) entries place
-  pub wanted : (wish : ℕ) × IsUnanswered entries place wish
-  pub gapped : (last : ℕ) → IsLastUpBefore entries place last → greatest_until entries last + gap ≤ greatest_until entries place
+-- A PLI is due at this place: it is a `pli` or a `tick`, a picture is wanted, and the last PLI, which may be one of the base, was sent
+-- upstream at least the gap ago.
+pub record IsDueAt (gap : ℕ) (base : Base) (entries : List Entry) (place : ℕ) : Type 0 where
+  pub can_send : StandsAt (λ e. can_send e.call ≡ true) entries place
+  pub wanted : ((wish : ℕ) × IsUnanswered entries place wish) ⊎ IsWantedSinceBase base entries place
+  pub gapped : (last : ℕ) → IsLastUpBefore entries place last
+      → greatest_until base entries last + gap ≤ greatest_until base entries place
+  pub gapped_since_base : NoneUpBefore entries place → IfSome base.last_up (λ up. up + gap ≤ greatest_until base entries place)
 
 -- PLIs are sent upstream just where they are due
-abbrev pub IsPliSchedule : ℕ → List Entry → Type 0
-IsPliSchedule gap entries = (place : ℕ) → place < length entries → WentUpAt entries place ↔ IsDueAt gap entries place
+abbrev pub IsPliSchedule : ℕ → Base → List Entry → Type 0
+IsPliSchedule gap base entries = (place : ℕ) → place < length entries → WentUpAt entries place ↔ IsDueAt gap base entries place

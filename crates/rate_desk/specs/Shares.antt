@@ -1,25 +1,12 @@
 -- What a contract sees of a `DeskSeat`, and how the calls of a house are counted.
 use Rattle.std.specs.Prelude.{◌≡◌, ℕ, ◌+◌, ◌*◌, ◌^◌, ◌<◌, ◌≤◌, List, length, get_or, set, replicate, sum_by, slice_get, slice_index_or, Some, All, AllPairs, ◌≢◌}
-use Rattle.tmmbr_tuple.specs.Tuple.{word_of}
 use Rattle.rate_desk.specs.declared.call.Call.{Call}
-use Rattle.rate_desk.specs.declared.call.Call.TheVariants.{Arrive, Request as Ask, Depart, Pli, Tick}
-use Rattle.rate_desk.specs.declared.call.Entry.{Entry}
 use Rattle.rate_desk.specs.declared.receipt.Receipt.{Receipt}
 use Rattle.rate_desk.specs.declared.receipt.HouseFault.{HouseFault}
 use Rattle.rate_desk.specs.declared.receipt.HouseFault.TheVariants.{HistoryFull, Behind}
-use Rattle.rate_desk.specs.State.{DeskState}
-
--- the word that a call requests, 0 where it is no request
-abbrev pub requested_word : Call → ℕ
-requested_word (Arrive owner stay) = 0
-requested_word (Ask owner stay tuple) = word_of tuple
-requested_word (Depart owner stay) = 0
-requested_word (Pli moment) = 0
-requested_word (Tick moment) = 0
-
--- the sum of the requested words, of calls accepted or refused
-abbrev pub words_of : List Entry → ℕ
-words_of entries = sum_by (λ e. requested_word e.call) entries
+use Rattle.rate_desk.specs.Call.{requested_word}
+use Rattle.rate_desk.specs.Trace.{words_of}
+use Rattle.rate_desk.specs.State.{DeskState, calls_of}
 
 -- the recorded calls to each publisher, the sums of the words that they requested, and the calls that the share stands for
 pub record SeatState : Type 0 where
@@ -60,22 +47,31 @@ abbrev pub IsFaultOf : ℕ → SeatState → HouseFault → Type 0
 IsFaultOf p seat HistoryFull = Unit {0}
 IsFaultOf p seat (Behind calls) = calls < calls_to p seat
 
--- the receipt's call and answer stand at its number in its publisher's history
+-- the receipt's number is below those that its publisher's desk lists
+pub record IsFoldedIn (desks : List DeskState) (receipt : Receipt) : Type 0 where
+  pub desk : DeskState
+  pub there : slice_get desks receipt.publisher ≡ Some desk
+  pub folded : receipt.number < desk.base.calls
+
+-- the receipt's call and answer stand at its number in its publisher's history, behind the calls of the base
 pub record StandsIn (desks : List DeskState) (receipt : Receipt) : Type 0 where
   pub desk : DeskState
   pub there : slice_get desks receipt.publisher ≡ Some desk
-  pub stands : slice_get desk.history receipt.number ≡ Some (record { call = receipt.call; answer = receipt.answer })
+  pub at : ℕ
+  pub numbered : receipt.number ≡ desk.base.calls + at
+  pub stands : slice_get desk.history at ≡ Some (record { call = receipt.call; answer = receipt.answer })
 
 -- two receipts of one publisher have two numbers
 abbrev pub IsApart : Receipt → Receipt → Type 0
 IsApart r s = r.publisher ≡ s.publisher → r.number ≢ s.number
 
--- what all seats counted of this publisher are the calls of its desk, and the words of its history
+-- what all seats counted of this publisher are the calls of its desk, and the words of its base and history
 pub record AddsUp (seats : List SeatState) (desk : DeskState) (p : ℕ) : Type 0 where
-  pub calls : sum_by (calls_to p) seats ≡ length desk.history
-  pub words : sum_by (words_to p) seats ≡ words_of desk.history
+  pub calls : sum_by (calls_to p) seats ≡ calls_of desk
+  pub words : sum_by (words_to p) seats ≡ desk.base.words + words_of desk.history
 
--- each receipt stands in its history, no number of one publisher comes twice, and the counts of all seats add up to each history
+-- each receipt stands in its history, no number of one publisher comes twice, and the counts of all seats add up to each desk's
+-- calls and words
 pub record GathersAll (count : ℕ) (seats : List SeatState) (receipts : List Receipt) (desks : List DeskState) : Type 0 where
   pub publishers : length desks ≡ count
   pub stand : All (StandsIn desks) receipts

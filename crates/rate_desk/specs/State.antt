@@ -1,33 +1,60 @@
 -- What a contract sees of a `Desk`.
-use Rattle.std.specs.Prelude.{◌≡◌, ℕ, ◌+◌, ◌≤◌, List, ◌∷◌, ◌++◌, [], length}
+use Rattle.std.specs.Prelude.{◌≡◌, ◌≢◌, ℕ, ◌+◌, ◌<◌, ◌≤◌, ◌⊎◌, true, false, is_some, List, ◌∷◌, ◌++◌, [], length, All, AllPairs}
 use Rattle.bounding_set.specs.State.{State, AnnouncesSmallest, announced_of}
+use Rattle.bounding_set.specs.Rows.{HasRisingOwners}
 use Rattle.rate_desk.specs.declared.call.Call.{Call}
+use Rattle.rate_desk.specs.declared.call.Answer.{Answer}
 use Rattle.rate_desk.specs.declared.call.Entry.{Entry}
-use Rattle.rate_desk.specs.declared.desk.Reply.{Reply}
-use Rattle.rate_desk.specs.Trace.{empty_base, present_after, live_after}
-use Rattle.rate_desk.specs.History.{IsLegalHistory}
-use Rattle.rate_desk.specs.Effect.{IsEffect}
+use Rattle.rate_desk.specs.declared.base.Base.{Base}
+use Rattle.rate_desk.specs.declared.base.TheConstants.{CALL_LIMIT}
+use Rattle.rate_desk.specs.declared.desk.TheConstants.{HISTORY_LIMIT}
+use Rattle.rate_desk.specs.Call.{HasStay, may_change}
+use Rattle.rate_desk.specs.Presence.{live_requests, refusal_of}
+use Rattle.rate_desk.specs.Trace.{IsBase, base_after, present_with}
+use Rattle.rate_desk.specs.History.{IsLegalHistory, StandsFor}
 
--- the gap between PLIs, the limit of calls and present owners together, the recorded calls, and the live requests with what is
--- announced for them
+-- the gap between PLIs, and the age at which a request is too old, 0 for never; what the calls that aren't listed come to, and the
+-- listed ones; and the live requests with what is announced for them
 pub record DeskState : Type 0 where
   pub gap : ℕ
-  pub limit : ℕ
+  pub request_ms : ℕ
+  pub base : Base
   pub history : List Entry
   pub bounds : State
 
--- The history is legal and within its limit, the rows are the live requests of the trace, and what is announced is their
--- canonical choice: the smallest that permits what they together permit, with its certificate.
-pub record HoldsLegalDesk (d : DeskState) : Type 0 where
-  pub legal : IsLegalHistory d.gap empty_base d.history
-  pub within : length d.history + length (present_after empty_base d.history) ≤ d.limit
-  pub live : d.bounds.rows ≡ live_after empty_base d.history
-  pub announced : AnnouncesSmallest d.bounds
+-- what all calls come to
+abbrev pub now_of : DeskState → Base
+now_of d = base_after d.request_ms d.base d.history
 
--- the call stands in the history with its answer, its number is the count of calls before it, and its effect is what it changed
-pub record Records (old : DeskState) (call : Call) (reply : Reply) (new : DeskState) : Type 0 where
-  pub number : reply.number ≡ length old.history
-  pub history : new.history ≡ old.history ++ record { call = call; answer = reply.answer } ∷ []
+-- the calls of its life
+abbrev pub calls_of : DeskState → ℕ
+calls_of d = d.base.calls + length d.history
+
+-- A call isn't recorded where the calls, with it, and the owners that are then present would be more than the limit: so each
+-- that is present can still depart.
+abbrev pub IsOverLimit : DeskState → Call → Type 0
+IsOverLimit d call = CALL_LIMIT < calls_of d + 1 + length (present_with d.request_ms (now_of d) call)
+
+-- The history is legal from its base, the rows are the live requests of the trace, and what is announced is their canonical
+-- choice: the smallest that permits what they together permit, with its certificate.
+pub record HoldsLegalDesk (d : DeskState) : Type 0 where
+  pub base : IsBase d.base
+  pub legal : IsLegalHistory d.gap d.request_ms d.base d.history
+  pub stays : All (λ e. HasStay e.call) d.history
+  pub listed : length d.history ≤ HISTORY_LIMIT
+  pub within : calls_of d + length (now_of d).present.items ≤ CALL_LIMIT
+  pub live : d.bounds.rows ≡ live_requests (now_of d).present.items
+  pub rising : HasRisingOwners d.bounds.rows
+  pub announced : AnnouncesSmallest d.bounds
+  pub once : AllPairs (λ x y. x.owner.0 ≢ y.owner.0) (announced_of d.bounds)
+
+-- The call's number is the count of calls before it. Base and history stand for the former ones and the call with its answer.
+pub record Records (old : DeskState) (call : Call) (number : ℕ) (answer : Answer) (new : DeskState) : Type 0 where
+  pub numbered : number ≡ calls_of old
+  pub stands : StandsFor old.request_ms old.base (old.history ++ record { call = call; answer = answer } ∷ []) new.base new.history
   pub gap : new.gap ≡ old.gap
-  pub limit : new.limit ≡ old.limit
-  pub effect : IsEffect (announced_of old.bounds) (announced_of new.bounds) reply.effect
+  pub request_ms : new.request_ms ≡ old.request_ms
+
+-- the call changes no request: by its kind, or since it is refused
+abbrev pub IsQuiet : DeskState → Call → Type 0
+IsQuiet d call = (may_change call ≡ false) ⊎ (is_some (refusal_of (now_of d).present.items call) ≡ true)

@@ -1,94 +1,71 @@
--- The trace of a desk: what is left of calls that aren't listed any more, and the recorded calls with their answers.
-use Rattle.std.specs.Prelude.{◌≡◌, ℕ, ◌<◌, Bool, true, false, List, [], fold, slice_get, Some, if◌then◌else◌}
+-- The trace of a desk: a base, which stands for calls that aren't listed any more, and the listed calls with their answers.
+use Rattle.std.specs.Prelude.{◌≡◌, ℕ, ◌+◌, ◌*◌, ◌^◌, ◌≤◌, nat_le, max, Bool, true, false, not, ◌&&◌, ◌||◌, List, [], length, fold, sum_by, Option, Some, None, if◌then◌else◌}
+use Rattle.std.specs.Option.{option_map_or}
 use Rattle.rate_cert.specs.declared.request.Request.{Request}
-use Rattle.tmmbr_tuple.specs.declared.tuple.Tuple.{Tuple}
 use Rattle.rate_desk.specs.declared.call.Call.{Call}
-use Rattle.rate_desk.specs.declared.call.Call.TheVariants.{Arrive, Request as Ask, Depart, Pli, Tick}
 use Rattle.rate_desk.specs.declared.call.Answer.{Answer}
-use Rattle.rate_desk.specs.declared.call.Answer.TheVariants.{Done, NotPresent, AlreadyPresent, Full}
 use Rattle.rate_desk.specs.declared.call.Entry.{Entry}
 use Rattle.rate_desk.specs.declared.presence.Present.{Present}
-use Rattle.rate_desk.specs.Presence.{present_by, live_requests}
-use Rattle.rate_desk.specs.Plis.{Gate, new_gate}
+use Rattle.rate_desk.specs.declared.presence.TheConstants.{PRESENT_LIMIT}
+use Rattle.rate_desk.specs.declared.base.Base.{Base}
+use Rattle.rate_desk.specs.Call.{moment_after, requested_word, wishes, can_send, is_done, went_up}
+use Rattle.rate_desk.specs.Presence.{HasRisingOwners, HasStays, present_by, live_requests, refusal_of}
 
--- What stands for calls before the listed ones: who was present, the wishes for a picture, how many calls there were, and the
--- sum of the words that they requested.
-pub record Base : Type 0 where
-  pub present : List Present
-  pub gate : Gate
-  pub calls : ℕ
-  pub words : ℕ
-
+-- nobody is present, no picture is wanted, no call was recorded
 abbrev pub empty_base : Base
-empty_base = record { present = []; gate = new_gate; calls = 0; words = 0 }
+empty_base = record { present = record { items = [] }; wanted = false; greatest = 0; last_up = None; calls = 0; words = 0 }
 
-abbrev pub is_done : Answer → Bool
-is_done (Done pli kept) = true
-is_done (NotPresent stay) = false
-is_done (AlreadyPresent stay) = false
-is_done Full = false
+-- who is present once the call was done
+abbrev pub present_behind : ℕ → Base → Call → List Present
+present_behind request_ms base call = present_by request_ms (moment_after base.greatest call) base.present.items call
 
--- who is present behind an entry: a refused call changes nothing
-abbrev pub present_behind : List Present → Entry → List Present
-present_behind present e = if is_done e.answer then present_by present e.call else present
+-- What the base and one entry come to. Who is present changes where the call was done. A PLI that was sent upstream leaves no
+-- wish and its moment. Each entry counts, and its word.
+abbrev pub base_with : ℕ → Base → Entry → Base
+base_with request_ms base e = record {
+  present = record { items = if is_done e.answer then present_behind request_ms base e.call else base.present.items };
+  wanted = not (went_up e) && (wishes e.call || base.wanted);
+  greatest = moment_after base.greatest e.call;
+  last_up = if went_up e then Some (moment_after base.greatest e.call) else base.last_up;
+  calls = base.calls + 1;
+  words = base.words + requested_word e.call;
+}
 
--- Who is present after these calls, by rising owner: each owner with an arrive that was done and no depart done since, with its
--- stay, and the last request that was done since.
-abbrev pub present_after : Base → List Entry → List Present
-present_after base entries = fold present_behind base.present entries
+-- what the base and these entries come to, one after the other
+abbrev pub base_after : ℕ → Base → List Entry → Base
+base_after request_ms base entries = fold (base_with request_ms) base entries
 
 -- the live requests after these calls, by rising owner
-abbrev pub live_after : Base → List Entry → List Request
-live_after base entries = live_requests (present_after base entries)
+abbrev pub live_after : ℕ → Base → List Entry → List Request
+live_after request_ms base entries = live_requests (base_after request_ms base entries).present.items
 
--- ---- by places in a history
+-- the sum of the requested words, of calls accepted or refused
+abbrev pub words_of : List Entry → ℕ
+words_of entries = sum_by (λ e. requested_word e.call) entries
 
--- at this place stands an entry of this kind
-pub record StandsAt (P : Entry → Type 0) (entries : List Entry) (place : ℕ) : Type 0 where
-  pub entry : Entry
-  pub there : slice_get entries place ≡ Some entry
-  pub is : P entry
+-- what holds of every base
+pub record IsBase (base : Base) : Type 0 where
+  pub rising : HasRisingOwners base.present.items
+  pub stays : HasStays base.present.items
+  pub few : length base.present.items ≤ PRESENT_LIMIT
+  pub words : base.words ≤ base.calls * 2 ^ 32
 
--- a call of this kind, which was done
-abbrev pub WasDone : (Call → Type 0) → Entry → Type 0
-WasDone P e = (is_done e.answer ≡ true) × P e.call
+-- ---- a call behind a trace
 
--- an arrive of the owner with this stay
-abbrev pub IsArriveOf : ℕ → ℕ → Call → Type 0
-IsArriveOf owner stay (Arrive o s) = (o.0 ≡ owner) × (s ≡ stay)
-IsArriveOf owner stay (Ask o s tuple) = ⊥
-IsArriveOf owner stay (Depart o s) = ⊥
-IsArriveOf owner stay (Pli moment) = ⊥
-IsArriveOf owner stay (Tick moment) = ⊥
+-- no PLI was sent upstream before, or the last one so long ago
+abbrev pub is_due : ℕ → Option ℕ → ℕ → Bool
+is_due gap last now = option_map_or (λ up. nat_le (up + gap) now) last true
 
--- a request of the owner for this tuple
-abbrev pub IsRequestOf : ℕ → Tuple → Call → Type 0
-IsRequestOf owner tuple (Arrive o s) = ⊥
-IsRequestOf owner tuple (Ask o s t) = (o.0 ≡ owner) × (t ≡ tuple)
-IsRequestOf owner tuple (Depart o s) = ⊥
-IsRequestOf owner tuple (Pli moment) = ⊥
-IsRequestOf owner tuple (Tick moment) = ⊥
+-- A PLI is sent upstream at a `pli` or a `tick` where a picture is wanted, by this call or since the last PLI, and where that
+-- one was sent at least the gap ago (RFC 4585, section 6.3.1; the gap is this project's own).
+abbrev pub goes_up : ℕ → Base → Call → Bool
+goes_up gap base call =
+    can_send call && (wishes call || base.wanted) && is_due gap base.last_up (moment_after base.greatest call)
 
--- a depart of the owner
-abbrev pub IsDepartOf : ℕ → Call → Type 0
-IsDepartOf owner (Arrive o s) = ⊥
-IsDepartOf owner (Ask o s tuple) = ⊥
-IsDepartOf owner (Depart o s) = o.0 ≡ owner
-IsDepartOf owner (Pli moment) = ⊥
-IsDepartOf owner (Tick moment) = ⊥
+-- who is present behind a call, done or refused
+abbrev pub present_unless : ℕ → Base → Call → Option Answer → List Present
+present_unless request_ms base call None = present_behind request_ms base call
+present_unless request_ms base call (Some refusal) = base.present.items
 
--- the owner arrived at this place with this stay, and no depart of it was done since
-pub record IsPresentSince (entries : List Entry) (owner stay place : ℕ) : Type 0 where
-  pub arrived : StandsAt (WasDone (IsArriveOf owner stay)) entries place
-  pub stayed : (later : ℕ) → place < later → ¬ StandsAt (WasDone (IsDepartOf owner)) entries later
-
--- the owner is present with this stay
-abbrev pub IsPresent : List Entry → ℕ → ℕ → Type 0
-IsPresent entries owner stay = (place : ℕ) × IsPresentSince entries owner stay place
-
--- the last request of the owner that was done behind this place asks for this tuple
-pub record IsLastRequestSince (entries : List Entry) (owner place : ℕ) (tuple : Tuple) : Type 0 where
-  pub asked : ℕ
-  pub later : place < asked
-  pub request : StandsAt (WasDone (IsRequestOf owner tuple)) entries asked
-  pub last : (other : ℕ) (t : Tuple) → asked < other → ¬ StandsAt (WasDone (IsRequestOf owner t)) entries other
+abbrev pub present_with : ℕ → Base → Call → List Present
+present_with request_ms base call = present_unless request_ms base call (refusal_of base.present.items call)

@@ -1,7 +1,9 @@
 //! One publisher's desk: who may ask it for rates, what is asked, and what is announced.
 
-use crate::call::{Answer, Call, Entry};
-use crate::effect::{Effect, effect_of};
+use crate::base::{Base, CALL_LIMIT};
+use crate::call::{Answer, Call, Change, Entry, Signal};
+use crate::effect::{Effect, show_change, show_unchanged};
+use crate::history::list;
 use crate::standing::Standing;
 use arrayvec::ArrayVec;
 use circular_buffer::HeapCircularBuffer;
@@ -11,11 +13,22 @@ use std::marker::Model;
 use thiserror::Error;
 use tmmbr_tuple::{Ssrc, Tuple};
 
-/// The history has no room for the call: recorded, calls and present owners together would be more than
-/// the limit. So each owner that is present can still depart.
+/// How many calls a desk lists. Those before them are folded into its base.
+pub const HISTORY_LIMIT: usize = 1024;
+
+/// The desk records no more: with the call, the calls of its life and the present owners together would
+/// be more than `CALL_LIMIT`. So each owner that is present can still depart.
 #[derive(Clone, Copy, Debug, PartialEq, Eq, Error)]
 #[error("the history is full")]
 pub struct HistoryFull;
+
+/// How a call was recorded.
+#[derive(Clone, Copy, Debug, PartialEq, Eq)]
+pub struct Recorded {
+    /// How many calls were recorded before it.
+    pub number: u64,
+    pub answer: Answer,
+}
 
 /// What a desk replies to a call that it records.
 #[derive(Debug, Drop)]
@@ -32,9 +45,12 @@ pub struct Reply {
 #[derive(Debug, Drop)]
 pub struct Desk {
     standing: Standing,
-    /// Every call, from the first on.
+    /// What stands for the calls before the listed ones.
+    base: Base,
+    /// The last calls.
     history: HeapCircularBuffer<Entry>,
     gap: u64,
+    request_ms: u64,
 }
 
 impl Model for Desk {
@@ -43,32 +59,38 @@ impl Model for Desk {
 
     ghost Value = { DeskState };
 
-    ghost view = { λ d. record { gap = d.gap; limit = d.history.capacity; history = d.history.items; bounds = d.standing.bounds } };
+    ghost view = { λ d. record { gap = d.gap; request_ms = d.request_ms; base = d.base; history = d.history.items; bounds = d.standing.bounds } };
 
-    ghost invariant = { λ d. IsHeld d.gap d.history.capacity d.history.items d.standing };
+    ghost invariant = { λ d. IsHeld (record { gap = d.gap; request_ms = d.request_ms; base = d.base; history = d.history.items; bounds = d.standing.bounds })
+        d.history.capacity d.standing };
 }
 
 impl Desk {
-    ghost use Rattle.std.specs.Prelude.{◌≡◌, ◌≤◌, ◌↔◌, ◌++◌, ◌∷◌, [], IsErr, IsTrue, IfOk, OnErr};
+    ghost use Rattle.std.specs.Prelude.{◌≡◌, ◌≤◌, ◌+◌, ◌↔◌, ◌++◌, ◌∷◌, [], IsErr, IsTrue, IfOk, OnOk, OnErr};
     ghost use Rattle.bounding_set.specs.State.{announced_of};
     ghost use Rattle.rate_desk.specs.declared.call.Call.TheVariants as call;
-    ghost use Rattle.rate_desk.specs.Presence.{HasStay};
-    ghost use Rattle.rate_desk.specs.Trace.{empty_base, live_after};
-    ghost use Rattle.rate_desk.specs.History.{IsOverLimit};
-    ghost use Rattle.rate_desk.specs.State.{DeskState, HoldsLegalDesk, Records};
+    ghost use Rattle.rate_desk.specs.declared.call.Change.TheVariants as change;
+    ghost use Rattle.rate_desk.specs.declared.call.Signal.TheVariants as signal;
+    ghost use Rattle.rate_desk.specs.Call.{HasStay};
+    ghost use Rattle.rate_desk.specs.Trace.{empty_base, live_after, words_of};
+    ghost use Rattle.rate_desk.specs.Effect.{IsEffect};
+    ghost use Rattle.rate_desk.specs.State.{DeskState, HoldsLegalDesk, IsOverLimit, IsQuiet, Records, calls_of};
 
-    /// A desk where nobody is present. It records calls as long as they and the present owners together
-    /// are no more than `history`, and sends PLIs upstream at least `gap` milliseconds apart.
-    pub fn new(alloc: Global, history: usize, gap: u64) -> Result<Desk, AllocError>
+    /// A desk where nobody is present. It sends PLIs upstream at least `gap` milliseconds apart, and takes
+    /// requests away that are `request_ms` milliseconds old; never where that is 0.
+    pub fn new(alloc: Global, gap: u64, request_ms: u64) -> Result<Desk, AllocError>
+        ensures base { IfOk result (λ d. d.base ≡ empty_base) }
         ensures history { IfOk result (λ d. d.history ≡ []) }
-        ensures limit { IfOk result (λ d. d.limit ≡ history) }
         ensures gap { IfOk result (λ d. d.gap ≡ gap) }
+        ensures request_ms { IfOk result (λ d. d.request_ms ≡ request_ms) }
         ensures legal { IfOk result HoldsLegalDesk }
     {
         Ok(Desk {
             standing: Standing::new(),
-            history: HeapCircularBuffer::with_capacity(alloc, history)?,
+            base: Base::new(),
+            history: HeapCircularBuffer::with_capacity(alloc, HISTORY_LIMIT)?,
             gap,
+            request_ms,
         })
     }
 
@@ -78,12 +100,17 @@ impl Desk {
     /// `HistoryFull` comes before both; then nothing changed.
     pub fn arrive(&mut self, owner: Ssrc, stay: u64) -> Result<Reply, HistoryFull>
         requires { 1 ≤ stay }
-        ensures full { IsErr result ↔ IsOverLimit self.old.limit empty_base self.old.history (call.Arrive owner stay) }
+        ensures full { IsErr result ↔ IsOverLimit self.old (call.Stay owner stay change.Arrive) }
         ensures unchanged { OnErr result (self.new ≡ self.old) }
-        ensures recorded { IfOk result (λ reply. Records self.old (call.Arrive owner stay) reply self.new) }
+        ensures recorded { IfOk result (λ r. Records self.old (call.Stay owner stay change.Arrive) r.number r.answer self.new) }
+        ensures effect { IfOk result (λ r. IsEffect (announced_of self.old.bounds) (announced_of self.new.bounds) r.effect) }
         ensures legal { HoldsLegalDesk self.new }
     {
-        self.call(Call::Arrive { owner, stay })
+        self.reply(Call::Stay {
+            owner,
+            stay,
+            change: Change::Arrive,
+        })
     }
 
     /// The owner asks for a tuple, in the place of what it asked for before.
@@ -92,12 +119,17 @@ impl Desk {
     /// nothing changed.
     pub fn request(&mut self, owner: Ssrc, stay: u64, tuple: Tuple) -> Result<Reply, HistoryFull>
         requires { 1 ≤ stay }
-        ensures full { IsErr result ↔ IsOverLimit self.old.limit empty_base self.old.history (call.Request owner stay tuple) }
+        ensures full { IsErr result ↔ IsOverLimit self.old (call.Stay owner stay (change.Request tuple)) }
         ensures unchanged { OnErr result (self.new ≡ self.old) }
-        ensures recorded { IfOk result (λ reply. Records self.old (call.Request owner stay tuple) reply self.new) }
+        ensures recorded { IfOk result (λ r. Records self.old (call.Stay owner stay (change.Request tuple)) r.number r.answer self.new) }
+        ensures effect { IfOk result (λ r. IsEffect (announced_of self.old.bounds) (announced_of self.new.bounds) r.effect) }
         ensures legal { HoldsLegalDesk self.new }
     {
-        self.call(Call::Request { owner, stay, tuple })
+        self.reply(Call::Stay {
+            owner,
+            stay,
+            change: Change::Request(tuple),
+        })
     }
 
     /// The owner's stay ends, and its request with it.
@@ -106,37 +138,73 @@ impl Desk {
     /// before it, and then nothing changed.
     pub fn depart(&mut self, owner: Ssrc, stay: u64) -> Result<Reply, HistoryFull>
         requires { 1 ≤ stay }
-        ensures full { IsErr result ↔ IsOverLimit self.old.limit empty_base self.old.history (call.Depart owner stay) }
+        ensures full { IsErr result ↔ IsOverLimit self.old (call.Stay owner stay change.Depart) }
         ensures unchanged { OnErr result (self.new ≡ self.old) }
-        ensures recorded { IfOk result (λ reply. Records self.old (call.Depart owner stay) reply self.new) }
+        ensures recorded { IfOk result (λ r. Records self.old (call.Stay owner stay change.Depart) r.number r.answer self.new) }
+        ensures effect { IfOk result (λ r. IsEffect (announced_of self.old.bounds) (announced_of self.new.bounds) r.effect) }
         ensures legal { HoldsLegalDesk self.new }
     {
-        self.call(Call::Depart { owner, stay })
+        self.reply(Call::Stay {
+            owner,
+            stay,
+            change: Change::Depart,
+        })
     }
 
     /// Somebody wants a picture at this moment, in milliseconds (RFC 4585, section 6.3.1). `HistoryFull`
     /// leaves everything as it was.
     pub fn pli(&mut self, moment: u64) -> Result<Reply, HistoryFull>
-        ensures full { IsErr result ↔ IsOverLimit self.old.limit empty_base self.old.history (call.Pli moment) }
+        ensures full { IsErr result ↔ IsOverLimit self.old (call.Time moment signal.Pli) }
         ensures unchanged { OnErr result (self.new ≡ self.old) }
-        ensures recorded { IfOk result (λ reply. Records self.old (call.Pli moment) reply self.new) }
+        ensures recorded { IfOk result (λ r. Records self.old (call.Time moment signal.Pli) r.number r.answer self.new) }
+        ensures effect { IfOk result (λ r. IsEffect (announced_of self.old.bounds) (announced_of self.new.bounds) r.effect) }
         ensures legal { HoldsLegalDesk self.new }
     {
-        self.call(Call::Pli { moment })
+        self.reply(Call::Time {
+            moment,
+            signal: Signal::Pli,
+        })
     }
 
     /// It is this moment now, in milliseconds: a PLI that is wanted may be due. `HistoryFull` leaves
     /// everything as it was.
     pub fn tick(&mut self, moment: u64) -> Result<Reply, HistoryFull>
-        ensures full { IsErr result ↔ IsOverLimit self.old.limit empty_base self.old.history (call.Tick moment) }
+        ensures full { IsErr result ↔ IsOverLimit self.old (call.Time moment signal.Tick) }
         ensures unchanged { OnErr result (self.new ≡ self.old) }
-        ensures recorded { IfOk result (λ reply. Records self.old (call.Tick moment) reply self.new) }
+        ensures recorded { IfOk result (λ r. Records self.old (call.Time moment signal.Tick) r.number r.answer self.new) }
+        ensures effect { IfOk result (λ r. IsEffect (announced_of self.old.bounds) (announced_of self.new.bounds) r.effect) }
         ensures legal { HoldsLegalDesk self.new }
     {
-        self.call(Call::Tick { moment })
+        self.reply(Call::Time {
+            moment,
+            signal: Signal::Tick,
+        })
     }
 
-    /// Every recorded call with its answer, from the first on.
+    /// It is this moment now, in milliseconds: requests that are too old are taken away; their owners stay
+    /// present. `HistoryFull` leaves everything as it was.
+    pub fn expire(&mut self, moment: u64) -> Result<Reply, HistoryFull>
+        ensures full { IsErr result ↔ IsOverLimit self.old (call.Time moment signal.Expire) }
+        ensures unchanged { OnErr result (self.new ≡ self.old) }
+        ensures recorded { IfOk result (λ r. Records self.old (call.Time moment signal.Expire) r.number r.answer self.new) }
+        ensures effect { IfOk result (λ r. IsEffect (announced_of self.old.bounds) (announced_of self.new.bounds) r.effect) }
+        ensures legal { HoldsLegalDesk self.new }
+    {
+        self.reply(Call::Time {
+            moment,
+            signal: Signal::Expire,
+        })
+    }
+
+    /// What stands for the calls before the listed ones.
+    pub fn base(&self) -> &Base
+        ensures value { result.now ≡ self.now.base }
+        ensures legal { HoldsLegalDesk self.now }
+    {
+        &self.base
+    }
+
+    /// The last calls with their answers, as many as are listed, the oldest first.
     pub fn history(&self) -> &HeapCircularBuffer<Entry>
         ensures value { result.now.items ≡ self.now.history }
         ensures legal { HoldsLegalDesk self.now }
@@ -144,9 +212,25 @@ impl Desk {
         &self.history
     }
 
+    /// How many calls were recorded, listed or folded.
+    pub fn calls(&self) -> u64
+        ensures value { result ≡ calls_of self.now }
+        ensures legal { HoldsLegalDesk self.now }
+    {
+        self.standing.whole().calls
+    }
+
+    /// The sum of the words that they requested, accepted or refused.
+    pub fn words(&self) -> u128
+        ensures value { result ≡ self.now.base.words + words_of self.now.history }
+        ensures legal { HoldsLegalDesk self.now }
+    {
+        self.standing.whole().words
+    }
+
     /// The live requests, by rising owner.
     pub fn live(&self) -> &[Request]
-        ensures value { result.now ≡ live_after empty_base self.now.history }
+        ensures value { result.now ≡ live_after self.now.request_ms self.now.base self.now.history }
         ensures legal { HoldsLegalDesk self.now }
     {
         self.standing.bounds().rows()
@@ -168,21 +252,62 @@ impl Desk {
         self.standing.bounds().cert()
     }
 
-    /// Answers a call and records it.
-    pub(crate) fn call(&mut self, call: Call) -> Result<Reply, HistoryFull>
-        requires { HasStay call }
-        ensures full { IsErr result ↔ IsOverLimit self.old.limit empty_base self.old.history call }
+    /// Makes any of the calls, and says in `effect` what it changed in the announced set, whatever stood
+    /// there. `HistoryFull` leaves desk and effect as they were.
+    pub fn call(&mut self, call: &Call, effect: &mut Effect) -> Result<Recorded, HistoryFull>
+        requires { HasStay call.now }
+        ensures full { IsErr result ↔ IsOverLimit self.old call.now }
         ensures unchanged { OnErr result (self.new ≡ self.old) }
-        ensures recorded { IfOk result (λ reply. Records self.old call reply self.new) }
+        ensures effect_unchanged { OnErr result (effect.new ≡ effect.old) }
+        ensures recorded { IfOk result (λ r. Records self.old call.now r.number r.answer self.new) }
+        ensures effect { OnOk result (IsEffect (announced_of self.old.bounds) (announced_of self.new.bounds) effect.new) }
         ensures legal { HoldsLegalDesk self.new }
     {
-        if self.is_over_limit(&call) {
+        if self.is_over_limit(call) {
             return Err(HistoryFull);
         }
-        let former = self.announced();
-        let number = self.history.len() as u64;
-        let answer = self.record(call);
-        let effect = effect_of(former.as_slice(), self.announced());
+        if self.is_quiet(call) {
+            let recorded = self.record(call);
+            show_unchanged(effect, self.standing.bounds());
+            Ok(recorded)
+        } else {
+            let former = self.announced();
+            let recorded = self.record(call);
+            show_change(effect, former.as_slice(), self.standing.bounds());
+            Ok(recorded)
+        }
+    }
+
+    /// A tick, without saying what is announced: a tick doesn't change that. `HistoryFull` leaves
+    /// everything as it was.
+    pub fn pulse(&mut self, moment: u64) -> Result<Recorded, HistoryFull>
+        ensures full { IsErr result ↔ IsOverLimit self.old (call.Time moment signal.Tick) }
+        ensures unchanged { OnErr result (self.new ≡ self.old) }
+        ensures recorded { IfOk result (λ r. Records self.old (call.Time moment signal.Tick) r.number r.answer self.new) }
+        ensures set { self.new.bounds ≡ self.old.bounds }
+        ensures legal { HoldsLegalDesk self.new }
+    {
+        let tick = Call::Time {
+            moment,
+            signal: Signal::Tick,
+        };
+        if self.is_over_limit(&tick) {
+            return Err(HistoryFull);
+        }
+        Ok(self.record(&tick))
+    }
+
+    /// Makes a call, and hands its effect out with it.
+    fn reply(&mut self, call: Call) -> Result<Reply, HistoryFull>
+        requires { HasStay call }
+        ensures full { IsErr result ↔ IsOverLimit self.old call }
+        ensures unchanged { OnErr result (self.new ≡ self.old) }
+        ensures recorded { IfOk result (λ r. Records self.old call r.number r.answer self.new) }
+        ensures effect { IfOk result (λ r. IsEffect (announced_of self.old.bounds) (announced_of self.new.bounds) r.effect) }
+        ensures legal { HoldsLegalDesk self.new }
+    {
+        let mut effect = Effect::new();
+        let Recorded { number, answer } = self.call(&call, &mut effect)?;
         Ok(Reply {
             number,
             answer,
@@ -190,26 +315,40 @@ impl Desk {
         })
     }
 
-    /// Whether the history has no room for the call.
+    /// Whether the call would be one too many.
     fn is_over_limit(&self, call: &Call) -> bool
         requires { HasStay call.now }
-        ensures { IsTrue result ↔ IsOverLimit self.now.limit empty_base self.now.history call.now }
+        ensures over { IsTrue result ↔ IsOverLimit self.now call.now }
+        ensures legal { HoldsLegalDesk self.now }
     {
-        let room = self.history.capacity() - self.history.len();
-        room < 1 + self.standing.count_behind(call)
+        let now = self.standing.whole();
+        let room = CALL_LIMIT - now.calls;
+        room < 1 + now.count_behind(call) as u64
     }
 
-    /// Answers a call for which there is room, and records it.
-    fn record(&mut self, call: Call) -> Answer
-        requires stays { HasStay call }
-        requires room { ¬ IsOverLimit self.old.limit empty_base self.old.history call }
-        ensures history { self.new.history ≡ self.old.history ++ record { call = call; answer = result } ∷ [] }
-        ensures gap { self.new.gap ≡ self.old.gap }
-        ensures limit { self.new.limit ≡ self.old.limit }
+    /// Whether the call changes no request: by its kind, or since it is refused.
+    fn is_quiet(&self, call: &Call) -> bool
+        ensures { IsTrue result → IsQuiet self.now call.now }
+    {
+        !call.may_change() || self.standing.whole().refusal(call).is_some()
+    }
+
+    /// Answers a call for which there is room, and records it. Where the history is full, its oldest entry
+    /// is folded into the base.
+    fn record(&mut self, call: &Call) -> Recorded
+        requires stays { HasStay call.now }
+        requires room { ¬ IsOverLimit self.old call.now }
+        ensures recorded { Records self.old call.now result.number result.answer self.new }
+        ensures quiet { IsQuiet self.old call.now → self.new.bounds ≡ self.old.bounds }
         ensures legal { HoldsLegalDesk self.new }
     {
-        let answer = self.standing.answer(self.gap, &call);
-        self.history.push_back(Entry { call, answer });
-        answer
+        let number = self.standing.whole().calls;
+        let answer = self.standing.answer(self.gap, self.request_ms, call);
+        let entry = Entry {
+            call: *call,
+            answer,
+        };
+        list(&mut self.base, &mut self.history, self.request_ms, entry);
+        Recorded { number, answer }
     }
 }

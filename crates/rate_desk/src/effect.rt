@@ -2,10 +2,12 @@
 
 ghost use Rattle.std.specs.Prelude.{◌≡◌, ◌≢◌, ◌==◌, ◌≤◌, not, length, filter, AllPairs};
 ghost use Rattle.std.specs.List.{list_any};
-ghost use Rattle.rate_desk.specs.Effect.{IsEffect, IsLifted, owners_of, numbers_of, is_member};
+ghost use Rattle.bounding_set.specs.State.{announced_of};
+ghost use Rattle.rate_desk.specs.Effect.{IsEffect, IsLifted, numbers_of, is_member};
 ghost use Rattle.rate_cert.specs.declared.certificate.TheConstants.{MAX_REQUESTS as REQUESTS};
 
 use arrayvec::ArrayVec;
+use bounding_set::Bounds;
 use rate_cert::{MAX_REQUESTS, Request};
 use tmmbr_tuple::Ssrc;
 
@@ -22,45 +24,72 @@ pub struct Effect {
     pub fresh: ArrayVec<Request, MAX_REQUESTS>,
 }
 
-/// What changed from the former announced set to this one.
-pub fn effect_of(former: &[Request], set: ArrayVec<Request, MAX_REQUESTS>) -> Effect
+impl Effect {
+    ghost use Rattle.std.specs.Prelude.{◌≡◌, []};
+    ghost use Rattle.bounding_set.specs.State.{announced_of};
+    ghost use Rattle.rate_desk.specs.Effect.{IsEffect};
+
+    /// Nothing is announced, lifted or fresh: a place for what a call changes.
+    pub fn new() -> Effect
+        ensures set { result.set.items ≡ [] }
+        ensures lifted { result.lifted.items ≡ [] }
+        ensures fresh { result.fresh.items ≡ [] }
+    {
+        Effect {
+            set: ArrayVec::new(),
+            lifted: ArrayVec::new(),
+            fresh: ArrayVec::new(),
+        }
+    }
+}
+
+/// Says that what is announced now was announced before.
+pub fn show_unchanged(effect: &mut Effect, bounds: &Bounds)
+    ensures { IsEffect (announced_of bounds.now) (announced_of bounds.now) effect.new }
+{
+    effect.set = bounds.announced();
+    effect.lifted.clear();
+    effect.fresh.clear();
+}
+
+/// Says what changed from the former announced set to what is announced now.
+pub fn show_change(effect: &mut Effect, former: &[Request], bounds: &Bounds)
     requires few { length former.now ≤ REQUESTS }
     requires once { AllPairs (λ x y. x.owner.0 ≢ y.owner.0) former.now }
-    ensures { IsEffect former.now set.items result }
+    ensures { IsEffect former.now (announced_of bounds.now) effect.new }
 {
-    let lifted = lifted(former, set.as_slice());
-    let fresh = fresh(former, set.as_slice());
-    Effect { set, lifted, fresh }
+    effect.set = bounds.announced();
+    let set = effect.set.as_slice();
+    list_lifted(former, set, &mut effect.lifted);
+    list_fresh(former, set, &mut effect.fresh);
 }
 
 /// The owners that have a request in the former set and none in this one, by rising SSRC.
-fn lifted(former: &[Request], set: &[Request]) -> ArrayVec<Ssrc, MAX_REQUESTS>
+fn list_lifted(former: &[Request], set: &[Request], lifted: &mut ArrayVec<Ssrc, MAX_REQUESTS>)
     requires few { length former.now ≤ REQUESTS }
     requires once { AllPairs (λ x y. x.owner.0 ≢ y.owner.0) former.now }
-    ensures { IsLifted former.now set.now (numbers_of result.items) }
+    ensures { IsLifted former.now set.now (numbers_of lifted.new.items) }
 {
-    let mut lifted = ArrayVec::new();
+    lifted.clear();
     for request in former {
         if !has_owner(set, request.owner) {
             lifted.push(request.owner);
         }
     }
     lifted.as_mut_slice().sort_unstable_by_key(|owner| owner.0);
-    lifted
 }
 
 /// The members of this set that weren't in the former one.
-fn fresh(former: &[Request], set: &[Request]) -> ArrayVec<Request, MAX_REQUESTS>
+fn list_fresh(former: &[Request], set: &[Request], fresh: &mut ArrayVec<Request, MAX_REQUESTS>)
     requires few { length set.now ≤ REQUESTS }
-    ensures { result.items ≡ filter (λ r. not (is_member former.now r)) set.now }
+    ensures { fresh.new.items ≡ filter (λ r. not (is_member former.now r)) set.now }
 {
-    let mut fresh = ArrayVec::new();
+    fresh.clear();
     for request in set {
         if !is_in(former, request) {
             fresh.push(*request);
         }
     }
-    fresh
 }
 
 /// Whether the owner has a request among these.

@@ -1,18 +1,17 @@
 //! The end of a house: its desks are taken out of their locks, and compared with what the seats counted and
 //! with the receipts.
 
-ghost use Rattle.std.specs.Prelude.{◌≡◌, ◌<◌, ◌↔◌, List, map, length, vec_len, sum_by, slice_index_or, slice_get, Some, All, AllPairs, IfOk, OnOk, IfSome, IsTrue, ℕ};
+ghost use Rattle.std.specs.Prelude.{◌≡◌, ◌<◌, ◌≤◌, ◌-◌, ◌⊎◌, length, vec_len, sum_by, slice_index_or, slice_get, Some, All, AllPairs, IfOk, OnOk, IfSome, IsTrue, ℕ};
 ghost use Rattle.rate_desk.specs.State.{DeskState};
-ghost use Rattle.rate_desk.specs.Shares.{words_of, calls_to, words_to, StandsIn, IsApart, AddsUp, GathersAll};
+ghost use Rattle.rate_desk.specs.Shares.{calls_to, words_to, IsFoldedIn, StandsIn, IsApart, AddsUp, GathersAll};
 
-use crate::call::{Answer, Call, Entry};
+use crate::call::{Answer, Call, Change, Signal};
 use crate::desk::Desk;
 use crate::held::HeldDesk;
 use crate::house::House;
 use crate::ledger::SeatCalls;
 use crate::receipt::{GatherFault, Receipt};
 use crate::seat::DeskSeat;
-use circular_buffer::HeapCircularBuffer;
 use std::alloc::Global;
 use std::sync::Mutex;
 use std::sync::ledger::Ledger;
@@ -22,8 +21,8 @@ impl<D: Ledger, S: SeatCalls> House<D, S> {
     /// The desks in the order of their publishers, once all threads are done. The house and the seats are
     /// used up in each case.
     ///
-    /// Compares each receipt with its history (`Differs`, `Twice`), the seats with those that were made
-    /// (`Seats`), and what they counted with each desk (`Totals`), in this order.
+    /// Compares each receipt with its history (`Differs`, `Twice`, `Folded`), the seats with those that were
+    /// made (`Seats`), and what they counted with each desk (`Totals`), in this order.
     pub fn gather(
         self,
         alloc: Global,
@@ -37,73 +36,74 @@ impl<D: Ledger, S: SeatCalls> House<D, S> {
             tally: _,
             seats: made,
         } = self;
-        let (desks, words) = unlock(alloc, locks)?;
+        let desks = unlock(alloc, locks)?;
         check_receipts(desks.as_slice(), receipts)?;
         check_numbers(receipts)?;
+        check_listed(desks.as_slice(), receipts)?;
         if seats.len() != made {
             return Err(GatherFault::Seats(seats.len()));
         }
-        check_totals(desks.as_slice(), words.as_slice(), seats.as_slice())?;
+        check_totals(desks.as_slice(), seats.as_slice())?;
         Ok(desks)
     }
 }
 
-/// The desks, and the words of each history, in order.
+/// The desks, in order.
 fn unlock<D: Ledger>(
     alloc: Global,
     locks: Vec<Mutex<HeldDesk<D>>>,
-) -> Result<(Vec<Desk>, Vec<u128>), GatherFault>
-    ensures desks { IfOk result (λ r. vec_len r.0 ≡ vec_len locks) }
-    ensures words { IfOk result (λ r. r.1.items ≡ map (λ d. words_of d.history) r.0.items) }
+) -> Result<Vec<Desk>, GatherFault>
+    ensures { IfOk result (λ desks. vec_len desks ≡ vec_len locks) }
 {
-    let count = locks.len();
-    let Ok(mut desks) = Vec::with_capacity(alloc, count) else {
-        return Err(GatherFault::NoMemory);
-    };
-    let Ok(mut words) = Vec::with_capacity(alloc, count) else {
+    let Ok(mut desks) = Vec::with_capacity(alloc, locks.len()) else {
         return Err(GatherFault::NoMemory);
     };
     for lock in locks {
-        let held = lock.into_inner();
-        let HeldDesk {
-            desk,
-            words: sum,
-            share: _,
-        } = held;
-        if desks.push(desk).is_err() || words.push(sum).is_err() {
+        let HeldDesk { desk, share: _ } = lock.into_inner();
+        if desks.push(desk).is_err() {
             return Err(GatherFault::NoMemory);
         }
     }
-    Ok((desks, words))
+    Ok(desks)
 }
 
-/// Whether each receipt stands in its publisher's history.
+/// Whether each receipt whose number isn't folded stands in its publisher's history.
 fn check_receipts(desks: &[Desk], receipts: &[Receipt]) -> Result<(), GatherFault>
-    ensures { OnOk result (All (StandsIn desks.now) receipts.now) }
+    ensures { OnOk result (All (λ r. IsFoldedIn desks.now r ⊎ StandsIn desks.now r) receipts.now) }
 {
     for receipt in receipts {
-        if !stands_in(desks, receipt) {
+        let Some(desk) = desks.get(receipt.publisher) else {
+            return Err(GatherFault::Differs(*receipt));
+        };
+        if receipt.number >= desk.base().calls && !is_listed(desk, receipt) {
             return Err(GatherFault::Differs(*receipt));
         }
     }
     Ok(())
 }
 
-/// Whether the receipt's call and answer stand at its number.
-fn stands_in(desks: &[Desk], receipt: &Receipt) -> bool
-    ensures { IsTrue result → StandsIn desks.now receipt.now }
+/// Whether no receipt's number is folded.
+fn check_listed(desks: &[Desk], receipts: &[Receipt]) -> Result<(), GatherFault>
+    ensures { OnOk result (All (λ r. ¬ IsFoldedIn desks.now r) receipts.now) }
 {
-    let Some(desk) = desks.get(receipt.publisher) else {
-        return false;
-    };
-    is_entry(desk.history(), receipt)
+    for receipt in receipts {
+        if let Some(desk) = desks.get(receipt.publisher) {
+            if receipt.number < desk.base().calls {
+                return Err(GatherFault::Folded(desk.base().calls));
+            }
+        }
+    }
+    Ok(())
 }
 
-/// Whether the receipt's call and answer stand at its number in this history.
-fn is_entry(history: &HeapCircularBuffer<Entry>, receipt: &Receipt) -> bool
-    ensures { IsTrue result → slice_get history.now.items receipt.now.number ≡ Some (record { call = receipt.now.call; answer = receipt.now.answer }) }
+/// Whether the receipt's call and answer stand at its number, which isn't folded.
+fn is_listed(desk: &Desk, receipt: &Receipt) -> bool
+    requires { desk.now.base.calls ≤ receipt.now.number }
+    ensures { IsTrue result → slice_get desk.now.history (receipt.now.number - desk.now.base.calls)
+        ≡ Some (record { call = receipt.now.call; answer = receipt.now.answer }) }
 {
-    match history.get(receipt.number as usize) {
+    let place = receipt.number - desk.base().calls;
+    match desk.history().get(place as usize) {
         Some(entry) => {
             is_call(&entry.call, &receipt.call) && is_answer(&entry.answer, &receipt.answer)
         },
@@ -116,24 +116,50 @@ fn is_call(one: &Call, other: &Call) -> bool
     ensures { IsTrue result → one.now ≡ other.now }
 {
     match (*one, *other) {
-        (Call::Arrive { owner: a, stay: s }, Call::Arrive { owner: b, stay: t }) => a.0 == b.0
-            && s == t,
         (
-            Call::Request {
+            Call::Stay {
                 owner: a,
                 stay: s,
-                tuple: x,
+                change: x,
             },
-            Call::Request {
+            Call::Stay {
                 owner: b,
                 stay: t,
-                tuple: y,
+                change: y,
             },
-        ) => a.0 == b.0 && s == t && is_tuple(x, y),
-        (Call::Depart { owner: a, stay: s }, Call::Depart { owner: b, stay: t }) => a.0 == b.0
-            && s == t,
-        (Call::Pli { moment: s }, Call::Pli { moment: t }) => s == t,
-        (Call::Tick { moment: s }, Call::Tick { moment: t }) => s == t,
+        ) => a.0 == b.0 && s == t && is_change(x, y),
+        (
+            Call::Time {
+                moment: m,
+                signal: x,
+            },
+            Call::Time {
+                moment: n,
+                signal: y,
+            },
+        ) => m == n && is_signal(x, y),
+        _ => false,
+    }
+}
+
+/// Whether the two changes are one.
+fn is_change(one: Change, other: Change) -> bool
+    ensures { IsTrue result → one ≡ other }
+{
+    match (one, other) {
+        (Change::Arrive, Change::Arrive) | (Change::Depart, Change::Depart) => true,
+        (Change::Request(x), Change::Request(y)) => is_tuple(x, y),
+        _ => false,
+    }
+}
+
+/// Whether the two signals are one.
+fn is_signal(one: Signal, other: Signal) -> bool
+    ensures { IsTrue result → one ≡ other }
+{
+    match (one, other) {
+        (Signal::Pli, Signal::Pli) | (Signal::Tick, Signal::Tick) => true,
+        (Signal::Expire, Signal::Expire) => true,
         _ => false,
     }
 }
@@ -176,30 +202,23 @@ fn check_numbers(receipts: &[Receipt]) -> Result<(), GatherFault>
 }
 
 /// Whether the seats' counts of each publisher add up to its desk's calls and words.
-fn check_totals<S: SeatCalls>(
-    desks: &[Desk],
-    words: &[u128],
-    seats: &[DeskSeat<S>],
-) -> Result<(), GatherFault>
-    requires { words.now ≡ map (λ d. words_of d.history) desks.now }
+fn check_totals<S: SeatCalls>(desks: &[Desk], seats: &[DeskSeat<S>]) -> Result<(), GatherFault>
     ensures { OnOk result ((p : ℕ) (d : DeskState) → p < length desks.now → AddsUp seats.now (slice_index_or desks.now p d) p) }
 {
     for publisher in 0..desks.len() {
-        if !adds_up(seats, &desks[publisher], words[publisher], publisher) {
+        if !adds_up(seats, &desks[publisher], publisher) {
             return Err(GatherFault::Totals(publisher));
         }
     }
     Ok(())
 }
 
-/// Whether the seats' counts of a publisher add up to its desk's calls, and to these words of its history.
-fn adds_up<S: SeatCalls>(seats: &[DeskSeat<S>], desk: &Desk, words: u128, publisher: usize) -> bool
-    requires { words ≡ words_of desk.now.history }
+/// Whether the seats' counts of a publisher add up to its desk's calls and words.
+fn adds_up<S: SeatCalls>(seats: &[DeskSeat<S>], desk: &Desk, publisher: usize) -> bool
     ensures { IsTrue result → AddsUp seats.now desk.now publisher }
 {
-    let calls = desk.history().len() as u64;
     match (calls_of(seats, publisher), requested_of(seats, publisher)) {
-        (Some(made), Some(requested)) => made == calls && requested == words,
+        (Some(calls), Some(words)) => calls == desk.calls() && words == desk.words(),
         _ => false,
     }
 }

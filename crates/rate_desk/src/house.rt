@@ -3,7 +3,7 @@
 ghost use Rattle.std.specs.Prelude.{◌≡◌, ◌≤◌, replicate, vec_len, IfOk};
 ghost use Rattle.rate_desk.specs.Shares.{new_seat};
 
-use crate::call::Call;
+use crate::call::{Call, Change, Signal};
 use crate::desk::Desk;
 use crate::effect::Effect;
 use crate::held::HeldDesk;
@@ -31,20 +31,22 @@ pub struct House<D: Ledger, S: SeatCalls> {
 impl<D: Ledger, S: SeatCalls> House<D, S> {
     ghost use Rattle.std.specs.Prelude.{◌≡◌, ◌<◌, ◌≤◌, replicate, IfOk, IfErr, OnOk, OnErr};
     ghost use Rattle.rate_desk.specs.declared.call.Call.TheVariants as call;
-    ghost use Rattle.rate_desk.specs.Presence.{HasStay};
+    ghost use Rattle.rate_desk.specs.declared.call.Change.TheVariants as change;
+    ghost use Rattle.rate_desk.specs.declared.call.Signal.TheVariants as signal;
+    ghost use Rattle.rate_desk.specs.Call.{HasStay};
     ghost use Rattle.rate_desk.specs.Shares.{new_seat, Counts, IsReceiptOf, IsFaultOf};
 
-    /// A house of so many publishers and seats. Each desk records calls as long as they and the present
-    /// owners together are no more than `history`, and sends PLIs upstream at least `gap` milliseconds
-    /// apart. The first ledger has a part for each publisher, the second one for each seat.
+    /// A house of so many publishers and seats. Each desk sends PLIs upstream at least `gap` milliseconds
+    /// apart, and takes requests away that are `request_ms` milliseconds old, never where that is 0. The
+    /// first ledger has a part for each publisher, the second one for each seat.
     pub fn new(
         alloc: Global,
         recorded: Blank,
         made: Blank,
         publishers: usize,
         seats: usize,
-        history: usize,
         gap: u64,
+        request_ms: u64,
     ) -> Result<(House<D, S>, Vec<DeskSeat<S>>), AllocError>
         requires publishers { publishers ≡ S.publishers }
         requires recorded { (recorded.name ≡ D.name) × (recorded.parts ≡ D.parts) }
@@ -54,7 +56,7 @@ impl<D: Ledger, S: SeatCalls> House<D, S> {
     {
         let (recorded, desk_shares) = recorded.open::<D>();
         let (made, seat_shares) = made.open::<S>();
-        let desks = new_desks(alloc, desk_shares, publishers, history, gap)?;
+        let desks = new_desks(alloc, desk_shares, publishers, gap, request_ms)?;
         let free = new_seats(alloc, seat_shares, publishers, seats)?;
         let tally = Mutex::new(Tally { recorded, made });
         Ok((
@@ -86,12 +88,21 @@ impl<D: Ledger, S: SeatCalls> House<D, S> {
     ) -> Result<(Receipt, Effect), HouseFault>
         requires publisher { publisher < S.publishers }
         requires stay { 1 ≤ stay }
-        ensures receipt { IfOk result (λ r. IsReceiptOf publisher (call.Arrive owner stay) seat.old r.0) }
-        ensures counted { OnOk result (Counts publisher (call.Arrive owner stay) seat.old seat.new) }
+        ensures receipt { IfOk result (λ r. IsReceiptOf publisher (call.Stay owner stay change.Arrive) seat.old r.0) }
+        ensures counted { OnOk result (Counts publisher (call.Stay owner stay change.Arrive) seat.old seat.new) }
         ensures fault { IfErr result (IsFaultOf publisher seat.old) }
         ensures unchanged { OnErr result (seat.new ≡ seat.old) }
     {
-        self.call(rt, seat, publisher, Call::Arrive { owner, stay })
+        self.call(
+            rt,
+            seat,
+            publisher,
+            Call::Stay {
+                owner,
+                stay,
+                change: Change::Arrive,
+            },
+        )
     }
 
     /// The owner asks the publisher for a tuple, as `Desk::request` says. A fault leaves all as it was.
@@ -106,12 +117,16 @@ impl<D: Ledger, S: SeatCalls> House<D, S> {
     ) -> Result<(Receipt, Effect), HouseFault>
         requires publisher { publisher < S.publishers }
         requires stay { 1 ≤ stay }
-        ensures receipt { IfOk result (λ r. IsReceiptOf publisher (call.Request owner stay tuple) seat.old r.0) }
-        ensures counted { OnOk result (Counts publisher (call.Request owner stay tuple) seat.old seat.new) }
+        ensures receipt { IfOk result (λ r. IsReceiptOf publisher (call.Stay owner stay (change.Request tuple)) seat.old r.0) }
+        ensures counted { OnOk result (Counts publisher (call.Stay owner stay (change.Request tuple)) seat.old seat.new) }
         ensures fault { IfErr result (IsFaultOf publisher seat.old) }
         ensures unchanged { OnErr result (seat.new ≡ seat.old) }
     {
-        let call = Call::Request { owner, stay, tuple };
+        let call = Call::Stay {
+            owner,
+            stay,
+            change: Change::Request(tuple),
+        };
         self.call(rt, seat, publisher, call)
     }
 
@@ -126,12 +141,21 @@ impl<D: Ledger, S: SeatCalls> House<D, S> {
     ) -> Result<(Receipt, Effect), HouseFault>
         requires publisher { publisher < S.publishers }
         requires stay { 1 ≤ stay }
-        ensures receipt { IfOk result (λ r. IsReceiptOf publisher (call.Depart owner stay) seat.old r.0) }
-        ensures counted { OnOk result (Counts publisher (call.Depart owner stay) seat.old seat.new) }
+        ensures receipt { IfOk result (λ r. IsReceiptOf publisher (call.Stay owner stay change.Depart) seat.old r.0) }
+        ensures counted { OnOk result (Counts publisher (call.Stay owner stay change.Depart) seat.old seat.new) }
         ensures fault { IfErr result (IsFaultOf publisher seat.old) }
         ensures unchanged { OnErr result (seat.new ≡ seat.old) }
     {
-        self.call(rt, seat, publisher, Call::Depart { owner, stay })
+        self.call(
+            rt,
+            seat,
+            publisher,
+            Call::Stay {
+                owner,
+                stay,
+                change: Change::Depart,
+            },
+        )
     }
 
     /// Somebody wants a picture of the publisher at this moment, as `Desk::pli` says. A fault leaves all
@@ -144,12 +168,20 @@ impl<D: Ledger, S: SeatCalls> House<D, S> {
         moment: u64,
     ) -> Result<(Receipt, Effect), HouseFault>
         requires publisher { publisher < S.publishers }
-        ensures receipt { IfOk result (λ r. IsReceiptOf publisher (call.Pli moment) seat.old r.0) }
-        ensures counted { OnOk result (Counts publisher (call.Pli moment) seat.old seat.new) }
+        ensures receipt { IfOk result (λ r. IsReceiptOf publisher (call.Time moment signal.Pli) seat.old r.0) }
+        ensures counted { OnOk result (Counts publisher (call.Time moment signal.Pli) seat.old seat.new) }
         ensures fault { IfErr result (IsFaultOf publisher seat.old) }
         ensures unchanged { OnErr result (seat.new ≡ seat.old) }
     {
-        self.call(rt, seat, publisher, Call::Pli { moment })
+        self.call(
+            rt,
+            seat,
+            publisher,
+            Call::Time {
+                moment,
+                signal: Signal::Pli,
+            },
+        )
     }
 
     /// It is this moment now, as `Desk::tick` says. A fault leaves all as it was.
@@ -161,12 +193,46 @@ impl<D: Ledger, S: SeatCalls> House<D, S> {
         moment: u64,
     ) -> Result<(Receipt, Effect), HouseFault>
         requires publisher { publisher < S.publishers }
-        ensures receipt { IfOk result (λ r. IsReceiptOf publisher (call.Tick moment) seat.old r.0) }
-        ensures counted { OnOk result (Counts publisher (call.Tick moment) seat.old seat.new) }
+        ensures receipt { IfOk result (λ r. IsReceiptOf publisher (call.Time moment signal.Tick) seat.old r.0) }
+        ensures counted { OnOk result (Counts publisher (call.Time moment signal.Tick) seat.old seat.new) }
         ensures fault { IfErr result (IsFaultOf publisher seat.old) }
         ensures unchanged { OnErr result (seat.new ≡ seat.old) }
     {
-        self.call(rt, seat, publisher, Call::Tick { moment })
+        self.call(
+            rt,
+            seat,
+            publisher,
+            Call::Time {
+                moment,
+                signal: Signal::Tick,
+            },
+        )
+    }
+
+    /// Requests of the publisher that are too old at this moment are taken away, as `Desk::expire` says. A
+    /// fault leaves all as it was.
+    pub fn expire<R: Wait>(
+        &self,
+        rt: &R,
+        seat: &mut DeskSeat<S>,
+        publisher: usize,
+        moment: u64,
+    ) -> Result<(Receipt, Effect), HouseFault>
+        requires publisher { publisher < S.publishers }
+        ensures receipt { IfOk result (λ r. IsReceiptOf publisher (call.Time moment signal.Expire) seat.old r.0) }
+        ensures counted { OnOk result (Counts publisher (call.Time moment signal.Expire) seat.old seat.new) }
+        ensures fault { IfErr result (IsFaultOf publisher seat.old) }
+        ensures unchanged { OnErr result (seat.new ≡ seat.old) }
+    {
+        self.call(
+            rt,
+            seat,
+            publisher,
+            Call::Time {
+                moment,
+                signal: Signal::Expire,
+            },
+        )
     }
 
     /// Locks the publisher's desk, then the tally, and makes the call.
@@ -195,8 +261,8 @@ fn new_desks<D: Ledger>(
     alloc: Global,
     shares: Share<D>,
     publishers: usize,
-    history: usize,
     gap: u64,
+    request_ms: u64,
 ) -> Result<Vec<Mutex<HeldDesk<D>>>, AllocError>
     requires parts { publishers ≤ shares.parts }
     requires no_calls { shares.amount ≡ 0 }
@@ -205,13 +271,9 @@ fn new_desks<D: Ledger>(
     let mut shares = shares;
     let mut desks = Vec::with_capacity(alloc, publishers)?;
     for _at in 0..publishers {
-        let desk = Desk::new(alloc, history, gap)?;
+        let desk = Desk::new(alloc, gap, request_ms)?;
         let share = shares.split_off(1, 0);
-        desks.push(Mutex::new(HeldDesk {
-            desk,
-            words: 0,
-            share,
-        }))?;
+        desks.push(Mutex::new(HeldDesk { desk, share }))?;
     }
     Ok(desks)
 }

@@ -96,21 +96,22 @@ fn ask_by_threads<D: Ledger + Send + Sync, S: SeatCalls + Send + Sync, R: Thread
 }
 
 /// The call, made again on another desk.
-fn again(desk: &mut Desk, call: Call) -> Option<Reply> {
+fn again(desk: &mut Desk, call: Call, effect: &mut Effect) -> Option<Recorded> {
     match call {
-        Call::Arrive { owner, stay } => {
-            if stay == 0 {
-                return None;
-            }
-            desk.arrive(owner, stay).ok()
+        Call::Stay { stay: 0, .. } => None,
+        Call::Stay {
+            owner,
+            stay,
+            change,
+        } => {
+            let call = Call::Stay {
+                owner,
+                stay,
+                change,
+            };
+            desk.call(&call, effect).ok()
         },
-        Call::Request { owner, stay, tuple } => {
-            if stay == 0 {
-                return None;
-            }
-            desk.request(owner, stay, tuple).ok()
-        },
-        _ => None,
+        Call::Time { .. } => desk.call(&call, effect).ok(),
     }
 }
 
@@ -130,16 +131,17 @@ fn assert_told(
     receipts: &[Receipt],
     effects: &[Effect],
 ) -> Result<(), Fail> {
-    let mut other = Desk::new(alloc, 1024, 500)?;
+    let mut other = Desk::new(alloc, 500, 0)?;
+    let mut told = Effect::new();
     for number in 0..desk.history().len() {
         let entry = desk.history().get(number).ok_or("an entry")?;
-        let reply = again(&mut other, entry.call).ok_or("a call again")?;
+        let reply = again(&mut other, entry.call, &mut told).ok_or("a call again")?;
         let place = place_of(receipts, publisher, number as u64).ok_or("a receipt")?;
         let effect = effects.get(place).ok_or("an effect")?;
         assert_eq!(rt; reply.answer, entry.answer);
-        assert_eq!(rt; effect.set.as_slice(), reply.effect.set.as_slice());
-        assert_eq!(rt; effect.lifted.as_slice(), reply.effect.lifted.as_slice());
-        assert_eq!(rt; effect.fresh.as_slice(), reply.effect.fresh.as_slice());
+        assert_eq!(rt; effect.set.as_slice(), told.set.as_slice());
+        assert_eq!(rt; effect.lifted.as_slice(), told.lifted.as_slice());
+        assert_eq!(rt; effect.fresh.as_slice(), told.fresh.as_slice());
     }
     Ok(())
 }
@@ -166,7 +168,7 @@ fn four_threads<
     requires parts { (recorded.parts ≡ D.parts) × (made.parts ≡ S.parts) }
     requires two { (S.publishers ≡ 2) × (D.parts ≡ 2) × (S.parts ≡ 4) }
 {
-    let (house, seats) = House::<D, S>::new(alloc, recorded, made, 2, 4, 1024, 500)?;
+    let (house, seats) = House::<D, S>::new(alloc, recorded, made, 2, 4, 500, 0)?;
     let (seats, receipts, effects) = ask_by_threads(rt, alloc, &house, seats).ok_or(
         "each call is Ok",
     )?;
@@ -216,13 +218,17 @@ fn refusal<D: Ledger, S: SeatCalls, R: Wait>(
     requires two { (S.publishers ≡ 2) × (D.parts ≡ 2) × (S.parts ≡ 4) }
 {
     let (kept, times, owner) = case;
-    let (house, seats) = House::<D, S>::new(alloc, recorded, made, 2, 4, 1024, 500)?;
+    let (house, seats) = House::<D, S>::new(alloc, recorded, made, 2, 4, 500, 0)?;
     let mut seats = seats;
     let mut seat = seats.pop().ok_or("a seat")?;
     let (receipt, _) = house.arrive(rt, &mut seat, 1, Ssrc(17), 1)?;
     seats.push(seat)?;
     seats.truncate(kept);
-    let call = Call::Arrive { owner, stay: 1 };
+    let call = Call::Stay {
+        owner,
+        stay: 1,
+        change: Change::Arrive,
+    };
     let mut receipts = Vec::new(alloc);
     for _ in 0..times {
         receipts.push(Receipt { call, ..receipt })?;
@@ -252,13 +258,14 @@ fn gather_refusals(rt: HostRuntime) -> Result<(), Fail> {
     let changed = Receipt {
         publisher: 1,
         number: 0,
-        call: Call::Arrive {
+        call: Call::Stay {
             owner: Ssrc(18),
             stay: 1,
+            change: Change::Arrive,
         },
         answer: Answer::Done {
             pli: false,
-            kept: 0,
+            kept: [0; KEPT_WORDS],
         },
     };
     let differs = Some(GatherFault::Differs(changed));

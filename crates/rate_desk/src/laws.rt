@@ -1,36 +1,58 @@
-//! What holds of a desk's history, over every list of entries. These functions do nothing: their
+//! What holds of a desk's history, over every base and list of entries. These functions do nothing: their
 //! contracts are the laws.
 
-ghost use Rattle.std.specs.Prelude.{◌≡◌, ◌↔◌, ◌≤◌, ℕ, List, All, None, Some};
+ghost use Rattle.std.specs.Prelude.{◌≡◌, ◌≤◌, ◌+◌, ◌↔◌, ◌∷◌, ◌++◌, ℕ, List, All, None, Some, length};
 ghost use Rattle.tmmbr_tuple.specs.declared.tuple.Tuple.{Tuple};
-ghost use Rattle.rate_desk.specs.declared.call.Entry.{Entry};
 ghost use Rattle.bounding_set.specs.Rows.{tuple_of};
-ghost use Rattle.rate_desk.specs.Presence.{stay_in, HasStay};
-ghost use Rattle.rate_desk.specs.Trace.{empty_base, present_after, live_after, IsPresent, IsPresentSince, IsLastRequestSince};
+ghost use Rattle.rate_desk.specs.declared.call.Entry.{Entry};
+ghost use Rattle.rate_desk.specs.declared.base.Base.{Base};
+ghost use Rattle.rate_desk.specs.Call.{HasStay};
+ghost use Rattle.rate_desk.specs.Presence.{stay_in};
+ghost use Rattle.rate_desk.specs.Trace.{IsBase, base_with, base_after, live_after, words_of};
+ghost use Rattle.rate_desk.specs.Places.{IsPresent, IsPresentFrom, IsLiveFrom, greatest_until};
 ghost use Rattle.rate_desk.specs.History.{IsLegalHistory};
-ghost use Rattle.rate_desk.specs.Schedule.{greatest_until, IsGreatestUntil, IsPliSchedule};
+ghost use Rattle.rate_desk.specs.Schedule.{IsGreatestUntil, IsPliSchedule};
 
-/// After every legal history an owner is present with a stay exactly where it arrived with it and no
-/// depart of it was done since.
-pub fn present_since_arrival()
-    ensures { (gap : ℕ) (entries : List Entry) (owner stay : ℕ) → IsLegalHistory gap empty_base entries → 1 ≤ stay
-        → stay_in (present_after empty_base entries) owner ≡ stay ↔ IsPresent entries owner stay }
+/// Folding the first entries into the base, early or late, changes nothing of what a trace comes to, and a
+/// legal history stays legal. Calls and words of the base count on.
+pub fn folding_keeps_the_trace()
+    ensures whole { (ms : ℕ) (base : Base) (first rest : List Entry)
+        → base_after ms base (first ++ rest) ≡ base_after ms (base_after ms base first) rest }
+    ensures legal { (gap ms : ℕ) (base : Base) (e : Entry) (rest : List Entry)
+        → IsLegalHistory gap ms base (e ∷ rest) → IsLegalHistory gap ms (base_with ms base e) rest }
+    ensures calls { (ms : ℕ) (base : Base) (entries : List Entry)
+        → (base_after ms base entries).calls ≡ base.calls + length entries }
+    ensures words { (ms : ℕ) (base : Base) (entries : List Entry)
+        → (base_after ms base entries).words ≡ base.words + words_of entries }
 {}
 
-/// What an owner asks for that is present is the last request of it that was done since it arrived;
-/// nothing where there is none. One that isn't present asks for nothing.
+/// After every legal history an owner is present with a stay exactly where it is in the base or arrived
+/// with it, and no depart of it was done since.
+pub fn present_since_arrival()
+    ensures { (gap ms : ℕ) (base : Base) (entries : List Entry) (owner stay : ℕ)
+        → IsLegalHistory gap ms base entries → 1 ≤ stay
+        → stay_in (base_after ms base entries).present.items owner ≡ stay ↔ IsPresent base entries owner stay }
+{}
+
+/// What an owner asks for that is present is the last request of it that was done since it arrived, or what
+/// it asks for in the base where none was, unless an expire took it: one at which the greatest moment is
+/// that of the request and `ms` milliseconds more. One that isn't present asks for nothing.
 pub fn live_since_request()
-    ensures absent { (entries : List Entry) (owner : ℕ) → All (λ (e : Entry). HasStay e.call) entries
-        → stay_in (present_after empty_base entries) owner ≡ 0 → tuple_of (live_after empty_base entries) owner ≡ None }
-    ensures live { (gap : ℕ) (entries : List Entry) (owner stay place : ℕ) (tuple : Tuple)
-        → IsLegalHistory gap empty_base entries → 1 ≤ stay → IsPresentSince entries owner stay place
-        → tuple_of (live_after empty_base entries) owner ≡ Some tuple ↔ IsLastRequestSince entries owner place tuple }
+    ensures absent { (gap ms : ℕ) (base : Base) (entries : List Entry) (owner : ℕ)
+        → IsBase base → All (λ e. HasStay e.call) entries → IsLegalHistory gap ms base entries
+        → stay_in (base_after ms base entries).present.items owner ≡ 0 → tuple_of (live_after ms base entries) owner ≡ None }
+    ensures live { (gap ms : ℕ) (base : Base) (entries : List Entry) (owner stay from : ℕ) (tuple : Tuple)
+        → IsBase base → All (λ e. HasStay e.call) entries → IsLegalHistory gap ms base entries
+        → 1 ≤ stay → IsPresentFrom base entries owner stay from
+        → tuple_of (live_after ms base entries) owner ≡ Some tuple ↔ IsLiveFrom ms base entries owner from tuple }
 {}
 
 /// In every legal history, PLIs are sent upstream by the schedule: at a `pli` or a `tick`, where a picture
 /// is still wanted and the last PLI was sent at least the gap ago (RFC 4585, section 6.3.1). It is always
 /// as late as the greatest moment that a call showed.
 pub fn plis_on_schedule()
-    ensures schedule { (gap : ℕ) (entries : List Entry) → IsLegalHistory gap empty_base entries → IsPliSchedule gap entries }
-    ensures greatest { (entries : List Entry) (place : ℕ) → IsGreatestUntil entries place (greatest_until entries place) }
+    ensures schedule { (gap ms : ℕ) (base : Base) (entries : List Entry)
+        → IsLegalHistory gap ms base entries → IsPliSchedule gap base entries }
+    ensures greatest { (base : Base) (entries : List Entry) (place : ℕ)
+        → IsGreatestUntil base entries place (greatest_until base entries place) }
 {}

@@ -3,30 +3,33 @@
 //! 6.3.1).
 //!
 //! Read `desk` first. A desk records each call with its answer; what it holds and announces is a function
-//! of that history. Nothing reads a clock: moments are handed in. No call of a made desk allocates.
+//! of these. It lists its last calls, and folds those before them into a base. Nothing reads a clock: moments
+//! are handed in. No call of a made desk allocates.
 #![tactic(auto)]
 
+mod base;
 mod call;
 mod desk;
 mod effect;
 mod gathering;
 mod held;
+mod history;
 mod house;
 mod kept;
 pub mod laws;
 mod ledger;
-mod pli;
 mod presence;
 mod receipt;
 mod seat;
 mod standing;
 
-pub use call::{Answer, Call, Entry};
-pub use desk::{Desk, HistoryFull, Reply};
+pub use base::{Base, CALL_LIMIT};
+pub use call::{Answer, Call, Change, Entry, KEPT_WORDS, Signal};
+pub use desk::{Desk, HISTORY_LIMIT, HistoryFull, Recorded, Reply};
 pub use effect::Effect;
 pub use house::House;
 pub use ledger::SeatCalls;
-pub use presence::PRESENT_LIMIT;
+pub use presence::{Asked, PRESENT_LIMIT, Present};
 pub use receipt::{GatherFault, HouseFault, Receipt};
 pub use seat::DeskSeat;
 
@@ -34,3 +37,5 @@ pub use seat::DeskSeat;
 mod house_tests;
 #[cfg(test)]
 mod tests;
+#[cfg(test)]
+mod whole_list_tests;

@@ -28,12 +28,16 @@ pub enum HouseFault {
 /// Why the desks of a house were not handed out. The house is used up.
 #[derive(Clone, Copy, Debug, PartialEq, Eq, Error)]
 pub enum GatherFault {
-    /// 1: the receipt's call and answer don't stand at its number in its publisher's history.
+    /// 1: the receipt's call and answer don't stand at its number, which its publisher's history should
+    /// list.
     #[error("a receipt differs from the history")]
     Differs(Receipt),
     /// 2: this number of one publisher comes twice.
     #[error("number {0} comes twice")]
     Twice(u64),
+    /// 3: a receipt's number is listed no more; the least listed one of its publisher is shown.
+    #[error("calls before number {0} are folded")]
+    Folded(u64),
     /// 4: so many seats were handed in, not as many as were made.
     #[error("{0} seats")]
     Seats(usize),

@@ -1,8 +1,5 @@
 //! A seat: who may call the desks of a house, and how often it did.
 
-ghost use Rattle.std.specs.Prelude.{◌≡◌};
-ghost use Rattle.rate_desk.specs.Shares.{requested_word};
-
 use crate::call::Call;
 use crate::effect::Effect;
 use crate::held::HeldDesk;
@@ -36,7 +33,9 @@ impl<S: SeatCalls> Model for DeskSeat<S> {
 
 impl<S: SeatCalls> DeskSeat<S> {
     ghost use Rattle.std.specs.Prelude.{◌≡◌, ◌<◌, ◌≤◌, length, IfOk, IfErr, OnOk, OnErr};
-    ghost use Rattle.rate_desk.specs.Presence.{HasStay};
+    ghost use Rattle.bounding_set.specs.State.{announced_of};
+    ghost use Rattle.rate_desk.specs.Call.{HasStay};
+    ghost use Rattle.rate_desk.specs.Effect.{IsEffect};
     ghost use Rattle.rate_desk.specs.State.{Records};
     ghost use Rattle.rate_desk.specs.Shares.{calls_to, words_to, new_seat, Counts, IsReceiptOf, IsFaultOf};
 
@@ -82,7 +81,8 @@ impl<S: SeatCalls> DeskSeat<S> {
     ) -> Result<(Receipt, Effect), HouseFault>
         requires stays { HasStay call }
         requires publisher { publisher < S.publishers }
-        ensures recorded { IfOk result (λ r. Records held.old.desk call (record { number = r.0.number; answer = r.0.answer; effect = r.1 }) held.new.desk) }
+        ensures recorded { IfOk result (λ r. Records held.old.desk call r.0.number r.0.answer held.new.desk) }
+        ensures effect { IfOk result (λ r. IsEffect (announced_of held.old.desk.bounds) (announced_of held.new.desk.bounds) r.1) }
         ensures receipt { IfOk result (λ r. IsReceiptOf publisher call self.old r.0) }
         ensures counted { OnOk result (Counts publisher call self.old self.new) }
         ensures fault { IfErr result (IsFaultOf publisher self.old) }
@@ -95,19 +95,18 @@ impl<S: SeatCalls> DeskSeat<S> {
         } = self;
         let HeldDesk {
             desk,
-            words: sum,
             share: recorded,
         } = held;
-        let before = desk.history().len() as u64;
+        let before = desk.calls();
         if before < calls[publisher] {
             return Err(HouseFault::Behind(before));
         }
-        let Ok(reply) = desk.call(call) else {
+        let mut effect = Effect::new();
+        let Ok(reply) = desk.call(&call, &mut effect) else {
             return Err(HouseFault::HistoryFull);
         };
         tally.count(recorded, share);
-        let word = requested_word(&call) as u128;
-        *sum += word;
+        let word = call.requested_word() as u128;
         calls[publisher] += 1;
         words[publisher] += word;
         let receipt = Receipt {
@@ -116,16 +115,6 @@ impl<S: SeatCalls> DeskSeat<S> {
             call,
             answer: reply.answer,
         };
-        Ok((receipt, reply.effect))
-    }
-}
-
-/// The word that a call requests, 0 where it is no request.
-pub(crate) fn requested_word(call: &Call) -> u32
-    ensures { result ≡ requested_word call.now }
-{
-    match *call {
-        Call::Request { tuple, .. } => tuple.to_word(),
-        _ => 0,
+        Ok((receipt, effect))
     }
 }

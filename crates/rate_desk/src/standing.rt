@@ -1,27 +1,26 @@
-//! What a desk holds beside its history: who is present, what is announced for them, and the wishes for a
-//! picture.
+//! What a desk holds beside its history: what its calls come to, and what is announced for those present.
 
-ghost use Rattle.std.specs.Prelude.{◌≡◌, ◌≤◌, length, None};
+ghost use Rattle.std.specs.Prelude.{◌≡◌, ◌≤◌, map, None, false};
 ghost use Rattle.bounding_set.specs.State.{AnnouncesSmallest};
-ghost use Rattle.rate_desk.specs.Presence.{HasRisingOwners, HasStays, HasStay, live_requests, present_by, refusal_of};
-ghost use Rattle.rate_desk.specs.Standing.{IsDepart, count_by};
+ghost use Rattle.rate_desk.specs.Call.{HasStay, may_change, moves_request, is_done};
+ghost use Rattle.rate_desk.specs.Presence.{HasRisingOwners, live_requests, refusal_of, refusal_in, without_old, present_changed};
+ghost use Rattle.rate_desk.specs.Trace.{present_behind, base_with};
+ghost use Rattle.rate_desk.specs.Answer.{IsAnswerTo, IsDone};
+ghost use Rattle.rate_desk.specs.Standing.{IsStand};
 
-use crate::call::{Answer, Call};
+use crate::base::Base;
+use crate::call::{Answer, Call, Change, Entry, Signal};
 use crate::kept::kept_bits;
-use crate::pli::PliGate;
-use crate::presence::{PRESENT_LIMIT, Present, refusal, take_in};
-use arrayvec::ArrayVec;
+use crate::presence::{Present, is_too_old};
 use bounding_set::Bounds;
-use rate_cert::{Cert, MAX_REQUESTS, Request};
 use std::marker::Model;
+use tmmbr_tuple::Ssrc;
 
-/// Who is present at a desk, by rising owner; their live requests with what is announced for them; and the
-/// wishes for a picture.
+/// What the calls of a desk come to, and the live requests of those present with what is announced for them.
 #[derive(Debug, Drop)]
 pub struct Standing {
-    present: ArrayVec<Present, MAX_REQUESTS>,
+    whole: Base,
     bounds: Bounds,
-    gate: PliGate,
 }
 
 impl Model for Standing {
@@ -29,120 +28,157 @@ impl Model for Standing {
 
     ghost Value = { Stand };
 
-    ghost view = { λ s. record { present = s.present.items; bounds = s.bounds; gate = s.gate } };
+    ghost view = { λ s. record { whole = s.whole; bounds = s.bounds } };
 
-    ghost invariant = { λ s. IsStand s.present.items s.bounds };
+    ghost invariant = { λ s. IsStand s.whole s.bounds };
 }
 
 impl Standing {
-    ghost use Rattle.std.specs.Prelude.{◌≡◌, ◌≤◌, [], length, None};
-    ghost use Rattle.bounding_set.specs.State.{announced_of};
-    ghost use Rattle.rate_desk.specs.Plis.{new_gate, gate_by};
-    ghost use Rattle.rate_desk.specs.Presence.{HasStay, present_by, refusal_of, live_requests};
-    ghost use Rattle.rate_desk.specs.History.{present_with};
-    ghost use Rattle.rate_desk.specs.Standing.{Stand, IsStand, IsDoneAt, IsAnswered};
+    ghost use Rattle.std.specs.Prelude.{◌≡◌, ◌<◌, false};
+    ghost use Rattle.rate_desk.specs.declared.base.TheConstants.{CALL_LIMIT};
+    ghost use Rattle.rate_desk.specs.Call.{HasStay, may_change, is_done};
+    ghost use Rattle.rate_desk.specs.Trace.{empty_base, base_with};
+    ghost use Rattle.rate_desk.specs.Answer.{IsAnswerTo};
+    ghost use Rattle.rate_desk.specs.Standing.{Stand, IsStand};
 
-    /// Nobody is present, and no picture is wanted.
+    /// No calls, and nothing is live.
     pub fn new() -> Standing
-        ensures present { result.present ≡ [] }
-        ensures gate { result.gate ≡ new_gate }
-        ensures stand { IsStand result.present result.bounds }
+        ensures whole { result.whole ≡ empty_base }
+        ensures stand { IsStand result.whole result.bounds }
     {
         Standing {
-            present: ArrayVec::new(),
+            whole: Base::new(),
             bounds: Bounds::new(),
-            gate: PliGate::new(),
         }
+    }
+
+    /// What the calls so far come to.
+    pub fn whole(&self) -> &Base
+        ensures value { result.now ≡ self.now.whole }
+        ensures stand { IsStand self.now.whole self.now.bounds }
+    {
+        &self.whole
     }
 
     /// The live requests with what is announced for them.
     pub fn bounds(&self) -> &Bounds
         ensures value { result.now ≡ self.now.bounds }
-        ensures stand { IsStand self.now.present self.now.bounds }
+        ensures stand { IsStand self.now.whole self.now.bounds }
     {
         &self.bounds
     }
 
-    /// Why a call isn't done; `None` where it is.
-    fn refusal(&self, call: &Call) -> Option<Answer>
-        ensures { result ≡ refusal_of self.now.present call.now }
-    {
-        refusal(self.present.as_slice(), call)
-    }
-
-    /// How many will be present behind a call.
-    pub fn count_behind(&self, call: &Call) -> usize
-        requires { HasStay call.now }
-        ensures count { result ≡ length (present_with self.now.present call.now) }
-        ensures few { result ≤ PRESENT_LIMIT }
-    {
-        let count = self.present.len();
-        match self.refusal(call) {
-            Some(_) => count,
-            None => count_by(count, call),
-        }
-    }
-
-    /// Answers a call: it is refused, and changes nothing, or it is done.
-    pub fn answer(&mut self, gap: u64, call: &Call) -> Answer
-        requires { HasStay call.now }
-        ensures { IsAnswered gap self.old call.now self.new result }
-    {
-        match self.refusal(call) {
-            Some(refusal) => refusal,
-            None => self.take_in(gap, call),
-        }
-    }
-
-    /// Does a call that isn't refused.
-    fn take_in(&mut self, gap: u64, call: &Call) -> Answer
+    /// Answers a call, and takes it in: it is refused, or it is done.
+    pub fn answer(&mut self, gap: u64, request_ms: u64, call: &Call) -> Answer
         requires stays { HasStay call.now }
-        requires accepted { refusal_of self.old.present call.now ≡ None }
-        ensures answer { IsDoneAt gap self.old.gate call.now self.new.bounds result }
-        ensures present { self.new.present ≡ present_by self.old.present call.now }
-        ensures gate { self.new.gate ≡ gate_by gap self.old.gate call.now }
-        ensures stand { IsStand self.new.present self.new.bounds }
+        requires room { self.old.whole.calls < CALL_LIMIT }
+        ensures owed { IsAnswerTo gap request_ms self.old.whole call.now result }
+        ensures whole { self.new.whole ≡ base_with request_ms self.old.whole (record { call = call.now; answer = result }) }
+        ensures refused { is_done result ≡ false → self.new.bounds ≡ self.old.bounds }
+        ensures quiet { may_change call.now ≡ false → self.new.bounds ≡ self.old.bounds }
+        ensures stand { IsStand self.new.whole self.new.bounds }
     {
-        follow(&mut self.bounds, self.present.as_slice(), call);
-        take_in(&mut self.present, call);
-        let pli = self.gate.take_in(gap, call);
-        let kept = kept_bits(self.bounds.cert());
-        Answer::Done { pli, kept }
+        let answer = owed(&mut self.bounds, &self.whole, gap, request_ms, call);
+        self.whole.take_in(
+            request_ms,
+            &Entry {
+                call: *call,
+                answer,
+            },
+        );
+        answer
     }
 }
 
-/// How many are present behind a call that isn't refused, of so many before it.
-fn count_by(count: usize, call: &Call) -> usize
-    requires few { count ≤ PRESENT_LIMIT }
-    requires some { IsDepart call.now → 1 ≤ count }
-    ensures { result ≡ count_by call.now count }
-{
-    match call {
-        Call::Arrive { .. } => count + 1,
-        Call::Depart { .. } => count - 1,
-        Call::Request { .. } | Call::Pli { .. } | Call::Tick { .. } => count,
-    }
-}
-
-/// Puts or removes the request that a call is about, where it isn't refused.
-fn follow(bounds: &mut Bounds, present: &[Present], call: &Call)
+/// The answer to a call behind these calls: a refusal, or it is done in the live requests.
+fn owed(bounds: &mut Bounds, before: &Base, gap: u64, request_ms: u64, call: &Call) -> Answer
     requires stays { HasStay call.now }
-    requires accepted { refusal_of present.now call.now ≡ None }
-    requires rising { HasRisingOwners present.now }
-    requires numbered { HasStays present.now }
-    requires few { length present.now ≤ PRESENT_LIMIT }
-    requires live { bounds.old.rows ≡ live_requests present.now }
-    requires announced { AnnouncesSmallest bounds.old }
-    ensures live { bounds.new.rows ≡ live_requests (present_by present.now call.now) }
+    requires stand { IsStand before.now bounds.old }
+    ensures owed { IsAnswerTo gap request_ms before.now call.now result }
+    ensures live { bounds.new.rows ≡ live_requests (base_with request_ms before.now (record { call = call.now; answer = result })).present.items }
     ensures announced { AnnouncesSmallest bounds.new }
+    ensures refused { is_done result ≡ false → bounds.new ≡ bounds.old }
+    ensures quiet { may_change call.now ≡ false → bounds.new ≡ bounds.old }
+{
+    match before.refusal(call) {
+        Some(refusal) => refusal,
+        None => done(bounds, before, gap, request_ms, call),
+    }
+}
+
+/// Does a call that isn't refused in the live requests, and answers it.
+fn done(bounds: &mut Bounds, before: &Base, gap: u64, request_ms: u64, call: &Call) -> Answer
+    requires stays { HasStay call.now }
+    requires accepted { refusal_of before.now.present.items call.now ≡ None }
+    requires stand { IsStand before.now bounds.old }
+    ensures done { IsDone gap request_ms before.now call.now result }
+    ensures live { bounds.new.rows ≡ live_requests (present_behind request_ms before.now call.now) }
+    ensures announced { AnnouncesSmallest bounds.new }
+    ensures quiet { may_change call.now ≡ false → bounds.new ≡ bounds.old }
+{
+    let pli = before.goes_up(gap, call);
+    follow(bounds, before, request_ms, call);
+    let kept = kept_bits(bounds.cert());
+    Answer::Done { pli, kept }
+}
+
+/// Puts or removes the requests that a call is about, where it isn't refused.
+fn follow(bounds: &mut Bounds, before: &Base, request_ms: u64, call: &Call)
+    requires stays { HasStay call.now }
+    requires accepted { refusal_of before.now.present.items call.now ≡ None }
+    requires stand { IsStand before.now bounds.old }
+    ensures live { bounds.new.rows ≡ live_requests (present_behind request_ms before.now call.now) }
+    ensures announced { AnnouncesSmallest bounds.new }
+    ensures quiet { may_change call.now ≡ false → bounds.new ≡ bounds.old }
 {
     match *call {
-        Call::Request { owner, tuple, .. } => {
+        Call::Stay {
+            owner,
+            stay,
+            change,
+        } => follow_change(bounds, before, owner, stay, &change),
+        Call::Time {
+            moment,
+            signal: Signal::Expire,
+        } => {
+            let now = before.greatest.max(moment);
+            remove_old(bounds, before.present.as_slice(), request_ms, now);
+        }
+        Call::Time { .. } => {}
+    }
+}
+
+/// Puts or removes the request of an owner, where its change isn't refused.
+fn follow_change(bounds: &mut Bounds, before: &Base, owner: Ssrc, stay: u64, change: &Change)
+    requires stays { 1 ≤ stay }
+    requires accepted { refusal_in before.now.present.items owner.0 stay change.now ≡ None }
+    requires stand { IsStand before.now bounds.old }
+    ensures live { bounds.new.rows ≡ live_requests (present_changed before.now.greatest before.now.present.items owner stay change.now) }
+    ensures announced { AnnouncesSmallest bounds.new }
+    ensures quiet { moves_request change.now ≡ false → bounds.new ≡ bounds.old }
+{
+    match *change {
+        Change::Arrive => {}
+        Change::Request(tuple) => {
             let _changed = bounds.set(owner, tuple).unwrap();
         }
-        Call::Depart { owner, .. } => {
+        Change::Depart => {
             let _removed = bounds.remove(owner);
         }
-        Call::Arrive { .. } | Call::Pli { .. } | Call::Tick { .. } => {}
+    }
+}
+
+/// Removes the requests that are too old, one by one.
+fn remove_old(bounds: &mut Bounds, present: &[Present], request_ms: u64, now: u64)
+    requires rising { HasRisingOwners present.now }
+    requires live { bounds.old.rows ≡ live_requests present.now }
+    requires announced { AnnouncesSmallest bounds.old }
+    ensures live { bounds.new.rows ≡ live_requests (map (without_old request_ms now) present.now) }
+    ensures announced { AnnouncesSmallest bounds.new }
+{
+    for p in present {
+        if is_too_old(p, request_ms, now) {
+            let _removed = bounds.remove(p.owner);
+        }
     }
 }

@@ -21,7 +21,7 @@ fn sends(reply: Result<Reply, HistoryFull>) -> Option<bool> {
 
 #[test]
 fn plis_as_in_example_16(rt: HostRuntime) -> Result<(), Fail> {
-    let mut desk = Desk::new(rt.alloc(), 128, 500)?;
+    let mut desk = Desk::new(rt.alloc(), 500, 0)?;
     assert_eq!(rt; sends(desk.pli(0)), Some(true));
     assert_eq!(rt; sends(desk.pli(100)), Some(false));
     assert_eq!(rt; sends(desk.pli(400)), Some(false));
@@ -32,52 +32,112 @@ fn plis_as_in_example_16(rt: HostRuntime) -> Result<(), Fail> {
     Ok(())
 }
 
-#[test]
-fn history_of_128(rt: HostRuntime) -> Result<(), Fail> {
-    let mut desk = Desk::new(rt.alloc(), 128, 500)?;
-    let arrived = desk.arrive(Ssrc(17), 1)?;
-    assert_eq!(rt; arrived.number, 0);
-    for _ in 0..126_usize {
-        let _reply = desk.tick(0)?;
+/// Done, with no PLI; of the rows of the first word these are announced, by bits.
+fn done(kept: u64) -> Answer {
+    Answer::Done {
+        pli: false,
+        kept: [kept, 0, 0, 0],
     }
-    assert_eq!(rt; desk.tick(0).err(), Some(HistoryFull));
-    assert_eq!(rt; desk.history().len(), 127);
-    let departed = desk.depart(Ssrc(17), 1)?;
-    assert_eq!(rt; departed.number, 127);
-    assert_eq!(rt;
-        departed.answer,
-        Answer::Done {
-            pli: false,
-            kept: 0
-        }
-    );
-    assert_eq!(rt; desk.tick(0).err(), Some(HistoryFull));
+}
+
+/// A desk behind the calls that example 28 begins with: 17 asks, a PLI goes upstream, and 1,030 ticks.
+fn after_1033_calls(rt: &impl Abort, alloc: Global) -> Result<Desk, Fail> {
+    let mut desk = Desk::new(alloc, 500, 0)?;
+    let _reply = desk.arrive(Ssrc(17), 1)?;
+    let _reply = desk.request(Ssrc(17), 1, Tuple::from_word(0x0007_d028))?;
+    assert_eq!(rt; sends(desk.pli(0)), Some(true));
+    for _ in 0..1030_usize {
+        let _recorded = desk.pulse(0)?;
+    }
+    Ok(desk)
+}
+
+#[test]
+fn base_of_example_28(rt: HostRuntime) -> Result<(), Fail> {
+    let mut desk = after_1033_calls(&rt, rt.alloc())?;
+    let base = desk.base();
+    assert_eq!(rt; base.calls, 9);
+    assert_eq!(rt; base.words, 512_040);
+    let present = Present {
+        owner: Ssrc(17),
+        stay: 1,
+        asked: Some(Asked {
+            tuple: Tuple::from_word(0x0007_d028),
+            stamp: 0,
+        }),
+    };
+    assert_eq!(rt; base.present.as_slice(), [present].as_slice());
+    assert_eq!(rt; base.greatest, 0);
+    assert_eq!(rt; base.last_up, Some(0));
+    assert_eq!(rt; base.wanted, false);
+    assert_eq!(rt; desk.history().len(), 1024);
+    assert_eq!(rt; desk.calls(), 1033);
+    assert_eq!(rt; sends(desk.pli(400)), Some(false));
+    assert_eq!(rt; sends(desk.tick(500)), Some(true));
+    Ok(())
+}
+
+/// The owners whose requests are live.
+fn owners(rows: &[Request]) -> (Option<Ssrc>, Option<Ssrc>, usize) {
+    let first = rows.first().map(|r| r.owner);
+    (first, rows.get(1).map(|r| r.owner), rows.len())
+}
+
+#[test]
+fn requests_age_as_in_example_29(rt: HostRuntime) -> Result<(), Fail> {
+    let mut desk = Desk::new(rt.alloc(), 500, 1000)?;
+    let (high, low) = (request(17, 0x01f4_0028), request(18, 0x01d4_c014));
+    let _reply = desk.arrive(Ssrc(17), 1)?;
+    let _reply = ask(&mut desk, 17, 0x01f4_0028)?;
+    let _reply = desk.tick(600)?;
+    let _reply = desk.arrive(Ssrc(18), 2)?;
+    let _reply = desk.request(Ssrc(18), 2, Tuple::from_word(0x01d4_c014))?;
+    let reply = desk.expire(999)?;
+    assert_tells(&rt, &reply, 0b11, &[low, high], &[], &[]);
+    assert_eq!(rt; owners(desk.live()), (Some(Ssrc(17)), Some(Ssrc(18)), 2));
+    let reply = desk.expire(1000)?;
+    assert_tells(&rt, &reply, 0b1, &[low], &[Ssrc(17)], &[]);
+    let reply = desk.expire(1599)?;
+    assert_tells(&rt, &reply, 0b1, &[low], &[], &[]);
+    let reply = desk.expire(1600)?;
+    assert_tells(&rt, &reply, 0, &[], &[Ssrc(18)], &[]);
+    // Their owners stayed present.
+    let reply = desk.request(Ssrc(17), 1, Tuple::from_word(0x0007_d028))?;
+    assert_eq!(rt; reply.answer, done(1));
     Ok(())
 }
 
 #[test]
-fn stays_are_named(rt: HostRuntime) -> Result<(), Fail> {
-    let mut desk = Desk::new(rt.alloc(), 128, 500)?;
+fn a_pulse_is_a_tick(rt: HostRuntime) -> Result<(), Fail> {
+    let mut desk = three_present(rt.alloc())?;
+    let _reply = desk.pli(0)?;
+    let _reply = desk.pli(100)?;
+    let recorded = desk.pulse(500)?;
+    assert_eq!(rt; recorded.number, 5);
+    assert_eq!(rt;
+        recorded.answer,
+        Answer::Done {
+            pli: true,
+            kept: [0, 0, 0, 0]
+        }
+    );
+    assert_eq!(rt; desk.announced().len(), 0);
+    Ok(())
+}
+
+#[test]
+fn stays_of_example_27(rt: HostRuntime) -> Result<(), Fail> {
+    let mut desk = Desk::new(rt.alloc(), 500, 0)?;
     let tuple = Tuple::from_word(0x0007_d028);
-    let done = Answer::Done {
-        pli: false,
-        kept: 0,
-    };
     assert_eq!(rt; desk.depart(Ssrc(17), 1)?.answer, Answer::NotPresent(0));
-    assert_eq!(rt; desk.arrive(Ssrc(17), 1)?.answer, done);
+    assert_eq!(rt; desk.arrive(Ssrc(17), 1)?.answer, done(0));
     assert_eq!(rt; desk.arrive(Ssrc(17), 2)?.answer, Answer::AlreadyPresent(1));
     assert_eq!(rt;
         desk.request(Ssrc(17), 2, tuple)?.answer,
         Answer::NotPresent(1)
     );
     let reply = desk.request(Ssrc(17), 1, tuple)?;
-    assert_eq!(rt;
-        reply.answer,
-        Answer::Done {
-            pli: false,
-            kept: 1
-        }
-    );
+    assert_eq!(rt; reply.answer, done(1));
     assert_eq!(rt; reply.effect.lifted.len(), 0);
     assert_eq!(rt; reply.effect.fresh.len(), 1);
     assert_eq!(rt;
@@ -98,7 +158,7 @@ fn request(owner: u32, word: u32) -> Request {
 
 /// A desk where 17, 18 and 19 are present, and ask for nothing.
 fn three_present(alloc: Global) -> Result<Desk, Fail> {
-    let mut desk = Desk::new(alloc, 128, 500)?;
+    let mut desk = Desk::new(alloc, 500, 0)?;
     for owner in [17, 18, 19] {
         let _reply = desk.arrive(Ssrc(owner), 1)?;
     }
@@ -120,7 +180,7 @@ fn assert_tells(
     lifted: &[Ssrc],
     fresh: &[Request],
 ) {
-    assert_eq!(rt; reply.answer, Answer::Done { pli: false, kept });
+    assert_eq!(rt; reply.answer, done(kept));
     assert_eq!(rt; reply.effect.set.as_slice(), set);
     assert_eq!(rt; reply.effect.lifted.as_slice(), lifted);
     assert_eq!(rt; reply.effect.fresh.as_slice(), fresh);

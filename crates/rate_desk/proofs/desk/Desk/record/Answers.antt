@@ -1,31 +1,87 @@
-use Rattle.std.proofs.Common.{◌≡◌, ◌∷◌, ◌++◌, [], sym, ap, subst, ◌∙◌}
-use Rattle.rate_desk.specs.Trace.{empty_base}
-use Rattle.rate_desk.specs.History.{IsOverLimit}
-use Rattle.rate_desk.specs.State.{DeskState}
+use Rattle.std.proofs.Common.{◌≡◌, ap, sym, subst, ◌∙◌, refl}
+use Rattle.rate_desk.specs.declared.base.Base.{Base}
+use Rattle.rate_desk.specs.State.{DeskState, IsOverLimit, Records}
 use Rattle.rate_desk.specs.Held.{IsHeld}
-use Rattle.rate_desk.proofs.DeskLemmas.{keep_last-whole, held-answered, recorded_within}
+use Rattle.rate_desk.proofs.DeskLemmas.{room_for_call, follows, held-recorded, whole_calls}
 use Rattle.rate_desk.proofs.desk.Desk.record.Goals as goal
 
-room : (c : goal.After-push_back) → ¬ IsOverLimit c.self.inside.history.capacity empty_base c.self.inside.history.items c.args.call
-room c = subst (λ (d : DeskState). ¬ IsOverLimit d.limit empty_base d.history c.args.call) (sym c.self.view_is) c.requires.room
+pub answer-answer-requires-clause-room : goal.answer-answer-requires-clause-room
+answer-answer-requires-clause-room c =
+    let inside = c.self.inside in
+    let d : DeskState = record {
+      gap = inside.gap;
+      request_ms = inside.request_ms;
+      base = inside.base;
+      history = inside.history.items;
+      bounds = inside.standing.bounds;
+    } in
+    room_for_call d inside.history.capacity inside.standing c.args.call.now c.self.invariant
+    (subst (λ (s : DeskState). ¬ IsOverLimit s c.args.call.now) (sym c.self.view_is) c.requires.room)
 
-items : (c : goal.After-push_back) → c.push_back.new.self.items
-    ≡ c.self.inside.history.items ++ record { call = c.args.call; answer = c.answer-answer.result } ∷ []
-items c =
-    ap (λ b. b.items) c.push_back.ensures.items
-    ∙ keep_last-whole c.self.inside.history.capacity (c.self.inside.history.items ++ record { call = c.args.call; answer = c.answer-answer.result } ∷ [])
-    (recorded_within c.self.inside.gap c.self.inside.history.capacity c.self.inside.history.items c.self.inside.standing c.answer-answer.new.self
-    c.args.call c.answer-answer.result c.self.invariant (room c))
+pub list-requires-clause-follows : goal.list-requires-clause-follows
+list-requires-clause-follows c =
+    let inside = c.self.inside in
+    let d : DeskState = record {
+      gap = inside.gap;
+      request_ms = inside.request_ms;
+      base = inside.base;
+      history = inside.history.items;
+      bounds = inside.standing.bounds;
+    } in
+    follows d inside.history.capacity inside.standing c.answer-answer.new.self c.args.call.now c.answer-answer.result c.self.invariant
+    (subst (λ (s : DeskState). ¬ IsOverLimit s c.args.call.now) (sym c.self.view_is) c.requires.room)
+    c.requires.stays c.answer-answer.ensures.owed
 
-held : (c : goal.After-push_back) → IsHeld c.self.inside.gap c.push_back.new.self.capacity c.push_back.new.self.items c.answer-answer.new.self
+held : (c : goal.After-list) → IsHeld (record {
+  gap = c.self.inside.gap;
+  request_ms = c.self.inside.request_ms;
+  base = c.list.new.base;
+  history = c.list.new.history.items;
+  bounds = c.answer-answer.new.self.bounds;
+}) c.list.new.history.capacity c.answer-answer.new.self
 held c =
-    subst (λ limit. IsHeld c.self.inside.gap limit c.push_back.new.self.items c.answer-answer.new.self) (sym (ap (λ b. b.capacity) c.push_back.ensures.items))
-    (subst (λ es. IsHeld c.self.inside.gap c.self.inside.history.capacity es c.answer-answer.new.self) (sym (items c))
-    (held-answered c.self.inside.gap c.self.inside.history.capacity c.self.inside.history.items c.self.inside.standing c.answer-answer.new.self
-    c.args.call c.answer-answer.result c.self.invariant (room c) c.answer-answer.ensures))
+    let inside = c.self.inside in
+    let d : DeskState = record {
+      gap = inside.gap;
+      request_ms = inside.request_ms;
+      base = inside.base;
+      history = inside.history.items;
+      bounds = inside.standing.bounds;
+    } in
+    held-recorded d inside.history.capacity inside.standing c.answer-answer.new.self c.args.call.now c.answer-answer.result c.self.invariant
+    (subst (λ (s : DeskState). ¬ IsOverLimit s c.args.call.now) (sym c.self.view_is) c.requires.room)
+    c.requires.stays c.answer-answer.ensures.owed
+    c.list.new.base c.list.new.history.items c.list.new.history.capacity c.list.ensures.capacity c.answer-answer.ensures.whole
+    c.answer-answer.ensures.stand c.list.ensures.stands c.list.ensures.base
 
 pub invariant_of-self : goal.invariant_of-self
 invariant_of-self c = held c
 
 pub returns-clause-legal : goal.returns-clause-legal
 returns-clause-legal c = (held c).legal
+
+pub returns-clause-recorded : goal.returns-clause-recorded
+returns-clause-recorded c =
+    let inside = c.self.inside in
+    let d : DeskState = record {
+      gap = inside.gap;
+      request_ms = inside.request_ms;
+      base = inside.base;
+      history = inside.history.items;
+      bounds = inside.standing.bounds;
+    } in
+    let new : DeskState = record {
+      gap = inside.gap;
+      request_ms = inside.request_ms;
+      base = c.list.new.base;
+      history = c.list.new.history.items;
+      bounds = c.answer-answer.new.self.bounds;
+    } in
+    subst (λ (s : DeskState). Records s c.args.call.now c.whole.result.now.calls c.answer-answer.result new) c.self.view_is
+    (record {
+      numbered = ap (λ (b : Base). b.calls) c.whole.ensures.value
+          ∙ whole_calls d inside.history.capacity inside.standing c.self.invariant;
+      stands = c.list.ensures.stands;
+      gap = refl;
+      request_ms = refl;
+    })
