@@ -81,12 +81,17 @@ impl Bounds {
         ensures announced { AnnouncesSmallest self.new }
         ensures steps { tuple_of self.old.rows owner.0 ≡ None → All (λ r. ¬ StopsMedia r) self.new.rows
             → OnOk result (self.new.steps ≤ dropped_count (announced_of self.old) (announced_of self.new) + 4) }
-        ensures each_step { tuple_of self.old.rows owner.0 ≡ None → All (λ r. ¬ StopsMedia r) self.new.rows
-            → OnOk result (dropped_count (announced_of self.old) (announced_of self.new) ≤ self.new.steps + 1) }
-        ensures each_more { All (λ r. ¬ StopsMedia r) self.old.rows → All (λ r. ¬ StopsMedia r) self.new.rows
-            → OnOk result (length (announced_of self.new) ≤ length (announced_of self.old) + self.new.steps + 1) }
+        ensures each_step { tuple_of self.old.rows owner.0 ≡ None
+            → All (λ r. ¬ StopsMedia r) self.new.rows
+            → OnOk result
+            (dropped_count (announced_of self.old) (announced_of self.new) ≤ self.new.steps + 1) }
+        ensures each_more { All (λ r. ¬ StopsMedia r) self.old.rows
+            → All (λ r. ¬ StopsMedia r) self.new.rows
+            → OnOk result
+            (length (announced_of self.new) ≤ length (announced_of self.old) + self.new.steps + 1) }
         ensures no_step { tuple_of self.old.rows owner.0 ≡ Some tuple → self.new.steps ≡ 0 }
-        ensures bounded { OnOk result (self.new.steps ≤ LIVE_LIMIT * (LIVE_LIMIT + 4) + LIVE_LIMIT + 4) }
+        ensures bounded { OnOk result
+            (self.new.steps ≤ LIVE_LIMIT * (LIVE_LIMIT + 4) + LIVE_LIMIT + 4) }
     {
         let asked = asked_by(self.rows.as_slice(), owner);
         if asked.is_none() && self.rows.len() == LIVE_LIMIT {
@@ -112,10 +117,12 @@ impl Bounds {
         ensures unchanged { IfNone result (self.new ≡ self.old) }
         ensures removed { Puts self.old.rows self.new.rows owner.0 None }
         ensures shrinks { OnSome result (length self.new.rows + 1 ≡ length self.old.rows) }
-        ensures no_step { All (λ r. ¬ StopsMedia r) self.old.rows → tuple_of (announced_of self.old) owner.0 ≡ None
+        ensures no_step { All (λ r. ¬ StopsMedia r) self.old.rows
+            → tuple_of (announced_of self.old) owner.0 ≡ None
             → OnSome result (self.new.steps ≡ 0) }
         ensures each_more { All (λ r. ¬ StopsMedia r) self.old.rows
-            → OnSome result (length (announced_of self.new) ≤ length (announced_of self.old) + self.new.steps) }
+            → OnSome result
+            (length (announced_of self.new) ≤ length (announced_of self.old) + self.new.steps) }
         ensures bounded { OnSome result (self.new.steps ≤ length self.new.rows * (LIVE_LIMIT + 4)) }
         ensures rising { HasRisingOwners self.new.rows }
         ensures within { length self.new.rows ≤ LIVE_LIMIT }

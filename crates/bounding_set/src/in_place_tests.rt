@@ -12,8 +12,9 @@ use std::process::Abort;
 use std::test::Fail;
 use tmmbr_tuple::{Ssrc, Tuple};
 
-/// How many tests the plain walk takes over all rows; `None` where a rate is 0, and all rows are looked
-/// through for the stops. That way finds the announced requests, and their certificate is the same.
+/// How many tests the plain walk takes over all rows; `None` where a rate is 0, and all rows are
+/// looked through for the stops. That way finds the announced requests, and their certificate is the
+/// same.
 fn assert_as_walked(rt: &impl Abort, alloc: Global, bounds: &Bounds) -> Result<Option<u32>, Fail> {
     let rows = bounds.rows();
     let mut stops = ArrayVec::new();
@@ -71,8 +72,9 @@ fn in_place_equals_definition(rt: HostRuntime) -> Result<(), Fail> {
     Ok(())
 }
 
-/// The call of this number: first each of 256 owners comes, then they change and go. In each second hundred one of
-/// eight owners asks now and then for something that hides most of the others; then these eight go.
+/// The call of this number: first each of 256 owners comes, then they change and go. In each second
+/// hundred one of eight owners asks now and then for something that hides most of the others; then
+/// these eight go.
 fn call(generator: &mut Generator, number: usize) -> (Request, bool) {
     let hides = number / 100 % 2 == 1 && generator.once_in(20);
     let mut asked = match hides {
@@ -118,8 +120,8 @@ fn steps_of_sixty_four_owners(rt: HostRuntime) -> Result<(), Fail> {
     for i in 1..=64_u16 {
         let _changed = bounds.set(Ssrc(u32::from(i)), tuple_of_64(i))?;
     }
-    // The last comes behind the others and hides none: one test of it, and one of the line before it. The walk
-    // looks at each.
+    // The last comes behind the others and hides none: one test of it, and one of the line before
+    // it. The walk looks at each.
     assert_eq!(rt; bounds.steps(), 2);
     let walk_steps = assert_as_walked(&rt, rt.alloc(), &bounds)?;
     assert!(rt; walk_steps.is_some_and(|steps| steps >= 62));
@@ -127,8 +129,8 @@ fn steps_of_sixty_four_owners(rt: HostRuntime) -> Result<(), Fail> {
     // One bit per second without overhead: only the farthest of the others still bounds.
     let one_bit = Tuple::from_word(0x0000_0200);
     assert_eq!(rt; bounds.set(Ssrc(64), one_bit), Ok(true));
-    // It goes from behind all others, which hides nothing. Then one test of it, 62 of lines that it hides, and one of
-    // the line that it doesn't.
+    // It goes from behind all others, which hides nothing. Then one test of it, 62 of lines that it
+    // hides, and one of the line that it doesn't.
     assert_eq!(rt; bounds.steps(), 64);
     let lines = printed(rt.alloc(), &bounds)?;
     assert_eq!(rt; lines.len(), 64);
@@ -143,8 +145,8 @@ fn steps_of_sixty_four_owners(rt: HostRuntime) -> Result<(), Fail> {
     assert_eq!(rt; bounds.set(Ssrc(64), tuple_of_64(64)), Ok(true));
     let after = printed(rt.alloc(), &bounds)?;
     assert_eq!(rt; after.as_slice(), before.as_slice());
-    // The 62 that were hidden came back from the least overhead on: two tests of the first, which has no line before
-    // it, and three of each other one. Then two of owner 64.
+    // The 62 that were hidden came back from the least overhead on: two tests of the first, which
+    // has no line before it, and three of each other one. Then two of owner 64.
     assert_eq!(rt; bounds.steps(), 2 + 61 * 3 + 2);
     // Nobody to be removed leaves that.
     assert_eq!(rt; bounds.remove(Ssrc(65)), None);

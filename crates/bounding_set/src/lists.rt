@@ -113,7 +113,8 @@ impl Generator {
         Tuple::new(0, mantissa.wrapping_add(5_000), overhead).unwrap_or_default()
     }
 
-    /// On or a little above the lines of rate 65,500 + i * i and overhead i, each of which bounds somewhere.
+    /// On or a little above the lines of rate 65,500 + i * i and overhead i, each of which bounds
+    /// somewhere.
     fn many_lines(&mut self) -> Tuple {
         let overhead = self.next() % 257;
         let number = u32::from(overhead);

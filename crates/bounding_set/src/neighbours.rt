@@ -14,7 +14,8 @@ use rate_cert::{Implied, Kept, Request};
 pub fn implied_by(announced: &[Request], kept: &[Kept], place: u16, overhead: u16) -> Implied
     requires as_many { length kept.now ≡ length announced.now }
     requires in_order { AllPairs Follows announced.now }
-    ensures { (listed : List Listed) → Lists announced.now kept.now listed → result ≡ implied_by listed place overhead }
+    ensures { (listed : List Listed) → Lists announced.now kept.now listed
+        → result ≡ implied_by listed place overhead }
 {
     if kept.is_empty() {
         return Implied {
@@ -46,8 +47,10 @@ fn implied_above(announced: &[Request], kept: &[Kept], place: u16, overhead: u16
     requires as_many { length kept.now ≡ length announced.now }
     requires in_order { AllPairs Follows announced.now }
     requires some { 0 < length announced.now }
-    requires above { (d : RateRequest) → (slice_index_or announced.now 0 d).tuple.overhead < overhead }
-    ensures { (first : Listed) (behind : List Listed) → Lists announced.now kept.now (first ∷ behind)
+    requires above { (d : RateRequest)
+        → (slice_index_or announced.now 0 d).tuple.overhead < overhead }
+    ensures { (first : Listed) (behind : List Listed)
+        → Lists announced.now kept.now (first ∷ behind)
         → result ≡ implied_above place overhead first behind }
 {
     let next = count_upto(announced, overhead);
@@ -79,7 +82,8 @@ fn count_upto(announced: &[Request], overhead: u16) -> usize
     requires { AllPairs Follows announced.now }
     ensures within { result ≤ length announced.now }
     ensures upto { AllWithin (λ l. l.tuple.overhead ≤ overhead) announced.now 0 result }
-    ensures above { AllWithin (λ l. overhead < l.tuple.overhead) announced.now result (length announced.now) }
+    ensures above { AllWithin (λ l. overhead < l.tuple.overhead) announced.now
+        result (length announced.now) }
 {
     announced.partition_point(|line| line.tuple.overhead <= overhead)
 }

@@ -32,7 +32,8 @@ pub fn splice(lines: &mut ArrayVec<Request, MAX_REQUESTS>, x: &Request, count: &
     ensures least_new { IsTrue result → (z : RateRequest) → Covers lines.old.items z → HasSameLine x.now z
         → Any (λ l. HasSameLine x.now l × (x.now.owner.0 ≤ l.owner.0)) lines.old.items }
     ensures one_more { length lines.new.items ≤ length lines.old.items + 1 }
-    ensures untested { count.new ≡ count.old → length lines.old.items < length lines.new.items → length lines.new.items ≤ 1 }
+    ensures untested { count.new ≡ count.old → length lines.old.items < length lines.new.items
+        → length lines.new.items ≤ 1 }
     ensures counted { count.old ≤ count.new }
     ensures few { result ≡ false → count.new ≤ count.old + 4 }
     ensures bounded { count.new ≤ count.old + length lines.old.items + 4 }
