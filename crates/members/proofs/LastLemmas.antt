@@ -14,7 +14,7 @@ use Rattle.members.specs.Presence.{is_overdue_at, is_present_at, source_at}
 use Rattle.members.specs.Settings.{Configuration, IsInRange, IsLegAmong}
 use Rattle.members.specs.Stays.{Told, told, leave, left, leaving, is_of, ended, begins_with, begun, turn_from, coming_count, coming_legs}
 use Rattle.members.specs.Room.{RoomState, Step, after_leaving, gone, leg_at, no_leg, is_selected, takes_turn, switched, unstarted, new_room}
-use Rattle.members.specs.Calls.{Call, Hear, Bye, Tick, Select, Receive, Report, MakeBlock, step_of, room_of, if_accepted, room_after, orders_after, accepted, moment_of, heard_by, is_recent, is_present_after, comes_by, comings_from, comings, stay_after, IsOnePresence}
+use Rattle.members.specs.Calls.{Call, Hear, Bye, Tick, Select, Receive, Report, MakeBlock, step_of, room_of, if_accepted, room_after, orders_after, accepted, moment_of, heard_by, is_recent, is_present_after, comes_by, comings_from, stay_after, IsOnePresence}
 use Rattle.members.proofs.CallLemmas.{IfKeeps, Keeps, keeps, Before, before_new, presence_law}
 use Rattle.members.proofs.StandLemmas.{Matches, both_present, Stand, StandsIn, IfStands, stands, stands_new, stand_law, stand_leaving, equal_of, same_test}
 use Rattle.members.proofs.ReceivedLemmas.{present_recent}

@@ -155,8 +155,10 @@ fn is_taken(
 /// The first fault of the endpoints.
 fn check_endpoints(parts: &Parts) -> Result<(), SettingsFault>
     ensures { MatchResult result
-        (λ _. first_fault (flat_map endpoint_checks (enumerate_from 0 parts.now.endpoints.items)) ≡ None)
-        (λ f. first_fault (flat_map endpoint_checks (enumerate_from 0 parts.now.endpoints.items)) ≡ Some f) }
+        (λ _. first_fault
+        (flat_map endpoint_checks (enumerate_from 0 parts.now.endpoints.items)) ≡ None)
+        (λ f. first_fault
+        (flat_map endpoint_checks (enumerate_from 0 parts.now.endpoints.items)) ≡ Some f) }
 {
     for (k, ssrc) in parts.endpoints.iter().enumerate() {
         if number_under(*ssrc, SSRCS).is_none() {
@@ -170,8 +172,10 @@ fn check_endpoints(parts: &Parts) -> Result<(), SettingsFault>
 fn check_leg(parts: &Parts, k: usize) -> Result<(), SettingsFault>
     requires { k < length parts.now.legs.items }
     ensures { MatchResult result
-        (λ _. (d : LegParts) → first_fault (leg_checks parts.now (k, slice_index_or parts.now.legs.items k d)) ≡ None)
-        (λ f. (d : LegParts) → first_fault (leg_checks parts.now (k, slice_index_or parts.now.legs.items k d)) ≡ Some f) }
+        (λ _. (d : LegParts) → first_fault
+        (leg_checks parts.now (k, slice_index_or parts.now.legs.items k d)) ≡ None)
+        (λ f. (d : LegParts) → first_fault
+        (leg_checks parts.now (k, slice_index_or parts.now.legs.items k d)) ≡ Some f) }
 {
     let leg = parts.legs[k];
     let endpoints = parts.endpoints.len() as u64;
@@ -191,8 +195,10 @@ fn check_leg(parts: &Parts, k: usize) -> Result<(), SettingsFault>
 /// The first fault of the legs.
 fn check_legs(parts: &Parts) -> Result<(), SettingsFault>
     ensures { MatchResult result
-        (λ _. first_fault (flat_map (leg_checks parts.now) (enumerate_from 0 parts.now.legs.items)) ≡ None)
-        (λ f. first_fault (flat_map (leg_checks parts.now) (enumerate_from 0 parts.now.legs.items)) ≡ Some f) }
+        (λ _. first_fault
+        (flat_map (leg_checks parts.now) (enumerate_from 0 parts.now.legs.items)) ≡ None)
+        (λ f. first_fault
+        (flat_map (leg_checks parts.now) (enumerate_from 0 parts.now.legs.items)) ≡ Some f) }
 {
     for k in 0..parts.legs.len() {
         check_leg(parts, k)?;
@@ -229,7 +235,8 @@ fn source_at(parts: &Parts, place: usize) -> u64
 fn is_single(parts: &Parts, place: usize, count: usize) -> bool
     requires within { place < count }
     requires counted { count ≡ 1 + length parts.now.endpoints.items + length parts.now.legs.items }
-    ensures { result ≡ not (list_any (λ y. y == slice_index (sources parts.now) place) (drop (place + 1) (sources parts.now))) }
+    ensures { result ≡ not (list_any (λ y. y == slice_index (sources parts.now) place)
+        (drop (place + 1) (sources parts.now))) }
 {
     let source = source_at(parts, place);
     for other in place + 1..count {

@@ -80,7 +80,8 @@ impl Draft {
     /// Appends the orders. Refused where they are short, or where no memory is left; then nothing is
     /// appended.
     pub fn append_to(&self, orders: &mut Vec<Order>) -> Result<(), AllocError>
-        ensures ok { OnOk result (IsSomeAnd self.now (λ told. orders.new.items ≡ orders.old.items ++ told)) }
+        ensures ok { OnOk result
+            (IsSomeAnd self.now (λ told. orders.new.items ≡ orders.old.items ++ told)) }
         ensures err { OnErr result (orders.new.items ≡ orders.old.items) }
     {
         if self.is_short {

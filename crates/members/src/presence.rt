@@ -34,7 +34,8 @@ impl Endpoint {
 
     /// The moment from which on it is overdue, or the last moment of all.
     pub fn overdue_from(&self, timeout: u64) -> u64
-        ensures before { (moment : ℕ) → moment < result → is_overdue timeout moment self.now ≡ false }
+        ensures before { (moment : ℕ) → moment < result
+            → is_overdue timeout moment self.now ≡ false }
         ensures first { result < LAST_MOMENT → is_overdue timeout result self.now ≡ true }
     {
         match self.heard {
@@ -70,7 +71,8 @@ pub fn is_present_at(endpoints: &[Endpoint], number: usize) -> bool
 /// The first moment at which an endpoint is overdue; the last moment of all where there is none before it.
 pub fn first_overdue(endpoints: &[Endpoint], timeout: u64) -> u64
     ensures before { (moment : ℕ) → moment < result → NobodyOverdue timeout moment endpoints.now }
-    ensures first { result < LAST_MOMENT → list_any (is_overdue timeout result) endpoints.now ≡ true }
+    ensures first { result < LAST_MOMENT
+        → list_any (is_overdue timeout result) endpoints.now ≡ true }
 {
     let mut first = LAST_MOMENT;
     for endpoint in endpoints {

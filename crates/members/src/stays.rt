@@ -122,7 +122,8 @@ pub fn leave_overdue(
     requires { length legs.old ≤ MAX_LEGS }
     ensures endpoints { endpoints.new ≡ (leaving timeout moment endpoints.old legs.old).endpoints }
     ensures legs { legs.new ≡ (leaving timeout moment endpoints.old legs.old).legs }
-    ensures orders { Tells draft.old (leaving timeout moment endpoints.old legs.old).orders draft.new }
+    ensures orders { Tells draft.old
+        (leaving timeout moment endpoints.old legs.old).orders draft.new }
 {
     for endpoint in 0..endpoints.len() {
         if is_overdue_at(endpoints, timeout, moment, endpoint) {
@@ -152,8 +153,10 @@ fn begin_stay(
     draft: &mut Draft,
 ) -> bool
     ensures begins { result ≡ begins_with endpoints.now endpoint leg.old }
-    ensures leg { leg.new ≡ (if result then record leg.old { stay = next; turn = turn_from next leg.old } else leg.old) }
-    ensures orders { Tells draft.old (if result then beginning number next leg.old else []) draft.new }
+    ensures leg { leg.new ≡ (if result
+        then record leg.old { stay = next; turn = turn_from next leg.old } else leg.old) }
+    ensures orders { Tells draft.old
+        (if result then beginning number next leg.old else []) draft.new }
 {
     if !leg.begins_with(endpoints, endpoint) {
         return false;
@@ -185,7 +188,8 @@ pub fn begin_stays(
     requires few { length legs.old ≤ MAX_LEGS }
     requires numbered { next ≤ MAX_STAY }
     ensures legs { legs.new ≡ coming_legs endpoints.now endpoint next legs.old }
-    ensures orders { Tells draft.old (coming_orders endpoints.now endpoint next legs.old) draft.new }
+    ensures orders { Tells draft.old
+        (coming_orders endpoints.now endpoint next legs.old) draft.new }
 {
     let mut next = next;
     for (number, leg) in legs.iter_mut().enumerate() {
@@ -244,7 +248,8 @@ pub fn leave_present(
     requires known { endpoint < length endpoints.old }
     requires few { length legs.old ≤ MAX_LEGS }
     ensures present { is_present_at endpoints.old endpoint ≡ true
-        → (endpoints.new ≡ with_heard endpoints.old endpoint None) × (legs.new ≡ map (ended endpoint) legs.old)
+        → (endpoints.new ≡ with_heard endpoints.old endpoint None)
+        × (legs.new ≡ map (ended endpoint) legs.old)
         × Tells draft.old (endings endpoint legs.old) draft.new }
     ensures absent { is_present_at endpoints.old endpoint ≡ false
         → (endpoints.new ≡ endpoints.old) × (legs.new ≡ legs.old) × (draft.new ≡ draft.old) }
@@ -267,13 +272,15 @@ pub fn select_leg(
     requires numbered { next ≤ MAX_STAY }
     ensures same { IsTrue (is_selected on (leg_at legs.old number))
         → (result ≡ Ok next) × (legs.new ≡ legs.old) × (draft.new ≡ draft.old) }
-    ensures spent { is_selected on (leg_at legs.old number) ≡ false → takes_turn on (leg_at legs.old number) ≡ true → MAX_STAY ≤ next
+    ensures spent { is_selected on (leg_at legs.old number) ≡ false
+        → takes_turn on (leg_at legs.old number) ≡ true → MAX_STAY ≤ next
         → result ≡ Err RoomFault.StaysSpent }
     ensures switched { is_selected on (leg_at legs.old number) ≡ false
         → (takes_turn on (leg_at legs.old number) && nat_le MAX_STAY next) ≡ false
         → (result ≡ Ok (next_after on next (leg_at legs.old number)))
         × (legs.new ≡ slice_set legs.old number (switched on next (leg_at legs.old number)))
-        × (Tells draft.old (row_order number (switched on next (leg_at legs.old number)))) draft.new }
+        × Tells draft.old
+        (row_order number (switched on next (leg_at legs.old number))) draft.new }
 {
     let at = usize::from(number);
     let mut leg = legs[at];

@@ -46,7 +46,8 @@ fn unstarted_legs(alloc: Global, legs: &[LegSettings]) -> Result<Vec<LegStay>, A
 impl Table {
     /// The table of a new room.
     pub fn new(alloc: Global, settings: &Settings) -> Result<Table, AllocError>
-        ensures endpoints { IfOk result (λ t. t.endpoints.items ≡ map absent settings.now.endpoints) }
+        ensures endpoints { IfOk result
+            (λ t. t.endpoints.items ≡ map absent settings.now.endpoints) }
         ensures legs { IfOk result (λ t. t.legs.items ≡ map unstarted settings.now.legs) }
     {
         Ok(Table {
