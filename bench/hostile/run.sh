@@ -12,27 +12,27 @@ work=$(mktemp -d /tmp/bench_hostile.XXXXXX)
 trap 'rm -rf "$work"' EXIT
 
 # The same text so many times.
-times() { printf "%0.s$2" $(seq "$1"); }
+repeat() { printf "%0.s$2" $(seq "$1"); }
 
 # A file of this line again and again, about so many MB.
 input() {
     local line count
     line=$(cat)
     count=$(( size * 1000000 / (${#line} + 1) + 1 ))
-    yes "$line" | head -n "$count" > "$work/$1"
+    head -n "$count" < <(yes "$line") > "$work/$1"
 }
 
 # A receiver report of 17 with one block.
 printf '81c9000700000011000000100000000000000008000000a8000a80000000147a' | input report
 # A TMMBR of 17 with 8,000 entries: of another media sender, and of the one that is asked for.
-{ printf '83cd3e82''00000011''00000000'; times 8000 '000000020007d028'; } | input tmmbr_of_others
-{ printf '83cd3e82''00000011''00000000'; times 8000 '000000010007d028'; } | input tmmbr
+{ printf '83cd3e82''00000011''00000000'; repeat 8000 '000000020007d028'; } | input tmmbr_of_others
+{ printf '83cd3e82''00000011''00000000'; repeat 8000 '000000010007d028'; } | input tmmbr
 # A source description of 65,000 bytes: one source with 32,494 items without text, and four bytes of zeros.
-{ printf '81ca3f79''00000011'; times 32494 '0100'; printf '00000000'; } | input sdes
+{ printf '81ca3f79''00000011'; repeat 32494 '0100'; printf '00000000'; } | input sdes
 # 16,000 packets of four bytes, of no known type.
-times 16000 '80cc0000' | input compound
+repeat 16000 '80cc0000' | input compound
 # 8,000 goodbyes of one source.
-times 8000 '81cb000100000012' | input goodbyes
+repeat 8000 '81cb000100000012' | input goodbyes
 
 for name in report tmmbr_of_others tmmbr sdes compound goodbyes; do
     for _ in $(seq "$runs"); do

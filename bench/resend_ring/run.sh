@@ -1,5 +1,5 @@
 #!/usr/bin/env bash
-# Prints the times of finds in a full ring: what is there, what is missing, and a NACK of 64 KB.
+# Prints the time that a ring of 512 packets takes to look up all that a NACK of 64 KB names.
 # Wants rt on the path. An argument, if any, is how many NACKs are timed at once.
 set -euo pipefail
 

@@ -1,8 +1,8 @@
 -- What is written, and what its body is read as.
 use Rattle.std.proofs.Common.{◌≡◌, ◌∙◌, ℕ, ◌+◌, ◌*◌, ◌/◌, ◌%◌, ◌^◌, ◌<◌, ◌≤◌, List, [], ◌∷◌, ◌++◌, length, refl, sym, ap, subst, arith, append_assoc, append-nil}
 use Rattle.std.specs.List.{flat_map, All}
-use Rattle.rtcp_compound.specs.Content.{Content, feedback, shown}
-use Rattle.rtcp_compound.specs.Grammar.{Packet, ReadsRtcp}
+use Rattle.rtcp_compound.specs.Content.{feedback, shown}
+use Rattle.rtcp_compound.specs.Grammar.{ReadsRtcp}
 use Rattle.rtcp_compound.specs.Written.{Appends, unpadded}
 use Rattle.rtcp_compound.proofs.WriterLemmas.{appended}
 use Rattle.rtcp_compound.proofs.LawLemmas.{reads_alone, reads_written}
