@@ -12,7 +12,7 @@ use Rattle.rtcp_compound.proofs.PacketLemmas.{Takes, IsBytes, packet_again, pack
 use Rattle.rtcp_compound.proofs.FaultLemmas.{fault_again}
 
 -- what a packet's reading gave
-read_cases : (r : Result (Packet × List ℕ) RtcpFault) → ((x : Packet × List ℕ) × (r ≡ Ok x)) ⊎ ((f : RtcpFault) × (r ≡ Err f))
+pub read_cases : (r : Result (Packet × List ℕ) RtcpFault) → ((x : Packet × List ℕ) × (r ≡ Ok x)) ⊎ ((f : RtcpFault) × (r ≡ Err f))
 read_cases (Ok x) = inl (x, refl)
 read_cases (Err f) = inr (f, refl)
 

@@ -3,6 +3,7 @@ pub mod SdesLemmas
 pub mod HeaderLemmas
 pub mod ChunkLemmas
 pub mod PacketLemmas
+pub mod FrameLemmas
 pub mod FaultLemmas
 pub mod DatagramLemmas
 pub mod EntryLemmas

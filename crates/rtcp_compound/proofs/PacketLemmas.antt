@@ -13,11 +13,11 @@ use Rattle.rtcp_compound.proofs.ChunkLemmas.{chunks_take, chunks_again}
 
 -- ---- bodies
 
-guard_none : (b : Bool) (f : RtcpFault) → cond b (Some f) None ≡ None → b ≡ false
+pub guard_none : (b : Bool) (f : RtcpFault) → cond b (Some f) None ≡ None → b ≡ false
 guard_none true f e = cc
 guard_none false f e = refl
 
-wanted : (b : Bool) (f : RtcpFault) → cond b None (Some f) ≡ None → b ≡ true
+pub wanted : (b : Bool) (f : RtcpFault) → cond b None (Some f) ≡ None → b ≡ true
 wanted true f e = refl
 wanted false f e = cc
 

@@ -4,4 +4,5 @@ pub mod Entries
 pub mod Report
 pub mod Content
 pub mod Reading
+pub mod Left
 pub mod Written

@@ -1,11 +1,9 @@
 -- How the packets of a datagram are read: the packet at the front, or the first of seven faults. What the faults are is
 -- said in Fault.
-use Rattle.std.specs.Prelude.{◌≡◌, ◌==◌, ℕ, zero, suc, ◌+◌, ◌-◌, ◌*◌, ◌/◌, ◌%◌, not, ◌&&◌, ◌||◌, Bool, nat_lt, List, [], ◌∷◌, length, take, drop, map, slice_index, Option, None, Some, Result, Ok, Err, MatchResult, if◌then◌else◌, option_and_then, is_some}
+use Rattle.std.specs.Prelude.{◌≡◌, ◌==◌, ℕ, zero, suc, ◌+◌, ◌-◌, ◌*◌, ◌/◌, ◌%◌, not, ◌&&◌, ◌||◌, Bool, nat_lt, List, [], ◌∷◌, length, take, drop, slice_index, Option, None, Some, Result, Ok, Err, MatchResult, if◌then◌else◌, option_and_then, is_some}
 use Rattle.rtcp_compound.specs.declared.fault.RtcpFault.{RtcpFault}
 use Rattle.rtcp_compound.specs.declared.fault.RtcpFault.TheVariants.{Short, Version, Length, PaddingNotLast, Padding, CountOver, SdesUnended}
 use Rattle.rtcp_compound.specs.declared.packet.Packet.{Packet as ReadPacket}
-use Rattle.rtcp_compound.specs.declared.packets.Packets.{Packets}
-use Rattle.rtcp_compound.specs.Content.{Content, shown}
 use Rattle.rtcp_compound.specs.Fault.{size_of}
 use Rattle.rtcp_compound.specs.Grammar.{Packet}
 
@@ -96,14 +94,22 @@ packets_within (suc n) bytes = found_then (packets_within n) (packet_at bytes)
 unfoldable pub packets_in : List ℕ → List Packet
 packets_in bytes = packets_within (length bytes) bytes
 
+-- header, body and padding
+abbrev pub sizes : List Packet → ℕ
+sizes [] = 0
+sizes (p ∷ ps) = 4 + (length p.body + length p.padding) + sizes ps
+
+-- the packets read from the front go on to the end: there is no fault
+abbrev pub IsReadWhole : List ℕ → Type 0
+IsReadWhole bytes = sizes (packets_in bytes) ≡ length bytes
+
+-- the packet at the front by its header and padding alone, whatever its body holds, and the bytes behind it
+unfoldable pub frame_at : List ℕ → Result (Packet × List ℕ) RtcpFault
+frame_at bytes =
+    content_at bytes >>= λ c.
+    padding_in (is_padded bytes) c.0 >>= λ n.
+    Ok (record { count = slice_index bytes 0 % 32; kind = slice_index bytes 1; body = take (length c.0 - n) c.0; padding = drop (length c.0 - n) c.0 }, c.1)
+
 -- what a packet that was read stands for
 abbrev pub packet_of : ReadPacket → Packet
 packet_of p = record { count = p.count; kind = p.kind; body = p.body.now; padding = p.padding.now }
-
--- the packets that are left
-abbrev pub packets_left : Packets → List Packet
-packets_left p = packets_in p.rest.now
-
--- what an iterator over them has left to yield
-abbrev pub contents_left : Packets → List Content
-contents_left p = map shown (packets_in p.rest.now)

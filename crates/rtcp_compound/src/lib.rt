@@ -13,14 +13,16 @@ mod packet;
 mod packets;
 mod report;
 mod sdes;
+mod unread;
 mod view;
 mod writer;
 
 pub use bye::Sources;
 pub use fault::RtcpFault;
 pub use packet::{PSFB, RTPFB};
-pub use packets::{Packets, split};
+pub use packets::split;
 pub use report::{Block, Blocks};
+pub use unread::Packets;
 pub use view::RtcpView;
 pub use writer::{CNAME_LIMIT, ENTRY_LIMIT, write_bye, write_rr, write_sdes_cname, write_sr};
 

@@ -1,7 +1,7 @@
 //! The packet at the front of a datagram.
 
-ghost use Rattle.std.specs.Prelude.{◌≡◌, ◌≤◌, ◌*◌, ◌+◌, ◌<◌, MatchResult, MatchOption, IfOk, OnOk, IsTrue, Ok, Err, Some, None, length};
-ghost use Rattle.rtcp_compound.specs.Reading.{Gives, content_at, padding_in, fault_in, fits_bye, packet_at, packet_of};
+ghost use Rattle.std.specs.Prelude.{◌≡◌, ◌≤◌, ◌*◌, ◌+◌, ◌<◌, MatchResult, MatchOption, IfOk, IsTrue, Ok, Err, Some, None, length};
+ghost use Rattle.rtcp_compound.specs.Reading.{Gives, IsReadWhole, content_at, padding_in, fault_in, fits_bye, frame_at, packet_at, packet_of};
 
 use crate::fault::RtcpFault;
 use crate::sdes::after_chunks;
@@ -39,25 +39,44 @@ pub struct Packet<'a> {
 }
 
 /// The packet at the front of the bytes, and the bytes behind it.
-#[tactic(auto, using(crate::proofs::BitLemmas::low_five, crate::proofs::BitLemmas::low_one), unfolding(crate::specs::Reading::packet_at))]
+#[tactic(auto, using(crate::proofs::FrameLemmas::frame_faulty))]
 pub fn read_packet(bytes: &[u8]) -> Result<(Packet<'_>, &[u8]), RtcpFault>
     ensures reads { Gives (λ x. (packet_of x.0, x.1.now)) result (packet_at bytes.now) }
     ensures shorter { IfOk result (λ x. length x.1.now + 4 ≤ length bytes.now) }
+{
+    let (packet, rest) = read_frame(bytes)?;
+    check_body(packet.kind, packet.count, packet.body)?;
+    Ok((packet, rest))
+}
+
+/// The packet at the front of packets that were all read before, and the bytes behind it. Its body isn't looked
+/// at again. Refused where nothing is left.
+pub fn read_again(bytes: &[u8]) -> Result<(Packet<'_>, &[u8]), RtcpFault>
+    requires { IsReadWhole bytes.now }
+    ensures reads { Gives (λ x. (packet_of x.0, x.1.now)) result (packet_at bytes.now) }
+    ensures rest { IfOk result (λ x. IsReadWhole x.1.now) }
     ensures counted { IfOk result (λ x. x.0.count < 32) }
     ensures sender_report { IfOk result (λ x. x.0.kind ≡ 200 → 24 + 24 * x.0.count ≤ length x.0.body.now) }
     ensures receiver_report { IfOk result (λ x. x.0.kind ≡ 201 → 4 + 24 * x.0.count ≤ length x.0.body.now) }
     ensures goodbye { IfOk result (λ x. x.0.kind ≡ 203 → 4 * x.0.count ≤ length x.0.body.now) }
 {
+    read_frame(bytes)
+}
+
+/// The packet at the front of the bytes by its header and padding, and the bytes behind it.
+#[tactic(auto, using(crate::proofs::BitLemmas::low_five, crate::proofs::BitLemmas::low_one), unfolding(crate::specs::Reading::frame_at))]
+fn read_frame(bytes: &[u8]) -> Result<(Packet<'_>, &[u8]), RtcpFault>
+    ensures reads { Gives (λ x. (packet_of x.0, x.1.now)) result (frame_at bytes.now) }
+    ensures shorter { IfOk result (λ x. length x.1.now + 4 ≤ length bytes.now) }
+    ensures counted { IfOk result (λ x. x.0.count < 32) }
+{
     let (content, rest) = read_content(bytes)?;
     let padding = padding_len((bytes[0] >> 5) & 1 == 1, content)?;
     let (body, padding) = content.split_at(content.len() - padding);
-    let kind = bytes[1];
-    let count = bytes[0] & 0x1f;
-    check_body(kind, count, body)?;
     Ok((
         Packet {
-            count,
-            kind,
+            count: bytes[0] & 0x1f,
+            kind: bytes[1],
             body,
             padding,
         },
@@ -109,10 +128,7 @@ fn padding_len(padded: bool, content: &[u8]) -> Result<usize, RtcpFault>
 /// Whether the body holds what its type and count say.
 #[tactic(auto, unfolding(crate::specs::Reading::fault_in))]
 fn check_body(kind: u8, count: u8, body: &[u8]) -> Result<(), RtcpFault>
-    ensures reads { MatchResult result (λ _. fault_in kind count body.now ≡ None) (λ fault. fault_in kind count body.now ≡ Some fault) }
-    ensures sender_report { OnOk result (kind ≡ 200 → 24 + 24 * count ≤ length body.now) }
-    ensures receiver_report { OnOk result (kind ≡ 201 → 4 + 24 * count ≤ length body.now) }
-    ensures goodbye { OnOk result (kind ≡ 203 → 4 * count ≤ length body.now) }
+    ensures { MatchResult result (λ _. fault_in kind count body.now ≡ None) (λ fault. fault_in kind count body.now ≡ Some fault) }
 {
     let count = usize::from(count);
     match kind {
@@ -127,8 +143,7 @@ fn check_body(kind: u8, count: u8, body: &[u8]) -> Result<(), RtcpFault>
 /// Whether so many sources, and the reason where there is one, stand within the body.
 fn fits_bye(count: usize, body: &[u8]) -> bool
     requires { count < 256 }
-    ensures fits { result ≡ fits_bye count body.now }
-    ensures sources { IsTrue result → 4 * count ≤ length body.now }
+    ensures { result ≡ fits_bye count body.now }
 {
     let sources = WORD * count;
     body.len() == sources

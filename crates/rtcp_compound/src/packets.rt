@@ -4,40 +4,11 @@ ghost use Rattle.std.specs.Prelude.{◌≡◌, List, IfOk, IfErr, IsOkAnd, Err};
 ghost use Rattle.rtcp_compound.specs.Grammar.{Packet, ReadsRtcp};
 ghost use Rattle.rtcp_compound.specs.declared.fault.RtcpFault.{RtcpFault};
 ghost use Rattle.rtcp_compound.specs.Fault.{Refuses};
-ghost use Rattle.rtcp_compound.specs.Reading.{packets_left};
+ghost use Rattle.rtcp_compound.specs.Left.{packets_left};
 
 use crate::fault::RtcpFault;
 use crate::packet::read_packet;
-use crate::view::{RtcpView, view_of};
-
-/// The packets of a datagram.
-#[derive(Clone, Copy, Debug)]
-pub struct Packets<'a> {
-    rest: &'a [u8],
-}
-
-impl<'a> Iterator for Packets<'a> {
-    ghost use Rattle.std.specs.Iterator.{YieldsFirstBy, item_count};
-    ghost use Rattle.rtcp_compound.specs.Content.{content_of};
-    ghost use Rattle.rtcp_compound.specs.Reading.{contents_left};
-
-    type Item = RtcpView<'a>;
-
-    ghost next_gives = { YieldsFirstBy content_of contents_left };
-
-    ghost remaining = { item_count contents_left };
-
-    #[tactic(auto, using(crate::proofs::DatagramLemmas::contents_more, crate::proofs::DatagramLemmas::contents_none))]
-    fn next(&mut self) -> Option<RtcpView<'a>> {
-        match read_packet(self.rest) {
-            Ok((packet, behind)) => {
-                self.rest = behind;
-                Some(view_of(packet))
-            }
-            Err(_) => None,
-        }
-    }
-}
+use crate::unread::Packets;
 
 /// The packets that a datagram joins (RFC 3550, section 6.1).
 pub fn split(datagram: &[u8]) -> Result<Packets<'_>, RtcpFault>

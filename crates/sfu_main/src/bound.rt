@@ -2,7 +2,7 @@
 
 ghost use Rattle.std.specs.Prelude.{◌≡◌, List, [], IfOk, map, All, MatchResult};
 ghost use Rattle.rtcp_compound.specs.Content.{content_of, sources_left};
-ghost use Rattle.rtcp_compound.specs.Reading.{contents_left};
+ghost use Rattle.rtcp_compound.specs.Left.{contents_left};
 ghost use Rattle.rtcp_feedback.specs.Reading.{entries_left};
 ghost use Rattle.sfu_main.specs.Asked.{AskTogether, Asks, Change, FailsFirst, HasFault, IsReadable, asks, leaves, requests_of};
 ghost use Rattle.sfu_main.specs.Lines.{Asked, AreRowsOf, after_change, after_changes, lines_of};

@@ -6,6 +6,7 @@ use Rattle.rtcp_compound.specs.Reading.{packet_of}
 use Rattle.rtcp_compound.proofs.FaultLemmas.{packet_refused}
 use Rattle.rtcp_compound.proofs.PacketLemmas.{packet_takes}
 use Rattle.rtcp_compound.proofs.DatagramLemmas.{rest_bytes, passes_none, passes_more, joined_ends, reads_only, refuses_one, refuses_none}
+use Rattle.rtcp_compound.proofs.FrameLemmas.{reads_whole}
 use Rattle.rtcp_compound.proofs.packets.split.Goals as goal
 
 pub loop-behind-init : goal.loop-behind-init
@@ -26,6 +27,14 @@ returns-then-is_empty-clause-ok c =
     let behind = c.in_ok-behind.behind.now in
     let taken = packet_takes bytes (p, behind) (rest_bytes c.args.datagram.now bytes c.loop-behind.invariant (λ i. omega (arith, c.type_inv.datagram i))) c.in_ok-behind.ensures.reads in
     joined_ends c.args.datagram.now bytes behind p c.loop-behind.invariant taken (nil_from_length behind (search rules))
+
+pub invariant_of-result : goal.invariant_of-result
+invariant_of-result c =
+    let bytes = c.loop-behind.rest.now in
+    let p = packet_of c.in_ok-behind.field-0-0 in
+    let behind = c.in_ok-behind.behind.now in
+    let taken = packet_takes bytes (p, behind) (rest_bytes c.args.datagram.now bytes c.loop-behind.invariant (λ i. omega (arith, c.type_inv.datagram i))) c.in_ok-behind.ensures.reads in
+    record { whole = reads_whole c.args.datagram.now _ (joined_ends c.args.datagram.now bytes behind p c.loop-behind.invariant taken (nil_from_length behind (search rules))) }
 
 pub returns-then-is_empty-clause-only : goal.returns-then-is_empty-clause-only
 returns-then-is_empty-clause-only c = λ ps h. reads_only c.args.datagram.now ps h

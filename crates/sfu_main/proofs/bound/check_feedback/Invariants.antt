@@ -1,5 +1,5 @@
 use Rattle.std.specs.Prelude.{All}
-use Rattle.rtcp_compound.specs.Reading.{contents_left}
+use Rattle.rtcp_compound.specs.Left.{contents_left}
 use Rattle.rtcp_feedback.specs.declared.fault.FbFault.{FbFault}
 use Rattle.sfu_main.specs.Asked.{FailsFirst, IsReadable}
 use Rattle.sfu_main.proofs.bound.check_feedback.Given as goal

@@ -1,5 +1,5 @@
 use Rattle.std.proofs.Common.{refl, Err}
-use Rattle.rtcp_compound.specs.Reading.{packets_left}
+use Rattle.rtcp_compound.specs.Left.{packets_left}
 use Rattle.sfu_main.specs.declared.fault.LineFault.TheVariants.{Rtcp, Feedback}
 use Rattle.sfu_main.proofs.AskedLemmas.{asked_together, leaves_datagram}
 use Rattle.sfu_main.proofs.bound.take_datagram.Goals as goal

@@ -1,5 +1,5 @@
 use Rattle.std.proofs.Common.{◌≡◌, List}
-use Rattle.rtcp_compound.specs.Reading.{contents_left}
+use Rattle.rtcp_compound.specs.Left.{contents_left}
 use Rattle.sfu_main.specs.Asked.{AskTogether, Change}
 use Rattle.sfu_main.specs.Lines.{Asked, AreRowsOf, after_changes}
 use Rattle.sfu_main.proofs.bound.take_packets.Given as goal

@@ -1,0 +1,32 @@
+use Rattle.std.proofs.Common.{ℕ, ◌+◌, ◌*◌, ◌≡◌, ◌≤◌, List, length}
+use Rattle.std.specs.Borrow.{Bor}
+use Rattle.rtcp_compound.specs.Grammar.{Packet}
+use Rattle.rtcp_compound.specs.declared.packet.Packet.{Packet as ReadPacket}
+use Rattle.rtcp_compound.specs.Reading.{IsReadWhole, packet_of}
+use Rattle.rtcp_compound.proofs.FrameLemmas.{gives_again, ok_again, sender_report_fits, receiver_report_fits, goodbye_fits}
+use Rattle.rtcp_compound.proofs.packet.read_again.Goals as goal
+
+abbrev seen : ReadPacket × Bor (List ℕ) → Packet × List ℕ
+seen x = (packet_of x.0, x.1.now)
+
+pub returns-clause-reads : goal.returns-clause-reads
+returns-clause-reads c = gives_again seen c.args.bytes.now c.read_frame.result c.requires c.read_frame.ensures.reads
+
+pub returns-clause-rest : goal.returns-clause-rest
+returns-clause-rest c =
+    ok_again seen (λ (x : ReadPacket × Bor (List ℕ)). IsReadWhole x.1.now) c.args.bytes.now c.read_frame.result c.requires c.read_frame.ensures.reads (λ x k. k.rest)
+
+pub returns-clause-sender_report : goal.returns-clause-sender_report
+returns-clause-sender_report c =
+    ok_again seen (λ (x : ReadPacket × Bor (List ℕ)). x.0.kind ≡ 200 → 24 + 24 * x.0.count ≤ length x.0.body.now) c.args.bytes.now c.read_frame.result c.requires c.read_frame.ensures.reads
+    (λ x k. sender_report_fits x.0.kind x.0.count x.0.body.now k.fits)
+
+pub returns-clause-receiver_report : goal.returns-clause-receiver_report
+returns-clause-receiver_report c =
+    ok_again seen (λ (x : ReadPacket × Bor (List ℕ)). x.0.kind ≡ 201 → 4 + 24 * x.0.count ≤ length x.0.body.now) c.args.bytes.now c.read_frame.result c.requires c.read_frame.ensures.reads
+    (λ x k. receiver_report_fits x.0.kind x.0.count x.0.body.now k.fits)
+
+pub returns-clause-goodbye : goal.returns-clause-goodbye
+returns-clause-goodbye c =
+    ok_again seen (λ (x : ReadPacket × Bor (List ℕ)). x.0.kind ≡ 203 → 4 * x.0.count ≤ length x.0.body.now) c.args.bytes.now c.read_frame.result c.requires c.read_frame.ensures.reads
+    (λ x k. goodbye_fits x.0.kind x.0.count x.0.body.now k.fits)
