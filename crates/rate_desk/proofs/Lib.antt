@@ -1,3 +1,4 @@
 pub mod PresenceLemmas
 pub mod LiveLemmas
 pub mod EffectLemmas
+pub mod ShareLemmas
