@@ -1,12 +1,12 @@
 -- What a call changed in the announced set; and that an owner is announced once.
 use Rattle.std.proofs.Common.{◌≡◌, ◌≢◌, ◌==◌, ℕ, zero, suc, ◌+◌, ◌<◌, ◌≤◌, eqb, not, Bool, cond, true, false, List, [], ◌∷◌, ◌++◌, length, get_or, map, take, drop, refl, sym, ap, ◌∙◌, subst, arith}
-use Rattle.std.specs.Prelude.{AllPairs, Contains, filter, IsPermutation}
+use Rattle.std.specs.Prelude.{All, ◌&&◌, AllPairs, Contains, filter, IsPermutation}
 use Rattle.std.specs.List.{list_any, refill}
 use Rattle.std.specs.List.Sorted.{IsNonDecreasingBy}
 use Rattle.std.proofs.Math.Seq.{take-append_seam}
 use Rattle.std.proofs.lemmas.Bool.{cond_both, false≢true}
 use Rattle.std.proofs.lemmas.Bool.Decides.{Decides-eqb, nat_tests}
-use Rattle.std.proofs.lemmas.List.{length-take, map-append, append-nil}
+use Rattle.std.proofs.lemmas.List.{length-take, map-append, append-nil, get_or_default}
 use Rattle.std.proofs.lemmas.List.Elements.{All-map, All-filter, All-contains, Contains-append_right, filter_more, filter_passes}
 use Rattle.std.proofs.lemmas.List.Folds.{list_any_at, list_any_none}
 use Rattle.std.proofs.lemmas.List.Kept.{AllPairs-cons, AllPairs-filter}
@@ -31,7 +31,9 @@ use Rattle.bounding_set.specs.Kept.{KeepsRequests}
 use Rattle.bounding_set.specs.State.{State, AnnouncesSmallest, announced_of}
 use Rattle.bounding_set.specs.declared.rows.TheConstants.{LIVE_LIMIT}
 use Rattle.bounding_set.proofs.KeptLemmas.{same_place, requests_by_place}
-use Rattle.rate_desk.specs.Effect.{IsLifted, owners_of, numbers_of}
+use Rattle.rate_desk.specs.declared.effect.Effect.{Effect}
+use Rattle.rate_desk.specs.Effect.{IsEffect, IsLifted, owners_of, numbers_of, is_same, is_member}
+use Rattle.tmmbr_tuple.specs.Tuple.{word_of}
 
 -- ---- lists
 
@@ -199,3 +201,30 @@ announced_few s few is =
     let chosen = length-chosen s.rows (kept_places s.cert) in
     let within = places_within s.rows (kept_places s.cert) is.canonical.choice in
     omega arith
+
+-- ---- nothing changed
+
+is_same-itself : (r : Request) → is_same r r ≡ true
+is_same-itself r = both (eq-eqb r.owner.0 r.owner.0 refl) (eq-eqb (word_of r.tuple) (word_of r.tuple) refl)
+  where
+    both : {a b : Bool} → a ≡ true → b ≡ true → (a && b) ≡ true
+    both {a} {b} x y = ap (λ c. c && b) x ∙ y
+
+none_passes : (p : Request → Bool) (xs : List Request) → All (λ r. p r ≡ false) xs → filter p xs ≡ []
+none_passes p [] none = refl
+none_passes p (x ∷ xs) none =
+    ap (λ b. cond b (x ∷ filter p xs) (filter p xs)) (none 0 x (omega arith)) ∙ none_passes p xs (λ k d below. none (suc k) d (omega arith))
+
+-- what is announced as before lifts nothing, and none of it is fresh
+pub IsEffect-same : (now : List Request) (e : Effect) → e.set.items ≡ now → e.lifted.items ≡ [] → e.fresh.items ≡ [] → IsEffect now now e
+IsEffect-same now e set lifted fresh = record {
+  announced = set;
+  lifted = subst (λ owners. IsLifted now now (numbers_of owners)) (sym lifted) (record {
+      rising = λ i j d before below. absurd (omega (arith, below));
+      members = λ owner. (λ has. absurd (omega (arith, has.1)), λ gone. absurd (gone.1 gone.0));
+    });
+  fresh = fresh
+      ∙ sym (none_passes (λ r. not (is_member now r)) now
+      (λ k d below. ap not (list_any_at (is_same (get_or now k d)) now k (get_or now k d) below
+      (ap (is_same (get_or now k d)) (get_or_default now k _ d below) ∙ is_same-itself (get_or now k d)))));
+}

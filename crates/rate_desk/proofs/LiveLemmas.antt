@@ -1,19 +1,18 @@
 -- The live requests of who is present.
-use Rattle.std.proofs.Common.{◌≡◌, ◌⊎◌, ℕ, zero, suc, ◌+◌, ◌<◌, ◌≤◌, ◌≢◌, List, [], ◌∷◌, length, Option, Some, None, refl, sym, ap, inl, inr, subst, ◌∙◌, arith}
+use Rattle.std.proofs.Common.{◌≡◌, ◌⊎◌, ℕ, zero, suc, ◌+◌, ◌<◌, ◌≤◌, ◌≢◌, List, [], ◌∷◌, length, get_or, Bool, true, false, Option, Some, None, refl, sym, ap, inl, inr, subst, ◌∙◌, arith}
 use Rattle.std.specs.Prelude.{All, option_map}
 use Rattle.std.specs.List.{cons_option}
 use Rattle.std.proofs.lemmas.Bool.{cases_lt, cases_eq}
 use Rattle.std.proofs.lemmas.Bool.Decides.{nat_tests}
 use Rattle.std.proofs.lemmas.List.Kept.{AllPairs-cons}
 use Rattle.std.proofs.lemmas.List.Elements.{All-cons}
-use Rattle.tmmbr_tuple.specs.declared.ssrc.Ssrc.{Ssrc}
 use Rattle.tmmbr_tuple.specs.declared.tuple.Tuple.{Tuple}
 use Rattle.rate_cert.specs.declared.request.Request.{Request}
 use Rattle.bounding_set.specs.Rows.{HasRisingOwners as RowsRise, tuple_of, Puts}
 use Rattle.rate_desk.specs.declared.presence.Present.{Present}
-use Rattle.rate_desk.specs.declared.call.Call.TheVariants.{Arrive, Request as Ask, Depart}
-use Rattle.rate_desk.specs.Presence.{HasRisingOwners, HasStays, presence_of, stay_in, with_presence, without_owner, live_requests, present_by, refusal_of}
-use Rattle.rate_desk.proofs.PresenceLemmas.{IsBelow, rising_tail, rising_head, below_tail, presence_of-with, presence_of-with_other, presence_of-without, presence_of-without_other, present_with_stay, rising-with, rising-without, absent-arrive}
+use Rattle.rate_desk.specs.declared.presence.Asked.{Asked}
+use Rattle.rate_desk.specs.Presence.{HasRisingOwners, HasStays, presence_of, stay_in, with_presence, without_owner, live_requests, without_old, unless_absent_with_room}
+use Rattle.rate_desk.proofs.PresenceLemmas.{IsBelow, rising_tail, rising_head, below_tail, presence_of-with, presence_of-with_other, presence_of-without, presence_of-without_other, present_with_stay, rising-with, rising-without, rising-aged, absent-arrive, aged, is_aged, presence_of-aged, presence_of-aged_other, without_old-old, aged-young}
 
 -- these requests have greater owners
 abbrev AreAbove : ℕ → List Request → Type 0
@@ -83,24 +82,24 @@ rows_by_tuples (x ∷ xs) (y ∷ ys) rise_x rise_y same =
 
 -- ---- the live requests, one by one
 
-cases_asked : (asked : Option Tuple) → (asked ≡ None) ⊎ ((t : Tuple) × (asked ≡ Some t))
+cases_asked : (asked : Option Asked) → (asked ≡ None) ⊎ ((a : Asked) × (asked ≡ Some a))
 cases_asked None = inl refl
-cases_asked (Some t) = inr (t, refl)
+cases_asked (Some a) = inr (a, refl)
 
-abbrev row_of : Present → Tuple → Request
-row_of p t = record { owner = p.owner; tuple = t }
+abbrev row_of : Present → Asked → Request
+row_of p a = record { owner = p.owner; tuple = a.tuple }
 
-live-none : (p : Present) (present : List Present) → p.tuple ≡ None → live_requests (p ∷ present) ≡ live_requests present
+live-none : (p : Present) (present : List Present) → p.asked ≡ None → live_requests (p ∷ present) ≡ live_requests present
 live-none p present none = ap (λ asked. cons_option (option_map (row_of p) asked) (live_requests present)) none
 
-live-some : (p : Present) (present : List Present) (t : Tuple) → p.tuple ≡ Some t → live_requests (p ∷ present) ≡ row_of p t ∷ live_requests present
-live-some p present t some = ap (λ asked. cons_option (option_map (row_of p) asked) (live_requests present)) some
+live-some : (p : Present) (present : List Present) (a : Asked) → p.asked ≡ Some a → live_requests (p ∷ present) ≡ row_of p a ∷ live_requests present
+live-some p present a some = ap (λ asked. cons_option (option_map (row_of p) asked) (live_requests present)) some
 
 pub live-above : (present : List Present) (owner : ℕ) → IsBelow owner present → AreAbove owner (live_requests present)
 live-above [] owner below = λ k d within. absurd (omega arith)
 live-above (p ∷ present) owner below =
     let rest = live-above present owner (below_tail owner p present below) in
-    elim (cases_asked p.tuple) [
+    elim (cases_asked p.asked) [
       | inl none ↦ subst (AreAbove owner) (sym (live-none p present none)) rest
       | inr some ↦
           subst (AreAbove owner) (sym (live-some p present some.0 some.1))
@@ -111,7 +110,7 @@ pub live-rising : (present : List Present) → HasRisingOwners present → RowsR
 live-rising [] rising = λ i j d before within. absurd (omega arith)
 live-rising (p ∷ present) rising =
     let rest = live-rising present (rising_tail p present rising) in
-    elim (cases_asked p.tuple) [
+    elim (cases_asked p.asked) [
       | inl none ↦ subst RowsRise (sym (live-none p present none)) rest
       | inr some ↦
           subst RowsRise (sym (live-some p present some.0 some.1))
@@ -122,16 +121,19 @@ live-rising (p ∷ present) rising =
 pub few_live : (present : List Present) → length (live_requests present) ≤ length present
 few_live [] = omega arith
 few_live (p ∷ present) =
-    elim (cases_asked p.tuple) [
+    elim (cases_asked p.asked) [
       | inl none ↦ omega (arith, ap length (live-none p present none), few_live present)
       | inr some ↦ omega (arith, ap length (live-some p present some.0 some.1), few_live present)
     ]
 
 -- ---- what an owner asks for
 
+abbrev pub tuple_in : Option Asked → Option Tuple
+tuple_in asked = option_map (λ (a : Asked). a.tuple) asked
+
 abbrev pub asked_by : Option Present → Option Tuple
 asked_by None = None
-asked_by (Some p) = p.tuple
+asked_by (Some p) = tuple_in p.asked
 
 presence_of-first : (p : Present) (present : List Present) (owner : ℕ) → p.owner.0 ≡ owner → presence_of (p ∷ present) owner ≡ Some p
 presence_of-first p present owner same = grind (arith, nat_tests, same)
@@ -144,7 +146,7 @@ presence_of-behind p present owner differs = grind (arith, nat_tests, differs)
 tuple_of-others : (p : Present) (present : List Present) (owner : ℕ) → (p.owner.0 ≡ owner → ⊥)
     → tuple_of (live_requests (p ∷ present)) owner ≡ tuple_of (live_requests present) owner
 tuple_of-others p present owner differs =
-    elim (cases_asked p.tuple) [
+    elim (cases_asked p.asked) [
       | inl none ↦ ap (λ rows. tuple_of rows owner) (live-none p present none)
       | inr some ↦
           ap (λ rows. tuple_of rows owner) (live-some p present some.0 some.1)
@@ -163,17 +165,17 @@ tuple_of-live (p ∷ present) owner rising =
           ∙ sym (ap asked_by (presence_of-behind p present owner differs))
       | inl same ↦
           let its = ap asked_by (presence_of-first p present owner same) in
-          elim (cases_asked p.tuple) [
+          elim (cases_asked p.asked) [
             | inl none ↦
                 let below : IsBelow owner present = λ k d within. omega (arith, same, rising_head p present rising k d within) in
                 ap (λ rows. tuple_of rows owner) (live-none p present none)
                 ∙ tuple_of-above (live_requests present) owner (live-above present owner below)
-                ∙ sym none
+                ∙ sym (ap tuple_in none)
                 ∙ sym its
             | inr some ↦
                 ap (λ rows. tuple_of rows owner) (live-some p present some.0 some.1)
                 ∙ tuple_of-first (row_of p some.0) (live_requests present) owner same
-                ∙ sym some.1
+                ∙ sym (ap tuple_in some.1)
                 ∙ sym its
           ]
     ]
@@ -201,28 +203,62 @@ live-put present now rows owner tuple rising rising_now asks others rows_rise pu
           ∙ sym (tuple_of-live now q rising_now)
     ])
 
-pub live-requested : (present : List Present) (rows : List Request) (owner : Ssrc) (stay : ℕ) (tuple : Tuple) → HasRisingOwners present
-    → RowsRise rows → Puts (live_requests present) rows owner.0 (Some tuple) → rows ≡ live_requests (present_by present (Ask owner stay tuple))
-live-requested present rows owner stay tuple rising rows_rise puts =
-    let new : Present = record { owner = owner; stay = stay; tuple = Some tuple } in
-    live-put present (with_presence present new) rows owner.0 (Some tuple) rising (rising-with present new rising)
-    (ap asked_by (presence_of-with present new)) (presence_of-with_other present new) rows_rise puts
+pub live-requested : (present : List Present) (new : Present) (asked : Asked) (rows : List Request) → HasRisingOwners present
+    → RowsRise rows → new.asked ≡ Some asked → Puts (live_requests present) rows new.owner.0 (Some asked.tuple)
+    → rows ≡ live_requests (with_presence present new)
+live-requested present new asked rows rising rows_rise asks puts =
+    live-put present (with_presence present new) rows new.owner.0 (Some asked.tuple) rising (rising-with present new rising)
+    (ap asked_by (presence_of-with present new) ∙ ap tuple_in asks) (presence_of-with_other present new) rows_rise puts
 
-pub live-departed : (present : List Present) (rows : List Request) (owner : Ssrc) (stay : ℕ) → HasRisingOwners present
-    → RowsRise rows → Puts (live_requests present) rows owner.0 None → rows ≡ live_requests (present_by present (Depart owner stay))
-live-departed present rows owner stay rising rows_rise puts =
-    live-put present (without_owner present owner.0) rows owner.0 None rising (rising-without present owner.0 rising)
-    (ap asked_by (presence_of-without present owner.0)) (presence_of-without_other present owner.0) rows_rise puts
+pub live-departed : (present : List Present) (rows : List Request) (owner : ℕ) → HasRisingOwners present
+    → RowsRise rows → Puts (live_requests present) rows owner None → rows ≡ live_requests (without_owner present owner)
+live-departed present rows owner rising rows_rise puts =
+    live-put present (without_owner present owner) rows owner None rising (rising-without present owner rising)
+    (ap asked_by (presence_of-without present owner)) (presence_of-without_other present owner) rows_rise puts
 
-pub live-arrived : (present : List Present) (owner : Ssrc) (stay : ℕ) → HasRisingOwners present → HasStays present
-    → refusal_of present (Arrive owner stay) ≡ None → live_requests (present_by present (Arrive owner stay)) ≡ live_requests present
-live-arrived present owner stay rising stays accepted =
-    let new : Present = record { owner = owner; stay = stay; tuple = None } in
-    let nothing : tuple_of (live_requests present) owner.0 ≡ None =
-    tuple_of-live present owner.0 rising ∙ ap asked_by (absent-arrive present owner stay stays accepted) in
-    sym (live-put present (with_presence present new) (live_requests present) owner.0 None rising (rising-with present new rising)
-    (ap asked_by (presence_of-with present new)) (presence_of-with_other present new) (live-rising present rising)
-    (record { changed = nothing; others = λ other differs. refl }))
+pub live-arrived : (present : List Present) (new : Present) → HasRisingOwners present → HasStays present
+    → new.asked ≡ None → unless_absent_with_room present new.owner.0 ≡ None → live_requests present ≡ live_requests (with_presence present new)
+live-arrived present new rising stays quiet accepted =
+    let nothing : tuple_of (live_requests present) new.owner.0 ≡ None =
+    tuple_of-live present new.owner.0 rising ∙ ap asked_by (absent-arrive present new.owner.0 stays accepted) in
+    live-put present (with_presence present new) (live_requests present) new.owner.0 None rising (rising-with present new rising)
+    (ap asked_by (presence_of-with present new) ∙ ap tuple_in quiet) (presence_of-with_other present new) (live-rising present rising)
+    (record { changed = nothing; others = λ other differs. refl })
+
+-- the next request that is too old is removed
+pub live-aged : (request_ms now n : ℕ) (present : List Present) (p : Present) (rows : List Request) → HasRisingOwners present → n < length present
+    → p ≡ get_or present n p → is_aged request_ms now p ≡ true → RowsRise rows
+    → Puts (live_requests (aged request_ms now n present)) rows p.owner.0 None → rows ≡ live_requests (aged request_ms now (suc n) present)
+live-aged request_ms now n present p rows rising below is old rows_rise puts =
+    let here : presence_of (aged request_ms now (suc n) present) p.owner.0 ≡ Some (without_old request_ms now p) =
+    subst (λ (q : Present). presence_of (aged request_ms now (suc n) present) q.owner.0 ≡ Some (without_old request_ms now q)) (sym is)
+    (presence_of-aged request_ms now n present p rising below) in
+    live-put (aged request_ms now n present) (aged request_ms now (suc n) present) rows p.owner.0 None
+    (rising-aged request_ms now n present rising) (rising-aged request_ms now (suc n) present rising)
+    (ap asked_by here ∙ ap (λ (q : Present). tuple_in q.asked) (without_old-old request_ms now p old))
+    (λ other differs. presence_of-aged_other request_ms now n present p other below
+    (λ same. differs (same ∙ sym (ap (λ (q : Present). q.owner.0) is))))
+    rows_rise puts
+
+-- what a walk that removes them leaves behind one more
+pub live_old : (request_ms now n : ℕ) (present : List Present) (p : Present) (before rows : List Request) → HasRisingOwners present
+    → n < length present → before ≡ live_requests (aged request_ms now n present)
+    → p ≡ get_or present n p → is_aged request_ms now p ≡ true → RowsRise rows → Puts before rows p.owner.0 None
+    → rows ≡ live_requests (aged request_ms now (n + 1) present)
+live_old request_ms now n present p before rows rising below is read old rows_rise puts =
+    let next : suc n ≡ n + 1 = omega arith in
+    live-aged request_ms now n present p rows rising below read old rows_rise
+    (subst (λ (bs : List Request). Puts bs rows p.owner.0 None) is puts)
+    ∙ ap (λ k. live_requests (aged request_ms now k present)) next
+
+pub live_young : (request_ms now n : ℕ) (present : List Present) (p : Present) (rows : List Request)
+    → n < length present → rows ≡ live_requests (aged request_ms now n present)
+    → p ≡ get_or present n p → is_aged request_ms now p ≡ false → rows ≡ live_requests (aged request_ms now (n + 1) present)
+live_young request_ms now n present p rows below is read young =
+    let next : suc n ≡ n + 1 = omega arith in
+    is
+    ∙ ap live_requests (sym (aged-young request_ms now n present p below (sym (ap (is_aged request_ms now) read) ∙ young)))
+    ∙ ap (λ k. live_requests (aged request_ms now k present)) next
 
 -- an owner that is present and asks for nothing yet leaves room for its request
 pub room_for_request : (present : List Present) (owner : ℕ) → 1 ≤ stay_in present owner
@@ -233,15 +269,15 @@ room_for_request present owner from none = room present (present_with_stay prese
         → length (live_requests present) + 1 ≤ length present
     room [] is none = absurd (is refl)
     room (p ∷ present) is none =
-        elim (cases_asked p.tuple) [
+        elim (cases_asked p.asked) [
           | inl quiet ↦ omega (arith, ap length (live-none p present quiet), few_live present)
           | inr some ↦
               elim (cases_eq p.owner.0 owner) [
                 | inl same ↦
-                    let asks : tuple_of (live_requests (p ∷ present)) owner ≡ Some some.0 =
+                    let asks : tuple_of (live_requests (p ∷ present)) owner ≡ Some some.0.tuple =
                     ap (λ rows. tuple_of rows owner) (live-some p present some.0 some.1)
                     ∙ tuple_of-first (row_of p some.0) (live_requests present) owner same in
-                    let no : None ≡ Some some.0 = sym none ∙ asks in
+                    let no : None ≡ Some some.0.tuple = sym none ∙ asks in
                     cc
                 | inr differs ↦
                     let behind = presence_of-behind p present owner differs in

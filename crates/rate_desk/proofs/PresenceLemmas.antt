@@ -1,5 +1,5 @@
 -- Who is present, by rising owner: what a search finds, and what an edit does.
-use Rattle.std.proofs.Common.{◌≡◌, ℕ, zero, suc, ◌+◌, ◌<◌, ◌≤◌, ◌≢◌, List, [], ◌∷◌, length, get_or, set, take, drop, ◌++◌, Some, None, Result, Ok, Err, IfOk, IfErr, refl, sym, ap, inl, inr, subst, ◌∙◌, arith}
+use Rattle.std.proofs.Common.{◌≡◌, ℕ, zero, suc, ◌+◌, ◌<◌, ◌≤◌, ◌≢◌, Bool, true, false, cond, Option, map, List, [], ◌∷◌, length, get_or, set, take, drop, ◌++◌, Some, None, Result, Ok, Err, IfOk, IfErr, refl, sym, ap, inl, inr, subst, ◌∙◌, arith}
 use Rattle.std.specs.Prelude.{All}
 use Rattle.std.specs.List.{insert, remove, refill}
 use Rattle.std.specs.List.Sorted.{IsSearchInRange, IsBinarySearchResult, IsNonDecreasingBy}
@@ -9,16 +9,19 @@ use Rattle.std.proofs.Math.Seq.{take-append_seam}
 use Rattle.std.proofs.lemmas.Bool.{cases_lt, cases_eq}
 use Rattle.std.proofs.lemmas.Bool.Decides.{nat_tests}
 use Rattle.std.proofs.lemmas.Cmp.{ranked}
-use Rattle.std.proofs.lemmas.List.{length-set}
+use Rattle.std.proofs.lemmas.List.{length-set, length-map}
 use Rattle.std.proofs.lemmas.List.Kept.{AllPairs-cons, AllPairs-filter}
-use Rattle.std.proofs.lemmas.List.Elements.{All-cons, All-filter}
-use Rattle.tmmbr_tuple.specs.declared.ssrc.Ssrc.{Ssrc}
-use Rattle.tmmbr_tuple.specs.declared.tuple.Tuple.{Tuple}
+use Rattle.std.proofs.lemmas.List.Elements.{All-cons, All-filter, All-map}
+use Rattle.rate_desk.specs.declared.presence.Asked.{Asked}
 use Rattle.rate_desk.specs.declared.presence.Present.{Present}
 use Rattle.rate_desk.specs.declared.presence.TheConstants.{PRESENT_LIMIT}
 use Rattle.rate_desk.specs.declared.call.Call.{Call}
-use Rattle.rate_desk.specs.declared.call.Call.TheVariants.{Arrive, Request as Ask, Depart, Pli, Tick}
-use Rattle.rate_desk.specs.Presence.{HasRisingOwners, HasStays, HasStay, IsPlaceOf, IsGapFor, presence_of, present_by, refusal_of, stay_in, with_presence, without_owner}
+use Rattle.rate_desk.specs.declared.call.Call.TheVariants.{Stay, Time}
+use Rattle.rate_desk.specs.declared.call.Change.TheVariants.{Arrive, Request as Ask, Depart}
+use Rattle.rate_desk.specs.declared.call.Signal.TheVariants.{Pli, Tick, Expire}
+use Rattle.rate_desk.specs.Call.{HasStay}
+use Rattle.rate_desk.specs.Presence.{HasRisingOwners, HasStays, IsPlaceOf, IsGapFor, presence_of, present_by, refusal_of, stay_in, with_presence, without_owner, without_old, unless_old, is_old, unless_absent_with_room, unless_present_with}
+use Rattle.rate_desk.specs.Standing.{count_by, IsDepart}
 
 -- those present have greater owners than this one
 abbrev pub IsBelow : ℕ → List Present → Type 0
@@ -306,61 +309,197 @@ rising-with (p ∷ present) new rising =
 pub rising-without : (present : List Present) (owner : ℕ) → HasRisingOwners present → HasRisingOwners (without_owner present owner)
 rising-without present owner rising = AllPairs-filter (λ (x y : Present). x.owner.0 < y.owner.0) _ present rising
 
+-- ---- age
+
+-- after so many places those present ask for nothing that is too old
+abbrev pub aged : ℕ → ℕ → ℕ → List Present → List Present
+aged request_ms now zero present = present
+aged request_ms now (suc n) [] = []
+aged request_ms now (suc n) (p ∷ present) = without_old request_ms now p ∷ aged request_ms now n present
+
+pub aged-all : (request_ms now n : ℕ) (present : List Present) → length present ≤ n → aged request_ms now n present ≡ map (without_old request_ms now) present
+aged-all request_ms now zero [] past = refl
+aged-all request_ms now zero (p ∷ present) past = absurd (omega (arith, past))
+aged-all request_ms now (suc n) [] past = refl
+aged-all request_ms now (suc n) (p ∷ present) past = ap (λ ps. without_old request_ms now p ∷ ps) (aged-all request_ms now n present (omega (arith, past)))
+
+-- the next one ages too
+pub set-aged : (request_ms now n : ℕ) (present : List Present) (d : Present) → n < length present
+    → set (aged request_ms now n present) n (without_old request_ms now (get_or present n d)) ≡ aged request_ms now (suc n) present
+set-aged request_ms now n [] d below = absurd (omega (arith, below))
+set-aged request_ms now zero (p ∷ present) d below = refl
+set-aged request_ms now (suc n) (p ∷ present) d below =
+    ap (λ ps. without_old request_ms now p ∷ ps) (set-aged request_ms now n present d (omega (arith, below)))
+
+pub get_or-aged : (request_ms now n : ℕ) (present : List Present) (d : Present) → n < length present
+    → get_or (aged request_ms now n present) n d ≡ get_or present n d
+get_or-aged request_ms now n [] d below = absurd (omega (arith, below))
+get_or-aged request_ms now zero (p ∷ present) d below = refl
+get_or-aged request_ms now (suc n) (p ∷ present) d below = get_or-aged request_ms now n present d (omega (arith, below))
+
+pub length-aged : (request_ms now n : ℕ) (present : List Present) → length (aged request_ms now n present) ≡ length present
+length-aged request_ms now zero present = refl
+length-aged request_ms now (suc n) [] = refl
+length-aged request_ms now (suc n) (p ∷ present) = ap (λ k. suc k) (length-aged request_ms now n present)
+
+below-aged : (request_ms now n owner : ℕ) (present : List Present) → IsBelow owner present → IsBelow owner (aged request_ms now n present)
+below-aged request_ms now zero owner present below = below
+below-aged request_ms now (suc n) owner [] below = λ k d within. absurd (omega arith)
+below-aged request_ms now (suc n) owner (p ∷ present) below =
+    All-cons (λ (q : Present). owner < q.owner.0) (without_old request_ms now p) (aged request_ms now n present) (below zero p (omega arith))
+    (below-aged request_ms now n owner present (below_tail owner p present below))
+
+pub rising-aged : (request_ms now n : ℕ) (present : List Present) → HasRisingOwners present → HasRisingOwners (aged request_ms now n present)
+rising-aged request_ms now zero present rising = rising
+rising-aged request_ms now (suc n) [] rising = λ i j d before within. absurd (omega arith)
+rising-aged request_ms now (suc n) (p ∷ present) rising =
+    AllPairs-cons (λ (x y : Present). x.owner.0 < y.owner.0) (without_old request_ms now p) (aged request_ms now n present)
+    (below-aged request_ms now n p.owner.0 present (rising_head p present rising))
+    (rising-aged request_ms now n present (rising_tail p present rising))
+
+-- the next one that ages is known by its owner, and the others are as they were
+pub presence_of-aged : (request_ms now n : ℕ) (present : List Present) (d : Present) → HasRisingOwners present → n < length present
+    → presence_of (aged request_ms now (suc n) present) (get_or present n d).owner.0 ≡ Some (without_old request_ms now (get_or present n d))
+presence_of-aged request_ms now n [] d rising below = absurd (omega (arith, below))
+presence_of-aged request_ms now zero (p ∷ present) d rising below = grind (arith, nat_tests)
+presence_of-aged request_ms now (suc n) (p ∷ present) d rising below =
+    let less : p.owner.0 < (get_or present n d).owner.0 = rising_head p present rising n d (omega (arith, below)) in
+    let rest = presence_of-aged request_ms now n present d (rising_tail p present rising) (omega (arith, below)) in
+    grind (arith, nat_tests, less, rest)
+
+pub presence_of-aged_other : (request_ms now n : ℕ) (present : List Present) (d : Present) (other : ℕ) → n < length present
+    → other ≢ (get_or present n d).owner.0
+    → presence_of (aged request_ms now (suc n) present) other ≡ presence_of (aged request_ms now n present) other
+presence_of-aged_other request_ms now n [] d other below differs = absurd (omega (arith, below))
+presence_of-aged_other request_ms now zero (p ∷ present) d other below differs = grind (arith, nat_tests, differs)
+presence_of-aged_other request_ms now (suc n) (p ∷ present) d other below differs =
+    let rest = presence_of-aged_other request_ms now n present d other (omega (arith, below)) differs in
+    grind (arith, nat_tests, rest)
+
+-- whether what one asks for is too old
+abbrev pub is_aged : ℕ → ℕ → Present → Bool
+is_aged request_ms now p = option_map_or (λ (a : Asked). is_old request_ms now a.stamp) p.asked false
+
+pub without_old-young : (request_ms now : ℕ) (p : Present) → is_aged request_ms now p ≡ false → without_old request_ms now p ≡ p
+without_old-young request_ms now p young =
+    ap (λ asked. record { owner = p.owner; stay = p.stay; asked = asked }) (step p.asked young)
+  where
+    step : (asked : Option Asked) → option_map_or (λ (a : Asked). is_old request_ms now a.stamp) asked false ≡ false
+        → unless_old request_ms now asked ≡ asked
+    step None young = refl
+    step (Some a) young = ap (λ b. cond b None (Some a)) young
+
+pub without_old-old : (request_ms now : ℕ) (p : Present) → is_aged request_ms now p ≡ true
+    → without_old request_ms now p ≡ record { owner = p.owner; stay = p.stay; asked = None }
+without_old-old request_ms now p old =
+    ap (λ asked. record { owner = p.owner; stay = p.stay; asked = asked }) (step p.asked old)
+  where
+    step : (asked : Option Asked) → option_map_or (λ (a : Asked). is_old request_ms now a.stamp) asked false ≡ true
+        → unless_old request_ms now asked ≡ None
+    step None old = absurd (cc)
+    step (Some a) old = ap (λ b. cond b None (Some a)) old
+
+pub aged-young : (request_ms now n : ℕ) (present : List Present) (d : Present) → n < length present
+    → is_aged request_ms now (get_or present n d) ≡ false → aged request_ms now (suc n) present ≡ aged request_ms now n present
+aged-young request_ms now n [] d below young = absurd (omega (arith, below))
+aged-young request_ms now zero (p ∷ present) d below young = ap (λ q. q ∷ present) (without_old-young request_ms now p young)
+aged-young request_ms now (suc n) (p ∷ present) d below young =
+    ap (λ ps. without_old request_ms now p ∷ ps) (aged-young request_ms now n present d (omega (arith, below)) young)
+
+-- what an in-place walk leaves behind one more of them
+pub aged_old : (request_ms now n : ℕ) (present slice : List Present) (p : Present) → n < length present → slice ≡ aged request_ms now n present
+    → p ≡ get_or slice n p → is_aged request_ms now p ≡ true
+    → set slice n (record { owner = p.owner; stay = p.stay; asked = None }) ≡ aged request_ms now (n + 1) present
+aged_old request_ms now n present slice p below is read old =
+    let first : p ≡ get_or present n p = read ∙ ap (λ xs. get_or xs n p) is ∙ get_or-aged request_ms now n present p below in
+    let next : suc n ≡ n + 1 = omega arith in
+    ap (set slice n) (sym (without_old-old request_ms now p old))
+    ∙ ap (λ xs. set xs n (without_old request_ms now p)) is
+    ∙ ap (λ q. set (aged request_ms now n present) n (without_old request_ms now q)) first
+    ∙ set-aged request_ms now n present p below
+    ∙ ap (λ k. aged request_ms now k present) next
+
+pub aged_young : (request_ms now n : ℕ) (present slice : List Present) (p : Present) → n < length present → slice ≡ aged request_ms now n present
+    → p ≡ get_or slice n p → is_aged request_ms now p ≡ false → slice ≡ aged request_ms now (n + 1) present
+aged_young request_ms now n present slice p below is read young =
+    let first : p ≡ get_or present n p = read ∙ ap (λ xs. get_or xs n p) is ∙ get_or-aged request_ms now n present p below in
+    let next : suc n ≡ n + 1 = omega arith in
+    is
+    ∙ sym (aged-young request_ms now n present p below (sym (ap (is_aged request_ms now) first) ∙ young))
+    ∙ ap (λ k. aged request_ms now k present) next
+
 -- ---- calls
 
-pub rising-by : (present : List Present) (call : Call) → HasRisingOwners present → HasRisingOwners (present_by present call)
-rising-by present (Arrive owner stay) rising = rising-with present _ rising
-rising-by present (Ask owner stay tuple) rising = rising-with present _ rising
-rising-by present (Depart owner stay) rising = rising-without present owner.0 rising
-rising-by present (Pli moment) rising = rising
-rising-by present (Tick moment) rising = rising
+rising-expired : (request_ms now : ℕ) (present : List Present) → HasRisingOwners present → HasRisingOwners (map (without_old request_ms now) present)
+rising-expired request_ms now present rising =
+    subst HasRisingOwners (aged-all request_ms now (length present) present (omega arith)) (rising-aged request_ms now (length present) present rising)
 
-pub stays-by : (present : List Present) (call : Call) → HasStay call → HasStays present → HasStays (present_by present call)
-stays-by present (Arrive owner stay) from stays = all-with (λ (p : Present). 1 ≤ p.stay) present _ from stays
-stays-by present (Ask owner stay tuple) from stays = all-with (λ (p : Present). 1 ≤ p.stay) present _ from stays
-stays-by present (Depart owner stay) from stays = All-filter _ (λ (p : Present). 1 ≤ p.stay) present stays
-stays-by present (Pli moment) from stays = stays
-stays-by present (Tick moment) from stays = stays
+stays-expired : (request_ms now : ℕ) (present : List Present) → HasStays present → HasStays (map (without_old request_ms now) present)
+stays-expired request_ms now present stays = All-map (λ (p : Present). 1 ≤ p.stay) (without_old request_ms now) present stays
+
+pub rising-by : (request_ms now : ℕ) (present : List Present) (call : Call) → HasRisingOwners present → HasRisingOwners (present_by request_ms now present call)
+rising-by request_ms now present (Stay owner stay Arrive) rising = rising-with present _ rising
+rising-by request_ms now present (Stay owner stay (Ask tuple)) rising = rising-with present _ rising
+rising-by request_ms now present (Stay owner stay Depart) rising = rising-without present owner.0 rising
+rising-by request_ms now present (Time moment Pli) rising = rising
+rising-by request_ms now present (Time moment Tick) rising = rising
+rising-by request_ms now present (Time moment Expire) rising = rising-expired request_ms now present rising
+
+pub stays-by : (request_ms now : ℕ) (present : List Present) (call : Call) → HasStay call → HasStays present
+    → HasStays (present_by request_ms now present call)
+stays-by request_ms now present (Stay owner stay Arrive) from stays = all-with (λ (p : Present). 1 ≤ p.stay) present _ from stays
+stays-by request_ms now present (Stay owner stay (Ask tuple)) from stays = all-with (λ (p : Present). 1 ≤ p.stay) present _ from stays
+stays-by request_ms now present (Stay owner stay Depart) from stays = All-filter _ (λ (p : Present). 1 ≤ p.stay) present stays
+stays-by request_ms now present (Time moment Pli) from stays = stays
+stays-by request_ms now present (Time moment Tick) from stays = stays
+stays-by request_ms now present (Time moment Expire) from stays = stays-expired request_ms now present stays
 
 -- an arrive that isn't refused is of an owner that isn't present, and there is room for it
-pub absent-arrive : (present : List Present) (owner : Ssrc) (stay : ℕ) → HasStays present → refusal_of present (Arrive owner stay) ≡ None
-    → presence_of present owner.0 ≡ None
-absent-arrive present owner stay stays accepted = absent_without_stay present owner.0 stays (grind (arith, nat_tests, accepted))
+pub absent-arrive : (present : List Present) (owner : ℕ) → HasStays present → unless_absent_with_room present owner ≡ None
+    → presence_of present owner ≡ None
+absent-arrive present owner stays accepted = absent_without_stay present owner stays (grind (arith, nat_tests, accepted))
 
-pub room-arrive : (present : List Present) (owner : Ssrc) (stay : ℕ) → refusal_of present (Arrive owner stay) ≡ None
-    → length present < PRESENT_LIMIT
-room-arrive present owner stay accepted = grind (arith, nat_tests, accepted)
+pub room-arrive : (present : List Present) (owner : ℕ) → unless_absent_with_room present owner ≡ None → length present < PRESENT_LIMIT
+room-arrive present owner accepted = grind (arith, nat_tests, accepted)
 
 -- a request or a depart that isn't refused names the stay with which its owner is present
-pub stay_in-request : (present : List Present) (owner : Ssrc) (stay : ℕ) (tuple : Tuple) → refusal_of present (Ask owner stay tuple) ≡ None
-    → stay_in present owner.0 ≡ stay
-stay_in-request present owner stay tuple accepted = grind (arith, nat_tests, accepted)
+pub stay_in-named : (present : List Present) (owner stay : ℕ) → unless_present_with present owner stay ≡ None → stay_in present owner ≡ stay
+stay_in-named present owner stay accepted = grind (arith, nat_tests, accepted)
 
-pub stay_in-depart : (present : List Present) (owner : Ssrc) (stay : ℕ) → refusal_of present (Depart owner stay) ≡ None
-    → stay_in present owner.0 ≡ stay
-stay_in-depart present owner stay accepted = grind (arith, nat_tests, accepted)
+pub present-named : (present : List Present) (owner stay : ℕ) → 1 ≤ stay → unless_present_with present owner stay ≡ None
+    → presence_of present owner ≡ None → ⊥
+present-named present owner stay from accepted =
+    present_with_stay present owner (omega (arith, stay_in-named present owner stay accepted, from))
 
-pub length-arrive : (present : List Present) (owner : Ssrc) (stay : ℕ) → HasStays present → refusal_of present (Arrive owner stay) ≡ None
-    → length (present_by present (Arrive owner stay)) ≡ length present + 1
-length-arrive present owner stay stays accepted = length-with_absent present _ (absent-arrive present owner stay stays accepted)
+-- how many a call leaves that isn't refused
+pub length-by : (request_ms now : ℕ) (present : List Present) (call : Call) → HasRisingOwners present → HasStays present → HasStay call
+    → refusal_of present call ≡ None → length (present_by request_ms now present call) ≡ count_by call (length present)
+length-by request_ms now present (Stay owner stay Arrive) rising stays from accepted =
+    length-with_absent present _ (absent-arrive present owner.0 stays accepted)
+length-by request_ms now present (Stay owner stay (Ask tuple)) rising stays from accepted =
+    length-with_present present _ rising (present-named present owner.0 stay from accepted)
+length-by request_ms now present (Stay owner stay Depart) rising stays from accepted =
+    omega (arith, length-without present owner.0 rising (present-named present owner.0 stay from accepted))
+length-by request_ms now present (Time moment Pli) rising stays from accepted = refl
+length-by request_ms now present (Time moment Tick) rising stays from accepted = refl
+length-by request_ms now present (Time moment Expire) rising stays from accepted = length-map present (without_old request_ms now)
 
-pub length-request : (present : List Present) (owner : Ssrc) (stay : ℕ) (tuple : Tuple) → HasRisingOwners present → 1 ≤ stay
-    → refusal_of present (Ask owner stay tuple) ≡ None → length (present_by present (Ask owner stay tuple)) ≡ length present
-length-request present owner stay tuple rising from accepted =
-    let is : stay_in present owner.0 ≡ stay = stay_in-request present owner stay tuple accepted in
-    length-with_present present _ rising (present_with_stay present owner.0 (omega (arith, is, from)))
+-- who departs unrefused is present
+pub some_present : (present : List Present) (call : Call) → HasRisingOwners present → HasStay call
+    → refusal_of present call ≡ None → IsDepart call → 1 ≤ length present
+some_present present (Stay owner stay Arrive) rising from accepted is = absurd (cc)
+some_present present (Stay owner stay (Ask tuple)) rising from accepted is = absurd (cc)
+some_present present (Stay owner stay Depart) rising from accepted is =
+    omega (arith, length-without present owner.0 rising (present-named present owner.0 stay from accepted))
+some_present present (Time moment signal) rising from accepted is = absurd is
 
-pub length-depart : (present : List Present) (owner : Ssrc) (stay : ℕ) → HasRisingOwners present → 1 ≤ stay
-    → refusal_of present (Depart owner stay) ≡ None → length (present_by present (Depart owner stay)) + 1 ≡ length present
-length-depart present owner stay rising from accepted =
-    let is : stay_in present owner.0 ≡ stay = stay_in-depart present owner stay accepted in
-    length-without present owner.0 rising (present_with_stay present owner.0 (omega (arith, is, from)))
-
-pub few-by : (present : List Present) (call : Call) → HasRisingOwners present → HasStays present → HasStay call → refusal_of present call ≡ None
-    → length present ≤ PRESENT_LIMIT → length (present_by present call) ≤ PRESENT_LIMIT
-few-by present (Arrive owner stay) rising stays from accepted few =
-    omega (arith, length-arrive present owner stay stays accepted, room-arrive present owner stay accepted)
-few-by present (Ask owner stay tuple) rising stays from accepted few = omega (arith, length-request present owner stay tuple rising from accepted, few)
-few-by present (Depart owner stay) rising stays from accepted few = omega (arith, length-depart present owner stay rising from accepted, few)
-few-by present (Pli moment) rising stays from accepted few = few
-few-by present (Tick moment) rising stays from accepted few = few
+pub few-by : (request_ms now : ℕ) (present : List Present) (call : Call) → HasRisingOwners present → HasStays present → HasStay call
+    → refusal_of present call ≡ None → length present ≤ PRESENT_LIMIT → length (present_by request_ms now present call) ≤ PRESENT_LIMIT
+few-by request_ms now present (Stay owner stay Arrive) rising stays from accepted few =
+    omega (arith, length-by request_ms now present (Stay owner stay Arrive) rising stays from accepted, room-arrive present owner.0 accepted)
+few-by request_ms now present (Stay owner stay (Ask tuple)) rising stays from accepted few =
+    omega (arith, length-by request_ms now present (Stay owner stay (Ask tuple)) rising stays from accepted, few)
+few-by request_ms now present (Stay owner stay Depart) rising stays from accepted few =
+    omega (arith, length-by request_ms now present (Stay owner stay Depart) rising stays from accepted, few)
+few-by request_ms now present (Time moment signal) rising stays from accepted few =
+    omega (arith, length-by request_ms now present (Time moment signal) rising stays from accepted, few)

@@ -13,8 +13,9 @@ use Rattle.rate_desk.specs.declared.call.Call.TheVariants.{Stay, Time}
 use Rattle.rate_desk.specs.declared.call.Change.TheVariants.{Arrive, Request as Ask, Depart}
 use Rattle.rate_desk.specs.declared.call.Entry.{Entry}
 use Rattle.rate_desk.specs.Call.{requested_word}
-use Rattle.rate_desk.specs.Trace.{base_with, base_after, words_of}
-use Rattle.rate_desk.specs.State.{DeskState, HoldsLegalDesk, Records, calls_of, now_of}
+use Rattle.rate_desk.specs.Trace.{words_of}
+use Rattle.rate_desk.specs.State.{DeskState, HoldsLegalDesk, Records, calls_of}
+use Rattle.rate_desk.proofs.TraceLemmas.{calls-after}
 
 word_of-small : (t : Tuple) → word_of t ≤ 2 ^ 32
 word_of-small t = omega (arith, t.exp_in_range, t.mantissa_in_range, t.overhead_in_range)
@@ -29,10 +30,6 @@ word-small (Time moment signal) = omega arith
 words_within : (es : List Entry) → words_of es ≤ length es * 2 ^ 32
 words_within [] = omega arith
 words_within (e ∷ es) = omega (arith, sum_by-cons (λ (x : Entry). requested_word x.call) e es, word-small e.call, words_within es)
-
-calls-after : (ms : ℕ) (base : Base) (es : List Entry) → (base_after ms base es).calls ≡ base.calls + length es
-calls-after ms base [] = omega arith
-calls-after ms base (e ∷ es) = omega (arith, calls-after ms (base_with ms base e) es)
 
 -- a desk that recorded a call has one call more
 pub one_more : (former : DeskState) (call : Call) (number : ℕ) (answer : Answer) (desk : DeskState)

@@ -1,8 +1,10 @@
 -- What a desk lists of its calls.
-use Rattle.std.specs.Prelude.{◌≡◌, ℕ, ◌<◌, ◌++◌, min, List, length, take, slice_index_or}
+use Rattle.std.specs.Prelude.{◌≡◌, ℕ, ◌<◌, ◌++◌, true, min, List, length, take, slice_get, slice_index_or, Some, None}
 use Rattle.rate_desk.specs.declared.call.Entry.{Entry}
 use Rattle.rate_desk.specs.declared.base.Base.{Base}
 use Rattle.rate_desk.specs.declared.desk.TheConstants.{HISTORY_LIMIT}
+use Rattle.rate_desk.specs.Call.{HasStay, is_done}
+use Rattle.rate_desk.specs.Presence.{refusal_of}
 use Rattle.rate_desk.specs.Trace.{base_after}
 use Rattle.rate_desk.specs.Answer.{IsAnswerTo}
 
@@ -20,3 +22,12 @@ pub record StandsFor (request_ms : ℕ) (former : Base) (entries : List Entry) (
   pub in_turn : entries ≡ folded ++ history
   pub listed : length history ≡ min HISTORY_LIMIT (length entries)
   pub stands : base ≡ base_after request_ms former folded
+
+-- the entry may follow what the calls before it come to: where it was done it wasn't refused
+pub record Follows (before : Base) (e : Entry) : Type 0 where
+  pub stay : HasStay e.call
+  pub accepted : is_done e.answer ≡ true → refusal_of before.present.items e.call ≡ None
+
+-- the first of these entries may follow the base
+abbrev pub FirstFollows : Base → List Entry → Type 0
+FirstFollows base entries = (first : Entry) → slice_get entries 0 ≡ Some first → Follows base first

@@ -30,5 +30,6 @@ abbrev pub count_by : Call → ℕ → ℕ
 count_by (Stay owner stay change) count = count_changed change count
 count_by (Time moment signal) count = count
 
-abbrev pub IsDepart : Change → Type 0
-IsDepart change = change ≡ Depart
+abbrev pub IsDepart : Call → Type 0
+IsDepart (Stay owner stay change) = change ≡ Depart
+IsDepart (Time moment signal) = ⊥

@@ -1,7 +1,8 @@
 //! What the calls of a desk come to.
 
-ghost use Rattle.std.specs.Prelude.{◌≡◌};
+ghost use Rattle.std.specs.Prelude.{◌≡◌, ◌≤◌};
 ghost use Rattle.rate_desk.specs.Trace.{is_due};
+ghost use Rattle.rate_desk.specs.Standing.{count_by, IsDepart};
 
 use crate::call::{Answer, Call, Change, Entry};
 use crate::presence::{PRESENT_LIMIT, Present, refusal, take_in};
@@ -30,9 +31,10 @@ pub struct Base {
 }
 
 impl Base {
-    ghost use Rattle.std.specs.Prelude.{◌≡◌, ◌<◌, ◌≤◌, length, None, true};
-    ghost use Rattle.rate_desk.specs.Call.{HasStay, moment_after, is_done};
+    ghost use Rattle.std.specs.Prelude.{◌≡◌, ℕ, ◌<◌, ◌≤◌, length};
+    ghost use Rattle.rate_desk.specs.Call.{HasStay, moment_after};
     ghost use Rattle.rate_desk.specs.Presence.{refusal_of};
+    ghost use Rattle.rate_desk.specs.History.{Follows};
     ghost use Rattle.rate_desk.specs.Trace.{IsBase, empty_base, base_with, goes_up, present_with};
 
     /// No calls: nobody is present, and no picture is wanted.
@@ -59,29 +61,16 @@ impl Base {
     }
 
     /// How many are present behind a call.
-    pub(crate) fn count_behind(&self, request_ms: u64, call: &Call) -> usize
+    pub(crate) fn count_behind(&self, call: &Call) -> usize
         requires base { IsBase self.now }
         requires stays { HasStay call.now }
-        ensures count { result ≡ length (present_with request_ms self.now call.now) }
+        ensures count { (request_ms : ℕ) → result ≡ length (present_with request_ms self.now call.now) }
         ensures few { result ≤ PRESENT_LIMIT }
     {
         let count = self.present.len();
-        match (self.refusal(call), call) {
-            (
-                None,
-                Call::Stay {
-                    change: Change::Arrive,
-                    ..
-                },
-            ) => count + 1,
-            (
-                None,
-                Call::Stay {
-                    change: Change::Depart,
-                    ..
-                },
-            ) => count - 1,
-            _ => count,
+        match self.refusal(call) {
+            Some(_) => count,
+            None => count_by(count, call),
         }
     }
 
@@ -107,11 +96,9 @@ impl Base {
     /// Takes one call more in, with its answer.
     pub(crate) fn take_in(&mut self, request_ms: u64, entry: &Entry)
         requires base { IsBase self.old }
-        requires stays { HasStay entry.now.call }
-        requires accepted { is_done entry.now.answer ≡ true → refusal_of self.old.present.items entry.now.call ≡ None }
+        requires follows { Follows self.old entry.now }
         requires room { self.old.calls < CALL_LIMIT }
-        ensures value { self.new ≡ base_with request_ms self.old entry.now }
-        ensures base { IsBase self.new }
+        ensures { self.new ≡ base_with request_ms self.old entry.now }
     {
         let now = self.moment_after(&entry.call);
         let (is_done, went_up) = match entry.answer {
@@ -128,6 +115,20 @@ impl Base {
         self.greatest = now;
         self.calls += 1;
         self.words += entry.call.requested_word() as u128;
+    }
+}
+
+/// How many are present behind a call that isn't refused, of so many before it.
+fn count_by(count: usize, call: &Call) -> usize
+    requires few { count ≤ PRESENT_LIMIT }
+    requires some { IsDepart call.now → 1 ≤ count }
+    ensures { result ≡ count_by call.now count }
+{
+    match call {
+        Call::Stay { change: Change::Arrive, .. } => count + 1,
+        Call::Stay { change: Change::Request(_), .. } => count,
+        Call::Stay { change: Change::Depart, .. } => count - 1,
+        Call::Time { .. } => count,
     }
 }
 

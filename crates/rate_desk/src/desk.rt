@@ -3,6 +3,7 @@
 use crate::base::{Base, CALL_LIMIT};
 use crate::call::{Answer, Call, Change, Entry, Signal};
 use crate::effect::{Effect, show_change, show_unchanged};
+use crate::history::list;
 use crate::standing::Standing;
 use arrayvec::ArrayVec;
 use circular_buffer::HeapCircularBuffer;
@@ -317,11 +318,12 @@ impl Desk {
     /// Whether the call would be one too many.
     fn is_over_limit(&self, call: &Call) -> bool
         requires { HasStay call.now }
-        ensures { IsTrue result ↔ IsOverLimit self.now call.now }
+        ensures over { IsTrue result ↔ IsOverLimit self.now call.now }
+        ensures legal { HoldsLegalDesk self.now }
     {
         let now = self.standing.whole();
         let room = CALL_LIMIT - now.calls;
-        room < 1 + now.count_behind(self.request_ms, call) as u64
+        room < 1 + now.count_behind(call) as u64
     }
 
     /// Whether the call changes no request: by its kind, or since it is refused.
@@ -346,9 +348,7 @@ impl Desk {
             call: *call,
             answer,
         };
-        if let Some(oldest) = self.history.push_back(entry) {
-            self.base.take_in(self.request_ms, &oldest);
-        }
+        list(&mut self.base, &mut self.history, self.request_ms, entry);
         Recorded { number, answer }
     }
 }

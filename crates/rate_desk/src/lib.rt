@@ -13,6 +13,7 @@ mod desk;
 mod effect;
 mod gathering;
 mod held;
+mod history;
 mod house;
 mod kept;
 pub mod laws;

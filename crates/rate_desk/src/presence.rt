@@ -144,7 +144,8 @@ fn leave(present: &mut ArrayVec<Present, MAX_REQUESTS>, owner: Ssrc)
 fn expire(present: &mut ArrayVec<Present, MAX_REQUESTS>, request_ms: u64, now: u64)
     ensures { present.new.items ≡ map (without_old request_ms now) present.old.items }
 {
-    for p in present.as_mut_slice().iter_mut() {
+    let slice = present.as_mut_slice();
+    for p in slice.iter_mut() {
         if is_too_old(p, request_ms, now) {
             p.asked = None;
         }

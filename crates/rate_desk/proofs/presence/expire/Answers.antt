@@ -1,0 +1,33 @@
+use Rattle.std.proofs.Common.{◌<◌, length, ◌∙◌, sym, ap, arith}
+use Rattle.rate_desk.proofs.EffectLemmas.{refill-whole}
+use Rattle.rate_desk.proofs.PresenceLemmas.{aged-all, aged_old, aged_young, is_aged}
+use Rattle.rate_desk.proofs.presence.expire.Goals as goal
+use Rattle.rate_desk.proofs.presence.expire.Goals.{then-is_too_old, else-is_too_old}
+
+pub loop-p-init : goal.loop-p-init
+loop-p-init c = c.as_mut_slice-slice.ensures.value
+
+pub loop-p-preserved : goal.loop-p-preserved
+loop-p-preserved c =
+    let present = c.args.present.now.items in
+    let i = c.loop-p.p-index in
+    let below : i < length present = omega (arith, c.loop-p-test.true, ap length c.as_mut_slice-slice.ensures.value) in
+    elim c.if-is_too_old.branch [
+      | then-is_too_old w ↦
+          w.slice-is
+          ∙ aged_old c.args.request_ms c.args.now i present c.loop-p.slice c.p-item.result below c.loop-p.invariant c.p-item.is
+          (ap (is_aged c.args.request_ms c.args.now) c.p-item.is ∙ sym c.is_too_old.ensures ∙ w.if-is_too_old.true)
+      | else-is_too_old w ↦
+          w.slice-is
+          ∙ aged_young c.args.request_ms c.args.now i present c.loop-p.slice c.p-item.result below c.loop-p.invariant c.p-item.is
+          (ap (is_aged c.args.request_ms c.args.now) c.p-item.is ∙ sym c.is_too_old.ensures ∙ w.if-is_too_old.false)
+    ]
+
+pub returns : goal.returns
+returns c =
+    let present = c.args.present.now.items in
+    let slice = c.loop-p.slice in
+    refill-whole present slice (c.loop-p.auto.slice ∙ ap length c.as_mut_slice-slice.ensures.value)
+    ∙ c.loop-p.invariant
+    ∙ aged-all c.args.request_ms c.args.now c.loop-p.p-index present
+    (omega (arith, c.loop-p-test.false, ap length c.as_mut_slice-slice.ensures.value))
