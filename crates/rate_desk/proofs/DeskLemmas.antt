@@ -1,7 +1,7 @@
 -- What a desk holds behind a call that it recorded.
 use Rattle.std.proofs.Common.{◌≡◌, ℕ, ◌+◌, ◌-◌, ◌≤◌, ◌<◌, Bool, true, false, cond, List, [], ◌∷◌, ◌++◌, length, drop, inl, inr, Option, None, Some, refl, sym, ap, subst, ◌∙◌, arith}
-use Rattle.std.specs.Prelude.{◌↔◌, nat_lt, min, slice_get, All}
-use Rattle.std.proofs.lemmas.Bool.{cases_lt}
+use Rattle.std.specs.Prelude.{◌↔◌, IsTrue, nat_lt, min, slice_get, All}
+use Rattle.std.proofs.lemmas.Bool.{cases_lt, ltb-true, lt-ltb}
 use Rattle.std.proofs.lemmas.Bool.Decides.{nat_tests}
 use Rattle.std.proofs.lemmas.List.{length_push}
 use Rattle.std.proofs.lemmas.List.Elements.{All-push}
@@ -146,6 +146,20 @@ held-new gap request_ms s whole stand is =
       capacity = refl;
     }
 
+pub held-made : (gap request_ms : ℕ) (s : Stand) (base : Base) (history : List Entry) (room : ℕ) → base ≡ empty_base → IsBase base
+    → history ≡ [] → room ≡ HISTORY_LIMIT → s.whole ≡ empty_base → IsStand s.whole s.bounds
+    → IsHeld (record { gap = gap; request_ms = request_ms; base = base; history = history; bounds = s.bounds }) room s
+held-made gap request_ms s base history room none is no_entries enough whole stand =
+    let Held : Base → List Entry → ℕ → Type 0 = λ b es n.
+    IsHeld (record { gap = gap; request_ms = request_ms; base = b; history = es; bounds = s.bounds }) n s in
+    subst (λ (b : Base). Held b history room) (sym none)
+    (subst (λ (es : List Entry). Held empty_base es room) (sym no_entries)
+    (subst (λ (n : ℕ). Held empty_base [] n) (sym enough)
+    (held-new gap request_ms s whole stand (subst IsBase none is))))
+
+pub tested : (a b : ℕ) (P : Type 0) → (a < b ↔ P) → (IsTrue (nat_lt a b) ↔ P)
+tested a b P both = (λ yes. both.0 (ltb-true a b yes), λ holds. lt-ltb a b (both.1 holds))
+
 module _ (d : DeskState) (room : ℕ) (old new : Stand) (call : Call) (answer : Answer) (held : IsHeld d room old)
     (fits : ¬ IsOverLimit d call) (from : HasStay call) (owed : IsAnswerTo d.gap d.request_ms old.whole call answer) where
   abbrev entry : Entry
@@ -171,10 +185,10 @@ module _ (d : DeskState) (room : ℕ) (old new : Stand) (call : Call) (answer : 
   follows = first_follows d.gap d.request_ms d.base (d.history ++ entry ∷ []) legal_behind stays_behind
 
   -- what is held once the entry is listed
-  pub held-recorded : (base : Base) (history : List Entry) → new.whole ≡ base_with d.request_ms old.whole entry
+  pub held-recorded : (base : Base) (history : List Entry) (space : ℕ) → space ≡ HISTORY_LIMIT → new.whole ≡ base_with d.request_ms old.whole entry
       → IsStand new.whole new.bounds → StandsFor d.request_ms d.base (d.history ++ entry ∷ []) base history → IsBase base
-      → IsHeld (record { gap = d.gap; request_ms = d.request_ms; base = base; history = history; bounds = new.bounds }) HISTORY_LIMIT new
-  held-recorded base history whole stand stands is =
+      → IsHeld (record { gap = d.gap; request_ms = d.request_ms; base = base; history = history; bounds = new.bounds }) space new
+  held-recorded base history space enough whole stand stands is =
       let state : DeskState = record { gap = d.gap; request_ms = d.request_ms; base = base; history = history; bounds = new.bounds } in
       let is_now : now_of state ≡ base_with d.request_ms (now_of d) entry =
       ap (λ (b : Base). base_after d.request_ms b history) stands.stands
@@ -206,5 +220,5 @@ module _ (d : DeskState) (room : ℕ) (old new : Stand) (call : Call) (answer : 
           once = announced_once new.bounds rising stand.announced;
         };
         whole = is_whole;
-        capacity = refl;
+        capacity = enough;
       }

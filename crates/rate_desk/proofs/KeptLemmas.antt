@@ -1,5 +1,5 @@
 -- The bits of kept places.
-use Rattle.std.proofs.Common.{◌≡◌, ℕ, ◌+◌, ◌<◌, ◌≤◌, ◌*◌, ◌/◌, ◌%◌, ◌^◌, ◌↔◌, List, [], ◌∷◌, ◌++◌, length, get_or, set, take, replicate, bit_or, ⊎_elim, inl, inr, sym, ap, ◌∙◌, subst, arith, get_or-set_other, get_or-set_same}
+use Rattle.std.proofs.Common.{◌≡◌, ℕ, zero, ◌+◌, ◌<◌, ◌≤◌, ◌*◌, ◌/◌, ◌%◌, ◌^◌, ◌↔◌, List, [], ◌∷◌, ◌++◌, length, get_or, set, take, replicate, bit_or, ⊎_elim, inl, inr, sym, ap, ◌∙◌, subst, arith, get_or-set_other, get_or-set_same}
 use Rattle.std.specs.Prelude.{All, Contains}
 use Rattle.std.specs.Int.{bit_at}
 use Rattle.std.proofs.lemmas.Bool.{cases_eq, cases_lt}
@@ -27,19 +27,19 @@ pub record HasBits (places words : List ℕ) : Type 0 where
 row_by : (row place : ℕ) → row / WORD_BITS ≡ place / WORD_BITS → row % WORD_BITS ≡ place % WORD_BITS → row ≡ place
 row_by row place word bit = omega (arith, word, bit)
 
-zeros : (n i : ℕ) → get_or (replicate n 0) i 0 ≡ 0
+zeros : (n i : ℕ) → get_or (replicate n zero) i zero ≡ zero
 zeros n i = elim (cases_lt i n) [
-  | inl lt ↦ get_or-replicate n i 0 0 lt
-  | inr past ↦ get_or_past (replicate n 0) i 0 (omega (arith, past, length-replicate n 0))
+  | inl lt ↦ get_or-replicate n i zero zero lt
+  | inr past ↦ get_or_past (replicate n zero) i zero (omega (arith, past, length-replicate n zero))
 ]
 
-pub HasBits-none : HasBits [] (replicate KEPT_WORDS 0)
+pub HasBits-none : HasBits [] (replicate KEPT_WORDS zero)
 HasBits-none = record {
   are = λ row. (
       λ one. absurd (omega (arith, one, ap (λ w. bit_at w (row % WORD_BITS)) (zeros KEPT_WORDS (row / WORD_BITS)), bit_at-zero (row % WORD_BITS))),
       λ has. absurd (omega (arith, has.1)),
     );
-  long = length-replicate KEPT_WORDS 0;
+  long = length-replicate KEPT_WORDS zero;
 }
 
 pub HasBits-push : (places words : List ℕ) (place : ℕ) → HasBits places words → place / WORD_BITS < KEPT_WORDS

@@ -1,4 +1,5 @@
-use Rattle.std.proofs.Common.{◌≡◌, ◌<◌, ◌≤◌, length, get_or, ap, sym, ◌∙◌, subst, arith, bits, w64}
+use Rattle.std.proofs.Common.{◌≡◌, ◌<◌, ◌≤◌, length, get_or, ap, sym, ◌∙◌, subst, arith, w64}
+use mir.Val.{bits}
 use Rattle.std.proofs.lemmas.List.{take_all}
 use Rattle.rate_cert.specs.declared.certificate.Kept.{Kept}
 use Rattle.rate_cert.specs.Certificate.{places_of}

@@ -1,7 +1,7 @@
 use Rattle.std.proofs.Common.{◌≡◌, ◌+◌, ◌∙◌, sym, ap, subst}
 use Rattle.bounding_set.specs.State.{State, AnnouncesSmallest}
 use Rattle.rate_desk.specs.Presence.{live_requests}
-use Rattle.rate_desk.proofs.PresenceLemmas.{aged, aged-all, is_aged}
+use Rattle.rate_desk.proofs.PresenceLemmas.{aged, aged-all}
 use Rattle.rate_desk.proofs.LiveLemmas.{live_old, live_young}
 use Rattle.rate_desk.proofs.standing.remove_old.Goals as goal
 use Rattle.rate_desk.proofs.standing.remove_old.Goals.{then-is_too_old, else-is_too_old}
@@ -18,13 +18,13 @@ loop-p-preserved c =
           subst Kept (sym w.bounds-is)
           (live_old request_ms now i present c.p-item.result c.loop-p.bounds.rows w.remove-removed.new.self.rows c.requires.rising
           c.loop-p-test.true c.loop-p.invariant.0 c.p-item.is
-          (ap (is_aged request_ms now) c.p-item.is ∙ sym c.is_too_old.ensures ∙ w.if-is_too_old.true)
+          (sym c.is_too_old.ensures ∙ w.if-is_too_old.true)
           w.remove-removed.ensures.rising w.remove-removed.ensures.removed,
           w.remove-removed.ensures.announced)
       | else-is_too_old w ↦
           subst Kept (sym w.bounds-is)
           (live_young request_ms now i present c.p-item.result c.loop-p.bounds.rows c.loop-p-test.true c.loop-p.invariant.0 c.p-item.is
-          (ap (is_aged request_ms now) c.p-item.is ∙ sym c.is_too_old.ensures ∙ w.if-is_too_old.false),
+          (sym c.is_too_old.ensures ∙ w.if-is_too_old.false),
           c.loop-p.invariant.1)
     ]
 

@@ -1,4 +1,9 @@
+use Rattle.std.proofs.Common.{◌≢◌, List, sym, subst, ◌∙◌}
+use Rattle.std.specs.Prelude.{AllPairs}
+use Rattle.rate_cert.specs.declared.request.Request.{Request}
 use Rattle.rate_desk.proofs.desk.Desk.call.Goals as goal
 
 pub show_change-requires-clause-once : goal.show_change-requires-clause-once
-show_change-requires-clause-once c = ?
+show_change-requires-clause-once c =
+    subst (λ (rs : List Request). AllPairs (λ x y. x.owner.0 ≢ y.owner.0) rs)
+    (sym (c.as_slice.ensures.value ∙ c.announced-former.ensures.value)) c.announced-former.ensures.legal.once
