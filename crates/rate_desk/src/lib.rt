@@ -34,6 +34,10 @@ pub use receipt::{GatherFault, HouseFault, Receipt};
 pub use seat::DeskSeat;
 
 #[cfg(test)]
+mod gather_tests;
+#[cfg(test)]
 mod house_tests;
 #[cfg(test)]
 mod tests;
+#[cfg(test)]
+mod thread_tests;

@@ -1,4 +1,4 @@
-use Rattle.rate_desk.proofs.house_tests.by_threads.Given as goal
+use Rattle.rate_desk.proofs.thread_tests.by_threads.Given as goal
 
 abbrev pub ghosts-four_threads-D-Ledger : goal.ghosts-four_threads-D-Ledger
 ghosts-four_threads-D-Ledger g a = record { name = a.recorded.name; parts = a.recorded.parts }

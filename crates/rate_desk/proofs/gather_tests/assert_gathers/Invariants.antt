@@ -1,4 +1,4 @@
-use Rattle.rate_desk.proofs.house_tests.assert_gathers.Given as goal
+use Rattle.rate_desk.proofs.gather_tests.assert_gathers.Given as goal
 
 abbrev pub ghosts-gathers-D-Ledger : goal.ghosts-gathers-D-Ledger
 ghosts-gathers-D-Ledger g a = record { name = a.recorded.name; parts = a.recorded.parts }
