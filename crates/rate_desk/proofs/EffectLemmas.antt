@@ -220,9 +220,9 @@ pub IsEffect-same : (now : List Request) (e : Effect) → e.set.items ≡ now �
 IsEffect-same now e set lifted fresh = record {
   announced = set;
   lifted = subst (λ owners. IsLifted now now (numbers_of owners)) (sym lifted) (record {
-      rising = λ i j d before below. absurd (omega (arith, below));
-      members = λ owner. (λ has. absurd (omega (arith, has.1)), λ gone. absurd (gone.1 gone.0));
-    });
+    rising = λ i j d before below. absurd (omega (arith, below));
+    members = λ owner. (λ has. absurd (omega (arith, has.1)), λ gone. absurd (gone.1 gone.0));
+  });
   fresh = fresh
       ∙ sym (none_passes (λ r. not (is_member now r)) now
       (λ k d below. ap not (list_any_at (is_same (get_or now k d)) now k (get_or now k d) below

@@ -36,15 +36,15 @@ zeros n i = elim (cases_lt i n) [
 pub HasBits-none : HasBits [] (replicate KEPT_WORDS zero)
 HasBits-none = record {
   are = λ row. (
-      λ one. absurd (omega (arith, one, ap (λ w. bit_at w (row % WORD_BITS)) (zeros KEPT_WORDS (row / WORD_BITS)), bit_at-zero (row % WORD_BITS))),
-      λ has. absurd (omega (arith, has.1)),
-    );
+    λ one. absurd (omega (arith, one, ap (λ w. bit_at w (row % WORD_BITS)) (zeros KEPT_WORDS (row / WORD_BITS)), bit_at-zero (row % WORD_BITS))),
+    λ has. absurd (omega (arith, has.1)),
+  );
   long = length-replicate KEPT_WORDS zero;
 }
 
 pub HasBits-push : (places words : List ℕ) (place : ℕ) → HasBits places words → place / WORD_BITS < KEPT_WORDS
     → HasBits (places ++ place ∷ [])
-      (set words (place / WORD_BITS) (bit_or (get_or words (place / WORD_BITS) 0) (2 ^ (place % WORD_BITS))))
+    (set words (place / WORD_BITS) (bit_or (get_or words (place / WORD_BITS) 0) (2 ^ (place % WORD_BITS))))
 HasBits-push places words place has within = record {
   are = λ row. (shows row, shown row);
   long = length-set words at new ∙ has.long;
@@ -115,7 +115,7 @@ HasBits-push places words place has within = record {
 pub HasBits-more : (kept : List Kept) (i bits : ℕ) (words : List ℕ) (k : Kept) → i < length kept → k ≡ get_or kept i k
     → k.place / WORD_BITS < KEPT_WORDS → k.place % WORD_BITS < bits → HasBits (places_of (take i kept)) words
     → HasBits (places_of (take (i + 1) kept))
-      (set words (k.place / WORD_BITS) (bit_or (get_or words (k.place / WORD_BITS) 0) (1 * 2 ^ (k.place % WORD_BITS) % 2 ^ bits)))
+    (set words (k.place / WORD_BITS) (bit_or (get_or words (k.place / WORD_BITS) 0) (1 * 2 ^ (k.place % WORD_BITS) % 2 ^ bits)))
 HasBits-more kept i bits words k below is within fits has =
     let places : places_of (take (i + 1) kept) ≡ places_of (take i kept) ++ k.place ∷ [] =
     ap places_of (take_more kept i k below)

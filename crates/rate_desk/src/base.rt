@@ -125,9 +125,18 @@ fn count_by(count: usize, call: &Call) -> usize
     ensures { result ≡ count_by call.now count }
 {
     match call {
-        Call::Stay { change: Change::Arrive, .. } => count + 1,
-        Call::Stay { change: Change::Request(_), .. } => count,
-        Call::Stay { change: Change::Depart, .. } => count - 1,
+        Call::Stay {
+            change: Change::Arrive,
+            ..
+        } => count + 1,
+        Call::Stay {
+            change: Change::Request(_),
+            ..
+        } => count,
+        Call::Stay {
+            change: Change::Depart,
+            ..
+        } => count - 1,
         Call::Time { .. } => count,
     }
 }

@@ -11,12 +11,7 @@ use crate::call::Entry;
 use circular_buffer::HeapCircularBuffer;
 
 /// Lists an entry behind the others. Where the list is full, its oldest entry is folded into the base.
-pub fn list(
-    base: &mut Base,
-    history: &mut HeapCircularBuffer<Entry>,
-    request_ms: u64,
-    entry: Entry,
-)
+pub fn list(base: &mut Base, history: &mut HeapCircularBuffer<Entry>, request_ms: u64, entry: Entry)
     requires capacity { history.old.capacity ≡ HISTORY_LIMIT }
     requires listed { length history.old.items ≤ HISTORY_LIMIT }
     requires base { IsBase base.old }

@@ -41,3 +41,5 @@ mod house_tests;
 mod tests;
 #[cfg(test)]
 mod thread_tests;
+#[cfg(test)]
+mod whole_list_tests;

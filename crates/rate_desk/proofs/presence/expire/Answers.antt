@@ -1,4 +1,5 @@
 use Rattle.std.proofs.Common.{◌<◌, length, set, None, ◌∙◌, sym, ap, arith}
+use Rattle.std.proofs.lemmas.List.{set-get_or}
 use Rattle.rate_desk.specs.declared.presence.Present.{Present}
 use Rattle.rate_desk.proofs.EffectLemmas.{refill-whole}
 use Rattle.rate_desk.proofs.PresenceLemmas.{aged-all, aged_old, aged_young, is_aged}
@@ -21,6 +22,7 @@ loop-p-preserved c =
           (ap (is_aged c.args.request_ms c.args.now) c.p-item.is ∙ sym c.is_too_old.ensures ∙ w.if-is_too_old.true)
       | else-is_too_old w ↦
           w.slice-is
+          ∙ set-get_or c.loop-p.slice i c.p-item.result
           ∙ aged_young c.args.request_ms c.args.now i present c.loop-p.slice c.p-item.result below c.loop-p.invariant c.p-item.is
           (ap (is_aged c.args.request_ms c.args.now) c.p-item.is ∙ sym c.is_too_old.ensures ∙ w.if-is_too_old.false)
     ]

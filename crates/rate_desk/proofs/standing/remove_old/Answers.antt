@@ -15,17 +15,19 @@ loop-p-preserved c =
     let Kept : State → Type 0 = λ b. (b.rows ≡ live_requests (aged request_ms now (i + 1) present)) × AnnouncesSmallest b in
     elim c.if-is_too_old.branch [
       | then-is_too_old w ↦
-          subst Kept (sym w.bounds-is)
-          (live_old request_ms now i present c.p-item.result c.loop-p.bounds.rows w.remove-removed.new.self.rows c.requires.rising
-          c.loop-p-test.true c.loop-p.invariant.0 c.p-item.is
-          (sym c.is_too_old.ensures ∙ w.if-is_too_old.true)
-          w.remove-removed.ensures.rising w.remove-removed.ensures.removed,
-          w.remove-removed.ensures.announced)
+          subst Kept (sym w.bounds-is) (
+            live_old request_ms now i present c.p-item.result c.loop-p.bounds.rows w.remove-removed.new.self.rows c.requires.rising
+                c.loop-p-test.true c.loop-p.invariant.0 c.p-item.is
+                (sym c.is_too_old.ensures ∙ w.if-is_too_old.true)
+                w.remove-removed.ensures.rising w.remove-removed.ensures.removed,
+            w.remove-removed.ensures.announced,
+          )
       | else-is_too_old w ↦
-          subst Kept (sym w.bounds-is)
-          (live_young request_ms now i present c.p-item.result c.loop-p.bounds.rows c.loop-p-test.true c.loop-p.invariant.0 c.p-item.is
-          (sym c.is_too_old.ensures ∙ w.if-is_too_old.false),
-          c.loop-p.invariant.1)
+          subst Kept (sym w.bounds-is) (
+            live_young request_ms now i present c.p-item.result c.loop-p.bounds.rows c.loop-p-test.true c.loop-p.invariant.0 c.p-item.is
+                (sym c.is_too_old.ensures ∙ w.if-is_too_old.false),
+            c.loop-p.invariant.1,
+          )
     ]
 
 pub returns-clause-live : goal.returns-clause-live
