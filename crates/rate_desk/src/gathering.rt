@@ -28,7 +28,8 @@ impl<D: DeskCalls, S: SeatCalls> House<D, S> {
         receipts: &[Receipt],
     ) -> Result<Vec<Desk>, GatherFault>
         ensures all { IfOk result
-            (λ desks. GathersAll D.gap D.request_ms S.publishers S.seats seats.items receipts.now desks.items) }
+            (λ desks. GathersAll D.gap D.request_ms S.publishers S.seats
+            seats.items receipts.now desks.items) }
         ensures fault { IfErr result
             (FailsToGather D.gap D.request_ms S.publishers S.seats seats.items receipts.now) }
     {
@@ -51,7 +52,8 @@ fn unlock<D: DeskCalls>(
 ) -> Result<Vec<Desk>, GatherFault>
     requires empty { room.items ≡ [] }
     requires roomy { vec_len locks ≤ vec_capacity room }
-    ensures { MatchResult result (λ desks. AreDesksOf D.gap D.request_ms (vec_len locks) desks.items)
+    ensures { MatchResult result (λ desks. AreDesksOf D.gap D.request_ms (vec_len locks)
+        desks.items)
         (λ fault. ⊥) }
 {
     let mut desks = room;
@@ -217,7 +219,8 @@ fn first_twice(receipts: &[Receipt]) -> Option<u64>
 fn first_folded(desks: &[Desk], receipts: &[Receipt]) -> Option<u64>
     requires { All (Fits desks.now) receipts.now }
     ensures { MatchOption result (All (StandsIn desks.now) receipts.now)
-        (λ number. (r : Receipt) × IsFirst (StandsIn desks.now) (AtItsDesk (IsFoldedAt number) desks.now) receipts.now r) }
+        (λ number. (r : Receipt) × IsFirst (StandsIn desks.now)
+        (AtItsDesk (IsFoldedAt number) desks.now) receipts.now r) }
 {
     for receipt in receipts {
         if let Some(desk) = desks.get(receipt.publisher) {

@@ -105,7 +105,8 @@ impl<D: DeskCalls, S: SeatCalls> House<D, S> {
         ensures receipt { IfOk result (λ r. IsReceiptOf publisher
             (call.Stay owner stay change.Arrive) seat.old r.0) }
         ensures told { IfOk result (λ r. IsTold D.gap D.request_ms r.0 r.1) }
-        ensures counted { OnOk result (Counts publisher (call.Stay owner stay change.Arrive) seat.old seat.new) }
+        ensures counted { OnOk result (Counts publisher
+            (call.Stay owner stay change.Arrive) seat.old seat.new) }
         ensures fault { IfErr result (IsFaultOf D.gap D.request_ms publisher
             (call.Stay owner stay change.Arrive) seat.old) }
         ensures unchanged { OnErr result (seat.new ≡ seat.old) }
@@ -169,7 +170,8 @@ impl<D: DeskCalls, S: SeatCalls> House<D, S> {
         ensures receipt { IfOk result (λ r. IsReceiptOf publisher
             (call.Stay owner stay change.Depart) seat.old r.0) }
         ensures told { IfOk result (λ r. IsTold D.gap D.request_ms r.0 r.1) }
-        ensures counted { OnOk result (Counts publisher (call.Stay owner stay change.Depart) seat.old seat.new) }
+        ensures counted { OnOk result (Counts publisher
+            (call.Stay owner stay change.Depart) seat.old seat.new) }
         ensures fault { IfErr result (IsFaultOf D.gap D.request_ms publisher
             (call.Stay owner stay change.Depart) seat.old) }
         ensures unchanged { OnErr result (seat.new ≡ seat.old) }
@@ -196,9 +198,11 @@ impl<D: DeskCalls, S: SeatCalls> House<D, S> {
         moment: u64,
     ) -> Result<(Receipt, Effect), HouseFault>
         requires publisher { publisher < S.publishers }
-        ensures receipt { IfOk result (λ r. IsReceiptOf publisher (call.Time moment signal.Pli) seat.old r.0) }
+        ensures receipt { IfOk result (λ r. IsReceiptOf publisher
+            (call.Time moment signal.Pli) seat.old r.0) }
         ensures told { IfOk result (λ r. IsTold D.gap D.request_ms r.0 r.1) }
-        ensures counted { OnOk result (Counts publisher (call.Time moment signal.Pli) seat.old seat.new) }
+        ensures counted { OnOk result (Counts publisher (call.Time moment signal.Pli)
+            seat.old seat.new) }
         ensures fault { IfErr result (IsFaultOf D.gap D.request_ms publisher
             (call.Time moment signal.Pli) seat.old) }
         ensures unchanged { OnErr result (seat.new ≡ seat.old) }
@@ -223,9 +227,11 @@ impl<D: DeskCalls, S: SeatCalls> House<D, S> {
         moment: u64,
     ) -> Result<(Receipt, Effect), HouseFault>
         requires publisher { publisher < S.publishers }
-        ensures receipt { IfOk result (λ r. IsReceiptOf publisher (call.Time moment signal.Tick) seat.old r.0) }
+        ensures receipt { IfOk result (λ r. IsReceiptOf publisher
+            (call.Time moment signal.Tick) seat.old r.0) }
         ensures told { IfOk result (λ r. IsTold D.gap D.request_ms r.0 r.1) }
-        ensures counted { OnOk result (Counts publisher (call.Time moment signal.Tick) seat.old seat.new) }
+        ensures counted { OnOk result (Counts publisher (call.Time moment signal.Tick)
+            seat.old seat.new) }
         ensures fault { IfErr result (IsFaultOf D.gap D.request_ms publisher
             (call.Time moment signal.Tick) seat.old) }
         ensures unchanged { OnErr result (seat.new ≡ seat.old) }
@@ -251,9 +257,11 @@ impl<D: DeskCalls, S: SeatCalls> House<D, S> {
         moment: u64,
     ) -> Result<(Receipt, Effect), HouseFault>
         requires publisher { publisher < S.publishers }
-        ensures receipt { IfOk result (λ r. IsReceiptOf publisher (call.Time moment signal.Expire) seat.old r.0) }
+        ensures receipt { IfOk result (λ r. IsReceiptOf publisher
+            (call.Time moment signal.Expire) seat.old r.0) }
         ensures told { IfOk result (λ r. IsTold D.gap D.request_ms r.0 r.1) }
-        ensures counted { OnOk result (Counts publisher (call.Time moment signal.Expire) seat.old seat.new) }
+        ensures counted { OnOk result (Counts publisher (call.Time moment signal.Expire)
+            seat.old seat.new) }
         ensures fault { IfErr result (IsFaultOf D.gap D.request_ms publisher
             (call.Time moment signal.Expire) seat.old) }
         ensures unchanged { OnErr result (seat.new ≡ seat.old) }
@@ -301,9 +309,11 @@ impl<D: DeskCalls, S: SeatCalls> House<D, S> {
         moment: u64,
     ) -> Result<Receipt, HouseFault>
         requires publisher { publisher < S.publishers }
-        ensures receipt { IfOk result (IsReceiptOf publisher (call.Time moment signal.Tick) seat.old) }
+        ensures receipt { IfOk result (IsReceiptOf publisher (call.Time moment signal.Tick)
+            seat.old) }
         ensures answered { IfOk result (IsPulsed D.gap D.request_ms) }
-        ensures counted { OnOk result (Counts publisher (call.Time moment signal.Tick) seat.old seat.new) }
+        ensures counted { OnOk result (Counts publisher (call.Time moment signal.Tick)
+            seat.old seat.new) }
         ensures fault { IfErr result (IsFaultOf D.gap D.request_ms publisher
             (call.Time moment signal.Tick) seat.old) }
         ensures unchanged { OnErr result (seat.new ≡ seat.old) }

@@ -94,7 +94,8 @@ impl<S: SeatCalls> DeskSeat<S> {
         ensures fault { IfErr result (IsFaultOf D.gap D.request_ms publisher call self.old) }
         ensures unchanged { OnErr result ((self.new ≡ self.old) × (held.new.desk ≡ held.old.desk) ×
             (effect.new ≡ effect.old)) }
-        ensures recorded { IfOk result (λ r. Records held.old.desk call r.number r.answer held.new.desk) }
+        ensures recorded { IfOk result (λ r. Records held.old.desk call
+            r.number r.answer held.new.desk) }
         ensures effect { OnOk result (IsEffect (announced_of held.old.desk.bounds)
             (announced_of held.new.desk.bounds) effect.new) }
         ensures receipt { IfOk result (IsReceiptOf publisher call self.old) }
@@ -130,16 +131,19 @@ impl<S: SeatCalls> DeskSeat<S> {
         requires publisher { publisher < S.publishers }
         ensures refused { IsErr result ↔ (calls_of held.old.desk < calls_to publisher self.old)
             ⊎ IsOverLimit held.old.desk (call.Time moment signal.Tick) }
-        ensures fault_here { IfErr result (IsFaultAt publisher (call.Time moment signal.Tick) self.old held.old.desk) }
+        ensures fault_here { IfErr result (IsFaultAt publisher
+            (call.Time moment signal.Tick) self.old held.old.desk) }
         ensures fault { IfErr result (IsFaultOf D.gap D.request_ms publisher
             (call.Time moment signal.Tick) self.old) }
         ensures unchanged { OnErr result ((self.new ≡ self.old) × (held.new.desk ≡ held.old.desk)) }
         ensures recorded { IfOk result (λ r. Records held.old.desk
             (call.Time moment signal.Tick) r.number r.answer held.new.desk) }
         ensures announced { held.new.desk.bounds ≡ held.old.desk.bounds }
-        ensures receipt { IfOk result (IsReceiptOf publisher (call.Time moment signal.Tick) self.old) }
+        ensures receipt { IfOk result (IsReceiptOf publisher (call.Time moment signal.Tick)
+            self.old) }
         ensures answered { IfOk result (IsPulsed D.gap D.request_ms) }
-        ensures counted { OnOk result (Counts publisher (call.Time moment signal.Tick) self.old self.new) }
+        ensures counted { OnOk result (Counts publisher (call.Time moment signal.Tick)
+            self.old self.new) }
     {
         let calls = held.desk.calls();
         if calls < self.calls(publisher) {
