@@ -2,7 +2,7 @@
 
 use crate::base::{Base, CALL_LIMIT};
 use crate::call::{Answer, Call, Change, Entry, Signal};
-use crate::effect::{Effect, show_change, show_unchanged};
+use crate::effect::{Effect, list_announced, show_change, show_unchanged};
 use crate::history::list;
 use crate::standing::Standing;
 use arrayvec::ArrayVec;
@@ -271,7 +271,8 @@ impl Desk {
             show_unchanged(effect, self.standing.bounds());
             Ok(recorded)
         } else {
-            let former = self.announced();
+            let mut former = ArrayVec::new();
+            list_announced(self.standing.bounds(), &mut former);
             let recorded = self.record(call);
             show_change(effect, former.as_slice(), self.standing.bounds());
             Ok(recorded)

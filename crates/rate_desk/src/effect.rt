@@ -2,13 +2,15 @@
 
 ghost use Rattle.std.specs.Prelude.{◌≡◌, ◌≢◌, ◌==◌, ◌≤◌, not, length, filter, AllPairs};
 ghost use Rattle.std.specs.List.{list_any};
+ghost use Rattle.rate_cert.specs.Choice.{IsChoice, chosen_requests};
+ghost use Rattle.rate_cert.specs.Certificate.{kept_places};
 ghost use Rattle.bounding_set.specs.State.{announced_of};
 ghost use Rattle.rate_desk.specs.Effect.{IsEffect, IsLifted, numbers_of, is_member};
 ghost use Rattle.rate_cert.specs.declared.certificate.TheConstants.{MAX_REQUESTS as REQUESTS};
 
 use arrayvec::ArrayVec;
 use bounding_set::Bounds;
-use rate_cert::{MAX_REQUESTS, Request};
+use rate_cert::{Cert, MAX_REQUESTS, Request};
 use tmmbr_tuple::Ssrc;
 
 /// The announced set, and what is new in it: what has to be told to the publisher and its subscribers
@@ -47,7 +49,7 @@ impl Effect {
 pub fn show_unchanged(effect: &mut Effect, bounds: &Bounds)
     ensures { IsEffect (announced_of bounds.now) (announced_of bounds.now) effect.new }
 {
-    effect.set = bounds.announced();
+    list_announced(bounds, &mut effect.set);
     effect.lifted.clear();
     effect.fresh.clear();
 }
@@ -58,10 +60,29 @@ pub fn show_change(effect: &mut Effect, former: &[Request], bounds: &Bounds)
     requires once { AllPairs (λ x y. x.owner.0 ≢ y.owner.0) former.now }
     ensures { IsEffect former.now (announced_of bounds.now) effect.new }
 {
-    effect.set = bounds.announced();
+    list_announced(bounds, &mut effect.set);
     let set = effect.set.as_slice();
     list_lifted(former, set, &mut effect.lifted);
     list_fresh(former, set, &mut effect.fresh);
+}
+
+/// Lists what is announced, in place of what stood there.
+pub fn list_announced(bounds: &Bounds, set: &mut ArrayVec<Request, MAX_REQUESTS>)
+    ensures { set.new.items ≡ announced_of bounds.now }
+{
+    list_kept(bounds.rows(), bounds.cert(), set);
+}
+
+/// Lists the requests that a certificate keeps, in its order, in place of what stood there.
+fn list_kept(rows: &[Request], cert: &Cert, set: &mut ArrayVec<Request, MAX_REQUESTS>)
+    requires { IsChoice rows.now (kept_places cert.now) }
+    ensures { set.new.items ≡ chosen_requests rows.now (kept_places cert.now) }
+{
+    set.clear();
+    let kept = cert.kept.as_slice();
+    for entry in kept {
+        set.push(rows[usize::from(entry.place)]);
+    }
 }
 
 /// The owners that have a request in the former set and none in this one, by rising SSRC.

@@ -3,4 +3,4 @@ use Rattle.rate_desk.proofs.EffectLemmas.{IsEffect-same}
 use Rattle.rate_desk.proofs.effect.show_unchanged.Goals as goal
 
 pub returns : goal.returns
-returns c = IsEffect-same (announced_of c.args.bounds.now) _ c.announced-effect.ensures.value c.clear.ensures c.clear-2.ensures
+returns c = IsEffect-same (announced_of c.args.bounds.now) _ c.list_announced.ensures c.clear.ensures c.clear-2.ensures
