@@ -11,3 +11,4 @@ pub mod Standing
 pub mod State
 pub mod Held
 pub mod Shares
+pub mod Gathered

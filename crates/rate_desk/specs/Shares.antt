@@ -1,12 +1,14 @@
--- What a contract sees of a `DeskSeat`, and how the calls of a house are counted.
-use Rattle.std.specs.Prelude.{◌≡◌, ℕ, ◌+◌, ◌*◌, ◌^◌, ◌<◌, ◌≤◌, List, length, get_or, set, replicate, sum_by, slice_get, slice_index_or, Some, All, AllPairs, ◌≢◌}
+-- What a contract sees of a `DeskSeat`, and what a house's calls give.
+use Rattle.std.specs.Prelude.{◌≡◌, ℕ, ◌+◌, ◌*◌, ◌^◌, ◌<◌, ◌≤◌, List, length, get_or, set, replicate}
+use Rattle.bounding_set.specs.State.{announced_of}
 use Rattle.rate_desk.specs.declared.call.Call.{Call}
+use Rattle.rate_desk.specs.declared.effect.Effect.{Effect}
 use Rattle.rate_desk.specs.declared.receipt.Receipt.{Receipt}
 use Rattle.rate_desk.specs.declared.receipt.HouseFault.{HouseFault}
 use Rattle.rate_desk.specs.declared.receipt.HouseFault.TheVariants.{HistoryFull, Behind}
 use Rattle.rate_desk.specs.Call.{requested_word}
-use Rattle.rate_desk.specs.Trace.{words_of}
-use Rattle.rate_desk.specs.State.{DeskState, calls_of}
+use Rattle.rate_desk.specs.Effect.{IsEffect}
+use Rattle.rate_desk.specs.State.{DeskState, HoldsLegalDesk, IsOverLimit, Records, calls_of}
 
 -- the recorded calls to each publisher, the sums of the words that they requested, and the calls that the share stands for
 pub record SeatState : Type 0 where
@@ -42,38 +44,41 @@ pub record IsReceiptOf (p : ℕ) (asked : Call) (seat : SeatState) (receipt : Re
   pub call : receipt.call ≡ asked
   pub number : calls_to p seat ≤ receipt.number
 
--- the calls that a `Behind` shows are fewer than those that the seat made to the publisher
-abbrev pub IsFaultOf : ℕ → SeatState → HouseFault → Type 0
-IsFaultOf p seat HistoryFull = Unit {0}
-IsFaultOf p seat (Behind calls) = calls < calls_to p seat
+-- ---- desks of a house
 
--- the receipt's number is below those that its publisher's desk lists
-pub record IsFoldedIn (desks : List DeskState) (receipt : Receipt) : Type 0 where
+-- a legal desk with the house's gap, whose requests may grow as old as the house's
+pub record IsDeskOf (gap request_ms : ℕ) (desk : DeskState) : Type 0 where
+  pub legal : HoldsLegalDesk desk
+  pub apart : desk.gap ≡ gap
+  pub age : desk.request_ms ≡ request_ms
+
+-- a desk of the house recorded the receipt's call, and became another
+pub record Recorded (gap request_ms : ℕ) (receipt : Receipt) (former desk : DeskState) : Type 0 where
+  pub was : IsDeskOf gap request_ms former
+  pub is : IsDeskOf gap request_ms desk
+  pub records : Records former receipt.call receipt.number receipt.answer desk
+
+-- some desk of the house recorded the receipt's call, and the effect is what that changed
+pub record IsTold (gap request_ms : ℕ) (receipt : Receipt) (effect : Effect) : Type 0 where
+  pub former : DeskState
   pub desk : DeskState
-  pub there : slice_get desks receipt.publisher ≡ Some desk
-  pub folded : receipt.number < desk.base.calls
+  pub recorded : Recorded gap request_ms receipt former desk
+  pub changed : IsEffect (announced_of former.bounds) (announced_of desk.bounds) effect
 
--- the receipt's call and answer stand at its number in its publisher's history, behind the calls of the base
-pub record StandsIn (desks : List DeskState) (receipt : Receipt) : Type 0 where
+-- some desk of the house recorded the receipt's call, and announces what it did before
+pub record IsPulsed (gap request_ms : ℕ) (receipt : Receipt) : Type 0 where
+  pub former : DeskState
   pub desk : DeskState
-  pub there : slice_get desks receipt.publisher ≡ Some desk
-  pub at : ℕ
-  pub numbered : receipt.number ≡ desk.base.calls + at
-  pub stands : slice_get desk.history at ≡ Some (record { call = receipt.call; answer = receipt.answer })
+  pub recorded : Recorded gap request_ms receipt former desk
+  pub announced : desk.bounds ≡ former.bounds
 
--- two receipts of one publisher have two numbers
-abbrev pub IsApart : Receipt → Receipt → Type 0
-IsApart r s = r.publisher ≡ s.publisher → r.number ≢ s.number
+-- The desk has fewer calls than the seat made to it, and this many are shown; else it has no room for the call.
+abbrev pub IsFaultAt : ℕ → Call → SeatState → DeskState → HouseFault → Type 0
+IsFaultAt p call seat desk HistoryFull = (calls_to p seat ≤ calls_of desk) × IsOverLimit desk call
+IsFaultAt p call seat desk (Behind calls) = (calls ≡ calls_of desk) × (calls < calls_to p seat)
 
--- what all seats counted of this publisher are the calls of its desk, and the words of its base and history
-pub record AddsUp (seats : List SeatState) (desk : DeskState) (p : ℕ) : Type 0 where
-  pub calls : sum_by (calls_to p) seats ≡ calls_of desk
-  pub words : sum_by (words_to p) seats ≡ desk.base.words + words_of desk.history
-
--- each receipt stands in its history, no number of one publisher comes twice, and the counts of all seats add up to each desk's
--- calls and words
-pub record GathersAll (count : ℕ) (seats : List SeatState) (receipts : List Receipt) (desks : List DeskState) : Type 0 where
-  pub publishers : length desks ≡ count
-  pub stand : All (StandsIn desks) receipts
-  pub once : AllPairs IsApart receipts
-  pub totals : (p : ℕ) (d : DeskState) → p < length desks → AddsUp seats (slice_index_or desks p d) p
+-- some desk of the house has this fault
+pub record IsFaultOf (gap request_ms p : ℕ) (call : Call) (seat : SeatState) (fault : HouseFault) : Type 0 where
+  pub desk : DeskState
+  pub is : IsDeskOf gap request_ms desk
+  pub here : IsFaultAt p call seat desk fault

@@ -1,106 +1,127 @@
 //! The end of a house: its desks are taken out of their locks, and compared with what the seats counted and
 //! with the receipts.
 
-ghost use Rattle.std.specs.Prelude.{◌≡◌, ◌<◌, ◌≤◌, ◌-◌, ◌⊎◌, length, vec_len, sum_by, slice_index_or, slice_get, Some, All, AllPairs, IfOk, OnOk, IfSome, IsTrue, ℕ};
-ghost use Rattle.rate_desk.specs.State.{DeskState};
-ghost use Rattle.rate_desk.specs.Shares.{calls_to, words_to, IsFoldedIn, StandsIn, IsApart, AddsUp, GathersAll};
+ghost use Rattle.std.specs.Prelude.{◌≡◌, ◌≢◌, ◌<◌, ◌≤◌, ◌-◌, ◌↔◌, ◌⊎◌, [], length, vec_len, vec_capacity, min, sum_by, slice_get, Some, All, AllPairs, MatchOption, MatchResult, IfOk, IfErr, IsTrue, ◌^◌};
+ghost use Rattle.rate_desk.specs.Shares.{calls_to, words_to};
+ghost use Rattle.rate_desk.specs.Gathered.{AddsUp, AddUpBelow, Agrees, AreDesksOf, AtItsDesk, FailsToGather, Fits, GathersAll, IsApart, IsFirst, IsFirstFault, IsFirstOff, IsFirstTwice, IsFoldedAt, IsFoldedIn, StandsIn, entry_of};
 
 use crate::call::{Answer, Call, Change, Signal};
 use crate::desk::Desk;
 use crate::held::HeldDesk;
 use crate::house::House;
-use crate::ledger::SeatCalls;
+use crate::ledger::{DeskCalls, SeatCalls};
 use crate::receipt::{GatherFault, Receipt};
 use crate::seat::DeskSeat;
-use std::alloc::Global;
 use std::sync::Mutex;
-use std::sync::ledger::Ledger;
 use tmmbr_tuple::Tuple;
 
-impl<D: Ledger, S: SeatCalls> House<D, S> {
+impl<D: DeskCalls, S: SeatCalls> House<D, S> {
     /// The desks in the order of their publishers, once all threads are done. The house and the seats are
     /// used up in each case.
     ///
-    /// Compares each receipt with its history (`Differs`, `Twice`, `Folded`), the seats with those that were
-    /// made (`Seats`), and what they counted with each desk (`Totals`), in this order.
+    /// Compares the receipts with the histories (`Differs`, then `Twice`, then `Folded`, each with the first
+    /// receipt of which it is so), the seats with those that were made (`Seats`), and what they counted with
+    /// each desk (`Totals`). It takes no memory: the house was made with what it needs.
     pub fn gather(
         self,
-        alloc: Global,
         seats: Vec<DeskSeat<S>>,
         receipts: &[Receipt],
     ) -> Result<Vec<Desk>, GatherFault>
-        ensures { IfOk result (λ desks. GathersAll S.publishers seats.items receipts.now desks.items) }
+        ensures all { IfOk result
+            (λ desks. GathersAll D.gap D.request_ms S.publishers S.seats
+            seats.items receipts.now desks.items) }
+        ensures fault { IfErr result
+            (FailsToGather D.gap D.request_ms S.publishers S.seats seats.items receipts.now) }
     {
         let House {
             desks: locks,
             tally: _,
             seats: made,
+            room,
         } = self;
-        let desks = unlock(alloc, locks)?;
-        check_receipts(desks.as_slice(), receipts)?;
-        check_numbers(receipts)?;
-        check_listed(desks.as_slice(), receipts)?;
-        if seats.len() != made {
-            return Err(GatherFault::Seats(seats.len()));
-        }
-        check_totals(desks.as_slice(), seats.as_slice())?;
+        let desks = unlock(locks, room)?;
+        compare(desks.as_slice(), made, seats.as_slice(), receipts)?;
         Ok(desks)
     }
 }
 
-/// The desks, in order.
-fn unlock<D: Ledger>(
-    alloc: Global,
+/// The desks, in order, in the room that was made for them.
+fn unlock<D: DeskCalls>(
     locks: Vec<Mutex<HeldDesk<D>>>,
+    room: Vec<Desk>,
 ) -> Result<Vec<Desk>, GatherFault>
-    ensures { IfOk result (λ desks. vec_len desks ≡ vec_len locks) }
+    requires empty { room.items ≡ [] }
+    requires roomy { vec_len locks ≤ vec_capacity room }
+    ensures { MatchResult result (λ desks. AreDesksOf D.gap D.request_ms (vec_len locks)
+        desks.items)
+        (λ fault. ⊥) }
 {
-    let Ok(mut desks) = Vec::with_capacity(alloc, locks.len()) else {
-        return Err(GatherFault::NoMemory);
-    };
+    let mut desks = room;
     for lock in locks {
-        let HeldDesk { desk, share: _ } = lock.into_inner();
-        if desks.push(desk).is_err() {
+        let desk = lock.into_inner().into_desk();
+        let Ok(()) = desks.push(desk) else {
             return Err(GatherFault::NoMemory);
-        }
+        };
     }
     Ok(desks)
 }
 
-/// Whether each receipt whose number isn't folded stands in its publisher's history.
-fn check_receipts(desks: &[Desk], receipts: &[Receipt]) -> Result<(), GatherFault>
-    ensures { OnOk result (All (λ r. IsFoldedIn desks.now r ⊎ StandsIn desks.now r) receipts.now) }
+/// Whether desks, seats and receipts agree; else the first fault.
+fn compare<S: SeatCalls>(
+    desks: &[Desk],
+    made: usize,
+    seats: &[DeskSeat<S>],
+    receipts: &[Receipt],
+) -> Result<(), GatherFault>
+    ensures { MatchResult result (λ done. Agrees made seats.now receipts.now desks.now)
+        (IsFirstFault made seats.now receipts.now desks.now) }
 {
-    for receipt in receipts {
-        let Some(desk) = desks.get(receipt.publisher) else {
-            return Err(GatherFault::Differs(*receipt));
-        };
-        if receipt.number >= desk.base().calls && !is_listed(desk, receipt) {
-            return Err(GatherFault::Differs(*receipt));
-        }
+    if let Some(receipt) = first_differing(desks, receipts) {
+        return Err(GatherFault::Differs(receipt));
+    }
+    if let Some(number) = first_twice(receipts) {
+        return Err(GatherFault::Twice(number));
+    }
+    if let Some(number) = first_folded(desks, receipts) {
+        return Err(GatherFault::Folded(number));
+    }
+    if seats.len() != made {
+        return Err(GatherFault::Seats(seats.len()));
+    }
+    if let Some(publisher) = first_off(desks, seats) {
+        return Err(GatherFault::Totals(publisher));
     }
     Ok(())
 }
 
-/// Whether no receipt's number is folded.
-fn check_listed(desks: &[Desk], receipts: &[Receipt]) -> Result<(), GatherFault>
-    ensures { OnOk result (All (λ r. ¬ IsFoldedIn desks.now r) receipts.now) }
+/// The first receipt that neither stands in its publisher's history nor may have stood there.
+fn first_differing(desks: &[Desk], receipts: &[Receipt]) -> Option<Receipt>
+    ensures { MatchOption result (All (Fits desks.now) receipts.now) (IsFirst (Fits desks.now)
+        (λ r. ¬ Fits desks.now r) receipts.now) }
 {
     for receipt in receipts {
-        if let Some(desk) = desks.get(receipt.publisher) {
-            if receipt.number < desk.base().calls {
-                return Err(GatherFault::Folded(desk.base().calls));
-            }
+        if !fits(desks, receipt) {
+            return Some(*receipt);
         }
     }
-    Ok(())
+    None
+}
+
+/// Whether the receipt stands in its publisher's history, or may have stood there.
+fn fits(desks: &[Desk], receipt: &Receipt) -> bool
+    ensures { IsTrue result ↔ Fits desks.now receipt.now }
+{
+    match desks.get(receipt.publisher) {
+        Some(desk) => receipt.number < desk.base().calls || is_listed(desk, receipt),
+        None => false,
+    }
 }
 
 /// Whether the receipt's call and answer stand at its number, which isn't folded.
 fn is_listed(desk: &Desk, receipt: &Receipt) -> bool
     requires { desk.now.base.calls ≤ receipt.now.number }
-    ensures { IsTrue result → slice_get desk.now.history (receipt.now.number - desk.now.base.calls)
-        ≡ Some (record { call = receipt.now.call; answer = receipt.now.answer }) }
+    ensures { IsTrue result ↔ slice_get desk.now.history
+        (receipt.now.number - desk.now.base.calls) ≡ Some (entry_of receipt.now) }
 {
     let place = receipt.number - desk.base().calls;
     match desk.history().get(place as usize) {
@@ -113,7 +134,7 @@ fn is_listed(desk: &Desk, receipt: &Receipt) -> bool
 
 /// Whether the two calls are one.
 fn is_call(one: &Call, other: &Call) -> bool
-    ensures { IsTrue result → one.now ≡ other.now }
+    ensures { IsTrue result ↔ one.now ≡ other.now }
 {
     match (*one, *other) {
         (
@@ -144,103 +165,112 @@ fn is_call(one: &Call, other: &Call) -> bool
 
 /// Whether the two changes are one.
 fn is_change(one: Change, other: Change) -> bool
-    ensures { IsTrue result → one ≡ other }
+    ensures { IsTrue result ↔ one ≡ other }
 {
-    match (one, other) {
-        (Change::Arrive, Change::Arrive) | (Change::Depart, Change::Depart) => true,
-        (Change::Request(x), Change::Request(y)) => is_tuple(x, y),
-        _ => false,
-    }
-}
-
-/// Whether the two signals are one.
-fn is_signal(one: Signal, other: Signal) -> bool
-    ensures { IsTrue result → one ≡ other }
-{
-    match (one, other) {
-        (Signal::Pli, Signal::Pli) | (Signal::Tick, Signal::Tick) => true,
-        (Signal::Expire, Signal::Expire) => true,
-        _ => false,
+    match one {
+        Change::Arrive => matches!(other, Change::Arrive),
+        Change::Request(asked) => match other {
+            Change::Request(tuple) => is_tuple(asked, tuple),
+            _ => false,
+        },
+        Change::Depart => matches!(other, Change::Depart),
     }
 }
 
 /// Whether the two tuples are one: their words are.
 fn is_tuple(one: Tuple, other: Tuple) -> bool
-    ensures { IsTrue result → one ≡ other }
+    ensures { IsTrue result ↔ one ≡ other }
 {
     let word = one.to_word();
     let second = other.to_word();
     word == second
 }
 
-/// Whether the two answers are one.
-fn is_answer(one: &Answer, other: &Answer) -> bool
-    ensures { IsTrue result → one.now ≡ other.now }
+/// Whether the two signals are one.
+fn is_signal(one: Signal, other: Signal) -> bool
+    ensures { IsTrue result ↔ one ≡ other }
 {
-    match (*one, *other) {
-        (Answer::Done { pli: p, kept: k }, Answer::Done { pli: q, kept: l }) => p == q && k == l,
-        (Answer::NotPresent(s), Answer::NotPresent(t)) => s == t,
-        (Answer::AlreadyPresent(s), Answer::AlreadyPresent(t)) => s == t,
-        (Answer::Full, Answer::Full) => true,
-        _ => false,
-    }
+    one == other
 }
 
-/// Whether no number of one publisher comes twice.
-fn check_numbers(receipts: &[Receipt]) -> Result<(), GatherFault>
-    ensures { OnOk result (AllPairs IsApart receipts.now) }
+/// Whether the two answers are one.
+fn is_answer(one: &Answer, other: &Answer) -> bool
+    ensures { IsTrue result ↔ one.now ≡ other.now }
+{
+    one == other
+}
+
+/// The first number that comes twice for one publisher.
+fn first_twice(receipts: &[Receipt]) -> Option<u64>
+    ensures { MatchOption result (AllPairs IsApart receipts.now) (IsFirstTwice receipts.now) }
 {
     for later in 0..receipts.len() {
         for earlier in 0..later {
             let (one, two) = (&receipts[earlier], &receipts[later]);
             if one.publisher == two.publisher && one.number == two.number {
-                return Err(GatherFault::Twice(two.number));
+                return Some(two.number);
             }
         }
     }
-    Ok(())
+    None
 }
 
-/// Whether the seats' counts of each publisher add up to its desk's calls and words.
-fn check_totals<S: SeatCalls>(desks: &[Desk], seats: &[DeskSeat<S>]) -> Result<(), GatherFault>
-    ensures { OnOk result ((p : ℕ) (d : DeskState) → p < length desks.now → AddsUp seats.now (slice_index_or desks.now p d) p) }
+/// Of the first receipt whose number is folded, the first number that its publisher's desk lists.
+fn first_folded(desks: &[Desk], receipts: &[Receipt]) -> Option<u64>
+    requires { All (Fits desks.now) receipts.now }
+    ensures { MatchOption result (All (StandsIn desks.now) receipts.now)
+        (λ number. (r : Receipt) × IsFirst (StandsIn desks.now)
+        (AtItsDesk (IsFoldedAt number) desks.now) receipts.now r) }
+{
+    for receipt in receipts {
+        if let Some(desk) = desks.get(receipt.publisher) {
+            if receipt.number < desk.base().calls {
+                return Some(desk.base().calls);
+            }
+        }
+    }
+    None
+}
+
+/// The first publisher whose desk the seats' counts don't add up to.
+fn first_off<S: SeatCalls>(desks: &[Desk], seats: &[DeskSeat<S>]) -> Option<usize>
+    ensures { MatchOption result (AddUpBelow (length desks.now) seats.now desks.now)
+        (IsFirstOff seats.now desks.now) }
 {
     for publisher in 0..desks.len() {
         if !adds_up(seats, &desks[publisher], publisher) {
-            return Err(GatherFault::Totals(publisher));
+            return Some(publisher);
         }
     }
-    Ok(())
+    None
 }
 
 /// Whether the seats' counts of a publisher add up to its desk's calls and words.
 fn adds_up<S: SeatCalls>(seats: &[DeskSeat<S>], desk: &Desk, publisher: usize) -> bool
-    ensures { IsTrue result → AddsUp seats.now desk.now publisher }
+    ensures { IsTrue result ↔ AddsUp seats.now desk.now publisher }
 {
-    match (calls_of(seats, publisher), requested_of(seats, publisher)) {
-        (Some(calls), Some(words)) => calls == desk.calls() && words == desk.words(),
-        _ => false,
-    }
+    let (calls, words) = (desk.calls(), desk.words());
+    calls_of(seats, publisher) == calls && requested_of(seats, publisher) == words
 }
 
-/// The calls to a publisher that all seats counted; `None` where they don't fit.
-fn calls_of<S: SeatCalls>(seats: &[DeskSeat<S>], publisher: usize) -> Option<u64>
-    ensures { IfSome result (λ calls. calls ≡ sum_by (calls_to publisher) seats.now) }
+/// The calls to a publisher that all seats counted, as far as they fit.
+fn calls_of<S: SeatCalls>(seats: &[DeskSeat<S>], publisher: usize) -> u64
+    ensures { result ≡ min (sum_by (calls_to publisher) seats.now) (2 ^ 64 - 1) }
 {
     let mut total: u64 = 0;
     for seat in seats {
-        total = total.checked_add(seat.calls(publisher))?;
+        total = total.saturating_add(seat.calls(publisher));
     }
-    Some(total)
+    total
 }
 
-/// The words that all seats' calls to a publisher requested; `None` where they don't fit.
-fn requested_of<S: SeatCalls>(seats: &[DeskSeat<S>], publisher: usize) -> Option<u128>
-    ensures { IfSome result (λ words. words ≡ sum_by (words_to publisher) seats.now) }
+/// The words that all seats' calls to a publisher requested, as far as they fit.
+fn requested_of<S: SeatCalls>(seats: &[DeskSeat<S>], publisher: usize) -> u128
+    ensures { result ≡ min (sum_by (words_to publisher) seats.now) (2 ^ 128 - 1) }
 {
     let mut total: u128 = 0;
     for seat in seats {
-        total = total.checked_add(seat.words(publisher))?;
+        total = total.saturating_add(seat.words(publisher));
     }
-    Some(total)
+    total
 }

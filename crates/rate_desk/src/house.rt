@@ -1,44 +1,53 @@
 //! Desks under locks of their own, one for each publisher, which several threads call.
 
-ghost use Rattle.std.specs.Prelude.{◌≡◌, ◌≤◌, replicate, vec_len, IfOk};
+ghost use Rattle.std.specs.Prelude.{◌≡◌, ◌≤◌, replicate, vec_len, vec_capacity, IfOk, []};
 ghost use Rattle.rate_desk.specs.Shares.{new_seat};
 
 use crate::call::{Call, Change, Signal};
 use crate::desk::Desk;
 use crate::effect::Effect;
 use crate::held::HeldDesk;
-use crate::ledger::{SeatCalls, Tally};
+use crate::ledger::{DeskCalls, SeatCalls, Tally};
 use crate::receipt::{HouseFault, Receipt};
 use crate::seat::DeskSeat;
 use std::alloc::{AllocError, Global};
-use std::sync::ledger::{Blank, Ledger, Share};
+use std::sync::ledger::{Blank, Share};
 use std::sync::{Mutex, Wait};
 use tmmbr_tuple::{Ssrc, Tuple};
 
-/// A desk for each publisher. Each call locks its publisher's desk, and inside it the tally, by which as
-/// many calls are recorded by the desks as are made by the seats.
+/// A desk for each publisher.
 ///
-/// `D` names the ledger of the recorded calls, `S` that of the calls made. Calls wait for other threads'
-/// calls of the same publisher.
+/// `D` names the ledger of the calls that the desks recorded, `S` that of the calls that the seats made. A
+/// call locks its publisher's desk, and for the time that it is counted the tally of both ledgers inside
+/// it. So a call waits for the calls of the same publisher, each for as long as its desk takes to answer,
+/// and for those of other publishers only while one of them is counted.
 #[derive(Drop)]
-pub struct House<D: Ledger, S: SeatCalls> {
+pub struct House<D: DeskCalls, S: SeatCalls> {
     pub(crate) desks: Vec<Mutex<HeldDesk<D>>>,
     pub(crate) tally: Mutex<Tally<D, S>>,
+    /// How many seats were made.
     pub(crate) seats: usize,
+    /// Room for the desks once they are out of their locks.
+    pub(crate) room: Vec<Desk>,
     pub(crate) ghost all_here: { vec_len desks ≡ S.publishers },
+    pub(crate) ghost all_made: { seats ≡ S.seats },
+    pub(crate) ghost empty: { room.items ≡ [] },
+    pub(crate) ghost roomy: { S.publishers ≤ vec_capacity room },
 }
 
-impl<D: Ledger, S: SeatCalls> House<D, S> {
+impl<D: DeskCalls, S: SeatCalls> House<D, S> {
     ghost use Rattle.std.specs.Prelude.{◌≡◌, ◌<◌, ◌≤◌, replicate, IfOk, IfErr, OnOk, OnErr};
     ghost use Rattle.rate_desk.specs.declared.call.Call.TheVariants as call;
     ghost use Rattle.rate_desk.specs.declared.call.Change.TheVariants as change;
     ghost use Rattle.rate_desk.specs.declared.call.Signal.TheVariants as signal;
     ghost use Rattle.rate_desk.specs.Call.{HasStay};
-    ghost use Rattle.rate_desk.specs.Shares.{new_seat, Counts, IsReceiptOf, IsFaultOf};
+    ghost use Rattle.rate_desk.specs.Shares.{new_seat, Counts, IsReceiptOf, IsFaultOf, IsTold, IsPulsed};
 
     /// A house of so many publishers and seats. Each desk sends PLIs upstream at least `gap` milliseconds
     /// apart, and takes requests away that are `request_ms` milliseconds old, never where that is 0. The
     /// first ledger has a part for each publisher, the second one for each seat.
+    ///
+    /// It takes the memory that `gather` needs, too.
     pub fn new(
         alloc: Global,
         recorded: Blank,
@@ -48,22 +57,27 @@ impl<D: Ledger, S: SeatCalls> House<D, S> {
         gap: u64,
         request_ms: u64,
     ) -> Result<(House<D, S>, Vec<DeskSeat<S>>), AllocError>
-        requires publishers { publishers ≡ S.publishers }
         requires recorded { (recorded.name ≡ D.name) × (recorded.parts ≡ D.parts) }
         requires made { (made.name ≡ S.name) × (made.parts ≡ S.parts) }
         requires parts { (publishers ≤ D.parts) × (seats ≤ S.parts) }
+        requires publishers { publishers ≡ S.publishers }
+        requires seats { seats ≡ S.seats }
+        requires gap { gap ≡ D.gap }
+        requires request_ms { request_ms ≡ D.request_ms }
         ensures seats { IfOk result (λ r. r.1.items ≡ replicate seats (new_seat publishers)) }
     {
         let (recorded, desk_shares) = recorded.open::<D>();
         let (made, seat_shares) = made.open::<S>();
         let desks = new_desks(alloc, desk_shares, publishers, gap, request_ms)?;
         let free = new_seats(alloc, seat_shares, publishers, seats)?;
+        let room = Vec::with_capacity(alloc, publishers)?;
         let tally = Mutex::new(Tally { recorded, made });
         Ok((
             House {
                 desks,
                 tally,
                 seats,
+                room,
             },
             free,
         ))
@@ -88,12 +102,16 @@ impl<D: Ledger, S: SeatCalls> House<D, S> {
     ) -> Result<(Receipt, Effect), HouseFault>
         requires publisher { publisher < S.publishers }
         requires stay { 1 ≤ stay }
-        ensures receipt { IfOk result (λ r. IsReceiptOf publisher (call.Stay owner stay change.Arrive) seat.old r.0) }
-        ensures counted { OnOk result (Counts publisher (call.Stay owner stay change.Arrive) seat.old seat.new) }
-        ensures fault { IfErr result (IsFaultOf publisher seat.old) }
+        ensures receipt { IfOk result (λ r. IsReceiptOf publisher
+            (call.Stay owner stay change.Arrive) seat.old r.0) }
+        ensures told { IfOk result (λ r. IsTold D.gap D.request_ms r.0 r.1) }
+        ensures counted { OnOk result (Counts publisher
+            (call.Stay owner stay change.Arrive) seat.old seat.new) }
+        ensures fault { IfErr result (IsFaultOf D.gap D.request_ms publisher
+            (call.Stay owner stay change.Arrive) seat.old) }
         ensures unchanged { OnErr result (seat.new ≡ seat.old) }
     {
-        self.call(
+        self.reply(
             rt,
             seat,
             publisher,
@@ -117,17 +135,25 @@ impl<D: Ledger, S: SeatCalls> House<D, S> {
     ) -> Result<(Receipt, Effect), HouseFault>
         requires publisher { publisher < S.publishers }
         requires stay { 1 ≤ stay }
-        ensures receipt { IfOk result (λ r. IsReceiptOf publisher (call.Stay owner stay (change.Request tuple)) seat.old r.0) }
-        ensures counted { OnOk result (Counts publisher (call.Stay owner stay (change.Request tuple)) seat.old seat.new) }
-        ensures fault { IfErr result (IsFaultOf publisher seat.old) }
+        ensures receipt { IfOk result (λ r. IsReceiptOf publisher (call.Stay owner stay
+            (change.Request tuple)) seat.old r.0) }
+        ensures told { IfOk result (λ r. IsTold D.gap D.request_ms r.0 r.1) }
+        ensures counted { OnOk result (Counts publisher (call.Stay owner stay
+            (change.Request tuple)) seat.old seat.new) }
+        ensures fault { IfErr result (IsFaultOf D.gap D.request_ms publisher (call.Stay owner stay
+            (change.Request tuple)) seat.old) }
         ensures unchanged { OnErr result (seat.new ≡ seat.old) }
     {
-        let call = Call::Stay {
-            owner,
-            stay,
-            change: Change::Request(tuple),
-        };
-        self.call(rt, seat, publisher, call)
+        self.reply(
+            rt,
+            seat,
+            publisher,
+            Call::Stay {
+                owner,
+                stay,
+                change: Change::Request(tuple),
+            },
+        )
     }
 
     /// The owner's stay at the publisher ends, as `Desk::depart` says. A fault leaves all as it was.
@@ -141,12 +167,16 @@ impl<D: Ledger, S: SeatCalls> House<D, S> {
     ) -> Result<(Receipt, Effect), HouseFault>
         requires publisher { publisher < S.publishers }
         requires stay { 1 ≤ stay }
-        ensures receipt { IfOk result (λ r. IsReceiptOf publisher (call.Stay owner stay change.Depart) seat.old r.0) }
-        ensures counted { OnOk result (Counts publisher (call.Stay owner stay change.Depart) seat.old seat.new) }
-        ensures fault { IfErr result (IsFaultOf publisher seat.old) }
+        ensures receipt { IfOk result (λ r. IsReceiptOf publisher
+            (call.Stay owner stay change.Depart) seat.old r.0) }
+        ensures told { IfOk result (λ r. IsTold D.gap D.request_ms r.0 r.1) }
+        ensures counted { OnOk result (Counts publisher
+            (call.Stay owner stay change.Depart) seat.old seat.new) }
+        ensures fault { IfErr result (IsFaultOf D.gap D.request_ms publisher
+            (call.Stay owner stay change.Depart) seat.old) }
         ensures unchanged { OnErr result (seat.new ≡ seat.old) }
     {
-        self.call(
+        self.reply(
             rt,
             seat,
             publisher,
@@ -168,12 +198,16 @@ impl<D: Ledger, S: SeatCalls> House<D, S> {
         moment: u64,
     ) -> Result<(Receipt, Effect), HouseFault>
         requires publisher { publisher < S.publishers }
-        ensures receipt { IfOk result (λ r. IsReceiptOf publisher (call.Time moment signal.Pli) seat.old r.0) }
-        ensures counted { OnOk result (Counts publisher (call.Time moment signal.Pli) seat.old seat.new) }
-        ensures fault { IfErr result (IsFaultOf publisher seat.old) }
+        ensures receipt { IfOk result (λ r. IsReceiptOf publisher
+            (call.Time moment signal.Pli) seat.old r.0) }
+        ensures told { IfOk result (λ r. IsTold D.gap D.request_ms r.0 r.1) }
+        ensures counted { OnOk result (Counts publisher (call.Time moment signal.Pli)
+            seat.old seat.new) }
+        ensures fault { IfErr result (IsFaultOf D.gap D.request_ms publisher
+            (call.Time moment signal.Pli) seat.old) }
         ensures unchanged { OnErr result (seat.new ≡ seat.old) }
     {
-        self.call(
+        self.reply(
             rt,
             seat,
             publisher,
@@ -193,12 +227,16 @@ impl<D: Ledger, S: SeatCalls> House<D, S> {
         moment: u64,
     ) -> Result<(Receipt, Effect), HouseFault>
         requires publisher { publisher < S.publishers }
-        ensures receipt { IfOk result (λ r. IsReceiptOf publisher (call.Time moment signal.Tick) seat.old r.0) }
-        ensures counted { OnOk result (Counts publisher (call.Time moment signal.Tick) seat.old seat.new) }
-        ensures fault { IfErr result (IsFaultOf publisher seat.old) }
+        ensures receipt { IfOk result (λ r. IsReceiptOf publisher
+            (call.Time moment signal.Tick) seat.old r.0) }
+        ensures told { IfOk result (λ r. IsTold D.gap D.request_ms r.0 r.1) }
+        ensures counted { OnOk result (Counts publisher (call.Time moment signal.Tick)
+            seat.old seat.new) }
+        ensures fault { IfErr result (IsFaultOf D.gap D.request_ms publisher
+            (call.Time moment signal.Tick) seat.old) }
         ensures unchanged { OnErr result (seat.new ≡ seat.old) }
     {
-        self.call(
+        self.reply(
             rt,
             seat,
             publisher,
@@ -219,12 +257,16 @@ impl<D: Ledger, S: SeatCalls> House<D, S> {
         moment: u64,
     ) -> Result<(Receipt, Effect), HouseFault>
         requires publisher { publisher < S.publishers }
-        ensures receipt { IfOk result (λ r. IsReceiptOf publisher (call.Time moment signal.Expire) seat.old r.0) }
-        ensures counted { OnOk result (Counts publisher (call.Time moment signal.Expire) seat.old seat.new) }
-        ensures fault { IfErr result (IsFaultOf publisher seat.old) }
+        ensures receipt { IfOk result (λ r. IsReceiptOf publisher
+            (call.Time moment signal.Expire) seat.old r.0) }
+        ensures told { IfOk result (λ r. IsTold D.gap D.request_ms r.0 r.1) }
+        ensures counted { OnOk result (Counts publisher (call.Time moment signal.Expire)
+            seat.old seat.new) }
+        ensures fault { IfErr result (IsFaultOf D.gap D.request_ms publisher
+            (call.Time moment signal.Expire) seat.old) }
         ensures unchanged { OnErr result (seat.new ≡ seat.old) }
     {
-        self.call(
+        self.reply(
             rt,
             seat,
             publisher,
@@ -235,8 +277,53 @@ impl<D: Ledger, S: SeatCalls> House<D, S> {
         )
     }
 
-    /// Locks the publisher's desk, then the tally, and makes the call.
-    fn call<R: Wait>(
+    /// Makes any of these calls, and says in `effect` what it changed in the announced set, whatever stood
+    /// there. A fault leaves effect and seat as they were.
+    pub fn call<R: Wait>(
+        &self,
+        rt: &R,
+        seat: &mut DeskSeat<S>,
+        publisher: usize,
+        call: Call,
+        effect: &mut Effect,
+    ) -> Result<Receipt, HouseFault>
+        requires publisher { publisher < S.publishers }
+        requires stays { HasStay call }
+        ensures receipt { IfOk result (IsReceiptOf publisher call seat.old) }
+        ensures told { IfOk result (λ r. IsTold D.gap D.request_ms r effect.new) }
+        ensures counted { OnOk result (Counts publisher call seat.old seat.new) }
+        ensures fault { IfErr result (IsFaultOf D.gap D.request_ms publisher call seat.old) }
+        ensures unchanged { OnErr result ((seat.new ≡ seat.old) × (effect.new ≡ effect.old)) }
+    {
+        let mut held = self.desks[publisher].lock(rt);
+        seat.call(rt, &mut *held, &self.tally, publisher, call, effect)
+    }
+
+    /// A tick, without saying what is announced: a tick doesn't change that. A fault leaves the seat as it
+    /// was.
+    pub fn pulse<R: Wait>(
+        &self,
+        rt: &R,
+        seat: &mut DeskSeat<S>,
+        publisher: usize,
+        moment: u64,
+    ) -> Result<Receipt, HouseFault>
+        requires publisher { publisher < S.publishers }
+        ensures receipt { IfOk result (IsReceiptOf publisher (call.Time moment signal.Tick)
+            seat.old) }
+        ensures answered { IfOk result (IsPulsed D.gap D.request_ms) }
+        ensures counted { OnOk result (Counts publisher (call.Time moment signal.Tick)
+            seat.old seat.new) }
+        ensures fault { IfErr result (IsFaultOf D.gap D.request_ms publisher
+            (call.Time moment signal.Tick) seat.old) }
+        ensures unchanged { OnErr result (seat.new ≡ seat.old) }
+    {
+        let mut held = self.desks[publisher].lock(rt);
+        seat.pulse(rt, &mut *held, &self.tally, publisher, moment)
+    }
+
+    /// Makes a call, and hands its effect out with the receipt.
+    fn reply<R: Wait>(
         &self,
         rt: &R,
         seat: &mut DeskSeat<S>,
@@ -246,18 +333,19 @@ impl<D: Ledger, S: SeatCalls> House<D, S> {
         requires publisher { publisher < S.publishers }
         requires stays { HasStay call }
         ensures receipt { IfOk result (λ r. IsReceiptOf publisher call seat.old r.0) }
+        ensures told { IfOk result (λ r. IsTold D.gap D.request_ms r.0 r.1) }
         ensures counted { OnOk result (Counts publisher call seat.old seat.new) }
-        ensures fault { IfErr result (IsFaultOf publisher seat.old) }
+        ensures fault { IfErr result (IsFaultOf D.gap D.request_ms publisher call seat.old) }
         ensures unchanged { OnErr result (seat.new ≡ seat.old) }
     {
-        let mut held = self.desks[publisher].lock(rt);
-        let mut tally = self.tally.lock(rt);
-        seat.call(&mut *held, &mut *tally, publisher, call)
+        let mut effect = Effect::new();
+        let receipt = self.call(rt, seat, publisher, call, &mut effect)?;
+        Ok((receipt, effect))
     }
 }
 
 /// A desk for each publisher, each with a part of the ledger.
-fn new_desks<D: Ledger>(
+fn new_desks<D: DeskCalls>(
     alloc: Global,
     shares: Share<D>,
     publishers: usize,
@@ -266,6 +354,8 @@ fn new_desks<D: Ledger>(
 ) -> Result<Vec<Mutex<HeldDesk<D>>>, AllocError>
     requires parts { publishers ≤ shares.parts }
     requires no_calls { shares.amount ≡ 0 }
+    requires gap { gap ≡ D.gap }
+    requires request_ms { request_ms ≡ D.request_ms }
     ensures { IfOk result (λ desks. vec_len desks ≡ publishers) }
 {
     let mut shares = shares;

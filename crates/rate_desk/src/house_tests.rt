@@ -1,275 +1,210 @@
-//! Calls of several threads through a house, and what is gathered behind them.
+//! A house beside desks on which the same calls are made.
 
 ghost use Rattle.std.specs.Prelude.{◌≡◌};
 
 use super::*;
-use rate_cert::Request;
 use std::alloc::Global;
 use std::marker::Brand;
 use std::process::Abort;
 use std::sync::Wait;
-use std::sync::ledger::{Blank, Ledger};
+use std::sync::ledger::Blank;
 use std::test::Fail;
-use std::thread;
-use std::thread::Threads;
 use tmmbr_tuple::{Ssrc, Tuple};
 
-/// A seat behind its calls, with what each gave.
-#[derive(Drop)]
-struct Made<S: SeatCalls> {
-    seat: DeskSeat<S>,
-    receipts: Vec<Receipt>,
-    effects: Vec<Effect>,
-}
-
-/// The word that is requested by the i-th request: 1000 + i bits per second, with 40 bytes of overhead.
-fn word_at(i: u8) -> u32 {
-    ((1000 + i as u32) << 9) | 40
-}
-
-/// An owner arrives at each publisher and makes 50 requests of each, in turn.
-fn ask_all<D: Ledger, S: SeatCalls, R: Wait>(
-    rt: &R,
-    alloc: Global,
-    house: &House<D, S>,
-    owner: Ssrc,
-    seat: DeskSeat<S>,
-) -> Option<Made<S>> {
-    let mut seat = seat;
-    let mut receipts = Vec::new(alloc);
-    let mut effects = Vec::new(alloc);
-    for p in 0..house.publishers() {
-        let (receipt, effect) = house.arrive(rt, &mut seat, p, owner, 1).ok()?;
-        receipts.push(receipt).ok()?;
-        effects.push(effect).ok()?;
-    }
-    for i in 0..50u8 {
-        let tuple = Tuple::from_word(word_at(i));
-        for p in 0..house.publishers() {
-            let (receipt, effect) = house.request(rt, &mut seat, p, owner, 1, tuple).ok()?;
-            receipts.push(receipt).ok()?;
-            effects.push(effect).ok()?;
-        }
-    }
-    Some(Made {
-        seat,
-        receipts,
-        effects,
-    })
-}
-
-/// Each seat in a thread of its own; their owners are 17 and those that follow. All is put together.
-fn ask_by_threads<D: Ledger + Send + Sync, S: SeatCalls + Send + Sync, R: Threads + Wait + Sync>(
-    rt: &R,
-    alloc: Global,
-    house: &House<D, S>,
-    seats: Vec<DeskSeat<S>>,
-) -> Option<(Vec<DeskSeat<S>>, Vec<Receipt>, Vec<Effect>)> {
-    let mut jobs = Vec::new(alloc);
-    let mut owner: u32 = 17;
-    for seat in seats {
-        jobs.push((Ssrc(owner), seat)).ok()?;
-        owner = owner.wrapping_add(1);
-    }
-    let made = thread::map_vec(
-        rt,
-        jobs,
-        &|job: (Ssrc, DeskSeat<S>)| ask_all(rt, alloc, house, job.0, job.1),
-    )
-    .ok()?;
-    let mut free = Vec::new(alloc);
-    let mut receipts = Vec::new(alloc);
-    let mut effects = Vec::new(alloc);
-    for one in made {
-        let Made {
-            seat,
-            receipts: mine,
-            effects: told,
-        } = one?;
-        free.push(seat).ok()?;
-        receipts.extend_from_slice(mine.as_slice()).ok()?;
-        for effect in told {
-            effects.push(effect).ok()?;
-        }
-    }
-    Some((free, receipts, effects))
-}
-
-/// The call, made again on another desk.
-fn again(desk: &mut Desk, call: Call, effect: &mut Effect) -> Option<Recorded> {
+/// The call, made of a desk.
+pub(super) fn by_desk(desk: &mut Desk, call: Call) -> Option<Reply> {
     match call {
         Call::Stay { stay: 0, .. } => None,
         Call::Stay {
             owner,
             stay,
-            change,
-        } => {
-            let call = Call::Stay {
-                owner,
-                stay,
-                change,
-            };
-            desk.call(&call, effect).ok()
-        },
-        Call::Time { .. } => desk.call(&call, effect).ok(),
+            change: Change::Arrive,
+        } => desk.arrive(owner, stay).ok(),
+        Call::Stay {
+            owner,
+            stay,
+            change: Change::Request(tuple),
+        } => desk.request(owner, stay, tuple).ok(),
+        Call::Stay {
+            owner,
+            stay,
+            change: Change::Depart,
+        } => desk.depart(owner, stay).ok(),
+        Call::Time {
+            moment,
+            signal: Signal::Pli,
+        } => desk.pli(moment).ok(),
+        Call::Time {
+            moment,
+            signal: Signal::Tick,
+        } => desk.tick(moment).ok(),
+        Call::Time {
+            moment,
+            signal: Signal::Expire,
+        } => desk.expire(moment).ok(),
     }
 }
 
-/// The place among the receipts of the one with this publisher and number.
-fn place_of(receipts: &[Receipt], publisher: usize, number: u64) -> Option<usize> {
-    receipts
-        .iter()
-        .position(|r| r.publisher == publisher && r.number == number)
+/// Receipt and effect are those of the reply that a desk gave.
+pub(super) fn assert_same(rt: &impl Abort, receipt: &Receipt, effect: &Effect, reply: &Reply) {
+    assert_eq!(rt; receipt.number, reply.number);
+    assert_eq!(rt; receipt.answer, reply.answer, "at {}", reply.number);
+    assert_eq!(rt; effect.set.as_slice(), reply.effect.set.as_slice());
+    assert_eq!(rt; effect.lifted.as_slice(), reply.effect.lifted.as_slice());
+    assert_eq!(rt; effect.fresh.as_slice(), reply.effect.fresh.as_slice());
 }
 
-/// Each effect is the one that a new desk gives for the same calls.
-fn assert_told(
-    rt: &impl Abort,
-    alloc: Global,
-    desk: &Desk,
-    publisher: usize,
-    receipts: &[Receipt],
-    effects: &[Effect],
-) -> Result<(), Fail> {
-    let mut other = Desk::new(alloc, 500, 0)?;
-    let mut told = Effect::new();
-    for number in 0..desk.history().len() {
-        let entry = desk.history().get(number).ok_or("an entry")?;
-        let reply = again(&mut other, entry.call, &mut told).ok_or("a call again")?;
-        let place = place_of(receipts, publisher, number as u64).ok_or("a receipt")?;
-        let effect = effects.get(place).ok_or("an effect")?;
-        assert_eq!(rt; reply.answer, entry.answer);
-        assert_eq!(rt; effect.set.as_slice(), told.set.as_slice());
-        assert_eq!(rt; effect.lifted.as_slice(), told.lifted.as_slice());
-        assert_eq!(rt; effect.fresh.as_slice(), told.fresh.as_slice());
-    }
-    Ok(())
-}
-
-/// Each owner's last request is live.
-fn assert_live(rt: &impl Abort, desk: &Desk) {
-    let tuple = Tuple::from_word(word_at(49));
-    let row = |owner: u32| Request {
-        owner: Ssrc(owner),
-        tuple,
-    };
-    assert_eq!(rt;
-        desk.live(),
-        [row(17), row(18), row(19), row(20)].as_slice()
-    );
-}
-
-fn four_threads<
-    D: Ledger + Send + Sync,
-    S: SeatCalls + Send + Sync,
-    R: Threads + Wait + Abort + Sync,
->(rt: &R, alloc: Global, recorded: Blank, made: Blank) -> Result<(), Fail>
-    requires names { (recorded.name ≡ D.name) × (made.name ≡ S.name) }
-    requires parts { (recorded.parts ≡ D.parts) × (made.parts ≡ S.parts) }
-    requires two { (S.publishers ≡ 2) × (D.parts ≡ 2) × (S.parts ≡ 4) }
+/// The call, made of the publisher 1 of a house.
+fn by_house<D: DeskCalls, S: SeatCalls, R: Wait>(
+    rt: &R,
+    house: &House<D, S>,
+    seat: &mut DeskSeat<S>,
+    call: Call,
+) -> Option<(Receipt, Effect)>
+    requires { S.publishers ≡ 2 }
 {
-    let (house, seats) = House::<D, S>::new(alloc, recorded, made, 2, 4, 500, 0)?;
-    let (seats, receipts, effects) = ask_by_threads(rt, alloc, &house, seats).ok_or(
-        "each call is Ok",
-    )?;
-    // Of each publisher: an arrival and 50 requests.
-    let words = 50 * ((1000 << 9) | 40) + ((49 * 50 / 2) << 9);
-    for seat in seats.as_slice() {
-        assert_eq!(rt; seat.calls(0), 51);
-        assert_eq!(rt; seat.calls(1), 51);
-        assert_eq!(rt; seat.words(0), words);
-        assert_eq!(rt; seat.words(1), words);
-        assert_eq!(rt; seat.calls(2), 0);
+    match call {
+        Call::Stay { stay: 0, .. } => None,
+        Call::Stay {
+            owner,
+            stay,
+            change: Change::Arrive,
+        } => house.arrive(rt, seat, 1, owner, stay).ok(),
+        Call::Stay {
+            owner,
+            stay,
+            change: Change::Request(tuple),
+        } => house.request(rt, seat, 1, owner, stay, tuple).ok(),
+        Call::Stay {
+            owner,
+            stay,
+            change: Change::Depart,
+        } => house.depart(rt, seat, 1, owner, stay).ok(),
+        Call::Time {
+            moment,
+            signal: Signal::Pli,
+        } => house.pli(rt, seat, 1, moment).ok(),
+        Call::Time {
+            moment,
+            signal: Signal::Tick,
+        } => house.tick(rt, seat, 1, moment).ok(),
+        Call::Time {
+            moment,
+            signal: Signal::Expire,
+        } => house.expire(rt, seat, 1, moment).ok(),
     }
-    assert_eq!(rt; receipts.len(), 408);
-    let desks = house.gather(alloc, seats, receipts.as_slice())?;
-    assert_eq!(rt; desks.len(), 2);
-    for p in 0..desks.len() {
-        assert_eq!(rt; desks[p].history().len(), 204);
-        assert_told(
-            rt,
-            alloc,
-            &desks[p],
-            p,
-            receipts.as_slice(),
-            effects.as_slice(),
-        )?;
-        assert_live(rt, &desks[p]);
-    }
-    Ok(())
 }
 
-#[test]
-fn gather_of_four_threads(rt: HostRuntime) -> Result<(), Fail> {
-    four_threads::<Brand, Brand, _>(&rt, rt.alloc(), Blank::new(2), Blank::new(4))
+/// A call of an owner.
+pub(super) fn of(owner: u32, stay: u64, change: Change) -> Call {
+    Call::Stay {
+        owner: Ssrc(owner),
+        stay,
+        change,
+    }
 }
 
-/// Why a house isn't gathered: the owner 17 arrived by one of four seats; so many seats are handed in, and
-/// its receipt so often, with this owner.
-fn refusal<D: Ledger, S: SeatCalls, R: Wait>(
+/// A call at a moment.
+pub(super) fn at(moment: u64, signal: Signal) -> Call {
+    Call::Time { moment, signal }
+}
+
+/// Each of the six calls, done and refused, with PLIs sent and not, requests that come, go and grow old.
+fn some_calls() -> [Call; 24] {
+    let high = Change::Request(Tuple::from_word(0x01f4_0028));
+    let low = Change::Request(Tuple::from_word(0x01d4_c014));
+    [
+        of(17, 1, Change::Arrive),
+        of(17, 2, Change::Arrive),
+        of(17, 9, high),
+        of(18, 2, low),
+        of(17, 1, high),
+        at(5, Signal::Pli),
+        at(100, Signal::Pli),
+        at(504, Signal::Tick),
+        at(505, Signal::Tick),
+        at(600, Signal::Tick),
+        of(18, 2, Change::Arrive),
+        of(18, 2, low),
+        at(999, Signal::Expire),
+        at(1000, Signal::Expire),
+        at(1599, Signal::Expire),
+        at(1600, Signal::Expire),
+        of(17, 1, low),
+        of(17, 1, high),
+        at(900, Signal::Pli),
+        of(17, 2, Change::Depart),
+        of(18, 2, Change::Depart),
+        of(17, 1, Change::Depart),
+        of(17, 1, Change::Depart),
+        at(4000, Signal::Tick),
+    ]
+}
+
+fn beside_desks<D: DeskCalls, S: SeatCalls, R: Wait + Abort>(
     rt: &R,
     alloc: Global,
     recorded: Blank,
     made: Blank,
-    case: (usize, usize, Ssrc),
-) -> Result<Option<GatherFault>, Fail>
+) -> Result<(), Fail>
     requires names { (recorded.name ≡ D.name) × (made.name ≡ S.name) }
     requires parts { (recorded.parts ≡ D.parts) × (made.parts ≡ S.parts) }
-    requires two { (S.publishers ≡ 2) × (D.parts ≡ 2) × (S.parts ≡ 4) }
+    requires two { (S.publishers ≡ 2) × (D.parts ≡ 2) × (S.parts ≡ 2) × (S.seats ≡ 2) }
+    requires numbers { (D.gap ≡ 500) × (D.request_ms ≡ 1000) }
 {
-    let (kept, times, owner) = case;
-    let (house, seats) = House::<D, S>::new(alloc, recorded, made, 2, 4, 500, 0)?;
+    let (house, seats) = House::<D, S>::new(alloc, recorded, made, 2, 2, 500, 1000)?;
     let mut seats = seats;
     let mut seat = seats.pop().ok_or("a seat")?;
-    let (receipt, _) = house.arrive(rt, &mut seat, 1, Ssrc(17), 1)?;
-    seats.push(seat)?;
-    seats.truncate(kept);
-    let call = Call::Stay {
-        owner,
-        stay: 1,
-        change: Change::Arrive,
-    };
+    let mut desk = Desk::new(alloc, 500, 1000)?;
+    let mut other = Desk::new(alloc, 500, 1000)?;
+    let mut effect = Effect::new();
     let mut receipts = Vec::new(alloc);
-    for _ in 0..times {
-        receipts.push(Receipt { call, ..receipt })?;
+    let mut refused = 0_usize;
+    for call in some_calls() {
+        let reply = by_desk(&mut desk, call).ok_or("a reply")?;
+        let (receipt, told) = by_house(rt, &house, &mut seat, call).ok_or("a receipt")?;
+        assert_eq!(rt; receipt.publisher, 1);
+        assert_eq!(rt; receipt.call, call);
+        assert_same(rt, &receipt, &told, &reply);
+        if !matches!(reply.answer, Answer::Done { .. }) {
+            refused = refused.saturating_add(1);
+        }
+        receipts.push(receipt)?;
+        // The same by value, and a pulse for a tick.
+        let reply = by_desk(&mut other, call).ok_or("a reply")?;
+        let receipt = match call {
+            Call::Stay { stay: 0, .. } => return Err("a stay")?,
+            Call::Time {
+                moment,
+                signal: Signal::Tick,
+            } => {
+                let receipt = house.pulse(rt, &mut seat, 0, moment)?;
+                assert_eq!(rt; receipt.answer, reply.answer);
+                receipt
+            },
+            _ => {
+                let receipt = house.call(rt, &mut seat, 0, call, &mut effect)?;
+                assert_same(rt, &receipt, &effect, &reply);
+                receipt
+            },
+        };
+        assert_eq!(rt; receipt.publisher, 0);
+        assert_eq!(rt; receipt.number, reply.number);
+        assert_eq!(rt; receipt.call, call);
+        receipts.push(receipt)?;
     }
-    Ok(house.gather(alloc, seats, receipts.as_slice()).err())
-}
-
-fn refused<R: Wait>(
-    rt: &R,
-    alloc: Global,
-    case: (usize, usize, Ssrc),
-) -> Result<Option<GatherFault>, Fail> {
-    refusal::<Brand, Brand, R>(rt, alloc, Blank::new(2), Blank::new(4), case)
-}
-
-#[test]
-fn gather_refusals(rt: HostRuntime) -> Result<(), Fail> {
-    assert_eq!(rt; refused(&rt, rt.alloc(), (4, 1, Ssrc(17)))?, None);
-    assert_eq!(rt;
-        refused(&rt, rt.alloc(), (4, 2, Ssrc(17)))?,
-        Some(GatherFault::Twice(0))
-    );
-    assert_eq!(rt;
-        refused(&rt, rt.alloc(), (3, 1, Ssrc(17)))?,
-        Some(GatherFault::Seats(3))
-    );
-    let changed = Receipt {
-        publisher: 1,
-        number: 0,
-        call: Call::Stay {
-            owner: Ssrc(18),
-            stay: 1,
-            change: Change::Arrive,
-        },
-        answer: Answer::Done {
-            pli: false,
-            kept: [0; KEPT_WORDS],
-        },
-    };
-    let differs = Some(GatherFault::Differs(changed));
-    assert_eq!(rt; refused(&rt, rt.alloc(), (4, 1, Ssrc(18)))?, differs);
-    assert_eq!(rt; refused(&rt, rt.alloc(), (4, 2, Ssrc(18)))?, differs);
+    assert_eq!(rt; refused, 5);
+    seats.push(seat)?;
+    let desks = house.gather(seats, receipts.as_slice())?;
+    for one in desks.as_slice() {
+        assert_eq!(rt; one.calls(), 24);
+        assert_eq!(rt; one.words(), desk.words());
+    }
     Ok(())
+}
+
+/// A house answers each call as a desk does on which the same calls are made.
+#[test]
+fn house_beside_desks(rt: HostRuntime) -> Result<(), Fail> {
+    beside_desks::<Brand, Brand, _>(&rt, rt.alloc(), Blank::new(2), Blank::new(2))
 }

@@ -6,25 +6,45 @@ ghost use Rattle.std.specs.Prelude.{◌≡◌, ℕ, ◌+◌, ◌<◌};
 use std::marker::Brand;
 use std::sync::ledger::{Book, Ledger, Share};
 
+/// The ledger of the calls that a house's desks recorded.
+pub trait DeskCalls: Ledger {
+    /// How many milliseconds at least lie between PLIs that a desk sends upstream.
+    ghost gap: { ℕ };
+
+    /// How many milliseconds old a request may grow; 0 for any age.
+    ghost request_ms: { ℕ };
+}
+
+impl DeskCalls for Brand {
+    ghost gap = { 0 };
+
+    ghost request_ms = { 0 };
+}
+
 /// The ledger of the calls that a house's seats made.
 pub trait SeatCalls: Ledger {
     /// How many publishers the house has a desk for.
     ghost publishers: { ℕ };
+
+    /// How many seats it was made with.
+    ghost seats: { ℕ };
 }
 
 impl SeatCalls for Brand {
     ghost publishers = { 0 };
+
+    ghost seats = { 0 };
 }
 
 /// Both books. As many calls were recorded as were made.
 #[derive(Drop)]
-pub struct Tally<D: Ledger, S: SeatCalls> {
+pub struct Tally<D: DeskCalls, S: SeatCalls> {
     pub recorded: Book<D>,
     pub made: Book<S>,
     pub ghost even: { recorded.total ≡ made.total },
 }
 
-impl<D: Ledger, S: SeatCalls> Tally<D, S> {
+impl<D: DeskCalls, S: SeatCalls> Tally<D, S> {
     /// Counts one call in the desk's share and in the seat's.
     pub fn count(&mut self, desk: &mut Share<D>, seat: &mut Share<S>)
         requires desk { 0 < desk.old.parts }

@@ -28,14 +28,18 @@ pub use call::{Answer, Call, Change, Entry, KEPT_WORDS, Signal};
 pub use desk::{Desk, HISTORY_LIMIT, HistoryFull, Recorded, Reply};
 pub use effect::Effect;
 pub use house::House;
-pub use ledger::SeatCalls;
+pub use ledger::{DeskCalls, SeatCalls};
 pub use presence::{Asked, PRESENT_LIMIT, Present};
 pub use receipt::{GatherFault, HouseFault, Receipt};
 pub use seat::DeskSeat;
 
 #[cfg(test)]
+mod gather_tests;
+#[cfg(test)]
 mod house_tests;
 #[cfg(test)]
 mod tests;
+#[cfg(test)]
+mod thread_tests;
 #[cfg(test)]
 mod whole_list_tests;

@@ -44,7 +44,7 @@ pub enum GatherFault {
     /// 5: the calls or words that the seats counted of this publisher don't add up to its desk's.
     #[error("the counts of publisher {0} don't add up")]
     Totals(usize),
-    /// 6: there was no memory.
+    /// 6: there was no memory. It doesn't come: a house is made with what `gather` needs.
     #[error("no memory")]
     NoMemory,
 }

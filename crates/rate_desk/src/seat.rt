@@ -1,13 +1,16 @@
 //! A seat: who may call the desks of a house, and how often it did.
 
-use crate::call::Call;
+use crate::base::CALL_LIMIT;
+use crate::call::{Call, Signal};
+use crate::desk::Recorded;
 use crate::effect::Effect;
 use crate::held::HeldDesk;
-use crate::ledger::{SeatCalls, Tally};
+use crate::ledger::{DeskCalls, SeatCalls, Tally};
 use crate::receipt::{HouseFault, Receipt};
 use std::alloc::{AllocError, Global};
 use std::marker::Model;
-use std::sync::ledger::{Ledger, Share};
+use std::sync::ledger::Share;
+use std::sync::{Mutex, Wait};
 
 /// The right to call the desks of a house. It counts its recorded calls and the words that they requested.
 #[derive(Drop)]
@@ -32,12 +35,14 @@ impl<S: SeatCalls> Model for DeskSeat<S> {
 }
 
 impl<S: SeatCalls> DeskSeat<S> {
-    ghost use Rattle.std.specs.Prelude.{◌≡◌, ◌<◌, ◌≤◌, length, IfOk, IfErr, OnOk, OnErr};
+    ghost use Rattle.std.specs.Prelude.{◌≡◌, ◌<◌, ◌≤◌, ◌+◌, ◌↔◌, ◌⊎◌, length, IfOk, IfErr, IsErr, OnOk, OnErr};
     ghost use Rattle.bounding_set.specs.State.{announced_of};
+    ghost use Rattle.rate_desk.specs.declared.call.Call.TheVariants as call;
+    ghost use Rattle.rate_desk.specs.declared.call.Signal.TheVariants as signal;
     ghost use Rattle.rate_desk.specs.Call.{HasStay};
     ghost use Rattle.rate_desk.specs.Effect.{IsEffect};
-    ghost use Rattle.rate_desk.specs.State.{Records};
-    ghost use Rattle.rate_desk.specs.Shares.{calls_to, words_to, new_seat, Counts, IsReceiptOf, IsFaultOf};
+    ghost use Rattle.rate_desk.specs.State.{IsOverLimit, Records, calls_of};
+    ghost use Rattle.rate_desk.specs.Shares.{calls_to, words_to, new_seat, Counts, IsReceiptOf, IsFaultAt, IsFaultOf, IsTold, IsPulsed};
 
     /// A seat that made no calls, with its part of the ledger.
     pub(crate) fn new(
@@ -71,50 +76,119 @@ impl<S: SeatCalls> DeskSeat<S> {
         self.words.get(publisher).copied().unwrap_or(0)
     }
 
-    /// Makes a call of the publisher's desk, and counts it in the desk's share and the seat's.
-    pub(crate) fn call<D: Ledger>(
+    /// Makes a call of the publisher's desk, and counts it; only for that it locks the tally.
+    pub(crate) fn call<D: DeskCalls, R: Wait>(
         &mut self,
+        rt: &R,
         held: &mut HeldDesk<D>,
-        tally: &mut Tally<D, S>,
+        tally: &Mutex<Tally<D, S>>,
         publisher: usize,
         call: Call,
-    ) -> Result<(Receipt, Effect), HouseFault>
+        effect: &mut Effect,
+    ) -> Result<Receipt, HouseFault>
         requires stays { HasStay call }
         requires publisher { publisher < S.publishers }
-        ensures recorded { IfOk result (λ r. Records held.old.desk call r.0.number r.0.answer held.new.desk) }
-        ensures effect { IfOk result (λ r. IsEffect (announced_of held.old.desk.bounds) (announced_of held.new.desk.bounds) r.1) }
-        ensures receipt { IfOk result (λ r. IsReceiptOf publisher call self.old r.0) }
+        ensures refused { IsErr result ↔ (calls_of held.old.desk < calls_to publisher self.old)
+            ⊎ IsOverLimit held.old.desk call }
+        ensures fault_here { IfErr result (IsFaultAt publisher call self.old held.old.desk) }
+        ensures fault { IfErr result (IsFaultOf D.gap D.request_ms publisher call self.old) }
+        ensures unchanged { OnErr result ((self.new ≡ self.old) × (held.new.desk ≡ held.old.desk) ×
+            (effect.new ≡ effect.old)) }
+        ensures recorded { IfOk result (λ r. Records held.old.desk call
+            r.number r.answer held.new.desk) }
+        ensures effect { OnOk result (IsEffect (announced_of held.old.desk.bounds)
+            (announced_of held.new.desk.bounds) effect.new) }
+        ensures receipt { IfOk result (IsReceiptOf publisher call self.old) }
+        ensures told { IfOk result (λ r. IsTold D.gap D.request_ms r effect.new) }
         ensures counted { OnOk result (Counts publisher call self.old self.new) }
-        ensures fault { IfErr result (IsFaultOf publisher self.old) }
+    {
+        let calls = held.desk.calls();
+        if calls < self.calls(publisher) {
+            return Err(HouseFault::Behind(calls));
+        }
+        let HeldDesk { desk, share } = held;
+        let Ok(Recorded { number, answer }) = desk.call(&call, effect) else {
+            return Err(HouseFault::HistoryFull);
+        };
+        self.count(rt, share, tally, publisher, &call);
+        Ok(Receipt {
+            publisher,
+            number,
+            call,
+            answer,
+        })
+    }
+
+    /// A tick of the publisher's desk, as `call` makes it, without saying what is announced.
+    pub(crate) fn pulse<D: DeskCalls, R: Wait>(
+        &mut self,
+        rt: &R,
+        held: &mut HeldDesk<D>,
+        tally: &Mutex<Tally<D, S>>,
+        publisher: usize,
+        moment: u64,
+    ) -> Result<Receipt, HouseFault>
+        requires publisher { publisher < S.publishers }
+        ensures refused { IsErr result ↔ (calls_of held.old.desk < calls_to publisher self.old)
+            ⊎ IsOverLimit held.old.desk (call.Time moment signal.Tick) }
+        ensures fault_here { IfErr result (IsFaultAt publisher
+            (call.Time moment signal.Tick) self.old held.old.desk) }
+        ensures fault { IfErr result (IsFaultOf D.gap D.request_ms publisher
+            (call.Time moment signal.Tick) self.old) }
         ensures unchanged { OnErr result ((self.new ≡ self.old) × (held.new.desk ≡ held.old.desk)) }
+        ensures recorded { IfOk result (λ r. Records held.old.desk
+            (call.Time moment signal.Tick) r.number r.answer held.new.desk) }
+        ensures announced { held.new.desk.bounds ≡ held.old.desk.bounds }
+        ensures receipt { IfOk result (IsReceiptOf publisher (call.Time moment signal.Tick)
+            self.old) }
+        ensures answered { IfOk result (IsPulsed D.gap D.request_ms) }
+        ensures counted { OnOk result (Counts publisher (call.Time moment signal.Tick)
+            self.old self.new) }
+    {
+        let calls = held.desk.calls();
+        if calls < self.calls(publisher) {
+            return Err(HouseFault::Behind(calls));
+        }
+        let HeldDesk { desk, share } = held;
+        let Ok(Recorded { number, answer }) = desk.pulse(moment) else {
+            return Err(HouseFault::HistoryFull);
+        };
+        let call = Call::Time {
+            moment,
+            signal: Signal::Tick,
+        };
+        self.count(rt, share, tally, publisher, &call);
+        Ok(Receipt {
+            publisher,
+            number,
+            call,
+            answer,
+        })
+    }
+
+    /// Counts a call in the desk's share and in this seat.
+    fn count<D: DeskCalls, R: Wait>(
+        &mut self,
+        rt: &R,
+        recorded: &mut Share<D>,
+        tally: &Mutex<Tally<D, S>>,
+        publisher: usize,
+        call: &Call,
+    )
+        requires publisher { publisher < S.publishers }
+        requires few { calls_to publisher self.old < CALL_LIMIT }
+        requires one_part { recorded.old.parts ≡ 1 }
+        ensures counted { Counts publisher call.now self.old self.new }
+        ensures amount { recorded.new.amount ≡ recorded.old.amount + 1 }
+        ensures parts { recorded.new.parts ≡ 1 }
     {
         let DeskSeat {
             calls,
             words,
             share,
         } = self;
-        let HeldDesk {
-            desk,
-            share: recorded,
-        } = held;
-        let before = desk.calls();
-        if before < calls[publisher] {
-            return Err(HouseFault::Behind(before));
-        }
-        let mut effect = Effect::new();
-        let Ok(reply) = desk.call(&call, &mut effect) else {
-            return Err(HouseFault::HistoryFull);
-        };
-        tally.count(recorded, share);
-        let word = call.requested_word() as u128;
+        tally.lock(rt).count(recorded, share);
         calls[publisher] += 1;
-        words[publisher] += word;
-        let receipt = Receipt {
-            publisher,
-            number: reply.number,
-            call,
-            answer: reply.answer,
-        };
-        Ok((receipt, effect))
+        words[publisher] += call.requested_word() as u128;
     }
 }

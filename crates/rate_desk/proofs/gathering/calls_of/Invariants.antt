@@ -1,7 +1,7 @@
-use Rattle.std.proofs.Common.{◌≡◌, take}
-use Rattle.std.specs.Prelude.{sum_by}
+use Rattle.std.proofs.Common.{◌≡◌, ◌^◌, ◌-◌, take}
+use Rattle.std.specs.Prelude.{sum_by, min}
 use Rattle.rate_desk.specs.Shares.{calls_to}
 use Rattle.rate_desk.proofs.gathering.calls_of.Given as goal
 
 abbrev pub invariant-loop-seat : goal.invariant-loop-seat
-invariant-loop-seat g l = l.total ≡ sum_by (calls_to l.publisher) (take l.seat-index l.seats)
+invariant-loop-seat g l = l.total ≡ min (sum_by (calls_to l.publisher) (take l.seat-index l.seats)) (2 ^ 64 - 1)
