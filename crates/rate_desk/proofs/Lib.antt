@@ -5,3 +5,5 @@ pub mod KeptLemmas
 pub mod EffectLemmas
 pub mod StandingLemmas
 pub mod DeskLemmas
+pub mod PlaceLemmas
+pub mod ScheduleLemmas
