@@ -7,3 +7,5 @@ pub mod StandingLemmas
 pub mod DeskLemmas
 pub mod PlaceLemmas
 pub mod ScheduleLemmas
+pub mod SinceLemmas
+pub mod RequestLemmas
