@@ -1,5 +1,5 @@
 -- What is known of one owner, entry by entry, and where it is present.
-use Rattle.std.proofs.Common.{◌≡◌, ℕ, zero, suc, ◌+◌, ◌<◌, ◌≤◌, Bool, true, false, cond, map, List, [], ◌∷◌, refl, sym, ap, subst, ◌∙◌, arith, Option, Some, None, inl, inr}
+use Rattle.std.proofs.Common.{◌≡◌, ℕ, zero, suc, ◌+◌, ◌≤◌, Bool, true, false, cond, map, List, [], ◌∷◌, refl, sym, ap, subst, ◌∙◌, arith, Option, Some, None, inl, inr}
 use Rattle.std.specs.Prelude.{◌==◌, ◌⊎◌, ◌↔◌, option_map}
 use Rattle.std.specs.Option.{option_map_or}
 use Rattle.std.proofs.lemmas.Bool.{cases_eq, both_ways}
@@ -11,7 +11,6 @@ use Rattle.rate_desk.specs.declared.call.Call.{Call}
 use Rattle.rate_desk.specs.declared.call.Call.TheVariants.{Stay, Time}
 use Rattle.rate_desk.specs.declared.call.Change.{Change}
 use Rattle.rate_desk.specs.declared.call.Change.TheVariants.{Arrive, Request as Ask, Depart}
-use Rattle.rate_desk.specs.declared.call.Signal.{Signal}
 use Rattle.rate_desk.specs.declared.call.Signal.TheVariants.{Pli, Tick, Expire}
 use Rattle.rate_desk.specs.declared.call.Entry.{Entry}
 use Rattle.rate_desk.specs.declared.presence.Asked.{Asked}
@@ -24,7 +23,7 @@ use Rattle.rate_desk.specs.History.{IsLegalHistory}
 use Rattle.rate_desk.specs.Places.{StandsAt, WasDone, IsArriveOf, IsRequestOf, IsDepartOf, IsExpire, IsPresentFrom, IsPresent}
 use Rattle.rate_desk.proofs.PresenceLemmas.{presence_of-with, presence_of-with_other, presence_of-without, presence_of-without_other, stay_in-named}
 use Rattle.rate_desk.proofs.TraceLemmas.{done_accepted, legal-first, legal-rest}
-use Rattle.rate_desk.proofs.PlaceLemmas.{not_in_nil, at_head, head_is, at_tail, from_tail, NoneFrom, none_later, none_cons, none_tail, none_rest}
+use Rattle.rate_desk.proofs.PlaceLemmas.{not_in_nil, at_head, head_is, at_tail, from_tail, none_later, none_cons, none_tail, none_rest}
 
 -- ---- what kinds of calls exclude each other
 
