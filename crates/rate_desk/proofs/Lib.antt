@@ -6,3 +6,7 @@ pub mod EffectLemmas
 pub mod ShareLemmas
 pub mod StandingLemmas
 pub mod DeskLemmas
+pub mod PlaceLemmas
+pub mod ScheduleLemmas
+pub mod SinceLemmas
+pub mod RequestLemmas
