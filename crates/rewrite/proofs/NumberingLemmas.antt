@@ -11,8 +11,8 @@ use Rattle.rewrite.specs.declared.segment.Segment.{Segment}
 use Rattle.rewrite.specs.declared.segment.TheConstants.{NUMBER_LIMIT, CYCLE}
 use Rattle.rewrite.specs.declared.skip.Skip.{Skip}
 use Rattle.rewrite.specs.declared.skip.Skip.TheVariants.{Old, Spent}
-use Rattle.rewrite.specs.Leg.{Held, IsWithinLimit, opened, last_number, extended_number, answer_at, answer_in, with_number, answer_to, answer_by, held_with, segment_with, history_of}
-use Rattle.rewrite.specs.Numbering.{Packet, Entry, Numbered, numbered, numbered_as, within_limit, IsNextNumber, extended_of, IsExtension, Begins, Continues, IsAnswer, RenumbersAfter, AreApart}
+use Rattle.rewrite.specs.Leg.{Held, IsWithinLimit, opened, last_number, extended_number, answer_at, answer_in, with_number, answer_to, answer_by, held_with, segment_with, history_of, held_after, LeavesOpen, IsHeldBy}
+use Rattle.rewrite.specs.Numbering.{Packet, Entry, Numbered, numbered, numbered_as, within_limit, IsNextNumber, extended_of, IsExtension, IsHighest, Begins, Continues, IsAnswer, RenumbersAfter, AreApart}
 
 -- the extended number is the near one
 pub extended_number-is : (highest seq : ℕ) → CYCLE ≤ highest → seq < CYCLE → IsExtension highest seq (extended_number highest seq)
@@ -179,6 +179,14 @@ begins first s past turn answer h less is = record {
   answered = is;
 }
 
+highest_of : (s : Segment) (past : List Numbered) (h : Holds s past) → IsHighest past h.base s.highest
+highest_of s past h = record {
+  reached = any_weaker (λ p. (p.turn ≡ s.turn) × (p.number ≡ last_number s)) (λ p. (p.turn ≡ h.base.turn) × (extended_of h.base p ≡ s.highest))
+      past (λ p f. (f.0 ∙ sym h.base_turn, omega (arith, f.1, h.base_at, h.start_at, h.within.risen))) h.highest;
+  greatest = All-weaker (Fits s) (λ p. p.turn ≡ h.base.turn → extended_of h.base p ≤ s.highest)
+      (λ p f same. omega (arith, f.number, f.own (same ∙ h.base_turn), h.base_at, h.start_at, h.within.risen)) past h.each;
+}
+
 continues : (s : Segment) (past : List Numbered) (seq : ℕ) (answer : Result ℕ Skip) → Holds s past → seq < CYCLE
     → answer ≡ answer_in s seq → Continues past s.turn seq answer
 continues s past seq answer h fits is = record {
@@ -186,12 +194,7 @@ continues s past seq answer h fits is = record {
   base = h.base;
   is_base = h.is_base;
   highest = s.highest;
-  is_highest = record {
-    reached = any_weaker (λ p. (p.turn ≡ s.turn) × (p.number ≡ last_number s)) (λ p. (p.turn ≡ h.base.turn) × (extended_of h.base p ≡ s.highest))
-        past (λ p f. (f.0 ∙ sym h.base_turn, omega (arith, f.1, h.base_at, h.start_at, h.within.risen))) h.highest;
-    greatest = All-weaker (Fits s) (λ p. p.turn ≡ h.base.turn → extended_of h.base p ≤ s.highest)
-        (λ p f same. omega (arith, f.number, f.own (same ∙ h.base_turn), h.base_at, h.start_at, h.within.risen)) past h.each;
-  };
+  is_highest = highest_of s past h;
   extended = extended_number s.highest seq;
   is_extension = extended_number-is s.highest seq (omega (arith, h.within.cycled, h.within.risen)) fits;
   answered = is ∙ rw (h.base_at, h.start_at) refl;
@@ -320,4 +323,30 @@ apart_after held past (p ∷ packets) fits seqs h apart =
     let first_fits : (held_with held p.turn p.seq answer).first < CYCLE = rw (same_first held p.turn p.seq answer) fits in
     let rest = apart_after (held_with held p.turn p.seq answer) (past ++ numbered_as p.turn p.seq answer) packets
     first_fits (All-tail (λ (q : Packet). q.seq < CYCLE) p packets seqs) step.holds (step.apart apart) in
+    rw append_assoc at rest
+
+-- ---- what is held
+
+leaves_open : (segment : Option Segment) (past : List Numbered) → HoldsFor segment past → LeavesOpen past segment
+leaves_open None past h = h
+leaves_open (Some s) past h = record {
+  latest = All-weaker (Fits s) (λ p. p.turn ≤ s.turn) (λ p f. f.turn) past h.each;
+  first = h.base;
+  is_base = h.is_base;
+  base = sym h.base_at;
+  start = sym h.start_at;
+  is_highest = highest_of s past h;
+}
+
+pub held_after-is : (first : ℕ) (held : Held) (past : List Numbered) (packets : List Packet) → held.first ≡ first → first < CYCLE
+    → All (λ p. p.seq < CYCLE) packets → HoldsFor held.segment past
+    → IsHeldBy first (past ++ flat_map numbered (history_of held packets)) (held_after held packets)
+held_after-is first held past [] same fits seqs h =
+    rw append-nil (record { same_first = same; open_segment = leaves_open held.segment past h })
+held_after-is first held past (p ∷ packets) same fits seqs h =
+    let answer = answer_to held p.turn p.seq in
+    let seq_fits : p.seq < CYCLE = seqs 0 p (omega arith) in
+    let step = steps held.first held.segment past p.turn p.seq h (omega arith) seq_fits in
+    let rest = held_after-is first (held_with held p.turn p.seq answer) (past ++ numbered_as p.turn p.seq answer) packets
+    (same_first held p.turn p.seq answer ∙ same) fits (All-tail (λ (q : Packet). q.seq < CYCLE) p packets seqs) step.holds in
     rw append_assoc at rest

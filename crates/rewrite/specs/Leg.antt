@@ -1,10 +1,10 @@
 -- What a leg holds, and what it answers by that.
-use Rattle.std.specs.Prelude.{ℕ, ◌+◌, ◌-◌, ◌*◌, ◌%◌, ◌<◌, ◌≤◌, max, nat_lt, List, [], ◌∷◌, Option, None, Some, Result, Ok, Err, if◌then◌else◌}
+use Rattle.std.specs.Prelude.{◌≡◌, ℕ, ◌+◌, ◌-◌, ◌*◌, ◌%◌, ◌<◌, ◌≤◌, max, nat_lt, List, [], ◌∷◌, All, Option, None, Some, Result, Ok, Err, if◌then◌else◌}
 use Rattle.rewrite.specs.declared.skip.Skip.{Skip}
 use Rattle.rewrite.specs.declared.skip.Skip.TheVariants.{Old}
 use Rattle.rewrite.specs.declared.segment.Segment.{Segment}
 use Rattle.rewrite.specs.declared.segment.TheConstants.{NUMBER_LIMIT, CYCLE, REACH}
-use Rattle.rewrite.specs.Numbering.{Packet, Entry, within_limit}
+use Rattle.rewrite.specs.Numbering.{Packet, Entry, Numbered, IsBase, IsHighest, base_place, within_limit}
 
 -- the first number, and the packets of the latest turn
 pub record Held : Type 0 where
@@ -72,5 +72,29 @@ history_of held (p ∷ packets) =
     record { turn = p.turn; seq = p.seq; answer = answer_to held p.turn p.seq }
     ∷ history_of (held_with held p.turn p.seq (answer_to held p.turn p.seq)) packets
 
+-- what a leg holds after packets in turn
+abbrev pub held_after : Held → List Packet → Held
+held_after held [] = held
+held_after held (p ∷ packets) = held_after (held_with held p.turn p.seq (answer_to held p.turn p.seq)) packets
+
 abbrev pub new_leg : ℕ → Held
 new_leg first = record { first = first; segment = None }
+
+-- The segment that these numbered packets leave open is that of the greatest turn: its base is that turn's first packet,
+-- and its highest the greatest extended number of that turn.
+pub record IsOpen (given : List Numbered) (s : Segment) : Type 0 where
+  pub latest : All (λ p. p.turn ≤ s.turn) given
+  pub first : Numbered
+  pub is_base : IsBase given s.turn first
+  pub base : s.base ≡ base_place first
+  pub start : s.start ≡ first.number
+  pub is_highest : IsHighest given first s.highest
+
+abbrev pub LeavesOpen : List Numbered → Option Segment → Type 0
+LeavesOpen given None = given ≡ []
+LeavesOpen given (Some s) = IsOpen given s
+
+-- what a leg with this first number holds, once these packets got their numbers
+pub record IsHeldBy (first : ℕ) (given : List Numbered) (held : Held) : Type 0 where
+  pub same_first : held.first ≡ first
+  pub open_segment : LeavesOpen given held.segment

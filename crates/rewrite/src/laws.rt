@@ -3,7 +3,7 @@
 
 ghost use Rattle.std.specs.Prelude.{ℕ, ◌<◌, List, All, flat_map};
 ghost use Rattle.rewrite.specs.Numbering.{Packet, Renumbers, AreApart, numbered};
-ghost use Rattle.rewrite.specs.Leg.{new_leg, history_of};
+ghost use Rattle.rewrite.specs.Leg.{new_leg, history_of, held_after, IsHeldBy};
 
 use crate::segment::CYCLE;
 
@@ -14,4 +14,11 @@ pub fn renumbers()
         → Renumbers first (history_of (new_leg first) packets) }
     ensures apart { (first : ℕ) (packets : List Packet) → first < CYCLE → All (λ p. p.seq < CYCLE) packets
         → AreApart (flat_map numbered (history_of (new_leg first) packets)) }
+{}
+
+/// What a new leg holds after any list of packets is what the packets that got a number say: its first
+/// number, and the segment of the greatest turn. So a copy of a leg numbers as the leg would.
+pub fn holds()
+    ensures { (first : ℕ) (packets : List Packet) → first < CYCLE → All (λ p. p.seq < CYCLE) packets
+        → IsHeldBy first (flat_map numbered (history_of (new_leg first) packets)) (held_after (new_leg first) packets) }
 {}

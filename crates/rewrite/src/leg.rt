@@ -8,7 +8,7 @@ use std::cmp::Ordering;
 use std::marker::Model;
 
 /// The numbers of what one subscriber is sent of one publisher. What is sent carries their low 16 bits.
-#[derive(Debug, Drop)]
+#[derive(Clone, Copy, Debug)]
 pub struct Leg {
     /// The number of the very first packet.
     first: u16,
@@ -23,6 +23,8 @@ impl Model for Leg {
     ghost Value = { Held };
 
     ghost view = { λ l. record { first = l.first; segment = l.segment } };
+
+    ghost inverse = { λ h. record { first = h.first; segment = h.segment } };
 
     ghost invariant = { λ l. ForSome l.segment IsWithinLimit };
 }

@@ -18,6 +18,18 @@ fn numbers_of_example_14(rt: HostRuntime) {
     assert_eq!(rt; leg.next(3, 9), Ok(105));
 }
 
+#[test]
+fn copy_numbers_as_the_leg(rt: HostRuntime) {
+    let mut leg = Leg::new(100);
+    assert_eq!(rt; leg.next(1, 65534), Ok(100));
+    let mut planned = leg;
+    assert_eq!(rt; planned.next(2, 3), Ok(101));
+    assert_eq!(rt; planned.next(2, 5), Ok(103));
+    // What was planned with the copy left the leg as it was.
+    assert_eq!(rt; leg.next(1, 65535), Ok(101));
+    assert_eq!(rt; leg.next(2, 3), Ok(102));
+}
+
 /// One packet after another on one turn, whose sequence numbers wrap where they reach 65,536.
 fn counts_on(rt: &impl Abort, base: u16) {
     let mut leg = Leg::new(base);
