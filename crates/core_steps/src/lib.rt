@@ -7,8 +7,10 @@
 
 mod bytes;
 mod job;
+mod links;
 mod output;
 
 pub use bytes::Bytes;
 pub use job::Job;
+pub use links::Links;
 pub use output::{DeskRefusal, Out, Refusal};
