@@ -25,12 +25,12 @@ at_push {X} xs x P before here k v is =
     ⊎_elim
     (λ (below : k < length xs). before k v (sym (slice_get-append_left xs (x ∷ []) k below) ∙ is))
     (λ (above : length xs ≤ k).
-      let at : k ≡ length xs = omega arith in
-      let same : Some x ≡ Some v = sym (slice_get-append_right xs (x ∷ []) k 0 (omega arith)) ∙ is in
-      let item : x ≡ v = cc in
-      let Q : ℕ → Type 0 = λ n. P n v in
-      let R : X → Type 0 = λ y. P (length xs) y in
-      subst Q (sym at) (subst R item here))
+    let at : k ≡ length xs = omega arith in
+    let same : Some x ≡ Some v = sym (slice_get-append_right xs (x ∷ []) k 0 (omega arith)) ∙ is in
+    let item : x ≡ v = cc in
+    let Q : ℕ → Type 0 = λ n. P n v in
+    let R : X → Type 0 = λ y. P (length xs) y in
+    subst Q (sym at) (subst R item here))
     (cases_lt k (length xs))
 
 -- no leg is of a publisher that isn't there
@@ -55,15 +55,15 @@ first_past n subscriber source first (l ∷ ls) h past =
 pub numbers_step : (publisher i : ℕ) (legs : List LegSettings) (d : LegSettings) → i < length legs
     → numbers_of publisher (enumerate_from i (drop i legs))
     ≡ (if (get_or legs i d).publisher == publisher
-        then i ∷ numbers_of publisher (enumerate_from (i + 1) (drop (i + 1) legs))
-        else numbers_of publisher (enumerate_from (i + 1) (drop (i + 1) legs)))
+    then i ∷ numbers_of publisher (enumerate_from (i + 1) (drop (i + 1) legs))
+    else numbers_of publisher (enumerate_from (i + 1) (drop (i + 1) legs)))
 numbers_step publisher i legs d h = at_drop_more (λ (ls : List LegSettings). numbers_of publisher (enumerate_from i ls)) legs i d h
 
 -- the first leg from one leg on
 pub first_step : (subscriber source i : ℕ) (legs : List LegSettings) (d : LegSettings) → i < length legs
     → first_to subscriber source (enumerate_from i (drop i legs))
     ≡ (if ((get_or legs i d).subscriber == subscriber && (get_or legs i d).out_ssrc.0 == source) then Some i
-        else first_to subscriber source (enumerate_from (i + 1) (drop (i + 1) legs)))
+    else first_to subscriber source (enumerate_from (i + 1) (drop (i + 1) legs)))
 first_step subscriber source i legs d h = at_drop_more (λ (ls : List LegSettings). first_to subscriber source (enumerate_from i ls)) legs i d h
 
 pub lists_one_more : (lists : List (Vec ℕ)) (v : Vec ℕ) (n : ℕ) (legs : List LegSettings) → ListsLegs lists n legs

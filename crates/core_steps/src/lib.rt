@@ -7,10 +7,17 @@
 
 mod bytes;
 mod job;
+mod leg;
+mod legs;
 mod links;
 mod output;
+mod plan;
+mod planning;
 
 pub use bytes::Bytes;
 pub use job::Job;
+pub use leg::LegState;
+pub use legs::Legs;
 pub use links::Links;
 pub use output::{DeskRefusal, Out, Refusal};
+pub use plan::{Plan, Planned};
