@@ -1,7 +1,8 @@
 //! What a job is about to do on the legs of a worker.
 
 ghost use Rattle.std.specs.Prelude.{◌≡◌, ◌++◌, ◌∷◌, [], length, IfOk, OnOk, OnErr};
-ghost use Rattle.core_steps.specs.Plan.{applied, applied_one};
+ghost use Rattle.core_steps.specs.Legs.{forwarded, handed_out};
+ghost use Rattle.core_steps.specs.Plan.{applied, applied_one, changed_at};
 
 use crate::bytes::Bytes;
 use crate::leg::LegState;
@@ -64,6 +65,40 @@ impl Model for Plan {
     ghost view = { λ p. p.planned.items };
 }
 
+/// A packet goes out on the leg at a place, if there is one. Answers the bytes of the packet that isn't kept any more.
+fn forward_at(
+    legs: &mut [LegState],
+    place: usize,
+    numbers: Leg,
+    number: u64,
+    octets: u64,
+    bytes: Vec<u8>,
+) -> Option<Vec<u8>>
+    ensures { legs.new ≡ changed_at legs.old place (λ s. forwarded s numbers number octets bytes.items) }
+{
+    if place < legs.len() {
+        legs[place].forward(numbers, number, octets, bytes)
+    } else {
+        None
+    }
+}
+
+/// A packet goes out again on the leg at a place, if there is one.
+fn hand_out_at(legs: &mut [LegState], place: usize, octets: u64)
+    ensures { legs.new ≡ changed_at legs.old place (λ s. handed_out s octets) }
+{
+    if place < legs.len() {
+        legs[place].hand_out(octets);
+    }
+}
+
+/// Keeps a buffer for the next packet; without memory for that it is given back.
+fn save(spare: &mut Vec<Vec<u8>>, left: Option<Vec<u8>>) {
+    if let Some(buffer) = left {
+        let _ = spare.push(buffer);
+    }
+}
+
 /// Does one thing that is planned on these legs. What a leg doesn't keep any more goes to the spare buffers.
 fn apply_one(planned: Planned, legs: &mut [LegState], spare: &mut Vec<Vec<u8>>)
     ensures { legs.new ≡ applied_one legs.old planned }
@@ -71,24 +106,17 @@ fn apply_one(planned: Planned, legs: &mut [LegState], spare: &mut Vec<Vec<u8>>)
     match planned {
         Planned::Forward {
             place,
-            endpoint: _,
             numbers,
             number,
             octets,
             bytes,
+            ..
         } => {
-            let Some(leg) = legs.get_mut(usize::from(place)) else {
-                return;
-            };
-            if let Some(left) = leg.forward(numbers, number, octets, bytes.into_vec()) {
-                let _ = spare.push(left);
-            }
+            let place = usize::from(place);
+            let left = forward_at(legs, place, numbers, number, octets, bytes.into_vec());
+            save(spare, left);
         }
-        Planned::Resend { place, octets, .. } => {
-            if let Some(leg) = legs.get_mut(usize::from(place)) {
-                leg.hand_out(octets);
-            }
-        }
+        Planned::Resend { place, octets, .. } => hand_out_at(legs, usize::from(place), octets),
         Planned::Report { .. } | Planned::Skip { .. } | Planned::Miss { .. } => {}
     }
 }
