@@ -1,7 +1,7 @@
 -- How the legs that a job concerns are found among a worker's.
-use Rattle.std.proofs.Common.{◌≡◌, ◌≢◌, ℕ, ◌+◌, ◌<◌, ◌≤◌, ◌⊎◌, inl, inr, ⊎_elim, Bool, true, false, List, [], ◌∷◌, ◌++◌, length, get_or, drop, zero, suc, refl, sym, ap, subst, ◌∙◌, arith, length-append, append_assoc, zero-add}
+use Rattle.std.proofs.Common.{◌≡◌, ◌≢◌, ℕ, ◌+◌, ◌<◌, ◌≤◌, ◌⊎◌, inl, inr, ⊎_elim, Bool, true, false, List, [], ◌∷◌, ◌++◌, length, take, drop, zero, suc, refl, sym, ap, subst, ◌∙◌, arith, length-append, append_assoc, zero-add}
 use Rattle.std.proofs.lemmas.Bool.Decides.{nat_tests, eqb_tells}
-use Rattle.std.proofs.lemmas.List.{at_drop_more, append-nil}
+use Rattle.std.proofs.lemmas.List.{append-nil, drop_all, take_at}
 use Rattle.std.proofs.lemmas.Option.{slice_get_within, get_or_from_slice_get}
 use Rattle.std.proofs.lemmas.List.Elements.{All-head, All-tail, All-cons, All-nil}
 use Rattle.std.specs.Prelude.{◌==◌, ◌&&◌, not, nat_eq, Option, None, Some, slice_get, slice_index_or, All, if◌then◌else◌}
@@ -12,16 +12,17 @@ use Rattle.members.specs.declared.order.Row.{Row}
 use Rattle.members.specs.declared.settings.LegSettings.{LegSettings}
 use Rattle.members.specs.Settings.{IsLegAmong}
 use Rattle.rtcp_feedback.specs.declared.nack.Nack.{Nack}
+use Rattle.rtcp_feedback.specs.Nack.{lost_numbers}
 use Rattle.core_steps.specs.declared.job.Job.{Job}
 use Rattle.core_steps.specs.declared.job.Job.TheVariants as job
 use Rattle.core_steps.specs.declared.leg.LegState.{LegState}
 use Rattle.core_steps.specs.declared.plan.Planned.{Planned}
 use Rattle.core_steps.specs.declared.plan.Planned.TheVariants.{Forward, Resend, Report, Skip, Miss}
-use Rattle.core_steps.specs.Legs.{takes, stands, row_of, answer_on, owned_by, new_legs, new_state, forwarded, handed_out}
+use Rattle.core_steps.specs.Legs.{takes, stands, row_of, answer_on, report_bytes, owned_by, new_legs, new_state, forwarded, handed_out}
 use Rattle.core_steps.specs.Links.{LinkTable, IsLinkTable, numbered_legs, worker_of}
 use Rattle.core_steps.specs.Places.{Sources}
 use Rattle.core_steps.specs.Plan.{changed_at, applied_one, applied}
-use Rattle.core_steps.specs.Planning.{packet_planned, leg_plan, job_plan, plan_by, plan_of, places_of, place_of, ListsPlaces, FindsPlaces, IsRising, AreFound, IsNowhere, IsStandingAt}
+use Rattle.core_steps.specs.Planning.{packet_planned, resends, leg_plan, job_plan, plan_by, plan_of, places_of, place_of, ListsPlaces, FindsPlaces, IsRising, AreFound, IsNowhere, IsStandingAt}
 use Rattle.core_steps.specs.Rtp.{is_rtp}
 use Rattle.core_steps.proofs.LinkLemmas.{at_push}
 use Rattle.core_steps.proofs.PlanLemmas.{at_behind}
@@ -97,22 +98,27 @@ pub nowhere_report : (cname : List ℕ) (rows : List Row) (leg stay : ℕ) (sr :
 nowhere_report cname rows leg stay sr legs h =
     silent cname rows (job.Report leg stay sr) (λ s. stands rows leg stay s ≡ false) 0 legs (λ k s quiet. off _ _ _ quiet) h
 
+on : (b : Bool) (x y : List Planned) → b ≡ true → (if b then x else y) ≡ x
+on b x y h = ap (λ (c : Bool). if c then x else y) h
+
 -- where the stay stands on a leg, its jobs plan what that leg does
 pub standing_resend : (cname : List ℕ) (rows : List Row) (leg stay place : ℕ) (nack : Nack) (legs : List LegState) (s : LegState)
     → IsStandingAt rows leg stay legs place s
-    → job_plan cname rows legs (job.Resend leg stay nack) ≡ leg_plan cname rows (job.Resend leg stay nack) (place, s)
+    → job_plan cname rows legs (job.Resend leg stay nack) ≡ resends place s (lost_numbers nack)
 standing_resend cname rows leg stay place nack legs s h =
     only cname rows (job.Resend leg stay nack) s 0 place legs h.rising h.at
     (λ k t other. off _ _ _ (stands_only rows leg stay s t h.stands_here other))
     ∙ ap (λ (k : ℕ). leg_plan cname rows (job.Resend leg stay nack) (k, s)) (zero-add place)
+    ∙ on _ _ _ h.stands_here
 
 pub standing_report : (cname : List ℕ) (rows : List Row) (leg stay place : ℕ) (sr : Option (ℕ × ℕ)) (legs : List LegState) (s : LegState)
     → IsStandingAt rows leg stay legs place s
-    → job_plan cname rows legs (job.Report leg stay sr) ≡ leg_plan cname rows (job.Report leg stay sr) (place, s)
+    → job_plan cname rows legs (job.Report leg stay sr) ≡ Report s.link.subscriber (report_bytes cname s sr) ∷ []
 standing_report cname rows leg stay place sr legs s h =
     only cname rows (job.Report leg stay sr) s 0 place legs h.rising h.at
     (λ k t other. off _ _ _ (stands_only rows leg stay s t h.stands_here other))
     ∙ ap (λ (k : ℕ). leg_plan cname rows (job.Report leg stay sr) (k, s)) (zero-add place)
+    ∙ on _ _ _ h.stands_here
 
 -- ---- a packet
 
@@ -135,7 +141,7 @@ pub no_publisher : (cname : List ℕ) (rows : List Row) (publisher count : ℕ) 
 no_publisher cname rows publisher count bytes legs h past =
     silent cname rows (job.Packet publisher bytes) (λ s. s.link.publisher < count) 0 legs
     (λ k s below. off _ _ _ (ap (λ (x : Bool). x && ((row_of rows s).on && is_rtp bytes))
-      (no_number s.link.publisher publisher (λ e. absurd (omega (arith, below, e, past))))))
+    (no_number s.link.publisher publisher (λ e. absurd (omega (arith, below, e, past))))))
     h
 
 packet_on : (on rtp : Bool) (x : List Planned) → rtp ≡ true → (if on then x else []) ≡ (if on && rtp then x else [])
@@ -186,16 +192,16 @@ number_from number place whole front n [] e is found = absurd (cc)
 number_from number place whole front n (s ∷ rest) e is found =
     ⊎_elim
     (λ h.
-      let first : place_of number (enumerate_from n (s ∷ rest)) ≡ Some n =
-      ap (λ (b : Bool). if b then Some n else place_of number (enumerate_from (n + 1) rest)) h.0 in
-      let same : n ≡ place = cc in
-      let at = at_behind whole front n s rest e is in
-      record { leg = s; at = subst (λ (k : ℕ). slice_get whole k ≡ Some s) same at; number_is = h.1 })
+    let first : place_of number (enumerate_from n (s ∷ rest)) ≡ Some n =
+    ap (λ (b : Bool). if b then Some n else place_of number (enumerate_from (n + 1) rest)) h.0 in
+    let same : n ≡ place = cc in
+    let at = at_behind whole front n s rest e is in
+    record { leg = s; at = subst (λ (k : ℕ). slice_get whole k ≡ Some s) same at; number_is = h.1 })
     (λ h.
-      let later : place_of number (enumerate_from n (s ∷ rest)) ≡ place_of number (enumerate_from (n + 1) rest) =
-      ap (λ (b : Bool). if b then Some n else place_of number (enumerate_from (n + 1) rest)) h.0 in
-      number_from number place whole (front ++ s ∷ []) (n + 1) rest (omega (arith, length-append front (s ∷ [])))
-      (is ∙ sym (append_assoc front (s ∷ []) rest)) (sym later ∙ found))
+    let later : place_of number (enumerate_from n (s ∷ rest)) ≡ place_of number (enumerate_from (n + 1) rest) =
+    ap (λ (b : Bool). if b then Some n else place_of number (enumerate_from (n + 1) rest)) h.0 in
+    number_from number place whole (front ++ s ∷ []) (n + 1) rest (omega (arith, length-append front (s ∷ [])))
+    (is ∙ sym (append_assoc front (s ∷ []) rest)) (sym later ∙ found))
     (eqb_tells s.number number)
 
 pub number_at : (number place : ℕ) (legs : List LegState) → place_of number (enumerate_from 0 legs) ≡ Some place
@@ -208,13 +214,13 @@ no_place number n [] none = All-nil (λ s. s.number ≢ number)
 no_place number n (s ∷ legs) none =
     ⊎_elim
     (λ h. absurd (
-        let first : place_of number (enumerate_from n (s ∷ legs)) ≡ Some n =
-        ap (λ (b : Bool). if b then Some n else place_of number (enumerate_from (n + 1) legs)) h.0 in
-        cc))
+    let first : place_of number (enumerate_from n (s ∷ legs)) ≡ Some n =
+    ap (λ (b : Bool). if b then Some n else place_of number (enumerate_from (n + 1) legs)) h.0 in
+    cc))
     (λ h.
-      let later : place_of number (enumerate_from n (s ∷ legs)) ≡ place_of number (enumerate_from (n + 1) legs) =
-      ap (λ (b : Bool). if b then Some n else place_of number (enumerate_from (n + 1) legs)) h.0 in
-      All-cons (λ t. t.number ≢ number) s legs h.1 (no_place number (n + 1) legs (sym later ∙ none)))
+    let later : place_of number (enumerate_from n (s ∷ legs)) ≡ place_of number (enumerate_from (n + 1) legs) =
+    ap (λ (b : Bool). if b then Some n else place_of number (enumerate_from (n + 1) legs)) h.0 in
+    All-cons (λ t. t.number ≢ number) s legs h.1 (no_place number (n + 1) legs (sym later ∙ none)))
     (eqb_tells s.number number)
 
 -- the stay stands nowhere where no leg has the number
@@ -244,9 +250,9 @@ nowhere_beside rows number stay place legs s rising at is wrong = λ k d below.
     let t = slice_index_or legs k d in
     ⊎_elim
     (λ h.
-      let same : t ≡ s = alone s place legs rising at k d below (h.1 ∙ sym is) in
-      ap (stands rows number stay) same
-      ∙ ap (λ (x : Bool). x && (not (stay == 0) && ((row_of rows s).stay == stay))) (is_number s.number number is) ∙ wrong)
+    let same : t ≡ s = alone s place legs rising at k d below (h.1 ∙ sym is) in
+    ap (stands rows number stay) same
+    ∙ ap (λ (x : Bool). x && (not (stay == 0) && ((row_of rows s).stay == stay))) (is_number s.number number is) ∙ wrong)
     (λ h. ap (λ (x : Bool). x && (not (stay == 0) && ((row_of rows t).stay == stay))) h.0)
     (eqb_tells t.number number)
 
@@ -254,14 +260,14 @@ pub standing_at : (rows : List Row) (number stay place : ℕ) (legs : List LegSt
     → slice_get legs place ≡ Some s → s.number ≡ number → stay ≢ 0 → (row_of rows s).stay ≡ stay
     → IsStandingAt rows number stay legs place s
 standing_at rows number stay place legs s rising at is some same = record {
-    at = at;
-    stands_here =
-    let a = is_number s.number number is in
-    let b = no_number stay 0 some in
-    let e = is_number (row_of rows s).stay stay same in
-    rw (a, b, e) refl;
-    rising = rising;
-  }
+  at = at;
+  stands_here =
+      let a = is_number s.number number is in
+      let b = no_number stay 0 some in
+      let e = is_number (row_of rows s).stay stay same in
+      rw (a, b, e) refl;
+  rising = rising;
+}
 
 -- ---- a change of a leg leaves what is found
 
@@ -284,16 +290,17 @@ rising_changed [] i change leaves h = h
 rising_changed (s ∷ legs) zero change leaves h =
     let P : ℕ → Type 0 = λ n. All (λ t. n < t.number) legs in
     (subst P (sym (leaves.number s)) h.0, h.1)
-rising_changed (s ∷ legs) (suc i) change leaves h =
-    (all_changed (λ t. s.number < t.number) legs i change (λ t below. let e = leaves.number t in omega arith) h.0,
-      rising_changed legs i change leaves h.1)
+rising_changed (s ∷ legs) (suc i) change leaves h = (
+  all_changed (λ t. s.number < t.number) legs i change (λ t below. let e = leaves.number t in omega arith) h.0,
+  rising_changed legs i change leaves h.1,
+)
 
 places_changed : (publisher n : ℕ) (legs : List LegState) (i : ℕ) (change : LegState → LegState) → LeavesLink change
     → places_of publisher (enumerate_from n (changed_at legs i change)) ≡ places_of publisher (enumerate_from n legs)
 places_changed publisher n [] i change leaves = refl
 places_changed publisher n (s ∷ legs) zero change leaves =
     ap (λ (l : LegSettings). if (l.publisher == publisher) then n ∷ places_of publisher (enumerate_from (n + 1) legs)
-        else places_of publisher (enumerate_from (n + 1) legs)) (leaves.link s)
+    else places_of publisher (enumerate_from (n + 1) legs)) (leaves.link s)
 places_changed publisher n (s ∷ legs) (suc i) change leaves =
     ap (λ (l : List ℕ). if (s.link.publisher == publisher) then n ∷ l else l) (places_changed publisher (n + 1) legs i change leaves)
 
@@ -308,15 +315,15 @@ place_changed number n (s ∷ legs) (suc i) change leaves =
 found_changed : (lists : List (Vec ℕ)) (places : Sources) (legs : List LegState) (i : ℕ) (change : LegState → LegState)
     → LeavesLink change → AreFound lists places legs → AreFound lists places (changed_at legs i change)
 found_changed lists places legs i change leaves h = record {
-    rising = rising_changed legs i change leaves h.rising;
-    publishers = all_changed (λ s. s.link.publisher < length lists) legs i change
-    (λ s below. let e = ap (λ (l : LegSettings). l.publisher) (leaves.link s) in omega arith) h.publishers;
-    lists_places = record {
-      size = h.lists_places.size;
-      each = λ k v at. h.lists_places.each k v at ∙ sym (places_changed k 0 legs i change leaves);
-    };
-    finds_places = λ number. h.finds_places number ∙ sym (place_changed number 0 legs i change leaves);
-  }
+  rising = rising_changed legs i change leaves h.rising;
+  publishers = all_changed (λ s. s.link.publisher < length lists) legs i change
+      (λ s below. let e = ap (λ (l : LegSettings). l.publisher) (leaves.link s) in omega arith) h.publishers;
+  lists_places = record {
+    size = h.lists_places.size;
+    each = λ k v at. h.lists_places.each k v at ∙ sym (places_changed k 0 legs i change leaves);
+  };
+  finds_places = λ number. h.finds_places number ∙ sym (place_changed number 0 legs i change leaves);
+}
 
 found_one : (lists : List (Vec ℕ)) (places : Sources) (legs : List LegState) (p : Planned) → AreFound lists places legs
     → AreFound lists places (applied_one legs p)
@@ -343,9 +350,9 @@ owned_above : (t : LinkTable) (ring worker low n : ℕ) (links : List LegSetting
 owned_above t ring worker low n [] h = All-nil (λ s. low < s.number)
 owned_above t ring worker low n (l ∷ links) h =
     elim (worker_of t l == worker) as (λ (b : Bool). All (λ s. low < s.number)
-      (if b then new_state ring n l ∷ owned_by t ring worker (enumerate_from (n + 1) links) else owned_by t ring worker (enumerate_from (n + 1) links))) [
-      true ↦ All-cons (λ s. low < s.number) (new_state ring n l) (owned_by t ring worker (enumerate_from (n + 1) links)) h
-      (owned_above t ring worker low (n + 1) links (omega arith))
+    (if b then new_state ring n l ∷ owned_by t ring worker (enumerate_from (n + 1) links) else owned_by t ring worker (enumerate_from (n + 1) links))) [
+      | true ↦ All-cons (λ s. low < s.number) (new_state ring n l) (owned_by t ring worker (enumerate_from (n + 1) links)) h
+          (owned_above t ring worker low (n + 1) links (omega arith))
       | false ↦ owned_above t ring worker low (n + 1) links (omega arith)
     ]
 
@@ -353,8 +360,8 @@ owned_rises : (t : LinkTable) (ring worker n : ℕ) (links : List LegSettings) �
 owned_rises t ring worker n [] = tt
 owned_rises t ring worker n (l ∷ links) =
     elim (worker_of t l == worker) as (λ (b : Bool). IsRising
-      (if b then new_state ring n l ∷ owned_by t ring worker (enumerate_from (n + 1) links) else owned_by t ring worker (enumerate_from (n + 1) links))) [
-      true ↦ (owned_above t ring worker n (n + 1) links (omega arith), owned_rises t ring worker (n + 1) links)
+    (if b then new_state ring n l ∷ owned_by t ring worker (enumerate_from (n + 1) links) else owned_by t ring worker (enumerate_from (n + 1) links))) [
+      | true ↦ (owned_above t ring worker n (n + 1) links (omega arith), owned_rises t ring worker (n + 1) links)
       | false ↦ owned_rises t ring worker (n + 1) links
     ]
 
@@ -365,8 +372,8 @@ owned_publishers t ring worker count n (l ∷ links) h =
     let below = (All-head (IsLegAmong count) l links h).publisher in
     let more = owned_publishers t ring worker count (n + 1) links (All-tail (IsLegAmong count) l links h) in
     elim (worker_of t l == worker) as (λ (b : Bool). All (λ s. s.link.publisher < count)
-      (if b then new_state ring n l ∷ owned_by t ring worker (enumerate_from (n + 1) links) else owned_by t ring worker (enumerate_from (n + 1) links))) [
-      true ↦ All-cons (λ s. s.link.publisher < count) (new_state ring n l) (owned_by t ring worker (enumerate_from (n + 1) links)) below more
+    (if b then new_state ring n l ∷ owned_by t ring worker (enumerate_from (n + 1) links) else owned_by t ring worker (enumerate_from (n + 1) links))) [
+      | true ↦ All-cons (λ s. s.link.publisher < count) (new_state ring n l) (owned_by t ring worker (enumerate_from (n + 1) links)) below more
       | false ↦ more
     ]
 
@@ -380,7 +387,7 @@ found_new t ring worker count lists places legs table is among lists_places find
     record {
       rising = subst IsRising (sym is) (owned_rises t ring worker 0 t.legs);
       publishers = subst (λ (l : List LegState). All (λ s. s.link.publisher < length lists) l) (sym is)
-      (subst (λ (k : ℕ). All (λ s. s.link.publisher < k) (new_legs t ring worker)) (sym size) publishers);
+          (subst (λ (k : ℕ). All (λ s. s.link.publisher < k) (new_legs t ring worker)) (sym size) publishers);
       lists_places = subst (λ (k : ℕ). ListsPlaces lists k legs) (sym lists_places.size) lists_places;
       finds_places = finds_places;
     }
@@ -396,3 +403,10 @@ lists_one_place_more lists v n legs before here =
       size = omega (arith, length-append lists (v ∷ []));
       each = at_push lists v P before.each (rw size here);
     }
+
+-- a vector whose whole slice was written
+pub whole_written : (new old : List LegState) (n : ℕ) → n ≡ length old → length new ≡ length old
+    → take n (new ++ drop (length new) old) ≡ new
+whole_written new old n e same =
+    let none : drop (length new) old ≡ [] = drop_all (length new) old (omega arith) in
+    ap (λ (l : List LegState). take n (new ++ l)) none ∙ take_at new [] n (omega arith)

@@ -3,7 +3,7 @@ use Rattle.std.proofs.Common.{◌≡◌, ◌≢◌, ℕ, ◌+◌, ◌-◌, ◌/�
 use Rattle.std.proofs.lemmas.Bool.{cases_lt}
 use Rattle.std.proofs.lemmas.Bool.Decides.{nat_tests, eqb_tells}
 use Rattle.std.proofs.lemmas.List.{get_or-drop, drop_all, append-nil}
-use Rattle.std.specs.Prelude.{◌==◌, ◌&&◌, ◌||◌, not, nat_le, nat_lt, Result, Ok, Err, IsOk, IfOk, ◌↔◌}
+use Rattle.std.specs.Prelude.{if◌then◌else◌, ◌==◌, ◌&&◌, ◌||◌, not, nat_le, nat_lt, Result, Ok, Err, IsOk, IfOk, ◌↔◌}
 use Rattle.byteorder.specs.Endian.{big_bytes, big_number}
 use Rattle.rtp_packet.specs.declared.fault.RtpFault.{RtpFault}
 use Rattle.rtp_packet.specs.declared.fault.RtpFault.TheVariants.{Short, Version, CsrcShort, ExtensionShort, Padding, Room}
@@ -138,11 +138,11 @@ no_count d e h none =
     let left = length-drop e d in
     ⊎_elim
     (λ (below : e < length d).
-      let last = last_behind d e below in
-      elim none [
-        inl empty ↦ inl (omega arith)
-        | inr other ↦ elim other [ inl zero_count ↦ inr (inl (sym last ∙ zero_count)) | inr above ↦ inr (inr (omega arith)) ]
-      ])
+    let last = last_behind d e below in
+    elim none [
+      | inl empty ↦ inl (omega arith)
+      | inr other ↦ elim other [ inl zero_count ↦ inr (inl (sym last ∙ zero_count)) | inr above ↦ inr (inr (omega arith)) ]
+    ])
     (λ (above : length d ≤ e). inl above)
     (cases_lt e (length d))
 
@@ -163,7 +163,9 @@ faulty d Padding h =
     let on : is_padded d ≡ true = same_number (slice_index d 0 / 32 % 2) 1 h.3 in
     let none = no_count d (extension_end d) h.2 h.4 in
     let wrong = miscounted (extension_end d) (length d) last none h.2 in
-    no_right _ _ (no_right _ _ (rw on wrong))
+    let Refused : Bool → Type 0 = λ b.
+    (nat_le (extension_end d + (if b then last else 0)) (length d) && (not b || nat_lt 0 (if b then last else 0))) ≡ false in
+    no_right _ _ (no_right _ _ (subst Refused (sym on) wrong))
 faulty d Room h = absurd h
 
 -- ---- what a call wrote

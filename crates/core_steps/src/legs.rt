@@ -11,11 +11,11 @@ use crate::job::Job;
 use crate::leg::LegState;
 use crate::links::Links;
 use crate::plan::Plan;
-use crate::planning::{plan_packet, plan_report, plan_resend};
+use crate::planning::{plan_packet, plan_report, plan_resends};
 use members::{MAX_LEGS, Row};
 use resend_ring::MAX_CAPACITY;
 use rtcp_compound::CNAME_LIMIT;
-use rtcp_feedback::Nack;
+use rtcp_feedback::{Nack, lost};
 use rtp_packet::RtpView;
 use std::alloc::{AllocError, Global};
 use std::collections::HashMap;
@@ -123,8 +123,30 @@ fn row_of(rows: &[Row], leg: &LegState) -> Row
     }
 }
 
+/// Plans what the leg at a place does with a packet of its publisher.
+fn plan_place(
+    legs: &[LegState],
+    alloc: Global,
+    place: u16,
+    rows: &[Row],
+    packet: &RtpView<'_>,
+    plan: &mut Plan,
+) -> Result<(), AllocError>
+    ensures { OnOk result (plan.new ≡ plan.old ++ plan_of rows.now packet.now.datagram.now legs.now place) }
+{
+    let Some(leg) = legs.get(usize::from(place)) else {
+        return Ok(());
+    };
+    let row = row_of(rows, leg);
+    if !row.on {
+        return Ok(());
+    }
+    let planned = plan_packet(leg, alloc, place, row.turn, packet, plan)?;
+    plan.push(planned)
+}
+
 /// Plans what the legs at these places do with a packet of their publisher.
-fn plan_at(
+fn plan_places(
     legs: &[LegState],
     alloc: Global,
     places: &[u16],
@@ -135,13 +157,7 @@ fn plan_at(
     ensures { OnOk result (plan.new ≡ plan.old ++ flat_map (plan_of rows.now packet.now.datagram.now legs.now) places.now) }
 {
     for place in places {
-        if let Some(leg) = legs.get(usize::from(*place)) {
-            let row = row_of(rows, leg);
-            if row.on {
-                let planned = plan_packet(leg, alloc, *place, row.turn, packet, plan)?;
-                plan.push(planned)?;
-            }
-        }
+        plan_place(legs, alloc, *place, rows, packet, plan)?;
     }
     Ok(())
 }
@@ -200,11 +216,13 @@ impl Legs {
         ensures err { OnErr result (plan.new ≡ []) }
     {
         plan.clear();
-        let planned = self.plan_job(alloc, cname, rows, job, plan);
-        if planned.is_err() {
-            plan.clear();
+        match self.plan_job(alloc, cname, rows, job, plan) {
+            Ok(()) => Ok(()),
+            Err(error) => {
+                plan.clear();
+                Err(error)
+            }
         }
-        planned
     }
 
     /// Does what is planned on these legs, and plans nothing any more: packets that went out are kept and count.
@@ -231,17 +249,10 @@ impl Legs {
             Job::Packet { publisher, bytes } => {
                 self.plan_packets(alloc, rows, *publisher, bytes.as_slice(), plan)
             }
-            Job::Resend { leg, stay, nack } => match self.standing(rows, *leg, *stay) {
-                Some((place, leg)) => plan_resend(leg, place, *nack, plan),
-                None => Ok(()),
-            },
-            Job::Report { leg, stay, sr } => match self.standing(rows, *leg, *stay) {
-                Some((_, leg)) => {
-                    let planned = plan_report(leg, alloc, cname, *sr)?;
-                    plan.push(planned)
-                }
-                None => Ok(()),
-            },
+            Job::Resend { leg, stay, nack } => self.plan_wanted(rows, *leg, *stay, *nack, plan),
+            Job::Report { leg, stay, sr } => {
+                self.plan_reported(alloc, cname, rows, *leg, *stay, *sr, plan)
+            }
             Job::Request { .. } | Job::Pli { .. } => Ok(()),
         }
     }
@@ -261,17 +272,51 @@ impl Legs {
         let Some(places) = self.published.get(usize::from(publisher)) else {
             return Ok(());
         };
+        let (legs, places) = (self.legs.as_slice(), places.as_slice());
         match RtpView::parse(bytes) {
-            Ok(packet) => plan_at(
-                self.legs.as_slice(),
-                alloc,
-                places.as_slice(),
-                rows,
-                &packet,
-                plan,
-            ),
+            Ok(packet) => plan_places(legs, alloc, places, rows, &packet, plan),
             Err(_) => Ok(()),
         }
+    }
+
+    /// Appends what an entry of a NACK does.
+    fn plan_wanted(
+        &self,
+        rows: &[Row],
+        leg: u16,
+        stay: u64,
+        nack: Nack,
+        plan: &mut Plan,
+    ) -> Result<(), AllocError>
+        ensures { (cname : List ℕ) → OnOk result (plan.new ≡ plan.old
+            ++ job_plan cname rows.now self.now (job.Resend leg stay nack)) }
+    {
+        let Some((place, leg)) = self.standing(rows, leg, stay) else {
+            return Ok(());
+        };
+        let numbers = lost(nack);
+        plan_resends(leg, place, numbers.as_slice(), plan)
+    }
+
+    /// Appends a report.
+    fn plan_reported(
+        &self,
+        alloc: Global,
+        cname: &[u8],
+        rows: &[Row],
+        leg: u16,
+        stay: u64,
+        sr: Option<(u64, u32)>,
+        plan: &mut Plan,
+    ) -> Result<(), AllocError>
+        requires { length cname.now ≤ CNAME_LIMIT }
+        ensures { OnOk result (plan.new ≡ plan.old ++ job_plan cname.now rows.now self.now (job.Report leg stay sr)) }
+    {
+        let Some((_, leg)) = self.standing(rows, leg, stay) else {
+            return Ok(());
+        };
+        let planned = plan_report(leg, alloc, cname, sr)?;
+        plan.push(planned)
     }
 
     /// The leg with this number and its place, where this stay stands on it.
@@ -279,12 +324,19 @@ impl Legs {
         ensures { MatchOption result (IsNowhere rows.now number stay self.now)
             (λ found. IsStandingAt rows.now number stay self.now found.0 found.1.now) }
     {
-        let place = *self.places.get(&number)?;
-        let leg = self.legs.get(usize::from(place))?;
-        if stay != 0 && row_of(rows, leg).stay == stay {
-            Some((place, leg))
-        } else {
-            None
+        let Some(place) = self.places.get(&number) else {
+            return None;
+        };
+        let Some(leg) = self.legs.get(usize::from(*place)) else {
+            return None;
+        };
+        if stay == 0 {
+            return None;
         }
+        let row = row_of(rows, leg);
+        if row.stay != stay {
+            return None;
+        }
+        Some((*place, leg))
     }
 }

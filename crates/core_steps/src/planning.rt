@@ -3,7 +3,6 @@
 ghost use Rattle.std.specs.Prelude.{◌≡◌, ◌≤◌, ◌++◌, ◌∷◌, [], length, IfOk, OnOk};
 ghost use Rattle.rewrite.specs.Leg.{answer_to};
 ghost use Rattle.resend_ring.specs.Kept.{last_kept_with};
-ghost use Rattle.rtcp_feedback.specs.Nack.{lost_numbers};
 ghost use Rattle.core_steps.specs.Legs.{report_bytes};
 ghost use Rattle.core_steps.specs.Planning.{packet_planned, resend_planned, resends};
 ghost use Rattle.core_steps.specs.Rtp.{sequence_number, payload_octets, readdressed_bytes};
@@ -12,7 +11,6 @@ use crate::bytes::Bytes;
 use crate::leg::LegState;
 use crate::plan::{Plan, Planned};
 use rtcp_compound::{CNAME_LIMIT, write_rr, write_sdes_cname, write_sr};
-use rtcp_feedback::{Nack, lost};
 use rtp_packet::RtpView;
 use std::alloc::{AllocError, Global};
 use tmmbr_tuple::Ssrc;
@@ -38,6 +36,22 @@ fn readdress(packet: &RtpView<'_>, ssrc: Ssrc, seq: u16, out: &mut [u8])
     let _ = packet.rewritten_into(ssrc, seq, out);
 }
 
+/// The packet under another source and sequence number.
+fn readdressed(
+    packet: &RtpView<'_>,
+    alloc: Global,
+    ssrc: Ssrc,
+    seq: u16,
+    plan: &mut Plan,
+) -> Result<Bytes, AllocError>
+    ensures ok { IfOk result (λ bytes. bytes ≡ readdressed_bytes ssrc.0 seq packet.now.datagram.now) }
+    ensures plan { plan.new ≡ plan.old }
+{
+    let mut bytes = plan.buffer(alloc, packet.datagram.len())?;
+    readdress(packet, ssrc, seq, bytes.as_mut_slice());
+    Ok(Bytes::new(bytes))
+}
+
 /// What the leg at this place does with a packet of its publisher that comes on this turn.
 pub fn plan_packet(
     leg: &LegState,
@@ -52,30 +66,24 @@ pub fn plan_packet(
     ensures plan { plan.new ≡ plan.old }
 {
     let mut numbers = leg.numbers;
-    let number = match numbers.next(turn, packet.sequence_number) {
-        Ok(number) => number,
-        Err(skip) => {
-            return Ok(Planned::Skip {
-                leg: leg.number,
-                skip,
-            });
+    match numbers.next(turn, packet.sequence_number) {
+        Ok(number) => {
+            let seq = (number % SEQS) as u16;
+            let bytes = readdressed(packet, alloc, leg.link.out_ssrc, seq, plan)?;
+            Ok(Planned::Forward {
+                place,
+                endpoint: leg.link.subscriber,
+                numbers,
+                number,
+                octets: packet.payload.len() as u64,
+                bytes,
+            })
         }
-    };
-    let mut bytes = plan.buffer(alloc, packet.datagram.len())?;
-    readdress(
-        packet,
-        leg.link.out_ssrc,
-        (number % SEQS) as u16,
-        bytes.as_mut_slice(),
-    );
-    Ok(Planned::Forward {
-        place,
-        endpoint: leg.link.subscriber,
-        numbers,
-        number,
-        octets: packet.payload.len() as u64,
-        bytes: Bytes::new(bytes),
-    })
+        Err(skip) => Ok(Planned::Skip {
+            leg: leg.number,
+            skip,
+        }),
+    }
 }
 
 /// What the leg at this place does where a packet with this sequence number is wanted again.
@@ -96,17 +104,16 @@ fn plan_again(leg: &LegState, place: u16, seq: u16) -> Planned
     }
 }
 
-/// Plans what the leg at this place does for an entry of a NACK.
-pub fn plan_resend(
+/// Plans what the leg at this place does where packets with these sequence numbers are wanted again.
+pub fn plan_resends(
     leg: &LegState,
     place: u16,
-    nack: Nack,
+    numbers: &[u16],
     plan: &mut Plan,
 ) -> Result<(), AllocError>
-    ensures { OnOk result (plan.new ≡ plan.old ++ resends place leg.now (lost_numbers nack)) }
+    ensures { OnOk result (plan.new ≡ plan.old ++ resends place leg.now numbers.now) }
 {
-    let numbers = lost(nack);
-    for seq in numbers.as_slice() {
+    for seq in numbers {
         plan.push(plan_again(leg, place, *seq))?;
     }
     Ok(())

@@ -1,4 +1,4 @@
-use Rattle.std.proofs.Common.{sym}
+use Rattle.std.proofs.Common.{sym, refl}
 use Rattle.core_steps.specs.Rtp.{payload_octets}
 use Rattle.core_steps.proofs.RtpLemmas.{payload_read, faulty}
 use Rattle.core_steps.proofs.planning.payload_octets.Goals as goal

@@ -1,7 +1,7 @@
 use Rattle.std.proofs.Common.{◌≡◌, ◌++◌, take}
 use Rattle.std.specs.List.{flat_map}
 use Rattle.core_steps.specs.Planning.{plan_of}
-use Rattle.core_steps.proofs.legs.plan_at.Given as goal
+use Rattle.core_steps.proofs.legs.plan_places.Given as goal
 
 abbrev pub invariant-loop-place : goal.invariant-loop-place
 invariant-loop-place l =

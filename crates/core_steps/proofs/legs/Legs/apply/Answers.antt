@@ -1,0 +1,15 @@
+use Rattle.std.proofs.Common.{◌≡◌, List, length, sym, subst, arith, ◌∙◌}
+use Rattle.core_steps.specs.declared.leg.LegState.{LegState}
+use Rattle.core_steps.specs.Planning.{AreFound}
+use Rattle.core_steps.proofs.LegLemmas.{found_applied, whole_written}
+use Rattle.core_steps.proofs.legs.Legs.apply.Goals as goal
+
+pub invariant_of-self : goal.invariant_of-self
+invariant_of-self c =
+    let P : List LegState → Type 0 = AreFound c.self.inside.published.items c.self.inside.places in
+    let new = c.apply_to.new.legs in
+    let value = c.as_mut_slice.ensures.value in
+    let kept = c.apply_to.auto.legs in
+    let written = whole_written new c.self.inside.legs.items c.self.inside.legs.len ? ? in
+    let found = found_applied c.self.inside.published.items c.self.inside.places c.self.inside.legs.items c.args.plan.now c.self.invariant in
+    subst P (sym written) ?
