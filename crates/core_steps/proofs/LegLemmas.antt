@@ -2,15 +2,17 @@
 use Rattle.std.proofs.Common.{◌≡◌, ◌≢◌, ℕ, ◌+◌, ◌<◌, ◌≤◌, ◌⊎◌, inl, inr, ⊎_elim, Bool, true, false, List, [], ◌∷◌, ◌++◌, length, take, drop, zero, suc, refl, sym, ap, subst, ◌∙◌, arith, length-append, append_assoc, zero-add}
 use Rattle.std.proofs.lemmas.Bool.Decides.{nat_tests, eqb_tells}
 use Rattle.std.proofs.lemmas.List.{append-nil, drop_all, take_at}
-use Rattle.std.proofs.lemmas.Option.{slice_get_within, get_or_from_slice_get}
+use Rattle.std.proofs.lemmas.Option.{slice_get_within, slice_get_past, get_or_from_slice_get}
 use Rattle.std.proofs.lemmas.List.Elements.{All-head, All-tail, All-cons, All-nil}
-use Rattle.std.specs.Prelude.{◌==◌, ◌&&◌, not, nat_eq, Option, None, Some, slice_get, slice_index_or, All, if◌then◌else◌}
+use Rattle.std.specs.Prelude.{◌==◌, ◌&&◌, not, nat_eq, Option, None, Some, slice_get, slice_index_or, All, Result, OnOk, if◌then◌else◌}
 use Rattle.std.specs.Global.{Vec}
 use Rattle.std.specs.HashMap.{get}
 use Rattle.std.specs.List.{flat_map, enumerate_from}
 use Rattle.members.specs.declared.order.Row.{Row}
 use Rattle.members.specs.declared.settings.LegSettings.{LegSettings}
+use Rattle.members.specs.declared.settings.TheConstants.{MAX_LEGS}
 use Rattle.members.specs.Settings.{IsLegAmong}
+use Rattle.rewrite.specs.Leg.{answer_to}
 use Rattle.rtcp_feedback.specs.declared.nack.Nack.{Nack}
 use Rattle.rtcp_feedback.specs.Nack.{lost_numbers}
 use Rattle.core_steps.specs.declared.job.Job.{Job}
@@ -23,7 +25,7 @@ use Rattle.core_steps.specs.Links.{LinkTable, IsLinkTable, numbered_legs, worker
 use Rattle.core_steps.specs.Places.{Sources}
 use Rattle.core_steps.specs.Plan.{changed_at, applied_one, applied}
 use Rattle.core_steps.specs.Planning.{packet_planned, resends, leg_plan, job_plan, plan_by, plan_of, places_of, place_of, ListsPlaces, FindsPlaces, IsRising, AreFound, IsNowhere, IsStandingAt}
-use Rattle.core_steps.specs.Rtp.{is_rtp}
+use Rattle.core_steps.specs.Rtp.{is_rtp, sequence_number}
 use Rattle.core_steps.proofs.LinkLemmas.{at_push}
 use Rattle.core_steps.proofs.PlanLemmas.{at_behind}
 
@@ -68,9 +70,11 @@ only cname rows work s n zero (t ∷ legs) rising at others =
     let same : t ≡ s = cc in
     let above : All (λ u. s.number < u.number) legs = subst (λ (x : LegState). All (λ u. x.number < u.number) legs) same rising.0 in
     let more = silent cname rows work (λ u. s.number < u.number) (n + 1) legs (λ k u h. others k u (λ e. absurd (omega (arith, h, e)))) above in
+    let place : n ≡ n + 0 = omega arith in
     ap (λ (l : List Planned). leg_plan cname rows work (n, t) ++ l) more
     ∙ append-nil (leg_plan cname rows work (n, t))
     ∙ ap (λ (x : LegState). leg_plan cname rows work (n, x)) same
+    ∙ ap (λ (k : ℕ). leg_plan cname rows work (k, s)) place
 only cname rows work s n (suc i) (t ∷ legs) rising at others =
     let below : t.number < s.number = met (λ u. t.number < u.number) legs i s rising.0 at in
     let here = others n t (λ e. absurd (omega (arith, below, e))) in
@@ -242,6 +246,10 @@ alone s (suc i) (t ∷ legs) rising at =
     let below : t.number < s.number = met (λ u. t.number < u.number) legs i s rising.0 at in
     All-cons (λ u. (u.number ≡ s.number) → u ≡ s) t legs (λ e. absurd (omega (arith, below, e))) (alone s i legs rising.1 at)
 
+both_false : (a b : Bool) → b ≡ false → (a && b) ≡ false
+both_false true b h = h
+both_false false b h = refl
+
 -- the stay stands nowhere where it doesn't stand on the leg with the number
 pub nowhere_beside : (rows : List Row) (number stay place : ℕ) (legs : List LegState) (s : LegState) → IsRising legs
     → slice_get legs place ≡ Some s → s.number ≡ number → (not (stay == 0) && ((row_of rows s).stay == stay)) ≡ false
@@ -410,3 +418,90 @@ pub whole_written : (new old : List LegState) (n : ℕ) → n ≡ length old →
 whole_written new old n e same =
     let none : drop (length new) old ≡ [] = drop_all (length new) old (omega arith) in
     ap (λ (l : List LegState). take n (new ++ l)) none ∙ take_at new [] n (omega arith)
+
+-- ---- lists of what is planned
+
+pub unplanned : (old a : List Planned) → a ≡ [] → old ≡ old ++ a
+unplanned old a e = sym (ap (λ (l : List Planned). old ++ l) e ∙ append-nil old)
+
+pub moved : {T E : Type 0} (r : Result T E) (new old a b : List Planned) → a ≡ b → OnOk r (new ≡ old ++ a) → OnOk r (new ≡ old ++ b)
+moved r new old a b e h = subst (λ (l : List Planned). OnOk r (new ≡ old ++ l)) e h
+
+pub pushed : {T E : Type 0} (r : Result T E) (new mid old a : List Planned) (p : Planned) → mid ≡ old → p ∷ [] ≡ a
+    → OnOk r (new ≡ mid ++ p ∷ []) → OnOk r (new ≡ old ++ a)
+pushed r new mid old a p same e h =
+    subst (λ (l : List Planned). OnOk r (new ≡ old ++ l)) e (subst (λ (l : List Planned). OnOk r (new ≡ l ++ p ∷ [])) same h)
+
+pub desk_request : (cname : List ℕ) (rows : List Row) (legs : List LegState) (leg stay word : ℕ)
+    → job_plan cname rows legs (job.Request leg stay word) ≡ []
+desk_request cname rows legs leg stay word =
+    silent cname rows (job.Request leg stay word) (λ s. Unit {0}) 0 legs (λ k s quiet. refl) (λ k d below. tt)
+
+pub desk_pli : (cname : List ℕ) (rows : List Row) (legs : List LegState) (leg moment : ℕ)
+    → job_plan cname rows legs (job.Pli leg moment) ≡ []
+desk_pli cname rows legs leg moment =
+    silent cname rows (job.Pli leg moment) (λ s. Unit {0}) 0 legs (λ k s quiet. refl) (λ k d below. tt)
+
+-- ---- the row of a leg
+
+pub row_off : (rows : List Row) (bytes : List ℕ) (place : ℕ) (legs : List LegState) (s : LegState) (row : Row)
+    → slice_get legs place ≡ Some s → row ≡ row_of rows s → row.on ≡ false → plan_of rows bytes legs place ≡ []
+row_off rows bytes place legs s row at is quiet =
+    ap (plan_by rows bytes place) at ∙ off _ _ _ (ap (λ (r : Row). r.on) (sym is) ∙ quiet)
+
+pub row_on : (rows : List Row) (bytes : List ℕ) (place : ℕ) (legs : List LegState) (s : LegState) (row : Row)
+    → slice_get legs place ≡ Some s → row ≡ row_of rows s → row.on ≡ true
+    → packet_planned place s row.turn bytes (answer_to s.numbers row.turn (sequence_number bytes)) ∷ [] ≡ plan_of rows bytes legs place
+row_on rows bytes place legs s row at is loud =
+    ap (λ (r : Row). packet_planned place s r.turn bytes (answer_to s.numbers r.turn (sequence_number bytes)) ∷ []) is
+    ∙ sym (ap (plan_by rows bytes place) at ∙ on _ _ _ (ap (λ (r : Row). r.on) (sym is) ∙ loud))
+
+pub no_leg : (rows : List Row) (bytes : List ℕ) (place : ℕ) (legs : List LegState) → length legs ≤ place
+    → plan_of rows bytes legs place ≡ []
+no_leg rows bytes place legs past = ap (plan_by rows bytes place) (slice_get_past legs place past)
+
+pub negated : (b : Bool) → not b ≡ true → b ≡ false
+negated true h = absurd (cc)
+negated false h = refl
+
+pub not_negated : (b : Bool) → not b ≡ false → b ≡ true
+not_negated true h = refl
+not_negated false h = absurd (cc)
+
+-- the leg that is found for a number has it
+pub found_number : (number place : ℕ) (legs : List LegState) (s : LegState) → place_of number (enumerate_from 0 legs) ≡ Some place
+    → slice_get legs place ≡ Some s → s.number ≡ number
+found_number number place legs s found at =
+    let h = number_at number place legs found in
+    let here = h.at in
+    let same : s ≡ h.leg = cc in
+    ap (λ (t : LegState). t.number) same ∙ h.number_is
+
+pub found_within : (number place : ℕ) (legs : List LegState) → place_of number (enumerate_from 0 legs) ≡ Some place → place < length legs
+found_within number place legs found =
+    let h = number_at number place legs found in
+    slice_get_within legs place h.leg h.at
+
+pub nowhere_other : (rows : List Row) (number stay place : ℕ) (legs : List LegState) (s : LegState) → IsRising legs
+    → slice_get legs place ≡ Some s → s.number ≡ number → (row_of rows s).stay ≢ stay → IsNowhere rows number stay legs
+nowhere_other rows number stay place legs s rising at is other =
+    nowhere_beside rows number stay place legs s rising at is
+    (both_false (not (stay == 0)) ((row_of rows s).stay == stay) (no_number (row_of rows s).stay stay other))
+
+owned_count : (t : LinkTable) (ring worker n : ℕ) (links : List LegSettings)
+    → length (owned_by t ring worker (enumerate_from n links)) ≤ length links
+owned_count t ring worker n [] = omega arith
+owned_count t ring worker n (l ∷ links) =
+    let more = owned_count t ring worker (n + 1) links in
+    elim (worker_of t l == worker) as (λ (b : Bool). length
+    (if b then new_state ring n l ∷ owned_by t ring worker (enumerate_from (n + 1) links) else owned_by t ring worker (enumerate_from (n + 1) links))
+    ≤ length (l ∷ links)) [ true ↦ omega arith | false ↦ omega arith ]
+
+-- a worker has no more legs than there are
+pub owned_few : (t : LinkTable) (ring worker : ℕ) (legs : List LegState) → IsLinkTable t → legs ≡ new_legs t ring worker
+    → length legs ≤ MAX_LEGS
+owned_few t ring worker legs table is =
+    let count = owned_count t ring worker 0 t.legs in
+    let size = ap length is in
+    let most = table.most_legs in
+    omega arith

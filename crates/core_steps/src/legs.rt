@@ -176,8 +176,10 @@ impl Legs {
         ensures { IfOk result (λ legs. legs ≡ new_legs links.now ring worker) }
     {
         let legs = owned(alloc, links, ring, worker)?;
-        let published = published(alloc, legs.as_slice(), links.endpoints().len())?;
-        let places = places(alloc, legs.as_slice())?;
+        let endpoints = links.endpoints().len();
+        let owned = legs.as_slice();
+        let published = published(alloc, owned, endpoints)?;
+        let places = places(alloc, owned)?;
         Ok(Legs {
             legs,
             published,
@@ -253,7 +255,8 @@ impl Legs {
             Job::Report { leg, stay, sr } => {
                 self.plan_reported(alloc, cname, rows, *leg, *stay, *sr, plan)
             }
-            Job::Request { .. } | Job::Pli { .. } => Ok(()),
+            Job::Request { .. } => Ok(()),
+            Job::Pli { .. } => Ok(()),
         }
     }
 

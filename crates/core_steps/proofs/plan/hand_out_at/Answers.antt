@@ -8,7 +8,7 @@ use Rattle.core_steps.proofs.plan.hand_out_at.Goals as goal
 pub returns-then-place-legs : goal.returns-then-place-legs
 returns-then-place-legs c =
     let f = λ (s : LegState). handed_out s c.args.octets in
-    ap (slice_set c.args.legs.now c.args.place) (c.hand_out.ensures ∙ ap f c.index-legs-place.is)
+    ap (slice_set c.args.legs.now c.args.place) c.hand_out.ensures
     ∙ sym (changed_within c.args.legs.now c.args.place f c.index-legs-place.result c.if-place-legs.true)
 
 pub returns-else-place-legs : goal.returns-else-place-legs
