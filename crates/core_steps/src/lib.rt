@@ -21,3 +21,6 @@ pub use legs::Legs;
 pub use links::Links;
 pub use output::{DeskRefusal, Out, Refusal};
 pub use plan::{Plan, Planned};
+
+#[cfg(test)]
+mod legs_tests;
