@@ -1,7 +1,8 @@
--- What a datagram says as an RTP packet (RFC 3550, sections 5.1 and 5.3.1).
-use Rattle.std.specs.Prelude.{◌==◌, ◌&&◌, ◌||◌, not, ℕ, ◌+◌, ◌-◌, ◌/◌, ◌%◌, nat_le, nat_lt, Bool, List, ◌++◌, length, take, drop, slice_index, if◌then◌else◌}
+-- What a datagram says as an RTP packet (RFC 3550, sections 5.1 and 5.3.1), by its bytes.
+use Rattle.std.specs.Prelude.{◌≡◌, ◌==◌, ◌&&◌, ◌||◌, not, ℕ, ◌+◌, ◌-◌, ◌/◌, ◌%◌, nat_le, nat_lt, Bool, true, List, ◌++◌, length, take, drop, slice_index, if◌then◌else◌}
 use Rattle.byteorder.specs.Endian.{big_bytes, big_number}
 use Rattle.rtp_packet.specs.Fault.{extension_end}
+use Rattle.rtp_packet.specs.Grammar.{Packet, bytes_of, readdressed}
 
 -- the padding bit is set
 abbrev pub is_padded : List ℕ → Bool
@@ -27,3 +28,10 @@ payload_octets d = if is_rtp d then length d - (extension_end d + padding_of d) 
 -- the packet's bytes under another source and sequence number
 unfoldable pub readdressed_bytes : ℕ → ℕ → List ℕ → List ℕ
 readdressed_bytes ssrc number d = take 2 d ++ (big_bytes 2 number ++ (take 4 (drop 4 d) ++ (big_bytes 4 ssrc ++ drop 12 d)))
+
+-- these words say of the datagram what the packet has
+pub record SaysAs (d : List ℕ) (p : Packet) : Type 0 where
+  pub is_packet : is_rtp d ≡ true
+  pub number : sequence_number d ≡ p.sequence_number
+  pub octets : payload_octets d ≡ length p.payload
+  pub under : (ssrc number : ℕ) → readdressed_bytes ssrc number d ≡ bytes_of (readdressed ssrc number p)

@@ -13,6 +13,7 @@ mod links;
 mod output;
 mod plan;
 mod planning;
+pub mod rtp_laws;
 
 pub use bytes::Bytes;
 pub use job::Job;
