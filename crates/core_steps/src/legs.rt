@@ -132,7 +132,8 @@ fn plan_place(
     packet: &RtpView<'_>,
     plan: &mut Plan,
 ) -> Result<(), AllocError>
-    ensures { OnOk result (plan.new ≡ plan.old ++ plan_of rows.now packet.now.datagram.now legs.now place) }
+    ensures { OnOk result (plan.new
+        ≡ plan.old ++ plan_of rows.now packet.now.datagram.now legs.now place) }
 {
     let Some(leg) = legs.get(usize::from(place)) else {
         return Ok(());
@@ -154,7 +155,8 @@ fn plan_places(
     packet: &RtpView<'_>,
     plan: &mut Plan,
 ) -> Result<(), AllocError>
-    ensures { OnOk result (plan.new ≡ plan.old ++ flat_map (plan_of rows.now packet.now.datagram.now legs.now) places.now) }
+    ensures { OnOk result (plan.new
+        ≡ plan.old ++ flat_map (plan_of rows.now packet.now.datagram.now legs.now) places.now) }
 {
     for place in places {
         plan_place(legs, alloc, *place, rows, packet, plan)?;
@@ -213,8 +215,10 @@ impl Legs {
         plan: &mut Plan,
     ) -> Result<(), AllocError>
         requires { length cname.now ≤ CNAME_LIMIT }
-        ensures outs { OnOk result (outs_of self.now plan.new ≡ job_datagrams cname.now rows.now self.now job.now) }
-        ensures after { OnOk result (applied self.now plan.new ≡ legs_after rows.now self.now job.now) }
+        ensures outs { OnOk result (outs_of self.now plan.new
+            ≡ job_datagrams cname.now rows.now self.now job.now) }
+        ensures after { OnOk result (applied self.now plan.new
+            ≡ legs_after rows.now self.now job.now) }
         ensures err { OnErr result (plan.new ≡ []) }
     {
         plan.clear();
@@ -245,7 +249,8 @@ impl Legs {
         plan: &mut Plan,
     ) -> Result<(), AllocError>
         requires { length cname.now ≤ CNAME_LIMIT }
-        ensures { OnOk result (plan.new ≡ plan.old ++ job_plan cname.now rows.now self.now job.now) }
+        ensures { OnOk result (plan.new
+            ≡ plan.old ++ job_plan cname.now rows.now self.now job.now) }
     {
         match job {
             Job::Packet { publisher, bytes } => {
@@ -313,7 +318,8 @@ impl Legs {
         plan: &mut Plan,
     ) -> Result<(), AllocError>
         requires { length cname.now ≤ CNAME_LIMIT }
-        ensures { OnOk result (plan.new ≡ plan.old ++ job_plan cname.now rows.now self.now (job.Report leg stay sr)) }
+        ensures { OnOk result (plan.new
+            ≡ plan.old ++ job_plan cname.now rows.now self.now (job.Report leg stay sr)) }
     {
         let Some((_, leg)) = self.standing(rows, leg, stay) else {
             return Ok(());

@@ -31,9 +31,11 @@ impl Model for Links {
 
     ghost Value = { LinkTable };
 
-    ghost view = { λ l. record { workers = l.workers; endpoints = l.endpoints.items; legs = l.legs.items } };
+    ghost view = { λ l.
+        record { workers = l.workers; endpoints = l.endpoints.items; legs = l.legs.items } };
 
-    ghost invariant = { λ l. IsLinkTable (record { workers = l.workers; endpoints = l.endpoints.items; legs = l.legs.items })
+    ghost invariant = { λ l.
+        IsLinkTable (record { workers = l.workers; endpoints = l.endpoints.items; legs = l.legs.items })
         × ListsLegs l.published.items (length l.endpoints.items) l.legs.items
         × FindsLegs l.sent.items (length l.endpoints.items) l.legs.items };
 }
@@ -63,7 +65,8 @@ fn sent_to(
     subscriber: usize,
 ) -> Result<HashMap<u32, u16>, AllocError>
     requires { length legs.now ≤ MAX_LEGS }
-    ensures { IfOk result (λ m. (source : ℕ) → get nat_eq m source ≡ first_to subscriber source (enumerate_from 0 legs.now)) }
+    ensures { IfOk result (λ m. (source : ℕ)
+        → get nat_eq m source ≡ first_to subscriber source (enumerate_from 0 legs.now)) }
 {
     let mut sources = HashMap::new(alloc);
     // From the last leg to the first, so that the first one with a source stays.

@@ -74,7 +74,8 @@ fn forward_at(
     octets: u64,
     bytes: Vec<u8>,
 ) -> Option<Vec<u8>>
-    ensures { legs.new ≡ changed_at legs.old place (λ s. forwarded s numbers number octets bytes.items) }
+    ensures { legs.new
+        ≡ changed_at legs.old place (λ s. forwarded s numbers number octets bytes.items) }
 {
     if place < legs.len() {
         legs[place].forward(numbers, number, octets, bytes)

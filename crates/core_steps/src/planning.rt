@@ -44,7 +44,8 @@ fn readdressed(
     seq: u16,
     plan: &mut Plan,
 ) -> Result<Bytes, AllocError>
-    ensures ok { IfOk result (λ bytes. bytes ≡ readdressed_bytes ssrc.0 seq packet.now.datagram.now) }
+    ensures ok { IfOk result (λ bytes. bytes
+        ≡ readdressed_bytes ssrc.0 seq packet.now.datagram.now) }
     ensures plan { plan.new ≡ plan.old }
 {
     let mut bytes = plan.buffer(alloc, packet.datagram.len())?;
@@ -61,7 +62,8 @@ pub fn plan_packet(
     packet: &RtpView<'_>,
     plan: &mut Plan,
 ) -> Result<Planned, AllocError>
-    ensures ok { IfOk result (λ planned. planned ≡ packet_planned place leg.now turn packet.now.datagram.now
+    ensures ok { IfOk result (λ planned. planned
+        ≡ packet_planned place leg.now turn packet.now.datagram.now
         (answer_to leg.now.numbers turn (sequence_number packet.now.datagram.now))) }
     ensures plan { plan.new ≡ plan.old }
 {
@@ -127,7 +129,8 @@ pub fn plan_report(
     sr: Option<(u64, u32)>,
 ) -> Result<Planned, AllocError>
     requires { length cname.now ≤ CNAME_LIMIT }
-    ensures { IfOk result (λ planned. planned ≡ Planned.Report leg.now.link.subscriber (report_bytes cname.now leg.now sr)) }
+    ensures { IfOk result (λ planned. planned
+        ≡ Planned.Report leg.now.link.subscriber (report_bytes cname.now leg.now sr)) }
 {
     let source = leg.link.out_ssrc;
     let mut bytes = Vec::new(alloc);

@@ -8,6 +8,8 @@ ghost use Rattle.core_steps.specs.Rtp.{is_rtp, SaysAs};
 
 /// Of a datagram that is a packet the words say what the packet has; one that the reader refuses is none.
 pub fn says_as_the_grammar()
-    ensures packet { (datagram : List ℕ) (packet : Packet) → ReadsRtp datagram packet → SaysAs datagram packet }
-    ensures refused { (datagram : List ℕ) (fault : Fault) → HasFault datagram fault → is_rtp datagram ≡ false }
+    ensures packet { (datagram : List ℕ) (packet : Packet)
+        → ReadsRtp datagram packet → SaysAs datagram packet }
+    ensures refused { (datagram : List ℕ) (fault : Fault)
+        → HasFault datagram fault → is_rtp datagram ≡ false }
 {}
