@@ -122,15 +122,15 @@ padding_fault d h csrcs rest e more header cut size cut_e valid_e there padded n
     ((whole, parts.0), omega arith, omega arith, parts.1 ∙ ap bit_of padded, subst P (sym tail) none)
 
 -- where the parts of a packet stand in its datagram
-record IsLaidOut (d : List ℕ) (p : Packet) : Type 0 where
-  whole : 12 ≤ length d
-  version : slice_index d 0 / 64 ≡ 2
-  padded : slice_index d 0 / 32 % 2 ≡ bit_of (nat_lt 0 (length p.padding))
-  csrcs : csrc_end d ≤ length d
-  end : extension_end d + length (p.payload ++ p.padding) ≡ length d
-  tail : drop (extension_end d) d ≡ p.payload ++ p.padding
+pub record IsLaidOut (d : List ℕ) (p : Packet) : Type 0 where
+  pub whole : 12 ≤ length d
+  pub version : slice_index d 0 / 64 ≡ 2
+  pub padded : slice_index d 0 / 32 % 2 ≡ bit_of (nat_lt 0 (length p.padding))
+  pub csrcs : csrc_end d ≤ length d
+  pub end : extension_end d + length (p.payload ++ p.padding) ≡ length d
+  pub tail : drop (extension_end d) d ≡ p.payload ++ p.padding
 
-laid_out : (d : List ℕ) (p : Packet) → ReadsRtp d p → IsLaidOut d p
+pub laid_out : (d : List ℕ) (p : Packet) → ReadsRtp d p → IsLaidOut d p
 laid_out d p reads =
     let valid = reads.valid in
     let csrcs_whole = valid.csrcs_whole in

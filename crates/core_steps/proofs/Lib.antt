@@ -1,0 +1,4 @@
+pub mod LegLemmas
+pub mod LinkLemmas
+pub mod PlanLemmas
+pub mod RtpLemmas

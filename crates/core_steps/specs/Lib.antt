@@ -1,0 +1,6 @@
+pub mod Legs
+pub mod Links
+pub mod Places
+pub mod Plan
+pub mod Planning
+pub mod Rtp

@@ -1,0 +1,27 @@
+//! The unit as one machine: datagrams, moments and selections go in, one atomic step an event; datagrams and
+//! refusals come out (RFC 7667, section 3.7). Nothing reads a clock, starts a thread or opens a socket.
+//!
+//! Read `world` and `event` first. `legs` is what one worker sends on, `notification` what follows from a desk's
+//! call, `intake` what a datagram says.
+#![tactic(auto)]
+
+mod bytes;
+mod job;
+mod leg;
+mod legs;
+mod links;
+mod output;
+mod plan;
+mod planning;
+pub mod rtp_laws;
+
+pub use bytes::Bytes;
+pub use job::Job;
+pub use leg::LegState;
+pub use legs::Legs;
+pub use links::Links;
+pub use output::{DeskRefusal, Out, Refusal};
+pub use plan::{Plan, Planned};
+
+#[cfg(test)]
+mod legs_tests;

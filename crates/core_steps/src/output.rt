@@ -1,0 +1,50 @@
+//! What the machine gives out.
+
+use crate::bytes::Bytes;
+use members::RoomFault;
+use rewrite::Skip;
+use rtcp_compound::RtcpFault;
+use rtcp_feedback::FbFault;
+use rtp_packet::RtpFault;
+
+/// One thing that the machine gives out.
+#[derive(Debug, Drop)]
+pub enum Out {
+    /// This datagram goes to this endpoint.
+    Send { endpoint: u16, bytes: Bytes },
+    /// Something was refused; all else stands.
+    Refused(Refusal),
+    /// A datagram, a tick or a selection came while the ingress had something to do; nothing was done.
+    Busy,
+    /// The ring of this worker was full: its job is given up.
+    Lost(u16),
+    /// A packet isn't sent on this leg.
+    Skip { leg: u16, skip: Skip },
+    /// A packet that is wanted again on this leg isn't kept any more.
+    Miss { leg: u16, seq: u16 },
+    /// There was nothing to do.
+    Idle,
+}
+
+/// What was refused, and why.
+#[derive(Clone, Copy, Debug, PartialEq, Eq)]
+pub enum Refusal {
+    Rtp(RtpFault),
+    Rtcp(RtcpFault),
+    Feedback(FbFault),
+    Room(RoomFault),
+    Desk(DeskRefusal),
+}
+
+/// Why a call of a desk isn't done.
+#[derive(Clone, Copy, Debug, PartialEq, Eq)]
+pub enum DeskRefusal {
+    /// 1: the owner isn't present with the stay that was named.
+    NotPresent,
+    /// 2: the owner that arrives is present.
+    AlreadyPresent,
+    /// 3: as many others are present as may be.
+    Full,
+    /// 4: the desk records no more calls.
+    HistoryFull,
+}
