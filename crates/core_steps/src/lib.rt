@@ -6,9 +6,11 @@
 #![tactic(auto)]
 
 mod bytes;
+mod intake;
 mod job;
 mod output;
 
 pub use bytes::Bytes;
+pub use intake::{Ask, Control, Heard, Unheard, hear_datagram, says_one_thing};
 pub use job::Job;
 pub use output::{DeskRefusal, Out, Refusal};
