@@ -1,5 +1,5 @@
 -- How the call that hears a datagram meets what the datagram says.
-use Rattle.std.specs.Prelude.{◌≡◌, ◌==◌, ◌<◌, ℕ, false, None, List, [], ◌++◌, length, Result, Ok, Err, MatchResult, AllocError}
+use Rattle.std.specs.Prelude.{◌≡◌, ◌==◌, ◌<◌, ℕ, false, None, List, [], ◌++◌, length, Result, Ok, Err, MatchResult}
 use Rattle.std.specs.List.{last_or, list_any}
 use Rattle.rtcp_compound.specs.Content.{Content}
 use Rattle.rtcp_feedback.specs.declared.fault.FbFault.{FbFault}
@@ -67,10 +67,10 @@ abbrev pub Surveys : ℕ → (Result Gist FbFault → Type 0) → Result Survey 
 Surveys own says r = MatchResult r (λ s. (g : Gist) × says (Ok g) × IsSurveyOf own s g) (λ fault. says (Err fault))
 
 -- a call appends all of this, or nothing where memory is wanted
-abbrev pub Appends : List Ask → List Ask → List Ask → Result (Unit {0}) AllocError → Type 0
+abbrev pub Appends : {E : Type 0} → List Ask → List Ask → List Ask → Result (Unit {0}) E → Type 0
 Appends before after more r = MatchResult r (λ _. after ≡ before ++ more) (λ _. (0 < length more) × (after ≡ before))
 
 -- a call appends all of this, or something where memory is wanted
-abbrev pub Fills : List Ask → List Ask → List Ask → Result (Unit {0}) AllocError → Type 0
+abbrev pub Fills : {E : Type 0} → List Ask → List Ask → List Ask → Result (Unit {0}) E → Type 0
 Fills before after more r =
     MatchResult r (λ _. after ≡ before ++ more) (λ _. (0 < length more) × ((some : List Ask) × (after ≡ before ++ some)))

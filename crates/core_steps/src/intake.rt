@@ -1,12 +1,13 @@
 //! What a datagram of an endpoint says.
 
-ghost use Rattle.std.specs.Prelude.{◌≡◌, ◌==◌, ◌↔◌, ◌+◌, ◌≤◌, List, length, map, IfOk, IsTrue, Result, Ok};
+ghost use Rattle.std.specs.Prelude.{◌≡◌, ◌==◌, ◌↔◌, ℕ, ◌+◌, ◌^◌, ◌<◌, ◌≤◌, List, length, map, IfOk, IsTrue, Result, Ok};
 ghost use Rattle.std.specs.List.{list_any};
 ghost use Rattle.rtcp_compound.specs.Content.{content_of, sources_left};
 ghost use Rattle.rtcp_compound.specs.Reading.{contents_left};
 ghost use Rattle.rtcp_feedback.specs.Reading.{entries_left, message_of, nacks_left};
 ghost use Rattle.core_steps.specs.Heard.{Appends, Fills, Hears, HearsPackets, HearsRtcp, HearsRtp, IsSurveyOf, Surveys};
 ghost use Rattle.core_steps.specs.Intake.{Gist, IsRtcp, PacketSays, PacketsSay, Said, Says, gist_of, joined, nothing, sent_by};
+ghost use Rattle.core_steps.specs.declared.intake.Ask.{Ask as Asked};
 ghost use Rattle.core_steps.specs.declared.output.Refusal.{Refusal as RefusedBy};
 
 use crate::output::Refusal;
@@ -92,10 +93,17 @@ fn hear_rtp(datagram: &[u8]) -> Result<Heard, Unheard>
     ensures { HearsRtp datagram.now result }
 {
     match RtpView::parse(datagram) {
-        Ok(view) => Ok(Heard::Media {
-            ssrc: view.ssrc,
-            seq: view.sequence_number,
-            timestamp: view.timestamp,
+        Ok(
+            RtpView {
+                ssrc,
+                sequence_number,
+                timestamp,
+                ..
+            },
+        ) => Ok(Heard::Media {
+            ssrc,
+            seq: sequence_number,
+            timestamp,
         }),
         Err(fault) => Err(Unheard::Refused(Refusal::Rtp(fault))),
     }
@@ -113,7 +121,7 @@ fn hear_rtcp(datagram: &[u8], own: Ssrc, asks: &mut Vec<Ask>) -> Result<Heard, U
 
 /// Reads the packets of a datagram: all of them first, and those that ask for something once more.
 fn hear_packets(packets: Packets<'_>, own: Ssrc, asks: &mut Vec<Ask>) -> Result<Heard, Unheard>
-    requires { length (contents_left packets.entry) ≤ u64.MAX }
+    requires { length (contents_left packets) < 2 ^ 64 }
     ensures { HearsPackets own.0 (contents_left packets.entry) asks.old.items asks.new.items result }
 {
     match survey_packets(packets, own) {
@@ -168,9 +176,18 @@ impl Survey {
         survey
     }
 
+    /// Of a packet of this sender that may ask for something.
+    fn of_asking(sender: Ssrc, own: Ssrc) -> Survey
+        ensures { (asks : List Asked) → IsSurveyOf own.0 result (record (sent_by sender.0) { asks = asks }) }
+    {
+        let mut survey = Survey::of_sender(sender, own);
+        survey.asking = true;
+        survey
+    }
+
     /// Of the packets before, then of these.
     fn then(self, next: Survey, own: Ssrc) -> Survey
-        requires { self.control.tmmbns + next.control.tmmbns ≤ u64.MAX }
+        requires { self.control.tmmbns + next.control.tmmbns < 2 ^ 64 }
         ensures { (a b : Gist) → IsSurveyOf own.0 self a → IsSurveyOf own.0 next b → IsSurveyOf own.0 result (joined a b) }
     {
         Survey {
@@ -191,7 +208,7 @@ impl Survey {
 
 /// Reads packets, up to the first fault.
 fn survey_packets(packets: Packets<'_>, own: Ssrc) -> Result<Survey, FbFault>
-    requires { length (contents_left packets.entry) ≤ u64.MAX }
+    requires { length (contents_left packets) < 2 ^ 64 }
     ensures { Surveys own.0 (PacketsSay (contents_left packets.entry)) result }
 {
     let mut all = Survey::silent(own);
@@ -206,7 +223,6 @@ fn survey_packet(packet: RtcpView<'_>, own: Ssrc) -> Result<Survey, FbFault>
     ensures said { Surveys own.0 (PacketSays (content_of packet.entry)) result }
     ensures counted { IfOk result (λ s. s.control.tmmbns ≤ 1) }
 {
-    let mut said = Survey::silent(own);
     match packet {
         RtcpView::Sr {
             sender,
@@ -214,12 +230,13 @@ fn survey_packet(packet: RtcpView<'_>, own: Ssrc) -> Result<Survey, FbFault>
             rtp,
             ..
         } => {
-            said.control.speaker = sender;
+            let mut said = Survey::of_sender(sender, own);
             said.control.report = Some((ntp, rtp));
             Ok(said)
         }
         RtcpView::Rr { sender, .. } => Ok(Survey::of_sender(sender, own)),
         RtcpView::Bye { sources } => {
+            let mut said = Survey::silent(own);
             said.goodbye = names(sources, own);
             Ok(said)
         }
@@ -227,8 +244,8 @@ fn survey_packet(packet: RtcpView<'_>, own: Ssrc) -> Result<Survey, FbFault>
             Ok(feedback) => Ok(survey_feedback(feedback, own)),
             Err(fault) => Err(fault),
         },
-        RtcpView::Sdes { .. } => Ok(said),
-        RtcpView::Other { .. } => Ok(said),
+        RtcpView::Sdes { .. } => Ok(Survey::silent(own)),
+        RtcpView::Other { .. } => Ok(Survey::silent(own)),
     }
 }
 
@@ -249,27 +266,17 @@ fn survey_feedback(feedback: Feedback<'_>, own: Ssrc) -> Survey
     ensures said { IsSurveyOf own.0 result (gist_of (message_of feedback.entry)) }
     ensures counted { result.control.tmmbns ≤ 1 }
 {
-    let mut said = Survey::silent(own);
     match feedback {
-        Feedback::Nack { sender, .. } => {
-            said.control.speaker = sender;
-            said.asking = true;
-        }
-        Feedback::Pli { sender, .. } => {
-            said.control.speaker = sender;
-            said.asking = true;
-        }
-        Feedback::Tmmbr { sender, .. } => {
-            said.control.speaker = sender;
-            said.asking = true;
-        }
+        Feedback::Nack { sender, .. } => Survey::of_asking(sender, own),
+        Feedback::Pli { sender, .. } => Survey::of_asking(sender, own),
+        Feedback::Tmmbr { sender, .. } => Survey::of_asking(sender, own),
         Feedback::Tmmbn { sender, .. } => {
-            said.control.speaker = sender;
+            let mut said = Survey::of_sender(sender, own);
             said.control.tmmbns = 1;
+            said
         }
-        Feedback::Unknown { sender } => said.control.speaker = sender,
+        Feedback::Unknown { sender } => Survey::of_sender(sender, own),
     }
-    said
 }
 
 /// Appends what packets ask for, all of it or nothing.

@@ -14,3 +14,6 @@ pub use bytes::Bytes;
 pub use intake::{Ask, Control, Heard, Unheard, hear_datagram, says_one_thing};
 pub use job::Job;
 pub use output::{DeskRefusal, Out, Refusal};
+
+#[cfg(test)]
+mod intake_tests;
