@@ -1,2 +1,3 @@
 pub mod IntakeLemmas
 pub mod OneSaidLemmas
+pub mod ReportLemmas

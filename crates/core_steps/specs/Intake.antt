@@ -1,7 +1,8 @@
 -- What a datagram of an endpoint says (RFC 3550, sections 5.1, 6.1 and 6.6; RFC 4585, sections 6.1 to 6.3; RFC 5104,
 -- section 4.2), by the grammars of RTP packets, of RTCP datagrams and of feedback.
-use Rattle.std.specs.Prelude.{◌≡◌, ◌==◌, ◌⊎◌, ◌<◌, ◌≤◌, ℕ, ◌+◌, not, unwrap_or, Option, None, Some, List, [], ◌∷◌, ◌++◌, length, map, slice_index, Result, Ok, Err, if◌then◌else◌}
+use Rattle.std.specs.Prelude.{◌≡◌, ◌==◌, ◌⊎◌, ◌<◌, ◌≤◌, ℕ, ◌+◌, not, unwrap_or, Option, None, Some, List, [], ◌∷◌, ◌++◌, length, map, slice_index, fold, Result, Ok, Err, if◌then◌else◌}
 use Rattle.std.specs.List.{find, last_or, list_any}
+use Rattle.members.specs.Room.{RoomState, after_report}
 use Rattle.rtp_packet.specs.Fault.{HasFault}
 use Rattle.rtp_packet.specs.Grammar.{Packet as RtpPacket, ReadsRtp}
 use Rattle.rtcp_compound.specs.Content.{Content, shown, sender_report, receiver_report, description, goodbye, feedback, other}
@@ -119,3 +120,7 @@ IsRtcp datagram = (192 ≤ slice_index datagram 1) × (slice_index datagram 1 �
 -- what a datagram of the endpoint whose own source this is says, or why it is refused
 abbrev pub Says : ℕ → List ℕ → Result Said Refusal → Type 0
 Says own datagram said = (IsRtcp datagram → SaysRtcp own datagram said) × (¬ IsRtcp datagram → SaysRtp datagram said)
+
+-- the room once sender reports of the endpoint with these timestamps came at its moment
+abbrev pub after_reports : RoomState → ℕ → List (ℕ × ℕ) → RoomState
+after_reports room endpoint reports = fold (λ r report. after_report r endpoint report.0 report.1) room reports

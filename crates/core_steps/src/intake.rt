@@ -17,9 +17,9 @@ use rtp_packet::RtpView;
 use std::alloc::AllocError;
 use tmmbr_tuple::Ssrc;
 
-/// The first and the last packet type of RTCP (RFC 5761, section 4).
+/// The first packet type of RTCP (RFC 5761, section 4).
 const FIRST_RTCP: u8 = 192;
-
+/// The last packet type of RTCP (RFC 5761, section 4).
 const LAST_RTCP: u8 = 223;
 
 /// What an entry of feedback asks for.
@@ -93,18 +93,19 @@ fn hear_rtp(datagram: &[u8]) -> Result<Heard, Unheard>
     ensures { HearsRtp datagram.now result }
 {
     match RtpView::parse(datagram) {
-        Ok(
-            RtpView {
+        Ok(view) => {
+            let RtpView {
                 ssrc,
-                sequence_number,
+                sequence_number: seq,
                 timestamp,
                 ..
-            },
-        ) => Ok(Heard::Media {
-            ssrc,
-            seq: sequence_number,
-            timestamp,
-        }),
+            } = view;
+            Ok(Heard::Media {
+                ssrc,
+                seq,
+                timestamp,
+            })
+        }
         Err(fault) => Err(Unheard::Refused(Refusal::Rtp(fault))),
     }
 }
@@ -143,7 +144,7 @@ fn hear_packets(packets: Packets<'_>, own: Ssrc, asks: &mut Vec<Ask>) -> Result<
 
 /// What packets say, but for what they ask for.
 #[derive(Clone, Copy)]
-pub(crate) struct Survey {
+struct Survey {
     /// A goodbye names the endpoint's own source.
     goodbye: bool,
     /// There is a NACK, a PLI or a TMMBR.

@@ -5,5 +5,5 @@ use Rattle.core_steps.proofs.intake.hear_rtp.Goals as goal
 
 pub returns-in-Ok : goal.returns-in-Ok
 returns-in-Ok c =
-    let view = c.in-Ok.field-0 in
+    let view = c.in-Ok.view in
     (media view.ssrc.0 view.sequence_number view.timestamp, (packet_of view, c.in-Ok.ensures.read, refl), refl, refl)
