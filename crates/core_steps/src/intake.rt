@@ -42,7 +42,8 @@ pub enum Heard {
         seq: u16,
         timestamp: u32,
     },
-    /// A goodbye of the endpoint's own source (RFC 3550, section 6.6); all else of the datagram is passed over.
+    /// A goodbye of the endpoint's own source (RFC 3550, section 6.6); all else of the datagram is
+    /// passed over.
     Goodbye,
     /// Any other RTCP packets.
     Control(Control),
@@ -53,7 +54,8 @@ pub enum Heard {
 pub struct Control {
     /// The first sender of a report or of feedback that isn't the endpoint's own source, else that.
     pub speaker: Ssrc,
-    /// The NTP and RTP timestamps of the last sender report, where there is one (RFC 3550, section 6.4.1).
+    /// The NTP and RTP timestamps of the last sender report, where there is one (RFC 3550, section
+    /// 6.4.1).
     pub report: Option<(u64, u32)>,
     /// How many TMMBNs there are (RFC 5104, section 4.2.2).
     pub tmmbns: u64,
@@ -63,14 +65,15 @@ pub struct Control {
 #[derive(Clone, Copy, Debug, PartialEq, Eq)]
 pub enum Unheard {
     NoMemory,
-    /// The first fault: of the RTP packet, of the RTCP datagram, else of its first faulty feedback packet.
+    /// The first fault: of the RTP packet, of the RTCP datagram, else of its first faulty feedback
+    /// packet.
     Refused(Refusal),
 }
 
-/// Reads a datagram of the endpoint with this source: RTCP where the second byte is 192 to 223 (RFC 5761, section 4),
-/// else RTP. Answers what it says, and appends what it asks for in the order of packets and entries; a NACK or a TMMBR
-/// without entries asks for nothing. All of it is read before memory is wanted. Where it isn't heard, `asks` is as it
-/// was.
+/// Reads a datagram of the endpoint with this source: RTCP where the second byte is 192 to 223 (RFC
+/// 5761, section 4), else RTP. Answers what it says, and appends what it asks for in the order of packets
+/// and entries; a NACK or a TMMBR without entries asks for nothing. All of it is read before memory is
+/// wanted, so a refusal comes before `NoMemory`. Where the datagram isn't heard, `asks` is as it was.
 pub fn hear_datagram(datagram: &[u8], own: Ssrc, asks: &mut Vec<Ask>) -> Result<Heard, Unheard>
     ensures { Hears own.0 datagram.now asks.old.items asks.new.items result }
 {
@@ -123,7 +126,8 @@ fn hear_rtcp(datagram: &[u8], own: Ssrc, asks: &mut Vec<Ask>) -> Result<Heard, U
 /// Reads the packets of a datagram: all of them first, and those that ask for something once more.
 fn hear_packets(packets: Packets<'_>, own: Ssrc, asks: &mut Vec<Ask>) -> Result<Heard, Unheard>
     requires { length (contents_left packets) < 2 ^ 64 }
-    ensures { HearsPackets own.0 (contents_left packets.entry) asks.old.items asks.new.items result }
+    ensures { HearsPackets own.0 (contents_left packets.entry) asks.old.items asks.new.items
+        result }
 {
     match survey_packets(packets, own) {
         Ok(survey) => {
@@ -179,7 +183,8 @@ impl Survey {
 
     /// Of a packet of this sender that may ask for something.
     fn of_asking(sender: Ssrc, own: Ssrc) -> Survey
-        ensures { (asks : List Asked) → IsSurveyOf own.0 result (record (sent_by sender.0) { asks = asks }) }
+        ensures { (asks : List Asked)
+            → IsSurveyOf own.0 result (record (sent_by sender.0) { asks = asks }) }
     {
         let mut survey = Survey::of_sender(sender, own);
         survey.asking = true;
@@ -189,7 +194,8 @@ impl Survey {
     /// Of the packets before, then of these.
     fn then(self, next: Survey, own: Ssrc) -> Survey
         requires { self.control.tmmbns + next.control.tmmbns < 2 ^ 64 }
-        ensures { (a b : Gist) → IsSurveyOf own.0 self a → IsSurveyOf own.0 next b → IsSurveyOf own.0 result (joined a b) }
+        ensures { (a b : Gist) → IsSurveyOf own.0 self a → IsSurveyOf own.0 next b
+            → IsSurveyOf own.0 result (joined a b) }
     {
         Survey {
             goodbye: self.goodbye || next.goodbye,
@@ -320,7 +326,8 @@ fn collect_packet(packet: RtcpView<'_>, asks: &mut Vec<Ask>) -> Result<(), Alloc
 
 /// Appends what a feedback packet asks for, as much of it as there is room for.
 fn collect_feedback(feedback: Feedback<'_>, asks: &mut Vec<Ask>) -> Result<(), AllocError>
-    ensures { Fills asks.old.items asks.new.items (gist_of (message_of feedback.entry)).asks result }
+    ensures { Fills asks.old.items asks.new.items (gist_of (message_of feedback.entry)).asks
+        result }
 {
     match feedback {
         Feedback::Nack { media, entries, .. } => collect_resends(media, entries, asks),
@@ -336,7 +343,8 @@ fn collect_feedback(feedback: Feedback<'_>, asks: &mut Vec<Ask>) -> Result<(), A
 
 /// Appends the entries of a NACK, as many as there is room for.
 fn collect_resends(media: Ssrc, entries: Nacks<'_>, asks: &mut Vec<Ask>) -> Result<(), AllocError>
-    ensures { Fills asks.old.items asks.new.items (map (λ n. Ask.Resend media n) (nacks_left entries.entry)) result }
+    ensures { Fills asks.old.items asks.new.items
+        (map (λ n. Ask.Resend media n) (nacks_left entries.entry)) result }
 {
     for nack in entries {
         asks.push(Ask::Resend { media, nack })?;
@@ -346,7 +354,8 @@ fn collect_resends(media: Ssrc, entries: Nacks<'_>, asks: &mut Vec<Ask>) -> Resu
 
 /// Appends the entries of a TMMBR, as many as there is room for.
 fn collect_rates(entries: TmmbEntries<'_>, asks: &mut Vec<Ask>) -> Result<(), AllocError>
-    ensures { Fills asks.old.items asks.new.items (map (λ e. Ask.Rate e.ssrc e.word) (entries_left entries.entry)) result }
+    ensures { Fills asks.old.items asks.new.items
+        (map (λ e. Ask.Rate e.ssrc e.word) (entries_left entries.entry)) result }
 {
     for entry in entries {
         asks.push(Ask::Rate {
@@ -359,6 +368,6 @@ fn collect_rates(entries: TmmbEntries<'_>, asks: &mut Vec<Ask>) -> Result<(), Al
 
 /// A datagram says one thing. This function does nothing: its contract is the law.
 pub fn says_one_thing()
-    ensures { (own : ℕ) (datagram : List ℕ) (one other : Result Said RefusedBy) → Says own datagram one → Says own datagram other
-        → one ≡ other }
+    ensures { (own : ℕ) (datagram : List ℕ) (one other : Result Said RefusedBy)
+        → Says own datagram one → Says own datagram other → one ≡ other }
 {}

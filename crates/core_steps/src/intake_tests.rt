@@ -66,8 +66,8 @@ const fn refused(refusal: Refusal) -> Result<Heard, Unheard> {
     Err(Unheard::Refused(refusal))
 }
 
-/// What these packets, joined, say and ask for, behind an ask that stays. Fails for want of memory, and then
-/// nothing was appended.
+/// What these packets, joined, say and ask for, behind an ask that stays. Fails for want of memory, and
+/// then nothing was appended.
 fn expect(
     rt: &(impl Abort + AllocGlobal),
     own: u32,
