@@ -4,3 +4,5 @@ pub mod Places
 pub mod Plan
 pub mod Planning
 pub mod Rtp
+pub mod Intake
+pub mod Heard

@@ -6,6 +6,7 @@
 #![tactic(auto)]
 
 mod bytes;
+mod intake;
 mod job;
 mod leg;
 mod legs;
@@ -16,6 +17,7 @@ mod planning;
 pub mod rtp_laws;
 
 pub use bytes::Bytes;
+pub use intake::{Ask, Control, Heard, Unheard, hear_datagram, says_one_thing};
 pub use job::Job;
 pub use leg::LegState;
 pub use legs::Legs;
@@ -25,3 +27,6 @@ pub use plan::{Plan, Planned};
 
 #[cfg(test)]
 mod legs_tests;
+
+#[cfg(test)]
+mod intake_tests;
