@@ -1,2 +1,4 @@
+pub mod Head
 pub mod Links
+pub mod Notification
 pub mod Places

@@ -6,11 +6,15 @@
 #![tactic(auto)]
 
 mod bytes;
+mod head;
 mod job;
 mod links;
+mod notification;
 mod output;
 
 pub use bytes::Bytes;
+pub use head::{Head, upstream_report};
 pub use job::Job;
 pub use links::Links;
+pub use notification::{Notification, entries_of, notify};
 pub use output::{DeskRefusal, Out, Refusal};
