@@ -1,6 +1,6 @@
 -- The datagrams that follow from a desk's call: to the publisher whose rate is asked for, and to its subscribers
 -- (RFC 5104, sections 4.2.1 and 4.2.2; RFC 4585, section 6.3.1).
-use Rattle.std.specs.Prelude.{◌==◌, ℕ, ◌+◌, ◌*◌, ◌^◌, nat_lt, Bool, true, false, not, ◌&&◌, ◌||◌, List, [], ◌∷◌, ◌++◌, length, map, filter, flat_map, Option, None, Some, is_some, slice_get, if◌then◌else◌}
+use Rattle.std.specs.Prelude.{◌==◌, ℕ, ◌+◌, ◌*◌, ◌^◌, ◌<◌, nat_lt, Bool, false, not, ◌&&◌, ◌||◌, List, [], ◌∷◌, ◌++◌, length, map, filter, flat_map, Option, IfSome, is_some, slice_get, if◌then◌else◌}
 use Rattle.std.specs.Option.{option_map_or}
 use Rattle.tmmbr_tuple.specs.declared.ssrc.Ssrc.{Ssrc}
 use Rattle.tmmbr_tuple.specs.Tuple.{word_of}
@@ -36,15 +36,24 @@ is_changed e = nat_lt 0 (length e.lifted.items) || nat_lt 0 (length e.fresh.item
 abbrev pub tells : Notification → Effect → Bool
 tells n e = is_some n.asked_by || (is_changed e || n.pli)
 
+-- the publisher and the leg that asked are those of this table
+pub record IsAmong (table : LinkTable) (n : Notification) : Type 0 where
+  pub publisher : n.publisher < length table.endpoints
+  pub asked_by : IfSome n.asked_by (λ leg. leg < length table.legs)
+
 -- a TMMBR of this owner that asks the publisher for the rate and the overhead of the word
 abbrev pub tmmbr_bytes : Ssrc → ℕ → Ssrc → List ℕ
 tmmbr_bytes publisher word owner = packet_bytes 3 205 (tmmb_body owner.0 (record { ssrc = publisher; word = word } ∷ []))
 
 -- what the publisher is asked for: no limit by each owner whose bound is lifted, then each fresh request
+abbrev pub lifted_bytes : Ssrc → List Ssrc → List ℕ
+lifted_bytes publisher owners = flat_map (tmmbr_bytes publisher no_limit) owners
+
+abbrev pub fresh_bytes : Ssrc → List Request → List ℕ
+fresh_bytes publisher requests = flat_map (λ r. tmmbr_bytes publisher (word_of r.tuple) r.owner) requests
+
 abbrev pub requests_bytes : Ssrc → Effect → List ℕ
-requests_bytes publisher e =
-    flat_map (tmmbr_bytes publisher no_limit) e.lifted.items
-    ++ flat_map (λ (r : Request). tmmbr_bytes publisher (word_of r.tuple) r.owner) e.fresh.items
+requests_bytes publisher e = lifted_bytes publisher e.lifted.items ++ fresh_bytes publisher e.fresh.items
 
 -- a PLI of the unit about this source
 abbrev pub pli_bytes : Identity → Ssrc → List ℕ

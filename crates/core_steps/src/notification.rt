@@ -5,7 +5,7 @@ ghost use Rattle.std.specs.Option.{option_map_or};
 ghost use Rattle.rate_cert.specs.declared.certificate.TheConstants.{MAX_REQUESTS as REQUESTS};
 ghost use Rattle.core_steps.specs.Head.{report_head};
 ghost use Rattle.core_steps.specs.declared.output.Out.TheVariants.{Send};
-ghost use Rattle.core_steps.specs.Notification.{entries_of, is_changed, is_other, has_stay, others_of, tmmbr_bytes, requests_bytes, notice_to, requests_upstream, picture_upstream, notification_datagrams};
+ghost use Rattle.core_steps.specs.Notification.{entries_of, is_changed, is_other, has_stay, others_of, tmmbr_bytes, lifted_bytes, fresh_bytes, requests_bytes, notice_to, requests_upstream, picture_upstream, notification_datagrams};
 
 use crate::bytes::Bytes;
 use crate::head::Head;
@@ -40,13 +40,20 @@ pub struct Notification {
 }
 
 impl Notification {
-    ghost use Rattle.std.specs.Prelude.{◌≡◌};
-    ghost use Rattle.core_steps.specs.declared.output.Out.TheVariants.{Send};
-    ghost use Rattle.core_steps.specs.Notification.{tells};
+    ghost use Rattle.std.specs.Prelude.{◌≡◌, ◌≢◌, [], List, true, false};
+    ghost use Rattle.members.specs.declared.order.Row.{Row};
+    ghost use Rattle.core_steps.specs.Head.{Identity};
+    ghost use Rattle.core_steps.specs.Links.{LinkTable};
+    ghost use Rattle.core_steps.specs.Notification.{tells, IsAmong, notification_datagrams};
 
     /// Whether there is anything to tell of the call with this effect.
+    #[tactic(auto, using(crate::proofs::NotificationLemmas::something_told, crate::proofs::NotificationLemmas::nothing_told))]
     pub fn tells(&self, effect: &Effect) -> bool
-        ensures { result ≡ tells self.now effect.now }
+        ensures value { result ≡ tells self.now effect.now }
+        ensures something { (table : LinkTable) (unit : Identity) (rows : List Row) → IsAmong table self.now
+            → result ≡ true → notification_datagrams table unit rows self.now effect.now ≢ [] }
+        ensures nothing { (table : LinkTable) (unit : Identity) (rows : List Row)
+            → result ≡ false → notification_datagrams table unit rows self.now effect.now ≡ [] }
     {
         self.asked_by.is_some() || is_changed(effect) || self.pli
     }
@@ -226,18 +233,29 @@ fn requests(
 {
     let count = effect.lifted.len() + effect.fresh.len();
     let mut bytes = head.begin(alloc, TMMBR_LEN * count)?;
-    for owner in effect.lifted.as_slice() {
-        write_request(&mut bytes, publisher, NO_LIMIT, *owner)?;
-    }
-    for request in effect.fresh.as_slice() {
-        write_request(
-            &mut bytes,
-            publisher,
-            request.tuple.to_word(),
-            request.owner,
-        )?;
-    }
+    write_lifted(&mut bytes, publisher, effect.lifted.as_slice())?;
+    write_fresh(&mut bytes, publisher, effect.fresh.as_slice())?;
     Ok(bytes)
+}
+
+/// Appends a TMMBR of each of these owners that lifts its bound.
+fn write_lifted(bytes: &mut Vec<u8>, publisher: Ssrc, owners: &[Ssrc]) -> Result<(), AllocError>
+    ensures { OnOk result (bytes.new.items ≡ bytes.old.items ++ lifted_bytes publisher owners.now) }
+{
+    for owner in owners {
+        write_request(bytes, publisher, NO_LIMIT, *owner)?;
+    }
+    Ok(())
+}
+
+/// Appends a TMMBR for each of these requests.
+fn write_fresh(bytes: &mut Vec<u8>, publisher: Ssrc, requests: &[Request]) -> Result<(), AllocError>
+    ensures { OnOk result (bytes.new.items ≡ bytes.old.items ++ fresh_bytes publisher requests.now) }
+{
+    for request in requests {
+        write_request(bytes, publisher, request.tuple.to_word(), request.owner)?;
+    }
+    Ok(())
 }
 
 /// Appends a TMMBR of this owner that asks the publisher with this source for this word.
