@@ -18,3 +18,6 @@ pub use job::Job;
 pub use links::Links;
 pub use notification::{Notification, entries_of, notify};
 pub use output::{DeskRefusal, Out, Refusal};
+
+#[cfg(test)]
+mod notification_tests;
