@@ -1,5 +1,5 @@
--- The datagrams that follow from a desk's call: to the publisher whose rate is asked for, and to its subscribers
--- (RFC 5104, sections 4.2.1 and 4.2.2; RFC 4585, section 6.3.1).
+-- The datagrams that follow from a desk's call, to the publisher whose rate is asked for and to its
+-- subscribers (RFC 5104, sections 4.2.1 and 4.2.2; RFC 4585, section 6.3.1).
 use Rattle.std.specs.Prelude.{◌==◌, ℕ, ◌+◌, ◌*◌, ◌^◌, ◌<◌, nat_lt, Bool, false, not, ◌&&◌, ◌||◌, List, [], ◌∷◌, ◌++◌, length, map, filter, flat_map, Option, IfSome, is_some, slice_get, if◌then◌else◌}
 use Rattle.std.specs.Option.{option_map_or}
 use Rattle.tmmbr_tuple.specs.declared.ssrc.Ssrc.{Ssrc}
@@ -27,12 +27,12 @@ entry_of r = record { ssrc = r.owner; word = word_of r.tuple }
 abbrev pub entries_of : List Request → List TmmbrEntry
 entries_of set = map entry_of set
 
--- Whether the announced set changed: each owner has one request in it, so where no owner is lifted and no member is fresh
--- the members are the former ones.
+-- whether the announced set changed: a member that came is fresh; one that is gone is lifted, or its
+-- owner has another word now, which is fresh
 abbrev pub is_changed : Effect → Bool
 is_changed e = nat_lt 0 (length e.lifted.items) || nat_lt 0 (length e.fresh.items)
 
--- what has to be told: who asked is answered, a change is announced, and a wish for a picture is sent on
+-- what is told of: an accepted request, a changed set, and a PLI that is due
 abbrev pub tells : Notification → Effect → Bool
 tells n e = is_some n.asked_by || (is_changed e || n.pli)
 
@@ -43,17 +43,20 @@ pub record IsAmong (table : LinkTable) (n : Notification) : Type 0 where
 
 -- a TMMBR of this owner that asks the publisher for the rate and the overhead of the word
 abbrev pub tmmbr_bytes : Ssrc → ℕ → Ssrc → List ℕ
-tmmbr_bytes publisher word owner = packet_bytes 3 205 (tmmb_body owner.0 (record { ssrc = publisher; word = word } ∷ []))
+tmmbr_bytes publisher word owner =
+    packet_bytes 3 205 (tmmb_body owner.0 (record { ssrc = publisher; word = word } ∷ []))
 
--- what the publisher is asked for: no limit by each owner whose bound is lifted, then each fresh request
+-- what the publisher is asked for: no limit by each owner that is lifted, then each fresh request
 abbrev pub lifted_bytes : Ssrc → List Ssrc → List ℕ
 lifted_bytes publisher owners = flat_map (tmmbr_bytes publisher no_limit) owners
 
 abbrev pub fresh_bytes : Ssrc → List Request → List ℕ
-fresh_bytes publisher requests = flat_map (λ r. tmmbr_bytes publisher (word_of r.tuple) r.owner) requests
+fresh_bytes publisher requests =
+    flat_map (λ r. tmmbr_bytes publisher (word_of r.tuple) r.owner) requests
 
 abbrev pub requests_bytes : Ssrc → Effect → List ℕ
-requests_bytes publisher e = lifted_bytes publisher e.lifted.items ++ fresh_bytes publisher e.fresh.items
+requests_bytes publisher e =
+    lifted_bytes publisher e.lifted.items ++ fresh_bytes publisher e.fresh.items
 
 -- a PLI of the unit about this source
 abbrev pub pli_bytes : Identity → Ssrc → List ℕ
@@ -66,7 +69,8 @@ tmmbn_bytes sender entries = packet_bytes 4 205 (tmmb_body sender.0 entries)
 -- the notice with these entries that goes to the subscriber of this leg
 abbrev pub notice_to : LinkTable → Identity → List TmmbrEntry → ℕ → List Out
 notice_to table unit entries leg = option_map_or
-    (λ (l : LegSettings). Send l.subscriber (report_head unit ++ tmmbn_bytes l.out_ssrc entries) ∷ [])
+    (λ (l : LegSettings).
+    Send l.subscriber (report_head unit ++ tmmbn_bytes l.out_ssrc entries) ∷ [])
     (slice_get table.legs leg) []
 
 -- whether a stay stands in the leg, by the published rows
@@ -75,7 +79,8 @@ has_stay rows leg = option_map_or (λ (r : Row). nat_lt 0 r.stay) (slice_get row
 
 -- whether it is a leg with a stay, and not the one that asked
 abbrev pub is_other : List Row → Option ℕ → ℕ → Bool
-is_other rows asked_by leg = has_stay rows leg && not (option_map_or (λ asked. asked == leg) asked_by false)
+is_other rows asked_by leg =
+    has_stay rows leg && not (option_map_or (λ asked. asked == leg) asked_by false)
 
 -- the other legs of the publisher, rising
 abbrev pub others_of : LinkTable → List Row → Notification → List ℕ
@@ -90,23 +95,31 @@ to_publisher table unit publisher bytes_for = option_map_or
 -- 1. where the set changed: what the publisher is asked for
 abbrev pub requests_upstream : LinkTable → Identity → Notification → Effect → List Out
 requests_upstream table unit n e =
-    if is_changed e then to_publisher table unit n.publisher (λ source. requests_bytes source e) else []
+    if is_changed e
+    then to_publisher table unit n.publisher (λ source. requests_bytes source e)
+    else []
 
 -- 2. after an accepted request: the set, to who asked
 abbrev pub notice_to_owner : LinkTable → Identity → Notification → Effect → List Out
-notice_to_owner table unit n e = option_map_or (notice_to table unit (entries_of e.set.items)) n.asked_by []
+notice_to_owner table unit n e =
+    option_map_or (notice_to table unit (entries_of e.set.items)) n.asked_by []
 
 -- 3. where the set changed: the set, to each other leg of the publisher in which a stay stands
 abbrev pub notices_to_others : LinkTable → Identity → List Row → Notification → Effect → List Out
 notices_to_others table unit rows n e =
-    if is_changed e then flat_map (notice_to table unit (entries_of e.set.items)) (others_of table rows n) else []
+    if is_changed e
+    then flat_map (notice_to table unit (entries_of e.set.items)) (others_of table rows n)
+    else []
 
 -- 4. where a picture is wanted: a picture loss indication to the publisher
 abbrev pub picture_upstream : LinkTable → Identity → Notification → List Out
-picture_upstream table unit n = if n.pli then to_publisher table unit n.publisher (pli_bytes unit) else []
+picture_upstream table unit n =
+    if n.pli then to_publisher table unit n.publisher (pli_bytes unit) else []
 
 -- all that follows from a call, in this order
-abbrev pub notification_datagrams : LinkTable → Identity → List Row → Notification → Effect → List Out
+abbrev pub notification_datagrams :
+    LinkTable → Identity → List Row → Notification → Effect → List Out
 notification_datagrams table unit rows n e =
     requests_upstream table unit n e
-    ++ (notice_to_owner table unit n e ++ (notices_to_others table unit rows n e ++ picture_upstream table unit n))
+    ++ (notice_to_owner table unit n e
+    ++ (notices_to_others table unit rows n e ++ picture_upstream table unit n))

@@ -95,7 +95,8 @@ pub fn upstream_report(
     block: Option<Block>,
     outs: &mut Vec<Out>,
 ) -> Result<(), AllocError>
-    ensures ok { OnOk result (outs.new.items ≡ outs.old.items ++ upstream_report head.now publisher block) }
+    ensures ok { OnOk result (outs.new.items
+        ≡ outs.old.items ++ upstream_report head.now publisher block) }
     ensures unchanged { OnErr result (outs.new.items ≡ outs.old.items) }
 {
     let bytes = Bytes::new(head.report(alloc, block)?);

@@ -1,4 +1,4 @@
-//! What follows from a desk's call: requests and wishes for a picture to the publisher, notices to its subscribers.
+//! What follows from a desk's call: requests and PLIs to the publisher, notices to its subscribers.
 
 ghost use Rattle.std.specs.Prelude.{◌≡◌, ◌≤◌, ◌++◌, [], ◌∷◌, length, flat_map, IfOk, OnOk, OnErr};
 ghost use Rattle.std.specs.Option.{option_map_or};
@@ -50,10 +50,11 @@ impl Notification {
     #[tactic(auto, using(crate::proofs::NotificationLemmas::something_told, crate::proofs::NotificationLemmas::nothing_told))]
     pub fn tells(&self, effect: &Effect) -> bool
         ensures value { result ≡ tells self.now effect.now }
-        ensures something { (table : LinkTable) (unit : Identity) (rows : List Row) → IsAmong table self.now
-            → result ≡ true → notification_datagrams table unit rows self.now effect.now ≢ [] }
-        ensures nothing { (table : LinkTable) (unit : Identity) (rows : List Row)
-            → result ≡ false → notification_datagrams table unit rows self.now effect.now ≡ [] }
+        ensures something { (table : LinkTable) (unit : Identity) (rows : List Row)
+            → IsAmong table self.now → result ≡ true
+            → notification_datagrams table unit rows self.now effect.now ≢ [] }
+        ensures nothing { (table : LinkTable) (unit : Identity) (rows : List Row) → result ≡ false
+            → notification_datagrams table unit rows self.now effect.now ≡ [] }
     {
         self.asked_by.is_some() || is_changed(effect) || self.pli
     }
@@ -84,23 +85,16 @@ pub fn notify(
     effect: &Effect,
     outs: &mut Vec<Out>,
 ) -> Result<(), AllocError>
-    ensures ok { OnOk result (outs.new.items
-        ≡ outs.old.items ++ notification_datagrams links.now head.now rows.now notification.now effect.now) }
+    ensures ok { OnOk result (outs.new.items ≡ outs.old.items
+        ++ notification_datagrams links.now head.now rows.now notification.now effect.now) }
     ensures unchanged { OnErr result (outs.new.items ≡ outs.old.items) }
 {
     let entries = entries_of(alloc, effect.set.as_slice())?;
+    let entries = entries.as_slice();
     let mut told = Vec::new(alloc);
     request_upstream(alloc, links, head, notification, effect, &mut told)?;
-    notify_owner(
-        alloc,
-        links,
-        head,
-        notification,
-        entries.as_slice(),
-        &mut told,
-    )?;
+    notify_owner(alloc, links, head, notification, entries, &mut told)?;
     if is_changed(effect) {
-        let entries = entries.as_slice();
         notify_others(alloc, links, head, rows, notification, entries, &mut told)?;
     }
     picture_upstream(alloc, links, head, notification, &mut told)?;
@@ -123,8 +117,8 @@ fn request_upstream(
     effect: &Effect,
     outs: &mut Vec<Out>,
 ) -> Result<(), AllocError>
-    ensures { OnOk result (outs.new.items
-        ≡ outs.old.items ++ requests_upstream links.now head.now notification.now effect.now) }
+    ensures { OnOk result (outs.new.items ≡ outs.old.items
+        ++ requests_upstream links.now head.now notification.now effect.now) }
 {
     if !is_changed(effect) {
         return Ok(());
@@ -148,8 +142,8 @@ fn notify_owner(
     outs: &mut Vec<Out>,
 ) -> Result<(), AllocError>
     requires { length entries.now ≤ REQUESTS }
-    ensures { OnOk result (outs.new.items
-        ≡ outs.old.items ++ option_map_or (notice_to links.now head.now entries.now) notification.now.asked_by []) }
+    ensures { OnOk result (outs.new.items ≡ outs.old.items
+        ++ option_map_or (notice_to links.now head.now entries.now) notification.now.asked_by []) }
 {
     match notification.asked_by {
         Some(leg) => notify_leg(alloc, links, head, entries, leg, outs),
@@ -169,7 +163,8 @@ fn notify_others(
 ) -> Result<(), AllocError>
     requires { length entries.now ≤ REQUESTS }
     ensures { OnOk result (outs.new.items ≡ outs.old.items
-        ++ flat_map (notice_to links.now head.now entries.now) (others_of links.now rows.now notification.now)) }
+        ++ flat_map (notice_to links.now head.now entries.now)
+        (others_of links.now rows.now notification.now)) }
 {
     for leg in links.of_publisher(notification.publisher) {
         if is_other(rows, notification.asked_by, *leg) {
@@ -187,7 +182,8 @@ fn picture_upstream(
     notification: &Notification,
     outs: &mut Vec<Out>,
 ) -> Result<(), AllocError>
-    ensures { OnOk result (outs.new.items ≡ outs.old.items ++ picture_upstream links.now head.now notification.now) }
+    ensures { OnOk result (outs.new.items ≡ outs.old.items
+        ++ picture_upstream links.now head.now notification.now) }
 {
     if !notification.pli {
         return Ok(());
@@ -212,7 +208,8 @@ fn notify_leg(
     outs: &mut Vec<Out>,
 ) -> Result<(), AllocError>
     requires { length entries.now ≤ REQUESTS }
-    ensures { OnOk result (outs.new.items ≡ outs.old.items ++ notice_to links.now head.now entries.now leg) }
+    ensures { OnOk result (outs.new.items ≡ outs.old.items
+        ++ notice_to links.now head.now entries.now leg) }
 {
     let Some(leg) = links.leg(leg) else {
         return Ok(());
@@ -229,7 +226,8 @@ fn requests(
     publisher: Ssrc,
     effect: &Effect,
 ) -> Result<Vec<u8>, AllocError>
-    ensures { IfOk result (λ bytes. bytes.items ≡ report_head head.now ++ requests_bytes publisher effect.now) }
+    ensures { IfOk result (λ bytes. bytes.items
+        ≡ report_head head.now ++ requests_bytes publisher effect.now) }
 {
     let count = effect.lifted.len() + effect.fresh.len();
     let mut bytes = head.begin(alloc, TMMBR_LEN * count)?;
@@ -250,7 +248,8 @@ fn write_lifted(bytes: &mut Vec<u8>, publisher: Ssrc, owners: &[Ssrc]) -> Result
 
 /// Appends a TMMBR for each of these requests.
 fn write_fresh(bytes: &mut Vec<u8>, publisher: Ssrc, requests: &[Request]) -> Result<(), AllocError>
-    ensures { OnOk result (bytes.new.items ≡ bytes.old.items ++ fresh_bytes publisher requests.now) }
+    ensures { OnOk result (bytes.new.items
+        ≡ bytes.old.items ++ fresh_bytes publisher requests.now) }
 {
     for request in requests {
         write_request(bytes, publisher, request.tuple.to_word(), request.owner)?;
