@@ -1,11 +1,12 @@
 -- The datagrams that follow from a desk's call, to the publisher whose rate is asked for and to its
 -- subscribers (RFC 5104, sections 4.2.1 and 4.2.2; RFC 4585, section 6.3.1).
-use Rattle.std.specs.Prelude.{◌==◌, ℕ, ◌+◌, ◌*◌, ◌^◌, ◌<◌, nat_lt, Bool, false, not, ◌&&◌, ◌||◌, List, [], ◌∷◌, ◌++◌, length, map, filter, flat_map, Option, IfSome, is_some, slice_get, if◌then◌else◌}
+use Rattle.std.specs.Prelude.{◌≡◌, ◌==◌, ℕ, ◌+◌, ◌*◌, ◌^◌, ◌<◌, nat_lt, Bool, false, not, ◌&&◌, ◌||◌, List, [], ◌∷◌, ◌++◌, length, map, filter, flat_map, Option, IfSome, is_some, slice_get, if◌then◌else◌}
 use Rattle.std.specs.Option.{option_map_or}
 use Rattle.tmmbr_tuple.specs.declared.ssrc.Ssrc.{Ssrc}
 use Rattle.tmmbr_tuple.specs.Tuple.{word_of}
 use Rattle.rate_cert.specs.declared.request.Request.{Request}
 use Rattle.rate_desk.specs.declared.effect.Effect.{Effect}
+use Rattle.rate_desk.specs.Effect.{is_member}
 use Rattle.rtcp_feedback.specs.declared.tmmb.TmmbrEntry.{TmmbrEntry}
 use Rattle.rtcp_feedback.specs.Writing.{packet_bytes, tmmb_body, pli_body}
 use Rattle.members.specs.declared.order.Row.{Row}
@@ -31,6 +32,10 @@ entries_of set = map entry_of set
 -- owner has another word now, which is fresh
 abbrev pub is_changed : Effect → Bool
 is_changed e = nat_lt 0 (length e.lifted.items) || nat_lt 0 (length e.fresh.items)
+
+-- the same members: owners with their words
+abbrev pub HasSameMembers : List Request → List Request → Type 0
+HasSameMembers former now = (r : Request) → is_member former r ≡ is_member now r
 
 -- what is told of: an accepted request, a changed set, and a PLI that is due
 abbrev pub tells : Notification → Effect → Bool

@@ -16,7 +16,7 @@ pub use bytes::Bytes;
 pub use head::{Head, upstream_report};
 pub use job::Job;
 pub use links::Links;
-pub use notification::{Notification, entries_of, notify};
+pub use notification::{Notification, entries_of, notify, tells_each_change};
 pub use output::{DeskRefusal, Out, Refusal};
 
 #[cfg(test)]

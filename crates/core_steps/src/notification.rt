@@ -1,11 +1,14 @@
 //! What follows from a desk's call: requests and PLIs to the publisher, notices to its subscribers.
 
-ghost use Rattle.std.specs.Prelude.{◌≡◌, ◌≤◌, ◌++◌, [], ◌∷◌, length, flat_map, IfOk, OnOk, OnErr};
+ghost use Rattle.std.specs.Prelude.{◌≡◌, ◌≢◌, ◌≤◌, ◌↔◌, ◌++◌, [], ◌∷◌, List, false, length, flat_map, AllPairs, IfOk, OnOk, OnErr};
 ghost use Rattle.std.specs.Option.{option_map_or};
 ghost use Rattle.rate_cert.specs.declared.certificate.TheConstants.{MAX_REQUESTS as REQUESTS};
+ghost use Rattle.rate_cert.specs.declared.request.Request.{Request};
+ghost use Rattle.rate_desk.specs.declared.effect.Effect.{Effect};
+ghost use Rattle.rate_desk.specs.Effect.{IsEffect};
 ghost use Rattle.core_steps.specs.Head.{report_head};
 ghost use Rattle.core_steps.specs.declared.output.Out.TheVariants.{Send};
-ghost use Rattle.core_steps.specs.Notification.{entries_of, is_changed, is_other, has_stay, others_of, tmmbr_bytes, lifted_bytes, fresh_bytes, requests_bytes, notice_to, requests_upstream, picture_upstream, notification_datagrams};
+ghost use Rattle.core_steps.specs.Notification.{entries_of, is_changed, HasSameMembers, is_other, has_stay, others_of, tmmbr_bytes, lifted_bytes, fresh_bytes, requests_bytes, notice_to, requests_upstream, picture_upstream, notification_datagrams};
 
 use crate::bytes::Bytes;
 use crate::head::Head;
@@ -100,6 +103,14 @@ pub fn notify(
     picture_upstream(alloc, links, head, notification, &mut told)?;
     outs.append(&mut told)
 }
+
+/// A law, and nothing to do: where nobody is lifted and nothing is fresh, and only there, the announced set has the
+/// members that it had.
+pub fn tells_each_change()
+    ensures { (former : List Request) (e : Effect) → AllPairs (λ x y. x.owner.0 ≢ y.owner.0) former
+        → IsEffect former e.set.items e
+        → (is_changed e ≡ false ↔ HasSameMembers former e.set.items) }
+{}
 
 /// Whether the call changed the announced set.
 fn is_changed(effect: &Effect) -> bool
