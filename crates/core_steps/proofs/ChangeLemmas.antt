@@ -1,8 +1,7 @@
 -- A call changed the announced set exactly where an owner is lifted or a request is fresh.
-use Rattle.std.proofs.Common.{◌≡◌, ◌≢◌, ◌==◌, ℕ, zero, suc, ◌+◌, ◌<◌, ◌↔◌, ◌⊎◌, inl, inr, not, Bool, cond, true, false, List, [], ◌∷◌, length, get_or, map, filter, refl, sym, ap, subst, ◌∙◌, arith}
-use Rattle.std.specs.Prelude.{AllPairs, Contains, nat_lt, ◌||◌}
-use Rattle.std.specs.List.{list_any, Any}
-use Rattle.std.proofs.lemmas.Bool.{and_parts, and_from, or_parts, or_from, cases_Bool, cases_order, cond-true, cond-false, not-true, not-false, not_from_true, true_from_ne_false, false_from_ne_true, both_ways, false≢true}
+use Rattle.std.proofs.Common.{◌≡◌, ◌≢◌, ◌==◌, ℕ, zero, suc, ◌<◌, ◌↔◌, inl, inr, not, Bool, true, false, List, [], ◌∷◌, length, get_or, filter, refl, sym, ap, subst, ◌∙◌, arith}
+use Rattle.std.specs.Prelude.{AllPairs, Contains, nat_lt}
+use Rattle.std.proofs.lemmas.Bool.{and_parts, and_from, or_parts, or_from, cases_Bool, cases_order, cond-true, cond-false, not-false, not_from_true, true_from_ne_false, both_ways}
 use Rattle.std.proofs.lemmas.List.Folds.{Any-from_list_any, list_any-from_Any}
 use Rattle.std.proofs.lemmas.List.{get_or_default}
 use borrow.Author.Tests.{eq-eqb, eqb-true, ltb-false}
