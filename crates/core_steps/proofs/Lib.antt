@@ -5,3 +5,6 @@ pub mod RtpLemmas
 pub mod IntakeLemmas
 pub mod OneSaidLemmas
 pub mod ReportLemmas
+pub mod ChangeLemmas
+pub mod LinkLemmas
+pub mod NotificationLemmas

@@ -1,5 +1,7 @@
 pub mod Legs
+pub mod Head
 pub mod Links
+pub mod Notification
 pub mod Places
 pub mod Plan
 pub mod Planning

@@ -7,10 +7,12 @@
 
 mod bytes;
 mod intake;
+mod head;
 mod job;
 mod leg;
 mod legs;
 mod links;
+mod notification;
 mod output;
 mod plan;
 mod planning;
@@ -18,10 +20,12 @@ pub mod rtp_laws;
 
 pub use bytes::Bytes;
 pub use intake::{Ask, Control, Heard, Unheard, hear_datagram, says_one_thing};
+pub use head::{Head, upstream_report};
 pub use job::Job;
 pub use leg::LegState;
 pub use legs::Legs;
 pub use links::Links;
+pub use notification::{Notification, entries_of, notify, tells_each_change};
 pub use output::{DeskRefusal, Out, Refusal};
 pub use plan::{Plan, Planned};
 
@@ -30,3 +34,6 @@ mod legs_tests;
 
 #[cfg(test)]
 mod intake_tests;
+
+#[cfg(test)]
+mod notification_tests;
