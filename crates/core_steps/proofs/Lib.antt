@@ -6,5 +6,6 @@ pub mod IntakeLemmas
 pub mod OneSaidLemmas
 pub mod ReportLemmas
 pub mod ChangeLemmas
-pub mod LinkLemmas
 pub mod NotificationLemmas
+pub mod KindLemmas
+pub mod HistoryLemmas

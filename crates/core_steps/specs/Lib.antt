@@ -8,3 +8,10 @@ pub mod Planning
 pub mod Rtp
 pub mod Intake
 pub mod Heard
+pub mod World
+pub mod Happening
+pub mod DeskCalls
+pub mod Hearing
+pub mod Rule
+pub mod Run
+pub mod Opening

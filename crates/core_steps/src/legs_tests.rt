@@ -40,6 +40,7 @@ fn links_of(alloc: Global, workers: i64, legs: &[LegParts]) -> Result<Links, Fai
         history: Some(128),
         timeout_ms: Some(1000),
         report_ms: Some(60_000),
+        request_ms: None,
         pli_gap_ms: Some(500),
         unit_ssrc: Some(9),
         cname: Some(String::from_str(alloc, "sfu")?),

@@ -6,9 +6,11 @@
 #![tactic(auto)]
 
 mod bytes;
-mod intake;
+mod event;
 mod head;
+mod intake;
 mod job;
+pub mod laws;
 mod leg;
 mod legs;
 mod links;
@@ -16,11 +18,13 @@ mod notification;
 mod output;
 mod plan;
 mod planning;
+mod ring;
 pub mod rtp_laws;
 
 pub use bytes::Bytes;
-pub use intake::{Ask, Control, Heard, Unheard, hear_datagram, says_one_thing};
+pub use event::Event;
 pub use head::{Head, upstream_report};
+pub use intake::{Ask, Control, Heard, Unheard, hear_datagram, says_one_thing};
 pub use job::Job;
 pub use leg::LegState;
 pub use legs::Legs;
@@ -28,12 +32,11 @@ pub use links::Links;
 pub use notification::{Notification, entries_of, notify, tells_each_change};
 pub use output::{DeskRefusal, Out, Refusal};
 pub use plan::{Plan, Planned};
-
-#[cfg(test)]
-mod legs_tests;
+pub use ring::JOB_LIMIT;
 
 #[cfg(test)]
 mod intake_tests;
-
+#[cfg(test)]
+mod legs_tests;
 #[cfg(test)]
 mod notification_tests;

@@ -32,6 +32,7 @@ fn links_of(
         history: Some(128),
         timeout_ms: Some(1000),
         report_ms: Some(60000),
+        request_ms: None,
         pli_gap_ms: Some(500),
         unit_ssrc: Some(9),
         cname: String::from_str(alloc, "sfu").ok(),
@@ -100,7 +101,7 @@ const fn call(asked_by: Option<u16>, pli: bool) -> Notification {
 fn request_of_example_21(rt: HostRuntime) -> Result<(), Fail> {
     let alloc = rt.alloc();
     let links = small_links(alloc)?;
-    let mut desk = Desk::new(alloc, 128, 500)?;
+    let mut desk = Desk::new(alloc, 500, 0)?;
     let _arrived = desk.arrive(Ssrc(17), 1)?;
     let reply = desk.request(Ssrc(17), 1, Tuple::from_word(0x0007_d028))?;
     let notification = call(Some(0), false);
@@ -131,7 +132,7 @@ fn request_of_example_21(rt: HostRuntime) -> Result<(), Fail> {
 fn lifted_as_in_example_23(rt: HostRuntime) -> Result<(), Fail> {
     let alloc = rt.alloc();
     let links = small_links(alloc)?;
-    let mut desk = Desk::new(alloc, 128, 500)?;
+    let mut desk = Desk::new(alloc, 500, 0)?;
     let _arrived = desk.arrive(Ssrc(17), 1)?;
     let _requested = desk.request(Ssrc(17), 1, Tuple::from_word(0x0007_d028))?;
     let reply = desk.depart(Ssrc(17), 1)?;
@@ -160,7 +161,7 @@ fn who_asked_comes_before_the_others(rt: HostRuntime) -> Result<(), Fail> {
         leg(3, 0, 260),
     ]?;
     let links = links_of(alloc, endpoints, legs)?;
-    let mut desk = Desk::new(alloc, 128, 500)?;
+    let mut desk = Desk::new(alloc, 500, 0)?;
     let _arrived = desk.arrive(Ssrc(19), 4)?;
     let reply = desk.request(Ssrc(19), 4, Tuple::from_word(0x0007_d028))?;
     // Leg 0 has a stay, leg 1 has none, leg 2 is of another publisher; leg 3 asked, and its stay ended since.
@@ -177,7 +178,7 @@ fn who_asked_comes_before_the_others(rt: HostRuntime) -> Result<(), Fail> {
 fn picture_loss_to_the_publisher(rt: HostRuntime) -> Result<(), Fail> {
     let alloc = rt.alloc();
     let links = small_links(alloc)?;
-    let mut desk = Desk::new(alloc, 128, 500)?;
+    let mut desk = Desk::new(alloc, 500, 0)?;
     let reply = desk.pli(0)?;
     let printed = told(alloc, &links, &[row(1)], call(None, true), &reply.effect)?;
     let wanted = format!(in alloc; "send 0 {HEAD}81ce00020000000900000010\n")?;

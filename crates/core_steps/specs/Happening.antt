@@ -1,0 +1,102 @@
+-- What one event did, by lists, and the world behind it.
+use Rattle.std.specs.Prelude.{ℕ, ◌+◌, ◌-◌, ◌^◌, min, List, [], ◌∷◌, ◌++◌, length, drop, fold, slice_index_or, slice_set, Option, None, Some}
+use Rattle.members.specs.Calls.{Call as RoomCall, room_after}
+use Rattle.rate_desk.specs.declared.call.Call.{Call as DeskCall}
+use Rattle.rate_desk.specs.declared.call.Answer.{Answer}
+use Rattle.rate_desk.specs.declared.effect.Effect.{Effect}
+use Rattle.rate_desk.specs.State.{DeskState}
+use Rattle.routes.specs.declared.change.Change.{Change}
+use Rattle.routes.specs.Rows.{changed}
+use Rattle.core_steps.specs.declared.job.Job.{Job}
+use Rattle.core_steps.specs.declared.output.Out.{Out}
+use Rattle.core_steps.specs.declared.leg.LegState.{LegState}
+use Rattle.core_steps.specs.World.{WorldState, WorkerState, Task, Pending, Hand, free}
+
+-- a recorded call of a publisher's desk with its number, its answer and its effect, and the desk from then on
+pub record RecordedCall : Type 0 where
+  pub publisher : ℕ
+  pub call : DeskCall
+  pub number : ℕ
+  pub answer : Answer
+  pub effect : Effect
+  pub desk : DeskState
+
+-- what was done at a worker: jobs taken off its ring, jobs put behind those in it, and jobs finished; its hand and its legs
+-- from then on
+pub record Worked : Type 0 where
+  pub worker : ℕ
+  pub taken : List Job
+  pub put : List Job
+  pub finished : List Job
+  pub hand : Hand
+  pub legs : List LegState
+
+-- a job that was given up, since its worker's ring was full
+pub record GivenUp : Type 0 where
+  pub worker : ℕ
+  pub job : Job
+
+-- What an event did: accepted calls of the room; tasks made, and tasks done; recorded calls of desks, and the publishers whose
+-- desks recorded none since their histories are full; changes of rows; what was done at workers; jobs given up; the
+-- notification that waits from then on; the moment of the last reports from then on; TMMBNs heard; and what was given out.
+pub record Happening : Type 0 where
+  pub calls : List RoomCall
+  pub made : List Task
+  pub did : List Task
+  pub asked : List RecordedCall
+  pub unrecorded : List ℕ
+  pub changes : List Change
+  pub worked : List Worked
+  pub given_up : List GivenUp
+  pub pending : Option Pending
+  pub reported : ℕ
+  pub tmmbns : ℕ
+  pub outs : List Out
+
+-- nothing is done, and this is given out
+abbrev pub giving : WorldState → List Out → Happening
+giving w outs = record {
+  calls = [];
+  made = [];
+  did = [];
+  asked = [];
+  unrecorded = [];
+  changes = [];
+  worked = [];
+  given_up = [];
+  pending = w.pending;
+  reported = w.reported;
+  tmmbns = 0;
+  outs = outs;
+}
+
+-- a count that stays at its greatest once it is there
+abbrev pub counted : ℕ → ℕ → ℕ
+counted count more = min (count + more) (2 ^ 64 - 1)
+
+abbrev pub no_worker : WorkerState
+no_worker = record { jobs = []; hand = free; legs = [] }
+
+abbrev pub worker_after : WorkerState → Worked → WorkerState
+worker_after s d = record { jobs = drop (length d.taken) s.jobs ++ d.put; hand = d.hand; legs = d.legs }
+
+abbrev pub workers_by : List WorkerState → Worked → List WorkerState
+workers_by workers d = slice_set workers d.worker (worker_after (slice_index_or workers d.worker no_worker) d)
+
+abbrev pub desks_by : List DeskState → RecordedCall → List DeskState
+desks_by desks a = slice_set desks a.publisher a.desk
+
+-- the world behind what was done
+abbrev pub world_after : WorldState → Happening → WorldState
+world_after w h = record {
+  setup = w.setup;
+  room = room_after w.room h.calls;
+  tasks = drop (length h.did) w.tasks ++ h.made;
+  pending = h.pending;
+  desks = fold desks_by w.desks h.asked;
+  rows = fold changed w.rows h.changes;
+  workers = fold workers_by w.workers h.worked;
+  reported = h.reported;
+  lost = counted w.lost (length h.given_up);
+  tmmbns = counted w.tmmbns h.tmmbns;
+}

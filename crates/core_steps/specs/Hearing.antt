@@ -1,0 +1,163 @@
+-- What the ingress takes in: a datagram, a moment, a selection.
+use Rattle.std.specs.Prelude.{◌==◌, ◌≡◌, ℕ, ◌-◌, nat_le, not, Bool, true, false, ◌&&◌, List, [], ◌∷◌, ◌++◌, length, map, filter, replicate, slice_get, Option, None, Some, Result, Ok, Err, if◌then◌else◌}
+use Rattle.std.specs.Option.{option_map_or}
+use Rattle.std.specs.List.{last_or, list_any, enumerate_from, filter_map, flat_map}
+use Rattle.members.specs.declared.fault.RoomFault.{RoomFault}
+use Rattle.members.specs.declared.fault.RoomFault.TheVariants.{UnknownLeg}
+use Rattle.members.specs.declared.order.Order.{Order}
+use Rattle.members.specs.declared.settings.LegSettings.{LegSettings}
+use Rattle.members.specs.Presence.{is_present_at}
+use Rattle.members.specs.Room.{RoomState, Step, leg_at, tick_step, select_step, reception_at}
+use Rattle.members.specs.Calls.{Call as RoomCall, Hear, Bye, Tick, Select, Receive, Report as SenderReport, step_of}
+use Rattle.members.specs.Stream.{timestamps_of}
+use Rattle.core_steps.specs.declared.job.Job.{Job}
+use Rattle.core_steps.specs.declared.job.Job.TheVariants.{Packet, Request, Resend, Pli, Report}
+use Rattle.core_steps.specs.declared.intake.Ask.{Ask}
+use Rattle.core_steps.specs.declared.intake.Ask.TheVariants.{Rate, Resend as Again, Picture}
+use Rattle.core_steps.specs.declared.output.Out.{Out}
+use Rattle.core_steps.specs.declared.output.Out.TheVariants.{Refused}
+use Rattle.core_steps.specs.declared.output.Refusal.{Refusal}
+use Rattle.core_steps.specs.declared.output.Refusal.TheVariants.{Room}
+use Rattle.core_steps.specs.Links.{LinkTable, legs_of, leg_to, worker_of}
+use Rattle.core_steps.specs.DeskCalls.{source_of}
+use Rattle.core_steps.specs.Heard.{asks_of}
+use Rattle.core_steps.specs.Intake.{Said, media, leaves, control, Says}
+use Rattle.core_steps.specs.World.{Setup, Task, order, push, pulse, expire, report, WorldState}
+use Rattle.core_steps.specs.Happening.{Happening, giving}
+
+-- ---- a datagram
+
+-- what the room is asked: its source is heard at the endpoint, or the endpoint says goodbye
+abbrev pub room_call : ℕ → ℕ → Said → RoomCall
+room_call moment endpoint (media ssrc seq timestamp) = Hear moment endpoint ssrc
+room_call moment endpoint leaves = Bye moment endpoint
+room_call moment endpoint (control speaker reports tmmbns asks) = Hear moment endpoint speaker
+
+-- what is received then: of sender reports that come at once the last counts
+abbrev pub receptions : ℕ → Said → List RoomCall
+receptions endpoint (media ssrc seq timestamp) = Receive endpoint seq timestamp ∷ []
+receptions endpoint leaves = []
+receptions endpoint (control speaker reports tmmbns asks) =
+    option_map_or (λ (r : ℕ × ℕ). SenderReport endpoint r.0 r.1 ∷ []) (last_or None reports) []
+
+-- the stay of the leg that stands in the room; 0 where none does
+abbrev pub stay_in : RoomState → ℕ → ℕ
+stay_in r leg = (leg_at r.legs leg).stay
+
+-- the worker that owns the leg of this number
+abbrev pub owner_of : LinkTable → ℕ → ℕ
+owner_of t leg = option_map_or (worker_of t) (slice_get t.legs leg) 0
+
+-- the workers that own a leg of this publisher in which a stay stands, by rising number
+abbrev pub is_served_by : LinkTable → RoomState → ℕ → ℕ → Bool
+is_served_by t r publisher worker = list_any (λ leg. not (stay_in r leg == 0) && (owner_of t leg == worker)) (legs_of t publisher)
+
+abbrev pub numbers_below : ℕ → List ℕ
+numbers_below n = map (λ (p : ℕ × ℕ). p.0) (enumerate_from 0 (replicate n 0))
+
+abbrev pub serving : LinkTable → RoomState → ℕ → List ℕ
+serving t r publisher = filter (is_served_by t r publisher) (numbers_below t.workers)
+
+-- whose media an ask is about
+abbrev pub media_of : Ask → ℕ
+media_of (Rate source word) = source.0
+media_of (Again source nack) = source.0
+media_of (Picture source) = source.0
+
+abbrev pub job_by : ℕ → ℕ → ℕ → Ask → Job
+job_by moment leg stay (Rate source word) = Request leg stay word
+job_by moment leg stay (Again source nack) = Resend leg stay nack
+job_by moment leg stay (Picture source) = Pli leg moment
+
+-- the job for an ask about a leg, for the leg's owner; none where there is no such leg, or no stay of it stands
+abbrev pub task_on : LinkTable → RoomState → Ask → Option ℕ → Option Task
+task_on t r a None = None
+task_on t r a (Some leg) =
+    if stay_in r leg == 0 then None else Some (push (owner_of t leg) (job_by r.moment leg (stay_in r leg) a))
+
+abbrev pub task_for : LinkTable → RoomState → ℕ → Ask → Option Task
+task_for t r endpoint a = task_on t r a (leg_to t endpoint (media_of a))
+
+abbrev pub refusal_for : Option Task → List Out
+refusal_for None = Refused (Room UnknownLeg) ∷ []
+refusal_for (Some task) = []
+
+-- the jobs that follow from a datagram, in the order of its packets and entries
+abbrev pub jobs_of : LinkTable → RoomState → ℕ → List ℕ → Said → List Task
+jobs_of t r endpoint bytes (media ssrc seq timestamp) = map (λ w. push w (Packet endpoint bytes)) (serving t r endpoint)
+jobs_of t r endpoint bytes leaves = []
+jobs_of t r endpoint bytes (control speaker reports tmmbns asks) = filter_map (task_for t r endpoint) asks
+
+-- each entry that names no leg with a stay of this subscriber is refused by itself
+abbrev pub refusals_of : LinkTable → RoomState → ℕ → Said → List Out
+refusals_of t r endpoint said = flat_map (λ a. refusal_for (task_for t r endpoint a)) (asks_of said)
+
+abbrev pub tmmbns_of : Said → ℕ
+tmmbns_of (media ssrc seq timestamp) = 0
+tmmbns_of leaves = 0
+tmmbns_of (control speaker reports tmmbns asks) = tmmbns
+
+-- the room refused, and nothing else is done
+abbrev pub room_refuses : WorldState → RoomFault → Happening
+room_refuses w fault = giving w (Refused (Room fault) ∷ [])
+
+abbrev pub hearing_by : WorldState → ℕ → ℕ → List ℕ → Said → Result Step RoomFault → Happening
+hearing_by w moment endpoint bytes said (Err fault) = room_refuses w fault
+hearing_by w moment endpoint bytes said (Ok step) = record (giving w (refusals_of w.setup.table step.room endpoint said)) {
+  calls = room_call moment endpoint said ∷ receptions endpoint said;
+  made = map order step.orders ++ jobs_of w.setup.table step.room endpoint bytes said;
+  tmmbns = tmmbns_of said;
+}
+
+abbrev pub hearing : WorldState → ℕ → ℕ → List ℕ → Result Said Refusal → Happening
+hearing w moment endpoint bytes (Err refusal) = giving w (Refused refusal ∷ [])
+hearing w moment endpoint bytes (Ok said) = hearing_by w moment endpoint bytes said (step_of w.room (room_call moment endpoint said))
+
+-- what the datagram says is done, or it is refused
+pub record IsHearing (w : WorldState) (moment endpoint : ℕ) (bytes : List ℕ) (h : Happening) : Type 0 where
+  pub said : Result Said Refusal
+  pub says : Says (source_of w.setup.table endpoint).0 bytes said
+  pub does : h ≡ hearing w moment endpoint bytes said
+
+-- ---- a moment
+
+abbrev pub present_endpoints : LinkTable → RoomState → List ℕ
+present_endpoints t r = filter (is_present_at r.endpoints) (numbers_below (length t.endpoints))
+
+-- requests grow old only where the settings say so
+abbrev pub expires : Setup → RoomState → List Task
+expires s r = if s.request_ms == 0 then [] else map expire (present_endpoints s.table r)
+
+abbrev pub is_report_due : WorldState → RoomState → Bool
+is_report_due w r = nat_le w.setup.report_ms (r.moment - w.reported)
+
+-- a report for the subscriber of a leg in which a stay stands
+abbrev pub leg_report : LinkTable → RoomState → ℕ × LegSettings → List Task
+leg_report t r (leg, l) =
+    if stay_in r leg == 0 then []
+    else push (worker_of t l) (Report leg (stay_in r leg) (timestamps_of (reception_at r l.publisher).report)) ∷ []
+
+abbrev pub reports : WorldState → RoomState → List Task
+reports w r =
+    if is_report_due w r
+    then map report (present_endpoints w.setup.table r) ++ flat_map (leg_report w.setup.table r) (enumerate_from 0 w.setup.table.legs)
+    else []
+
+abbrev pub ticking_by : WorldState → ℕ → Step → Happening
+ticking_by w moment step = record (giving w []) {
+  calls = Tick moment ∷ [];
+  made = map order step.orders ++ map pulse (present_endpoints w.setup.table step.room) ++ expires w.setup step.room ++ reports w step.room;
+  reported = if is_report_due w step.room then step.room.moment else w.reported;
+}
+
+abbrev pub ticking : WorldState → ℕ → Happening
+ticking w moment = ticking_by w moment (tick_step w.room moment)
+
+-- ---- a selection
+
+abbrev pub selecting_by : WorldState → ℕ → ℕ → Bool → Result Step RoomFault → Happening
+selecting_by w moment leg on (Err fault) = room_refuses w fault
+selecting_by w moment leg on (Ok step) = record (giving w []) { calls = Select moment leg on ∷ []; made = map order step.orders }
+
+abbrev pub selecting : WorldState → ℕ → ℕ → Bool → Happening
+selecting w moment leg on = selecting_by w moment leg on (select_step w.room moment leg on)
