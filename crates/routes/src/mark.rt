@@ -1,6 +1,6 @@
 //! How far the publications are known: their number, and a token that stands for them.
 
-ghost use Rattle.std.specs.Prelude.{◌≡◌, ◌<◌, ◌^◌, ◌++◌, ◌∷◌, [], length, MatchBool, IfSome};
+ghost use Rattle.std.specs.Prelude.{◌≡◌, ◌<◌, ◌^◌, ◌++◌, ◌∷◌, ◌↔◌, [], length, IsTrue, MatchBool, IfSome};
 ghost use mathlib.Core.List.{IsPrefix};
 ghost use Rattle.routes.specs.Publications.{head_of};
 
@@ -93,6 +93,16 @@ impl Mark {
         let mut both = self.seen.again();
         both.learn(&other.seen);
         self.count <= other.count
+    }
+
+    /// Whether this one has as many publications as the other. Then they are the same.
+    pub(crate) fn is(&self, other: &Mark) -> bool
+        requires { other.now.seen.book ≡ self.now.seen.book }
+        ensures { IsTrue result ↔ (self.now.seen.log ≡ other.now.seen.log) }
+    {
+        let mut both = self.seen.again();
+        both.learn(&other.seen);
+        self.count == other.count
     }
 
     /// One publication more, if nobody else made one.

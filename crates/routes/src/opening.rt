@@ -159,9 +159,9 @@ fn make_reader<J: Naming>(
     requires legs { legs ≡ J.legs }
     ensures { IfOk result (IsOpening J.legs) }
 {
-    let rows = first_rows(alloc, legs)?;
+    let taken = opening_table(alloc, legs, mark)?;
     match writer.factory().reader() {
-        Ok(reader) => Ok(RouteReader::new(alloc, reader, mark.again(), rows)),
+        Ok(reader) => Ok(RouteReader::new(alloc, reader, taken)),
         Err(_) => Err(RoutesFault::NoPlace),
     }
 }
