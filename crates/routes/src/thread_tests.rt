@@ -20,6 +20,9 @@ const PUBLICATIONS: u64 = 10_000;
 /// A note is handed to each reader at each so many publications.
 const PER_NOTE: u64 = 100;
 
+/// So often the writer looks whether a reader took the last note, before it puts another in its place.
+const PATIENCE: u32 = 1_000;
+
 /// A note, with the number of its last publication.
 #[derive(Drop)]
 struct Told<J: Naming> {
@@ -54,6 +57,18 @@ fn publish_stay<J: Naming, R: Wait>(rt: &R, writer: &mut RouteWriter<J>, stay: u
     noted
 }
 
+/// Leaves the note for a reader, if it can once the reader took the last one.
+fn tell<J: Naming, R: Wait>(rt: &R, letter: &Letter<J>, told: Told<J>) {
+    for _ in 0..PATIENCE {
+        if letter.lock(rt).is_none() {
+            break;
+        }
+        thread::yield_now();
+    }
+    let mut last = letter.lock(rt);
+    *last = Some(told);
+}
+
 fn tell_all<J: Naming, R: Wait>(
     rt: &R,
     writer: &RouteWriter<J>,
@@ -61,11 +76,8 @@ fn tell_all<J: Naming, R: Wait>(
     letters: &[Letter<J>],
 ) {
     for letter in letters {
-        let mut last = letter.lock(rt);
-        *last = Some(Told {
-            number,
-            note: writer.note(),
-        });
+        let note = writer.note();
+        tell(rt, letter, Told { number, note });
     }
 }
 
@@ -110,28 +122,29 @@ fn stay_of(rows: &[Row]) -> Option<u64> {
     }
 }
 
-/// Enters until the last publication is seen. None where there was no view, where rows of two publications
-/// stood together, or where a view was older than the one before or than what was told.
+/// Enters until it was told of the last publication. None where there was no view, where rows of two
+/// publications stood together, or where a view was older than the one before or than what was told.
 fn follow<J: Naming, R: Wait>(
     rt: &R,
     reader: RouteReader<J>,
     letter: &Letter<J>,
 ) -> Option<RouteReader<J>> {
     let mut reader = reader;
-    let mut least = 0;
+    let mut seen = 0;
     for _ in rt.forever() {
-        least = hear(rt, &mut reader, letter).max(least);
+        let told = hear(rt, &mut reader, letter);
         if !reader.enter() {
             return None;
         }
         let stay = stay_of(reader.rows())?;
-        if stay < least {
+        if stay < seen || stay < told {
             return None;
         }
-        if stay == PUBLICATIONS {
+        if told == PUBLICATIONS {
             return Some(reader);
         }
-        least = stay;
+        seen = stay;
+        thread::yield_now();
     }
     unreachable!()
 }
