@@ -88,7 +88,9 @@ impl Mark {
     /// Whether this one has no more publications than the other. Then the other begins with it.
     pub(crate) fn begins(&self, other: &Mark) -> bool
         requires { other.now.seen.book ≡ self.now.seen.book }
-        ensures { MatchBool result (IsPrefix self.now.seen.log other.now.seen.log) (IsPrefix other.now.seen.log self.now.seen.log) }
+        ensures { MatchBool result
+            (IsPrefix self.now.seen.log other.now.seen.log)
+            (IsPrefix other.now.seen.log self.now.seen.log) }
     {
         let mut both = self.seen.again();
         both.learn(&other.seen);
@@ -112,7 +114,8 @@ impl Mark {
         changes: &Vec<Change>,
     ) -> Option<Mark>
         requires { head.now ≡ head_of self.now.seen.book }
-        ensures { IfSome result (λ m. (m.seen.book ≡ self.now.seen.book) × (m.seen.log ≡ self.now.seen.log ++ changes.now.items ∷ [])) }
+        ensures { IfSome result (λ m. (m.seen.book ≡ self.now.seen.book)
+            × (m.seen.log ≡ self.now.seen.log ++ changes.now.items ∷ [])) }
     {
         if self.count >= MOST {
             return None;

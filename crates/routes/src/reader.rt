@@ -44,7 +44,7 @@ impl<J: Naming> RouteReader<J> {
     ghost use mathlib.Core.List.{IsPrefix};
     ghost use Rattle.routes.specs.Rows.{rows_after};
     ghost use Rattle.routes.specs.Publications.{changes_of};
-    ghost use Rattle.routes.specs.Views.{IsTable, Sees};
+    ghost use Rattle.routes.specs.Views.{IsTable, Knows, Sees};
 
     /// A reader that took this copy of the table, and knows what its mark knows.
     pub(crate) fn new(alloc: Global, reader: TableReader<J>, taken: Table) -> RouteReader<J>
@@ -63,14 +63,14 @@ impl<J: Naming> RouteReader<J> {
     /// Whether it knows all that the note tells. Else the note tells all that it knows: what is known of
     /// one table, here or there, are beginnings of one list.
     pub fn knows(&self, note: &RouteNote<J>) -> bool
-        ensures { MatchBool result (IsPrefix note.now self.now.known) (IsPrefix self.now.known note.now) }
+        ensures { Knows result self.now.known note.now }
     {
         note.mark.begins(&self.known)
     }
 
     /// Whether it knows all that the writer published. Else it knows a beginning of that.
     pub fn knows_all_of(&self, writer: &RouteWriter<J>) -> bool
-        ensures { MatchBool result (IsPrefix writer.now.published self.now.known) (IsPrefix self.now.known writer.now.published) }
+        ensures { Knows result self.now.known writer.now.published }
     {
         let note = writer.note();
         self.knows(&note)
@@ -95,7 +95,10 @@ impl<J: Naming> RouteReader<J> {
     /// Takes the rows that are published, and says whether it did: not where the table gives no view.
     /// Then nothing changed. It waits for nobody, and takes no memory.
     pub fn enter(&mut self) -> bool
-        ensures view { MatchBool result (IsPrefix self.old.known self.new.known × (self.new.rows ≡ rows_after J.legs self.new.known)) (self.new ≡ self.old) }
+        ensures view { MatchBool result
+            (IsPrefix self.old.known self.new.known
+            × (self.new.rows ≡ rows_after J.legs self.new.known))
+            (self.new ≡ self.old) }
     {
         let known = self.known.again();
         let nothing = Table {
@@ -112,7 +115,10 @@ impl<J: Naming> RouteReader<J> {
             held,
             |reader: TableReader<J>, held: Held| -> (TableReader<J>, Held)
                 requires { (held.known.seen.book ≡ J.book) × IsTable J.book J.legs held.taken }
-                ensures { (result.1.known.seen.book ≡ J.book) × IsTable J.book J.legs result.1.taken × Sees J.legs held.known.seen.log held.taken.rows.items result.1.is_new result.1.known.seen.log result.1.taken.rows.items }
+                ensures { (result.1.known.seen.book ≡ J.book)
+                    × IsTable J.book J.legs result.1.taken
+                    × Sees J.legs held.known.seen.log held.taken.rows.items
+                    result.1.is_new result.1.known.seen.log result.1.taken.rows.items }
             { look(reader, held) },
         );
         let Held {
@@ -159,7 +165,8 @@ fn look<J: Naming>(reader: TableReader<J>, held: Held) -> (TableReader<J>, Held)
     requires taken { IsTable J.book J.legs held.taken }
     ensures book { result.1.known.seen.book ≡ J.book }
     ensures taken { IsTable J.book J.legs result.1.taken }
-    ensures sees { Sees J.legs held.known.seen.log held.taken.rows.items result.1.is_new result.1.known.seen.log result.1.taken.rows.items }
+    ensures sees { Sees J.legs held.known.seen.log held.taken.rows.items
+        result.1.is_new result.1.known.seen.log result.1.taken.rows.items }
 {
     match reader.enter_as::<Published<J>>() {
         Ok(reading) => {
@@ -183,7 +190,8 @@ fn take_table<J: Naming>(table: &Table, held: Held) -> Held
     requires taken { IsTable J.book J.legs held.taken }
     ensures book { result.known.seen.book ≡ J.book }
     ensures taken { IsTable J.book J.legs result.taken }
-    ensures sees { Sees J.legs held.known.seen.log held.taken.rows.items result.is_new result.known.seen.log result.taken.rows.items }
+    ensures sees { Sees J.legs held.known.seen.log held.taken.rows.items
+        result.is_new result.known.seen.log result.taken.rows.items }
 {
     if !held.known.begins(&table.mark) {
         return Held {
