@@ -1,5 +1,5 @@
 -- Beginnings of one book of publications, and the step that makes one more.
-use Rattle.std.proofs.Common.{◌≡◌, ℕ, ◌+◌, ◌<◌, ◌≤◌, ◌==◌, Bool, true, false, List, [], ◌∷◌, ◌++◌, length, refl, ap, sym, subst, arith, inl, length-append, None, MatchBool, leb}
+use Rattle.std.proofs.Common.{◌≡◌, ℕ, ◌+◌, ◌<◌, ◌≤◌, ◌==◌, Bool, true, false, List, [], ◌∷◌, ◌++◌, length, refl, ap, sym, subst, arith, inl, length-append, None, MatchBool, IsTrue, ◌↔◌, leb}
 use Rattle.std.proofs.lemmas.List.{append-nil}
 use Rattle.std.proofs.lemmas.Bool.Decides.{nat_tests}
 use mathlib.Core.List.{IsPrefix}
@@ -30,6 +30,14 @@ pub begins_by : {A : Type 0} (xs ys zs : List A) (n m : ℕ) → n ≡ length xs
     → (b : Bool) → leb n m ≡ b → MatchBool b (IsPrefix xs ys) (IsPrefix ys xs)
 begins_by xs ys zs n m nx my p q true is = let le : n ≤ m = grind (arith, nat_tests) in prefix_shorter xs ys zs p q (omega arith)
 begins_by xs ys zs n m nx my p q false is = let lt : m < n = grind (arith, nat_tests) in prefix_shorter ys xs zs q p (omega arith)
+
+-- two beginnings are the same exactly where they are as long
+pub same_by : {A : Type 0} (xs ys zs : List A) (n m : ℕ) → n ≡ length xs → m ≡ length ys → IsPrefix xs zs → IsPrefix ys zs
+    → IsTrue (n == m) ↔ (xs ≡ ys)
+same_by xs ys zs n m nx my p q = (
+  λ is. let e : n ≡ m = grind (arith, nat_tests) in prefix_whole xs ys (prefix_shorter xs ys zs p q (omega arith)) (omega arith),
+  λ e. let len : length xs ≡ length ys = ap length e in let same : n ≡ m = omega arith in grind (arith, nat_tests),
+)
 
 abbrev pub shown : List Publication → List Publication
 shown log = []

@@ -1,5 +1,5 @@
 -- Rows after changes.
-use Rattle.std.proofs.Common.{◌≡◌, ℕ, List, [], ◌∷◌, ◌++◌, length, fold, slice_set, refl, ap, sym, ◌∙◌}
+use Rattle.std.proofs.Common.{◌≡◌, ℕ, Bool, true, false, List, [], ◌∷◌, ◌++◌, length, fold, slice_set, refl, ap, sym, ◌∙◌, MatchBool}
 use Rattle.std.proofs.lemmas.List.{append-nil, length-set, length-replicate}
 use Rattle.std.proofs.lemmas.List.Sums.{fold-append}
 use Rattle.std.proofs.lemmas.Grind.{flat_map-append}
@@ -20,6 +20,11 @@ rows_after_length legs changes = changed_length (opening_rows legs) changes ∙ 
 -- a log that begins another has its changes first
 pub changes_begin : (xs ys : List Publication) → IsPrefix xs ys → IsPrefix (changes_of xs) (changes_of ys)
 changes_begin xs ys p = (changes_of p.0, sym (flat_map-append (λ q. q) xs p.0) ∙ ap changes_of p.1)
+
+-- so are the changes of two logs, of which one begins the other
+pub changes_begin_by : (b : Bool) (xs ys : List Publication) → MatchBool b (IsPrefix xs ys) (IsPrefix ys xs) → MatchBool b (IsPrefix (changes_of xs) (changes_of ys)) (IsPrefix (changes_of ys) (changes_of xs))
+changes_begin_by true xs ys h = changes_begin xs ys h
+changes_begin_by false xs ys h = changes_begin ys xs h
 
 -- one publication more
 pub changes_more : (log : List Publication) (e : Publication) → changes_of (log ++ e ∷ []) ≡ changes_of log ++ e

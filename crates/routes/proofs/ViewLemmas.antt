@@ -4,13 +4,14 @@ use Rattle.std.proofs.lemmas.List.Sums.{fold-append}
 use mathlib.Core.List.{IsPrefix}
 use Rattle.logbook.specs.Pages.{Book}
 use Rattle.members.specs.declared.order.Row.{Row}
+use Rattle.routes.specs.declared.change.Change.{Change}
 use Rattle.routes.specs.declared.mark.Mark.{Mark}
 use Rattle.routes.specs.declared.table.Batch.{Batch}
 use Rattle.routes.specs.declared.table.Table.{Table}
 use Rattle.routes.specs.Rows.{changed, rows_after}
 use Rattle.routes.specs.Publications.{Publication, changes_of}
 use Rattle.routes.specs.Views.{ReaderView, IsTable, IsAhead, IsNext, Sees, mark_after, rows_with}
-use Rattle.routes.proofs.RowLemmas.{changes_begin, rows_more}
+use Rattle.routes.proofs.RowLemmas.{changes_begin, changes_begin_by, rows_more}
 
 -- a look of the parts is one of the reader
 pub entered : (legs : ℕ) (log : List Publication) (rows : List Row) (is_new : Bool) (known : List Publication) (copy : List Row) (v : ReaderView)
@@ -18,6 +19,15 @@ pub entered : (legs : ℕ) (log : List Publication) (rows : List Row) (is_new : 
     → MatchBool is_new (IsPrefix v.known (changes_of known) × (copy ≡ rows_after legs (changes_of known))) (record { known = changes_of known; rows = copy } ≡ v)
 entered legs log rows true known copy v is s = (subst (λ (w : ReaderView). IsPrefix w.known (changes_of known)) is (changes_begin log known s.0), s.1)
 entered legs log rows false known copy v is s = rw (s.0, s.1) is
+
+-- a note and a reader: one of the two lists begins the other
+pub knows_by : (b : Bool) (told known : List Publication) (rows : List Row) (n : List Change) (v : ReaderView)
+    → changes_of told ≡ n → record { known = changes_of known; rows = rows } ≡ v
+    → MatchBool b (IsPrefix told known) (IsPrefix known told) → MatchBool b (IsPrefix n v.known) (IsPrefix v.known n)
+knows_by b told known rows n v told_is is h =
+    let told_begins = changes_begin_by b told known h in
+    let of_note = subst (λ (l : List Change). MatchBool b (IsPrefix l (changes_of known)) (IsPrefix (changes_of known) l)) told_is told_begins in
+    subst (λ (w : ReaderView). MatchBool b (IsPrefix n w.known) (IsPrefix w.known n)) is of_note
 
 -- taking in batches, apart in rows and mark
 pub absorbs : {S : Type 0} (seen : Mark → S) (pending : List Batch) (rows : List Row) (m : Mark)

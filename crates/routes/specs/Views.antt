@@ -15,6 +15,11 @@ pub record ReaderView : Type 0 where
   pub known : List Change
   pub rows : List Row
 
+-- whether one who knows the first changes knows the others too: if so those begin the first, else the first
+-- begin those
+abbrev pub Knows : Bool → List Change → List Change → Type 0
+Knows answer known told = MatchBool answer (IsPrefix told known) (IsPrefix known told)
+
 -- a reader that has seen nothing
 abbrev pub IsOpening : ℕ → ReaderView → Type 0
 IsOpening legs r = (r.known ≡ []) × (r.rows ≡ opening_rows legs)

@@ -23,3 +23,5 @@ pub use writer::{NoMemory, RouteWriter};
 
 #[cfg(test)]
 mod tests;
+#[cfg(test)]
+mod thread_tests;

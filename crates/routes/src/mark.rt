@@ -1,6 +1,6 @@
 //! How far the publications are known: their number, and a token that stands for them.
 
-ghost use Rattle.std.specs.Prelude.{◌≡◌, ◌<◌, ◌^◌, ◌++◌, ◌∷◌, [], length, MatchBool, IfSome};
+ghost use Rattle.std.specs.Prelude.{◌≡◌, ◌<◌, ◌^◌, ◌++◌, ◌∷◌, ◌↔◌, [], length, IsTrue, MatchBool, IfSome};
 ghost use mathlib.Core.List.{IsPrefix};
 ghost use Rattle.routes.specs.Publications.{head_of};
 
@@ -88,11 +88,23 @@ impl Mark {
     /// Whether this one has no more publications than the other. Then the other begins with it.
     pub(crate) fn begins(&self, other: &Mark) -> bool
         requires { other.now.seen.book ≡ self.now.seen.book }
-        ensures { MatchBool result (IsPrefix self.now.seen.log other.now.seen.log) (IsPrefix other.now.seen.log self.now.seen.log) }
+        ensures { MatchBool result
+            (IsPrefix self.now.seen.log other.now.seen.log)
+            (IsPrefix other.now.seen.log self.now.seen.log) }
     {
         let mut both = self.seen.again();
         both.learn(&other.seen);
         self.count <= other.count
+    }
+
+    /// Whether this one has as many publications as the other. Then they are the same.
+    pub(crate) fn is(&self, other: &Mark) -> bool
+        requires { other.now.seen.book ≡ self.now.seen.book }
+        ensures { IsTrue result ↔ (self.now.seen.log ≡ other.now.seen.log) }
+    {
+        let mut both = self.seen.again();
+        both.learn(&other.seen);
+        self.count == other.count
     }
 
     /// One publication more, if nobody else made one.
@@ -102,7 +114,8 @@ impl Mark {
         changes: &Vec<Change>,
     ) -> Option<Mark>
         requires { head.now ≡ head_of self.now.seen.book }
-        ensures { IfSome result (λ m. (m.seen.book ≡ self.now.seen.book) × (m.seen.log ≡ self.now.seen.log ++ changes.now.items ∷ [])) }
+        ensures { IfSome result (λ m. (m.seen.book ≡ self.now.seen.book)
+            × (m.seen.log ≡ self.now.seen.log ++ changes.now.items ∷ [])) }
     {
         if self.count >= MOST {
             return None;

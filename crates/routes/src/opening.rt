@@ -119,7 +119,8 @@ fn first_rows(alloc: Global, legs: u16) -> Result<Vec<Row>, AllocError>
 
 /// A table before any change.
 fn opening_table(alloc: Global, legs: u16, mark: &Mark) -> Result<Table, AllocError>
-    ensures { IfOk result (λ t. (t.rows.items ≡ opening_rows legs) × (t.mark.seen ≡ mark.now.seen)) }
+    ensures { IfOk result (λ t. (t.rows.items ≡ opening_rows legs)
+        × (t.mark.seen ≡ mark.now.seen)) }
 {
     let rows = first_rows(alloc, legs)?;
     Ok(Table {
@@ -159,9 +160,9 @@ fn make_reader<J: Naming>(
     requires legs { legs ≡ J.legs }
     ensures { IfOk result (IsOpening J.legs) }
 {
-    let rows = first_rows(alloc, legs)?;
+    let taken = opening_table(alloc, legs, mark)?;
     match writer.factory().reader() {
-        Ok(reader) => Ok(RouteReader::new(alloc, reader, mark.again(), rows)),
+        Ok(reader) => Ok(RouteReader::new(alloc, reader, taken)),
         Err(_) => Err(RoutesFault::NoPlace),
     }
 }

@@ -1,6 +1,6 @@
 //! A reader of the route table: it takes the rows without waiting, and never goes back.
 
-ghost use Rattle.std.specs.Prelude.{◌≡◌, length, MatchBool};
+ghost use Rattle.std.specs.Prelude.{◌≡◌, MatchBool};
 ghost use mathlib.Core.List.{IsPrefix};
 ghost use Rattle.routes.specs.Views.{IsTable, Sees};
 
@@ -8,6 +8,7 @@ use crate::mark::Mark;
 use crate::note::RouteNote;
 use crate::rule::{Naming, Published};
 use crate::table::Table;
+use crate::writer::RouteWriter;
 use core::mem::{replace, replace_with};
 use left_right::reader::Reader;
 use members::Row;
@@ -16,52 +17,70 @@ use std::marker::Model;
 
 pub(crate) type TableReader<J> = Reader<Table, (), Published<J>>;
 
-/// A reader, for one thread at a time. It has a copy of the rows that it saw last.
+/// A reader, for one thread at a time. It has a copy of the table that it saw last, whose mark it may know
+/// to be behind.
 #[derive(Drop)]
 pub struct RouteReader<J: Naming> {
     reader: TableReader<J>,
     known: Mark,
-    rows: Vec<Row>,
+    taken: Table,
     alloc: Global,
 }
 
 impl<J: Naming> Model for RouteReader<J> {
-    ghost use Rattle.std.specs.Prelude.{◌≡◌, length};
+    ghost use Rattle.std.specs.Prelude.{◌≡◌};
     ghost use Rattle.routes.specs.Publications.{changes_of};
-    ghost use Rattle.routes.specs.Views.{ReaderView};
+    ghost use Rattle.routes.specs.Views.{ReaderView, IsTable};
 
     ghost Value = { ReaderView };
 
-    ghost view = { λ r. record { known = changes_of r.known.seen.log; rows = r.rows.items } };
+    ghost view = { λ r. record { known = changes_of r.known.seen.log; rows = r.taken.rows.items } };
 
-    ghost invariant = { λ r. (r.known.seen.book ≡ J.book) × (length r.rows.items ≡ J.legs) };
+    ghost invariant = { λ r. (r.known.seen.book ≡ J.book) × IsTable J.book J.legs r.taken };
 }
 
 impl<J: Naming> RouteReader<J> {
-    ghost use Rattle.std.specs.Prelude.{◌≡◌, length};
+    ghost use Rattle.std.specs.Prelude.{◌≡◌, MatchBool};
     ghost use mathlib.Core.List.{IsPrefix};
     ghost use Rattle.routes.specs.Rows.{rows_after};
     ghost use Rattle.routes.specs.Publications.{changes_of};
-    ghost use Rattle.routes.specs.Views.{Sees};
+    ghost use Rattle.routes.specs.Views.{IsTable, Knows, Sees};
 
-    /// A reader that knows what the mark knows.
-    pub(crate) fn new(
-        alloc: Global,
-        reader: TableReader<J>,
-        known: Mark,
-        rows: Vec<Row>,
-    ) -> RouteReader<J>
-        requires book { known.seen.book ≡ J.book }
-        requires rows { length rows.items ≡ J.legs }
-        ensures known { result.known ≡ changes_of known.seen.log }
-        ensures rows { result.rows ≡ rows.items }
+    /// A reader that took this copy of the table, and knows what its mark knows.
+    pub(crate) fn new(alloc: Global, reader: TableReader<J>, taken: Table) -> RouteReader<J>
+        requires { IsTable J.book J.legs taken }
+        ensures known { result.known ≡ changes_of taken.mark.seen.log }
+        ensures rows { result.rows ≡ taken.rows.items }
     {
         RouteReader {
             reader,
-            known,
-            rows,
+            known: taken.mark.again(),
+            taken,
             alloc,
         }
+    }
+
+    /// Whether it knows all that the note tells. Else the note tells all that it knows: what is known of
+    /// one table, here or there, are beginnings of one list.
+    pub fn knows(&self, note: &RouteNote<J>) -> bool
+        ensures { Knows result self.now.known note.now }
+    {
+        note.mark.begins(&self.known)
+    }
+
+    /// Whether it knows all that the writer published. Else it knows a beginning of that.
+    pub fn knows_all_of(&self, writer: &RouteWriter<J>) -> bool
+        ensures { Knows result self.now.known writer.now.published }
+    {
+        let note = writer.note();
+        self.knows(&note)
+    }
+
+    /// The note of all that it knows, for other readers.
+    pub fn note(&self) -> RouteNote<J>
+        ensures { result ≡ self.now.known }
+    {
+        RouteNote::of(&self.known)
     }
 
     /// From now on this reader sees no less than the note tells. The note is used up.
@@ -76,28 +95,39 @@ impl<J: Naming> RouteReader<J> {
     /// Takes the rows that are published, and says whether it did: not where the table gives no view.
     /// Then nothing changed. It waits for nobody, and takes no memory.
     pub fn enter(&mut self) -> bool
-        ensures view { MatchBool result (IsPrefix self.old.known self.new.known × (self.new.rows ≡ rows_after J.legs self.new.known)) (self.new ≡ self.old) }
+        ensures view { MatchBool result
+            (IsPrefix self.old.known self.new.known
+            × (self.new.rows ≡ rows_after J.legs self.new.known))
+            (self.new ≡ self.old) }
     {
+        let known = self.known.again();
+        let nothing = Table {
+            rows: Vec::new(self.alloc),
+            mark: known.again(),
+        };
         let held = Held {
-            known: self.known.again(),
-            rows: replace(&mut self.rows, Vec::new(self.alloc)),
+            known,
+            taken: replace(&mut self.taken, nothing),
             is_new: false,
         };
         let held = replace_with(
             &mut self.reader,
             held,
             |reader: TableReader<J>, held: Held| -> (TableReader<J>, Held)
-                requires { (held.known.seen.book ≡ J.book) × (length held.rows.items ≡ J.legs) }
-                ensures { (result.1.known.seen.book ≡ J.book) × (length result.1.rows.items ≡ J.legs) × Sees J.legs held.known.seen.log held.rows.items result.1.is_new result.1.known.seen.log result.1.rows.items }
+                requires { (held.known.seen.book ≡ J.book) × IsTable J.book J.legs held.taken }
+                ensures { (result.1.known.seen.book ≡ J.book)
+                    × IsTable J.book J.legs result.1.taken
+                    × Sees J.legs held.known.seen.log held.taken.rows.items
+                    result.1.is_new result.1.known.seen.log result.1.taken.rows.items }
             { look(reader, held) },
         );
         let Held {
             known,
-            rows,
+            taken,
             is_new,
         } = held;
         self.known = known;
-        self.rows = rows;
+        self.taken = taken;
         is_new
     }
 
@@ -105,7 +135,7 @@ impl<J: Naming> RouteReader<J> {
     pub fn rows(&self) -> &[Row]
         ensures { result.now ≡ self.now.rows }
     {
-        self.rows.as_slice()
+        self.taken.rows.as_slice()
     }
 }
 
@@ -125,21 +155,22 @@ fn learn_mark(known: &mut Mark, told: Mark)
 #[derive(Drop)]
 struct Held {
     known: Mark,
-    rows: Vec<Row>,
+    taken: Table,
     is_new: bool,
 }
 
-/// Copies the rows under the guard.
+/// Takes the table under the guard.
 fn look<J: Naming>(reader: TableReader<J>, held: Held) -> (TableReader<J>, Held)
     requires book { held.known.seen.book ≡ J.book }
-    requires rows { length held.rows.items ≡ J.legs }
+    requires taken { IsTable J.book J.legs held.taken }
     ensures book { result.1.known.seen.book ≡ J.book }
-    ensures length { length result.1.rows.items ≡ J.legs }
-    ensures sees { Sees J.legs held.known.seen.log held.rows.items result.1.is_new result.1.known.seen.log result.1.rows.items }
+    ensures taken { IsTable J.book J.legs result.1.taken }
+    ensures sees { Sees J.legs held.known.seen.log held.taken.rows.items
+        result.1.is_new result.1.known.seen.log result.1.taken.rows.items }
 {
     match reader.enter_as::<Published<J>>() {
         Ok(reading) => {
-            let held = copy::<J>(reading.get(), held);
+            let held = take_table::<J>(reading.get(), held);
             (reading.leave(), held)
         }
         Err(reader) => (
@@ -152,15 +183,15 @@ fn look<J: Naming>(reader: TableReader<J>, held: Held) -> (TableReader<J>, Held)
     }
 }
 
-/// Copies the rows, unless more is known than they follow from.
-#[tactic(auto, using(crate::proofs::RowLemmas::rows_after_length))]
-fn copy<J: Naming>(table: &Table, held: Held) -> Held
+/// Takes the table, unless more is known than its rows follow from.
+fn take_table<J: Naming>(table: &Table, held: Held) -> Held
     requires table { IsTable J.book J.legs table.now }
     requires book { held.known.seen.book ≡ J.book }
-    requires rows { length held.rows.items ≡ J.legs }
+    requires taken { IsTable J.book J.legs held.taken }
     ensures book { result.known.seen.book ≡ J.book }
-    ensures length { length result.rows.items ≡ J.legs }
-    ensures sees { Sees J.legs held.known.seen.log held.rows.items result.is_new result.known.seen.log result.rows.items }
+    ensures taken { IsTable J.book J.legs result.taken }
+    ensures sees { Sees J.legs held.known.seen.log held.taken.rows.items
+        result.is_new result.known.seen.log result.taken.rows.items }
 {
     if !held.known.begins(&table.mark) {
         return Held {
@@ -168,11 +199,28 @@ fn copy<J: Naming>(table: &Table, held: Held) -> Held
             ..held
         };
     }
-    let mut rows = held.rows;
-    rows.as_mut_slice().copy_from_slice(table.rows.as_slice());
     Held {
         known: table.mark.again(),
-        rows,
+        taken: renew::<J>(held.taken, table),
         is_new: true,
     }
+}
+
+/// The copy, brought to where the table is. Where it is there already, no row is copied.
+#[tactic(auto, using(crate::proofs::RowLemmas::rows_after_length))]
+fn renew<J: Naming>(taken: Table, table: &Table) -> Table
+    requires taken { IsTable J.book J.legs taken }
+    requires table { IsTable J.book J.legs table.now }
+    ensures table { IsTable J.book J.legs result }
+    ensures rows { result.rows.items ≡ table.now.rows.items }
+{
+    let mut taken = taken;
+    if !taken.mark.is(&table.mark) {
+        taken
+            .rows
+            .as_mut_slice()
+            .copy_from_slice(table.rows.as_slice());
+        taken.mark = table.mark.again();
+    }
+    taken
 }

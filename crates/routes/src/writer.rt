@@ -45,7 +45,9 @@ impl<J: Naming> Model for RouteWriter<J> {
 
     ghost view = { λ w. record { published = changes_of w.mark.seen.log; noted = w.noted.items } };
 
-    ghost invariant = { λ w. (w.legs ≡ J.legs) × (w.head ≡ head_of J.book) × (w.mark.seen.book ≡ J.book) × IsAhead J.book J.legs w.mark.seen.log (drop w.writer.behind w.writer.log.items) w.writer.desk.shown.value };
+    ghost invariant = { λ w. (w.legs ≡ J.legs) × (w.head ≡ head_of J.book) × (w.mark.seen.book ≡ J.book)
+        × IsAhead J.book J.legs w.mark.seen.log
+        (drop w.writer.behind w.writer.log.items) w.writer.desk.shown.value };
 }
 
 impl<J: Naming> RouteWriter<J> {
@@ -65,7 +67,8 @@ impl<J: Naming> RouteWriter<J> {
         requires legs { legs ≡ J.legs }
         requires head { head ≡ head_of J.book }
         requires book { mark.seen.book ≡ J.book }
-        requires ahead { IsAhead J.book J.legs mark.seen.log (drop writer.behind writer.log.items) writer.desk.shown.value }
+        requires ahead { IsAhead J.book J.legs mark.seen.log
+            (drop writer.behind writer.log.items) writer.desk.shown.value }
         ensures published { result.published ≡ changes_of mark.seen.log }
         ensures noted { result.noted ≡ [] }
     {
@@ -119,8 +122,11 @@ impl<J: Naming> RouteWriter<J> {
             &mut self.writer,
             batch,
             |writer: TableWriter<J>, batch: Batch| -> (TableWriter<J>, ())
-                requires { IsNext J.book before.seen.log batch × IsAhead J.book J.legs before.seen.log (drop writer.behind writer.log.items) writer.desk.shown.value }
-                ensures { IsAhead J.book J.legs batch.mark.seen.log (drop result.0.behind result.0.log.items) result.0.desk.shown.value }
+                requires { IsNext J.book before.seen.log batch
+                    × IsAhead J.book J.legs before.seen.log
+                    (drop writer.behind writer.log.items) writer.desk.shown.value }
+                ensures { IsAhead J.book J.legs batch.mark.seen.log
+                    (drop result.0.behind result.0.log.items) result.0.desk.shown.value }
             { (show(rt, writer, &before, batch), ()) },
         );
         self.note()
@@ -170,7 +176,8 @@ fn advance<R: Wait>(
 /// Puts the batch behind what the table has still to take in, once there is memory for it.
 fn queue<J: Naming, R: Wait>(rt: &R, writer: &mut TableWriter<J>, batch: Batch)
     ensures desk { writer.new.desk ≡ writer.old.desk }
-    ensures pending { drop writer.new.behind writer.new.log.items ≡ drop writer.old.behind writer.old.log.items ++ batch ∷ [] }
+    ensures pending { drop writer.new.behind writer.new.log.items
+        ≡ drop writer.old.behind writer.old.log.items ++ batch ∷ [] }
 {
     let mut batch = batch;
     for _ in rt.forever() {
@@ -191,8 +198,10 @@ fn show<J: Naming, R: Wait>(
     batch: Batch,
 ) -> TableWriter<J>
     requires next { IsNext J.book before.now.seen.log batch }
-    requires ahead { IsAhead J.book J.legs before.now.seen.log (drop writer.behind writer.log.items) writer.desk.shown.value }
-    ensures ahead { IsAhead J.book J.legs batch.mark.seen.log (drop result.behind result.log.items) result.desk.shown.value }
+    requires ahead { IsAhead J.book J.legs before.now.seen.log
+        (drop writer.behind writer.log.items) writer.desk.shown.value }
+    ensures ahead { IsAhead J.book J.legs batch.mark.seen.log
+        (drop result.behind result.log.items) result.desk.shown.value }
 {
     let mut writer = writer;
     queue(rt, &mut writer, batch);
