@@ -15,3 +15,4 @@ pub mod Hearing
 pub mod Rule
 pub mod Run
 pub mod Opening
+pub mod Laws
