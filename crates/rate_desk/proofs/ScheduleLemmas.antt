@@ -94,7 +94,7 @@ apart a b x y gap p q h = omega arith
 
 -- ---- the first place
 
-abbrev Up : Entry → Type 0
+abbrev pub Up : Entry → Type 0
 Up e = went_up e ≡ true
 
 abbrev Wishes : Entry → Type 0
@@ -103,11 +103,10 @@ Wishes e = wishes e.call ≡ true
 abbrev CanSend : Entry → Type 0
 CanSend e = can_send e.call ≡ true
 
-module _ (gap : ℕ) (base : Base) (e : Entry) (entries : List Entry) (is : went_up e ≡ goes_up gap base e.call) where
-  due_first : WentUpAt (e ∷ entries) 0 → IsDueAt gap base (e ∷ entries) 0
-  due_first up =
-      let parts = three (can_send e.call) (wishes e.call || base.wanted) (is_due gap base.last_up (moment_after base.greatest e.call))
-      (sym is ∙ head_is Up e entries up) in
+module _ (gap : ℕ) (base : Base) (e : Entry) (entries : List Entry) where
+  pub due_first : goes_up gap base e.call ≡ true → IsDueAt gap base (e ∷ entries) 0
+  due_first goes =
+      let parts = three (can_send e.call) (wishes e.call || base.wanted) (is_due gap base.last_up (moment_after base.greatest e.call)) goes in
       record {
         can_send = at_head CanSend e entries parts.0;
         wanted = wanted (or_cases (wishes e.call) base.wanted parts.1);
@@ -130,13 +129,12 @@ module _ (gap : ℕ) (base : Base) (e : Entry) (entries : List Entry) (is : went
   first_wish zero u = or_first (wishes e.call) base.wanted (head_is Wishes e entries u.wished)
   first_wish (suc wish) u = absurd (omega (arith, u.not_after))
 
-  up_first : IsDueAt gap base (e ∷ entries) 0 → WentUpAt (e ∷ entries) 0
-  up_first due =
-      at_head Up e entries
-      (is ∙ all_three (can_send e.call) (wishes e.call || base.wanted) (is_due gap base.last_up (moment_after base.greatest e.call))
+  pub goes_first : IsDueAt gap base (e ∷ entries) 0 → goes_up gap base e.call ≡ true
+  goes_first due =
+      all_three (can_send e.call) (wishes e.call || base.wanted) (is_due gap base.last_up (moment_after base.greatest e.call))
       (head_is CanSend e entries due.can_send)
       (wanted due.wanted)
-      (due_from gap base.last_up (moment_after base.greatest e.call) (due.gapped_since_base (λ before less went. absurd (omega arith)))))
+      (due_from gap base.last_up (moment_after base.greatest e.call) (due.gapped_since_base (λ before less went. absurd (omega arith))))
     where
       wanted : ((wish : ℕ) × IsUnanswered (e ∷ entries) 0 wish) ⊎ IsWantedSinceBase base (e ∷ entries) 0 → (wishes e.call || base.wanted) ≡ true
       wanted (inl found) = first_wish found.0 found.1
@@ -234,7 +232,7 @@ module _ (gap request_ms : ℕ) (base : Base) (e : Entry) (entries : List Entry)
   now_is : greatest_until base (e ∷ entries) (suc place) ≡ greatest_until (base_with request_ms base e) entries place
   now_is = greatest-tail request_ms base e entries place
 
-  due_on : IsDueAt gap base (e ∷ entries) (suc place) → IsDueAt gap (base_with request_ms base e) entries place
+  pub due_on : IsDueAt gap base (e ∷ entries) (suc place) → IsDueAt gap (base_with request_ms base e) entries place
   due_on due = record {
     can_send = from_tail CanSend e entries place due.can_send;
     wanted = wanted_on due.wanted;
@@ -245,7 +243,7 @@ module _ (gap request_ms : ℕ) (base : Base) (e : Entry) (entries : List Entry)
         (λ quiet. subst (λ now. IfSome base.last_up (λ up. up + gap ≤ now)) now_is (due.gapped_since_base (quiet_both quiet none)));
   }
 
-  due_back : IsDueAt gap (base_with request_ms base e) entries place → IsDueAt gap base (e ∷ entries) (suc place)
+  pub due_back : IsDueAt gap (base_with request_ms base e) entries place → IsDueAt gap base (e ∷ entries) (suc place)
   due_back due = record {
     can_send = at_tail CanSend e entries place due.can_send;
     wanted = wanted_back due.wanted;
@@ -270,7 +268,7 @@ pub schedule_law : (gap request_ms : ℕ) (base : Base) (entries : List Entry) �
 schedule_law gap request_ms base [] legal place below = absurd (omega arith)
 schedule_law gap request_ms base (e ∷ entries) legal zero below =
     let is = answer_up gap request_ms base e.call e.answer (legal-first gap request_ms base e entries legal) in
-    (due_first gap base e entries is, up_first gap base e entries is)
+    (λ up. due_first gap base e entries (sym is ∙ head_is Up e entries up), λ due. at_head Up e entries (is ∙ goes_first gap base e entries due))
 schedule_law gap request_ms base (e ∷ entries) legal (suc place) below =
     let rest = schedule_law gap request_ms (base_with request_ms base e) entries (legal-rest gap request_ms base e entries legal) place (omega arith) in (
       λ up. due_back gap request_ms base e entries place (rest.0 (from_tail Up e entries place up)),

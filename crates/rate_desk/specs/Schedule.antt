@@ -1,5 +1,5 @@
 -- When PLIs are sent upstream, by places in a history (RFC 4585, section 6.3.1; the gap is this project's own).
-use Rattle.std.specs.Prelude.{◌≡◌, ℕ, ◌+◌, ◌<◌, ◌≤◌, ◌↔◌, ◌⊎◌, true, List, length, slice_get, Some, IfSome}
+use Rattle.std.specs.Prelude.{◌≡◌, ℕ, ◌+◌, ◌<◌, ◌≤◌, ◌↔◌, ◌⊎◌, true, List, length, map, slice_get, Some, IfSome}
 use Rattle.rate_desk.specs.declared.call.Call.{Call}
 use Rattle.rate_desk.specs.declared.call.Call.TheVariants.{Stay, Time}
 use Rattle.rate_desk.specs.declared.call.Entry.{Entry}
@@ -54,3 +54,7 @@ pub record IsDueAt (gap : ℕ) (base : Base) (entries : List Entry) (place : ℕ
 -- PLIs are sent upstream just where they are due
 abbrev pub IsPliSchedule : ℕ → Base → List Entry → Type 0
 IsPliSchedule gap base entries = (place : ℕ) → place < length entries → WentUpAt entries place ↔ IsDueAt gap base entries place
+
+-- the calls, without their answers
+abbrev pub calls_in : List Entry → List Call
+calls_in entries = map (λ (e : Entry). e.call) entries

@@ -11,7 +11,7 @@ ghost use Rattle.rate_desk.specs.Presence.{stay_in};
 ghost use Rattle.rate_desk.specs.Trace.{IsBase, base_with, base_after, live_after, words_of};
 ghost use Rattle.rate_desk.specs.Places.{IsPresent, IsPresentFrom, IsLiveFrom, greatest_until};
 ghost use Rattle.rate_desk.specs.History.{IsLegalHistory};
-ghost use Rattle.rate_desk.specs.Schedule.{IsGreatestUntil, IsPliSchedule};
+ghost use Rattle.rate_desk.specs.Schedule.{IsGreatestUntil, IsPliSchedule, WentUpAt, calls_in};
 
 /// Folding the first entries into the base, early or late, changes nothing of what a trace comes to, and a
 /// legal history stays legal. Calls and words of the base count on.
@@ -55,4 +55,12 @@ pub fn plis_on_schedule()
         → IsLegalHistory gap ms base entries → IsPliSchedule gap base entries }
     ensures greatest { (base : Base) (entries : List Entry) (place : ℕ)
         → IsGreatestUntil base entries place (greatest_until base entries place) }
+{}
+
+/// There is one such schedule: the base and the calls alone decide it. Where the same calls are answered in
+/// two ways, and both keep to the schedule, PLIs go upstream at the same places, whatever else is answered.
+pub fn one_pli_schedule()
+    ensures { (gap : ℕ) (base : Base) (entries others : List Entry) (place : ℕ)
+        → calls_in entries ≡ calls_in others → IsPliSchedule gap base entries → IsPliSchedule gap base others
+        → WentUpAt entries place ↔ WentUpAt others place }
 {}
