@@ -9,3 +9,11 @@ pub mod ChangeLemmas
 pub mod NotificationLemmas
 pub mod KindLemmas
 pub mod HistoryLemmas
+pub mod TaskLemmas
+pub mod HearingLemmas
+pub mod HearingLeaves
+pub mod AskingLemmas
+pub mod IngressLemmas
+pub mod RunLemmas
+pub mod WorkingLemmas
+pub mod WorldLemmas

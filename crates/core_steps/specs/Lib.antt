@@ -16,3 +16,12 @@ pub mod Rule
 pub mod Run
 pub mod Opening
 pub mod Laws
+pub mod FollowUps
+pub mod Machine
+pub mod Waits
+pub mod RunFaults
+pub mod Asking
+pub mod Drafts
+pub mod Pushing
+pub mod Turns
+pub mod Refusals

@@ -31,6 +31,11 @@ pub record IsNewWorker (c : Configuration) (k : ℕ) (s : WorkerState) : Type 0 
   pub hand : s.hand ≡ free
   pub legs : s.legs ≡ new_legs (table_of c) c.ring k
 
+-- so many workers, each of which is new
+pub record AreNewWorkers (c : Configuration) (count : ℕ) (workers : List WorkerState) : Type 0 where
+  pub size : length workers ≡ count
+  pub each : (k : ℕ) (s : WorkerState) → slice_get workers k ≡ Some s → IsNewWorker c k s
+
 -- nobody is present, nothing waits, and nothing was done yet
 pub record IsNewWorld (c : Configuration) (w : WorldState) : Type 0 where
   pub setup : w.setup ≡ setup_by c

@@ -3,7 +3,7 @@
 ghost use Rattle.std.specs.Prelude.{◌≡◌, ◌==◌, ◌↔◌, ℕ, ◌+◌, ◌^◌, ◌<◌, ◌≤◌, List, length, map, IfOk, IsTrue, Result, Ok};
 ghost use Rattle.std.specs.List.{list_any};
 ghost use Rattle.rtcp_compound.specs.Content.{content_of, sources_left};
-ghost use Rattle.rtcp_compound.specs.Reading.{contents_left};
+ghost use Rattle.rtcp_compound.specs.Left.{contents_left};
 ghost use Rattle.rtcp_feedback.specs.Reading.{entries_left, message_of, nacks_left};
 ghost use Rattle.core_steps.specs.Heard.{Appends, Fills, Hears, HearsPackets, HearsRtcp, HearsRtp, IsSurveyOf, Surveys};
 ghost use Rattle.core_steps.specs.Intake.{Gist, IsRtcp, PacketSays, PacketsSay, Said, Says, gist_of, joined, nothing, sent_by};

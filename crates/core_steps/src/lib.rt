@@ -5,21 +5,29 @@
 //! call, `intake` what a datagram says.
 #![tactic(auto)]
 
+mod asking;
 mod bytes;
 mod event;
 mod head;
+mod hearing;
+mod ingress;
 mod intake;
 mod job;
 pub mod laws;
 mod leg;
 mod legs;
 mod links;
+mod machine;
 mod notification;
 mod output;
 mod plan;
 mod planning;
 mod ring;
 pub mod rtp_laws;
+mod runner;
+mod tasks;
+mod working;
+mod world;
 
 pub use bytes::Bytes;
 pub use event::Event;
@@ -33,6 +41,8 @@ pub use notification::{Notification, entries_of, notify, tells_each_change};
 pub use output::{DeskRefusal, Out, Refusal};
 pub use plan::{Plan, Planned};
 pub use ring::JOB_LIMIT;
+pub use runner::{RunFault, run};
+pub use world::{Waiting, World};
 
 #[cfg(test)]
 mod intake_tests;
@@ -40,3 +50,5 @@ mod intake_tests;
 mod legs_tests;
 #[cfg(test)]
 mod notification_tests;
+#[cfg(test)]
+mod run_tests;

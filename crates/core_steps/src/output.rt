@@ -6,6 +6,7 @@ use rewrite::Skip;
 use rtcp_compound::RtcpFault;
 use rtcp_feedback::FbFault;
 use rtp_packet::RtpFault;
+use std::fmt::{self, Display, Formatter, Write};
 
 /// One thing that the machine gives out.
 #[derive(Debug, Drop)]
@@ -47,4 +48,56 @@ pub enum DeskRefusal {
     Full,
     /// 4: the desk records no more calls.
     HistoryFull,
+}
+
+impl DeskRefusal {
+    ghost use Rattle.std.specs.Prelude.{◌≡◌};
+    ghost use Rattle.core_steps.specs.Refusals.{desk_number};
+
+    /// Its number: 1 to 4.
+    pub fn number(self) -> u8
+        ensures { result ≡ desk_number self }
+    {
+        match self {
+            DeskRefusal::NotPresent => 1,
+            DeskRefusal::AlreadyPresent => 2,
+            DeskRefusal::Full => 3,
+            DeskRefusal::HistoryFull => 4,
+        }
+    }
+}
+
+impl Display for Refusal {
+    /// What was refused, and the number of the cause.
+    fn fmt<W: Write>(&self, f: &mut Formatter<W>) -> fmt::Result {
+        match self {
+            Refusal::Rtp(fault) => write!(f, "rtp {}", fault.number()),
+            Refusal::Rtcp(fault) => write!(f, "rtcp {}", fault.number()),
+            Refusal::Feedback(fault) => write!(f, "feedback {}", fault.number()),
+            Refusal::Room(fault) => write!(f, "room {}", fault.number()),
+            Refusal::Desk(refusal) => write!(f, "desk {}", refusal.number()),
+        }
+    }
+}
+
+impl Display for Out {
+    /// One line, without its end: `send ENDPOINT HEX`, `refused WHAT NUMBER`, `busy`, `lost WORKER`, `skip LEG NUMBER`,
+    /// `miss LEG SEQ` or `idle`.
+    fn fmt<W: Write>(&self, f: &mut Formatter<W>) -> fmt::Result {
+        match self {
+            Out::Send { endpoint, bytes } => {
+                write!(f, "send {endpoint} ")?;
+                for byte in bytes.as_slice() {
+                    write!(f, "{byte:02x}")?;
+                }
+                Ok(())
+            }
+            Out::Refused(refusal) => write!(f, "refused {refusal}"),
+            Out::Busy => write!(f, "busy"),
+            Out::Lost(worker) => write!(f, "lost {worker}"),
+            Out::Skip { leg, skip } => write!(f, "skip {leg} {}", skip.number()),
+            Out::Miss { leg, seq } => write!(f, "miss {leg} {seq}"),
+            Out::Idle => write!(f, "idle"),
+        }
+    }
 }

@@ -15,7 +15,7 @@ pub(crate) struct JobRing {
 }
 
 impl Model for JobRing {
-    ghost use Rattle.std.specs.Prelude.{List, ◌≤◌};
+    ghost use Rattle.std.specs.Prelude.{List, ◌≤◌, length};
     ghost use Rattle.std.specs.VecDeque.{deque_capacity};
     ghost use Rattle.core_steps.specs.declared.job.Job.{Job};
     ghost use Rattle.core_steps.specs.declared.ring.TheConstants.{JOB_LIMIT};
@@ -24,11 +24,11 @@ impl Model for JobRing {
 
     ghost view = { λ r. r.jobs.items };
 
-    ghost invariant = { λ r. JOB_LIMIT ≤ deque_capacity r.jobs };
+    ghost invariant = { λ r. (JOB_LIMIT ≤ deque_capacity r.jobs) × (length r.jobs.items ≤ JOB_LIMIT) };
 }
 
 impl JobRing {
-    ghost use Rattle.std.specs.Prelude.{◌≡◌, ◌<◌, ◌↔◌, ◌++◌, ◌∷◌, [], length, IfOk, IsOk, OnOk, OnErr, MatchOption};
+    ghost use Rattle.std.specs.Prelude.{◌≡◌, ◌<◌, ◌≤◌, ◌↔◌, ◌++◌, ◌∷◌, [], length, IfOk, IsOk, OnOk, OnErr, MatchOption};
 
     /// A ring with room for `JOB_LIMIT` jobs.
     pub(crate) fn new(alloc: Global) -> Result<JobRing, AllocError>
@@ -41,7 +41,8 @@ impl JobRing {
 
     /// How many jobs wait.
     pub(crate) fn len(&self) -> usize
-        ensures { result ≡ length self.now }
+        ensures value { result ≡ length self.now }
+        ensures limit { result ≤ JOB_LIMIT }
     {
         self.jobs.len()
     }

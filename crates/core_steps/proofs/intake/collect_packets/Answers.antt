@@ -1,7 +1,7 @@
 use Rattle.std.proofs.Common.{[], Ok, sym, refl, subst}
 use Rattle.std.proofs.lemmas.List.{append-nil}
-use Rattle.rtcp_compound.specs.declared.packets.Packets.{Packets}
-use Rattle.rtcp_compound.specs.Reading.{contents_left}
+use Rattle.rtcp_compound.specs.declared.unread.Packets.{Packets}
+use Rattle.rtcp_compound.specs.Left.{contents_left}
 use Rattle.core_steps.specs.Intake.{PacketsSay}
 use Rattle.core_steps.proofs.intake.collect_packets.Goals as goal
 

@@ -1,5 +1,5 @@
 use Rattle.std.proofs.Common.{◌≡◌, List, ◌++◌, Ok}
-use Rattle.rtcp_compound.specs.Reading.{contents_left}
+use Rattle.rtcp_compound.specs.Left.{contents_left}
 use Rattle.core_steps.specs.declared.intake.Ask.{Ask}
 use Rattle.core_steps.specs.Intake.{Gist, PacketsSay}
 use Rattle.core_steps.proofs.intake.collect_packets.Given as goal

@@ -1,5 +1,5 @@
 use Rattle.std.proofs.Common.{◌≤◌, arith}
-use Rattle.rtcp_compound.specs.Reading.{packets_left}
+use Rattle.rtcp_compound.specs.Left.{packets_left}
 use Rattle.core_steps.proofs.IntakeLemmas.{count_fits}
 use Rattle.core_steps.proofs.intake.hear_rtcp.Goals as goal
 

@@ -1,7 +1,7 @@
 use Rattle.std.proofs.Common.{◌≡◌, ◌+◌, ◌<◌, ◌≤◌, List, length, Result, Ok, Err, inl, refl, sym, ap, subst, arith}
 use Rattle.std.proofs.lemmas.Result.{err_from_is_err_and}
 use Rattle.rtcp_compound.specs.Content.{Content}
-use Rattle.rtcp_compound.specs.Reading.{contents_left}
+use Rattle.rtcp_compound.specs.Left.{contents_left}
 use Rattle.rtcp_feedback.specs.declared.fault.FbFault.{FbFault}
 use Rattle.core_steps.specs.Intake.{Gist, PacketsSay, joined, nothing}
 use Rattle.core_steps.proofs.IntakeLemmas.{behind, behind_both, joined_nothing, say_more}

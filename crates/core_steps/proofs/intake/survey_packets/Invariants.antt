@@ -1,5 +1,5 @@
 use Rattle.std.proofs.Common.{◌≡◌, ◌+◌, ◌≤◌, ◌<◌, ◌^◌, length, Result}
-use Rattle.rtcp_compound.specs.Reading.{contents_left}
+use Rattle.rtcp_compound.specs.Left.{contents_left}
 use Rattle.rtcp_feedback.specs.declared.fault.FbFault.{FbFault}
 use Rattle.core_steps.specs.Heard.{IsSurveyOf}
 use Rattle.core_steps.specs.Intake.{Gist, PacketsSay}

@@ -1,0 +1,303 @@
+-- What the ingress takes in, as a happening: a moment, an RTP packet, RTCP packets.
+use Rattle.std.proofs.Common.{◌≡◌, ◌∙◌, ◌==◌, ℕ, ◌^◌, ◌<◌, List, [], ◌∷◌, ◌++◌, length, map, Bool, true, false, Result, Ok, Err, refl, sym, ap, ap₂, subst}
+use Rattle.std.proofs.lemmas.List.{append-nil, map-append, append_assoc}
+use Rattle.std.specs.Prelude.{Option, None, Some, OnOk, if◌then◌else◌}
+use Rattle.std.specs.List.{last_or, enumerate_from, filter_map, flat_map}
+use Rattle.std.specs.Option.{option_map_or}
+use Rattle.members.specs.declared.fault.RoomFault.{RoomFault}
+use Rattle.members.specs.declared.order.Order.{Order}
+use Rattle.members.specs.Room.{RoomState, Step, Answers, hear_step, tick_step, after_packet}
+use Rattle.members.specs.Calls.{Call as RoomCall, Hear, Receive, Report as SenderReport, room_after, room_of}
+use Rattle.tmmbr_tuple.specs.declared.ssrc.Ssrc.{Ssrc}
+use Rattle.core_steps.specs.declared.hearing.Due.TheVariants as due
+use Rattle.core_steps.specs.declared.intake.Ask.{Ask}
+use Rattle.core_steps.specs.declared.intake.Control.{Control as ControlParts}
+use Rattle.core_steps.specs.declared.intake.Heard.{Heard}
+use Rattle.core_steps.specs.declared.intake.Heard.TheVariants.{Media, Goodbye, Control}
+use Rattle.core_steps.specs.declared.intake.Unheard.{Unheard}
+use Rattle.core_steps.specs.declared.intake.Unheard.TheVariants.{Refused as RefusedBy}
+use Rattle.core_steps.specs.declared.output.Out.{Out}
+use Rattle.core_steps.specs.declared.output.Out.TheVariants.{Refused}
+use Rattle.core_steps.specs.declared.output.Refusal.{Refusal}
+use Rattle.core_steps.specs.declared.tasks.FollowUp.{FollowUp}
+use Rattle.core_steps.specs.DeskCalls.{source_of}
+use Rattle.core_steps.specs.FollowUps.{due_to, packet_to, report_to, follow_up_for, unfollowed, noted}
+use Rattle.core_steps.specs.Happening.{giving, counted}
+use Rattle.core_steps.specs.Heard.{HearsBy, heard_of, asks_of}
+use Rattle.core_steps.specs.Hearing.{IsHearing, hearing, hearing_by, ticking, numbers_below, leg_report, reports, expires, present_endpoints, is_report_due, refusals_of, jobs_of, receptions}
+use Rattle.core_steps.specs.Intake.{Said, media, leaves, control, Says}
+use Rattle.core_steps.specs.Machine.{task_of}
+use Rattle.core_steps.specs.Rule.{is_busy}
+use Rattle.core_steps.specs.Run.{Leaves}
+use Rattle.core_steps.specs.World.{WorldState, Task, order, pulse, expire, report}
+use Rattle.core_steps.proofs.HearingLemmas.{accepted, idle, took, taken_in, ticks, uncounted, asks_follow, asks_refused, pulses_follow, expires_follow, reports_follow, packets_follow, leg_reports_follow}
+
+-- ---- a moment
+
+if_mapped : {X Y : Type 0} (f : X → Y) (b : Bool) (xs : List X) (ys : List Y) → map f xs ≡ ys
+    → map f (if b then [] else xs) ≡ (if b then [] else ys)
+if_mapped f true xs ys e = refl
+if_mapped f false xs ys e = e
+
+if_mapped_then : {X Y : Type 0} (f : X → Y) (b : Bool) (xs : List X) (ys : List Y) → map f xs ≡ ys
+    → map f (if b then xs else []) ≡ (if b then ys else [])
+if_mapped_then f true xs ys e = e
+if_mapped_then f false xs ys e = refl
+
+abbrev pub ticked_by : WorldState → RoomState → List Order → List Task
+ticked_by w r orders =
+    map order orders ++ map pulse (present_endpoints w.setup.table r) ++ expires w.setup r ++ reports w r
+
+abbrev pub reported_by : WorldState → RoomState → ℕ
+reported_by w r = if is_report_due w r then r.moment else w.reported
+
+-- what follows from a moment, in the ingress's list
+pub record FollowsTick (w : WorldState) (r : RoomState) (n : ℕ) (is_due : Bool) (f0 f1 f2 f3 : List FollowUp) : Type 0 where
+  pub none : f0 ≡ []
+  pub count : n ≡ length w.setup.table.endpoints
+  pub says_due : is_due ≡ is_report_due w r
+  pub pulses : f1 ≡ f0 ++ filter_map (due_to r due.Pulse) (numbers_below n)
+  pub expiring : f2 ≡ f1 ++ (if w.setup.request_ms == 0 then [] else filter_map (due_to r due.Expire) (numbers_below n))
+  pub reporting : f3
+      ≡ f2
+      ++ (if is_due
+      then filter_map (due_to r due.Report) (numbers_below n)
+      ++ filter_map (report_to w.setup.table r) (enumerate_from 0 w.setup.table.legs)
+      else [])
+
+follows_tick : (w : WorldState) (r : RoomState) (n : ℕ) (is_due : Bool) (f0 f1 f2 f3 : List FollowUp) (bits : List ℕ) (orders : List Order)
+    → FollowsTick w r n is_due f0 f1 f2 f3 → map order orders ++ map (task_of bits) f3 ≡ ticked_by w r orders
+follows_tick w r n is_due f0 f1 f2 f3 bits orders f =
+    let m = length w.setup.table.endpoints in
+    let t = w.setup.table in
+    let P : List FollowUp = filter_map (due_to r due.Pulse) (numbers_below m) in
+    let E : List FollowUp = if w.setup.request_ms == 0 then [] else filter_map (due_to r due.Expire) (numbers_below m) in
+    let R : List FollowUp =
+    if is_report_due w r
+    then filter_map (due_to r due.Report) (numbers_below m) ++ filter_map (report_to t r) (enumerate_from 0 t.legs)
+    else [] in
+    let p1 : f1 ≡ P =
+    f.pulses
+    ∙ ap₂ (λ (l : List FollowUp) (k : ℕ). l ++ filter_map (due_to r due.Pulse) (numbers_below k)) f.none f.count in
+    let p2 : f2 ≡ P ++ E =
+    f.expiring
+    ∙ ap₂ (λ (l : List FollowUp) (k : ℕ). l ++ (if w.setup.request_ms == 0 then [] else filter_map (due_to r due.Expire) (numbers_below k))) p1 f.count in
+    let F : List FollowUp → ℕ → Bool → List FollowUp = λ l k b. l
+    ++ (if b
+    then filter_map (due_to r due.Report) (numbers_below k) ++ filter_map (report_to t r) (enumerate_from 0 t.legs)
+    else []) in
+    let p3 : f3 ≡ (P ++ E) ++ R =
+    f.reporting ∙ ap₂ (λ (l : List FollowUp) (k : ℕ). F l k is_due) p2 f.count ∙ ap (λ (b : Bool). F (P ++ E) m b) f.says_due in
+    let g = task_of bits in
+    let eP : map g P ≡ map pulse (present_endpoints t r) = pulses_follow bits r (numbers_below m) in
+    let eE : map g E ≡ expires w.setup r =
+    if_mapped g (w.setup.request_ms == 0) (filter_map (due_to r due.Expire) (numbers_below m))
+    (map expire (present_endpoints t r)) (expires_follow bits r (numbers_below m)) in
+    let both : map g (filter_map (due_to r due.Report) (numbers_below m) ++ filter_map (report_to t r) (enumerate_from 0 t.legs))
+    ≡ map report (present_endpoints t r) ++ flat_map (leg_report t r) (enumerate_from 0 t.legs) =
+    map-append g (filter_map (due_to r due.Report) (numbers_below m)) (filter_map (report_to t r) (enumerate_from 0 t.legs))
+    ∙ ap₂ (λ (a b : List Task). a ++ b) (reports_follow bits r (numbers_below m)) (leg_reports_follow bits t r (enumerate_from 0 t.legs)) in
+    let eR : map g R ≡ reports w r =
+    if_mapped_then g (is_report_due w r)
+    (filter_map (due_to r due.Report) (numbers_below m) ++ filter_map (report_to t r) (enumerate_from 0 t.legs))
+    (map report (present_endpoints t r) ++ flat_map (leg_report t r) (enumerate_from 0 t.legs)) both in
+    let all : map g f3 ≡ (map pulse (present_endpoints t r) ++ expires w.setup r) ++ reports w r =
+    ap (map g) p3 ∙ map-append g (P ++ E) R ∙ ap (λ (l : List Task). l ++ map g R) (map-append g P E)
+    ∙ ap₂ (λ (a b : List Task). a ++ b) (ap₂ (λ (a b : List Task). a ++ b) eP eE) eR in
+    ap (λ (l : List Task). map order orders ++ l) all
+    ∙ sym (append_assoc (map order orders) (map pulse (present_endpoints t r) ++ expires w.setup r) (reports w r))
+    ∙ ap (λ (l : List Task). l ++ reports w r) (sym (append_assoc (map order orders) (map pulse (present_endpoints t r)) (expires w.setup r)))
+
+pub ticks_so : (w : WorldState) (moment : ℕ) (outs : List Out) (room : RoomState) (before after : List Order) (n : ℕ) (is_due : Bool)
+    (f0 f1 f2 f3 : List FollowUp) (bits : List ℕ) (tasks : List Task) (reported : ℕ) → is_busy w ≡ false → w.lost < 2 ^ 64
+    → w.tmmbns < 2 ^ 64 → before ≡ [] → room ≡ (tick_step w.room moment).room → after ≡ before ++ (tick_step w.room moment).orders
+    → FollowsTick w room n is_due f0 f1 f2 f3 → tasks ≡ map order after ++ map (task_of bits) f3
+    → reported ≡ (if is_due then room.moment else w.reported)
+    → Leaves (λ h. h ≡ ticking w moment) w outs (taken_in w room tasks reported w.tmmbns) outs
+ticks_so w moment outs room before after n is_due f0 f1 f2 f3 bits tasks reported h lost tmmbns eb er eo f et eq =
+    let s = tick_step w.room moment in
+    let orders : after ≡ s.orders = eo ∙ ap (λ (l : List Order). l ++ s.orders) eb in
+    let here : tasks ≡ ticked_by w s.room s.orders =
+    et ∙ follows_tick w room n is_due f0 f1 f2 f3 bits after f ∙ ap₂ (λ (r : RoomState) (o : List Order). ticked_by w r o) er orders in
+    let then_at : reported ≡ reported_by w s.room =
+    eq ∙ ap (λ (b : Bool). if b then room.moment else w.reported) f.says_due ∙ ap (λ (r : RoomState). reported_by w r) er in
+    ticks w moment outs room tasks reported h lost tmmbns er here then_at
+
+-- ---- an RTP packet
+
+pub medias : (w : WorldState) (moment endpoint : ℕ) (bytes bits : List ℕ) (ssrc seq timestamp n : ℕ) (outs all : List Out) (before after : List Order)
+    (room room' : RoomState) (f0 f1 : List FollowUp) (tasks : List Task) → all ≡ outs → is_busy w ≡ false → w.lost < 2 ^ 64 → w.tmmbns < 2 ^ 64
+    → Answers w.room before (hear_step w.room moment endpoint ssrc) (Ok tt) room after → before ≡ [] → bits ≡ bytes
+    → n ≡ w.setup.table.workers → f0 ≡ [] → f1 ≡ f0 ++ filter_map (packet_to w.setup.table room endpoint) (numbers_below n)
+    → room' ≡ after_packet room endpoint seq timestamp → tasks ≡ map order after ++ map (task_of bits) f1
+    → Leaves (λ h. h ≡ hearing w moment endpoint bytes (Ok (media ssrc seq timestamp))) w outs
+    (taken_in w room' tasks w.reported w.tmmbns) all
+medias w moment endpoint bytes bits ssrc seq timestamp n outs all before after room room' f0 f1 tasks ea h lost tmmbns a eb ed en e0 e1 er' et =
+    let (s, is, er, eo) = accepted w.room before (hear_step w.room moment endpoint ssrc) room after a in
+    let said : Said = media ssrc seq timestamp in
+    let t = w.setup.table in
+    let orders : after ≡ s.orders = eo ∙ ap (λ (l : List Order). l ++ s.orders) eb in
+    let calls = Hear moment endpoint ssrc ∷ (Receive endpoint seq timestamp ∷ []) in
+    let here : room' ≡ room_after w.room calls =
+    er' ∙ ap (λ (r : RoomState). after_packet r endpoint seq timestamp) er
+    ∙ ap (λ (x : Result Step RoomFault). room_after (room_of w.room x) (Receive endpoint seq timestamp ∷ [])) (sym is) in
+    let follow : f1 ≡ filter_map (packet_to t room endpoint) (numbers_below t.workers) =
+    e1 ∙ ap₂ (λ (l : List FollowUp) (k : ℕ). l ++ filter_map (packet_to t room endpoint) (numbers_below k)) e0 en in
+    let jobs : map (task_of bits) f1 ≡ jobs_of t s.room endpoint bytes said =
+    ap (map (task_of bits)) follow ∙ packets_follow bits t room endpoint (numbers_below t.workers)
+    ∙ ap₂ (λ (d : List ℕ) (r : RoomState). jobs_of t r endpoint d said) ed er in
+    let made : tasks ≡ map order s.orders ++ jobs_of t s.room endpoint bytes said =
+    et ∙ ap₂ (λ (o : List Order) (l : List Task). map order o ++ l) orders jobs in
+    record {
+      happening = hearing_by w moment endpoint bytes said (Ok s);
+      allowed = ap (hearing_by w moment endpoint bytes said) (sym is);
+      leads = took w [] calls (map order s.orders ++ jobs_of t s.room endpoint bytes said) w.reported 0 room' tasks w.tmmbns h lost here made
+          (uncounted w.tmmbns tmmbns);
+      given = ea ∙ sym (append-nil outs);
+    }
+
+-- ---- RTCP packets
+
+noted_is : (r : RoomState) (endpoint : ℕ) (o : Option (ℕ × ℕ))
+    → noted r endpoint o ≡ room_after r (option_map_or (λ (p : ℕ × ℕ). SenderReport endpoint p.0 p.1 ∷ []) o [])
+noted_is r endpoint None = refl
+noted_is r endpoint (Some p) = refl
+
+pub controls : (w : WorldState) (moment endpoint : ℕ) (bytes bits : List ℕ) (speaker : ℕ) (reports : List (ℕ × ℕ)) (tmmbns : ℕ) (asks asks' : List Ask)
+    (outs all : List Out) (before after : List Order) (room room' : RoomState) (f0 f1 : List FollowUp) (tasks : List Task) (count : ℕ)
+    (noting : Option (ℕ × ℕ)) → is_busy w ≡ false → w.lost < 2 ^ 64
+    → Answers w.room before (hear_step w.room moment endpoint speaker) (Ok tt) room after → before ≡ [] → noting ≡ last_or None reports
+    → asks' ≡ asks → f0 ≡ [] → f1 ≡ f0 ++ filter_map (follow_up_for w.setup.table room endpoint) asks'
+    → all ≡ outs ++ flat_map (λ a. unfollowed (follow_up_for w.setup.table room endpoint a)) asks'
+    → room' ≡ noted room endpoint noting → tasks ≡ map order after ++ map (task_of bits) f1 → count ≡ counted w.tmmbns tmmbns
+    → Leaves (λ h. h ≡ hearing w moment endpoint bytes (Ok (control speaker reports tmmbns asks))) w outs
+    (taken_in w room' tasks w.reported count) all
+controls w moment endpoint bytes bits speaker reports tmmbns asks asks' outs all before after room room' f0 f1 tasks count noting h lost a eb en ea e0 e1 eout er' et ec =
+    let (s, is, er, eo) = accepted w.room before (hear_step w.room moment endpoint speaker) room after a in
+    let said : Said = control speaker reports tmmbns asks in
+    let t = w.setup.table in
+    let orders : after ≡ s.orders = eo ∙ ap (λ (l : List Order). l ++ s.orders) eb in
+    let notes : List RoomCall = receptions endpoint said in
+    let calls = Hear moment endpoint speaker ∷ notes in
+    let here : room' ≡ room_after w.room calls =
+    er' ∙ ap₂ (λ (r : RoomState) (o : Option (ℕ × ℕ)). noted r endpoint o) er en ∙ noted_is s.room endpoint (last_or None reports)
+    ∙ ap (λ (x : Result Step RoomFault). room_after (room_of w.room x) notes) (sym is) in
+    let follow : f1 ≡ filter_map (follow_up_for t room endpoint) asks =
+    e1 ∙ ap₂ (λ (l : List FollowUp) (k : List Ask). l ++ filter_map (follow_up_for t room endpoint) k) e0 ea in
+    let jobs : map (task_of bits) f1 ≡ jobs_of t s.room endpoint bytes said =
+    ap (map (task_of bits)) follow ∙ asks_follow bits t room endpoint asks
+    ∙ ap (λ (r : RoomState). jobs_of t r endpoint bytes said) er in
+    let made : tasks ≡ map order s.orders ++ jobs_of t s.room endpoint bytes said =
+    et ∙ ap₂ (λ (o : List Order) (l : List Task). map order o ++ l) orders jobs in
+    let told : all ≡ outs ++ refusals_of t s.room endpoint said =
+    eout ∙ ap (λ (k : List Ask). outs ++ flat_map (λ (x : Ask). unfollowed (follow_up_for t room endpoint x)) k) ea
+    ∙ ap (λ (l : List Out). outs ++ l) (asks_refused t room endpoint asks)
+    ∙ ap (λ (r : RoomState). outs ++ refusals_of t r endpoint said) er in
+    record {
+      happening = hearing_by w moment endpoint bytes said (Ok s);
+      allowed = ap (hearing_by w moment endpoint bytes said) (sym is);
+      leads = took w (refusals_of t s.room endpoint said) calls (map order s.orders ++ jobs_of t s.room endpoint bytes said) w.reported tmmbns
+          room' tasks count h lost here made ec;
+      given = told;
+    }
+
+-- ---- a datagram
+
+pub is_hearing : (w : WorldState) (moment endpoint : ℕ) (bytes : List ℕ) (said : Result Said Refusal) (outs all : List Out) (new : WorldState)
+    → Says (source_of w.setup.table endpoint).0 bytes said → Leaves (λ h. h ≡ hearing w moment endpoint bytes said) w outs new all
+    → Leaves (IsHearing w moment endpoint bytes) w outs new all
+is_hearing w moment endpoint bytes said outs all new says l =
+    record {
+      happening = l.happening;
+      allowed = record { said = said; says = says; does = l.allowed };
+      leads = l.leads;
+      given = l.given;
+    }
+
+abbrev packet_parts : Heard → ℕ × ℕ × ℕ
+packet_parts (Media source seq timestamp) = (source.0, seq, timestamp)
+packet_parts Goodbye = (0, 0, 0)
+packet_parts (Control c) = (0, 0, 0)
+
+media_said : (ssrc : Ssrc) (seq timestamp : ℕ) (said : Said) → Media ssrc seq timestamp ≡ heard_of said → said ≡ media ssrc.0 seq timestamp
+media_said ssrc seq timestamp (media s q p) e =
+    sym (ap (λ (x : ℕ × ℕ × ℕ). media x.0 x.1 x.2) (ap packet_parts e))
+media_said ssrc seq timestamp leaves e = absurd (cc)
+media_said ssrc seq timestamp (control speaker said_reports tmmbns asks) e = absurd (cc)
+
+leaves_said : (said : Said) → Goodbye ≡ heard_of said → said ≡ leaves
+leaves_said (media s q p) e = absurd (cc)
+leaves_said leaves e = refl
+leaves_said (control speaker reports tmmbns asks) e = absurd (cc)
+
+control_said : (c : ControlParts) (said : Said) → Control c ≡ heard_of said
+    → (reports : List (ℕ × ℕ)) × (c.report ≡ last_or None reports) × (said ≡ control c.speaker.0 reports c.tmmbns (asks_of said))
+control_said c (media s q p) e = absurd (cc)
+control_said c leaves e = absurd (cc)
+control_said c (control speaker reports tmmbns asks) e =
+    let parts : c ≡ record { speaker = record { 0 = speaker }; report = last_or None reports; tmmbns = tmmbns } = cc in
+    let es : speaker ≡ c.speaker.0 = sym (ap (λ (x : ControlParts). x.speaker.0) parts) in
+    let et : tmmbns ≡ c.tmmbns = sym (ap (λ (x : ControlParts). x.tmmbns) parts) in
+    (reports, ap (λ (x : ControlParts). x.report) parts, ap₂ (λ (x y : ℕ). control x reports y asks) es et)
+
+says_at : (own own' : ℕ) (read bytes : List ℕ) (a b : Result Said Refusal) → own ≡ own' → read ≡ bytes → a ≡ b → Says own read a
+    → Says own' bytes b
+says_at own own' read bytes a b eo er ea h =
+    let P : ℕ → Type 0 = λ o. Says o read a in
+    let Q : List ℕ → Type 0 = λ r. Says own' r a in
+    let R : Result Said Refusal → Type 0 = λ x. Says own' bytes x in
+    subst R ea (subst Q er (subst P eo h))
+
+pub hears_media : {E : Type 0} (r : Result (Unit {0}) E) (w : WorldState) (moment endpoint own : ℕ) (read bytes : List ℕ) (outs all : List Out)
+    (new : WorldState) (heard : Heard) (ssrc : Ssrc) (seq timestamp : ℕ) (before after : List Ask)
+    → own ≡ (source_of w.setup.table endpoint).0 → read ≡ bytes → heard ≡ Media ssrc seq timestamp
+    → HearsBy (Says own read) before after (Ok heard)
+    → OnOk r (Leaves (λ h. h ≡ hearing w moment endpoint bytes (Ok (media ssrc.0 seq timestamp))) w outs new all)
+    → OnOk r (Leaves (IsHearing w moment endpoint bytes) w outs new all)
+hears_media (Err e) w moment endpoint own read bytes outs all new heard ssrc seq timestamp before after eo er eh h l = l
+hears_media (Ok u) w moment endpoint own read bytes outs all new heard ssrc seq timestamp before after eo er eh (said, says, is, more) l =
+    let e : said ≡ media ssrc.0 seq timestamp = media_said ssrc seq timestamp said (sym eh ∙ is) in
+    is_hearing w moment endpoint bytes (Ok (media ssrc.0 seq timestamp)) outs all new
+    (says_at own (source_of w.setup.table endpoint).0 read bytes (Ok said) (Ok (media ssrc.0 seq timestamp)) eo er (ap Ok e) says) l
+
+pub hears_goodbye : {E : Type 0} (r : Result (Unit {0}) E) (w : WorldState) (moment endpoint own : ℕ) (read bytes : List ℕ) (outs all : List Out)
+    (new : WorldState) (heard : Heard) (before after : List Ask) → own ≡ (source_of w.setup.table endpoint).0 → read ≡ bytes
+    → heard ≡ Goodbye → HearsBy (Says own read) before after (Ok heard)
+    → OnOk r (Leaves (λ h. h ≡ hearing w moment endpoint bytes (Ok leaves)) w outs new all)
+    → OnOk r (Leaves (IsHearing w moment endpoint bytes) w outs new all)
+hears_goodbye (Err e) w moment endpoint own read bytes outs all new heard before after eo er eh h l = l
+hears_goodbye (Ok u) w moment endpoint own read bytes outs all new heard before after eo er eh (said, says, is, more) l =
+    let e : said ≡ leaves = leaves_said said (sym eh ∙ is) in
+    is_hearing w moment endpoint bytes (Ok leaves) outs all new
+    (says_at own (source_of w.setup.table endpoint).0 read bytes (Ok said) (Ok leaves) eo er (ap Ok e) says) l
+
+pub hears_control : {E : Type 0} (r : Result (Unit {0}) E) (w : WorldState) (moment endpoint own : ℕ) (read bytes : List ℕ) (outs all : List Out)
+    (new : WorldState) (heard : Heard) (c : ControlParts) (before after : List Ask) → own ≡ (source_of w.setup.table endpoint).0
+    → read ≡ bytes → heard ≡ Control c → before ≡ [] → HearsBy (Says own read) before after (Ok heard)
+    → ((reports : List (ℕ × ℕ)) → c.report ≡ last_or None reports
+    → OnOk r (Leaves (λ h. h ≡ hearing w moment endpoint bytes (Ok (control c.speaker.0 reports c.tmmbns after))) w outs new all))
+    → OnOk r (Leaves (IsHearing w moment endpoint bytes) w outs new all)
+hears_control (Err e) w moment endpoint own read bytes outs all new heard c before after eo er eh eb h l = tt
+hears_control (Ok u) w moment endpoint own read bytes outs all new heard c before after eo er eh eb (said, says, is, more) l =
+    let (told, et, e) = control_said c said (sym eh ∙ is) in
+    let same : asks_of said ≡ after = sym (more ∙ ap (λ (x : List Ask). x ++ asks_of said) eb) in
+    let e' : said ≡ control c.speaker.0 told c.tmmbns after = e ∙ ap (λ (x : List Ask). control c.speaker.0 told c.tmmbns x) same in
+    is_hearing w moment endpoint bytes (Ok (control c.speaker.0 told c.tmmbns after)) outs all new
+    (says_at own (source_of w.setup.table endpoint).0 read bytes (Ok said) (Ok (control c.speaker.0 told c.tmmbns after)) eo er (ap Ok e') says)
+    (l told et)
+
+pub hears_refusal : (w : WorldState) (moment endpoint own : ℕ) (read bytes : List ℕ) (outs all : List Out) (unheard : Unheard) (refusal : Refusal)
+    (before after : List Ask) → is_busy w ≡ false → w.lost < 2 ^ 64 → w.tmmbns < 2 ^ 64 → own ≡ (source_of w.setup.table endpoint).0
+    → read ≡ bytes → unheard ≡ RefusedBy refusal → HearsBy (Says own read) before after (Err unheard)
+    → all ≡ outs ++ Refused refusal ∷ [] → Leaves (IsHearing w moment endpoint bytes) w outs w all
+hears_refusal w moment endpoint own read bytes outs all unheard refusal before after h lost tmmbns eo er eu says given =
+    let P : Unheard → Type 0 = λ u. HearsBy (Says own read) before after (Err u) in
+    let at : Says own read (Err refusal) × (after ≡ before) = subst P eu says in
+    is_hearing w moment endpoint bytes (Err refusal) outs all w
+    (says_at own (source_of w.setup.table endpoint).0 read bytes (Err refusal) (Err refusal) eo er refl at.0)
+    record {
+      happening = giving w (Refused refusal ∷ []);
+      allowed = refl;
+      leads = took w (Refused refusal ∷ []) [] [] w.reported 0 w.room w.tasks w.tmmbns h lost refl (idle w h) (uncounted w.tmmbns tmmbns);
+      given = given;
+    }

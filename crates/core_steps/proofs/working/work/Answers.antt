@@ -1,0 +1,60 @@
+use Rattle.std.proofs.Common.{◌≡◌, ◌<◌, ◌^◌, List, [], ◌∷◌, ◌++◌, get_or, length, set, map, arith, rules, sym, ap, ◌∙◌}
+use Rattle.std.proofs.lemmas.List.{with_items_is, length-set}
+use Rattle.std.specs.Vec.{with_items}
+use Rattle.core_steps.specs.declared.output.Out.{Out}
+use Rattle.core_steps.specs.declared.output.Out.TheVariants.{Idle}
+use Rattle.core_steps.specs.Machine.{state_of, worker_state}
+use Rattle.core_steps.proofs.WorkingLemmas.{work-done, work-stays, work-idle, worker-there, worker-nowhere, worker-set}
+use Rattle.core_steps.proofs.working.work.Goals as goal
+
+pub returns-then-at-workers-clause-ok : goal.returns-then-at-workers-clause-ok
+returns-then-at-workers-clause-ok c =
+    let m = c.args.m.now in
+    let lost : c.args.m.now.lost < 2 ^ 64 = omega arith in
+    let tmmbns : c.args.m.now.tmmbns < 2 ^ 64 = omega arith in
+    let slice = c.as_mut_slice-workers.result.now in
+    let got = set slice c.from-at.result c.turn.new.w in
+    let size : length got ≡ c.args.m.now.workers.len = length-set slice c.from-at.result c.turn.new.w ∙ c.as_mut_slice-workers.ensures.len in
+    let desks : length c.turn.new.desks ≡ c.args.m.now.desks.len = c.turn.auto.desks ∙ c.as_mut_slice-desks.ensures.len in
+    work-done (state_of m) c.args.worker c.from-at.result (worker_state (get_or slice c.from-at.result c.index-workers-at.result)) (worker_state c.turn.new.w)
+    c.as_slice-rows.result.now c.as_mut_slice-desks.result.now c.turn.new.desks (with_items m.desks c.turn.new.desks).items
+    (map worker_state (with_items m.workers got).items) c.args.outs.now.items c.reserve.new.self.items c.turn.new.outs.items c.turn.result
+    c.from-at.ensures
+    (worker-there m.workers.items slice c.from-at.result c.index-workers-at.result c.as_mut_slice-workers.ensures.value
+    c.if-at-workers.true)
+    lost tmmbns c.as_slice-rows.ensures.value c.as_mut_slice-desks.ensures.value c.reserve.ensures.items
+    (with_items_is m.desks c.turn.new.desks desks)
+    (worker-set m.workers.items slice (with_items m.workers got).items c.from-at.result c.turn.new.w c.as_mut_slice-workers.ensures.value
+    (with_items_is m.workers got size))
+    c.turn.ensures.ok
+
+pub returns-then-at-workers-clause-err : goal.returns-then-at-workers-clause-err
+returns-then-at-workers-clause-err c =
+    let m = c.args.m.now in
+    let slice = c.as_mut_slice-workers.result.now in
+    let got = set slice c.from-at.result c.turn.new.w in
+    let size : length got ≡ c.args.m.now.workers.len = length-set slice c.from-at.result c.turn.new.w ∙ c.as_mut_slice-workers.ensures.len in
+    let desks : length c.turn.new.desks ≡ c.args.m.now.desks.len = c.turn.auto.desks ∙ c.as_mut_slice-desks.ensures.len in
+    work-stays (state_of m) c.from-at.result (worker_state (get_or slice c.from-at.result c.index-workers-at.result)) (worker_state c.turn.new.w)
+    c.as_mut_slice-desks.result.now c.turn.new.desks (with_items m.desks c.turn.new.desks).items
+    (map worker_state (with_items m.workers got).items) c.args.outs.now.items c.reserve.new.self.items c.turn.new.outs.items c.turn.result
+    (worker-there m.workers.items slice c.from-at.result c.index-workers-at.result c.as_mut_slice-workers.ensures.value
+    c.if-at-workers.true)
+    c.as_mut_slice-desks.ensures.value c.reserve.ensures.items
+    (with_items_is m.desks c.turn.new.desks desks)
+    (worker-set m.workers.items slice (with_items m.workers got).items c.from-at.result c.turn.new.w c.as_mut_slice-workers.ensures.value
+    (with_items_is m.workers got size))
+    c.turn.ensures.err
+
+pub returns-else-at-workers-clause-ok : goal.returns-else-at-workers-clause-ok
+returns-else-at-workers-clause-ok c =
+    let m = c.args.m.now in
+    let lost : c.args.m.now.lost < 2 ^ 64 = omega arith in
+    let tmmbns : c.args.m.now.tmmbns < 2 ^ 64 = omega arith in
+    let slice = c.as_mut_slice-workers.result.now in
+    work-idle (state_of m) c.args.worker c.from-at.result (map worker_state (with_items m.workers slice).items) c.args.outs.now.items
+    c.push_reserved.new.self.items c.from-at.ensures
+    (worker-nowhere m.workers.items slice c.from-at.result c.as_mut_slice-workers.ensures.value c.if-at-workers.false)
+    lost tmmbns
+    (ap (map worker_state) (with_items_is m.workers slice c.as_mut_slice-workers.ensures.len ∙ c.as_mut_slice-workers.ensures.value))
+    (c.push_reserved.ensures.items ∙ ap (λ (l : List Out). l ++ Idle ∷ []) c.reserve.ensures.items)

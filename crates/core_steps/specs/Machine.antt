@@ -1,0 +1,63 @@
+-- The world that the machine's parts stand for.
+use Rattle.std.specs.Prelude.{ℕ, List, ◌++◌, map, drop, Option, option_map}
+use Rattle.rate_desk.specs.declared.effect.Effect.{Effect}
+use Rattle.core_steps.specs.declared.job.Job.TheVariants as job
+use Rattle.core_steps.specs.declared.machine.Machine.{Machine}
+use Rattle.core_steps.specs.declared.machine.Setup.{Setup as SetupParts}
+use Rattle.core_steps.specs.declared.machine.Worker.{Worker}
+use Rattle.core_steps.specs.declared.machine.Hand.{Hand as HandParts}
+use Rattle.core_steps.specs.declared.machine.Hand.TheVariants.{Free, Doing, Telling}
+use Rattle.core_steps.specs.declared.notification.Notification.{Notification}
+use Rattle.core_steps.specs.declared.tasks.Tasks.{Tasks}
+use Rattle.core_steps.specs.declared.tasks.FollowUp.{FollowUp}
+use Rattle.core_steps.specs.declared.tasks.NextTask.{NextTask}
+use Rattle.core_steps.specs.declared.tasks.NextTask.TheVariants.{Order as AnOrder, FollowUp as Follows}
+use Rattle.core_steps.specs.declared.tasks.FollowUp.TheVariants.{Packet, Request, Resend, Pli, LegReport, Pulse, Expire, Report}
+use Rattle.core_steps.specs.World.{Setup, Task, order, push, pulse, expire, report, Pending, Hand, free, doing, telling, WorkerState, WorldState}
+
+-- the task that follows, where the datagram has these bytes
+abbrev pub task_of : List ℕ → FollowUp → Task
+task_of bytes (Packet worker publisher) = push worker (job.Packet publisher bytes)
+task_of bytes (Request worker leg stay word) = push worker (job.Request leg stay word)
+task_of bytes (Resend worker leg stay nack) = push worker (job.Resend leg stay nack)
+task_of bytes (Pli worker leg moment) = push worker (job.Pli leg moment)
+task_of bytes (LegReport worker leg stay sr) = push worker (job.Report leg stay sr)
+task_of bytes (Pulse publisher) = pulse publisher
+task_of bytes (Expire publisher) = expire publisher
+task_of bytes (Report publisher) = report publisher
+
+abbrev pub task_in : List ℕ → NextTask → Task
+task_in bytes (AnOrder o) = order o
+task_in bytes (Follows next) = task_of bytes next
+
+-- those that aren't done yet
+abbrev pub tasks_of : Tasks → List Task
+tasks_of t = map order (drop t.orders_done t.orders.items) ++ map (task_of t.datagram.items) (drop t.follow_ups_done t.follow_ups.items)
+
+abbrev pub pending_with : Effect → Notification → Pending
+pending_with effect n = record { notification = n; effect = effect }
+
+abbrev pub hand_in : Effect → HandParts → Hand
+hand_in effect Free = free
+hand_in effect (Doing job) = doing job
+hand_in effect (Telling n) = telling (pending_with effect n)
+
+abbrev pub worker_state : Worker → WorkerState
+worker_state w = record { jobs = w.jobs; hand = hand_in w.effect w.hand; legs = w.legs }
+
+abbrev pub setup_of : SetupParts → Setup
+setup_of s = record { table = s.links; unit = s.head; request_ms = s.request_ms; report_ms = s.report_ms }
+
+abbrev pub state_of : Machine → WorldState
+state_of m = record {
+  setup = setup_of m.setup;
+  room = m.room;
+  tasks = tasks_of m.tasks;
+  pending = option_map (pending_with m.effect) m.pending;
+  desks = m.desks.items;
+  rows = m.rows.items;
+  workers = map worker_state m.workers.items;
+  reported = m.reported;
+  lost = m.lost;
+  tmmbns = m.tmmbns;
+}

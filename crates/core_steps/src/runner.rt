@@ -1,0 +1,96 @@
+//! Events in order, each an atomic step.
+
+ghost use Rattle.std.specs.Prelude.{◌≡◌, ◌≤◌, ◌∷◌, [], length, take, OnOk, OnErr, IfErr};
+ghost use Rattle.core_steps.specs.Machine.{state_of};
+ghost use Rattle.core_steps.specs.declared.output.Out.TheVariants.{Busy};
+ghost use Rattle.core_steps.specs.Happening.{giving};
+ghost use Rattle.core_steps.specs.Rule.{Does};
+ghost use Rattle.core_steps.specs.Run.{HasRun, Leaves, Stays};
+ghost use Rattle.core_steps.specs.RunFaults.{done_of};
+
+use crate::event::Event;
+use crate::hearing::{hear, select, tick};
+use crate::ingress::do_next;
+use crate::machine::Machine;
+use crate::output::Out;
+use crate::working::work;
+use crate::world::World;
+use std::alloc::AllocError;
+use thiserror::Error;
+
+/// Why a run stopped.
+#[derive(Clone, Copy, Debug, PartialEq, Eq, Error)]
+pub enum RunFault {
+    /// There was no memory for an event: the world and the outs are those of the `done` events before it.
+    #[error("no memory behind {done} events")]
+    NoMemory { done: usize },
+}
+
+/// Does the events in order, and appends what goes out.
+pub fn run(world: &mut World, events: &[Event], outs: &mut Vec<Out>) -> Result<(), RunFault>
+    ensures ok { OnOk result (HasRun events.now world.old outs.old.items world.new outs.new.items) }
+    ensures err { IfErr result (λ fault. (done_of fault ≤ length events.now)
+        × HasRun (take (done_of fault) events.now) world.old outs.old.items world.new outs.new.items) }
+{
+    run_machine(&mut world.machine, events, outs)
+}
+
+/// Does the events in order on the machine's parts.
+fn run_machine(m: &mut Machine, events: &[Event], outs: &mut Vec<Out>) -> Result<(), RunFault>
+    ensures ok { OnOk result (HasRun events.now (state_of m.old) outs.old.items (state_of m.new) outs.new.items) }
+    ensures err { IfErr result (λ fault. (done_of fault ≤ length events.now)
+        × HasRun (take (done_of fault) events.now) (state_of m.old) outs.old.items (state_of m.new) outs.new.items) }
+{
+    for (done, event) in events.iter().enumerate() {
+        if step(m, event, outs).is_err() {
+            return Err(RunFault::NoMemory { done });
+        }
+    }
+    Ok(())
+}
+
+/// Does one event. Refused for want of memory alone; then nothing was done.
+fn step(m: &mut Machine, event: &Event, outs: &mut Vec<Out>) -> Result<(), AllocError>
+    ensures ok { OnOk result (Leaves (Does (state_of m.old) event.now)
+        (state_of m.old) outs.old.items (state_of m.new) outs.new.items) }
+    ensures err { OnErr result (Stays (state_of m.old) outs.old.items (state_of m.new) outs.new.items) }
+{
+    match event {
+        Event::Ingress => do_next(m, outs),
+        Event::Work(worker) => work(m, *worker, outs),
+        Event::Hear {
+            moment,
+            endpoint,
+            bytes,
+        } => {
+            if m.is_busy() {
+                return busy(m, outs);
+            }
+            hear(m, *moment, *endpoint, bytes, outs)
+        }
+        Event::Tick { moment } => {
+            if m.is_busy() {
+                return busy(m, outs);
+            }
+            tick(m, *moment)
+        }
+        Event::Select { moment, leg, on } => {
+            if m.is_busy() {
+                return busy(m, outs);
+            }
+            select(m, *moment, *leg, *on, outs)
+        }
+    }
+}
+
+/// Nothing is taken in.
+fn busy(m: &Machine, outs: &mut Vec<Out>) -> Result<(), AllocError>
+    ensures ok { OnOk result (Leaves (λ h. h ≡ giving (state_of m.now) (Busy ∷ []))
+        (state_of m.now) outs.old.items (state_of m.now) outs.new.items) }
+    ensures err { OnErr result (outs.new.items ≡ outs.old.items) }
+{
+    let _lost = m.lost;
+    let _tmmbns = m.tmmbns;
+    outs.push(Out::Busy)?;
+    Ok(())
+}

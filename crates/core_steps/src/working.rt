@@ -1,0 +1,254 @@
+//! What a worker does: it takes a job, does the job in its hand, or sends a notification.
+
+ghost use Rattle.std.specs.Prelude.{◌≡◌, ◌≤◌, ◌<◌, ◌++◌, ◌∷◌, [], length, slice_get, vec_len, vec_capacity, IfOk, IfSome, OnOk, OnErr};
+ghost use Rattle.rtcp_compound.specs.declared.writer.TheConstants.{CNAME_LIMIT};
+ghost use Rattle.rate_desk.specs.Call.{HasStay};
+ghost use Rattle.core_steps.specs.declared.output.Out.TheVariants.{Send};
+ghost use Rattle.core_steps.specs.Legs.{job_datagrams, legs_after};
+ghost use Rattle.core_steps.specs.Machine.{state_of, setup_of, worker_state};
+ghost use Rattle.core_steps.specs.Plan.{out_of, outs_of};
+ghost use Rattle.core_steps.specs.Rule.{Works};
+ghost use Rattle.core_steps.specs.Run.{Leaves, Stays};
+ghost use Rattle.core_steps.specs.Turns.{asks_by, AsksOf, IsCallable, IsTold, Turns};
+
+use crate::asking::{ask, picture_call, stay_call};
+use crate::bytes::Bytes;
+use crate::job::Job;
+use crate::legs::Legs;
+use crate::machine::{Hand, Machine, Setup, Worker};
+use crate::notification::notify;
+use crate::output::Out;
+use crate::plan::{Plan, Planned};
+use members::Row;
+use rate_desk::{Call, Change, Desk};
+use std::alloc::{AllocError, Global};
+use tmmbr_tuple::Tuple;
+
+/// One step of the worker of this number.
+pub(crate) fn work(m: &mut Machine, worker: u16, outs: &mut Vec<Out>) -> Result<(), AllocError>
+    ensures ok { OnOk result (Leaves (Works (state_of m.old) worker (slice_get (state_of m.old).workers worker))
+        (state_of m.old) outs.old.items (state_of m.new) outs.new.items) }
+    ensures err { OnErr result (Stays (state_of m.old) outs.old.items (state_of m.new) outs.new.items) }
+{
+    let _counts = (m.lost, m.tmmbns);
+    outs.reserve(1)?;
+    let at = usize::from(worker);
+    let workers = m.workers.as_mut_slice();
+    if at < workers.len() {
+        let (desks, rows) = (m.desks.as_mut_slice(), m.rows.as_slice());
+        turn(
+            m.alloc,
+            &m.setup,
+            desks,
+            rows,
+            &mut m.plan,
+            &mut workers[at],
+            outs,
+        )
+    } else {
+        outs.push_reserved(Out::Idle);
+        Ok(())
+    }
+}
+
+/// What the worker does with its hand; there is room for one thing to give out.
+fn turn(
+    alloc: Global,
+    setup: &Setup,
+    desks: &mut [Desk],
+    rows: &[Row],
+    plan: &mut Plan,
+    w: &mut Worker,
+    outs: &mut Vec<Out>,
+) -> Result<(), AllocError>
+    requires { vec_len outs.old < vec_capacity outs.old }
+    ensures ok { OnOk result (Turns (setup_of setup.now) rows.now desks.old desks.new
+        (worker_state w.old) (worker_state w.new) outs.old.items outs.new.items) }
+    ensures err { OnErr result ((desks.new ≡ desks.old) × (worker_state w.new ≡ worker_state w.old)
+        × (outs.new.items ≡ outs.old.items)) }
+{
+    match &w.hand {
+        Hand::Telling(notification) => {
+            notify(
+                alloc,
+                &setup.links,
+                &setup.head,
+                rows,
+                notification,
+                &w.effect,
+                outs,
+            )?;
+            w.hand = Hand::Free;
+            Ok(())
+        }
+        Hand::Doing(job) => match asked_by(setup, job) {
+            Asks::Desk(publisher, leg, call) => {
+                ask_desk(desks, publisher, leg, &call, w, outs);
+                Ok(())
+            }
+            Asks::Nobody => {
+                w.hand = Hand::Free;
+                Ok(())
+            }
+            Asks::Legs => {
+                let cname = setup.head.cname();
+                forward(alloc, cname, rows, job, plan, &mut w.legs, outs)?;
+                w.hand = Hand::Free;
+                Ok(())
+            }
+        },
+        Hand::Free => match w.jobs.pop() {
+            Some(job) => {
+                w.hand = Hand::Doing(job);
+                Ok(())
+            }
+            None => {
+                outs.push_reserved(Out::Idle);
+                Ok(())
+            }
+        },
+    }
+}
+
+/// Whom a job asks.
+enum Asks {
+    /// A publisher's desk, by this leg where a rate is asked for.
+    Desk(u16, Option<u16>, Call),
+    /// A leg or a stay that isn't there.
+    Nobody,
+    /// The worker's legs.
+    Legs,
+}
+
+/// Whom the job asks.
+fn asked_by(setup: &Setup, job: &Job) -> Asks
+    ensures value { AsksOf setup.now.links job.now result }
+    ensures stay { IsCallable result }
+{
+    match job {
+        Job::Request { leg, stay, word } => {
+            let change = Change::Request(Tuple::from_word(*word));
+            asks_by(Some(*leg), stay_call(setup, *leg, *stay, change))
+        }
+        Job::Pli { leg, moment } => asks_by(None, picture_call(setup, *leg, *moment)),
+        Job::Packet { .. } => Asks::Legs,
+        Job::Resend { .. } => Asks::Legs,
+        Job::Report { .. } => Asks::Legs,
+    }
+}
+
+/// The call of a desk, where there is one, by this leg where a rate is asked for.
+fn asks_by(leg: Option<u16>, called: Option<(u16, Call)>) -> Asks
+    requires { IfSome called (λ c. HasStay c.1) }
+    ensures value { result ≡ asks_by leg called }
+    ensures stay { IsCallable result }
+{
+    match called {
+        Some((publisher, call)) => Asks::Desk(publisher, leg, call),
+        None => Asks::Nobody,
+    }
+}
+
+/// Asks the desk; what is to be told stays in the worker's hand.
+fn ask_desk(
+    desks: &mut [Desk],
+    publisher: u16,
+    leg: Option<u16>,
+    call: &Call,
+    w: &mut Worker,
+    outs: &mut Vec<Out>,
+)
+    requires stay { HasStay call.now }
+    requires room { vec_len outs.old < vec_capacity outs.old }
+    ensures { IsTold publisher leg call.now desks.old desks.new
+        (worker_state w.old) (worker_state w.new) outs.old.items outs.new.items }
+{
+    match ask(desks, publisher, leg, call, &mut w.effect, outs) {
+        Some(notification) => w.hand = Hand::Telling(notification),
+        None => w.hand = Hand::Free,
+    }
+}
+
+/// Does a job on the legs: what it gives out is copied first, so that want of memory changes nothing.
+fn forward(
+    alloc: Global,
+    cname: &[u8],
+    rows: &[Row],
+    job: &Job,
+    plan: &mut Plan,
+    legs: &mut Legs,
+    outs: &mut Vec<Out>,
+) -> Result<(), AllocError>
+    requires { length cname.now ≤ CNAME_LIMIT }
+    ensures outs { OnOk result (outs.new.items ≡ outs.old.items ++ job_datagrams cname.now rows.now legs.old job.now) }
+    ensures legs { OnOk result (legs.new ≡ legs_after rows.now legs.old job.now) }
+    ensures err { OnErr result ((legs.new ≡ legs.old) × (outs.new.items ≡ outs.old.items)) }
+{
+    legs.plan(alloc, cname, rows, job, plan)?;
+    let mut given = planned_outs(alloc, legs, plan.as_slice())?;
+    outs.append(&mut given)?;
+    legs.apply(plan);
+    Ok(())
+}
+
+/// What a plan on these legs gives out.
+fn planned_outs(alloc: Global, legs: &Legs, plan: &[Planned]) -> Result<Vec<Out>, AllocError>
+    ensures { IfOk result (λ given. given.items ≡ outs_of legs.now plan.now) }
+{
+    let mut given = Vec::with_capacity(alloc, plan.len())?;
+    for planned in plan {
+        give(alloc, legs, planned, &mut given)?;
+    }
+    Ok(given)
+}
+
+/// Appends what one thing that is planned gives out.
+fn give(
+    alloc: Global,
+    legs: &Legs,
+    planned: &Planned,
+    given: &mut Vec<Out>,
+) -> Result<(), AllocError>
+    ensures { OnOk result (given.new.items ≡ given.old.items ++ out_of legs.now planned.now) }
+{
+    match planned {
+        Planned::Forward {
+            endpoint,
+            bytes,
+            ..
+        } => send(alloc, *endpoint, bytes.as_slice(), given),
+        Planned::Resend {
+            place,
+            endpoint,
+            seq,
+            ..
+        } => match legs.kept(*place, *seq) {
+            Some(bytes) => send(alloc, *endpoint, bytes, given),
+            None => Ok(()),
+        },
+        Planned::Report { endpoint, bytes } => send(alloc, *endpoint, bytes.as_slice(), given),
+        Planned::Skip { leg, skip } => {
+            given.push(Out::Skip {
+                leg: *leg,
+                skip: *skip,
+            })?;
+            Ok(())
+        }
+        Planned::Miss { leg, seq } => {
+            given.push(Out::Miss {
+                leg: *leg,
+                seq: *seq,
+            })?;
+            Ok(())
+        }
+    }
+}
+
+/// These bytes go to this endpoint.
+fn send(alloc: Global, endpoint: u16, bytes: &[u8], given: &mut Vec<Out>) -> Result<(), AllocError>
+    ensures { OnOk result (given.new.items ≡ given.old.items ++ Send endpoint bytes.now ∷ []) }
+{
+    let bytes = Bytes::copy_of(alloc, bytes)?;
+    given.push(Out::Send { endpoint, bytes })?;
+    Ok(())
+}

@@ -1,0 +1,248 @@
+//! The unit as one machine.
+
+ghost use Rattle.std.specs.Prelude.{◌≡◌, ◌≤◌, ◌<◌, All, length, map, sum_by, IfOk, slice_get, Some};
+ghost use Rattle.routes.specs.Rows.{opening_rows};
+ghost use Rattle.rate_desk.specs.declared.effect.Effect.{Effect as EffectValue};
+ghost use Rattle.members.specs.declared.settings.TheConstants.{MAX_WORKERS};
+ghost use Rattle.core_steps.specs.Links.{table_of};
+ghost use Rattle.core_steps.specs.Machine.{state_of, setup_of, worker_state, hand_in};
+ghost use Rattle.core_steps.specs.Waits.{as_counted, hand_count};
+ghost use Rattle.core_steps.specs.Opening.{setup_by, IsNewDesk, IsNewWorker, AreNewWorkers, IsNewWorld};
+
+use crate::head::Head;
+use crate::legs::Legs;
+use crate::links::Links;
+use crate::machine::{Hand, Machine, Setup, Worker};
+use crate::plan::Plan;
+use crate::ring::JobRing;
+use crate::tasks::Tasks;
+use members::{Room, Row, Settings};
+use rate_desk::{Desk, Effect};
+use std::alloc::{AllocError, Global};
+use std::marker::Model;
+
+/// The unit as one machine: the room, the tasks of the ingress, the desks, the route table, and the workers with their
+/// rings of jobs and their legs.
+#[derive(Debug, Drop)]
+pub struct World {
+    pub(crate) machine: Machine,
+}
+
+impl Model for World {
+    ghost use Rattle.core_steps.specs.World.{WorldState};
+    ghost use Rattle.core_steps.specs.Machine.{state_of};
+
+    ghost Value = { WorldState };
+
+    ghost view = { λ w. state_of w.machine };
+}
+
+/// What waits: tasks and the notification of the ingress, jobs in all rings, and workers with a job or a notification in hand.
+#[derive(Clone, Copy, Debug, PartialEq, Eq)]
+pub struct Waiting {
+    pub tasks: usize,
+    pub jobs: usize,
+    pub hands: usize,
+}
+
+/// A desk with an empty history.
+fn new_desk(alloc: Global, settings: &Settings) -> Result<Desk, AllocError>
+    ensures { IfOk result (IsNewDesk settings.now) }
+{
+    Desk::new(alloc, settings.pli_gap_ms(), settings.request_ms())
+}
+
+/// A desk for each endpoint.
+fn new_desks(alloc: Global, settings: &Settings) -> Result<Vec<Desk>, AllocError>
+    ensures count { IfOk result (λ desks. length desks.items ≡ length settings.now.endpoints) }
+    ensures each { IfOk result (λ desks. All (IsNewDesk settings.now) desks.items) }
+{
+    let count = settings.endpoints().len();
+    let mut desks = Vec::with_capacity(alloc, count)?;
+    for made in 0..count {
+        desks.push(new_desk(alloc, settings)?)?;
+    }
+    Ok(desks)
+}
+
+/// The worker with this number, which has nothing to do.
+fn new_worker(
+    alloc: Global,
+    settings: &Settings,
+    links: &Links,
+    number: u16,
+) -> Result<Worker, AllocError>
+    requires { links.now ≡ table_of settings.now }
+    ensures { IfOk result (λ w. IsNewWorker settings.now number (worker_state w)) }
+{
+    let ring = settings.ring() as usize;
+    Ok(Worker {
+        jobs: JobRing::new(alloc)?,
+        hand: Hand::Free,
+        effect: Effect::new(),
+        legs: Legs::new(alloc, links, ring, number)?,
+    })
+}
+
+/// The workers of these settings.
+fn new_workers(alloc: Global, settings: &Settings, links: &Links) -> Result<Vec<Worker>, AllocError>
+    requires { links.now ≡ table_of settings.now }
+    ensures { IfOk result (λ workers. AreNewWorkers settings.now links.now.workers (map worker_state workers.items)) }
+{
+    let mut workers = Vec::new(alloc);
+    for number in 0..links.workers() {
+        workers.push(new_worker(alloc, settings, links, number)?)?;
+    }
+    Ok(workers)
+}
+
+/// A row for each of so many legs, on which nothing stands.
+fn new_rows(alloc: Global, legs: usize) -> Result<Vec<Row>, AllocError>
+    ensures { IfOk result (λ rows. rows.items ≡ opening_rows legs) }
+{
+    let row = Row {
+        stay: 0,
+        turn: 0,
+        on: false,
+    };
+    let rows = vec![in alloc; row; legs]?;
+    Ok(rows)
+}
+
+/// What the settings say once and for all.
+fn new_setup(alloc: Global, settings: &Settings) -> Result<Setup, AllocError>
+    ensures { IfOk result (λ setup. setup_of setup ≡ setup_by settings.now) }
+{
+    Ok(Setup {
+        links: Links::new(alloc, settings)?,
+        head: Head::new(alloc, settings.unit_ssrc(), settings.cname())?,
+        request_ms: settings.request_ms(),
+        report_ms: settings.report_ms(),
+    })
+}
+
+/// The machine of these settings.
+fn new_machine(alloc: Global, settings: &Settings) -> Result<Machine, AllocError>
+    ensures { IfOk result (λ m. IsNewWorld settings.now (state_of m)) }
+{
+    let setup = new_setup(alloc, settings)?;
+    let workers = new_workers(alloc, settings, &setup.links)?;
+    let rows = new_rows(alloc, setup.links.legs().len())?;
+    let room = Room::new(alloc, settings)?;
+    let desks = new_desks(alloc, settings)?;
+    Ok(Machine {
+        alloc,
+        setup,
+        room,
+        tasks: Tasks::new(alloc),
+        pending: None,
+        effect: Effect::new(),
+        desks,
+        rows,
+        workers,
+        reported: 0,
+        lost: 0,
+        tmmbns: 0,
+        asks: Vec::new(alloc),
+        plan: Plan::new(alloc),
+    })
+}
+
+/// How many jobs wait in the rings of these workers, as far as that can be counted.
+fn jobs_waiting(workers: &[Worker]) -> usize
+    ensures { result ≡ as_counted (sum_by (λ s. length s.jobs) (map worker_state workers.now)) }
+{
+    let mut jobs: usize = 0;
+    for worker in workers {
+        let more = worker.jobs.len();
+        jobs = jobs.saturating_add(more);
+    }
+    jobs
+}
+
+/// Whether anything is in the hand: 1 or 0.
+fn hand_full(hand: &Hand) -> usize
+    ensures value { (e : EffectValue) → result ≡ hand_count (hand_in e hand.now) }
+    ensures limit { result ≤ 1 }
+{
+    match hand {
+        Hand::Free => 0,
+        Hand::Doing(_) => 1,
+        Hand::Telling(_) => 1,
+    }
+}
+
+/// How many of these workers have something in hand, as far as that can be counted.
+fn hands_full(workers: &[Worker]) -> usize
+    ensures { result ≡ as_counted (sum_by (λ s. hand_count s.hand) (map worker_state workers.now)) }
+{
+    let mut hands: usize = 0;
+    for worker in workers {
+        let more = hand_full(&worker.hand);
+        hands = hands.saturating_add(more);
+    }
+    hands
+}
+
+impl World {
+    ghost use Rattle.core_steps.specs.Waits.{waiting_in};
+
+    /// The world of these settings: nobody is present, and nothing waits. Refused for want of memory alone.
+    pub fn new(alloc: Global, settings: &Settings) -> Result<World, AllocError>
+        ensures { IfOk result (IsNewWorld settings.now) }
+    {
+        Ok(World {
+            machine: new_machine(alloc, settings)?,
+        })
+    }
+
+    /// How many publishers have a desk: each endpoint.
+    pub fn publishers(&self) -> usize
+        ensures { result ≡ length self.now.desks }
+    {
+        self.machine.desks.len()
+    }
+
+    /// The desk of this publisher.
+    pub fn desk(&self, publisher: u16) -> &Desk
+        requires { publisher < length self.now.desks }
+        ensures { slice_get self.now.desks publisher ≡ Some result.now }
+    {
+        &self.machine.desks[usize::from(publisher)]
+    }
+
+    /// The published rows, one for each leg.
+    pub fn rows(&self) -> &[Row]
+        ensures { result.now ≡ self.now.rows }
+    {
+        self.machine.rows.as_slice()
+    }
+
+    /// What waits.
+    pub fn waiting(&self) -> Waiting
+        ensures { result ≡ waiting_in self.now }
+    {
+        let m = &self.machine;
+        let workers = m.workers.as_slice();
+        let pending = if m.pending.is_some() { 1 } else { 0 };
+        Waiting {
+            tasks: m.tasks.count() + pending,
+            jobs: jobs_waiting(workers),
+            hands: hands_full(workers),
+        }
+    }
+
+    /// How many jobs were given up, since their worker's ring was full; it stays at `u64::MAX` once there.
+    pub fn lost(&self) -> u64
+        ensures { result ≡ self.now.lost }
+    {
+        self.machine.lost
+    }
+
+    /// How many TMMBNs were heard; it stays at `u64::MAX` once there.
+    pub fn tmmbn_heard(&self) -> u64
+        ensures { result ≡ self.now.tmmbns }
+    {
+        self.machine.tmmbns
+    }
+}
