@@ -1,8 +1,9 @@
 //! The unit as one machine: datagrams, moments and selections go in, one atomic step an event; datagrams and
 //! refusals come out (RFC 7667, section 3.7). Nothing reads a clock, starts a thread or opens a socket.
 //!
-//! Read `world` and `event` first. `legs` is what one worker sends on, `notification` what follows from a desk's
-//! call, `intake` what a datagram says.
+//! Read `event` and `output` first, then `world` and `runner`. `hearing`, `ingress` and `working` are the three kinds of
+//! step; `legs` is what one worker sends on, `notification` what follows from a desk's call, `intake` what a datagram
+//! says, `laws` what holds of every run.
 #![tactic(auto)]
 
 mod asking;
