@@ -1,4 +1,6 @@
 //! Events in, lines out: the machine's examples, step by step.
+ghost use Rattle.std.specs.Prelude.{◌<◌};
+
 use super::*;
 use members::{LegParts, Parts, Settings};
 use rtcp_feedback::write_tmmbn;

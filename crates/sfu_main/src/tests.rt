@@ -308,8 +308,10 @@ fn prints_examples_of_several(rt: HostRuntime) -> Result<(), Fail> {
 /// Owners 1 to `count`, each with the least rate and i * i more, and i bytes of overhead.
 fn rising(alloc: Global, count: usize, least: usize) -> Result<String, AllocError> {
     let mut lines = String::new(alloc);
-    for i in 1..count + 1 {
-        lines.push_str(asking(alloc, i, (least + i * i) * 512 + i)?.as_str())?;
+    for i in 1..count.saturating_add(1) {
+        let rate = least.wrapping_add(i.wrapping_mul(i));
+        let word = rate.wrapping_mul(512).wrapping_add(i);
+        lines.push_str(asking(alloc, i, word)?.as_str())?;
     }
     Ok(lines)
 }
@@ -320,7 +322,7 @@ fn assert_shows_all(rt: &impl Abort, printed: &str, count: usize, shown: [&str; 
     assert!(rt; printed.starts_with(tmmbn));
     assert_eq!(rt; printed.lines().nth(1), Some(first));
     assert_eq!(rt; printed.lines().last(), Some(last));
-    assert_eq!(rt; printed.lines().count(), count + 1);
+    assert_eq!(rt; printed.lines().count(), count.saturating_add(1));
 }
 
 #[test]
