@@ -19,11 +19,12 @@ use Rattle.rate_desk.specs.State.{DeskState}
 use Rattle.routes.specs.Rows.{changes_by, changed}
 use Rattle.core_steps.specs.declared.job.Job.{Job}
 use Rattle.core_steps.specs.declared.output.Out.{Out}
-use Rattle.core_steps.specs.declared.output.Out.TheVariants.{Idle, Lost}
+use Rattle.core_steps.specs.declared.output.Out.TheVariants.{Send, Idle, Lost}
 use Rattle.core_steps.specs.declared.ring.TheConstants.{JOB_LIMIT}
 use Rattle.core_steps.specs.declared.machine.Worker.{Worker}
 use Rattle.core_steps.specs.Machine.{worker_state}
 use Rattle.core_steps.specs.Asking.{desks_after, pending_after, refusals_after, Asked}
+use Rattle.core_steps.specs.Duties.{Reports}
 use Rattle.core_steps.specs.Head.{upstream_report}
 use Rattle.core_steps.specs.World.{WorldState, WorkerState, Task, order, push, report, Pending}
 use Rattle.core_steps.specs.Happening.{RecordedCall, no_worker, giving, counted, world_after, workers_by}
@@ -337,6 +338,20 @@ reported w p block room tasks outs all lost tmmbns is answer becomes given = rec
       ∙ settled w (after_block w.room p) tasks w.pending w.desks w.rows w.workers w.lost 0 is (counted-none w.lost lost) tmmbns;
   given = given;
 }
+
+-- the same, where the report was written before the task was done
+pub reported_by : (w v : WorldState) (p : ℕ) (bytes : List ℕ) (tasks : List Task) (outs all : List Out)
+    → w.lost < 2 ^ 64 → w.tmmbns < 2 ^ 64 → Reports w p v bytes → tasks ≡ drop 1 v.tasks → all ≡ outs ++ Send p bytes ∷ []
+    → Leaves (IsReporting w p) w outs (record v { tasks = tasks }) all
+reported_by w v p bytes tasks outs all lost tmmbns r is given =
+    let was : drop 1 v.tasks ≡ drop 1 w.tasks = ap (λ (s : WorldState). drop 1 s.tasks) r.room in
+    let left : record v { tasks = tasks }
+    ≡ with_parts w (after_block w.room p) tasks w.pending w.desks w.rows w.workers w.lost w.tmmbns =
+    ap (λ (s : WorldState). record s { tasks = tasks }) r.room in
+    let L : WorldState → Type 0 = λ s. Leaves (IsReporting w p) w outs s all in
+    subst L (sym left)
+    (reported w p r.block (after_block w.room p) tasks outs all lost tmmbns (is ∙ was) r.answer refl
+    (given ∙ ap (λ (b : List ℕ). outs ++ Send p b ∷ []) r.datagram))
 
 -- ---- steps that may fail
 

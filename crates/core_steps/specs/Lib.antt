@@ -16,6 +16,8 @@ pub mod Rule
 pub mod Run
 pub mod Opening
 pub mod Laws
+pub mod Traces
+pub mod Numbered
 pub mod FollowUps
 pub mod Machine
 pub mod Waits
@@ -25,3 +27,5 @@ pub mod Drafts
 pub mod Pushing
 pub mod Turns
 pub mod Refusals
+pub mod Duties
+pub mod Quiet

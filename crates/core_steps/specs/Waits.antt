@@ -1,5 +1,6 @@
 -- What waits in a world.
-use Rattle.std.specs.Prelude.{ℕ, ◌+◌, ◌-◌, ◌^◌, min, length, sum_by, Option, None, Some}
+use Rattle.std.specs.Prelude.{ℕ, ◌+◌, ◌-◌, ◌^◌, min, Bool, true, false, List, [], ◌∷◌, length, slice_get, sum_by, Option, None, Some}
+use Rattle.core_steps.specs.declared.job.Job.{Job}
 use Rattle.core_steps.specs.declared.world.Waiting.{Waiting}
 use Rattle.core_steps.specs.World.{WorldState, WorkerState, Pending, Hand, free, doing, telling}
 
@@ -23,3 +24,18 @@ waiting_in w = record {
   jobs = as_counted (sum_by (λ (s : WorkerState). length s.jobs) w.workers);
   hands = as_counted (sum_by (λ (s : WorkerState). hand_count s.hand) w.workers);
 }
+
+-- a job waits, or something is in the hand
+abbrev pub works_more : Hand → List Job → Bool
+works_more free [] = false
+works_more free (job ∷ jobs) = true
+works_more (doing job) jobs = true
+works_more (telling p) jobs = true
+
+abbrev pub worker_has_work : Option WorkerState → Bool
+worker_has_work None = false
+worker_has_work (Some s) = works_more s.hand s.jobs
+
+-- the worker of this number is there, and has something to do
+abbrev pub has_work : WorldState → ℕ → Bool
+has_work w k = worker_has_work (slice_get w.workers k)

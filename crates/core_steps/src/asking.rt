@@ -10,7 +10,6 @@ ghost use Rattle.core_steps.specs.Notification.{tells};
 ghost use Rattle.core_steps.specs.Rule.{refusals};
 
 use crate::links::Links;
-use crate::machine::Setup;
 use crate::notification::Notification;
 use crate::output::{DeskRefusal, Out, Refusal};
 use rate_desk::{Answer, Call, Change, Desk, Effect, HistoryFull, Recorded, Signal};
@@ -18,15 +17,15 @@ use tmmbr_tuple::Ssrc;
 
 /// The publisher of a leg, and what its subscriber asks it for in a stay; `None` where there is no such leg, or the stay
 /// is 0.
-pub(crate) fn stay_call(setup: &Setup, leg: u16, stay: u64, change: Change) -> Option<(u16, Call)>
-    ensures value { result ≡ stay_call setup.now.links leg stay change }
+pub fn stay_call(links: &Links, leg: u16, stay: u64, change: Change) -> Option<(u16, Call)>
+    ensures value { result ≡ stay_call links.now leg stay change }
     ensures stay { IfSome result (λ c. HasStay c.1) }
 {
     if stay == 0 {
         return None;
     }
-    let link = setup.links.leg(leg)?;
-    let owner = source_of(&setup.links, link.subscriber);
+    let link = links.leg(leg)?;
+    let owner = source_of(links, link.subscriber);
     Some((
         link.publisher,
         Call::Stay {
@@ -46,11 +45,11 @@ fn source_of(links: &Links, endpoint: u16) -> Ssrc
 }
 
 /// The publisher of a leg, and that a picture of it is wanted; `None` where there is no such leg.
-pub(crate) fn picture_call(setup: &Setup, leg: u16, moment: u64) -> Option<(u16, Call)>
-    ensures value { result ≡ picture_call setup.now.links leg moment }
+pub fn picture_call(links: &Links, leg: u16, moment: u64) -> Option<(u16, Call)>
+    ensures value { result ≡ picture_call links.now leg moment }
     ensures stay { IfSome result (λ c. HasStay c.1) }
 {
-    let link = setup.links.leg(leg)?;
+    let link = links.leg(leg)?;
     Some((
         link.publisher,
         Call::Time {
@@ -78,7 +77,7 @@ fn refuse(answer: &Answer, outs: &mut Vec<Out>)
 }
 
 /// What is to be told of a recorded call, by the leg that asked for a rate, where one did.
-fn notification_of(publisher: u16, leg: Option<u16>, answer: &Answer) -> Notification
+pub fn notification_of(publisher: u16, leg: Option<u16>, answer: &Answer) -> Notification
     ensures { result ≡ told_of publisher leg answer.now }
 {
     match answer {
@@ -96,7 +95,7 @@ fn notification_of(publisher: u16, leg: Option<u16>, answer: &Answer) -> Notific
 }
 
 /// The notification, where there is anything to tell with this effect.
-fn waiting(notification: Notification, effect: &Effect) -> Option<Notification>
+pub fn waiting(notification: Notification, effect: &Effect) -> Option<Notification>
     ensures { (e : TheEffect) → option_map (pending_with e) result
         ≡ (if tells notification effect.now then Some (pending_with e notification) else None) }
 {

@@ -14,7 +14,6 @@ ghost use Rattle.core_steps.specs.Intake.{media as Packet, leaves as Leaving, co
 ghost use Rattle.core_steps.specs.Rule.{is_busy};
 ghost use Rattle.core_steps.specs.Run.{Leaves, Stays};
 
-use crate::bytes::Bytes;
 use crate::intake::{Ask, Control, Heard, Unheard, hear_datagram};
 use crate::links::Links;
 use crate::machine::{Machine, Setup};
@@ -29,7 +28,7 @@ pub(crate) fn hear(
     m: &mut Machine,
     moment: u64,
     endpoint: u16,
-    bytes: &Bytes,
+    bytes: &[u8],
     outs: &mut Vec<Out>,
 ) -> Result<(), AllocError>
     requires { is_busy (state_of m.old) ≡ false }
@@ -40,7 +39,7 @@ pub(crate) fn hear(
     m.knows_counts();
     let own = own_source(&m.setup.links, endpoint);
     m.asks.clear();
-    match hear_datagram(bytes.as_slice(), own, &mut m.asks) {
+    match hear_datagram(bytes, own, &mut m.asks) {
         Ok(
             Heard::Media {
                 ssrc,
@@ -70,7 +69,7 @@ fn hear_media(
     m: &mut Machine,
     moment: u64,
     endpoint: u16,
-    bytes: &Bytes,
+    bytes: &[u8],
     packet: (Ssrc, u16, u32),
     outs: &mut Vec<Out>,
 ) -> Result<(), AllocError>
@@ -84,7 +83,7 @@ fn hear_media(
     outs.reserve(1)?;
     let workers = m.setup.links.workers();
     m.tasks.prepare(usize::from(workers))?;
-    m.tasks.take_datagram(bytes.as_slice())?;
+    m.tasks.take_datagram(bytes)?;
     match m.room.hear(moment, endpoint, ssrc, &mut m.tasks.orders) {
         Ok(()) => {
             push_packet(

@@ -1,10 +1,11 @@
 //! What the ingress does: the notification that waits, or the oldest task.
 
-ghost use Rattle.std.specs.Prelude.{◌≡◌, ◌<◌, ◌++◌, ◌∷◌, [], None, Some, nat_le, length, if◌then◌else◌, map, slice_get, slice_set, vec_len, vec_capacity, OnOk, OnErr};
+ghost use Rattle.std.specs.Prelude.{◌≡◌, ◌<◌, ◌++◌, ◌∷◌, [], None, Some, nat_le, length, if◌then◌else◌, map, slice_get, slice_set, vec_len, vec_capacity, IfOk, OnOk, OnErr};
 ghost use Rattle.rate_desk.specs.Call.{HasStay};
 ghost use Rattle.rate_desk.specs.declared.call.Call.TheVariants.{Time};
 ghost use Rattle.core_steps.specs.declared.job.Job.TheVariants.{Packet};
 ghost use Rattle.core_steps.specs.DeskCalls.{stay_call};
+ghost use Rattle.core_steps.specs.Duties.{Reports};
 ghost use Rattle.core_steps.specs.Machine.{state_of, task_of, task_in, worker_state, pending_with};
 ghost use Rattle.core_steps.specs.Pushing.{Pushed};
 ghost use Rattle.core_steps.specs.Rule.{AsksDesk, OrderAsks, DoesTask, DoesNext, IsReporting, pushing};
@@ -140,7 +141,7 @@ fn ask_in_stay(m: &mut Machine, leg: u16, stay: u64, change: Change, outs: &mut 
         (OrderAsks (state_of m.old) t (stay_call m.old.setup.links leg stay change))
         (state_of m.old) outs.old.items (state_of m.new) outs.new.items }
 {
-    match stay_call(&m.setup, leg, stay, change) {
+    match stay_call(&m.setup.links, leg, stay, change) {
         Some((publisher, call)) => ask_desk(m, publisher, &call, outs),
         None => {
             m.knows_counts();
@@ -294,13 +295,21 @@ fn report(m: &mut Machine, publisher: u16, outs: &mut Vec<Out>) -> Result<(), Al
         (state_of m.new) outs.new.items) }
 {
     m.knows_counts();
-    let draft = m.setup.head.draft(m.alloc)?;
-    let block = m.room.block(publisher);
-    let bytes = Bytes::new(m.setup.head.fill(draft, block));
+    let bytes = report_on(m, publisher)?;
     outs.push_reserved(Out::Send {
         endpoint: publisher,
         bytes,
     });
     m.tasks.finish();
     Ok(())
+}
+
+/// The report to the publisher, with the block about it.
+pub(crate) fn report_on(m: &mut Machine, publisher: u16) -> Result<Bytes, AllocError>
+    ensures ok { IfOk result (Reports (state_of m.old) publisher (state_of m.new)) }
+    ensures err { OnErr result (state_of m.new ≡ state_of m.old) }
+{
+    let draft = m.setup.head.draft(m.alloc)?;
+    let block = m.room.block(publisher);
+    Ok(Bytes::new(m.setup.head.fill(draft, block)))
 }

@@ -3,11 +3,13 @@
 //!
 //! Read `event` and `output` first, then `world` and `runner`. `hearing`, `ingress` and `working` are the three kinds of
 //! step; `legs` is what one worker sends on, `notification` what follows from a desk's call, `intake` what a datagram
-//! says, `laws` what holds of every run.
+//! says, `duties` the ingress for a driver of its own, `laws` what holds of every run, `quiet` what is live once nothing
+//! waits.
 #![tactic(auto)]
 
 mod asking;
 mod bytes;
+mod duties;
 mod event;
 mod head;
 mod hearing;
@@ -23,6 +25,7 @@ mod notification;
 mod output;
 mod plan;
 mod planning;
+pub mod quiet;
 mod ring;
 pub mod rtp_laws;
 mod runner;
@@ -30,7 +33,9 @@ mod tasks;
 mod working;
 mod world;
 
+pub use asking::{notification_of, picture_call, stay_call, waiting};
 pub use bytes::Bytes;
+pub use duties::{Duty, IngressCore};
 pub use event::Event;
 pub use head::{Head, upstream_report};
 pub use intake::{Ask, Control, Heard, Unheard, hear_datagram, says_one_thing};
@@ -43,6 +48,7 @@ pub use output::{DeskRefusal, Out, Refusal};
 pub use plan::{Plan, Planned};
 pub use ring::JOB_LIMIT;
 pub use runner::{RunFault, run};
+pub use working::{Asks, asked_by};
 pub use world::{Waiting, World};
 
 #[cfg(test)]
@@ -51,5 +57,9 @@ mod intake_tests;
 mod legs_tests;
 #[cfg(test)]
 mod notification_tests;
+#[cfg(test)]
+mod quiet_run_tests;
+#[cfg(test)]
+mod quiet_tests;
 #[cfg(test)]
 mod run_tests;

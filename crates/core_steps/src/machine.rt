@@ -71,6 +71,21 @@ pub(crate) enum Hand {
     Telling(Notification),
 }
 
+impl Worker {
+    ghost use Rattle.core_steps.specs.Machine.{worker_state};
+    ghost use Rattle.core_steps.specs.Waits.{works_more};
+
+    /// Whether a job waits in its ring, or anything is in its hand.
+    pub(crate) fn has_work(&self) -> bool
+        ensures { result ≡ works_more (worker_state self.now).hand (worker_state self.now).jobs }
+    {
+        match self.hand {
+            Hand::Free => self.jobs.len() > 0,
+            Hand::Doing(_) | Hand::Telling(_) => true,
+        }
+    }
+}
+
 impl Machine {
     ghost use Rattle.core_steps.specs.Machine.{state_of};
     ghost use Rattle.core_steps.specs.Rule.{is_busy};

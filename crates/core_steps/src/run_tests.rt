@@ -14,7 +14,7 @@ const HEAD: &str = "80c900010000000981ca0003000000090103736675000000";
 
 /// What is done with the machine.
 #[derive(Clone, Copy)]
-enum Step<'a> {
+pub(crate) enum Step<'a> {
     Hear(u64, u16, &'a str),
     Tick(u64),
     Select(u64, u16, bool),
@@ -26,10 +26,10 @@ enum Step<'a> {
     Show(u16),
 }
 
-use Step::{Hear, Ingress, Select, Settle, Show, Tick, Work};
+pub(crate) use Step::{Hear, Ingress, Select, Settle, Show, Tick, Work};
 
 /// The settings of the examples: endpoints 16 and 17, and a leg of what the first publishes to the second.
-fn settings(
+pub(crate) fn settings(
     alloc: Global,
     timeout_ms: i64,
     report_ms: i64,
@@ -80,7 +80,7 @@ fn bytes_of(alloc: Global, hex: &str) -> Result<Vec<u8>, AllocError> {
 }
 
 /// The ingress until nothing waits for it, then each worker until it is idle.
-fn settle(world: &mut World, outs: &mut Vec<Out>) -> Result<(), Fail> {
+pub(crate) fn settle(world: &mut World, outs: &mut Vec<Out>) -> Result<(), Fail> {
     for _ in 0..10_000 {
         if world.waiting().tasks == 0 {
             break;
@@ -100,7 +100,7 @@ fn settle(world: &mut World, outs: &mut Vec<Out>) -> Result<(), Fail> {
 }
 
 /// Does one step; what it gives out stands in `outs`, what it shows in `text`.
-fn do_step(
+pub(crate) fn do_step(
     alloc: Global,
     world: &mut World,
     step: &Step<'_>,
@@ -163,7 +163,7 @@ fn played(alloc: Global, settings: &Settings, steps: &[Step<'_>]) -> Result<Stri
 }
 
 /// Both endpoints come, and 17 asks 16 for 1000/40.
-const ASKED: [Step<'static>; 6] = [
+pub(crate) const ASKED: [Step<'static>; 6] = [
     Hear(0, 0, "8060000700000bb800000010aabb"),
     Settle,
     Hear(0, 1, "80c9000100000011"),

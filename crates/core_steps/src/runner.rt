@@ -4,6 +4,7 @@ ghost use Rattle.std.specs.Prelude.{◌≡◌, ◌≤◌, ◌∷◌, [], length,
 ghost use Rattle.core_steps.specs.Machine.{state_of};
 ghost use Rattle.core_steps.specs.declared.output.Out.TheVariants.{Busy};
 ghost use Rattle.core_steps.specs.Happening.{giving};
+ghost use Rattle.core_steps.specs.Quiet.{ObeysQuietLaw};
 ghost use Rattle.core_steps.specs.Rule.{Does};
 ghost use Rattle.core_steps.specs.Run.{HasRun, Leaves, Stays};
 ghost use Rattle.core_steps.specs.RunFaults.{done_of};
@@ -26,9 +27,11 @@ pub enum RunFault {
     NoMemory { done: usize },
 }
 
-/// Does the events in order, and appends what goes out.
+/// Does the events in order, and appends what goes out. Where a run from a new world, in one call or several, leaves nothing to
+/// do, gave up no job and met no full history, each live request is the word that was heard last in the stay that stands.
 pub fn run(world: &mut World, events: &[Event], outs: &mut Vec<Out>) -> Result<(), RunFault>
     ensures ok { OnOk result (HasRun events.now world.old outs.old.items world.new outs.new.items) }
+    ensures quiet { OnOk result (ObeysQuietLaw events.now world.old world.new) }
     ensures err { IfErr result (λ fault. (done_of fault ≤ length events.now)
         × HasRun (take (done_of fault) events.now) world.old outs.old.items world.new outs.new.items) }
 {
@@ -66,7 +69,7 @@ fn step(m: &mut Machine, event: &Event, outs: &mut Vec<Out>) -> Result<(), Alloc
             if m.is_busy() {
                 return busy(m, outs);
             }
-            hear(m, *moment, *endpoint, bytes, outs)
+            hear(m, *moment, *endpoint, bytes.as_slice(), outs)
         }
         Event::Tick { moment } => {
             if m.is_busy() {
@@ -84,7 +87,7 @@ fn step(m: &mut Machine, event: &Event, outs: &mut Vec<Out>) -> Result<(), Alloc
 }
 
 /// Nothing is taken in.
-fn busy(m: &Machine, outs: &mut Vec<Out>) -> Result<(), AllocError>
+pub(crate) fn busy(m: &Machine, outs: &mut Vec<Out>) -> Result<(), AllocError>
     ensures ok { OnOk result (Leaves (λ h. h ≡ giving (state_of m.now) (Busy ∷ []))
         (state_of m.now) outs.old.items (state_of m.now) outs.new.items) }
     ensures err { OnErr result (outs.new.items ≡ outs.old.items) }

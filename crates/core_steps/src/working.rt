@@ -15,6 +15,7 @@ use crate::asking::{ask, picture_call, stay_call};
 use crate::bytes::Bytes;
 use crate::job::Job;
 use crate::legs::Legs;
+use crate::links::Links;
 use crate::machine::{Hand, Machine, Setup, Worker};
 use crate::notification::notify;
 use crate::output::Out;
@@ -81,7 +82,7 @@ fn turn(
             w.hand = Hand::Free;
             Ok(())
         }
-        Hand::Doing(job) => match asked_by(setup, job) {
+        Hand::Doing(job) => match asked_by(&setup.links, job) {
             Asks::Desk(publisher, leg, call) => {
                 ask_desk(desks, publisher, leg, &call, w, outs);
                 Ok(())
@@ -111,7 +112,7 @@ fn turn(
 }
 
 /// Whom a job asks.
-enum Asks {
+pub enum Asks {
     /// A publisher's desk, by this leg where a rate is asked for.
     Desk(u16, Option<u16>, Call),
     /// A leg or a stay that isn't there.
@@ -121,16 +122,16 @@ enum Asks {
 }
 
 /// Whom the job asks.
-fn asked_by(setup: &Setup, job: &Job) -> Asks
-    ensures value { AsksOf setup.now.links job.now result }
+pub fn asked_by(links: &Links, job: &Job) -> Asks
+    ensures value { AsksOf links.now job.now result }
     ensures stay { IsCallable result }
 {
     match job {
         Job::Request { leg, stay, word } => {
             let change = Change::Request(Tuple::from_word(*word));
-            asks_by(Some(*leg), stay_call(setup, *leg, *stay, change))
+            asks_by(Some(*leg), stay_call(links, *leg, *stay, change))
         }
-        Job::Pli { leg, moment } => asks_by(None, picture_call(setup, *leg, *moment)),
+        Job::Pli { leg, moment } => asks_by(None, picture_call(links, *leg, *moment)),
         Job::Packet { .. } => Asks::Legs,
         Job::Resend { .. } => Asks::Legs,
         Job::Report { .. } => Asks::Legs,

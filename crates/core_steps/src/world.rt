@@ -185,7 +185,8 @@ fn hands_full(workers: &[Worker]) -> usize
 }
 
 impl World {
-    ghost use Rattle.core_steps.specs.Waits.{waiting_in};
+    ghost use Rattle.core_steps.specs.Rule.{is_busy};
+    ghost use Rattle.core_steps.specs.Waits.{has_work, waiting_in};
 
     /// The world of these settings: nobody is present, and nothing waits. Refused for want of memory alone.
     pub fn new(alloc: Global, settings: &Settings) -> Result<World, AllocError>
@@ -229,6 +230,23 @@ impl World {
             tasks: m.tasks.count() + pending,
             jobs: jobs_waiting(workers),
             hands: hands_full(workers),
+        }
+    }
+
+    /// Whether a task or a notification waits for the ingress.
+    pub fn is_busy(&self) -> bool
+        ensures { result ≡ is_busy self.now }
+    {
+        self.machine.is_busy()
+    }
+
+    /// Whether a job waits in the ring of this worker, or anything is in its hand.
+    pub fn has_work(&self, worker: u16) -> bool
+        ensures { result ≡ has_work self.now worker }
+    {
+        match self.machine.workers.get(usize::from(worker)) {
+            Some(worker) => worker.has_work(),
+            None => false,
         }
     }
 

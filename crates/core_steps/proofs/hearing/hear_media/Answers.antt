@@ -15,7 +15,7 @@ returns-in-Ok-clause-ok c =
     c.args.packet.0.0 c.args.packet.1 c.args.packet.2 c.workers-workers.result c.args.outs.now.items c.reserve.new.self.items c.take_datagram.new.self.orders.items
     c.hear.new.orders.items c.hear.new.self c.received.new.self c.take_datagram.new.self.follow_ups.items
     c.push_packet.new.follow_ups.items _ c.in_ok-reserve.ensures.items c.requires c.knows_counts.ensures.lost c.knows_counts.ensures.tmmbns
-    c.in-Ok.ensures.answers (ap (λ (v : Vec Order). v.items) d.orders ∙ p.orders) (d.datagram ∙ c.as_slice.ensures)
+    c.in-Ok.ensures.answers (ap (λ (v : Vec Order). v.items) d.orders ∙ p.orders) d.datagram
     c.workers-workers.ensures.value (ap (λ (v : Vec FollowUp). v.items) d.follow_ups ∙ p.follow_ups) c.push_packet.ensures
     c.received.ensures
     (tasks_from c.take_datagram.new.self.datagram.items c.hear.new.orders.items c.push_packet.new.follow_ups.items

@@ -1,8 +1,10 @@
-use Rattle.std.proofs.Common.{◌≡◌, sym, refl, ◌∙◌}
+use Rattle.std.proofs.Common.{◌≡◌, ℕ, List, sym, refl, subst, ◌∙◌}
+use Rattle.std.specs.Result.{OnOk}
 use Rattle.core_steps.specs.declared.event.Event.TheVariants.{Hear, Tick, Select, Ingress, Work}
 use Rattle.core_steps.specs.Happening.{Happening}
 use Rattle.core_steps.specs.Hearing.{IsHearing, ticking, selecting}
 use Rattle.core_steps.specs.Machine.{state_of}
+use Rattle.core_steps.specs.Run.{Leaves}
 use Rattle.core_steps.proofs.RunLemmas.{step-leaves, step-busy, step-idle}
 use Rattle.core_steps.proofs.runner.step.Goals as goal
 
@@ -36,7 +38,10 @@ returns-else-is_busy-clause-ok c =
     (state_of c.hear.new.m) c.hear.new.outs.items c.hear.result c.in-Hear.is
     (step-idle (state_of c.args.m.now) (IsHearing (state_of c.args.m.now) c.in-Hear.moment c.in-Hear.endpoint c.in-Hear.bytes)
     c.args.outs.now.items (state_of c.hear.new.m) c.hear.new.outs.items c.hear.result (sym c.is_busy.ensures ∙ c.if-is_busy.false)
-    c.hear.ensures.ok)
+    (let P : List ℕ → Type 0 = λ b. OnOk c.hear.result
+    (Leaves (IsHearing (state_of c.args.m.now) c.in-Hear.moment c.in-Hear.endpoint b) (state_of c.args.m.now) c.args.outs.now.items
+    (state_of c.hear.new.m) c.hear.new.outs.items) in
+    subst P c.as_slice.ensures c.hear.ensures.ok))
 
 pub returns-else-is_busy-clause-err : goal.returns-else-is_busy-clause-err
 returns-else-is_busy-clause-err c = c.hear.ensures.err

@@ -7,7 +7,7 @@ use Rattle.core_steps.proofs.working.asked_by.Goals as goal
 
 pub returns-in-Request-clause-value : goal.returns-in-Request-clause-value
 returns-in-Request-clause-value c =
-    subst (λ (job : Job). AsksOf c.args.setup.now.links job c.asks_by.result) (sym c.in-Request.is) (
+    subst (λ (job : Job). AsksOf c.args.links.now job c.asks_by.result) (sym c.in-Request.is) (
       c.from_word.result,
       c.from_word.ensures.spelled,
       c.asks_by.ensures.value ∙ ap (λ (r : Option (ℕ × DeskCall)). asks_by (Some c.in-Request.leg) r) c.stay_call.ensures.value,

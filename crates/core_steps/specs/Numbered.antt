@@ -1,0 +1,113 @@
+-- What was numbered and kept on each leg over a run.
+use Rattle.std.specs.Prelude.{◌≡◌, ◌==◌, ◌&&◌, ℕ, ◌%◌, ◌^◌, List, [], ◌∷◌, ◌++◌, map, slice_get, slice_index_or, Some, Result, Ok, Err, if◌then◌else◌}
+use Rattle.std.specs.List.{flat_map}
+use Rattle.circular_buffer.specs.Buffer.{keep_last}
+use Rattle.members.specs.declared.order.Row.{Row}
+use Rattle.members.specs.declared.settings.LegSettings.{LegSettings}
+use Rattle.resend_ring.specs.Kept.{Packet as Sent, kept_in_turn}
+use Rattle.rewrite.specs.declared.skip.Skip.{Skip as Cause}
+use Rattle.rewrite.specs.Leg.{Held, new_leg, held_after, history_of}
+use Rattle.rewrite.specs.Numbering.{Packet as Incoming, Entry as Numbered}
+use Rattle.routes.specs.Rows.{opening_row}
+use Rattle.core_steps.specs.declared.job.Job.{Job}
+use Rattle.core_steps.specs.declared.job.Job.TheVariants.{Packet, Request, Resend, Pli, Report}
+use Rattle.core_steps.specs.declared.leg.LegState.{LegState}
+use Rattle.core_steps.specs.Happening.{Happening, Worked, no_worker, world_after}
+use Rattle.core_steps.specs.Rtp.{is_rtp, sequence_number, readdressed_bytes}
+use Rattle.core_steps.specs.World.{WorldState}
+
+-- ---- the jobs that a worker finished, in order, with the rows by which it did
+
+pub record Finished : Type 0 where
+  pub rows : List Row
+  pub job : Job
+
+abbrev pub finished_by : List Row → Job → Finished
+finished_by rows job = record { rows = rows; job = job }
+
+abbrev pub jobs_of_worker : ℕ → Worked → List Job
+jobs_of_worker k d = if d.worker == k then d.finished else []
+
+abbrev pub finished_at : ℕ → WorldState → Happening → List Finished
+finished_at k w h = map (finished_by w.rows) (flat_map (jobs_of_worker k) h.worked)
+
+abbrev pub finished_over : ℕ → WorldState → List Happening → List Finished
+finished_over k w [] = []
+finished_over k w (h ∷ history) = finished_at k w h ++ finished_over k (world_after w h) history
+
+-- ---- the packets among them that a leg took
+
+-- a packet, with the turn of the leg's row as it was taken
+pub record Taken : Type 0 where
+  pub turn : ℕ
+  pub bytes : List ℕ
+
+-- the row of the leg of this number; nothing stands on a leg without a row
+abbrev pub row_at : List Row → ℕ → Row
+row_at rows number = slice_index_or rows number opening_row
+
+-- the leg of this number takes a packet of its publisher, while its row is on
+abbrev pub taken_by : ℕ → LegSettings → List Row → Job → List Taken
+taken_by number l rows (Packet publisher bytes) =
+    if (l.publisher == publisher) && ((row_at rows number).on && is_rtp bytes)
+    then record { turn = (row_at rows number).turn; bytes = bytes } ∷ []
+    else []
+taken_by number l rows (Request leg stay word) = []
+taken_by number l rows (Resend leg stay nack) = []
+taken_by number l rows (Pli leg moment) = []
+taken_by number l rows (Report leg stay sr) = []
+
+abbrev pub taken_on : ℕ → LegSettings → List Finished → List Taken
+taken_on number l jobs = flat_map (λ (f : Finished). taken_by number l f.rows f.job) jobs
+
+-- ---- what the leg makes of them
+
+-- as the leg's numbers see them
+abbrev pub incoming : Taken → Incoming
+incoming t = record { turn = t.turn; seq = sequence_number t.bytes }
+
+-- what the leg answers to them in turn
+abbrev pub answers_to : Held → List Taken → List Numbered
+answers_to held taken = history_of held (map incoming taken)
+
+-- a packet that got a number as it goes out: under the leg's source, with the number's low 16 bits
+abbrev pub sent_as : LegSettings → Taken → Result ℕ Cause → List Sent
+sent_as l t (Ok number) =
+    record { number = number; bytes = readdressed_bytes l.out_ssrc.0 (number % 2 ^ 16) t.bytes } ∷ []
+sent_as l t (Err cause) = []
+
+abbrev pub sent_with : LegSettings → List Taken → List Numbered → List Sent
+sent_with l [] answers = []
+sent_with l (t ∷ taken) [] = []
+sent_with l (t ∷ taken) (a ∷ answers) = sent_as l t a.answer ++ sent_with l taken answers
+
+-- those that got a number, in turn
+abbrev pub sent_on : LegSettings → Held → List Taken → List Sent
+sent_on l held taken = sent_with l taken (answers_to held taken)
+
+-- this holds of the leg at this place, which is there
+pub record AtLeg (P : LegState → Type 0) (legs : List LegState) (place : ℕ) : Type 0 where
+  pub leg : LegState
+  pub there : slice_get legs place ≡ Some leg
+  pub is : P leg
+
+-- The leg once these packets were taken: what it holds of numbers is what they leave of what it held, and it keeps the last of
+-- those that it kept and of those that got a number.
+pub record HasTaken (taken : List Taken) (old new : LegState) : Type 0 where
+  pub number : new.number ≡ old.number
+  pub link : new.link ≡ old.link
+  pub numbers : new.numbers ≡ held_after old.numbers (map incoming taken)
+  pub capacity : new.kept.capacity ≡ old.kept.capacity
+  pub kept : new.kept.items ≡ kept_in_turn old.kept.capacity old.kept.items (sent_on old.link old.numbers taken)
+
+-- A new leg once these packets were taken: its numbers are a new leg's, and it keeps the last of those that got one, as many as
+-- its ring has room for.
+pub record HasTakenAll (ring number : ℕ) (l : LegSettings) (taken : List Taken) (now : LegState) : Type 0 where
+  pub same_number : now.number ≡ number
+  pub link : now.link ≡ l
+  pub numbers : now.numbers ≡ held_after (new_leg l.first_seq) (map incoming taken)
+  pub kept : now.kept.items ≡ keep_last ring (sent_on l (new_leg l.first_seq) taken)
+
+-- the legs of this worker
+abbrev pub legs_at : ℕ → WorldState → List LegState
+legs_at k w = (slice_index_or w.workers k no_worker).legs

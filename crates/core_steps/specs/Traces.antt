@@ -1,0 +1,60 @@
+-- The calls of each desk over a run.
+use Rattle.std.specs.Prelude.{◌≡◌, ◌≢◌, ◌==◌, ℕ, ◌+◌, List, [], ◌∷◌, ◌++◌, map, slice_get, Some, if◌then◌else◌}
+use Rattle.std.specs.List.{flat_map}
+use Rattle.members.specs.Settings.{Configuration}
+use Rattle.bounding_set.specs.State.{AnnouncesSmallest}
+use Rattle.rate_desk.specs.declared.call.Entry.{Entry}
+use Rattle.rate_desk.specs.Presence.{stay_in}
+use Rattle.rate_desk.specs.Trace.{empty_base, live_after}
+use Rattle.rate_desk.specs.History.{IsLegalHistory, StandsFor}
+use Rattle.rate_desk.specs.State.{DeskState, calls_of, now_of}
+use Rattle.core_steps.specs.Happening.{RecordedCall, Happening}
+
+-- this holds of the publisher's desk, which is there
+pub record AtDesk (P : DeskState → Type 0) (desks : List DeskState) (p : ℕ) : Type 0 where
+  pub desk : DeskState
+  pub there : slice_get desks p ≡ Some desk
+  pub is : P desk
+
+-- ---- the recorded calls of a publisher's desk, in order
+
+abbrev pub of_desk : ℕ → RecordedCall → List RecordedCall
+of_desk p a = if a.publisher == p then a ∷ [] else []
+
+abbrev pub recorded_in : ℕ → Happening → List RecordedCall
+recorded_in p h = flat_map (of_desk p) h.asked
+
+abbrev pub recorded_at : ℕ → List Happening → List RecordedCall
+recorded_at p history = flat_map (recorded_in p) history
+
+-- a call with its answer, as a desk lists it
+abbrev pub entry_of : RecordedCall → Entry
+entry_of a = record { call = a.call; answer = a.answer }
+
+-- ---- what they make of a desk
+
+-- calls that are numbered one after another, from this number on
+abbrev pub AreNumberedFrom : ℕ → List RecordedCall → Type 0
+AreNumberedFrom n [] = Unit {0}
+AreNumberedFrom n (a ∷ calls) = (a.number ≡ n) × AreNumberedFrom (n + 1) calls
+
+-- The desk recorded these calls one after another. Each has the count of the desk's calls before it as its number. Base and
+-- history stand for the former ones and the calls with their answers, which are those that are owed.
+pub record HasRecorded (old : DeskState) (calls : List RecordedCall) (new : DeskState) : Type 0 where
+  pub numbered : AreNumberedFrom (calls_of old) calls
+  pub stands : StandsFor old.request_ms old.base (old.history ++ map entry_of calls) new.base new.history
+  pub legal : IsLegalHistory old.gap old.request_ms old.base (old.history ++ map entry_of calls)
+  pub gap : new.gap ≡ old.gap
+  pub request_ms : new.request_ms ≡ old.request_ms
+
+-- These are all calls of the desk with their answers, each the one that is owed. Its rows are the requests that they leave live:
+-- of each owner that is present the last one since it arrived, unless it grew too old. The announced set is drawn from them,
+-- permits exactly what they together permit, and no smaller choice does, by its certificate.
+pub record AnnouncesAfter (c : Configuration) (entries : List Entry) (d : DeskState) : Type 0 where
+  pub legal : IsLegalHistory c.pli_gap_ms c.request_ms empty_base entries
+  pub live : d.bounds.rows ≡ live_after c.request_ms empty_base entries
+  pub announced : AnnouncesSmallest d.bounds
+
+-- the owner isn't present with this stay, so that no request that it made in the stay is live
+abbrev pub HasLeft : ℕ → ℕ → DeskState → Type 0
+HasLeft owner stay d = stay_in (now_of d).present.items owner ≢ stay
