@@ -1,0 +1,5 @@
+pub mod Outside
+pub mod Forwarding
+pub mod Asking
+pub mod Faults
+pub mod UnitFaults

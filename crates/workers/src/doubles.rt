@@ -1,0 +1,101 @@
+//! What stands for the outside in tests: lists in memory, a clock that stands still, and a gate that is open.
+
+use super::*;
+use core_steps::Bytes;
+use std::alloc::{AllocError, Global};
+
+/// A sink in memory, which promises nothing of its list: tests read that. Its first sends fail, so many as it was made with.
+#[derive(Debug, Drop)]
+pub(super) struct MemorySink {
+    alloc: Global,
+    pub(super) handed: Vec<Datagram>,
+    to_fail: u64,
+    pub(super) failures: u64,
+}
+
+impl MemorySink {
+    ghost use Rattle.std.specs.Prelude.{◌≡◌};
+
+    /// A sink whose first sends fail.
+    pub(super) fn failing(alloc: Global, to_fail: u64) -> MemorySink {
+        MemorySink {
+            alloc,
+            handed: Vec::new(alloc),
+            to_fail,
+            failures: 0,
+        }
+    }
+
+    fn keep(&mut self, endpoint: u16, bytes: &[u8]) -> Result<(), AllocError>
+        ensures failures { self.new.failures ≡ self.old.failures }
+    {
+        let bytes = Bytes::copy_of(self.alloc, bytes)?;
+        self.handed.push(Datagram { endpoint, bytes })?;
+        Ok(())
+    }
+}
+
+impl Sink for MemorySink {
+    ghost use Rattle.std.specs.Prelude.{None};
+
+    ghost shown = { λ s. record { handed = None; failures = s.failures } };
+
+    fn send(&mut self, endpoint: u16, bytes: &[u8]) -> Result<(), SendFault> {
+        if self.keep(endpoint, bytes).is_err() {
+            let _again = self.keep(endpoint, bytes);
+        }
+        if self.failures >= self.to_fail {
+            return Ok(());
+        }
+        self.failures += 1;
+        Err(SendFault)
+    }
+}
+
+/// A source of datagrams in memory.
+#[derive(Debug, Drop)]
+pub(super) struct MemorySource {
+    pub(super) waiting: Vec<Datagram>,
+    pub(super) failures: u64,
+}
+
+impl Source for MemorySource {
+    ghost failures = { λ s. s.failures };
+
+    fn receive(&mut self, out: &mut [u8]) -> Result<Option<(u16, usize)>, ReceiveFault> {
+        let Some(datagram) = self.waiting.pop() else {
+            return Ok(None);
+        };
+        let bytes = datagram.bytes.as_slice();
+        let length = bytes.len();
+        if length > out.len() {
+            if self.failures == u64::MAX {
+                return Ok(None);
+            }
+            self.failures += 1;
+            return Err(ReceiveFault);
+        }
+        out[..length].copy_from_slice(bytes);
+        Ok(Some((datagram.endpoint, length)))
+    }
+}
+
+/// A clock that stands still.
+#[derive(Debug, Drop)]
+pub(super) struct StoppedClock;
+
+impl Clock for StoppedClock {
+    fn moment(&mut self) -> u64 {
+        0
+    }
+}
+
+/// A gate that holds nobody.
+#[derive(Debug, Drop)]
+pub(super) struct OpenGate;
+
+impl Gate for OpenGate {
+    fn hold(&self, _worker: u16) {}
+
+    fn done(&self, _worker: u16) {}
+}

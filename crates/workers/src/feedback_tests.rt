@@ -1,0 +1,249 @@
+//! Jobs that ask a desk.
+
+ghost use Rattle.std.specs.Prelude.{◌≡◌};
+
+use super::*;
+use crate::doubles::MemorySink;
+use crate::rooms::{HEAD, examples, is, on};
+use core_steps::Job;
+use rate_desk::{Call, Change, DeskCalls, DeskSeat, House, SeatCalls};
+use routes::{Naming, RouteReader, RouteWriter, routes};
+use rtcp_feedback::Nack;
+use std::alloc::{AllocError, Global};
+use std::marker::Brand;
+use std::process::Abort;
+use std::sync::Wait;
+use std::sync::ledger::Blank;
+use std::test::Fail;
+use tmmbr_tuple::Ssrc;
+
+/// A TMMBR of 17 that asks 16 for 64,000 bits per second with an overhead of 40 bytes.
+const TMMBR: [u8; 20] = [
+    0x83, 0xcd, 0, 4, 0, 0, 0, 0x11, 0, 0, 0, 0, 0, 0, 0, 0x10, 0, 0x07, 0xd0, 0x28,
+];
+/// A TMMBN of 257 that names 17 with the same.
+const TMMBN: [u8; 20] = [
+    0x84, 0xcd, 0, 4, 0, 0, 1, 1, 0, 0, 0, 0, 0, 0, 0, 0x11, 0, 0x07, 0xd0, 0x28,
+];
+
+/// A TMMBR of 17 that lifts its bound on 16.
+const LIFTED: [u8; 20] = [
+    0x83, 0xcd, 0, 4, 0, 0, 0, 0x11, 0, 0, 0, 0, 0, 0, 0, 0x10, 0xff, 0xff, 0xfe, 0,
+];
+/// A TMMBN of 257 that names nobody.
+const NOBODY: [u8; 12] = [0x84, 0xcd, 0, 2, 0, 0, 1, 1, 0, 0, 0, 0];
+/// A PLI of 9 about 16.
+const PLI: [u8; 12] = [0x81, 0xce, 0, 2, 0, 0, 0, 9, 0, 0, 0, 0x10];
+
+const NOTHING: Forwarded = Forwarded {
+    sent: 0,
+    failed: 0,
+    skipped: 0,
+    missed: 0,
+};
+
+/// The subscriber of a leg asks for this in a stay.
+const fn request(leg: u16, stay: u64) -> Job {
+    Job::Request {
+        leg,
+        stay,
+        word: 0x0007_d028,
+    }
+}
+
+/// The head, and these bytes.
+fn compound(alloc: Global, bytes: &[u8]) -> Result<Vec<u8>, AllocError> {
+    let mut all = HEAD.to_vec(alloc)?;
+    all.extend_from_slice(bytes)?;
+    Ok(all)
+}
+
+/// A house with a seat, a reader of a table and a sink in memory.
+#[derive(Drop)]
+struct Bench<'a, J: Naming, D: DeskCalls, C: SeatCalls> {
+    house: &'a House<D, C>,
+    seat: &'a mut DeskSeat<C>,
+    writer: &'a RouteWriter<J>,
+    reader: &'a mut RouteReader<J>,
+    sink: MemorySink,
+}
+
+impl<J: Naming, D: DeskCalls, C: SeatCalls> Bench<'_, J, D, C> {
+    fn feed<R: Wait>(
+        &mut self,
+        rt: &R,
+        worker: &mut Forwarder,
+        job: &Job,
+    ) -> Result<Forwarded, ForwardFault> {
+        let note = self.writer.note();
+        worker.feedback(
+            rt,
+            self.house,
+            self.seat,
+            self.reader,
+            note,
+            job,
+            &mut self.sink,
+        )
+    }
+
+    /// The stay 1 of 17 at the first publisher ends.
+    fn depart<R: Wait>(
+        &mut self,
+        rt: &R,
+        notifier: &mut Notifier,
+    ) -> Result<Forwarded, ForwardFault> {
+        let question = Question {
+            publisher: 0,
+            asked_by: None,
+            call: Call::Stay {
+                owner: Ssrc(17),
+                stay: 1,
+                change: Change::Depart,
+            },
+        };
+        let note = self.writer.note();
+        notifier.ask(
+            rt,
+            self.house,
+            self.seat,
+            self.reader,
+            note,
+            &question,
+            &mut self.sink,
+        )
+    }
+
+    fn ask_for_picture(&mut self, notifier: &Notifier) -> Result<Forwarded, ForwardFault> {
+        let note = self.writer.note();
+        notifier.ask_for_picture(self.reader, note, 0, &mut self.sink)
+    }
+
+    /// How many calls the seat made to the first publisher, and how many datagrams the sink was handed.
+    fn counts(&self) -> (u64, usize) {
+        (self.seat.calls(0), self.sink.handed.len())
+    }
+
+    /// Whether the datagram at this place went to this endpoint, with these bytes behind the head.
+    fn sent(&self, alloc: Global, place: usize, endpoint: u16, bytes: &[u8]) -> bool {
+        match (self.sink.handed.get(place), compound(alloc, bytes)) {
+            (Some(datagram), Ok(all)) => is(datagram, endpoint, all.as_slice()),
+            _ => false,
+        }
+    }
+}
+
+/// The worker of another subscriber's leg, an absent leg, no stay, and a job for the legs: nobody is asked.
+fn asks_nobody<J: Naming, D: DeskCalls, C: SeatCalls, R: Wait + Abort>(
+    rt: &R,
+    alloc: Global,
+    bench: &mut Bench<'_, J, D, C>,
+) -> Result<(), Fail> {
+    let settings = examples(alloc).ok_or("settings")?;
+    let mut worker = Forwarder::new(alloc, &settings, 1)?;
+    let mut other = Forwarder::new(alloc, &settings, 0)?;
+    let again = Job::Resend {
+        leg: 0,
+        stay: 1,
+        nack: Nack { pid: 0, blp: 0 },
+    };
+    assert_eq!(rt; bench.feed(rt, &mut other, &request(0, 1)), Ok(NOTHING));
+    assert_eq!(rt; bench.feed(rt, &mut worker, &request(1, 1)), Ok(NOTHING));
+    assert_eq!(rt; bench.feed(rt, &mut worker, &request(0, 0)), Ok(NOTHING));
+    assert_eq!(rt; bench.feed(rt, &mut worker, &again), Ok(NOTHING));
+    assert_eq!(rt; bench.counts(), (1, 0));
+    Ok(())
+}
+
+/// An accepted request is told to the publisher and to who asked; one in another stay is told to nobody.
+fn tells_both<J: Naming, D: DeskCalls, C: SeatCalls, R: Wait + Abort>(
+    rt: &R,
+    alloc: Global,
+    bench: &mut Bench<'_, J, D, C>,
+) -> Result<(), Fail> {
+    let settings = examples(alloc).ok_or("settings")?;
+    let mut worker = Forwarder::new(alloc, &settings, 1)?;
+    let both = Forwarded { sent: 2, ..NOTHING };
+    assert_eq!(rt; bench.feed(rt, &mut worker, &request(0, 1)), Ok(both));
+    assert_eq!(rt; bench.counts(), (2, 2));
+    assert!(rt; bench.sent(alloc, 0, 0, &TMMBR));
+    assert!(rt; bench.sent(alloc, 1, 1, &TMMBN));
+    assert_eq!(rt; bench.feed(rt, &mut worker, &request(0, 2)), Ok(NOTHING));
+    assert_eq!(rt; bench.counts(), (3, 2));
+    Ok(())
+}
+
+/// A picture that is wanted is told to the publisher, by a worker and by the ingress; that a request is gone, to all.
+fn tells_publisher<J: Naming, D: DeskCalls, C: SeatCalls, R: Wait + Abort>(
+    rt: &R,
+    alloc: Global,
+    bench: &mut Bench<'_, J, D, C>,
+) -> Result<(), Fail> {
+    let settings = examples(alloc).ok_or("settings")?;
+    let mut worker = Forwarder::new(alloc, &settings, 1)?;
+    let mut notifier = Notifier::new(alloc, &settings)?;
+    let one = Forwarded { sent: 1, ..NOTHING };
+    let both = Forwarded { sent: 2, ..NOTHING };
+    let wanted = Job::Pli { leg: 0, moment: 0 };
+    assert_eq!(rt; bench.feed(rt, &mut worker, &wanted), Ok(one));
+    assert_eq!(rt; bench.depart(rt, &mut notifier), Ok(both));
+    assert_eq!(rt; bench.ask_for_picture(&notifier), Ok(one));
+    assert_eq!(rt; bench.counts(), (5, 6));
+    assert!(rt; bench.sent(alloc, 2, 0, &PLI));
+    assert!(rt; bench.sent(alloc, 3, 0, &LIFTED));
+    assert!(rt; bench.sent(alloc, 4, 1, &NOBODY));
+    assert!(rt; bench.sent(alloc, 5, 0, &PLI));
+    Ok(())
+}
+
+fn asks_all<J: Naming, D: DeskCalls, C: SeatCalls, R: Wait + Abort>(
+    rt: &R,
+    alloc: Global,
+    house: &House<D, C>,
+    seat: &mut DeskSeat<C>,
+    writer: &RouteWriter<J>,
+    reader: &mut RouteReader<J>,
+) -> Result<(), Fail> {
+    let mut bench = Bench {
+        house,
+        seat,
+        writer,
+        reader,
+        sink: MemorySink::failing(alloc, 0),
+    };
+    asks_nobody(rt, alloc, &mut bench)?;
+    tells_both(rt, alloc, &mut bench)?;
+    tells_publisher(rt, alloc, &mut bench)
+}
+
+fn tells_in<J: Naming, D: DeskCalls, C: SeatCalls, R: Wait + Abort>(
+    rt: &R,
+    alloc: Global,
+    blank: routes::Blank,
+    recorded: Blank,
+    made: Blank,
+) -> Result<(), Fail>
+    requires table { (blank.book ≡ J.book) × (blank.legs ≡ J.legs) }
+    requires names { (recorded.name ≡ D.name) × (made.name ≡ C.name) }
+    requires parts { (recorded.parts ≡ D.parts) × (made.parts ≡ C.parts) }
+    requires counts { (C.publishers ≡ 2) × (D.parts ≡ 2) × (C.parts ≡ 1) × (C.seats ≡ 1) }
+    requires numbers { (D.gap ≡ 500) × (D.request_ms ≡ 0) }
+{
+    let (house, seats) = House::<D, C>::new(alloc, recorded, made, 2, 1, 500, 0)?;
+    let mut seats = seats;
+    let mut seat = seats.pop().ok_or("a seat")?;
+    let (mut writer, mut readers) = routes::<J, R>(rt, alloc, blank, 1)?;
+    let noted = writer.change(&on(0)).is_ok();
+    writer.publish(rt);
+    let arrived = house.arrive(rt, &mut seat, 0, Ssrc(17), 1).is_ok();
+    let result = asks_all(rt, alloc, &house, &mut seat, &writer, &mut readers[0]);
+    writer.end(rt);
+    assert!(rt; noted && arrived);
+    result
+}
+
+#[test]
+fn feedback_tells_publisher_and_subscriber(rt: HostRuntime) -> Result<(), Fail> {
+    let table = routes::Blank::new(1);
+    tells_in::<Brand, Brand, Brand, _>(&rt, rt.alloc(), table, Blank::new(2), Blank::new(1))
+}

@@ -1,0 +1,225 @@
+//! Jobs on a worker's legs.
+
+ghost use Rattle.std.specs.Prelude.{◌≡◌};
+
+use super::*;
+use crate::doubles::{MemorySink, MemorySource, OpenGate, StoppedClock};
+use crate::rooms::{examples, is, on, packet, rtp, two_subscribers};
+use core_steps::{Bytes, Job};
+use routes::{Blank, Naming, RouteReader, RouteWriter, routes};
+use rtcp_feedback::Nack;
+use std::alloc::Global;
+use std::marker::Brand;
+use std::process::Abort;
+use std::sync::Wait;
+use std::test::Fail;
+
+const NOTHING: Forwarded = Forwarded {
+    sent: 0,
+    failed: 0,
+    skipped: 0,
+    missed: 0,
+};
+
+/// A sender report of the source 257, which sent one packet of two octets, and its CNAME.
+const REPORT: [u8; 44] = [
+    0x80, 0xc8, 0, 6, 0, 0, 1, 1, 0, 0, 0, 0x0a, 0x80, 0, 0, 0, 0, 0, 0x0b, 0xb8, 0, 0, 0, 1, 0, 0,
+    0, 2, 0x81, 0xca, 0, 3, 0, 0, 1, 1, 1, 3, 0x73, 0x66, 0x75, 0, 0, 0,
+];
+
+#[test]
+fn doubles_are_what_they_stand_for(rt: HostRuntime) -> Result<(), Fail> {
+    let alloc = rt.alloc();
+    let mut sink = MemorySink::failing(alloc, 1);
+    assert!(rt; sink.send(3, b"ab").is_err() && sink.send(4, b"c").is_ok());
+    assert!(rt; sink.failures == 1 && sink.handed.len() == 2);
+    let mut source = MemorySource {
+        waiting: Vec::new(alloc),
+        failures: 0,
+    };
+    source.waiting.push(Datagram {
+        endpoint: 5,
+        bytes: Bytes::copy_of(alloc, b"xyz")?,
+    })?;
+    let mut out = [0; 4];
+    assert_eq!(rt; source.receive(&mut out), Ok(Some((5, 3))));
+    assert_eq!(rt; out, *b"xyz\0");
+    assert_eq!(rt; source.receive(&mut out), Ok(None));
+    OpenGate.hold(0);
+    OpenGate.done(0);
+    assert_eq!(rt; StoppedClock.moment(), 0);
+    Ok(())
+}
+
+/// One worker, with a reader of a table and a sink in memory.
+#[derive(Drop)]
+struct Bench<'a, J: Naming> {
+    writer: &'a RouteWriter<J>,
+    reader: &'a mut RouteReader<J>,
+    sink: MemorySink,
+    worker: Forwarder,
+}
+
+impl<J: Naming> Bench<'_, J> {
+    fn forward(&mut self, job: &Job) -> Result<Forwarded, ForwardFault> {
+        let note = self.writer.note();
+        self.worker.forward(self.reader, note, job, &mut self.sink)
+    }
+
+    /// Whether the last datagram went to this endpoint.
+    fn sent_last(&self, endpoint: u16, bytes: &[u8]) -> bool {
+        self.sink
+            .handed
+            .last()
+            .is_some_and(|datagram| is(datagram, endpoint, bytes))
+    }
+}
+
+/// What was lost from this number on (RFC 4585, section 6.2.1).
+const fn resend(leg: u16, stay: u64, pid: u16, blp: u16) -> Job {
+    Job::Resend {
+        leg,
+        stay,
+        nack: Nack { pid, blp },
+    }
+}
+
+/// The second worker of the worked examples, the only one that has a leg.
+fn does_examples<J: Naming>(
+    rt: &impl Abort,
+    alloc: Global,
+    writer: &RouteWriter<J>,
+    reader: &mut RouteReader<J>,
+) -> Result<(), Fail> {
+    let settings = examples(alloc).ok_or("settings")?;
+    let mut bench = Bench {
+        writer,
+        reader,
+        sink: MemorySink::failing(alloc, 0),
+        worker: Forwarder::new(alloc, &settings, 1)?,
+    };
+    let sent = Forwarded { sent: 1, ..NOTHING };
+    assert_eq!(rt; bench.forward(&packet(alloc, 8)?), Ok(sent));
+    assert!(rt; bench.sent_last(1, &rtp(100, [1, 1])));
+    let report = Job::Report {
+        leg: 0,
+        stay: 1,
+        sr: Some((0x0000_000a_8000_0000, 3000)),
+    };
+    assert_eq!(rt; bench.forward(&report), Ok(sent));
+    assert!(rt; bench.sent_last(1, &REPORT));
+    let again = Forwarded { missed: 1, ..sent };
+    assert_eq!(rt; bench.forward(&resend(0, 1, 100, 1)), Ok(again));
+    assert!(rt; bench.sent_last(1, &rtp(100, [1, 1])));
+    let old = Forwarded {
+        skipped: 1,
+        ..NOTHING
+    };
+    assert_eq!(rt; bench.forward(&packet(alloc, 7)?), Ok(old));
+    assert_eq!(rt; bench.sink.handed.len(), 3);
+    Ok(())
+}
+
+/// Jobs that the worker has nothing to do for: for a desk, of a stay, a leg or a publisher that isn't there, of another
+/// worker's leg.
+fn does_nothing<J: Naming>(
+    rt: &impl Abort,
+    alloc: Global,
+    writer: &RouteWriter<J>,
+    reader: &mut RouteReader<J>,
+) -> Result<(), Fail> {
+    let settings = examples(alloc).ok_or("settings")?;
+    let mut bench = Bench {
+        writer,
+        reader,
+        sink: MemorySink::failing(alloc, 0),
+        worker: Forwarder::new(alloc, &settings, 1)?,
+    };
+    let request = Job::Request {
+        leg: 0,
+        stay: 1,
+        word: 0x0007_d028,
+    };
+    let nowhere = Job::Packet {
+        publisher: 2,
+        bytes: Bytes::copy_of(alloc, &rtp(8, [0, 16]))?,
+    };
+    assert_eq!(rt; bench.forward(&request), Ok(NOTHING));
+    assert_eq!(rt; bench.forward(&Job::Pli { leg: 0, moment: 0 }), Ok(NOTHING));
+    assert_eq!(rt; bench.forward(&resend(0, 2, 100, 0)), Ok(NOTHING));
+    assert_eq!(rt; bench.forward(&resend(0, 0, 100, 0)), Ok(NOTHING));
+    assert_eq!(rt; bench.forward(&resend(1, 1, 100, 0)), Ok(NOTHING));
+    assert_eq!(rt; bench.forward(&nowhere), Ok(NOTHING));
+    bench.worker = Forwarder::new(alloc, &settings, 0)?;
+    assert_eq!(rt; bench.forward(&packet(alloc, 8)?), Ok(NOTHING));
+    assert_eq!(rt; bench.forward(&resend(0, 1, 100, 0)), Ok(NOTHING));
+    assert!(rt; bench.sink.handed.is_empty());
+    Ok(())
+}
+
+fn forwards_in<J: Naming, R: Wait + Abort>(rt: &R, alloc: Global, blank: Blank) -> Result<(), Fail>
+    requires { (blank.book ≡ J.book) × (blank.legs ≡ J.legs) }
+{
+    let (mut writer, mut readers) = routes::<J, R>(rt, alloc, blank, 2)?;
+    let noted = writer.change(&on(0)).is_ok();
+    writer.publish(rt);
+    let done = does_examples(rt, alloc, &writer, &mut readers[0]).and_then(|()| does_nothing(
+        rt,
+        alloc,
+        &writer,
+        &mut readers[1],
+    ));
+    writer.end(rt);
+    assert!(rt; noted);
+    done
+}
+
+#[test]
+fn forwards_as_in_the_examples(rt: HostRuntime) -> Result<(), Fail> {
+    forwards_in::<Brand, _>(&rt, rt.alloc(), Blank::new(1))
+}
+
+/// A packet goes to two subscribers, and the first send fails.
+fn fails_once<J: Naming>(
+    rt: &impl Abort,
+    alloc: Global,
+    writer: &RouteWriter<J>,
+    reader: &mut RouteReader<J>,
+) -> Result<(), Fail> {
+    let mut bench = Bench {
+        writer,
+        reader,
+        sink: MemorySink::failing(alloc, 1),
+        worker: Forwarder::new(alloc, &two_subscribers(alloc).ok_or("settings")?, 0)?,
+    };
+    let one = Forwarded { sent: 1, ..NOTHING };
+    let failed = Forwarded { failed: 1, ..one };
+    assert_eq!(rt; bench.forward(&packet(alloc, 8)?), Ok(failed));
+    assert_eq!(rt; bench.sink.handed.len(), 2);
+    assert!(rt; bench.sent_last(2, &rtp(200, [1, 2])));
+    assert_eq!(rt; bench.forward(&resend(0, 1, 100, 0)), Ok(one));
+    assert!(rt; bench.sent_last(1, &rtp(100, [1, 1])));
+    Ok(())
+}
+
+fn fails_once_in<J: Naming, R: Wait + Abort>(
+    rt: &R,
+    alloc: Global,
+    blank: Blank,
+) -> Result<(), Fail>
+    requires { (blank.book ≡ J.book) × (blank.legs ≡ J.legs) }
+{
+    let (mut writer, mut readers) = routes::<J, R>(rt, alloc, blank, 1)?;
+    let noted = writer.change(&on(0)).is_ok() && writer.change(&on(1)).is_ok();
+    writer.publish(rt);
+    let result = fails_once(rt, alloc, &writer, &mut readers[0]);
+    writer.end(rt);
+    assert!(rt; noted);
+    result
+}
+
+/// A datagram that couldn't be sent keeps its number, and is sent again when it is asked for.
+#[test]
+fn one_send_fails(rt: HostRuntime) -> Result<(), Fail> {
+    fails_once_in::<Brand, _>(&rt, rt.alloc(), Blank::new(2))
+}

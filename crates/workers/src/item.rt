@@ -1,0 +1,16 @@
+//! What travels through a worker's ring.
+
+use core_steps::Job;
+use routes::{Naming, RouteNote};
+
+/// How many items a ring holds.
+pub(crate) const RING: usize = 1024;
+
+/// An item of a ring.
+#[derive(Drop)]
+pub(crate) enum Item<J: Naming> {
+    /// A job, with the note of all that was published when it was put into the ring.
+    Work { job: Job, note: RouteNote<J> },
+    /// The last item: the worker ends.
+    Stop,
+}

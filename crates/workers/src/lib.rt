@@ -1,0 +1,55 @@
+//! The unit in threads: workers send packets on beside one writer of routes, and ask the publishers' desks for their
+//! subscribers (RFC 7667, section 3.7).
+//!
+//! Read `outside` first, what the unit needs from outside: where datagrams come from, where they go, and the time. Then
+//! `forwarder`, what one worker does with its jobs, and `notifier`, how a desk is asked and what follows is sent; last
+//! `unit`, which runs it all, by `scope` (the threads), `turns` and `ingress` (what comes in) and `worker`.
+#![tactic(auto)]
+
+mod counts;
+mod datagram;
+mod done;
+mod fault;
+mod forwarder;
+mod ingress;
+mod item;
+mod lane;
+mod notifier;
+mod outside;
+mod pulses;
+mod question;
+mod scope;
+mod sending;
+mod turns;
+mod unit;
+mod watch;
+mod worker;
+
+pub use counts::{Counts, Status};
+pub use datagram::Datagram;
+pub use done::{ForwardFault, Forwarded};
+pub use fault::UnitFault;
+pub use forwarder::Forwarder;
+pub use notifier::Notifier;
+pub use outside::{Clock, Gate, ReceiveFault, SendFault, Sink, Source};
+pub use question::Question;
+pub use turns::{MAX_DATAGRAM, MAX_FAULTS};
+pub use unit::{Outside, Pace, Report, run_unit, run_watched};
+pub use watch::{Open, Unwatched, Watch};
+
+#[cfg(test)]
+mod beside_tests;
+#[cfg(test)]
+mod doubles;
+#[cfg(test)]
+mod feedback_tests;
+#[cfg(test)]
+mod forward_tests;
+#[cfg(test)]
+mod memory_tests;
+#[cfg(test)]
+mod rooms;
+#[cfg(test)]
+mod unit_doubles;
+#[cfg(test)]
+mod unit_tests;

@@ -1,0 +1,123 @@
+//! Growths that are refused. Run with `rt try --test --fail-alloc N`, which refuses the Nth growth.
+
+ghost use Rattle.std.specs.Prelude.{◌≡◌};
+
+use super::*;
+use crate::doubles::MemorySink;
+use crate::rooms::{is, on, packet, rtp, two_subscribers};
+use core_steps::Job;
+use routes::{Blank, Naming, Order, RouteReader, RouteWriter, RoutesFault, routes};
+use std::alloc::{AllocError, Global};
+use std::marker::Brand;
+use std::process::Abort;
+use std::sync::Wait;
+use std::test::Fail;
+
+/// The only worker of a room with two subscribers.
+fn worker(alloc: Global) -> Option<Forwarder> {
+    Forwarder::new(alloc, &two_subscribers(alloc)?, 0).ok()
+}
+
+/// The same, made again where memory was refused for it.
+fn worker_at_last(alloc: Global) -> Option<Forwarder> {
+    match worker(alloc) {
+        Some(made) => Some(made),
+        None => worker(alloc),
+    }
+}
+
+/// A job that a packet makes, made again where memory was refused for it.
+fn packet_at_last(alloc: Global, seq: u8) -> Result<Job, AllocError> {
+    match packet(alloc, seq) {
+        Ok(job) => Ok(job),
+        Err(AllocError) => packet(alloc, seq),
+    }
+}
+
+/// Does the job with a note of all that is published.
+fn forward<J: Naming>(
+    writer: &RouteWriter<J>,
+    reader: &mut RouteReader<J>,
+    worker: &mut Forwarder,
+    job: &Job,
+    sink: &mut MemorySink,
+) -> Result<Forwarded, ForwardFault> {
+    worker.forward(reader, writer.note(), job, sink)
+}
+
+/// Does the job until memory is there for it, each time with another note; a refusal sends nothing.
+fn until_done<J: Naming>(
+    rt: &impl Abort,
+    writer: &RouteWriter<J>,
+    reader: &mut RouteReader<J>,
+    worker: &mut Forwarder,
+    job: &Job,
+    sink: &mut MemorySink,
+) -> Option<Forwarded> {
+    for _ in 0..9 {
+        let before = sink.handed.len();
+        match forward(writer, reader, worker, job, sink) {
+            Ok(done) => return Some(done),
+            Err(fault) => {
+                assert_eq!(rt; fault, ForwardFault::NoMemory);
+                assert_eq!(rt; sink.handed.len(), before);
+            }
+        }
+    }
+    None
+}
+
+/// Two packets go to two subscribers, whichever growth is refused.
+fn sends_four<J: Naming>(
+    rt: &impl Abort,
+    alloc: Global,
+    writer: &RouteWriter<J>,
+    reader: &mut RouteReader<J>,
+) -> Result<(), Fail> {
+    let mut worker = worker_at_last(alloc).ok_or("a worker")?;
+    let mut sink = MemorySink::failing(alloc, 0);
+    let both = Forwarded {
+        sent: 2,
+        ..Forwarded::default()
+    };
+    for seq in [8, 9] {
+        let job = packet_at_last(alloc, seq)?;
+        let done = until_done(rt, writer, reader, &mut worker, &job, &mut sink);
+        assert_eq!(rt; done, Some(both));
+    }
+    assert_eq!(rt; sink.handed.len(), 4);
+    assert!(rt; is(&sink.handed[0], 1, &rtp(100, [1, 1])));
+    assert!(rt; is(&sink.handed[1], 2, &rtp(200, [1, 2])));
+    assert!(rt; is(&sink.handed[2], 1, &rtp(101, [1, 1])));
+    assert!(rt; is(&sink.handed[3], 2, &rtp(201, [1, 2])));
+    Ok(())
+}
+
+/// Notes the order, once memory is there for it.
+fn note_order<J: Naming>(writer: &mut RouteWriter<J>, order: &Order) -> bool {
+    writer.change(order).is_ok() || writer.change(order).is_ok()
+}
+
+fn sends_in<J: Naming, R: Wait + Abort>(rt: &R, alloc: Global, blank: Blank) -> Result<(), Fail>
+    requires { (blank.book ≡ J.book) × (blank.legs ≡ J.legs) }
+{
+    let (mut writer, mut readers) = match routes::<J, R>(rt, alloc, blank, 1) {
+        Ok(made) => made,
+        Err(fault) => {
+            assert_eq!(rt; fault, RoutesFault::NoMemory);
+            return Ok(());
+        }
+    };
+    let noted = note_order(&mut writer, &on(0)) && note_order(&mut writer, &on(1));
+    writer.publish(rt);
+    let result = sends_four(rt, alloc, &writer, &mut readers[0]);
+    writer.end(rt);
+    assert!(rt; noted);
+    result
+}
+
+/// A refused job leaves its legs and the sink as they were: done again it sends what it would have sent.
+#[test]
+fn forward_with_each_growth_refused(rt: HostRuntime) -> Result<(), Fail> {
+    sends_in::<Brand, _>(&rt, rt.alloc(), Blank::new(2))
+}

@@ -1,0 +1,226 @@
+//! The unit that runs: workers in threads of their own, beside the ingress in this one.
+
+ghost use Rattle.std.specs.Prelude.{◌≡◌, ◌+◌, length, vec_len, IfOk};
+ghost use Rattle.rate_desk.specs.Gathered.{AreDesksOf};
+
+use crate::counts::{Counts, Status};
+use crate::fault::UnitFault;
+use crate::outside::{Clock, Gate, Sink, Source};
+use crate::scope::{Given, Shared, run_scoped};
+use crate::turns::Inlet;
+use crate::watch::{Unwatched, Watch};
+use members::Settings;
+use rate_desk::{Desk, DeskCalls, House, SeatCalls};
+use routes::Naming;
+use std::alloc::{AllocError, Global};
+use std::marker::Brand;
+use std::sync::Wait;
+use std::sync::ledger::Blank;
+use std::thread::{Parker, Threads};
+
+/// What a run came to. Each count stays at `u64::MAX` once there.
+#[derive(Debug, Drop)]
+pub struct Report {
+    /// How many datagrams came from endpoints.
+    pub heard: u64,
+    /// How many datagrams were sent.
+    pub sent: u64,
+    /// How many datagrams couldn't be sent.
+    pub failed: u64,
+    /// How many jobs no worker got, since its ring was full.
+    pub lost: u64,
+    /// How many jobs were taken and given up, and how many notifications, for want of a view or of memory.
+    pub dropped: u64,
+    /// The desk of each publisher, by its number.
+    pub desks: Vec<Desk>,
+}
+
+/// What the unit needs from outside. There is a sink for each worker, by its number, and last one for the ingress.
+#[derive(Drop)]
+pub struct Outside<Src: Drop, Snk: Drop, Clk: Drop, W: Drop> {
+    pub source: Src,
+    pub sinks: Vec<Snk>,
+    pub clock: Clk,
+    pub watch: W,
+}
+
+/// How long the unit runs, and how often it tells its desks the moment.
+#[derive(Clone, Copy, Debug, PartialEq, Eq)]
+pub struct Pace {
+    /// How many turns it makes: as good as no end at `u64::MAX`.
+    pub turns: u64,
+    /// How many milliseconds the moment rises at least between two such rounds. A PLI that waits for its gap, or a request
+    /// that grows too old, may come so much later.
+    pub pulse_ms: u64,
+}
+
+/// How many milliseconds the moment rises at least between two rounds of pulses.
+const PULSE_MS: u64 = 1;
+
+/// Runs the unit for so many turns, each one receive and one tick, with all that follows. Each worker sends on its legs in
+/// a thread of its own, and calls the gate before and after each job. Behind the turns each worker does the jobs that wait,
+/// all threads end, and the desks are gathered.
+///
+/// Refused with the first fault that comes: `Receive` where 100 receives in a row failed; `Start` where a thread couldn't
+/// be started or a reader of the routes found no place; `Gather` where the desks don't agree with what was counted;
+/// `NoMemory` where memory was wanting, but in a worker. All threads end then, too.
+pub fn run_unit<
+    R: Threads + Wait + Sync,
+    Src: Source + Drop,
+    Snk: Sink + Send + Drop,
+    Clk: Clock + Drop,
+    G: Gate + Sync,
+>(
+    rt: &R,
+    alloc: Global,
+    settings: &Settings,
+    source: Src,
+    sinks: Vec<Snk>,
+    clock: Clk,
+    gate: &G,
+    turns: u64,
+) -> Result<Report, UnitFault>
+    requires { vec_len sinks ≡ settings.now.workers + 1 }
+    ensures { IfOk result (λ r. AreDesksOf settings.now.pli_gap_ms settings.now.request_ms
+        (length settings.now.endpoints) r.desks.items) }
+{
+    let outside = Outside {
+        source,
+        sinks,
+        clock,
+        watch: Unwatched,
+    };
+    let pace = Pace {
+        turns,
+        pulse_ms: PULSE_MS,
+    };
+    run_watched(rt, alloc, settings, outside, gate, pace)
+}
+
+/// `run_unit`, while somebody watches, at a pace.
+pub fn run_watched<
+    R: Threads + Wait + Sync,
+    Src: Source + Drop,
+    Snk: Sink + Send + Drop,
+    Clk: Clock + Drop,
+    W: Watch + Drop,
+    G: Gate + Sync,
+>(
+    rt: &R,
+    alloc: Global,
+    settings: &Settings,
+    outside: Outside<Src, Snk, Clk, W>,
+    gate: &G,
+    pace: Pace,
+) -> Result<Report, UnitFault>
+    requires { vec_len outside.sinks ≡ settings.now.workers + 1 }
+    ensures { IfOk result (λ r. AreDesksOf settings.now.pli_gap_ms settings.now.request_ms
+        (length settings.now.endpoints) r.desks.items) }
+{
+    let endpoints = settings.endpoints().len();
+    let workers = settings.workers();
+    let legs = settings.legs().len() as u16;
+    run_named::<Brand, Brand, Brand, R, Src, Snk, Clk, W, G>(
+        rt,
+        alloc,
+        settings,
+        Blank::new(endpoints as u64),
+        Blank::new(workers + 1),
+        routes::Blank::new(legs),
+        outside,
+        gate,
+        pace,
+    )
+}
+
+/// Runs the unit, whose ledgers and table are named.
+fn run_named<
+    D: DeskCalls + Send + Sync,
+    C: SeatCalls + Send + Sync,
+    J: Naming + Send + Sync,
+    R: Threads + Wait + Sync,
+    Src: Source + Drop,
+    Snk: Sink + Send + Drop,
+    Clk: Clock + Drop,
+    W: Watch + Drop,
+    G: Gate + Sync,
+>(
+    rt: &R,
+    alloc: Global,
+    settings: &Settings,
+    recorded: Blank,
+    made: Blank,
+    table: routes::Blank,
+    outside: Outside<Src, Snk, Clk, W>,
+    gate: &G,
+    pace: Pace,
+) -> Result<Report, UnitFault>
+    requires recorded { (recorded.name ≡ D.name) × (recorded.parts ≡ D.parts) }
+    requires made { (made.name ≡ C.name) × (made.parts ≡ C.parts) }
+    requires desks { (recorded.parts ≡ length settings.now.endpoints) × (C.publishers ≡ length settings.now.endpoints) }
+    requires seats { (made.parts ≡ settings.now.workers + 1) × (C.seats ≡ settings.now.workers + 1) }
+    requires periods { (D.gap ≡ settings.now.pli_gap_ms) × (D.request_ms ≡ settings.now.request_ms) }
+    requires table { (table.book ≡ J.book) × (table.legs ≡ J.legs) }
+    requires sinks { vec_len outside.sinks ≡ settings.now.workers + 1 }
+    ensures { IfOk result (λ r. AreDesksOf settings.now.pli_gap_ms settings.now.request_ms
+        (length settings.now.endpoints) r.desks.items) }
+{
+    let workers = settings.workers() as usize;
+    let (house, seats) = House::<D, C>::new(
+        alloc,
+        recorded,
+        made,
+        settings.endpoints().len(),
+        workers + 1,
+        settings.pli_gap_ms(),
+        settings.request_ms(),
+    )?;
+    let parkers = new_parkers(alloc, workers)?;
+    let counts = Counts::new(alloc, workers)?;
+    let Outside {
+        source,
+        sinks,
+        clock,
+        watch,
+    } = outside;
+    let inlet = Inlet::new(alloc, source, clock, watch)?;
+    let given = Given {
+        seats,
+        sinks,
+        pulse_ms: pace.pulse_ms,
+        turns: pace.turns,
+    };
+    let shared = Shared {
+        alloc,
+        settings,
+        house: &house,
+        gate,
+        parkers: parkers.as_slice(),
+        counts: &counts,
+    };
+    let seats = run_scoped::<D, C, J, R, Src, Snk, Clk, W, G>(rt, &shared, table, given, inlet)?;
+    let desks = house.gather(seats, &[])?;
+    Ok(report_of(&counts.status(), desks))
+}
+
+/// Where each worker sleeps.
+fn new_parkers(alloc: Global, workers: usize) -> Result<Vec<Parker>, AllocError> {
+    let mut parkers = Vec::with_capacity(alloc, workers)?;
+    for _worker in 0..workers {
+        parkers.push(Parker::new())?;
+    }
+    Ok(parkers)
+}
+
+fn report_of(status: &Status, desks: Vec<Desk>) -> Report
+    ensures { result.desks ≡ desks }
+{
+    Report {
+        heard: status.heard,
+        sent: status.sent,
+        failed: status.failed,
+        lost: status.lost,
+        dropped: status.dropped,
+        desks,
+    }
+}
