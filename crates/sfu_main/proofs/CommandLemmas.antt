@@ -1,5 +1,5 @@
--- How a refused input is shown.
-use Rattle.std.proofs.Common.{◌≡◌, ℕ, List, Option, None, Some, Err, subst}
+-- How a refused input is shown, and what is printed by the settings of a file.
+use Rattle.std.proofs.Common.{◌≡◌, ℕ, List, Option, None, Some, Ok, Err, subst}
 use Rattle.std.specs.Prelude.{IfSome}
 use Rattle.std.specs.Io.KnownBytes.{Keeps}
 use Rattle.sfu_main.specs.CommandLine.{bound}
@@ -8,6 +8,9 @@ use Rattle.sfu_main.specs.declared.command.Failure.{Failure}
 use Rattle.sfu_main.specs.declared.command.Failure.TheVariants.{NoMemory, Refused, Io}
 use Rattle.sfu_main.specs.declared.command.Status.TheVariants as status
 use Rattle.sfu_main.specs.Command.{FailsBound, PrintsBound, RefusesBound, ShowsLine, status_of}
+use Rattle.sfu_main.specs.Replay.{PrintsByFile, PrintsReplay, RefusesByFile, RefusesReplay}
+use Rattle.sfu_main.specs.SettingsFaults.{TextGives}
+use Rattle.sfu_main.specs.declared.settings_file.FileSettings.{FileSettings}
 
 pub shown_refusal : (asked sender : ℕ) (input old new errors_old errors_new : Option (List ℕ)) (failure : Failure) → asked ≡ sender
     → status_of failure ≡ status.Refused → FailsBound asked input old new failure → ShowsLine failure errors_old errors_new
@@ -25,3 +28,16 @@ shown_set asked sender input old new same printed = subst (λ (n : ℕ). IfSome 
 
 pub same_sender : (asked sender : ℕ) → Some (bound asked) ≡ Some (bound sender) → asked ≡ sender
 same_sender asked sender e = cc
+
+-- what a replay prints, by the settings that a file holds
+pub printed_by_file : (f : FileSettings) (input old new : Option (List ℕ)) → (text : List ℕ) × TextGives text (Ok f)
+    → IfSome input (λ script. PrintsReplay f.settings script old new) → IfSome input (λ script. PrintsByFile script old new)
+printed_by_file f None old new held printed = tt
+printed_by_file f (Some script) old new held printed = record { file = held.0; settings = f; gives = held.1; prints = printed }
+
+pub refused_by_file : (f : FileSettings) (input old new errors_old errors_new : Option (List ℕ)) → (text : List ℕ) × TextGives text (Ok f)
+    → IfSome input (λ script. RefusesReplay f.settings script old new errors_old errors_new)
+    → IfSome input (λ script. RefusesByFile script old new errors_old errors_new)
+refused_by_file f None old new errors_old errors_new held refused = tt
+refused_by_file f (Some script) old new errors_old errors_new held refused =
+    record { file = held.0; settings = f; gives = held.1; refuses = refused }

@@ -1,5 +1,5 @@
 -- What a parse makes of the words of each subcommand, for any number and any file.
-use Rattle.std.proofs.Common.{◌≡◌, ◌∙◌, ◌<◌, ◌^◌, ◌==◌, ◌&&◌, ℕ, Bool, true, false, cond, drop, refl, sym, ap, subst, arith, List, [], ◌∷◌, Option, Some, None, Result, Ok, Err, codes, option_map, unwrap_or, nat_lt}
+use Rattle.std.proofs.Common.{◌≡◌, ◌∙◌, ◌<◌, ◌≤◌, ◌^◌, ◌==◌, ◌&&◌, ℕ, Bool, true, false, cond, drop, refl, sym, ap, ap₂, subst, arith, List, [], ◌∷◌, Option, Some, None, Result, Ok, Err, codes, option_map, unwrap_or, nat_lt}
 use Rattle.std.specs.Prelude.{pos, decimal, option_and_then}
 use Rattle.std.specs.List.{list_all}
 use Rattle.std.specs.Result.{result_ok}
@@ -22,15 +22,15 @@ use Rattle.clap.proofs.WalkLemmas.{both, first_value-rows}
 use Rattle.clap.specs.declared.builder.ValueParser.{ValueParser}
 use Rattle.clap.specs.declared.builder.ValueParser.TheVariants as vp
 use Rattle.std.proofs.lemmas.Fmt.{decimal_is_IsNumeral}
-use Rattle.sfu_main.specs.CommandLine.{IsWritable, Types, words_of, Request, asked_for, asked_in, asked_named, bound, check, sfu, number_of}
+use Rattle.sfu_main.specs.CommandLine.{IsWritable, Types, words_of, Request, asked_for, asked_in, asked_named, bound, check, replay, sfu, number_of, serve, number_in, option_words}
 
 -- ---- reading a number
 
-digits_back : (ds : List ℕ) → AllDigits 10 ds → list_all (λ d. nat_lt (digit_value d) 10) ds ≡ true
+pub digits_back : (ds : List ℕ) → AllDigits 10 ds → list_all (λ d. nat_lt (digit_value d) 10) ds ≡ true
 digits_back [] h = refl
 digits_back (d ∷ ds) h = rw (lt-ltb (digit_value d) 10 h.0) (digits_back ds h.1)
 
-digits_from : (ds : List ℕ) → list_all (λ d. nat_lt (digit_value d) 10) ds ≡ true → AllDigits 10 ds
+pub digits_from : (ds : List ℕ) → list_all (λ d. nat_lt (digit_value d) 10) ds ≡ true → AllDigits 10 ds
 digits_from [] e = tt
 digits_from (d ∷ ds) e = let parts = both _ _ e in (ltb-true _ _ parts.0, digits_from ds parts.1)
 
@@ -72,6 +72,10 @@ u32_parser = vp.Signed (pos 0) (pos 4294967295)
 no_hyphen : (d : ℕ) (ds : Text) → (d == 45) ≡ false → strip_byte 45 (d ∷ ds) ≡ None
 no_hyphen d ds e = cond-false (d == 45) (Some ds) None e
 
+-- the parser of an option
+abbrev option_parser : ℕ → ValueParser
+option_parser most = vp.Signed (pos 1) (pos most)
+
 abbrev row : Text → Reading → Text → Row
 row id how value = record {
   id = id;
@@ -109,9 +113,81 @@ check_taken : (name : Text) (d : ℕ) (ds : Text) → (d == 45) ≡ false → ta
 unfolding clap_on_literals
 check_taken name d ds e = rw (e, no_hyphen d ds e) refl
 
+replay_found : (name : Text) (d : ℕ) (ds : Text) → (d == 45) ≡ false
+    → subcommand_of sfu (name ∷ codes "replay" ∷ (d ∷ ds) ∷ []) ≡ Some (codes "replay", row (codes "FILE") AsWritten (d ∷ ds) ∷ [])
+unfolding clap_on_literals
+replay_found name d ds e = rw (e, no_hyphen d ds e) refl
+
+replay_asked : (name : Text) (d : ℕ) (ds : Text) → (d == 45) ≡ false
+    → asked_for (name ∷ codes "replay" ∷ (d ∷ ds) ∷ []) ≡ Some (replay (d ∷ ds))
+replay_asked name d ds e = ap asked_in (replay_found name d ds e)
+
+replay_taken : (name : Text) (d : ℕ) (ds : Text) → (d == 45) ≡ false → takes sfu (name ∷ codes "replay" ∷ (d ∷ ds) ∷ []) ≡ true
+unfolding clap_on_literals
+replay_taken name d ds e = rw (e, no_hyphen d ds e) refl
+
+serve_found : (name : Text) (d : ℕ) (ds : Text) → (d == 45) ≡ false
+    → subcommand_of sfu (name ∷ codes "serve" ∷ (d ∷ ds) ∷ []) ≡ Some (codes "serve", row (codes "FILE") AsWritten (d ∷ ds) ∷ [])
+unfolding clap_on_literals
+serve_found name d ds e = rw (e, no_hyphen d ds e) refl
+
+serve_asked : (name : Text) (d : ℕ) (ds : Text) → (d == 45) ≡ false
+    → asked_for (name ∷ codes "serve" ∷ (d ∷ ds) ∷ []) ≡ Some (serve (d ∷ ds) None None)
+serve_asked name d ds e = ap asked_in (serve_found name d ds e)
+
+serve_taken : (name : Text) (d : ℕ) (ds : Text) → (d == 45) ≡ false → takes sfu (name ∷ codes "serve" ∷ (d ∷ ds) ∷ []) ≡ true
+unfolding clap_on_literals
+serve_taken name d ds e = rw (e, no_hyphen d ds e) refl
+
+ticks_found : (name : Text) (d : ℕ) (ds : Text) (a : ℕ) (others : Text) → (d == 45) ≡ false → (a == 45) ≡ false
+    → subcommand_of sfu (name ∷ codes "serve" ∷ (d ∷ ds) ∷ codes "--ticks" ∷ (a ∷ others) ∷ [])
+    ≡ Some (codes "serve", row (codes "FILE") AsWritten (d ∷ ds) ∷ row (codes "ticks") WithoutMinus (a ∷ others) ∷ [])
+unfolding clap_on_literals
+ticks_found name d ds a others e f = rw (e, no_hyphen d ds e, f, no_hyphen a others f) refl
+
+ticks_asked : (name : Text) (d : ℕ) (ds : Text) (a : ℕ) (others : Text) → (d == 45) ≡ false → (a == 45) ≡ false
+    → asked_for (name ∷ codes "serve" ∷ (d ∷ ds) ∷ codes "--ticks" ∷ (a ∷ others) ∷ []) ≡ Some (serve (d ∷ ds) (number_of (a ∷ others)) None)
+ticks_asked name d ds a others e f =
+    ap asked_in (ticks_found name d ds a others e f)
+    ∙ ap (λ (o : Option Text). Some (serve (d ∷ ds) (number_of (unwrap_or o (a ∷ others))) None)) (no_hyphen a others f)
+
+ticks_taken : (name : Text) (d : ℕ) (ds : Text) (a : ℕ) (others : Text) → (d == 45) ≡ false → (a == 45) ≡ false
+    → accepts false (option_parser 1000000) (a ∷ others) ≡ true
+    → takes sfu (name ∷ codes "serve" ∷ (d ∷ ds) ∷ codes "--ticks" ∷ (a ∷ others) ∷ []) ≡ true
+unfolding clap_on_literals
+ticks_taken name d ds a others e f p = rw (e, no_hyphen d ds e, f, no_hyphen a others f, p) refl
+
+status_found : (name : Text) (d : ℕ) (ds : Text) (b : ℕ) (others : Text) → (d == 45) ≡ false → (b == 45) ≡ false
+    → subcommand_of sfu (name ∷ codes "serve" ∷ (d ∷ ds) ∷ codes "--status" ∷ (b ∷ others) ∷ [])
+    ≡ Some (codes "serve", row (codes "FILE") AsWritten (d ∷ ds) ∷ row (codes "status") WithoutMinus (b ∷ others) ∷ [])
+unfolding clap_on_literals
+status_found name d ds b others e f = rw (e, no_hyphen d ds e, f, no_hyphen b others f) refl
+
+status_asked : (name : Text) (d : ℕ) (ds : Text) (b : ℕ) (others : Text) → (d == 45) ≡ false → (b == 45) ≡ false
+    → asked_for (name ∷ codes "serve" ∷ (d ∷ ds) ∷ codes "--status" ∷ (b ∷ others) ∷ []) ≡ Some (serve (d ∷ ds) None (number_of (b ∷ others)))
+status_asked name d ds b others e f =
+    ap asked_in (status_found name d ds b others e f)
+    ∙ ap (λ (o : Option Text). Some (serve (d ∷ ds) None (number_of (unwrap_or o (b ∷ others))))) (no_hyphen b others f)
+
+status_taken : (name : Text) (d : ℕ) (ds : Text) (b : ℕ) (others : Text) → (d == 45) ≡ false → (b == 45) ≡ false
+    → accepts false (option_parser 86400) (b ∷ others) ≡ true
+    → takes sfu (name ∷ codes "serve" ∷ (d ∷ ds) ∷ codes "--status" ∷ (b ∷ others) ∷ []) ≡ true
+unfolding clap_on_literals
+status_taken name d ds b others e f p = rw (e, no_hyphen d ds e, f, no_hyphen b others f, p) refl
+
 -- the file that the typed getter finds
 pub asked_check : (f : Found) (file : Option Text) → file ≡ first_value f (codes "FILE") → option_map check file ≡ asked_named (codes "check") (rows_of f)
 asked_check f file is = ap (option_map check) (is ∙ first_value-rows f (codes "FILE"))
+
+pub asked_replay : (f : Found) (file : Option Text) → file ≡ first_value f (codes "FILE") → option_map replay file ≡ asked_named (codes "replay") (rows_of f)
+asked_replay f file is = ap (option_map replay) (is ∙ first_value-rows f (codes "FILE"))
+
+pub asked_serve : (f : Found) (file : Option Text) (ticks status : Option ℕ) → file ≡ first_value f (codes "FILE")
+    → ticks ≡ number_in (codes "ticks") (rows_of f) → status ≡ number_in (codes "status") (rows_of f)
+    → option_map (λ t. serve t ticks status) file ≡ asked_named (codes "serve") (rows_of f)
+asked_serve f file ticks status is at_ticks at_status =
+    rw (at_ticks, at_status) (ap (option_map (λ t. serve t (number_in (codes "ticks") (rows_of f)) (number_in (codes "status") (rows_of f))))
+    (is ∙ first_value-rows f (codes "FILE")))
 
 -- ---- numerals
 
@@ -145,6 +221,40 @@ decimal_number n fits =
     let d = decimal_is_IsNumeral n (omega arith) in
     numeral_number (decimal n) n d.0 d.1 fits
 
+-- an option's number, as its digits
+record IsOptionNumber (number : Text) (n most : ℕ) : Type 0 where
+  d : ℕ
+  ds : Text
+  is : number ≡ d ∷ ds
+  plain : (d == 45) ≡ false
+  read : number_of (d ∷ ds) ≡ Some n
+  passes : accepts false (option_parser most) (d ∷ ds) ≡ true
+
+numeral_option : (number : Text) (n most : ℕ) → IsNumeral 10 number → digits_value 10 number ≡ n → 1 ≤ n → n ≤ most → most < 2 ^ 32 → IsOptionNumber number n most
+numeral_option [] n most numeral is low high small = absurd (omega (arith, numeral.0))
+numeral_option (d ∷ ds) n most numeral is low high small =
+    let digit = digit_from_value d numeral.1.0 in
+    let minus : (d == 45) ≡ false = ne_eqb d 45 (λ e. omega (arith, digit)) in
+    let plus : (d == 43) ≡ false = ne_eqb d 43 (λ e. omega (arith, digit)) in
+    let least : 1 ≤ digits_value 10 (d ∷ ds) = subst (λ (k : ℕ). 1 ≤ k) (sym is) low in
+    let greatest : digits_value 10 (d ∷ ds) ≤ most = subst (λ (k : ℕ). k ≤ most) (sym is) high in
+    let fits : digits_value 10 (d ∷ ds) < 2 ^ 32 = omega (arith, greatest, small) in
+    let whole : without_leading_plus (d ∷ ds) ≡ d ∷ ds = ap (λ (b : Bool). drop (cond b 1 0) (d ∷ ds)) plus in
+    record {
+      d = d;
+      ds = ds;
+      is = refl;
+      plain = minus;
+      read = ap (λ (t : Text). cond (fits_u32 t) (Some (digits_value 10 t)) None) whole ∙ cond-true (fits_u32 (d ∷ ds)) _ _ (is_fit (d ∷ ds) numeral fits) ∙ ap Some is;
+      passes = Accepts-accepts false (option_parser most) (d ∷ ds)
+          (rw (minus, plus) (numeral, record { sfits = omega (arith, fits) }, omega (arith, ints, least), omega (arith, ints, greatest)));
+    }
+
+option_number : (n most : ℕ) → 1 ≤ n → n ≤ most → most < 2 ^ 32 → IsOptionNumber (decimal n) n most
+option_number n most low high small =
+    let d = decimal_is_IsNumeral n (omega arith) in
+    numeral_option (decimal n) n most d.0 d.1 low high small
+
 abbrev IsRead : List Text → Request → Type 0
 IsRead words asked = (asked_for words ≡ Some asked) × (takes sfu words ≡ true)
 
@@ -157,6 +267,26 @@ read_at words (check []) name is fits = absurd fits
 read_at words (check (d ∷ ds)) name is fits =
     let plain : (d == 45) ≡ false = ne_eqb d 45 fits in
     (check_asked name d ds plain, check_taken name d ds plain)
+read_at words (replay []) name is fits = absurd fits
+read_at words (replay (d ∷ ds)) name is fits =
+    let plain : (d == 45) ≡ false = ne_eqb d 45 fits in
+    (replay_asked name d ds plain, replay_taken name d ds plain)
+read_at words (serve [] ticks None) name is fits = absurd fits.0
+read_at words (serve [] None (Some m)) name is fits = absurd fits.0
+read_at words (serve (d ∷ ds) None None) name is fits =
+    let plain : (d == 45) ≡ false = ne_eqb d 45 fits.0 in
+    (serve_asked name d ds plain, serve_taken name d ds plain)
+read_at words (serve (d ∷ ds) (Some n) None) name is fits =
+    let plain : (d == 45) ≡ false = ne_eqb d 45 fits.0 in
+    let k = option_number n 1000000 fits.1.0 fits.1.1 (omega arith) in
+    subst (λ (t : Text). IsRead (name ∷ codes "serve" ∷ (d ∷ ds) ∷ codes "--ticks" ∷ t ∷ []) (serve (d ∷ ds) (Some n) None)) (sym k.is)
+    (ticks_asked name d ds k.d k.ds plain k.plain ∙ ap (λ o. Some (serve (d ∷ ds) o None)) k.read, ticks_taken name d ds k.d k.ds plain k.plain k.passes)
+read_at words (serve (d ∷ ds) None (Some m)) name is fits =
+    let plain : (d == 45) ≡ false = ne_eqb d 45 fits.0 in
+    let k = option_number m 86400 fits.1.0 fits.1.1 (omega arith) in
+    subst (λ (t : Text). IsRead (name ∷ codes "serve" ∷ (d ∷ ds) ∷ codes "--status" ∷ t ∷ []) (serve (d ∷ ds) None (Some m))) (sym k.is)
+    (status_asked name d ds k.d k.ds plain k.plain ∙ ap (λ o. Some (serve (d ∷ ds) None o)) k.read, status_taken name d ds k.d k.ds plain k.plain k.passes)
+read_at words (serve file (Some n) (Some m)) name is fits = absurd fits
 
 pub some_is : {X : Type 0} (x y : X) → Some x ≡ Some y → x ≡ y
 some_is x y e = cc

@@ -7,7 +7,7 @@ use Rattle.sfu_main.specs.Lines.{Asked, LineLeaves, LinesLeave, Refused, TextLea
 use Rattle.sfu_main.specs.Outcome.{RefusesLine, RefusesText}
 
 -- the line that a loop is at, and the others
-at_line : (i : ℕ) (lines : List (Bor (List ℕ))) (d : Bor (List ℕ)) → i < length lines
+pub at_line : (i : ℕ) (lines : List (Bor (List ℕ))) (d : Bor (List ℕ)) → i < length lines
     → drop i (map (λ (x : Bor (List ℕ)). x.now) lines) ≡ (get_or lines i d).now ∷ drop (i + 1) (map (λ (x : Bor (List ℕ)). x.now) lines)
 at_line i lines d below =
     let text = λ (x : Bor (List ℕ)). x.now in

@@ -65,8 +65,10 @@ abbrev pub code_of : Status → ℕ
 code_of status.Done = 0
 code_of status.NoMemory = 1
 code_of status.CommandLine = 2
+code_of status.Settings = 3
 code_of status.Refused = 4
 code_of status.Io = 5
+code_of status.Socket = 5
 code_of status.UnsaidNoMemory = 1
 code_of status.UnsaidIo = 5
 
@@ -97,12 +99,14 @@ pub record SaysWhy (old new : Option (List ℕ)) (s : Status) : Type 0 where
   pub done : s ≡ status.Done → Keeps old new
   pub no_memory : s ≡ status.NoMemory → Appends old new (codes "no memory\n")
   pub io : s ≡ status.Io → Appends old new (codes "io\n")
+  pub socket : s ≡ status.Socket → Appends old new (codes "socket\n")
 
 -- A command that failed so ends so, and what is to be said of that is on the error output: the line for the fault, or why
 -- there is none.
 pub record ShowsFailure (failure : Failure) (old new : Option (List ℕ)) (s : Status) : Type 0 where
   pub failed : s ≢ status.Done
   pub understood : s ≢ status.CommandLine
+  pub settings : s ≢ status.Settings
   pub refused : s ≡ status.Refused → (status_of failure ≡ status.Refused) × ShowsLine failure old new
   pub said : SaysWhy old new s
 

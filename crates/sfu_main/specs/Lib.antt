@@ -4,3 +4,14 @@ pub mod BoundText
 pub mod Outcome
 pub mod CommandLine
 pub mod Command
+pub mod Places
+pub mod Addresses
+pub mod AddressFaults
+pub mod ReportText
+pub mod Serving
+pub mod Script
+pub mod SettingsText
+pub mod SettingsFile
+pub mod SettingsFaults
+pub mod Replay
+pub mod ServedFile

@@ -41,7 +41,7 @@ pub fn check_lines<I: Read, O: Write, E: Write>(
     ensures yes { result ≡ Status.Done → Appends (O.contents writer.old) (O.contents writer.new) (codes "yes\n") }
     ensures no { result ≡ Status.Refused
         → SaysNo (O.contents writer.old) (O.contents writer.new) (E.contents errors.old) (E.contents errors.new) }
-    ensures understood { result ≢ Status.CommandLine }
+    ensures understood { (result ≢ Status.CommandLine) × (result ≢ Status.Settings) }
     ensures said { SaysWhy (E.contents errors.old) (E.contents errors.new) result }
 {
     match answer_lines(alloc, file, writer) {

@@ -1,23 +1,38 @@
 //! The commands of the program, over a reader and writers.
 
-ghost use Rattle.std.specs.Prelude.{◌≡◌, ◌≢◌, ℕ, List, map, Some, Err, IfSome, IfErr, OnOk, codes};
+ghost use Rattle.std.specs.Prelude.{◌≡◌, ◌≢◌, ℕ, List, Option, map, None, Some, Ok, Err, IfSome, IfOk, IfErr, OnOk, codes};
 ghost use Rattle.std.specs.Io.KnownBytes.{Appends, Keeps};
 ghost use Rattle.clap.specs.Words.{kind_of};
-ghost use Rattle.sfu_main.specs.CommandLine.{Request, Types, asked_for, bound, check, request_of};
+ghost use Rattle.sfu_main.specs.CommandLine.{AsksToServe, Request, Types, asked_for, bound, check, replay, request_of, serve};
 ghost use Rattle.sfu_main.specs.Command.{EndsSaying, FailsBound, IsOutOfMemory, IsUnsaid, PrintsBound, RefusesBound, SaysNo, SaysWhy, ShowsFailure, unreadable_at};
+ghost use Rattle.sfu_main.specs.Replay.{PrintsByFile, RefusesByFile};
+ghost use Rattle.members.specs.Settings.{Configuration};
+ghost use Rattle.sfu_main.specs.ReportText.{PrintsReport};
+ghost use Rattle.sfu_main.specs.Serving.{SaysWhyServing};
+ghost use Rattle.sfu_main.specs.SettingsFaults.{TextGives};
+ghost use Rattle.sfu_main.specs.SettingsText.{SaysProblem, problem_line};
 ghost use Rattle.std.specs.IoError.{error_kind};
 
 use crate::bound::{Refusal, read_lines};
 use crate::check_file::check_lines;
 use crate::command_line::{Action, read_words};
 use crate::fault::LineFault;
+use crate::out_text::problem_line;
+use crate::replay::replay_lines;
+use crate::serve::{Term, serve_file};
+use crate::served_file::{ServedSettings, read_served};
+use crate::settings_file::{FileSettings, SettingsProblem, read_settings};
 use crate::text::{bound_text, refused_text};
 use clap::error::ErrorKind;
+use core_steps::RunFault;
 use std::alloc::{AllocError, Global};
 use std::convert::AsStr;
-use std::fs;
 use std::io::{self, Read, Write};
+use std::net::Net;
 use std::rt::Files;
+use std::sync::Wait;
+use std::thread::Threads;
+use std::{fs, time};
 use tmmbr_tuple::Ssrc;
 
 /// How a command ended.
@@ -29,10 +44,14 @@ pub enum Status {
     NoMemory,
     /// 2: the words of the command line ask for nothing.
     CommandLine,
+    /// 3: there are no settings in the file.
+    Settings,
     /// 4: a line of the input was refused, or what `sfu check` was asked is not so.
     Refused,
     /// 5: a read or a write failed.
     Io,
+    /// 5: the unit's socket or its threads can't be had, or failed.
+    Socket,
     /// 1: what there was to say couldn't be written to the error output, for want of memory.
     UnsaidNoMemory,
     /// 5: what there was to say couldn't be written to the error output.
@@ -51,8 +70,9 @@ impl Status {
             Status::Done => 0,
             Status::NoMemory | Status::UnsaidNoMemory => 1,
             Status::CommandLine => 2,
+            Status::Settings => 3,
             Status::Refused => 4,
-            Status::Io | Status::UnsaidIo => 5,
+            Status::Io | Status::Socket | Status::UnsaidIo => 5,
         }
     }
 }
@@ -90,6 +110,19 @@ impl From<Refusal> for Failure {
     }
 }
 
+impl From<RunFault> for Failure {
+    ghost use Rattle.std.specs.Prelude.{◌≡◌};
+    ghost use Rattle.sfu_main.specs.declared.command.Failure.TheVariants.{NoMemory};
+
+    ghost from_gives = { λ _ e. e ≡ NoMemory };
+
+    fn from(fault: RunFault) -> Failure {
+        match fault {
+            RunFault::NoMemory { .. } => Failure::NoMemory,
+        }
+    }
+}
+
 impl From<io::Error> for Failure {
     ghost use Rattle.std.specs.Prelude.{◌≡◌};
     ghost use Rattle.sfu_main.specs.Command.{failure_at};
@@ -123,13 +156,13 @@ pub fn unreadable(error: &io::Error) -> Failure
 ///
 /// The input is read whole before its first line is done. What is printed goes to the writer, and why
 /// a command isn't done to the error output.
-pub fn run_command<R: AllocGlobal + Files, S: AsStr, I: Read, O: Write, E: Write>(
-    rt: &R,
-    words: &[S],
-    reader: &mut I,
-    writer: &mut O,
-    errors: &mut E,
-) -> Status
+pub fn run_command<
+    R: AllocGlobal + Files + Net + Threads + Wait + Sync + time::Clock,
+    S: AsStr,
+    I: Read,
+    O: Write,
+    E: Write,
+>(rt: &R, words: &[S], reader: &mut I, writer: &mut O, errors: &mut E) -> Status
     ensures bound_done { (sender : ℕ) → asked_for (map S.text words.now) ≡ Some (bound sender) → result ≡ Status.Done
         → IfSome (I.remaining reader.old) (λ input. PrintsBound sender input (O.contents writer.old) (O.contents writer.new)) }
     ensures bound_refused { (sender : ℕ) → asked_for (map S.text words.now) ≡ Some (bound sender) → result ≡ Status.Refused
@@ -139,8 +172,22 @@ pub fn run_command<R: AllocGlobal + Files, S: AsStr, I: Read, O: Write, E: Write
         → Appends (O.contents writer.old) (O.contents writer.new) (codes "yes\n") }
     ensures check_refused { (file : List ℕ) → asked_for (map S.text words.now) ≡ Some (check file) → result ≡ Status.Refused
         → SaysNo (O.contents writer.old) (O.contents writer.new) (E.contents errors.old) (E.contents errors.new) }
+    ensures replay_done { (file : List ℕ) → asked_for (map S.text words.now) ≡ Some (replay file) → result ≡ Status.Done
+        → IfSome (I.remaining reader.old) (λ script.
+        PrintsByFile script (O.contents writer.old) (O.contents writer.new)) }
+    ensures replay_refused { (file : List ℕ) → asked_for (map S.text words.now) ≡ Some (replay file) → result ≡ Status.Refused
+        → IfSome (I.remaining reader.old) (λ script.
+        RefusesByFile script (O.contents writer.old) (O.contents writer.new) (E.contents errors.old) (E.contents errors.new)) }
+    ensures serve_done { (file : List ℕ) (ticks status : Option ℕ) → asked_for (map S.text words.now) ≡ Some (serve file ticks status)
+        → result ≡ Status.Done → (c : Configuration) × PrintsReport c (O.contents writer.old) (O.contents writer.new) }
+    ensures serve_failed { (file : List ℕ) (ticks status : Option ℕ) → asked_for (map S.text words.now) ≡ Some (serve file ticks status)
+        → result ≡ Status.Socket → Keeps (O.contents writer.old) (O.contents writer.new) }
+    ensures serve_said { (file : List ℕ) (ticks : Option ℕ) → asked_for (map S.text words.now) ≡ Some (serve file ticks None)
+        → SaysWhyServing (E.contents errors.old) (E.contents errors.new) result }
+    ensures settings { result ≡ Status.Settings → Keeps (O.contents writer.old) (O.contents writer.new)
+        × SaysProblem (E.contents errors.old) (E.contents errors.new) }
     ensures understood { (asked : Request) → Types (map S.text words.now) asked → result ≢ Status.CommandLine }
-    ensures said { SaysWhy (E.contents errors.old) (E.contents errors.new) result }
+    ensures said { ¬ (AsksToServe (asked_for (map S.text words.now))) → SaysWhy (E.contents errors.old) (E.contents errors.new) result }
 {
     let alloc = rt.alloc();
     match read_words(alloc, words) {
@@ -149,6 +196,14 @@ pub fn run_command<R: AllocGlobal + Files, S: AsStr, I: Read, O: Write, E: Write
             Err(failure) => report(alloc, errors, failure),
         },
         Ok(Action::Check { file }) => run_check(rt, file, writer, errors),
+        Ok(Action::Replay { file }) => run_replay(rt, file, reader, writer, errors),
+        Ok(
+            Action::Serve {
+                file,
+                ticks,
+                status,
+            },
+        ) => run_serve(rt, file, Term { ticks, status }, writer, errors),
         Err(error) => refuse_words(alloc, errors, &error),
     }
 }
@@ -163,12 +218,105 @@ fn run_check<R: AllocGlobal + Files, O: Write, E: Write>(
     ensures yes { result ≡ Status.Done → Appends (O.contents writer.old) (O.contents writer.new) (codes "yes\n") }
     ensures no { result ≡ Status.Refused
         → SaysNo (O.contents writer.old) (O.contents writer.new) (E.contents errors.old) (E.contents errors.new) }
-    ensures understood { result ≢ Status.CommandLine }
+    ensures understood { (result ≢ Status.CommandLine) × (result ≢ Status.Settings) }
     ensures said { SaysWhy (E.contents errors.old) (E.contents errors.new) result }
 {
     match fs::open(rt, file) {
         Ok(mut file) => check_lines(rt.alloc(), &mut file, writer, errors),
         Err(error) => report(rt.alloc(), errors, unreadable(&error)),
+    }
+}
+
+/// `sfu replay`: plays the script of the input by the settings of the file.
+fn run_replay<R: AllocGlobal + Files, I: Read, O: Write, E: Write>(
+    rt: &R,
+    file: &str,
+    reader: &mut I,
+    writer: &mut O,
+    errors: &mut E,
+) -> Status
+    ensures done { result ≡ Status.Done → IfSome (I.remaining reader.old) (λ script.
+        PrintsByFile script (O.contents writer.old) (O.contents writer.new)) }
+    ensures refused { result ≡ Status.Refused → IfSome (I.remaining reader.old) (λ script.
+        RefusesByFile script (O.contents writer.old) (O.contents writer.new) (E.contents errors.old) (E.contents errors.new)) }
+    ensures settings { result ≡ Status.Settings → Keeps (O.contents writer.old) (O.contents writer.new)
+        × SaysProblem (E.contents errors.old) (E.contents errors.new) }
+    ensures understood { result ≢ Status.CommandLine }
+    ensures said { SaysWhy (E.contents errors.old) (E.contents errors.new) result }
+{
+    match settings_in(rt, file) {
+        Ok(file) => replay_lines(rt.alloc(), &file.settings, reader, writer, errors),
+        Err(problem) => report_settings(rt.alloc(), errors, &problem),
+    }
+}
+
+/// `sfu serve`: serves the endpoints that the settings of the file name.
+fn run_serve<
+    R: AllocGlobal + Files + Net + Threads + Wait + Sync + time::Clock,
+    O: Write,
+    E: Write,
+>(rt: &R, file: &str, term: Term, writer: &mut O, errors: &mut E) -> Status
+    ensures done { result ≡ Status.Done → (c : Configuration) × PrintsReport c (O.contents writer.old) (O.contents writer.new) }
+    ensures failed { result ≡ Status.Socket → Keeps (O.contents writer.old) (O.contents writer.new) }
+    ensures settings { result ≡ Status.Settings → Keeps (O.contents writer.old) (O.contents writer.new)
+        × SaysProblem (E.contents errors.old) (E.contents errors.new) }
+    ensures understood { (result ≢ Status.CommandLine) × (result ≢ Status.Refused) }
+    ensures said { term.status ≡ None → SaysWhyServing (E.contents errors.old) (E.contents errors.new) result }
+{
+    match served_in(rt, file) {
+        Ok(file) => serve_file(rt, &file, term, writer, errors),
+        Err(problem) => report_settings(rt.alloc(), errors, &problem),
+    }
+}
+
+/// The settings that a file holds, with all addresses. One that can't be opened or read holds no TOML document.
+fn served_in<R: AllocGlobal + Files>(
+    rt: &R,
+    file: &str,
+) -> Result<ServedSettings, SettingsProblem> {
+    match fs::open(rt, file) {
+        Ok(mut file) => served_from(rt.alloc(), &mut file),
+        Err(error) => Err(unreadable_settings(&error)),
+    }
+}
+
+/// The settings that a reader holds, with all addresses.
+fn served_from<I: Read>(alloc: Global, file: &mut I) -> Result<ServedSettings, SettingsProblem> {
+    let mut text = Vec::new(alloc);
+    match file.read_to_end(&mut text) {
+        Ok(_) => read_served(alloc, text.as_slice()),
+        Err(error) => Err(unreadable_settings(&error)),
+    }
+}
+
+/// The settings that a file holds. One that can't be opened or read holds no TOML document.
+fn settings_in<R: AllocGlobal + Files>(rt: &R, file: &str) -> Result<FileSettings, SettingsProblem>
+    ensures { IfOk result (λ f. (text : List ℕ) × TextGives text (Ok f)) }
+{
+    match fs::open(rt, file) {
+        Ok(mut file) => settings_from(rt.alloc(), &mut file),
+        Err(error) => Err(unreadable_settings(&error)),
+    }
+}
+
+/// The settings that a reader holds.
+fn settings_from<I: Read>(alloc: Global, file: &mut I) -> Result<FileSettings, SettingsProblem>
+    ensures some { IfOk result (λ f. (text : List ℕ) × TextGives text (Ok f)) }
+    ensures whole { IfOk result (λ f. IfSome (I.remaining file.old) (λ text. TextGives text (Ok f))) }
+{
+    let mut text = Vec::new(alloc);
+    match file.read_to_end(&mut text) {
+        Ok(_) => read_settings(alloc, text.as_slice()),
+        Err(error) => Err(unreadable_settings(&error)),
+    }
+}
+
+/// Why there are no settings in a file that can't be opened or read.
+fn unreadable_settings(error: &io::Error) -> SettingsProblem {
+    if error.kind() == io::ErrorKind::OutOfMemory {
+        SettingsProblem::NoMemory
+    } else {
+        SettingsProblem::Toml
     }
 }
 
@@ -194,7 +342,7 @@ fn run_bound<I: Read, O: Write>(
 /// Says on the error output why the words of the command line can't be had: memory is wanting, or one
 /// of them is no text. This takes no memory.
 pub fn report_words<E: Write>(errors: &mut E, error: &io::Error) -> Status
-    ensures failed { (result ≢ Status.Done) × (result ≢ Status.Refused) }
+    ensures failed { (result ≢ Status.Done) × (result ≢ Status.Refused) × (result ≢ Status.Settings) }
     ensures memory { IsOutOfMemory error.now → result ≢ Status.CommandLine }
     ensures shown { result ≡ Status.CommandLine → Appends (E.contents errors.old) (E.contents errors.new) (codes "a word is no text\n") }
     ensures said { SaysWhy (E.contents errors.old) (E.contents errors.new) result }
@@ -219,10 +367,27 @@ pub fn report<E: Write>(alloc: Global, errors: &mut E, failure: Failure) -> Stat
     }
 }
 
+/// Says on the error output why there are no settings in a file. Where memory is wanting for a line, says that.
+pub fn report_settings<E: Write>(alloc: Global, errors: &mut E, problem: &SettingsProblem) -> Status
+    ensures failed { (result ≢ Status.Done) × (result ≢ Status.Refused) × (result ≢ Status.CommandLine) }
+    ensures settings { result ≡ Status.Settings → (problem.now ≢ SettingsProblem.NoMemory)
+        × Appends (E.contents errors.old) (E.contents errors.new) (problem_line problem.now) }
+    ensures said { SaysWhy (E.contents errors.old) (E.contents errors.new) result }
+{
+    match problem {
+        SettingsProblem::NoMemory => say_no_memory(errors),
+        problem => match problem_line(alloc, problem) {
+            Ok(text) => say(errors, text.as_bytes(), Status::Settings),
+            Err(_) => say_no_memory(errors),
+        },
+    }
+}
+
 /// Says on the error output why the words of the command line ask for nothing.
 fn refuse_words<E: Write>(alloc: Global, errors: &mut E, error: &clap::Error) -> Status
     ensures refused { result ≢ Status.Refused }
     ensures done { result ≢ Status.Done }
+    ensures settings { result ≢ Status.Settings }
     ensures memory { kind_of error.now ≡ ErrorKind.OutOfMemory → result ≢ Status.CommandLine }
     ensures said { SaysWhy (E.contents errors.old) (E.contents errors.new) result }
 {
@@ -236,14 +401,14 @@ fn refuse_words<E: Write>(alloc: Global, errors: &mut E, error: &clap::Error) ->
 }
 
 /// Says that memory is wanting. This takes none.
-fn say_no_memory<E: Write>(errors: &mut E) -> Status
+pub fn say_no_memory<E: Write>(errors: &mut E) -> Status
     ensures { EndsSaying Status.NoMemory (codes "no memory\n") (E.contents errors.old) (E.contents errors.new) result }
 {
     say(errors, b"no memory\n", Status::NoMemory)
 }
 
 /// Ends so, once this stands on the error output.
-fn say<E: Write>(errors: &mut E, text: &[u8], status: Status) -> Status
+pub fn say<E: Write>(errors: &mut E, text: &[u8], status: Status) -> Status
     ensures { EndsSaying status text.now (E.contents errors.old) (E.contents errors.new) result }
 {
     match errors.write_all(text) {
@@ -253,7 +418,7 @@ fn say<E: Write>(errors: &mut E, text: &[u8], status: Status) -> Status
 }
 
 /// How a command ends that couldn't say what there was to say.
-fn unsaid(error: &io::Error) -> Status
+pub fn unsaid(error: &io::Error) -> Status
     ensures { IsUnsaid result }
 {
     if error.kind() == io::ErrorKind::OutOfMemory {

@@ -2,8 +2,9 @@
 
 ghost use Rattle.std.specs.Prelude.{◌≡◌, ◌∷◌, ◌<◌, ◌^◌, ℕ, List, [], IfErr, IfOk, MatchResult, Some, codes, map, true, option_map, false};
 ghost use Rattle.clap.specs.Words.{app_of, found_of, kind_of, rows_of, rule_of, subcommand_rows_of, takes};
-ghost use Rattle.sfu_main.specs.CommandLine.{Request, Types, asked_for, asked_in, asked_named, file_rule, number_in, number_rule, request_of, sfu};
+ghost use Rattle.sfu_main.specs.CommandLine.{Request, Types, asked_for, asked_in, asked_named, file_rule, number_in, number_rule, optional_rule, request_of, sfu};
 
+use clap::builder::ValueParser;
 use clap::error::ErrorKind;
 use clap::{Arg, ArgAction, ArgMatches, Command, Error, value_parser};
 use std::alloc::{AllocError, Global};
@@ -13,10 +14,31 @@ use std::convert::AsStr;
 #[derive(Clone, Copy, Debug, PartialEq, Eq)]
 pub enum Action<'a> {
     /// `sfu bound --sender N`: the set that is announced for the requests of the lines.
-    Bound { sender: u32 },
+    Bound {
+        sender: u32,
+    },
     /// `sfu check FILE`: whether the file's lines certify a smallest choice.
-    Check { file: &'a str },
+    Check {
+        file: &'a str,
+    },
+    /// `sfu replay FILE`: what the machine gives out for a script, by the file's settings.
+    Replay {
+        file: &'a str,
+    },
+    /// `sfu serve FILE`: the unit on a socket, by the file's settings; for so many turns, or until it is stopped; with a line
+    /// of counts each so many seconds, or without.
+    Serve {
+        file: &'a str,
+        ticks: Option<u32>,
+        status: Option<u32>,
+    },
 }
+
+/// How many turns `--ticks` may name.
+const MAX_TICKS: i64 = 1_000_000;
+
+/// How many seconds `--status` may name: a day.
+const MAX_STATUS: i64 = 86_400;
 
 /// The action that the words ask for, of which the first is the program's name.
 pub fn read_words<'a, S: AsStr>(alloc: Global, words: &'a [S]) -> Result<Action<'a>, Error>
@@ -47,10 +69,17 @@ fn command<'a>(alloc: Global) -> Result<Command<'a>, AllocError>
 {
     let bound = Command::new(alloc, "bound").arg(number(alloc, "sender"))?;
     let check = Command::new(alloc, "check").arg(file(alloc))?;
+    let replay = Command::new(alloc, "replay").arg(file(alloc))?;
+    let serve = Command::new(alloc, "serve")
+        .arg(file(alloc))?
+        .arg(optional_number(alloc, "ticks", MAX_TICKS))?
+        .arg(optional_number(alloc, "status", MAX_STATUS))?;
     Command::new(alloc, "sfu")
         .subcommand_required(true)
         .subcommand(bound)?
-        .subcommand(check)
+        .subcommand(check)?
+        .subcommand(replay)?
+        .subcommand(serve)
 }
 
 /// A required word that names a file.
@@ -75,6 +104,17 @@ fn number<'a>(alloc: Global, name: &'a str) -> Arg<'a>
         .action(ArgAction::Set)
 }
 
+/// An option with a number from 1 to `most`.
+fn optional_number<'a>(alloc: Global, name: &'a str, most: i64) -> Arg<'a>
+    ensures rule { rule_of result ≡ optional_rule name.entry.now most }
+    ensures local { result.global ≡ false }
+{
+    Arg::new(alloc, name)
+        .long(name)
+        .value_parser(ValueParser::Signed(1, most))
+        .action(ArgAction::Set)
+}
+
 fn action_in<'a>(matches: &ArgMatches<'a>) -> Option<Action<'a>>
     ensures { option_map request_of result ≡ asked_in (subcommand_rows_of matches.now) }
 {
@@ -91,6 +131,14 @@ fn action_named<'a>(name: &str, matches: &ArgMatches<'a>) -> Option<Action<'a>>
         }),
         "check" => Some(Action::Check {
             file: matches.get_str("FILE")?,
+        }),
+        "replay" => Some(Action::Replay {
+            file: matches.get_str("FILE")?,
+        }),
+        "serve" => Some(Action::Serve {
+            file: matches.get_str("FILE")?,
+            ticks: number_in(matches, "ticks"),
+            status: number_in(matches, "status"),
         }),
         _ => None,
     }

@@ -1,12 +1,25 @@
 //! `sfu`, the program of the unit.
 #![tactic(auto)]
 
+mod addresses;
 mod bound;
 mod check_file;
 mod command;
 mod command_line;
+mod directory;
 mod entry;
 mod fault;
+mod out_text;
+mod replay;
+mod report_text;
+mod script;
+mod serve;
+mod serve_fault;
+mod served_file;
+mod settings_file;
+mod settings_keys;
+mod socket;
+mod status_lines;
 mod text;
 
 use command::{report_words, run_command};
@@ -35,5 +48,15 @@ fn words_of<R: Env + AllocGlobal>(rt: &R) -> io::Result<Vec<String>> {
 
 #[cfg(test)]
 mod check_tests;
+#[cfg(test)]
+mod exchange_tests;
+#[cfg(test)]
+mod replay_tests;
+#[cfg(test)]
+mod serve_tests;
+#[cfg(test)]
+mod settings_tests;
+#[cfg(test)]
+mod test_streams;
 #[cfg(test)]
 mod tests;

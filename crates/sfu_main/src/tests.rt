@@ -1,14 +1,23 @@
 //! The examples of docs/EXAMPLES.md, through the public call.
 use super::command::{Failure, Status, report, report_words, run_command};
+use super::test_streams::{Broken, Starved};
 use bounding_set::LIVE_LIMIT;
 use std::alloc::{AllocError, Global};
-use std::io::{self, Read, Write};
+use std::io;
+use std::net::Net;
 use std::process::Abort;
+use std::rt::Files;
+use std::sync::Wait;
 use std::test::Fail;
+use std::thread::Threads;
+use std::time::Clock;
 
 /// Runs `sfu bound --sender 1` on these lines, and shows what it printed, what it said on the error
 /// output, and how it ended.
-fn bound(rt: &HostRuntime, lines: &str) -> Result<(String, String, Status), Fail> {
+fn bound(
+    rt: &(impl AllocGlobal + Files + Net + Threads + Wait + Sync + Clock),
+    lines: &str,
+) -> Result<(String, String, Status), Fail> {
     let words = ["sfu", "bound", "--sender", "1"];
     let mut input = lines.as_bytes();
     let mut printed = Vec::new(rt.alloc());
@@ -367,26 +376,6 @@ fn prints_as_many_as_may_be_live(rt: HostRuntime) -> Result<(), Fail> {
     Ok(())
 }
 
-/// A reader and a writer that always fail.
-#[derive(Drop)]
-struct Broken;
-
-impl Read for Broken {
-    fn read(&mut self, _buf: &mut [u8]) -> io::Result<usize> {
-        Err(io::Error::from(io::ErrorKind::Other))
-    }
-}
-
-impl Write for Broken {
-    fn write(&mut self, _buf: &[u8]) -> io::Result<usize> {
-        Err(io::Error::from(io::ErrorKind::Other))
-    }
-
-    fn flush(&mut self) -> io::Result<()> {
-        Ok(())
-    }
-}
-
 #[test]
 fn failing_streams(rt: HostRuntime) -> Result<(), Fail> {
     let words = ["sfu", "bound", "--sender", "1"];
@@ -403,26 +392,6 @@ fn failing_streams(rt: HostRuntime) -> Result<(), Fail> {
     assert_eq!(rt; status.code(), 5);
     assert_eq!(rt; said.as_slice(), b"io\n".as_slice());
     Ok(())
-}
-
-/// A reader and a writer to which memory is refused.
-#[derive(Drop)]
-struct Starved;
-
-impl Read for Starved {
-    fn read(&mut self, _buf: &mut [u8]) -> io::Result<usize> {
-        Err(io::Error::from(io::ErrorKind::OutOfMemory))
-    }
-}
-
-impl Write for Starved {
-    fn write(&mut self, _buf: &[u8]) -> io::Result<usize> {
-        Err(io::Error::from(io::ErrorKind::OutOfMemory))
-    }
-
-    fn flush(&mut self) -> io::Result<()> {
-        Ok(())
-    }
 }
 
 #[test]

@@ -28,7 +28,7 @@ pub fn bound_text(alloc: Global, sender: Ssrc, bounds: &Bounds) -> Result<String
 }
 
 /// A TMMBN (RFC 5104, section 4.2.2) whose entries are these requests.
-fn tmmbn(alloc: Global, sender: Ssrc, announced: &[Request]) -> Result<Vec<u8>, AllocError>
+pub fn tmmbn(alloc: Global, sender: Ssrc, announced: &[Request]) -> Result<Vec<u8>, AllocError>
     requires { length announced.now ≤ MAX_ENTRIES }
     ensures { IfOk result (λ packet. packet.items ≡ tmmbn_bytes sender.0 announced.now) }
 {

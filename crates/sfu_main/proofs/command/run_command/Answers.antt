@@ -1,5 +1,6 @@
 use Rattle.std.proofs.Common.{◌≡◌, ◌∙◌, sym}
 use Rattle.sfu_main.proofs.CommandLemmas.{shown_refusal, shown_set, same_sender}
+use Rattle.sfu_main.proofs.ServeLemmas.{says_alone}
 use Rattle.sfu_main.proofs.command.run_command.Goals as goal
 
 pub returns-in-Err-clause-understood : goal.returns-in-Err-clause-understood
@@ -17,3 +18,6 @@ returns-in-Ok-clause-bound_done g c = λ sender asked is.
     let here = rw c.in-Ok-Bound.field-0-is at c.in-Ok-Bound.ensures.asked in
     let same : c.in-Ok-Bound.sender ≡ sender = same_sender c.in-Ok-Bound.sender sender (sym here ∙ asked) in
     shown_set _ sender _ _ _ same c.in-Ok.ensures.done
+
+pub returns-in-Err-clause-serve_said : goal.returns-in-Err-clause-serve_said
+returns-in-Err-clause-serve_said g c = λ file ticks asked. says_alone _ _ _ c.refuse_words.ensures.done c.refuse_words.ensures.said

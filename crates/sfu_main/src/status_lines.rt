@@ -1,0 +1,62 @@
+//! The lines of counts that `sfu serve --status` writes while the unit runs.
+
+use crate::socket::Gauges;
+use std::alloc::{AllocError, Global};
+use std::io::Write;
+use workers::{Counts, Watch};
+
+/// Writes a line of counts each so many milliseconds. A line that can't be written is left out.
+#[derive(Drop)]
+pub struct StatusLines<'a, E: Write> {
+    alloc: Global,
+    errors: &'a mut E,
+    /// The time between two lines, in milliseconds.
+    every_ms: u64,
+    /// The moment from which on the next line is due, in milliseconds.
+    due_ms: u64,
+    gauges: &'a Gauges,
+}
+
+impl<'a, E: Write> StatusLines<'a, E> {
+    /// Lines that are written each `every_ms` milliseconds.
+    pub fn new(
+        alloc: Global,
+        errors: &'a mut E,
+        every_ms: u64,
+        gauges: &'a Gauges,
+    ) -> StatusLines<'a, E> {
+        StatusLines {
+            alloc,
+            errors,
+            every_ms,
+            due_ms: every_ms,
+            gauges,
+        }
+    }
+
+    /// Writes one line.
+    fn write_line(&mut self, counts: &Counts) -> Result<(), AllocError> {
+        let status = counts.status();
+        let line = format!(in self.alloc;
+            "present {} heard {} sent {} failed {} lost {} strangers {}\n",
+            status.present,
+            status.heard,
+            status.sent,
+            status.failed,
+            status.lost,
+            self.gauges.strangers.get(),
+        )?;
+        let _ = self.errors.write_all(line.as_bytes());
+        Ok(())
+    }
+}
+
+impl<E: Write> Watch for StatusLines<'_, E> {
+    fn turn(&mut self, counts: &Counts) {
+        let now = self.gauges.moment_ms.get();
+        if now >= self.due_ms {
+            self.due_ms = now.saturating_add(self.every_ms);
+            let _ = self.write_line(counts);
+        }
+    }
+}
