@@ -42,4 +42,6 @@ mod tests;
 #[cfg(test)]
 mod thread_tests;
 #[cfg(test)]
+mod whole_list;
+#[cfg(test)]
 mod whole_list_tests;

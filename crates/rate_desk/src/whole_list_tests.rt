@@ -1,24 +1,17 @@
-//! A desk beside one that keeps every entry and goes by the definitions: random calls from a fixed seed.
+//! A desk beside one that keeps every call and goes over all of them: random calls from a fixed seed.
 
 ghost use Rattle.std.specs.Prelude.{IsTrue};
 ghost use Rattle.rate_desk.specs.Call.{HasStay};
 
+use super::whole_list::{Walk, announced_for, bits_for, is_sent, live_of, refusal_after};
 use super::*;
-use arrayvec::ArrayVec;
-use bounding_set::Bounds;
-use rate_cert::MAX_REQUESTS;
+use std::alloc::Global;
 use std::process::Abort;
 use std::test::Fail;
 use tmmbr_tuple::{Ssrc, Tuple};
 
-/// How many calls are made. To make 100,000, raise it and run the tests.
-const CALLS: u64 = 3000;
-
-const GAP: u64 = 20;
-
-const REQUEST_MS: u64 = 150;
-/// The owners that call are 1 and those that follow, below this one.
-const OWNERS_END: u32 = 9;
+/// How often each desk is called.
+const CALLS: u32 = 2500;
 
 /// Numbers of a linear congruential generator.
 #[derive(Drop)]
@@ -33,181 +26,122 @@ impl Draws {
             .wrapping_add(1_442_695_040_888_963_407);
         ((self.0 >> 40) & 255) as u8
     }
+
+    /// The next number below 65,536.
+    fn wide(&mut self) -> u32 {
+        ((self.next() as u32) << 8) | (self.next() as u32)
+    }
 }
 
-fn is_done(entry: &Entry) -> bool {
-    matches!(entry.answer, Answer::Done { .. })
+/// Who calls a desk, and what they ask for.
+#[derive(Clone, Copy, PartialEq, Eq)]
+enum Shape {
+    /// Eight owners, who ask for anything of exponent 0, now and then for a rate of 0.
+    Few,
+    /// Forty, who ask for anything of exponent 0 with a rate.
+    Some,
+    /// More than may be present. The rates rise with the square of the overhead, but for one bit, so that
+    /// most are announced.
+    Many,
 }
 
-/// What is known of an owner after these calls; a stay of 0 where it isn't present.
-fn presence_after(entries: &[Entry], owner: Ssrc) -> Present {
-    let mut known = Present {
-        owner,
-        stay: 0,
-        asked: None,
+impl Shape {
+    fn owners(self) -> u32 {
+        match self {
+            Shape::Few => 8,
+            Shape::Some => 40,
+            Shape::Many => 320,
+        }
+    }
+
+    /// What the owner asks for.
+    fn word(self, owner: u32, draws: &mut Draws) -> u32 {
+        let (high, low) = (draws.next() as u32, draws.next() as u32);
+        match self {
+            Shape::Few if high < 8 => low,
+            Shape::Few | Shape::Some => ((1 + high) << 9) | low,
+            Shape::Many => {
+                let overhead = 1 + owner % 256;
+                let square = overhead.wrapping_mul(overhead);
+                let rate = square.wrapping_add(65_500 + high % 2);
+                rate.wrapping_mul(512) | overhead
+            },
+        }
+    }
+}
+
+/// A desk, and who calls it.
+#[derive(Clone, Copy)]
+struct Plan {
+    gap: u64,
+    request_ms: u64,
+    shape: Shape,
+}
+
+/// How the desk of this number is called.
+fn plan_of(number: usize) -> Plan {
+    Plan {
+        gap: match number % 4 {
+            0 => 0,
+            1 => 1,
+            2 => 20,
+            _ => 500,
+        },
+        request_ms: match number / 4 % 4 {
+            0 => 0,
+            1 => 40,
+            2 => 150,
+            _ => 5000,
+        },
+        shape: match number % 5 {
+            0 => Shape::Many,
+            1 => Shape::Some,
+            _ => Shape::Few,
+        },
+    }
+}
+
+/// The next call, around this moment. The first ones are an arrive of each owner, then a request of each.
+fn draw(shape: Shape, draws: &mut Draws, number: u32, moment: u64) -> Call {
+    let owners = shape.owners().max(1);
+    let (drawn, kind) = (draws.wide() % owners, draws.next() % 32);
+    let stay = 1 + (draws.next() % 4 / 3) as u64;
+    let (owner, stay, kind) = match number / owners {
+        0 => (Ssrc(number), 1, 0),
+        1 => (Ssrc(number.wrapping_sub(owners)), 1, 10),
+        _ => (Ssrc(drawn), stay, kind),
     };
-    let mut greatest = 0;
-    for entry in entries {
-        if let Call::Time { moment, .. } = entry.call {
-            greatest = moment.max(greatest);
-        }
-        if !is_done(entry) {
-            continue;
-        }
-        match entry.call {
-            Call::Stay {
-                owner: other,
-                stay,
-                change,
-            } => {
-                if other == owner {
-                    known.stay = stay;
-                    match change {
-                        Change::Arrive => known.asked = None,
-                        Change::Request(tuple) => {
-                            known.asked = Some(Asked {
-                                tuple,
-                                stamp: greatest,
-                            });
-                        }
-                        Change::Depart => {
-                            known.stay = 0;
-                            known.asked = None;
-                        }
-                    }
-                }
-            }
-            Call::Time {
-                signal: Signal::Expire,
-                ..
-            } => {
-                if let Some(asked) = known.asked {
-                    if greatest.saturating_sub(asked.stamp) >= REQUEST_MS {
-                        known.asked = None;
-                    }
-                }
-            }
-            Call::Time { .. } => {}
-        }
-    }
-    known
-}
-
-/// Who is present after these calls, by rising owner.
-fn present_after(entries: &[Entry]) -> ArrayVec<Present, MAX_REQUESTS> {
-    let mut present = ArrayVec::new();
-    for owner in 1..OWNERS_END {
-        let known = presence_after(entries, Ssrc(owner));
-        if known.stay != 0 {
-            let _ = present.try_push(known);
-        }
-    }
-    present
-}
-
-/// What these calls left of the wishes: whether one is unanswered, the greatest moment, and the one when
-/// the last PLI was sent upstream.
-fn wishes_after(entries: &[Entry]) -> (bool, u64, Option<u64>) {
-    let (mut wanted, mut greatest, mut last_up) = (false, 0, None);
-    for entry in entries {
-        let Call::Time { moment, signal } = entry.call else {
-            continue;
-        };
-        greatest = moment.max(greatest);
-        if signal == Signal::Pli {
-            wanted = true;
-        }
-        if let Answer::Done { pli: true, .. } = entry.answer {
-            wanted = false;
-            last_up = Some(greatest);
-        }
-    }
-    (wanted, greatest, last_up)
-}
-
-/// The set that is announced for those present, made anew.
-fn bounds_for(present: &[Present]) -> Bounds {
-    let mut bounds = Bounds::new();
-    for p in present {
-        if let Some(asked) = p.asked {
-            let _ = bounds.set(p.owner, asked.tuple);
-        }
-    }
-    bounds
-}
-
-/// The bits of the rows that a set made anew keeps.
-fn bits_of(bounds: &Bounds) -> u64 {
-    let mut bits = 0;
-    for kept in bounds.cert().kept.as_slice() {
-        if kept.place < 64 {
-            bits |= 1 << kept.place;
-        }
-    }
-    bits
-}
-
-/// What is owed to an owner's change after these calls, where it is refused.
-fn refusal_after(entries: &[Entry], owner: Ssrc, stay: u64, change: Change) -> Option<Answer> {
-    let is = presence_after(entries, owner).stay;
-    match change {
-        Change::Arrive => {
-            if is == 0 {
-                None
-            } else {
-                Some(Answer::AlreadyPresent(is))
-            }
-        }
-        Change::Request(_) | Change::Depart => {
-            if is == stay {
-                None
-            } else {
-                Some(Answer::NotPresent(is))
-            }
-        }
-    }
-}
-
-/// Whether a PLI is to be sent upstream at this moment after these calls.
-fn is_sent(entries: &[Entry], moment: u64, signal: Signal) -> bool {
-    let (wanted, greatest, last_up) = wishes_after(entries);
-    let now = moment.max(greatest);
-    let is_wanted = match signal {
-        Signal::Pli => true,
-        Signal::Tick => wanted,
-        Signal::Expire => false,
+    let signal = match kind {
+        20 | 21 | 22 => Signal::Pli,
+        23 | 24 | 25 | 26 | 27 => Signal::Tick,
+        _ => Signal::Expire,
     };
-    is_wanted && last_up.is_none_or(|up| now.saturating_sub(up) >= GAP)
-}
-
-/// The call that the draws give, around this moment.
-fn draw(draws: &mut Draws, moment: u64) -> Call {
-    let owner = Ssrc(1 + (draws.next() % 8) as u32);
-    let stay = 1 + (draws.next() % 2) as u64;
-    let word = ((1 + draws.next() as u32) << 9) | (draws.next() as u32);
-    let kind = draws.next() % 16;
     let change = match kind {
-        0 | 1 | 2 => Change::Arrive,
-        3 | 4 | 5 | 6 | 7 | 8 => Change::Request(Tuple::from_word(word)),
-        9 => Change::Depart,
-        _ => {
-            let signal = match kind {
-                10 | 11 => Signal::Pli,
-                12 | 13 | 14 => Signal::Tick,
-                _ => Signal::Expire,
-            };
-            return Call::Time { moment, signal };
-        }
+        0 | 1 | 2 | 3 | 4 => Change::Arrive,
+        5 | 6 => Change::Depart,
+        _ => Change::Request(Tuple::from_word(shape.word(owner.0, draws))),
     };
-    Call::Stay {
-        owner,
-        stay,
-        change,
+    if kind < 20 {
+        return Call::Stay {
+            owner,
+            stay,
+            change,
+        };
+    }
+    // One in four moments lies behind.
+    let behind = if draws.next() < 64 {
+        draws.next() % 32
+    } else {
+        0
+    };
+    Call::Time {
+        moment: moment.saturating_sub(behind as u64),
+        signal,
     }
 }
 
 /// Whether the call names a stay from 1 on.
-fn is_call(call: &Call) -> bool
+fn has_stay(call: &Call) -> bool
     ensures { IsTrue result → HasStay call.now }
 {
     match *call {
@@ -216,87 +150,171 @@ fn is_call(call: &Call) -> bool
     }
 }
 
-/// The answer is the one that is owed after these calls, but for the rows that are announced.
-fn assert_owed(rt: &impl Abort, past: &[Entry], call: &Call, answer: &Answer) {
-    match *call {
-        Call::Stay {
-            owner,
-            stay,
-            change,
-        } => match refusal_after(past, owner, stay, change) {
-            Some(refusal) => assert_eq!(rt; *answer, refusal),
-            None => assert!(rt; matches!(*answer, Answer::Done { pli: false, .. })),
-        },
-        Call::Time { moment, signal } => {
+/// The answer is the one that is owed to a call behind calls that come to this, but for the rows that are
+/// announced.
+fn assert_owed(rt: &impl Abort, gap: u64, before: &Base, call: &Call, answer: &Answer) {
+    match refusal_after(before, call) {
+        Some(refusal) => assert_eq!(rt; *answer, refusal),
+        None => {
             let Answer::Done { pli, .. } = *answer else {
-                assert!(rt; false, "a call with a moment is refused");
+                assert!(rt; false, "{call:?} is refused: {answer:?}");
                 return;
             };
-            assert_eq!(rt; pli, is_sent(past, moment, signal));
-        }
+            assert_eq!(rt; pli, is_sent(gap, before, call), "{call:?}");
+        },
     }
 }
 
-/// What is announced after these calls, the last of which had this answer.
-fn assert_announced(
+fn assert_base(rt: &impl Abort, base: &Base, want: &Base) {
+    assert_eq!(rt; base.present.as_slice(), want.present.as_slice());
+    assert_eq!(rt; base.wanted, want.wanted);
+    assert_eq!(rt; base.greatest, want.greatest);
+    assert_eq!(rt; base.last_up, want.last_up);
+    assert_eq!(rt; base.calls, want.calls);
+    assert_eq!(rt; base.words, want.words);
+}
+
+/// What came to pass on all desks.
+#[derive(Clone, Copy, Default)]
+struct Seen {
+    full: usize,
+    sent: usize,
+    /// The requests that an expire took.
+    taken: usize,
+    most_live: usize,
+    most_announced: usize,
+}
+
+/// Calls a desk by this plan, and looks at all it says after each call.
+fn call_in_turn(
     rt: &impl Abort,
-    past: &[Entry],
-    desk: &Desk,
-    effect: &Effect,
-    answer: &Answer,
-) {
-    let present = present_after(past);
-    let bounds = bounds_for(present.as_slice());
-    assert_eq!(rt; desk.live(), bounds.rows());
-    assert_eq!(rt; desk.announced().as_slice(), bounds.announced().as_slice());
-    assert_eq!(rt; effect.set.as_slice(), bounds.announced().as_slice());
-    if let Answer::Done { kept, .. } = *answer {
-        assert_eq!(rt; kept, [bits_of(&bounds), 0, 0, 0]);
-    }
-}
-
-/// The base is what these calls come to.
-fn assert_base(rt: &impl Abort, folded: &[Entry], base: &Base) {
-    let present = present_after(folded);
-    assert_eq!(rt; base.present.as_slice(), present.as_slice());
-    assert_eq!(rt;
-        (base.wanted, base.greatest, base.last_up),
-        wishes_after(folded)
-    );
-    assert_eq!(rt; base.calls, folded.len() as u64);
-    let mut words: u128 = 0;
-    for entry in folded {
-        words = words.wrapping_add(entry.call.requested_word() as u128);
-    }
-    assert_eq!(rt; base.words, words);
-}
-
-#[test]
-fn folded_desk_as_by_the_whole_list(rt: HostRuntime) -> Result<(), Fail> {
-    let mut desk = Desk::new(rt.alloc(), GAP, REQUEST_MS)?;
+    alloc: Global,
+    plan: &Plan,
+    draws: &mut Draws,
+    seen: &mut Seen,
+) -> Result<(), Fail> {
+    let Plan {
+        gap,
+        request_ms,
+        shape,
+    } = *plan;
+    let mut desk = Desk::new(alloc, gap, request_ms)?;
     let mut effect = Effect::new();
-    let mut past = Vec::new(rt.alloc());
-    let mut draws = Draws(1);
+    let mut past = Vec::new(alloc);
+    let mut before = Walk::new(alloc, 0)?.come_to(request_ms);
+    let mut rows = live_of(&before);
+    let mut announced = announced_for(&rows);
+    let mut bits = bits_for(rows.as_slice(), announced.as_slice());
     let mut moment: u64 = 0;
     for number in 0..CALLS {
         moment = moment.wrapping_add((draws.next() % 8) as u64);
-        let call = draw(&mut draws, moment);
-        if !is_call(&call) {
+        let call = draw(shape, draws, number, moment);
+        if !has_stay(&call) {
             continue;
         }
         let recorded = desk.call(&call, &mut effect)?;
-        assert_eq!(rt; recorded.number, number);
-        assert_owed(&rt, past.as_slice(), &call, &recorded.answer);
-        past.push(Entry {
-            call,
-            answer: recorded.answer,
-        })?;
-        assert_announced(&rt, past.as_slice(), &desk, &effect, &recorded.answer);
-        if number % 64 == 0 {
-            let folded = past.len().saturating_sub(HISTORY_LIMIT);
-            assert_base(&rt, &past[..folded], desk.base());
-            assert_eq!(rt; desk.history().len(), past.len() - folded);
+        let answer = recorded.answer;
+        assert_eq!(rt; recorded.number, number as u64);
+        assert_owed(rt, gap, &before, &call, &answer);
+        past.push(Entry { call, answer })?;
+        // The list is gone over from its beginning, with a stop where the listed calls begin.
+        let folded = past.len().saturating_sub(1024);
+        assert_eq!(rt; desk.history().len(), past.len() - folded);
+        let mut walk = Walk::new(alloc, shape.owners() as usize)?;
+        walk.go_over(&past[..folded]);
+        assert_base(rt, desk.base(), &walk.come_to(request_ms));
+        walk.go_over(&past[folded..]);
+        before = walk.come_to(request_ms);
+        let live = live_of(&before);
+        // What is announced is a function of the live requests.
+        if live.as_slice() != rows.as_slice() {
+            if matches!(call, Call::Time { .. }) {
+                let taken = rows.len().saturating_sub(live.len());
+                seen.taken = seen.taken.saturating_add(taken);
+            }
+            announced = announced_for(&live);
+            bits = bits_for(live.as_slice(), announced.as_slice());
+            rows = live;
         }
+        assert_eq!(rt; desk.live(), rows.as_slice());
+        assert_eq!(rt; effect.set.as_slice(), announced.as_slice(), "{rows:?}");
+        match answer {
+            Answer::Done { pli, kept } => {
+                assert_eq!(rt; kept, bits);
+                seen.sent = seen.sent.saturating_add(pli as usize);
+            },
+            Answer::Full => seen.full = seen.full.saturating_add(1),
+            _ => {},
+        }
+        seen.most_live = seen.most_live.max(rows.len());
+        seen.most_announced = seen.most_announced.max(announced.len());
     }
     Ok(())
+}
+
+/// Five of the desks, from this number on: 12,500 calls.
+fn call_five(rt: &impl Abort, alloc: Global, first: usize) -> Result<(), Fail> {
+    let mut draws = Draws((first as u64).wrapping_add(1));
+    let mut seen = Seen::default();
+    for more in 0..5_usize {
+        call_in_turn(
+            rt,
+            alloc,
+            &plan_of(first.wrapping_add(more)),
+            &mut draws,
+            &mut seen,
+        )?;
+    }
+    assert!(rt; seen.full > 60, "Full {} times", seen.full);
+    assert!(rt; seen.sent > 100, "{} PLIs", seen.sent);
+    assert!(rt; seen.taken > 100, "{} requests taken", seen.taken);
+    assert_eq!(rt; seen.most_live, 256);
+    assert!(rt;
+        seen.most_announced > 100,
+        "{} announced",
+        seen.most_announced
+    );
+    Ok(())
+}
+
+// All in all 100,000 calls. They are parted so that each test ends in time under the interpreter, too.
+
+#[test]
+fn whole_lists_from_0(rt: HostRuntime) -> Result<(), Fail> {
+    call_five(&rt, rt.alloc(), 0)
+}
+
+#[test]
+fn whole_lists_from_5(rt: HostRuntime) -> Result<(), Fail> {
+    call_five(&rt, rt.alloc(), 5)
+}
+
+#[test]
+fn whole_lists_from_10(rt: HostRuntime) -> Result<(), Fail> {
+    call_five(&rt, rt.alloc(), 10)
+}
+
+#[test]
+fn whole_lists_from_15(rt: HostRuntime) -> Result<(), Fail> {
+    call_five(&rt, rt.alloc(), 15)
+}
+
+#[test]
+fn whole_lists_from_20(rt: HostRuntime) -> Result<(), Fail> {
+    call_five(&rt, rt.alloc(), 20)
+}
+
+#[test]
+fn whole_lists_from_25(rt: HostRuntime) -> Result<(), Fail> {
+    call_five(&rt, rt.alloc(), 25)
+}
+
+#[test]
+fn whole_lists_from_30(rt: HostRuntime) -> Result<(), Fail> {
+    call_five(&rt, rt.alloc(), 30)
+}
+
+#[test]
+fn whole_lists_from_35(rt: HostRuntime) -> Result<(), Fail> {
+    call_five(&rt, rt.alloc(), 35)
 }

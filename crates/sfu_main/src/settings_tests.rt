@@ -279,8 +279,10 @@ fn reads_each_key(rt: HostRuntime) -> Result<(), Fail> {
     assert_eq!(rt; settings.pli_gap_ms(), 500);
     assert_eq!(rt; settings.unit_ssrc().0, 9);
     assert_eq!(rt; settings.cname(), b"sfu".as_slice());
-    assert_eq!(rt; settings.endpoints().len(), 2);
-    assert_eq!(rt; settings.endpoints()[1].0, 17);
+    let [_, second] = settings.endpoints() else {
+        return Err(Fail::from("endpoints"));
+    };
+    assert_eq!(rt; second.0, 17);
     let [leg] = settings.legs() else {
         return Err(Fail::from("legs"));
     };
@@ -290,8 +292,10 @@ fn reads_each_key(rt: HostRuntime) -> Result<(), Fail> {
     assert_eq!(rt; leg.first_seq, 100);
     assert!(rt; leg.on);
     assert!(rt; file.listen.is_none());
-    assert_eq!(rt; file.addresses.len(), 2);
-    assert!(rt; file.addresses[0].is_none());
+    let [first, _] = file.addresses.as_slice() else {
+        return Err(Fail::from("addresses"));
+    };
+    assert!(rt; first.is_none());
     Ok(())
 }
 

@@ -260,10 +260,10 @@ fn play(
     let mut world = World::new(alloc, settings)?;
     let mut refused = Vec::new(alloc);
     let mut jobs: u64 = 0;
-    for at in 0..turns.len() {
-        let moment = turns[at].moment;
-        turns[at].jobs_before = jobs;
-        if let Some((endpoint, bytes)) = &turns[at].arrival {
+    for turn in turns.iter_mut() {
+        let moment = turn.moment;
+        turn.jobs_before = jobs;
+        if let Some((endpoint, bytes)) = &turn.arrival {
             let event = Event::Hear {
                 moment,
                 endpoint: *endpoint,
