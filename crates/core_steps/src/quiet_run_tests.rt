@@ -76,6 +76,16 @@ fn room(alloc: Global, request_ms: u64) -> Result<Settings, Fail> {
     Ok(Settings::new(alloc, &parts)?)
 }
 
+/// A word that was heard. A desk stamps its request with the greatest moment that it knows by then.
+#[derive(Clone, Copy, Drop)]
+struct Word {
+    word: u32,
+    /// No stamp is earlier: the tick that its publisher's desk had been told of when it was heard.
+    earliest: u64,
+    /// No stamp is later: the moment of the first settling behind it.
+    latest: Option<u64>,
+}
+
 /// What the datagrams and moments say by themselves: who is present, and of each leg the word that was heard last while
 /// both its endpoints were.
 #[derive(Drop)]
@@ -83,7 +93,10 @@ struct Listener {
     moment: u64,
     /// When each endpoint was heard last, while it is present.
     heard: [Option<u64>; 3],
-    last: [Option<u32>; 5],
+    last: [Option<Word>; 5],
+    /// The last tick at which each endpoint was present; and the last one of them before the last settling.
+    ticked: [u64; 3],
+    told: [u64; 3],
 }
 
 impl Listener {
@@ -116,6 +129,27 @@ impl Listener {
         }
     }
 
+    /// A tick was taken in: the desks of those present are told of it.
+    fn tick(&mut self, moment: u64) {
+        self.pass(moment);
+        for (ticked, heard) in self.ticked.iter_mut().zip(self.heard.iter()) {
+            if heard.is_some() {
+                *ticked = self.moment;
+            }
+        }
+    }
+
+    /// All that was taken in is done.
+    fn settle(&mut self) {
+        self.told = self.ticked;
+        for last in self.last.iter_mut() {
+            if let Some(word) = last {
+                let moment = self.moment;
+                word.latest = Some(word.latest.unwrap_or(moment));
+            }
+        }
+    }
+
     /// A datagram of this endpoint was taken in, which asks sources for words.
     fn hear(&mut self, moment: u64, endpoint: u16, asks: &[(u32, u32)]) {
         self.pass(moment);
@@ -139,8 +173,13 @@ impl Listener {
     fn ask(&mut self, at: usize, endpoint: u16, word: u32) {
         if let Some((subscriber, publisher)) = LEGS.get(at) {
             if *subscriber == endpoint && self.is_present(*publisher) {
+                let told = self.told.get(usize::from(*publisher)).copied();
                 if let Some(last) = self.last.get_mut(at) {
-                    *last = Some(word);
+                    *last = Some(Word {
+                        word,
+                        earliest: told.unwrap_or(0),
+                        latest: None,
+                    });
                 }
             }
         }
@@ -151,7 +190,7 @@ impl Listener {
         let mut found = None;
         for (word, (subscriber, of)) in self.last.iter().zip(LEGS.iter()) {
             if source(*subscriber) == owner && *of == publisher {
-                found = *word;
+                found = word.map(|heard| heard.word);
             }
         }
         found
@@ -222,7 +261,7 @@ fn play(
         }
         10 => {
             if done(alloc, world, Event::Tick { moment })? {
-                listener.pass(moment);
+                listener.tick(moment);
             }
         }
         11 if draws.next() % 8 == 0 => {
@@ -308,17 +347,32 @@ fn are_heard(world: &World, listener: &Listener, publisher: u16) -> (bool, u64) 
     (all, count)
 }
 
-/// How many words were heard last and aren't live.
-fn missing(world: &World, listener: &Listener) -> u64 {
-    let mut count = 0u64;
+/// Whether this word of the publisher may have grown too old, and whether it has to be.
+fn ages(listener: &Listener, word: Word, publisher: u16) -> (bool, bool) {
+    let ticked = listener.ticked.get(usize::from(publisher)).copied();
+    let may = listener.moment.saturating_sub(word.earliest) >= REQUEST_MS;
+    let must = match (ticked, word.latest) {
+        (Some(tick), Some(latest)) => tick.saturating_sub(latest) >= REQUEST_MS,
+        _ => false,
+    };
+    (may, must)
+}
+
+/// Whether each word that was heard last is live, but for those too old; and how many those are.
+fn are_live(world: &World, listener: &Listener, grow_old: bool) -> (bool, u64) {
+    let (mut all, mut old) = (true, 0u64);
     for (last, (subscriber, publisher)) in listener.last.iter().zip(LEGS.iter()) {
         if let Some(word) = last {
-            if !is_live(world, *publisher, source(*subscriber), *word) {
-                count = count.wrapping_add(1);
+            let (may, must) = ages(listener, *word, *publisher);
+            if is_live(world, *publisher, source(*subscriber), word.word) {
+                all = all && !(grow_old && must);
+            } else {
+                all = all && grow_old && may;
+                old = old.wrapping_add(1);
             }
         }
     }
-    count
+    (all, old)
 }
 
 /// What was seen at the ends of runs: live requests, and words that were heard last and are too old.
@@ -333,21 +387,21 @@ fn want(holds: bool, what: &'static str) -> Result<(), &'static str> {
     if holds { Ok(()) } else { Err(what) }
 }
 
-/// Compares what is live with what was heard; words may be missing only where requests grow old.
+/// Compares what is live with what was heard; words are missing only where requests grow old, and they are too old.
 fn compare(
     world: &World,
     listener: &Listener,
     seen: &mut Seen,
-    may_be_old: bool,
+    grow_old: bool,
 ) -> Result<(), &'static str> {
     for publisher in 0..3 {
         let (all, count) = are_heard(world, listener, publisher);
         want(all, "something else is live than was heard last")?;
         seen.live = seen.live.wrapping_add(count);
     }
-    let gone = missing(world, listener);
-    want(gone == 0 || may_be_old, "what was heard last isn't live")?;
-    seen.old = seen.old.wrapping_add(gone);
+    let (all, old) = are_live(world, listener, grow_old);
+    want(all, "what was heard last isn't live, or is too old")?;
+    seen.old = seen.old.wrapping_add(old);
     Ok(())
 }
 
@@ -359,6 +413,8 @@ fn runs_of(alloc: Global, seed: u64, request_ms: u64, seen: &mut Seen) -> Result
         moment: 0,
         heard: [None; 3],
         last: [None; 5],
+        ticked: [0; 3],
+        told: [0; 3],
     };
     let mut moment = 0u64;
     for _ in 0..RUNS {
@@ -370,6 +426,7 @@ fn runs_of(alloc: Global, seed: u64, request_ms: u64, seen: &mut Seen) -> Result
         let waiting = world.waiting();
         let idle = waiting.tasks == 0 && waiting.jobs == 0 && waiting.hands == 0;
         want(idle && world.lost() == 0, "something waits, or was lost")?;
+        listener.settle();
         compare(&world, &listener, seen, request_ms > 0)?;
     }
     Ok(())
