@@ -1,3 +1,5 @@
+//! Orders in, rows out: what readers see once changes are published.
+
 ghost use Rattle.std.specs.Prelude.{◌≡◌};
 
 use super::*;
