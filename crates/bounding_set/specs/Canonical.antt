@@ -7,7 +7,7 @@ use Rattle.tmmbr_tuple.specs.RatePair.{RatePair, Permits, Forbids}
 use Rattle.rate_cert.specs.declared.request.Request.{Request}
 use Rattle.rate_cert.specs.Choice.{IsChoice}
 
--- Two requests have the same line where rate and overhead are equal, however the rate is spelled.
+-- Two requests are one line by equal rates, however these are spelled, and equal overheads.
 pub record HasSameLine (x y : Request) : Type 0 where
   pub rate : rate_of x.tuple ≡ rate_of y.tuple
   pub overhead : x.tuple.overhead ≡ y.tuple.overhead
@@ -19,7 +19,7 @@ StopsMedia r = rate_of r.tuple ≡ 0
 abbrev pub StopsEverything : Request → Type 0
 StopsEverything r = StopsMedia r × (0 < r.tuple.overhead)
 
--- Of the requests that stop everything, the one of greatest overhead, then of least owner.
+-- Of the requests that stop everything, one with the greatest overhead, and of several of these the least owner's.
 pub record IsStrictestStop (requests : List Request) (x : Request) : Type 0 where
   pub stops : StopsEverything x
   pub greatest : All (λ y. StopsEverything y → y.tuple.overhead ≤ x.tuple.overhead) requests
@@ -48,7 +48,7 @@ pub record IsLeastReach (requests : List Request) (x : Request) : Type 0 where
   pub least_overhead : All (λ y. 0 < y.tuple.overhead → ReachesAsFar x y → x.tuple.overhead ≤ y.tuple.overhead) requests
   pub least_owner : All (λ y. 0 < y.tuple.overhead → ReachesAsFar x y → x.tuple.overhead ≡ y.tuple.overhead → x.owner.0 ≤ y.owner.0) requests
 
--- A line is essential where some pair is forbidden by it, and permitted by every request with another line.
+-- A line is essential where it forbids some pair that all requests of other lines permit.
 pub record IsEssential (requests : List Request) (x : Request) : Type 0 where
   pub pair : RatePair
   pub some_time : 1 ≤ pair.seconds

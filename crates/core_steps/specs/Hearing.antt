@@ -48,7 +48,7 @@ stay_in r leg = (leg_at r.legs leg).stay
 abbrev pub owner_of : LinkTable → ℕ → ℕ
 owner_of t leg = option_map_or (worker_of t) (slice_get t.legs leg) 0
 
--- the workers that own a leg of this publisher in which a stay stands, by rising number
+-- the workers that own one of this publisher's legs that has a stay, by rising number
 abbrev pub is_served_by : LinkTable → RoomState → ℕ → ℕ → Bool
 is_served_by t r publisher worker = list_any (λ leg. not (stay_in r leg == 0) && (owner_of t leg == worker)) (legs_of t publisher)
 
@@ -69,7 +69,7 @@ job_by moment leg stay (Rate source word) = Request leg stay word
 job_by moment leg stay (Again source nack) = Resend leg stay nack
 job_by moment leg stay (Picture source) = Pli leg moment
 
--- the job for an ask about a leg, for the leg's owner; none where there is no such leg, or no stay of it stands
+-- the job for an ask about a leg, for the leg's owner; none about a leg that isn't there or has no stay
 abbrev pub task_on : LinkTable → RoomState → Ask → Option ℕ → Option Task
 task_on t r a None = None
 task_on t r a (Some leg) =

@@ -196,7 +196,7 @@ fn push_some(next: Option<FollowUp>, follow_ups: &mut Vec<FollowUp>)
     }
 }
 
-/// The datagram is for each worker that owns a leg of this publisher in which a stay stands.
+/// The datagram is for each worker that serves the publisher.
 fn push_packet(
     links: &Links,
     room: &Room,
@@ -224,7 +224,7 @@ fn packet_to(links: &Links, room: &Room, publisher: u16, worker: u16) -> Option<
     }
 }
 
-/// Whether the worker owns a leg of this publisher in which a stay stands.
+/// Whether the worker owns one of this publisher's legs that has a stay.
 fn is_served_by(links: &Links, room: &Room, publisher: u16, worker: u16) -> bool
     ensures { result ≡ is_served_by links.now room.now publisher worker }
 {

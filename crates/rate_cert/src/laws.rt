@@ -7,8 +7,8 @@ ghost use Rattle.rate_cert.specs.declared.certificate.Cert.{Cert as Certificate}
 ghost use Rattle.rate_cert.specs.Choice.{IsChoice, IsSmallest};
 ghost use Rattle.rate_cert.specs.Certificate.{IsCertified, kept_places};
 
-/// Where a certificate holds, its kept places are a choice of requests, and a smallest one: a faithful
-/// choice has to forbid each kept pair, no request forbids two, so it has as many places or more.
+/// Where a certificate holds, its kept places are a choice of requests, and a smallest one: each kept pair
+/// has to be forbidden by a member of any faithful choice, and no member forbids two of these.
 pub fn certified_is_smallest()
     ensures choice { (requests : List RateRequest) (cert : Certificate) → IsCertified requests cert → IsChoice requests (kept_places cert) }
     ensures smallest { (requests : List RateRequest) (cert : Certificate) → IsCertified requests cert → IsSmallest requests (kept_places cert) }

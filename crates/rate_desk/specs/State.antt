@@ -35,7 +35,7 @@ calls_of d = d.base.calls + length d.history
 abbrev pub IsOverLimit : DeskState → Call → Type 0
 IsOverLimit d call = CALL_LIMIT < calls_of d + 1 + length (present_with d.request_ms (now_of d) call)
 
--- The history is legal from its base, the rows are the live requests of the trace, and what is announced is their canonical
+-- The history is a legal one behind the base; its rows are what the trace leaves live, and what is announced is their canonical
 -- choice: the smallest that permits what they together permit, with its certificate.
 pub record HoldsLegalDesk (d : DeskState) : Type 0 where
   pub base : IsBase d.base
@@ -48,7 +48,7 @@ pub record HoldsLegalDesk (d : DeskState) : Type 0 where
   pub announced : AnnouncesSmallest d.bounds
   pub once : AllPairs (λ x y. x.owner.0 ≢ y.owner.0) (announced_of d.bounds)
 
--- The call's number is the count of calls before it. Base and history stand for the former ones and the call with its answer.
+-- The call is numbered by how many came before it. Base and history stand for the former ones and the call with its answer.
 pub record Records (old : DeskState) (call : Call) (number : ℕ) (answer : Answer) (new : DeskState) : Type 0 where
   pub numbered : number ≡ calls_of old
   pub stands : StandsFor old.request_ms old.base (old.history ++ record { call = call; answer = answer } ∷ []) new.base new.history

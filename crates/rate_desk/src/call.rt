@@ -100,8 +100,9 @@ pub const KEPT_WORDS: usize = 4;
 /// What a desk answers: done, or the refusal of least number that applies.
 #[derive(Clone, Copy, Debug, PartialEq, Eq)]
 pub enum Answer {
-    /// The call was done. `pli` says that a PLI is to be sent upstream now; bit i modulo 64 of word i / 64
-    /// of `kept` says that row i of the live requests, by rising owner, is announced.
+    /// The call was done. `pli` says that a PLI is to be sent upstream now. `kept` has a bit for each live
+    /// request, by rising owner from 0: that of number i, which is bit i modulo 64 of word i / 64, says
+    /// that it is announced.
     Done { pli: bool, kept: [u64; KEPT_WORDS] },
     /// 1: the owner isn't present with the stay that was named. Shows the stay with which it is; 0 where it
     /// isn't present.

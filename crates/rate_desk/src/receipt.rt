@@ -20,7 +20,7 @@ pub enum HouseFault {
     /// 4: the desk's history has no room for the call.
     #[error("the history is full")]
     HistoryFull,
-    /// 5: the desk has fewer calls, the number shown, than this seat made to it.
+    /// 5: this seat made more calls to the desk than the desk has. Shows how many it has.
     #[error("the desk has only {0} calls")]
     Behind(u64),
 }

@@ -19,7 +19,7 @@ pub const MAX_ENTRIES: usize = 32_766;
 /// One entry of a TMMBR or a TMMBN (RFC 5104, section 4.2.1.1).
 #[derive(Clone, Copy, Debug, PartialEq, Eq, Hash)]
 pub struct TmmbrEntry {
-    /// In a TMMBR the media sender that is asked, in a TMMBN the owner of the request.
+    /// Of a TMMBR the media sender whose rate is meant; of a TMMBN the owner, who asked for it.
     pub ssrc: Ssrc,
     /// The rate and the overhead: exponent, mantissa and overhead in 6, 17 and 9 bits.
     pub word: u32,

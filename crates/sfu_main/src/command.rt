@@ -154,7 +154,7 @@ pub fn unreadable(error: &io::Error) -> Failure
 
 /// Runs the command that the words ask for, of which the first is the program's name.
 ///
-/// The input is read whole before its first line is done. What is printed goes to the writer, and why
+/// Nothing is done before the input was read to its end. What is printed goes to the writer, and why
 /// a command isn't done to the error output.
 pub fn run_command<
     R: AllocGlobal + Files + Net + Threads + Wait + Sync + time::Clock,

@@ -29,11 +29,11 @@ pub enum SettingsProblem {
     NoMemory,
     /// It is no TOML document.
     Toml,
-    /// A key is missing, unknown, of the wrong kind or out of range.
+    /// A key that isn't there, isn't known, or has a value of another kind or beyond its range.
     Top(String),
-    /// A key of the endpoint of this number is.
+    /// Such a key of the endpoint of this number.
     Endpoint(usize, String),
-    /// A key of the leg of this number is; a leg's publisher also where it is its subscriber, or where an earlier leg has
+    /// Such a key of the leg of this number; a leg's publisher also where it is its subscriber, or where an earlier leg has
     /// the same two endpoints.
     Leg(usize, String),
     /// Two of the unit, the endpoints and the legs have one source.
