@@ -19,7 +19,7 @@ const SR: [u8; 28] = [
     0x80, 0xc8, 0, 6, 0, 0, 0, 0x10, 0, 0, 0, 0x0a, 0x80, 0, 0, 0, 0, 0, 0x0b, 0xb8, 0, 0, 0, 1, 0,
     0, 0, 2,
 ];
-/// A TMMBR of 17 that asks source 257 for 1000 kbit/s at an overhead of 40.
+/// A TMMBR of 17 that asks source 257 for 1,000 bit/s at an overhead of 40.
 const TMMBR: [u8; 20] = [
     0x83, 0xcd, 0, 4, 0, 0, 0, 0x11, 0, 0, 0, 0, 0, 0, 1, 1, 0, 0x07, 0xd0, 0x28,
 ];

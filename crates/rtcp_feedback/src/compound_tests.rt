@@ -6,7 +6,7 @@ use std::process::Abort;
 use std::test::Fail;
 use tmmbr_tuple::Ssrc;
 
-/// 1000 kbit/s at an overhead of 40 bytes.
+/// 1,000 bit/s at an overhead of 40 bytes.
 const WORD: u32 = 0x0007_d028;
 
 /// The next packet, which is feedback of this FMT and type, as it is read.

@@ -7,7 +7,7 @@ use std::process::Abort;
 use std::test::Fail;
 use tmmbr_tuple::Ssrc;
 
-/// 1000 kbit/s at an overhead of 40 bytes: exponent 0, mantissa 1000, overhead 40.
+/// 1,000 bit/s at an overhead of 40 bytes: exponent 0, mantissa 1000, overhead 40.
 const WORD: u32 = 0x0007_d028;
 
 /// A TMMBN of sender 1 with one entry, owner 17.
