@@ -12,8 +12,8 @@ use rate_cert::MAX_REQUESTS;
 /// How many calls a desk records in its life, owners that are present counted in.
 pub const CALL_LIMIT: u64 = 1 << 31;
 
-/// What calls come to: who is present, and when wishes for a picture were sent upstream. It stands for the
-/// calls of a desk that its history lists no more.
+/// What calls come to: who is present and asks for what, and whether a PLI is wanted and when the last one
+/// was sent upstream. It stands for the calls of a desk that its history lists no more.
 #[derive(Debug, Drop)]
 pub struct Base {
     /// By rising owner, each owner once.

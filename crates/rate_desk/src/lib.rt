@@ -1,6 +1,6 @@
 //! One publisher's desk: who may ask it for rates, what they ask for, and what is announced to them (RFC
-//! 5104, sections 3.5.4 and 4.2); and when wishes for a picture are sent on to it (RFC 4585, section
-//! 6.3.1).
+//! 5104, sections 3.5.4 and 4.2); and when a picture loss indication is sent on to it (PLI, RFC 4585,
+//! section 6.3.1).
 //!
 //! Read `desk` first. A desk records each call with its answer; what it holds and announces is a function
 //! of these. It lists its last calls, and folds those before them into a base. Nothing reads a clock: moments
