@@ -52,9 +52,13 @@ pub use working::{Asks, asked_by};
 pub use world::{Waiting, World};
 
 #[cfg(test)]
+mod cut_tests;
+#[cfg(test)]
 mod intake_tests;
 #[cfg(test)]
 mod legs_tests;
+#[cfg(test)]
+mod memory_tests;
 #[cfg(test)]
 mod notification_tests;
 #[cfg(test)]

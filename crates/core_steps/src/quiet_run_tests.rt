@@ -28,11 +28,11 @@ const FIRST_OUT: u32 = 257;
 
 /// Numbers of a linear congruential generator.
 #[derive(Drop)]
-struct Draws(u64);
+pub(crate) struct Draws(pub(crate) u64);
 
 impl Draws {
     /// The next number, below 256.
-    fn next(&mut self) -> u8 {
+    pub(crate) fn next(&mut self) -> u8 {
         self.0 = self
             .0
             .wrapping_mul(6_364_136_223_846_793_005)
@@ -42,12 +42,12 @@ impl Draws {
 }
 
 /// The source of an endpoint.
-fn source(endpoint: u16) -> u32 {
+pub(crate) fn source(endpoint: u16) -> u32 {
     16 + u32::from(endpoint)
 }
 
 /// Three endpoints and five legs; where requests never grow old the age is 0.
-fn room(alloc: Global, request_ms: u64) -> Result<Settings, Fail> {
+pub(crate) fn room(alloc: Global, request_ms: u64) -> Result<Settings, Fail> {
     let mut legs = Vec::new(alloc);
     let mut out = i64::from(FIRST_OUT);
     for (subscriber, publisher) in &LEGS {
@@ -198,7 +198,11 @@ impl Listener {
 }
 
 /// A TMMBR of this source with these entries, one or two (RFC 5104, section 4.2.1).
-fn tmmbr(alloc: Global, sender: u32, asks: &[(u32, u32)]) -> Result<Vec<u8>, AllocError> {
+pub(crate) fn tmmbr(
+    alloc: Global,
+    sender: u32,
+    asks: &[(u32, u32)],
+) -> Result<Vec<u8>, AllocError> {
     let words = if asks.len() == 2 { 6 } else { 4 };
     let mut out = Vec::new(alloc);
     out.extend_from_slice(&[0x83, 0xcd, 0, words])?;
@@ -212,7 +216,12 @@ fn tmmbr(alloc: Global, sender: u32, asks: &[(u32, u32)]) -> Result<Vec<u8>, All
 }
 
 /// A packet of this second byte, of a source alone: a receiver report, or a goodbye.
-fn packet(alloc: Global, first: u8, kind: u8, sender: u32) -> Result<Vec<u8>, AllocError> {
+pub(crate) fn packet(
+    alloc: Global,
+    first: u8,
+    kind: u8,
+    sender: u32,
+) -> Result<Vec<u8>, AllocError> {
     let mut out = Vec::new(alloc);
     out.extend_from_slice(&[first, kind, 0, 1])?;
     out.extend_from_slice(&sender.to_be_bytes())?;
@@ -220,7 +229,7 @@ fn packet(alloc: Global, first: u8, kind: u8, sender: u32) -> Result<Vec<u8>, Al
 }
 
 /// An RTP packet of this source.
-fn media(alloc: Global, sender: u32) -> Result<Vec<u8>, AllocError> {
+pub(crate) fn media(alloc: Global, sender: u32) -> Result<Vec<u8>, AllocError> {
     let mut out = Vec::new(alloc);
     out.extend_from_slice(&[0x80, 96, 0, 7, 0, 0, 0, 9])?;
     out.extend_from_slice(&sender.to_be_bytes())?;
@@ -311,7 +320,7 @@ fn ask(
     Ok(())
 }
 
-fn hear(moment: u64, endpoint: u16, bytes: Bytes) -> Event {
+pub(crate) fn hear(moment: u64, endpoint: u16, bytes: Bytes) -> Event {
     Event::Hear {
         moment,
         endpoint,

@@ -2,7 +2,7 @@
 ghost use Rattle.std.specs.Prelude.{◌<◌};
 
 use super::*;
-use members::{LegParts, Parts, Settings};
+use members::{LegParts, Parts, Settings, SettingsFault};
 use rtcp_feedback::write_tmmbn;
 use std::alloc::{AllocError, Global};
 use std::fmt::Write;
@@ -34,7 +34,16 @@ pub(crate) fn settings(
     timeout_ms: i64,
     report_ms: i64,
     request_ms: i64,
-) -> Result<Settings, Fail> {
+) -> Result<Settings, SettingsFault> {
+    let mut parts = parts(alloc).map_err(|_| SettingsFault::NoMemory)?;
+    parts.timeout_ms = Some(timeout_ms);
+    parts.report_ms = Some(report_ms);
+    parts.request_ms = Some(request_ms);
+    Settings::new(alloc, &parts)
+}
+
+/// Those settings without their times.
+fn parts(alloc: Global) -> Result<Parts, AllocError> {
     let leg = LegParts {
         subscriber: Some(1),
         publisher: Some(0),
@@ -42,20 +51,19 @@ pub(crate) fn settings(
         first_seq: Some(100),
         on: None,
     };
-    let parts = Parts {
+    Ok(Parts {
         workers: Some(2),
         ring: Some(8),
         history: Some(128),
-        timeout_ms: Some(timeout_ms),
-        report_ms: Some(report_ms),
-        request_ms: Some(request_ms),
+        timeout_ms: None,
+        report_ms: None,
+        request_ms: None,
         pli_gap_ms: Some(500),
         unit_ssrc: Some(9),
         cname: Some(String::from_str(alloc, "sfu")?),
         endpoints: [Some(16), Some(17)].to_vec(alloc)?,
         legs: [leg].to_vec(alloc)?,
-    };
-    Ok(Settings::new(alloc, &parts)?)
+    })
 }
 
 fn digit(byte: u8) -> u8
@@ -69,7 +77,7 @@ fn digit(byte: u8) -> u8
 }
 
 /// The bytes that these hexadecimal digits spell.
-fn bytes_of(alloc: Global, hex: &str) -> Result<Vec<u8>, AllocError> {
+pub(crate) fn bytes_of(alloc: Global, hex: &str) -> Result<Vec<u8>, AllocError> {
     let mut bytes = Vec::new(alloc);
     for pair in hex.as_bytes().chunks(2) {
         if let [high, low] = pair {
@@ -79,17 +87,26 @@ fn bytes_of(alloc: Global, hex: &str) -> Result<Vec<u8>, AllocError> {
     Ok(bytes)
 }
 
+/// Does the events. It promises nothing, so that who calls it is proved without what `run` says.
+pub(crate) fn do_events(
+    world: &mut World,
+    events: &[Event],
+    outs: &mut Vec<Out>,
+) -> Result<(), RunFault> {
+    run(world, events, outs)
+}
+
 /// The ingress until nothing waits for it, then each worker until it is idle.
 pub(crate) fn settle(world: &mut World, outs: &mut Vec<Out>) -> Result<(), Fail> {
     for _ in 0..10_000 {
         if world.waiting().tasks == 0 {
             break;
         }
-        run(world, &[Event::Ingress], outs)?;
+        do_events(world, &[Event::Ingress], outs)?;
     }
     for worker in 0..2 {
         for _ in 0..10_000 {
-            run(world, &[Event::Work(worker)], outs)?;
+            do_events(world, &[Event::Work(worker)], outs)?;
             if let Some(Out::Idle) = outs.last() {
                 let _idle = outs.pop();
                 break;
@@ -97,6 +114,22 @@ pub(crate) fn settle(world: &mut World, outs: &mut Vec<Out>) -> Result<(), Fail>
         }
     }
     Ok(())
+}
+
+/// The event of a step; `None` where it settles or shows.
+pub(crate) fn event_of(alloc: Global, step: &Step<'_>) -> Result<Option<Event>, AllocError> {
+    Ok(match *step {
+        Hear(moment, endpoint, hex) => Some(Event::Hear {
+            moment,
+            endpoint,
+            bytes: Bytes::new(bytes_of(alloc, hex)?),
+        }),
+        Tick(moment) => Some(Event::Tick { moment }),
+        Select(moment, leg, on) => Some(Event::Select { moment, leg, on }),
+        Ingress => Some(Event::Ingress),
+        Work(worker) => Some(Event::Work(worker)),
+        Settle | Show(_) => None,
+    })
 }
 
 /// Does one step; what it gives out stands in `outs`, what it shows in `text`.
@@ -107,22 +140,12 @@ pub(crate) fn do_step(
     outs: &mut Vec<Out>,
     text: &mut String,
 ) -> Result<(), Fail> {
-    match *step {
-        Hear(moment, endpoint, hex) => {
-            let bytes = Bytes::new(bytes_of(alloc, hex)?);
-            let event = Event::Hear {
-                moment,
-                endpoint,
-                bytes,
-            };
-            run(world, [event].as_slice(), outs)?;
-        }
-        Tick(moment) => run(world, &[Event::Tick { moment }], outs)?,
-        Select(moment, leg, on) => run(world, &[Event::Select { moment, leg, on }], outs)?,
-        Ingress => run(world, &[Event::Ingress], outs)?,
-        Work(worker) => run(world, &[Event::Work(worker)], outs)?,
-        Settle => settle(world, outs)?,
-        Show(publisher) => show(alloc, world, publisher, text)?,
+    match event_of(alloc, step)? {
+        Some(event) => do_events(world, [event].as_slice(), outs)?,
+        None => match *step {
+            Show(publisher) => show(alloc, world, publisher, text)?,
+            _ => settle(world, outs)?,
+        },
     }
     Ok(())
 }
@@ -204,6 +227,15 @@ fn asked_prints(alloc: Global) -> Result<String, AllocError> {
     )
 }
 
+/// What examples 21 to 23 print.
+pub(crate) fn examples_print(alloc: Global) -> Result<String, AllocError> {
+    let asked = asked_prints(alloc)?;
+    let again = "send 1 8060006400000bb800000101aabb\n";
+    format!(in alloc;
+        "{asked}{again}{again}miss 0 101\nsend 0 {HEAD}83cd0004000000110000000000000010fffffe00\n"
+    )
+}
+
 #[test]
 fn examples_21_to_23(rt: HostRuntime) -> Result<(), Fail> {
     let alloc = rt.alloc();
@@ -223,12 +255,8 @@ fn examples_21_to_23(rt: HostRuntime) -> Result<(), Fail> {
         Show(0),
     ];
     let printed = played(alloc, &settings(alloc, 1000, 60_000, 0)?, steps.as_slice())?;
-    let asked = asked_prints(alloc)?;
-    let again = "send 1 8060006400000bb800000101aabb\n";
-    let lifted = format!(in alloc; "send 0 {HEAD}83cd0004000000110000000000000010fffffe00\n")?;
-    let wanted = format!(in alloc;
-        "{asked}{again}{again}miss 0 101\n{lifted}84cd00020000001000000000\n"
-    )?;
+    let examples = examples_print(alloc)?;
+    let wanted = format!(in alloc; "{examples}84cd00020000001000000000\n")?;
     assert_eq!(rt; printed.as_str(), wanted.as_str());
     Ok(())
 }
