@@ -1,8 +1,9 @@
 //! Which fault `gather` finds first.
 
-ghost use Rattle.std.specs.Prelude.{◌≡◌};
+ghost use Rattle.std.specs.Prelude.{◌≡◌, ◌<◌};
 
-use super::house_tests::{at, of};
+use super::house_tests::by_house;
+use super::tests::{ask, at, of};
 use super::*;
 use std::alloc::Global;
 use std::marker::Brand;
@@ -10,7 +11,6 @@ use std::process::Abort;
 use std::sync::Wait;
 use std::sync::ledger::Blank;
 use std::test::Fail;
-use tmmbr_tuple::{Ssrc, Tuple};
 
 /// What of a receipt is changed before it is handed in.
 #[derive(Clone, Copy)]
@@ -54,6 +54,52 @@ struct Gathering<'a> {
     want: Want,
 }
 
+impl Gathering<'_> {
+    /// The receipts that are handed in, of those that were given.
+    fn handed(&self, alloc: Global, given: &[Receipt]) -> Option<Vec<Receipt>> {
+        let mut receipts = Vec::new(alloc);
+        for (number, edit) in self.receipts {
+            let receipt = given.get(*number)?;
+            receipts.push(edited(*receipt, *edit)).ok()?;
+        }
+        Some(receipts)
+    }
+
+    /// The fault that is wanted, if one is.
+    fn fault(&self, handed: &[Receipt]) -> Option<GatherFault> {
+        match self.want {
+            Want::Desks => None,
+            Want::DiffersAt(place) => handed.get(place).map(|r| GatherFault::Differs(*r)),
+            Want::Fault(fault) => Some(fault),
+        }
+    }
+}
+
+/// The receipts of the calls to publisher 1: 17 arrives and asks, somebody wants a picture, and so many pulses.
+fn call_in_turn<D: DeskCalls, S: SeatCalls, R: Wait>(
+    rt: &R,
+    alloc: Global,
+    house: &House<D, S>,
+    seat: &mut DeskSeat<S>,
+    pulses: usize,
+) -> Option<Vec<Receipt>>
+    requires { 1 < S.publishers }
+{
+    let calls = [
+        of(17, 1, Change::Arrive),
+        of(17, 1, ask(0x0007_d028)),
+        at(0, Signal::Pli),
+    ];
+    let mut given = Vec::new(alloc);
+    for call in calls {
+        given.push(by_house(rt, house, seat, 1, call)?.0).ok()?;
+    }
+    for _ in 0..pulses {
+        given.push(house.pulse(rt, seat, 1, 0).ok()?).ok()?;
+    }
+    Some(given)
+}
+
 fn gathers<D: DeskCalls, S: SeatCalls, R: Wait + Abort>(
     rt: &R,
     alloc: Global,
@@ -69,121 +115,74 @@ fn gathers<D: DeskCalls, S: SeatCalls, R: Wait + Abort>(
     let (house, seats) = House::<D, S>::new(alloc, recorded, made, 2, 4, 500, 0)?;
     let mut seats = seats;
     let mut seat = seats.pop().ok_or("a seat")?;
-    let mut given = Vec::new(alloc);
-    let (receipt, _) = house.arrive(rt, &mut seat, 1, Ssrc(17), 1)?;
-    given.push(receipt)?;
-    let tuple = Tuple::from_word(0x0007_d028);
-    let (receipt, _) = house.request(rt, &mut seat, 1, Ssrc(17), 1, tuple)?;
-    given.push(receipt)?;
-    let (receipt, _) = house.pli(rt, &mut seat, 1, 0)?;
-    given.push(receipt)?;
-    for _ in 0..case.pulses {
-        given.push(house.pulse(rt, &mut seat, 1, 0)?)?;
-    }
+    let given = call_in_turn(rt, alloc, &house, &mut seat, case.pulses).ok_or("each call is Ok")?;
     seats.push(seat)?;
     seats.truncate(case.seats);
-    let mut receipts = Vec::new(alloc);
-    for (number, edit) in case.receipts {
-        let receipt = given.get(*number).ok_or("a receipt")?;
-        receipts.push(edited(*receipt, *edit))?;
-    }
-    let want = match case.want {
-        Want::Desks => None,
-        Want::DiffersAt(place) => {
-            let receipt = receipts.get(place).ok_or("a receipt")?;
-            Some(GatherFault::Differs(*receipt))
-        },
-        Want::Fault(fault) => Some(fault),
-    };
-    assert_eq!(rt; house.gather(seats, receipts.as_slice()).err(), want);
+    let receipts = case.handed(alloc, given.as_slice()).ok_or("the receipts")?;
+    let fault = house.gather(seats, receipts.as_slice()).err();
+    assert_eq!(rt; fault, case.fault(receipts.as_slice()));
     Ok(())
 }
 
-fn assert_gathers<R: Wait + Abort>(
-    rt: &R,
-    alloc: Global,
+/// Gathers a house by each of these.
+fn assert_gathers<R: Wait + Abort>(rt: &R, alloc: Global, cases: &[Gathering]) -> Result<(), Fail> {
+    for case in cases {
+        gathers::<Brand, Brand, R>(rt, alloc, Blank::new(2), Blank::new(4), case)?;
+    }
+    Ok(())
+}
+
+fn case<'a>(
     pulses: usize,
     seats: usize,
-    receipts: &[(usize, Edit)],
+    receipts: &'a [(usize, Edit)],
     want: Want,
-) -> Result<(), Fail> {
-    let case = Gathering {
+) -> Gathering<'a> {
+    Gathering {
         pulses,
         seats,
         receipts,
         want,
-    };
-    gathers::<Brand, Brand, R>(rt, alloc, Blank::new(2), Blank::new(4), &case)
+    }
+}
+
+/// The number of one publisher that comes twice.
+fn twice(number: u64) -> Want {
+    Want::Fault(GatherFault::Twice(number))
+}
+
+/// So many seats are handed in, of four.
+fn seats(count: usize) -> Want {
+    Want::Fault(GatherFault::Seats(count))
 }
 
 /// Receipts of the numbers 0 (17 arrives), 1 (it asks) and 2 (a PLI is sent upstream at 0).
 #[test]
 fn gather_refusals(rt: HostRuntime) -> Result<(), Fail> {
     let is = Edit::Nothing;
-    let twice = |number: u64| Want::Fault(GatherFault::Twice(number));
-    let seats = |count: usize| Want::Fault(GatherFault::Seats(count));
-    let alloc = rt.alloc();
-    assert_gathers(&rt, alloc, 0, 4, &[(0, is), (1, is), (2, is)], Want::Desks)?;
-    assert_gathers(&rt, alloc, 0, 4, &[], Want::Desks)?;
-    assert_gathers(&rt, alloc, 0, 3, &[], seats(3))?;
-    assert_gathers(&rt, alloc, 0, 0, &[(0, is)], seats(0))?;
-    assert_gathers(&rt, alloc, 0, 4, &[(0, is), (0, is)], twice(0))?;
-    assert_gathers(
-        &rt,
-        alloc,
-        0,
-        3,
-        &[(2, is), (1, is), (0, is), (1, is)],
-        twice(1),
-    )?;
     let other = Edit::Call(of(18, 1, Change::Arrive));
-    assert_gathers(
-        &rt,
-        alloc,
-        0,
-        4,
-        &[(0, other), (0, other)],
-        Want::DiffersAt(0),
-    )?;
-    assert_gathers(
-        &rt,
-        alloc,
-        0,
-        3,
-        &[(1, is), (1, is), (0, other)],
-        Want::DiffersAt(2),
-    )?;
     let moved = Edit::Call(at(1, Signal::Pli));
-    assert_gathers(&rt, alloc, 0, 4, &[(1, is), (2, moved)], Want::DiffersAt(1))?;
     let ticked = Edit::Call(at(0, Signal::Tick));
-    assert_gathers(&rt, alloc, 0, 4, &[(2, ticked)], Want::DiffersAt(0))?;
-    let full = Edit::Answer(Answer::Full);
-    assert_gathers(&rt, alloc, 0, 4, &[(2, full)], Want::DiffersAt(0))?;
     assert_gathers(
         &rt,
-        alloc,
-        0,
-        4,
-        &[(2, Edit::Number(3))],
-        Want::DiffersAt(0),
-    )?;
-    assert_gathers(
-        &rt,
-        alloc,
-        0,
-        4,
-        &[(0, Edit::Publisher(0))],
-        Want::DiffersAt(0),
-    )?;
-    assert_gathers(
-        &rt,
-        alloc,
-        0,
-        4,
-        &[(0, Edit::Publisher(2))],
-        Want::DiffersAt(0),
-    )?;
-    Ok(())
+        rt.alloc(),
+        &[
+            case(0, 4, &[(0, is), (1, is), (2, is)], Want::Desks),
+            case(0, 4, &[], Want::Desks),
+            case(0, 3, &[], seats(3)),
+            case(0, 0, &[(0, is)], seats(0)),
+            case(0, 4, &[(0, is), (0, is)], twice(0)),
+            case(0, 3, &[(2, is), (1, is), (0, is), (1, is)], twice(1)),
+            case(0, 4, &[(0, other), (0, other)], Want::DiffersAt(0)),
+            case(0, 3, &[(1, is), (1, is), (0, other)], Want::DiffersAt(2)),
+            case(0, 4, &[(1, is), (2, moved)], Want::DiffersAt(1)),
+            case(0, 4, &[(2, ticked)], Want::DiffersAt(0)),
+            case(0, 4, &[(2, Edit::Answer(Answer::Full))], Want::DiffersAt(0)),
+            case(0, 4, &[(2, Edit::Number(3))], Want::DiffersAt(0)),
+            case(0, 4, &[(0, Edit::Publisher(0))], Want::DiffersAt(0)),
+            case(0, 4, &[(0, Edit::Publisher(2))], Want::DiffersAt(0)),
+        ],
+    )
 }
 
 /// The first 1,033 calls of example 28, in a house.
@@ -191,22 +190,19 @@ fn gather_refusals(rt: HostRuntime) -> Result<(), Fail> {
 fn gather_of_example_28(rt: HostRuntime) -> Result<(), Fail> {
     let is = Edit::Nothing;
     let folded = Want::Fault(GatherFault::Folded(9));
-    let alloc = rt.alloc();
-    assert_gathers(&rt, alloc, 1030, 4, &[(0, is)], folded)?;
-    assert_gathers(&rt, alloc, 1030, 4, &[(9, is)], Want::Desks)?;
-    assert_gathers(&rt, alloc, 1030, 3, &[(9, is), (8, is)], folded)?;
-    let twice = Want::Fault(GatherFault::Twice(0));
-    assert_gathers(&rt, alloc, 1030, 4, &[(0, is), (0, is)], twice)?;
     // A folded call isn't compared.
     let other = Edit::Call(of(18, 1, Change::Arrive));
-    assert_gathers(&rt, alloc, 1030, 4, &[(0, other)], folded)?;
     let moved = Edit::Call(at(1, Signal::Tick));
     assert_gathers(
         &rt,
-        alloc,
-        1030,
-        4,
-        &[(0, is), (9, moved)],
-        Want::DiffersAt(1),
+        rt.alloc(),
+        &[
+            case(1030, 4, &[(0, is)], folded),
+            case(1030, 4, &[(9, is)], Want::Desks),
+            case(1030, 3, &[(9, is), (8, is)], folded),
+            case(1030, 4, &[(0, is), (0, is)], twice(0)),
+            case(1030, 4, &[(0, other)], folded),
+            case(1030, 4, &[(0, is), (9, moved)], Want::DiffersAt(1)),
+        ],
     )
 }

@@ -1,7 +1,8 @@
 //! A house beside desks on which the same calls are made.
 
-ghost use Rattle.std.specs.Prelude.{◌≡◌};
+ghost use Rattle.std.specs.Prelude.{◌≡◌, ◌<◌};
 
+use super::tests::{ask, at, by_desk, of};
 use super::*;
 use std::alloc::Global;
 use std::marker::Brand;
@@ -9,41 +10,6 @@ use std::process::Abort;
 use std::sync::Wait;
 use std::sync::ledger::Blank;
 use std::test::Fail;
-use tmmbr_tuple::{Ssrc, Tuple};
-
-/// The call, made of a desk.
-pub(super) fn by_desk(desk: &mut Desk, call: Call) -> Option<Reply> {
-    match call {
-        Call::Stay { stay: 0, .. } => None,
-        Call::Stay {
-            owner,
-            stay,
-            change: Change::Arrive,
-        } => desk.arrive(owner, stay).ok(),
-        Call::Stay {
-            owner,
-            stay,
-            change: Change::Request(tuple),
-        } => desk.request(owner, stay, tuple).ok(),
-        Call::Stay {
-            owner,
-            stay,
-            change: Change::Depart,
-        } => desk.depart(owner, stay).ok(),
-        Call::Time {
-            moment,
-            signal: Signal::Pli,
-        } => desk.pli(moment).ok(),
-        Call::Time {
-            moment,
-            signal: Signal::Tick,
-        } => desk.tick(moment).ok(),
-        Call::Time {
-            moment,
-            signal: Signal::Expire,
-        } => desk.expire(moment).ok(),
-    }
-}
 
 /// Receipt and effect are those of the reply that a desk gave.
 pub(super) fn assert_same(rt: &impl Abort, receipt: &Receipt, effect: &Effect, reply: &Reply) {
@@ -54,14 +20,15 @@ pub(super) fn assert_same(rt: &impl Abort, receipt: &Receipt, effect: &Effect, r
     assert_eq!(rt; effect.fresh.as_slice(), reply.effect.fresh.as_slice());
 }
 
-/// The call, made of the publisher 1 of a house.
-fn by_house<D: DeskCalls, S: SeatCalls, R: Wait>(
+/// The call, made of a house by its name.
+pub(super) fn by_house<D: DeskCalls, S: SeatCalls, R: Wait>(
     rt: &R,
     house: &House<D, S>,
     seat: &mut DeskSeat<S>,
+    publisher: usize,
     call: Call,
 ) -> Option<(Receipt, Effect)>
-    requires { S.publishers ≡ 2 }
+    requires { publisher < S.publishers }
 {
     match call {
         Call::Stay { stay: 0, .. } => None,
@@ -69,50 +36,35 @@ fn by_house<D: DeskCalls, S: SeatCalls, R: Wait>(
             owner,
             stay,
             change: Change::Arrive,
-        } => house.arrive(rt, seat, 1, owner, stay).ok(),
+        } => house.arrive(rt, seat, publisher, owner, stay).ok(),
         Call::Stay {
             owner,
             stay,
             change: Change::Request(tuple),
-        } => house.request(rt, seat, 1, owner, stay, tuple).ok(),
+        } => house.request(rt, seat, publisher, owner, stay, tuple).ok(),
         Call::Stay {
             owner,
             stay,
             change: Change::Depart,
-        } => house.depart(rt, seat, 1, owner, stay).ok(),
+        } => house.depart(rt, seat, publisher, owner, stay).ok(),
         Call::Time {
             moment,
             signal: Signal::Pli,
-        } => house.pli(rt, seat, 1, moment).ok(),
+        } => house.pli(rt, seat, publisher, moment).ok(),
         Call::Time {
             moment,
             signal: Signal::Tick,
-        } => house.tick(rt, seat, 1, moment).ok(),
+        } => house.tick(rt, seat, publisher, moment).ok(),
         Call::Time {
             moment,
             signal: Signal::Expire,
-        } => house.expire(rt, seat, 1, moment).ok(),
+        } => house.expire(rt, seat, publisher, moment).ok(),
     }
-}
-
-/// A call of an owner.
-pub(super) fn of(owner: u32, stay: u64, change: Change) -> Call {
-    Call::Stay {
-        owner: Ssrc(owner),
-        stay,
-        change,
-    }
-}
-
-/// A call at a moment.
-pub(super) fn at(moment: u64, signal: Signal) -> Call {
-    Call::Time { moment, signal }
 }
 
 /// Each of the six calls, done and refused, with PLIs sent and not, requests that come, go and grow old.
 fn some_calls() -> [Call; 24] {
-    let high = Change::Request(Tuple::from_word(0x01f4_0028));
-    let low = Change::Request(Tuple::from_word(0x01d4_c014));
+    let (high, low) = (ask(0x01f4_0028), ask(0x01d4_c014));
     [
         of(17, 1, Change::Arrive),
         of(17, 2, Change::Arrive),
@@ -141,6 +93,57 @@ fn some_calls() -> [Call; 24] {
     ]
 }
 
+/// The call by value, or a pulse for a tick, made of the publisher 0 of a house.
+fn by_value<D: DeskCalls, S: SeatCalls, R: Wait>(
+    rt: &R,
+    house: &House<D, S>,
+    seat: &mut DeskSeat<S>,
+    call: Call,
+    effect: &mut Effect,
+) -> Option<Receipt>
+    requires { 0 < S.publishers }
+{
+    match call {
+        Call::Stay { stay: 0, .. } => None,
+        Call::Time {
+            moment,
+            signal: Signal::Tick,
+        } => house.pulse(rt, seat, 0, moment).ok(),
+        _ => house.call(rt, seat, 0, call, effect).ok(),
+    }
+}
+
+/// A seat of a house, with the receipts of its calls.
+#[derive(Drop)]
+struct Caller<S: SeatCalls> {
+    seat: DeskSeat<S>,
+    receipts: Vec<Receipt>,
+}
+
+/// Makes a call of both publishers of a house, and of a desk.
+fn call_each<D: DeskCalls, S: SeatCalls, R: Wait + Abort>(
+    rt: &R,
+    house: &House<D, S>,
+    caller: &mut Caller<S>,
+    desk: &mut Desk,
+    call: Call,
+) -> Result<(), Fail>
+    requires { S.publishers ≡ 2 }
+{
+    let reply = by_desk(desk, call).ok_or("a reply")?;
+    let Caller { seat, receipts } = caller;
+    let (receipt, mut effect) = by_house(rt, house, seat, 1, call).ok_or("a receipt")?;
+    assert_eq!(rt; (receipt.publisher, receipt.call), (1, call));
+    assert_same(rt, &receipt, &effect, &reply);
+    receipts.push(receipt)?;
+    let receipt = by_value(rt, house, seat, call, &mut effect).ok_or("a receipt")?;
+    assert_eq!(rt; (receipt.publisher, receipt.call), (0, call));
+    // A pulse leaves what the other call filled in, which a tick doesn't change.
+    assert_same(rt, &receipt, &effect, &reply);
+    receipts.push(receipt)?;
+    Ok(())
+}
+
 fn beside_desks<D: DeskCalls, S: SeatCalls, R: Wait + Abort>(
     rt: &R,
     alloc: Global,
@@ -154,51 +157,19 @@ fn beside_desks<D: DeskCalls, S: SeatCalls, R: Wait + Abort>(
 {
     let (house, seats) = House::<D, S>::new(alloc, recorded, made, 2, 2, 500, 1000)?;
     let mut seats = seats;
-    let mut seat = seats.pop().ok_or("a seat")?;
+    let mut caller = Caller {
+        seat: seats.pop().ok_or("a seat")?,
+        receipts: Vec::new(alloc),
+    };
     let mut desk = Desk::new(alloc, 500, 1000)?;
-    let mut other = Desk::new(alloc, 500, 1000)?;
-    let mut effect = Effect::new();
-    let mut receipts = Vec::new(alloc);
-    let mut refused = 0_usize;
     for call in some_calls() {
-        let reply = by_desk(&mut desk, call).ok_or("a reply")?;
-        let (receipt, told) = by_house(rt, &house, &mut seat, call).ok_or("a receipt")?;
-        assert_eq!(rt; receipt.publisher, 1);
-        assert_eq!(rt; receipt.call, call);
-        assert_same(rt, &receipt, &told, &reply);
-        if !matches!(reply.answer, Answer::Done { .. }) {
-            refused = refused.saturating_add(1);
-        }
-        receipts.push(receipt)?;
-        // The same by value, and a pulse for a tick.
-        let reply = by_desk(&mut other, call).ok_or("a reply")?;
-        let receipt = match call {
-            Call::Stay { stay: 0, .. } => return Err("a stay")?,
-            Call::Time {
-                moment,
-                signal: Signal::Tick,
-            } => {
-                let receipt = house.pulse(rt, &mut seat, 0, moment)?;
-                assert_eq!(rt; receipt.answer, reply.answer);
-                receipt
-            },
-            _ => {
-                let receipt = house.call(rt, &mut seat, 0, call, &mut effect)?;
-                assert_same(rt, &receipt, &effect, &reply);
-                receipt
-            },
-        };
-        assert_eq!(rt; receipt.publisher, 0);
-        assert_eq!(rt; receipt.number, reply.number);
-        assert_eq!(rt; receipt.call, call);
-        receipts.push(receipt)?;
+        call_each(rt, &house, &mut caller, &mut desk, call)?;
     }
-    assert_eq!(rt; refused, 5);
+    let Caller { seat, receipts } = caller;
     seats.push(seat)?;
     let desks = house.gather(seats, receipts.as_slice())?;
     for one in desks.as_slice() {
-        assert_eq!(rt; one.calls(), 24);
-        assert_eq!(rt; one.words(), desk.words());
+        assert_eq!(rt; (one.calls(), one.words()), (24, desk.words()));
     }
     Ok(())
 }

@@ -1,8 +1,9 @@
 //! Calls of four threads through a house, and what is gathered behind them.
 
-ghost use Rattle.std.specs.Prelude.{◌≡◌};
+ghost use Rattle.std.specs.Prelude.{◌≡◌, ◌<◌};
 
-use super::house_tests::{assert_same, by_desk};
+use super::house_tests::{assert_same, by_house};
+use super::tests::{ask, by_desk, of};
 use super::*;
 use rate_cert::Request;
 use std::alloc::Global;
@@ -11,8 +12,8 @@ use std::process::Abort;
 use std::sync::Wait;
 use std::sync::ledger::Blank;
 use std::test::Fail;
-use std::thread;
 use std::thread::Threads;
+use std::{mem, thread};
 use tmmbr_tuple::{Ssrc, Tuple};
 
 /// A seat behind its calls, with what each gave.
@@ -28,79 +29,124 @@ fn word_at(i: u8) -> u32 {
     ((1000 + i as u32) << 9) | 40
 }
 
+impl<S: SeatCalls> Made<S> {
+    /// Makes a call, and keeps what it gives.
+    fn call<D: DeskCalls, R: Wait>(
+        &mut self,
+        rt: &R,
+        house: &House<D, S>,
+        publisher: usize,
+        call: Call,
+    ) -> Option<()>
+        requires { publisher < S.publishers }
+    {
+        let Made {
+            seat,
+            receipts,
+            effects,
+        } = self;
+        let (receipt, effect) = by_house(rt, house, seat, publisher, call)?;
+        receipts.push(receipt).ok()?;
+        effects.push(effect).ok()
+    }
+
+    /// Makes a pulse of each publisher.
+    fn pulse<D: DeskCalls, R: Wait>(&mut self, rt: &R, house: &House<D, S>) -> Option<()> {
+        let Made { seat, receipts, .. } = self;
+        for p in 0..house.publishers() {
+            receipts.push(house.pulse(rt, seat, p, 0).ok()?).ok()?;
+        }
+        Some(())
+    }
+}
+
 /// An owner arrives at each publisher, makes 50 requests of each, in turn, and so many pulses.
 fn ask_all<D: DeskCalls, S: SeatCalls, R: Wait>(
     rt: &R,
     alloc: Global,
     house: &House<D, S>,
-    owner: Ssrc,
+    owner: u32,
     pulses: usize,
     seat: DeskSeat<S>,
 ) -> Option<Made<S>> {
-    let mut seat = seat;
-    let mut receipts = Vec::new(alloc);
-    let mut effects = Vec::new(alloc);
-    for p in 0..house.publishers() {
-        let (receipt, effect) = house.arrive(rt, &mut seat, p, owner, 1).ok()?;
-        receipts.push(receipt).ok()?;
-        effects.push(effect).ok()?;
-    }
-    for i in 0..50u8 {
-        let tuple = Tuple::from_word(word_at(i));
+    let mut made = Made {
+        seat,
+        receipts: Vec::new(alloc),
+        effects: Vec::new(alloc),
+    };
+    for turn in 0..51u8 {
+        let change = match turn {
+            0 => Change::Arrive,
+            _ => ask(word_at(turn - 1)),
+        };
         for p in 0..house.publishers() {
-            let (receipt, effect) = house.request(rt, &mut seat, p, owner, 1, tuple).ok()?;
-            receipts.push(receipt).ok()?;
-            effects.push(effect).ok()?;
+            made.call(rt, house, p, of(owner, 1, change))?;
         }
     }
     for _ in 0..pulses {
-        for p in 0..house.publishers() {
-            receipts.push(house.pulse(rt, &mut seat, p, 0).ok()?).ok()?;
-        }
+        made.pulse(rt, house)?;
     }
-    Some(Made {
-        seat,
-        receipts,
-        effects,
-    })
+    Some(made)
 }
 
-/// Each seat in a thread of its own; their owners are 17 and those that follow. All is put together.
+/// Each seat in a thread of its own; their owners are 17 and those that follow.
 fn ask_by_threads<D: DeskCalls + Send + Sync, S: SeatCalls + Send + Sync, R: Threads + Wait + Sync>(
     rt: &R,
     alloc: Global,
     house: &House<D, S>,
     pulses: usize,
     seats: Vec<DeskSeat<S>>,
-) -> Option<(Vec<DeskSeat<S>>, Vec<Receipt>, Vec<Effect>)> {
+) -> Option<Vec<Option<Made<S>>>> {
     let mut jobs = Vec::new(alloc);
     let mut owner: u32 = 17;
     for seat in seats {
-        jobs.push((Ssrc(owner), seat)).ok()?;
+        jobs.push((owner, seat)).ok()?;
         owner = owner.wrapping_add(1);
     }
-    let made = thread::map_vec(
+    thread::map_vec(
         rt,
         jobs,
-        &|job: (Ssrc, DeskSeat<S>)| ask_all(rt, alloc, house, job.0, pulses, job.1),
+        &|job: (u32, DeskSeat<S>)| ask_all(rt, alloc, house, job.0, pulses, job.1),
     )
-    .ok()?;
-    let mut free = Vec::new(alloc);
-    let mut receipts = Vec::new(alloc);
-    let mut effects = Vec::new(alloc);
-    for one in made {
+    .ok()
+}
+
+/// What several seats made, put together.
+#[derive(Drop)]
+struct Together<S: SeatCalls> {
+    seats: Vec<DeskSeat<S>>,
+    receipts: Vec<Receipt>,
+    effects: Vec<Effect>,
+}
+
+impl<S: SeatCalls> Together<S> {
+    /// Adds what one seat made.
+    fn add(&mut self, one: Made<S>) -> Option<()> {
         let Made {
             seat,
-            receipts: mine,
-            effects: told,
-        } = one?;
-        free.push(seat).ok()?;
-        receipts.extend_from_slice(mine.as_slice()).ok()?;
-        for effect in told {
-            effects.push(effect).ok()?;
+            receipts,
+            effects,
+        } = one;
+        self.seats.push(seat).ok()?;
+        self.receipts.extend_from_slice(receipts.as_slice()).ok()?;
+        for effect in effects {
+            self.effects.push(effect).ok()?;
         }
+        Some(())
     }
-    Some((free, receipts, effects))
+}
+
+/// All that was made; `None` where a call was refused.
+fn put_together<S: SeatCalls>(alloc: Global, made: Vec<Option<Made<S>>>) -> Option<Together<S>> {
+    let mut all = Together {
+        seats: Vec::new(alloc),
+        receipts: Vec::new(alloc),
+        effects: Vec::new(alloc),
+    };
+    for one in made {
+        all.add(one?)?;
+    }
+    Some(all)
 }
 
 /// The place among the receipts of the one with this publisher and number.
@@ -111,22 +157,20 @@ fn place_of(receipts: &[Receipt], publisher: usize, number: u64) -> Option<usize
 }
 
 /// Each effect is the one that a new desk gives for the same calls.
-fn assert_told(
+fn assert_told<S: SeatCalls>(
     rt: &impl Abort,
     alloc: Global,
     desk: &Desk,
     publisher: usize,
-    receipts: &[Receipt],
-    effects: &[Effect],
+    all: &Together<S>,
 ) -> Result<(), Fail> {
     let mut other = Desk::new(alloc, 500, 0)?;
+    let receipts = all.receipts.as_slice();
     for number in 0..desk.history().len() {
-        let entry = desk.history().get(number).ok_or("an entry")?;
-        let reply = by_desk(&mut other, entry.call).ok_or("a call again")?;
         let place = place_of(receipts, publisher, number as u64).ok_or("a receipt")?;
-        let effect = effects.get(place).ok_or("an effect")?;
         let receipt = receipts.get(place).ok_or("a receipt")?;
-        assert_eq!(rt; receipt.call, entry.call);
+        let effect = all.effects.get(place).ok_or("an effect")?;
+        let reply = by_desk(&mut other, receipt.call).ok_or("a call again")?;
         assert_same(rt, receipt, effect, &reply);
     }
     Ok(())
@@ -145,15 +189,43 @@ fn assert_live(rt: &impl Abort, desk: &Desk) {
     );
 }
 
-/// What is done once four threads made their calls.
+/// The words of the requests that each seat makes of a publisher.
+const WORDS: u128 = 50 * ((1000 << 9) | 40) + ((49 * 50 / 2) << 9);
+
+/// Each seat counted so many calls to each of the two publishers, and their words.
+fn assert_counted<S: SeatCalls>(rt: &impl Abort, seats: &[DeskSeat<S>], calls: u64) {
+    for seat in seats {
+        for p in 0..2_usize {
+            assert_eq!(rt; (seat.calls(p), seat.words(p)), (calls, WORDS));
+        }
+        assert_eq!(rt; (seat.calls(2), seat.words(2)), (0, 0));
+    }
+}
+
+/// Which receipts are handed in once four threads made their calls.
 #[derive(Clone, Copy, PartialEq, Eq)]
 enum End {
-    /// All receipts are handed in.
     All,
-    /// All are, one of them with another owner.
+    /// All, one of them with another owner.
     OtherOwner,
-    /// The receipts of numbers that are still listed are.
+    /// Those of numbers that are still listed.
     Listed,
+}
+
+/// The receipts that are handed in.
+fn handed(alloc: Global, receipts: &[Receipt], end: End) -> Option<Vec<Receipt>> {
+    let mut handed = Vec::new(alloc);
+    for receipt in receipts {
+        if end != End::Listed || receipt.number >= 60 {
+            handed.push(*receipt).ok()?;
+        }
+    }
+    if end == End::OtherOwner {
+        let last = handed.pop()?;
+        let call = of(99, 1, ask(word_at(49)));
+        handed.push(Receipt { call, ..last }).ok()?;
+    }
+    Some(handed)
 }
 
 fn four_threads<
@@ -174,48 +246,25 @@ fn four_threads<
     requires numbers { (D.gap ≡ 500) × (D.request_ms ≡ 0) }
 {
     let (house, seats) = House::<D, S>::new(alloc, recorded, made, 2, 4, 500, 0)?;
-    let (seats, receipts, effects) = ask_by_threads(rt, alloc, &house, pulses, seats).ok_or(
-        "each call is Ok",
-    )?;
+    let made = ask_by_threads(rt, alloc, &house, pulses, seats).ok_or("threads")?;
+    let mut all = put_together(alloc, made).ok_or("each call is Ok")?;
     // Of each publisher: an arrival, 50 requests, and the pulses.
-    let words = 50 * ((1000 << 9) | 40) + ((49 * 50 / 2) << 9);
-    for seat in seats.as_slice() {
-        for p in 0..2_usize {
-            assert_eq!(rt; seat.calls(p), (pulses as u64).saturating_add(51));
-            assert_eq!(rt; seat.words(p), words);
-        }
-        assert_eq!(rt; seat.calls(2), 0);
-        assert_eq!(rt; seat.words(2), 0);
-    }
-    let mut handed = Vec::new(alloc);
-    for receipt in receipts.as_slice() {
-        if end != End::Listed || receipt.number >= 60 {
-            handed.push(*receipt)?;
-        }
-    }
-    if end == End::OtherOwner {
-        let last = handed.pop().ok_or("a receipt")?;
-        let call = Call::Stay {
-            owner: Ssrc(99),
-            stay: 1,
-            change: Change::Request(Tuple::from_word(word_at(49))),
-        };
-        handed.push(Receipt { call, ..last })?;
-    }
+    let calls = (pulses as u64).saturating_add(51);
+    assert_counted(rt, all.seats.as_slice(), calls);
+    let handed = handed(alloc, all.receipts.as_slice(), end).ok_or("the receipts")?;
+    let seats = mem::replace(&mut all.seats, Vec::new(alloc));
     let desks = match house.gather(seats, handed.as_slice()) {
         Ok(desks) => desks,
         Err(fault) => return Ok(Some(fault)),
     };
     assert_eq!(rt; desks.len(), 2);
-    for p in 0..desks.len() {
-        let desk = &desks[p];
+    for (p, desk) in desks.as_slice().iter().enumerate() {
         assert_eq!(rt;
-            desk.calls(),
-            (pulses as u64).saturating_add(51).saturating_mul(4)
+            (desk.calls(), desk.words()),
+            (calls.saturating_mul(4), 4 * WORDS)
         );
-        assert_eq!(rt; desk.words(), 4 * words);
         if pulses == 0 {
-            assert_told(rt, alloc, desk, p, receipts.as_slice(), effects.as_slice())?;
+            assert_told(rt, alloc, desk, p, &all)?;
         }
         assert_live(rt, desk);
     }

@@ -5,7 +5,9 @@ ghost use Rattle.rate_desk.specs.Call.{HasStay};
 
 use super::whole_list::{Walk, announced_for, bits_for, is_sent, live_of, refusal_after};
 use super::*;
-use std::alloc::Global;
+use arrayvec::ArrayVec;
+use rate_cert::{MAX_REQUESTS, Request};
+use std::alloc::{AllocError, Global};
 use std::process::Abort;
 use std::test::Fail;
 use tmmbr_tuple::{Ssrc, Tuple};
@@ -167,11 +169,22 @@ fn assert_owed(rt: &impl Abort, gap: u64, before: &Base, call: &Call, answer: &A
 
 fn assert_base(rt: &impl Abort, base: &Base, want: &Base) {
     assert_eq!(rt; base.present.as_slice(), want.present.as_slice());
-    assert_eq!(rt; base.wanted, want.wanted);
-    assert_eq!(rt; base.greatest, want.greatest);
-    assert_eq!(rt; base.last_up, want.last_up);
-    assert_eq!(rt; base.calls, want.calls);
-    assert_eq!(rt; base.words, want.words);
+    assert_eq!(rt;
+        (
+            base.wanted,
+            base.greatest,
+            base.last_up,
+            base.calls,
+            base.words
+        ),
+        (
+            want.wanted,
+            want.greatest,
+            want.last_up,
+            want.calls,
+            want.words
+        )
+    );
 }
 
 /// What came to pass on all desks.
@@ -185,7 +198,124 @@ struct Seen {
     most_announced: usize,
 }
 
-/// Calls a desk by this plan, and looks at all it says after each call.
+impl Seen {
+    fn note(&mut self, answer: &Answer, live: usize, announced: usize) {
+        match answer {
+            Answer::Done { pli: true, .. } => self.sent = self.sent.saturating_add(1),
+            Answer::Full => self.full = self.full.saturating_add(1),
+            _ => {},
+        }
+        self.most_live = self.most_live.max(live);
+        self.most_announced = self.most_announced.max(announced);
+    }
+}
+
+/// All calls of a desk, and what they come to.
+#[derive(Drop)]
+struct Past {
+    request_ms: u64,
+    owners: usize,
+    entries: Vec<Entry>,
+    base: Base,
+    live: ArrayVec<Request, MAX_REQUESTS>,
+    announced: ArrayVec<Request, MAX_REQUESTS>,
+    bits: [u64; KEPT_WORDS],
+}
+
+impl Past {
+    /// No calls yet.
+    fn new(alloc: Global, plan: &Plan) -> Result<Past, AllocError> {
+        Ok(Past {
+            request_ms: plan.request_ms,
+            owners: plan.shape.owners() as usize,
+            entries: Vec::new(alloc),
+            base: Walk::new(alloc, 0)?.come_to(plan.request_ms),
+            live: ArrayVec::new(),
+            announced: ArrayVec::new(),
+            bits: [0; KEPT_WORDS],
+        })
+    }
+
+    /// Takes a call in, and gives what the calls come to that are listed no more: the list is gone over from
+    /// its beginning, with a stop there.
+    fn take_in(&mut self, alloc: Global, entry: Entry) -> Result<Base, AllocError> {
+        self.entries.push(entry)?;
+        let entries = self.entries.as_slice();
+        let folded = entries.len().saturating_sub(1024);
+        let mut walk = Walk::new(alloc, self.owners)?;
+        walk.go_over(&entries[..folded]);
+        let base = walk.come_to(self.request_ms);
+        walk.go_over(&entries[folded..]);
+        self.base = walk.come_to(self.request_ms);
+        Ok(base)
+    }
+
+    /// What is announced for the live requests, of which it is a function. How many requests went, of the
+    /// number that were live.
+    fn announce(&mut self) -> usize {
+        let live = live_of(&self.base);
+        if live.as_slice() == self.live.as_slice() {
+            return 0;
+        }
+        let gone = self.live.len().saturating_sub(live.len());
+        self.announced = announced_for(&live);
+        self.bits = bits_for(live.as_slice(), self.announced.as_slice());
+        self.live = live;
+        gone
+    }
+}
+
+/// The desk is as the past says.
+fn assert_desk(
+    rt: &impl Abort,
+    desk: &Desk,
+    past: &Past,
+    base: &Base,
+    entry: &Entry,
+    effect: &Effect,
+) {
+    assert_base(rt, desk.base(), base);
+    assert_eq!(rt; desk.history().len(), past.entries.len().min(1024));
+    assert_eq!(rt; desk.live(), past.live.as_slice());
+    assert_eq!(rt;
+        effect.set.as_slice(),
+        past.announced.as_slice(),
+        "{entry:?}"
+    );
+    if let Answer::Done { kept, .. } = entry.answer {
+        assert_eq!(rt; kept, past.bits);
+    }
+}
+
+/// Makes a call, and looks at all that the desk says then.
+fn call_once(
+    rt: &impl Abort,
+    alloc: Global,
+    desk: &mut Desk,
+    past: &mut Past,
+    call: Call,
+    gap: u64,
+    seen: &mut Seen,
+) -> Result<(), Fail> {
+    if !has_stay(&call) {
+        return Ok(());
+    }
+    let mut effect = Effect::new();
+    let Recorded { number, answer } = desk.call(&call, &mut effect)?;
+    assert_eq!(rt; number, past.entries.len() as u64);
+    assert_owed(rt, gap, &past.base, &call, &answer);
+    let entry = Entry { call, answer };
+    let base = past.take_in(alloc, entry)?;
+    let gone = past.announce();
+    if matches!(call, Call::Time { .. }) {
+        seen.taken = seen.taken.saturating_add(gone);
+    }
+    assert_desk(rt, desk, past, &base, &entry, &effect);
+    seen.note(&answer, past.live.len(), past.announced.len());
+    Ok(())
+}
+
+/// Calls a desk by this plan.
 fn call_in_turn(
     rt: &impl Abort,
     alloc: Global,
@@ -193,61 +323,13 @@ fn call_in_turn(
     draws: &mut Draws,
     seen: &mut Seen,
 ) -> Result<(), Fail> {
-    let Plan {
-        gap,
-        request_ms,
-        shape,
-    } = *plan;
-    let mut desk = Desk::new(alloc, gap, request_ms)?;
-    let mut effect = Effect::new();
-    let mut past = Vec::new(alloc);
-    let mut before = Walk::new(alloc, 0)?.come_to(request_ms);
-    let mut rows = live_of(&before);
-    let mut announced = announced_for(&rows);
-    let mut bits = bits_for(rows.as_slice(), announced.as_slice());
+    let mut desk = Desk::new(alloc, plan.gap, plan.request_ms)?;
+    let mut past = Past::new(alloc, plan)?;
     let mut moment: u64 = 0;
     for number in 0..CALLS {
         moment = moment.wrapping_add((draws.next() % 8) as u64);
-        let call = draw(shape, draws, number, moment);
-        if !has_stay(&call) {
-            continue;
-        }
-        let recorded = desk.call(&call, &mut effect)?;
-        let answer = recorded.answer;
-        assert_eq!(rt; recorded.number, number as u64);
-        assert_owed(rt, gap, &before, &call, &answer);
-        past.push(Entry { call, answer })?;
-        // The list is gone over from its beginning, with a stop where the listed calls begin.
-        let folded = past.len().saturating_sub(1024);
-        assert_eq!(rt; desk.history().len(), past.len() - folded);
-        let mut walk = Walk::new(alloc, shape.owners() as usize)?;
-        walk.go_over(&past[..folded]);
-        assert_base(rt, desk.base(), &walk.come_to(request_ms));
-        walk.go_over(&past[folded..]);
-        before = walk.come_to(request_ms);
-        let live = live_of(&before);
-        // What is announced is a function of the live requests.
-        if live.as_slice() != rows.as_slice() {
-            if matches!(call, Call::Time { .. }) {
-                let taken = rows.len().saturating_sub(live.len());
-                seen.taken = seen.taken.saturating_add(taken);
-            }
-            announced = announced_for(&live);
-            bits = bits_for(live.as_slice(), announced.as_slice());
-            rows = live;
-        }
-        assert_eq!(rt; desk.live(), rows.as_slice());
-        assert_eq!(rt; effect.set.as_slice(), announced.as_slice(), "{rows:?}");
-        match answer {
-            Answer::Done { pli, kept } => {
-                assert_eq!(rt; kept, bits);
-                seen.sent = seen.sent.saturating_add(pli as usize);
-            },
-            Answer::Full => seen.full = seen.full.saturating_add(1),
-            _ => {},
-        }
-        seen.most_live = seen.most_live.max(rows.len());
-        seen.most_announced = seen.most_announced.max(announced.len());
+        let call = draw(plan.shape, draws, number, moment);
+        call_once(rt, alloc, &mut desk, &mut past, call, plan.gap, seen)?;
     }
     Ok(())
 }
