@@ -1,9 +1,9 @@
 //! The unit beside the machine: the same events, and the same datagrams.
 
-ghost use Rattle.std.specs.Prelude.{◌≡◌, ◌+◌, ◌<◌, ◌≤◌, vec_len, None};
+ghost use Rattle.std.specs.Prelude.{◌≡◌, ◌+◌, vec_len, None};
 
 use super::*;
-use crate::unit_doubles::{Link, Times, settings_with};
+use crate::random_turns::{TURNS, Turn, WORKERS, make_turns, room};
 use core_steps::{Bytes, Event, Out, World, run};
 use members::Settings;
 use rtrb::{Consumer, Producer, RingBuffer};
@@ -14,192 +14,11 @@ use std::test::Fail;
 use std::thread;
 use std::thread::Threads;
 
-/// So many turns are made.
-const TURNS: u64 = 2_000;
-
 /// So many datagrams a sink has room for.
 const ROOM: usize = 1 << 15;
 
 /// So often the source looks whether the workers are done.
 const PATIENCE: u32 = 100_000_000;
-
-const ENDPOINTS: u8 = 4;
-
-const WORKERS: u8 = 3;
-
-/// Numbers that look random, and are the same in each run (a linear congruential generator).
-#[derive(Drop)]
-struct Dice {
-    state: u64,
-}
-
-impl Dice {
-    /// A number below the limit, which is at least 1.
-    fn below(&mut self, limit: u32) -> u32
-        requires { 1 ≤ limit }
-        ensures { result < limit }
-    {
-        self.state = self
-            .state
-            .wrapping_mul(6_364_136_223_846_793_005)
-            .wrapping_add(1_442_695_040_888_963_407);
-        ((self.state >> 33) as u32) % limit
-    }
-
-    fn byte(&mut self) -> u8 {
-        self.below(256) as u8
-    }
-}
-
-/// One turn: what comes at which moment, and how many jobs workers have done before.
-#[derive(Drop)]
-struct Turn {
-    moment: u64,
-    arrival: Option<(u16, Vec<u8>)>,
-    jobs_before: u64,
-}
-
-/// Each endpoint sends to each other one. The source that a subscriber is sent has 256 and the leg's number.
-fn all_links(alloc: Global) -> Result<Vec<Link>, AllocError> {
-    let mut links = Vec::new(alloc);
-    let mut out_ssrc: i64 = 256;
-    for subscriber in 0..ENDPOINTS {
-        for publisher in 0..ENDPOINTS {
-            if subscriber != publisher {
-                links.push(Link {
-                    subscriber: i64::from(subscriber),
-                    publisher: i64::from(publisher),
-                    out_ssrc,
-                })?;
-                out_ssrc = out_ssrc.wrapping_add(1);
-            }
-        }
-    }
-    Ok(links)
-}
-
-/// What an endpoint sends. Feedback asks desks, so that its order among other calls matters: it comes only where `may_ask`.
-fn datagram(
-    alloc: Global,
-    dice: &mut Dice,
-    endpoint: u8,
-    may_ask: bool,
-) -> Result<Vec<u8>, AllocError>
-    requires { endpoint < 4 }
-{
-    let source = 16 + endpoint;
-    let leg = endpoint * 3 + dice.below(3) as u8;
-    match dice.below(if may_ask { 12 } else { 6 }) {
-        0..=3 => media(alloc, dice, source),
-        4 => [0x80, 0xc9, 0, 1, 0, 0, 0, source].to_vec(alloc),
-        5 => sender_report(alloc, dice, source),
-        6 | 7 => rate_request(alloc, dice, source, leg),
-        8 | 9 => resend_request(alloc, dice, source, leg),
-        10 => [0x81, 0xce, 0, 2, 0, 0, 0, source, 0, 0, 1, leg].to_vec(alloc),
-        _ => oddity(alloc, dice, source),
-    }
-}
-
-/// An RTP packet (RFC 3550, section 5.1).
-fn media(alloc: Global, dice: &mut Dice, source: u8) -> Result<Vec<u8>, AllocError> {
-    let (seq, time, payload) = (dice.below(64) as u8, dice.byte(), dice.byte());
-    [
-        0x80, 0x60, 0, seq, 0, 0, time, 0xb8, 0, 0, 0, source, payload, 0xbb,
-    ]
-    .to_vec(alloc)
-}
-
-/// A sender report without blocks (RFC 3550, section 6.4.1).
-fn sender_report(alloc: Global, dice: &mut Dice, source: u8) -> Result<Vec<u8>, AllocError> {
-    let (ntp, rtp) = (dice.byte(), dice.byte());
-    [
-        0x80, 0xc8, 0, 6, 0, 0, 0, source, 0, 0, 0, 10, ntp, 0, 0, 0, 0, 0, 0x0b, rtp, 0, 0, 0, 1,
-        0, 0, 0, 2,
-    ]
-    .to_vec(alloc)
-}
-
-/// A TMMBR of one entry (RFC 5104, section 4.2.1.1).
-fn rate_request(
-    alloc: Global,
-    dice: &mut Dice,
-    source: u8,
-    leg: u8,
-) -> Result<Vec<u8>, AllocError> {
-    let (high, middle, low) = (dice.below(16) as u8, dice.byte(), dice.byte());
-    [
-        0x83,
-        0xcd,
-        0,
-        4,
-        0,
-        0,
-        0,
-        source,
-        0,
-        0,
-        0,
-        0,
-        0,
-        0,
-        1,
-        leg,
-        high,
-        middle,
-        low & 0xfe,
-        40,
-    ]
-    .to_vec(alloc)
-}
-
-/// A NACK of one entry (RFC 4585, section 6.2.1).
-fn resend_request(
-    alloc: Global,
-    dice: &mut Dice,
-    source: u8,
-    leg: u8,
-) -> Result<Vec<u8>, AllocError> {
-    let (pid, blp) = (dice.byte(), dice.byte());
-    [
-        0x81, 0xcd, 0, 3, 0, 0, 0, source, 0, 0, 1, leg, 0, pid, 0, blp,
-    ]
-    .to_vec(alloc)
-}
-
-/// A goodbye (RFC 3550, section 6.6), or something that can't be read.
-fn oddity(alloc: Global, dice: &mut Dice, source: u8) -> Result<Vec<u8>, AllocError> {
-    if dice.below(4) == 0 {
-        [0x81, 0xcb, 0, 1, 0, 0, 0, source].to_vec(alloc)
-    } else {
-        [0x81, 0xcd, 0, 9, dice.byte()].to_vec(alloc)
-    }
-}
-
-/// The turns, whose jobs before are not counted yet.
-fn make_turns(alloc: Global) -> Result<Vec<Turn>, AllocError> {
-    let mut dice = Dice { state: 20 };
-    let mut turns = Vec::new(alloc);
-    let mut moment: u64 = 0;
-    for _turn in 0..TURNS {
-        let rises = dice.below(3) == 0;
-        if rises {
-            moment = moment.wrapping_add(1 + u64::from(dice.below(120)));
-        }
-        let arrival = if dice.below(8) == 0 {
-            None
-        } else {
-            let endpoint = dice.below(4) as u8;
-            let bytes = datagram(alloc, &mut dice, endpoint, !rises)?;
-            Some((u16::from(endpoint), bytes))
-        };
-        turns.push(Turn {
-            moment,
-            arrival,
-            jobs_before: 0,
-        })?;
-    }
-    Ok(turns)
-}
 
 /// What the machine gives out, by who sends it: the workers, and last the ingress.
 type Sent = Vec<Vec<Out>>;
@@ -234,7 +53,11 @@ fn step(world: &mut World, event: Event, sent: &mut Sent, sender: usize) -> Resu
     if sender >= sent.len() {
         return Err("sinks".into());
     }
-    run(world, &[event], &mut sent[sender])?;
+    do_event(world, event, &mut sent[sender])
+}
+
+fn do_event(world: &mut World, event: Event, outs: &mut Vec<Out>) -> Result<(), Fail> {
+    run(world, &[event], outs)?;
     Ok(())
 }
 
@@ -250,6 +73,25 @@ fn takes_idle_back(sent: &mut Sent, sender: usize) -> bool {
     true
 }
 
+/// What comes on this turn.
+fn event_of(alloc: Global, turn: &Turn) -> Result<Option<Event>, AllocError> {
+    let Some((endpoint, bytes)) = &turn.arrival else {
+        return Ok(None);
+    };
+    Ok(Some(Event::Hear {
+        moment: turn.moment,
+        endpoint: *endpoint,
+        bytes: Bytes::copy_of(alloc, bytes.as_slice())?,
+    }))
+}
+
+/// Takes something in, and does what follows; says how many jobs workers did. Refusals aren't sent.
+fn take_in(alloc: Global, world: &mut World, event: Event, sent: &mut Sent) -> Result<u64, Fail> {
+    let mut refused = Vec::new(alloc);
+    do_event(world, event, &mut refused)?;
+    Ok(settle(world, sent)? as u64)
+}
+
 /// Plays the turns in one thread, and notes how many jobs are done before each.
 fn play(
     alloc: Global,
@@ -258,24 +100,24 @@ fn play(
     sent: &mut Sent,
 ) -> Result<(), Fail> {
     let mut world = World::new(alloc, settings)?;
-    let mut refused = Vec::new(alloc);
     let mut jobs: u64 = 0;
     for turn in turns.iter_mut() {
-        let moment = turn.moment;
         turn.jobs_before = jobs;
-        if let Some((endpoint, bytes)) = &turn.arrival {
-            let event = Event::Hear {
-                moment,
-                endpoint: *endpoint,
-                bytes: Bytes::copy_of(alloc, bytes.as_slice())?,
-            };
-            run(&mut world, [event].as_slice(), &mut refused)?;
-            jobs = jobs.wrapping_add(settle(&mut world, sent)? as u64);
-        }
-        run(&mut world, &[Event::Tick { moment }], &mut refused)?;
-        jobs = jobs.wrapping_add(settle(&mut world, sent)? as u64);
+        jobs = jobs.wrapping_add(play_turn(alloc, &mut world, turn, sent)?);
     }
     Ok(())
+}
+
+/// One turn; says how many jobs workers did.
+fn play_turn(alloc: Global, world: &mut World, turn: &Turn, sent: &mut Sent) -> Result<u64, Fail> {
+    let heard = match event_of(alloc, turn)? {
+        Some(event) => take_in(alloc, world, event, sent)?,
+        None => 0,
+    };
+    let tick = Event::Tick {
+        moment: turn.moment,
+    };
+    Ok(heard.wrapping_add(take_in(alloc, world, tick, sent)?))
 }
 
 /// A source that waits until the workers are done with what came before; it moves the clock.
@@ -380,34 +222,53 @@ fn count_same(sent: &[Out], handed: &mut Consumer<Datagram, Global>) -> Option<u
     Some(count)
 }
 
-#[test]
-fn unit_beside_machine(rt: HostRuntime) -> Result<(), Fail> {
-    let alloc = rt.alloc();
-    let links = all_links(alloc)?;
-    let times = Times {
-        timeout: 1_000,
-        report: 700,
-        request: 900,
-        gap: 200,
-    };
-    let settings = settings_with(
-        alloc,
-        i64::from(WORKERS),
-        ENDPOINTS,
-        links.as_slice(),
-        times,
-    )?;
-    let mut turns = make_turns(alloc)?;
-    let mut sent = Vec::new(alloc);
+/// The same of each sender, all of whom sent something. Says how many datagrams they are.
+fn count_all(sent: &Sent, handed: &mut Vec<Consumer<Datagram, Global>>) -> Option<u64> {
+    let mut count: u64 = 0;
+    for (outs, end) in sent.iter().zip(handed) {
+        let same = count_same(outs.as_slice(), end)?;
+        if same == 0 {
+            return None;
+        }
+        count = count.wrapping_add(same as u64);
+    }
+    Some(count)
+}
+
+/// A sink for each worker and the ingress, and where its datagrams come out.
+fn sinks_and_ends(
+    alloc: Global,
+) -> Result<(Vec<RingSink>, Vec<Consumer<Datagram, Global>>), AllocError> {
     let mut sinks = Vec::new(alloc);
-    let mut handed = Vec::new(alloc);
+    let mut ends = Vec::new(alloc);
     for _sink in 0..WORKERS + 1 {
         let (ring, end) = RingBuffer::new(alloc, ROOM)?;
         sinks.push(RingSink { alloc, ring })?;
-        handed.push(end)?;
+        ends.push(end)?;
+    }
+    Ok((sinks, ends))
+}
+
+/// Nobody sent anything.
+fn nothing_sent(alloc: Global) -> Result<Sent, AllocError> {
+    let mut sent = Vec::new(alloc);
+    for _sender in 0..WORKERS + 1 {
         sent.push(Vec::new(alloc))?;
     }
-    play(alloc, &settings, &mut turns, &mut sent)?;
+    Ok(sent)
+}
+
+/// Runs the unit over the turns.
+fn run_turns<R: Threads + Wait + Sync>(
+    rt: &R,
+    alloc: Global,
+    settings: &Settings,
+    turns: Vec<Turn>,
+    sinks: Vec<RingSink>,
+) -> Result<Report, Fail> {
+    if sinks.len() as u64 != settings.workers() + 1 {
+        return Err("sinks".into());
+    }
     let (done, now) = (AtomicU64::new(0), AtomicU64::new(0));
     let source = Turned {
         turns,
@@ -415,26 +276,21 @@ fn unit_beside_machine(rt: HostRuntime) -> Result<(), Fail> {
         done: &done,
         now: &now,
     };
-    if sinks.len() as u64 != settings.workers() + 1 {
-        return Err("sinks".into());
-    }
     let gate = Counting { done: &done };
-    let report = run_unit(
-        &rt,
-        alloc,
-        &settings,
-        source,
-        sinks,
-        Moved { now: &now },
-        &gate,
-        TURNS,
-    )?;
-    let mut count: u64 = 0;
-    for (outs, end) in sent.iter().zip(&mut handed) {
-        let same = count_same(outs.as_slice(), end).ok_or("other datagrams")?;
-        assert!(rt; same > 0);
-        count = count.wrapping_add(same as u64);
-    }
+    let clock = Moved { now: &now };
+    Ok(run_unit(rt, alloc, settings, source, sinks, clock, &gate, TURNS)?)
+}
+
+#[test]
+fn unit_beside_machine(rt: HostRuntime) -> Result<(), Fail> {
+    let alloc = rt.alloc();
+    let settings = room(alloc)?;
+    let mut turns = make_turns(alloc)?;
+    let mut sent = nothing_sent(alloc)?;
+    play(alloc, &settings, &mut turns, &mut sent)?;
+    let (sinks, mut handed) = sinks_and_ends(alloc)?;
+    let report = run_turns(&rt, alloc, &settings, turns, sinks)?;
+    let count = count_all(&sent, &mut handed).ok_or("other datagrams")?;
     assert_eq!(rt;
         (report.sent, report.failed, report.lost, report.dropped),
         (count, 0, 0, 0)

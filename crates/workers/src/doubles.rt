@@ -52,6 +52,49 @@ impl Sink for MemorySink {
     }
 }
 
+/// A sink in memory whose list contracts see, for as long as there was room for all that came.
+#[derive(Debug, Drop)]
+pub(super) struct ListSink {
+    alloc: Global,
+    pub(super) handed: Vec<Datagram>,
+    pub(super) is_whole: bool,
+}
+
+impl ListSink {
+    ghost use Rattle.std.specs.Prelude.{◌≡◌, [], true};
+
+    pub(super) fn new(alloc: Global) -> ListSink
+        ensures { (result.handed.items ≡ []) × (result.is_whole ≡ true) }
+    {
+        ListSink {
+            alloc,
+            handed: Vec::new(alloc),
+            is_whole: true,
+        }
+    }
+}
+
+impl Sink for ListSink {
+    ghost use Rattle.std.specs.Prelude.{Some, None, if◌then◌else◌};
+
+    ghost shown = { λ s. record {
+      handed = (if s.is_whole then Some s.handed.items else None);
+      failures = 0;
+    } };
+
+    fn send(&mut self, endpoint: u16, bytes: &[u8]) -> Result<(), SendFault> {
+        let Ok(bytes) = Bytes::copy_of(self.alloc, bytes) else {
+            self.is_whole = false;
+            return Ok(());
+        };
+        let Ok(()) = self.handed.push(Datagram { endpoint, bytes }) else {
+            self.is_whole = false;
+            return Ok(());
+        };
+        Ok(())
+    }
+}
+
 /// A source of datagrams in memory.
 #[derive(Debug, Drop)]
 pub(super) struct MemorySource {

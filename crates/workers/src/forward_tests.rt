@@ -1,12 +1,14 @@
 //! Jobs on a worker's legs.
 
-ghost use Rattle.std.specs.Prelude.{◌≡◌};
+ghost use Rattle.std.specs.Prelude.{◌≡◌, ◌++◌, IsTrue, IfOk};
+ghost use Rattle.workers.specs.Forwarding.{given_by};
+ghost use Rattle.workers.specs.Outside.{datagrams_of};
 
 use super::*;
-use crate::doubles::{MemorySink, MemorySource, OpenGate, StoppedClock};
+use crate::doubles::{ListSink, MemorySink, MemorySource, OpenGate, StoppedClock};
 use crate::rooms::{examples, is, on, packet, rtp, two_subscribers};
 use core_steps::{Bytes, Job};
-use routes::{Blank, Naming, RouteReader, RouteWriter, routes};
+use routes::{Blank, Naming, RouteNote, RouteReader, RouteWriter, routes};
 use rtcp_feedback::Nack;
 use std::alloc::Global;
 use std::marker::Brand;
@@ -157,18 +159,49 @@ fn does_nothing<J: Naming>(
     Ok(())
 }
 
+/// Does a job. What it gives out stands behind what the sink was handed before.
+fn lists<J: Naming>(
+    worker: &mut Forwarder,
+    reader: &mut RouteReader<J>,
+    note: RouteNote<J>,
+    job: &Job,
+    sink: &mut ListSink,
+) -> Result<Forwarded, ForwardFault>
+    ensures { IfOk result (λ _. IsTrue sink.new.is_whole → sink.new.handed.items
+        ≡ sink.old.handed.items ++ datagrams_of (given_by worker.old reader.new.rows job.now)) }
+{
+    worker.forward(reader, note, job, sink)
+}
+
+/// A packet, and once it is wanted again: both stand in the list.
+fn lists_both<J: Naming>(
+    rt: &impl Abort,
+    alloc: Global,
+    writer: &RouteWriter<J>,
+    reader: &mut RouteReader<J>,
+) -> Result<(), Fail> {
+    let mut worker = Forwarder::new(alloc, &examples(alloc).ok_or("settings")?, 1)?;
+    let mut sink = ListSink::new(alloc);
+    let sent = Forwarded { sent: 1, ..NOTHING };
+    for job in [packet(alloc, 8)?, resend(0, 1, 100, 0)] {
+        let done = lists(&mut worker, reader, writer.note(), &job, &mut sink);
+        assert_eq!(rt; done, Ok(sent));
+    }
+    assert!(rt; sink.is_whole && sink.handed.len() == 2);
+    assert!(rt; is(&sink.handed[0], 1, &rtp(100, [1, 1])));
+    assert!(rt; is(&sink.handed[1], 1, &rtp(100, [1, 1])));
+    Ok(())
+}
+
 fn forwards_in<J: Naming, R: Wait + Abort>(rt: &R, alloc: Global, blank: Blank) -> Result<(), Fail>
     requires { (blank.book ≡ J.book) × (blank.legs ≡ J.legs) }
 {
-    let (mut writer, mut readers) = routes::<J, R>(rt, alloc, blank, 2)?;
+    let (mut writer, mut readers) = routes::<J, R>(rt, alloc, blank, 3)?;
     let noted = writer.change(&on(0)).is_ok();
     writer.publish(rt);
-    let done = does_examples(rt, alloc, &writer, &mut readers[0]).and_then(|()| does_nothing(
-        rt,
-        alloc,
-        &writer,
-        &mut readers[1],
-    ));
+    let done = does_examples(rt, alloc, &writer, &mut readers[0])
+        .and_then(|()| does_nothing(rt, alloc, &writer, &mut readers[1]))
+        .and_then(|()| lists_both(rt, alloc, &writer, &mut readers[2]));
     writer.end(rt);
     assert!(rt; noted);
     done

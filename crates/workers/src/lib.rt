@@ -48,6 +48,8 @@ mod forward_tests;
 #[cfg(test)]
 mod memory_tests;
 #[cfg(test)]
+mod random_turns;
+#[cfg(test)]
 mod rooms;
 #[cfg(test)]
 mod unit_doubles;

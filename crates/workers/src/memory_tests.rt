@@ -1,17 +1,31 @@
-//! Growths that are refused. Run with `rt try --test --fail-alloc N`, which refuses the Nth growth.
+//! Growths that are refused, and a stream that needs none. `rt try --test --fail-alloc N` refuses the Nth growth.
 
 ghost use Rattle.std.specs.Prelude.{◌≡◌};
 
 use super::*;
 use crate::doubles::MemorySink;
 use crate::rooms::{is, on, packet, rtp, two_subscribers};
-use core_steps::Job;
+use core_steps::{Bytes, Job};
 use routes::{Blank, Naming, Order, RouteReader, RouteWriter, RoutesFault, routes};
 use std::alloc::{AllocError, Global};
 use std::marker::Brand;
 use std::process::Abort;
 use std::sync::Wait;
 use std::test::Fail;
+
+/// A packet went to two subscribers.
+const BOTH: Forwarded = Forwarded {
+    sent: 2,
+    failed: 0,
+    skipped: 0,
+    missed: 0,
+};
+
+/// So many packets fill the rings of the room's legs, which keep 8, and bring buffers back from there.
+const FIRST: u16 = 12;
+
+/// So many packets come behind those.
+const STEADY: u16 = 1_000;
 
 /// The only worker of a room with two subscribers.
 fn worker(alloc: Global) -> Option<Forwarder> {
@@ -35,12 +49,12 @@ fn packet_at_last(alloc: Global, seq: u8) -> Result<Job, AllocError> {
 }
 
 /// Does the job with a note of all that is published.
-fn forward<J: Naming>(
+fn forward<J: Naming, S: Sink>(
     writer: &RouteWriter<J>,
     reader: &mut RouteReader<J>,
     worker: &mut Forwarder,
     job: &Job,
-    sink: &mut MemorySink,
+    sink: &mut S,
 ) -> Result<Forwarded, ForwardFault> {
     worker.forward(reader, writer.note(), job, sink)
 }
@@ -76,20 +90,71 @@ fn sends_four<J: Naming>(
 ) -> Result<(), Fail> {
     let mut worker = worker_at_last(alloc).ok_or("a worker")?;
     let mut sink = MemorySink::failing(alloc, 0);
-    let both = Forwarded {
-        sent: 2,
-        ..Forwarded::default()
-    };
     for seq in [8, 9] {
         let job = packet_at_last(alloc, seq)?;
         let done = until_done(rt, writer, reader, &mut worker, &job, &mut sink);
-        assert_eq!(rt; done, Some(both));
+        assert_eq!(rt; done, Some(BOTH));
     }
     assert_eq!(rt; sink.handed.len(), 4);
     assert!(rt; is(&sink.handed[0], 1, &rtp(100, [1, 1])));
     assert!(rt; is(&sink.handed[1], 2, &rtp(200, [1, 2])));
     assert!(rt; is(&sink.handed[2], 1, &rtp(101, [1, 1])));
     assert!(rt; is(&sink.handed[3], 2, &rtp(201, [1, 2])));
+    Ok(())
+}
+
+/// A sink that keeps nothing, so that it takes no memory.
+#[derive(Debug, Drop)]
+struct CountingSink {
+    handed: u64,
+}
+
+impl Sink for CountingSink {
+    ghost use Rattle.std.specs.Prelude.{None};
+
+    ghost shown = { λ s. record { handed = None; failures = 0 } };
+
+    fn send(&mut self, _endpoint: u16, _bytes: &[u8]) -> Result<(), SendFault> {
+        self.handed = self.handed.saturating_add(1);
+        Ok(())
+    }
+}
+
+/// The job of the packet with this sequence number, in the buffer of the packet before it.
+fn next_packet(job: Job, seq: u16) -> Job {
+    let Job::Packet { publisher, bytes } = job else {
+        return job;
+    };
+    let mut buffer = bytes.into_vec();
+    if buffer.len() >= 4 {
+        buffer[2..4].copy_from_slice(&seq.to_be_bytes());
+    }
+    Job::Packet {
+        publisher,
+        bytes: Bytes::new(buffer),
+    }
+}
+
+/// The first packets take memory, and a refused one goes out when it comes again; each one behind them goes out at once,
+/// whichever growth is refused.
+fn streams<J: Naming>(
+    rt: &impl Abort,
+    alloc: Global,
+    writer: &RouteWriter<J>,
+    reader: &mut RouteReader<J>,
+) -> Result<(), Fail> {
+    let mut worker = worker_at_last(alloc).ok_or("a worker")?;
+    let mut sink = CountingSink { handed: 0 };
+    let mut job = packet_at_last(alloc, 0)?;
+    for seq in 0..FIRST + STEADY {
+        job = next_packet(job, seq);
+        let mut done = forward(writer, reader, &mut worker, &job, &mut sink);
+        if seq < FIRST && done.is_err() {
+            done = forward(writer, reader, &mut worker, &job, &mut sink);
+        }
+        assert_eq!(rt; done, Ok(BOTH));
+    }
+    assert_eq!(rt; sink.handed, 2 * u64::from(FIRST + STEADY));
     Ok(())
 }
 
@@ -101,7 +166,7 @@ fn note_order<J: Naming>(writer: &mut RouteWriter<J>, order: &Order) -> bool {
 fn sends_in<J: Naming, R: Wait + Abort>(rt: &R, alloc: Global, blank: Blank) -> Result<(), Fail>
     requires { (blank.book ≡ J.book) × (blank.legs ≡ J.legs) }
 {
-    let (mut writer, mut readers) = match routes::<J, R>(rt, alloc, blank, 1) {
+    let (mut writer, mut readers) = match routes::<J, R>(rt, alloc, blank, 2) {
         Ok(made) => made,
         Err(fault) => {
             assert_eq!(rt; fault, RoutesFault::NoMemory);
@@ -110,13 +175,19 @@ fn sends_in<J: Naming, R: Wait + Abort>(rt: &R, alloc: Global, blank: Blank) -> 
     };
     let noted = note_order(&mut writer, &on(0)) && note_order(&mut writer, &on(1));
     writer.publish(rt);
-    let result = sends_four(rt, alloc, &writer, &mut readers[0]);
+    let result = sends_four(rt, alloc, &writer, &mut readers[0]).and_then(|()| streams(
+        rt,
+        alloc,
+        &writer,
+        &mut readers[1],
+    ));
     writer.end(rt);
     assert!(rt; noted);
     result
 }
 
-/// A refused job leaves its legs and the sink as they were: done again it sends what it would have sent.
+/// A refused job leaves its legs and the sink as they were: done again it sends what it would have sent. A steady stream
+/// takes no memory.
 #[test]
 fn forward_with_each_growth_refused(rt: HostRuntime) -> Result<(), Fail> {
     sends_in::<Brand, _>(&rt, rt.alloc(), Blank::new(2))

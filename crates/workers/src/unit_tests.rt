@@ -136,3 +136,20 @@ fn receive_faults(rt: HostRuntime) -> Result<(), Fail> {
     assert_eq!(rt; UnitFault::Receive.number(), 2);
     Ok(())
 }
+
+#[test]
+fn counts_stay_at_their_greatest(rt: HostRuntime) -> Result<(), Fail> {
+    let counts = Counts::new(rt.alloc(), 1)?;
+    let greatest = Forwarded {
+        sent: u64::MAX,
+        failed: u64::MAX,
+        ..Forwarded::default()
+    };
+    counts.of_ingress().add(&greatest);
+    counts.of_ingress().add(&greatest);
+    counts.of_worker(0).ok_or("a worker")?.add(&greatest);
+    let status = counts.status();
+    assert_eq!(rt; (status.sent, status.failed), (u64::MAX, u64::MAX));
+    assert_eq!(rt; (status.heard, status.lost, status.dropped), (0, 0, 0));
+    Ok(())
+}

@@ -1,0 +1,207 @@
+//! Random turns for tests: what the endpoints of a room send, from a fixed seed.
+
+ghost use Rattle.std.specs.Prelude.{◌≡◌, ◌+◌, ◌<◌, ◌≤◌};
+
+use crate::unit_doubles::{Link, Times, settings_with};
+use members::Settings;
+use std::alloc::{AllocError, Global};
+use std::test::Fail;
+
+/// So many turns are made.
+pub(super) const TURNS: u64 = 2_000;
+
+const ENDPOINTS: u8 = 4;
+
+pub(super) const WORKERS: u8 = 3;
+
+/// Numbers that look random, and are the same in each run (a linear congruential generator).
+#[derive(Drop)]
+struct Dice {
+    state: u64,
+}
+
+impl Dice {
+    /// A number below the limit, which is at least 1.
+    fn below(&mut self, limit: u32) -> u32
+        requires { 1 ≤ limit }
+        ensures { result < limit }
+    {
+        self.state = self
+            .state
+            .wrapping_mul(6_364_136_223_846_793_005)
+            .wrapping_add(1_442_695_040_888_963_407);
+        ((self.state >> 33) as u32) % limit
+    }
+
+    fn byte(&mut self) -> u8 {
+        self.below(256) as u8
+    }
+}
+
+/// One turn: what comes at which moment, and how many jobs workers have done before.
+#[derive(Drop)]
+pub(super) struct Turn {
+    pub(super) moment: u64,
+    pub(super) arrival: Option<(u16, Vec<u8>)>,
+    pub(super) jobs_before: u64,
+}
+
+/// Each endpoint sends to each other one. The source that a subscriber is sent has 256 and the leg's number.
+fn all_links(alloc: Global) -> Result<Vec<Link>, AllocError> {
+    let mut links = Vec::new(alloc);
+    let mut out_ssrc: i64 = 256;
+    for subscriber in 0..ENDPOINTS {
+        for publisher in 0..ENDPOINTS {
+            if subscriber != publisher {
+                links.push(Link {
+                    subscriber: i64::from(subscriber),
+                    publisher: i64::from(publisher),
+                    out_ssrc,
+                })?;
+                out_ssrc = out_ssrc.wrapping_add(1);
+            }
+        }
+    }
+    Ok(links)
+}
+
+/// What an endpoint sends. Feedback asks desks, so that its order among other calls matters: it comes only where `may_ask`.
+fn datagram(
+    alloc: Global,
+    dice: &mut Dice,
+    endpoint: u8,
+    may_ask: bool,
+) -> Result<Vec<u8>, AllocError>
+    requires { endpoint < 4 }
+{
+    let source = 16 + endpoint;
+    let leg = endpoint * 3 + dice.below(3) as u8;
+    match dice.below(if may_ask { 12 } else { 6 }) {
+        0..=3 => media(alloc, dice, source),
+        4 => [0x80, 0xc9, 0, 1, 0, 0, 0, source].to_vec(alloc),
+        5 => sender_report(alloc, dice, source),
+        6 | 7 => rate_request(alloc, dice, source, leg),
+        8 | 9 => resend_request(alloc, dice, source, leg),
+        10 => [0x81, 0xce, 0, 2, 0, 0, 0, source, 0, 0, 1, leg].to_vec(alloc),
+        _ => oddity(alloc, dice, source),
+    }
+}
+
+/// An RTP packet (RFC 3550, section 5.1).
+fn media(alloc: Global, dice: &mut Dice, source: u8) -> Result<Vec<u8>, AllocError> {
+    let (seq, time, payload) = (dice.below(64) as u8, dice.byte(), dice.byte());
+    [
+        0x80, 0x60, 0, seq, 0, 0, time, 0xb8, 0, 0, 0, source, payload, 0xbb,
+    ]
+    .to_vec(alloc)
+}
+
+/// A sender report without blocks (RFC 3550, section 6.4.1).
+fn sender_report(alloc: Global, dice: &mut Dice, source: u8) -> Result<Vec<u8>, AllocError> {
+    let (ntp, rtp) = (dice.byte(), dice.byte());
+    [
+        0x80, 0xc8, 0, 6, 0, 0, 0, source, 0, 0, 0, 10, ntp, 0, 0, 0, 0, 0, 0x0b, rtp, 0, 0, 0, 1,
+        0, 0, 0, 2,
+    ]
+    .to_vec(alloc)
+}
+
+/// A TMMBR of one entry (RFC 5104, section 4.2.1.1).
+fn rate_request(
+    alloc: Global,
+    dice: &mut Dice,
+    source: u8,
+    leg: u8,
+) -> Result<Vec<u8>, AllocError> {
+    let (high, middle, low) = (dice.below(16) as u8, dice.byte(), dice.byte());
+    [
+        0x83,
+        0xcd,
+        0,
+        4,
+        0,
+        0,
+        0,
+        source,
+        0,
+        0,
+        0,
+        0,
+        0,
+        0,
+        1,
+        leg,
+        high,
+        middle,
+        low & 0xfe,
+        40,
+    ]
+    .to_vec(alloc)
+}
+
+/// A NACK of one entry (RFC 4585, section 6.2.1).
+fn resend_request(
+    alloc: Global,
+    dice: &mut Dice,
+    source: u8,
+    leg: u8,
+) -> Result<Vec<u8>, AllocError> {
+    let (pid, blp) = (dice.byte(), dice.byte());
+    [
+        0x81, 0xcd, 0, 3, 0, 0, 0, source, 0, 0, 1, leg, 0, pid, 0, blp,
+    ]
+    .to_vec(alloc)
+}
+
+/// A goodbye (RFC 3550, section 6.6), or something that can't be read.
+fn oddity(alloc: Global, dice: &mut Dice, source: u8) -> Result<Vec<u8>, AllocError> {
+    if dice.below(4) == 0 {
+        [0x81, 0xcb, 0, 1, 0, 0, 0, source].to_vec(alloc)
+    } else {
+        [0x81, 0xcd, 0, 9, dice.byte()].to_vec(alloc)
+    }
+}
+
+/// The turns, whose jobs before are not counted yet.
+pub(super) fn make_turns(alloc: Global) -> Result<Vec<Turn>, AllocError> {
+    let mut dice = Dice { state: 20 };
+    let mut turns = Vec::new(alloc);
+    let mut moment: u64 = 0;
+    for _turn in 0..TURNS {
+        let rises = dice.below(3) == 0;
+        if rises {
+            moment = moment.wrapping_add(1 + u64::from(dice.below(120)));
+        }
+        let arrival = if dice.below(8) == 0 {
+            None
+        } else {
+            let endpoint = dice.below(4) as u8;
+            let bytes = datagram(alloc, &mut dice, endpoint, !rises)?;
+            Some((u16::from(endpoint), bytes))
+        };
+        turns.push(Turn {
+            moment,
+            arrival,
+            jobs_before: 0,
+        })?;
+    }
+    Ok(turns)
+}
+
+/// The room in which all this comes: each endpoint sends to each other one.
+pub(super) fn room(alloc: Global) -> Result<Settings, Fail> {
+    let links = all_links(alloc)?;
+    let times = Times {
+        timeout: 1_000,
+        report: 700,
+        request: 900,
+        gap: 200,
+    };
+    settings_with(
+        alloc,
+        i64::from(WORKERS),
+        ENDPOINTS,
+        links.as_slice(),
+        times,
+    )
+}
