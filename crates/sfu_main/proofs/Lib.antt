@@ -5,6 +5,9 @@ pub mod AskedLemmas
 pub mod RowTextLemmas
 pub mod CommandLineLemmas
 pub mod CommandLemmas
+pub mod NumberLemmas
+pub mod WordLemmas
+pub mod SheetLemmas
 mod PlaceLemmas
 pub mod AddressLemmas
 pub mod ReportLemmas

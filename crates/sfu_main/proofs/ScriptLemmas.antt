@@ -1,14 +1,7 @@
 -- What the words of a script's line spell.
-use Rattle.std.proofs.Common.{◌≡◌, ◌≢◌, ◌∙◌, ◌<◌, ◌^◌, ◌==◌, ◌&&◌, ℕ, suc, zero, Bool, true, false, cond, drop, length, get_or, refl, sym, ap, subst, arith, List, [], ◌∷◌, Option, Some, None, Result, Ok, Err, codes, nat_lt, bytes_eq, IsUtf8, if◌then◌else◌, option_map, option_and_then}
-use Rattle.std.specs.List.{list_all, slice_split}
-use Rattle.std.specs.Result.{result_ok}
-use Rattle.std.specs.Char.{digit_value}
-use Rattle.std.specs.Str.Parse.{IsNumeral, ParsesUnsigned, digits_value, without_leading_plus}
-use Rattle.std.proofs.lemmas.Bool.{cond-false, cond-true, lt-ltb, ltb-true, ne_eqb}
-use Rattle.std.proofs.lemmas.Str.{IsUtf8-from_ascii}
-use Rattle.std.proofs.lemmas.Str.Parse.{digit_from_value}
-use Rattle.clap.proofs.WalkLemmas.{both}
-use Rattle.clap.specs.ValueTests.{is_numeral}
+use Rattle.std.proofs.Common.{◌≡◌, ◌≢◌, ◌^◌, ◌==◌, ℕ, Bool, true, false, length, get_or, refl, subst, List, [], ◌∷◌, Option, Some, None, codes, nat_lt, bytes_eq, if◌then◌else◌, option_map, option_and_then}
+use Rattle.std.specs.List.{slice_split}
+use Rattle.std.proofs.lemmas.Bool.{cond-false, ltb-true, ne_eqb}
 use Rattle.sfu_main.specs.declared.script.Command.{Command}
 use Rattle.sfu_main.specs.declared.script.Command.TheVariants.{Do, Settle, Show}
 use Rattle.sfu_main.specs.declared.script.Numbers.{Numbers}
@@ -16,68 +9,6 @@ use Rattle.sfu_main.specs.declared.script.Reading.TheVariants.{Skipped, Command 
 use Rattle.core_steps.specs.declared.event.Event.TheVariants.{Ingress}
 use Rattle.sfu_main.specs.Replay.{IsAmong}
 use Rattle.sfu_main.specs.Script.{below, command_or_not, datagram_in, hear_words, no_words, number_below, number_in, reading_of, select_words, show_words, switch_in, tick_words, words_command, work_words}
-use Rattle.sfu_main.proofs.CommandLineLemmas.{digits_back, digits_from}
-
--- ---- numbers
-
-abbrev fits_u64 : List ℕ → Bool
-fits_u64 ds = is_numeral ds && nat_lt (digits_value 10 ds) (2 ^ 64)
-
-is_fit : (ds : List ℕ) → IsNumeral 10 ds → digits_value 10 ds < 2 ^ 64 → fits_u64 ds ≡ true
-is_fit ds numeral fits = rw (lt-ltb _ _ numeral.0, digits_back ds numeral.1, lt-ltb _ _ fits) refl
-
-fit_is : (ds : List ℕ) → fits_u64 ds ≡ true → IsNumeral 10 ds × (digits_value 10 ds < 2 ^ 64)
-fit_is ds e =
-    let parts = both _ _ e in
-    let numeral = both _ _ parts.0 in
-    ((ltb-true _ _ numeral.0, digits_from ds numeral.1), ltb-true _ _ parts.1)
-
-abbrev are_digits : List ℕ → Bool
-are_digits word = list_all (λ d. nat_lt (digit_value d) 10) word
-
--- digits have no sign before them
-no_plus : (word : List ℕ) → are_digits word ≡ true → without_leading_plus word ≡ word
-no_plus [] e = refl
-no_plus (d ∷ ds) e =
-    let digit = digit_from_value d (ltb-true _ _ (both _ _ e).0) in
-    let plus : (d == 43) ≡ false = ne_eqb d 43 (λ is. omega (arith, digit)) in
-    ap (λ (b : Bool). drop (cond b 1 0) (d ∷ ds)) plus
-
-number_at : (E : Type 0) (word : List ℕ) (r : Result ℕ E) → ParsesUnsigned 64 10 word r → without_leading_plus word ≡ word
-    → result_ok r ≡ number_in word
-number_at E word (Ok v) h whole =
-    let numeral : IsNumeral 10 word = subst (λ (t : List ℕ). IsNumeral 10 t) whole h.0.0 in
-    let fits : digits_value 10 word < 2 ^ 64 = subst (λ (t : List ℕ). digits_value 10 t < 2 ^ 64) whole h.0.1 in
-    ap Some (h.1 ∙ ap (digits_value 10) whole) ∙ sym (cond-true (fits_u64 word) _ _ (is_fit word numeral fits))
-number_at E word (Err x) h whole = go (fits_u64 word) refl
-  where
-    go : (b : Bool) → fits_u64 word ≡ b → None ≡ number_in word
-    go true e =
-        let is = fit_is word e in
-        absurd (h (subst (λ (t : List ℕ). IsNumeral 10 t × (digits_value 10 t < 2 ^ 64)) (sym whole) is))
-    go false e = sym (cond-false (fits_u64 word) _ _ e)
-
-pub parsed_number : (E : Type 0) (word : List ℕ) (r : Result ℕ E) → are_digits word ≡ true → ParsesUnsigned 64 10 word r
-    → result_ok r ≡ number_in word
-parsed_number E word r digits parses = number_at E word r parses (no_plus word digits)
-
-pub no_digits : (word : List ℕ) → are_digits word ≡ false → None ≡ number_in word
-no_digits word e = sym (cond-false (fits_u64 word) _ _ (fails (nat_lt 0 (length word)) (are_digits word) (nat_lt (digits_value 10 word) (2 ^ 64)) e))
-  where
-    fails : (a b c : Bool) → b ≡ false → ((a && b) && c) ≡ false
-    fails true b c e = ap (λ x. x && c) e
-    fails false b c e = refl
-
--- digits are ASCII
-ascii : (word : List ℕ) → are_digits word ≡ true → (i : ℕ) → get_or word i 0 < 128
-ascii [] e i = omega arith
-ascii (d ∷ ds) e zero =
-    let digit = digit_from_value d (ltb-true _ _ (both _ _ e).0) in
-    omega (arith, digit)
-ascii (d ∷ ds) e (suc i) = ascii ds (both _ _ e).1 i
-
-pub digits_utf8 : (word : List ℕ) → are_digits word ≡ true → IsUtf8 word
-digits_utf8 word e = IsUtf8-from_ascii word (ascii word e)
 
 -- ---- a publisher that a line shows is there
 

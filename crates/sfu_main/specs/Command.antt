@@ -110,18 +110,6 @@ pub record ShowsFailure (failure : Failure) (old new : Option (List ℕ)) (s : S
   pub refused : s ≡ status.Refused → (status_of failure ≡ status.Refused) × ShowsLine failure old new
   pub said : SaysWhy old new s
 
--- where a text isn't read, one of its lines can't be
-abbrev pub IsText : Failure → Type 0
-IsText NoMemory = Unit {0}
-IsText Io = ⊥
-IsText (RefusedLine line fault) = fault ≡ Text
-
--- where there is no answer for a fault of the file, nothing was printed
-abbrev pub FailsCheck : Option (List ℕ) → Option (List ℕ) → Failure → Type 0
-FailsCheck old new NoMemory = Unit {0}
-FailsCheck old new Io = Unit {0}
-FailsCheck old new (RefusedLine line fault) = (fault ≡ Text) × Keeps old new
-
 -- a no of `check` is printed; or nothing is, and the line that can't be read is on the error output
 abbrev pub SaysNo : Option (List ℕ) → Option (List ℕ) → Option (List ℕ) → Option (List ℕ) → Type 0
 SaysNo old new errors_old errors_new =

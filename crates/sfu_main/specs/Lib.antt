@@ -4,6 +4,8 @@ pub mod BoundText
 pub mod Outcome
 pub mod CommandLine
 pub mod Command
+pub mod CheckFile
+pub mod Sheet
 pub mod Places
 pub mod Addresses
 pub mod AddressFaults

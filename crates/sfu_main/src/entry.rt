@@ -1,10 +1,18 @@
 //! The lines of a certificate, as `sfu bound` prints them.
 
-ghost use Rattle.std.specs.Prelude.{◌≡◌};
+ghost use Rattle.std.specs.Prelude.{◌==◌, ◌≡◌, ◌<◌, ◌^◌, IfOk, map, nat_lt, option_map};
+ghost use Rattle.std.specs.Char.{digit_value};
+ghost use Rattle.std.specs.List.{list_all, slice_split};
+ghost use Rattle.std.specs.Str.{bytes_eq};
+ghost use Rattle.tmmbr_tuple.specs.RatePair.{pair_of};
+ghost use Rattle.sfu_main.specs.CheckFile.{asked_in, asked_of, claim_in, implied_words, kept_words, line_of, live_words, number_under, or_unreadable, pair_in, said_by, said_of, word_in, words_line};
 
 use rate_cert::Request;
 use std::alloc::{AllocError, Global};
 use tmmbr_tuple::{Pair, Ssrc, Tuple};
+
+/// How many requests a file may have.
+pub const MAX_LINES: usize = 65_535;
 
 /// What a line says of a request.
 #[derive(Clone, Copy, Debug, PartialEq, Eq)]
@@ -39,22 +47,50 @@ pub enum Reading {
 }
 
 /// What the line is. Its words are parted by single spaces.
-pub fn read_line(alloc: Global, line: &[u8]) -> Result<Reading, AllocError> {
-    let words: Vec<&[u8]> = line.split(|b| *b == b' ').collect(alloc)?;
+pub fn read_line(alloc: Global, line: &[u8]) -> Result<Reading, AllocError>
+    ensures { IfOk result (λ r. said_by r ≡ line_of line.now) }
+{
+    let words = words_of(alloc, line)?;
     Ok(read_words(words.as_slice()))
 }
 
+/// What stands between the spaces.
+fn words_of(alloc: Global, line: &[u8]) -> Result<Vec<&[u8]>, AllocError>
+    ensures { IfOk result (λ words. map (λ x. x.now) words.items ≡ slice_split (λ c. c == 32) line.now) }
+{
+    line.split(|b| *b == b' ').collect(alloc)
+}
+
 /// What the line of these words is.
-fn read_words(words: &[&[u8]]) -> Reading {
+fn read_words(words: &[&[u8]]) -> Reading
+    ensures { said_by result ≡ words_line (map (λ x. x.now) words.now) }
+{
     let Some((first, others)) = words.split_first() else {
         return Reading::Skipped;
     };
-    let entry = match *first {
-        b"live" => live_entry(others),
-        b"kept" => kept_entry(others),
-        b"implied" => implied_entry(others),
-        _ => return Reading::Skipped,
-    };
+    let first = *first;
+    if is_word(first, b"live") {
+        entry_or_not(live_entry(others))
+    } else if is_word(first, b"kept") {
+        entry_or_not(kept_entry(others))
+    } else if is_word(first, b"implied") {
+        entry_or_not(implied_entry(others))
+    } else {
+        Reading::Skipped
+    }
+}
+
+/// Whether a word is this name.
+fn is_word(word: &[u8], name: &[u8]) -> bool
+    ensures { result ≡ bytes_eq word.now name.now }
+{
+    word == name
+}
+
+/// A line that begins as an entry.
+fn entry_or_not(entry: Option<Entry>) -> Reading
+    ensures { said_by result ≡ or_unreadable (option_map said_of entry) }
+{
     match entry {
         Some(entry) => Reading::Entry(entry),
         None => Reading::Unreadable,
@@ -62,7 +98,9 @@ fn read_words(words: &[&[u8]]) -> Reading {
 }
 
 /// `OWNER WORD`.
-fn live_entry(words: &[&[u8]]) -> Option<Entry> {
+fn live_entry(words: &[&[u8]]) -> Option<Entry>
+    ensures { option_map said_of result ≡ live_words (map (λ x. x.now) words.now) }
+{
     match words {
         [owner, word] => Some(Entry::Live(request(owner, word)?)),
         _ => None,
@@ -70,61 +108,115 @@ fn live_entry(words: &[&[u8]]) -> Option<Entry> {
 }
 
 /// `OWNER WORD pair N M D`.
-fn kept_entry(words: &[&[u8]]) -> Option<Entry> {
+fn kept_entry(words: &[&[u8]]) -> Option<Entry>
+    ensures { option_map said_of result ≡ kept_words (map (λ x. x.now) words.now) }
+{
     match words {
-        [owner, word, pair, n, m, d] if *pair == b"pair".as_slice() => {
-            let pair = Pair::new(number(n)?, number(m)?, number(d)?)?;
-            Some(Entry::Kept(request(owner, word)?, pair))
+        [owner, word, name, n, m, d] => {
+            if is_word(name, b"pair") {
+                Some(Entry::Kept(request(owner, word)?, read_pair(n, m, d)?))
+            } else {
+                None
+            }
         }
         _ => None,
     }
 }
 
 /// `OWNER WORD by A B times P Q R`.
-fn implied_entry(words: &[&[u8]]) -> Option<Entry> {
-    match words {
-        [owner, word, by, a, b, times, p, q, r]
-            if *by == b"by".as_slice() && *times == b"times".as_slice() => {
-            let claim = Claim {
-                a: Ssrc(number_u32(a)?),
-                b: Ssrc(number_u32(b)?),
-                p: number_u16(p)?,
-                q: number_u16(q)?,
-                r: number_u16(r)?,
-            };
-            Some(Entry::Implied(request(owner, word)?, claim))
-        }
-        _ => None,
+fn implied_entry(words: &[&[u8]]) -> Option<Entry>
+    ensures { option_map said_of result ≡ implied_words (map (λ x. x.now) words.now) }
+{
+    if words.len() != 9 {
+        return None;
     }
+    if !is_word(words[2], b"by") || !is_word(words[5], b"times") {
+        return None;
+    }
+    Some(Entry::Implied(
+        request(words[0], words[1])?,
+        read_claim(words[3], words[4], words[6], words[7], words[8])?,
+    ))
 }
 
 /// A request by its owner, in decimal, and its word, in eight hexadecimal digits.
-fn request(owner: &[u8], word: &[u8]) -> Option<Request> {
+fn request(owner: &[u8], word: &[u8]) -> Option<Request>
+    ensures { option_map asked_of result ≡ asked_in owner.now word.now }
+{
+    let owner = Ssrc(number_u32(owner)?);
+    let tuple = Tuple::from_word(word_value(word)?);
+    Some(Request { owner, tuple })
+}
+
+/// The word that eight hexadecimal digits spell.
+fn word_value(digits: &[u8]) -> Option<u32>
+    ensures { result ≡ word_in digits.now }
+{
     let mut bytes = [0; 4];
-    match hex::decode_to_slice(word, &mut bytes) {
-        Ok(()) => Some(Request {
-            owner: Ssrc(number_u32(owner)?),
-            tuple: Tuple::from_word(u32::from_be_bytes(bytes)),
-        }),
+    match hex::decode_to_slice(digits, &mut bytes) {
+        Ok(()) => Some(u32::from_be_bytes(bytes)),
         Err(_) => None,
     }
 }
 
-fn number_u32(word: &[u8]) -> Option<u32> {
+/// A pair by its packets, bits and seconds.
+fn read_pair(n: &[u8], m: &[u8], d: &[u8]) -> Option<Pair>
+    ensures { option_map pair_of result ≡ pair_in n.now m.now d.now }
+{
+    let packets = number_under(n, 1 << 100)?;
+    let bits = number_under(m, 1 << 100)?;
+    let seconds = number_under(d, 1 << 14)?;
+    Pair::new(packets, bits, seconds)
+}
+
+/// `A B` and `P Q R`.
+fn read_claim(a: &[u8], b: &[u8], p: &[u8], q: &[u8], r: &[u8]) -> Option<Claim>
+    ensures { result ≡ claim_in a.now b.now p.now q.now r.now }
+{
+    Some(Claim {
+        a: Ssrc(number_u32(a)?),
+        b: Ssrc(number_u32(b)?),
+        p: number_u16(p)?,
+        q: number_u16(q)?,
+        r: number_u16(r)?,
+    })
+}
+
+fn number_u32(word: &[u8]) -> Option<u32>
+    ensures { result ≡ number_under (2 ^ 32) word.now }
+{
     u32::try_from(number(word)?).ok()
 }
 
-fn number_u16(word: &[u8]) -> Option<u16> {
+fn number_u16(word: &[u8]) -> Option<u16>
+    ensures { result ≡ number_under (2 ^ 16) word.now }
+{
     u16::try_from(number(word)?).ok()
 }
 
-/// The number that decimal digits spell; no sign is read.
-fn number(word: &[u8]) -> Option<u128> {
-    if !word.iter().all(|b| b.is_ascii_digit()) {
+fn number_under(word: &[u8], limit: u128) -> Option<u128>
+    ensures { result ≡ number_under limit word.now }
+{
+    let number = number(word)?;
+    if number < limit { Some(number) } else { None }
+}
+
+/// The number below 2^128 that decimal digits spell; no sign is read.
+fn number(word: &[u8]) -> Option<u128>
+    ensures { result ≡ number_under (2 ^ 128) word.now }
+{
+    if !are_digits(word) {
         return None;
     }
     match str::from_utf8(word) {
         Ok(digits) => digits.parse().ok(),
         Err(_) => None,
     }
+}
+
+/// Whether each byte is a decimal digit.
+fn are_digits(word: &[u8]) -> bool
+    ensures { result ≡ list_all (λ d. nat_lt (digit_value d) 10) word.now }
+{
+    word.iter().all(|byte| byte.is_ascii_digit())
 }

@@ -1,11 +1,11 @@
 use Rattle.std.proofs.Common.{ℕ, List, ◌∙◌, subst, sym}
 use Rattle.std.specs.Str.Parse.{ParsesUnsigned}
-use Rattle.sfu_main.proofs.ScriptLemmas.{digits_utf8, parsed_number}
+use Rattle.sfu_main.proofs.NumberLemmas.{digits_utf8, parsed_number}
 use Rattle.sfu_main.proofs.script.number.Goals as goal
 
 pub returns-in-Ok : goal.returns-in-Ok
 returns-in-Ok c =
-    c.ok.ensures.value ∙ parsed_number _ c.args.word.now c.parse.result (sym c.if-not-are_digits.ensures)
+    c.ok.ensures.value ∙ parsed_number 64 _ c.args.word.now c.parse.result (sym c.if-not-are_digits.ensures)
     (subst (λ (t : List ℕ). ParsesUnsigned 64 10 t c.parse.result) c.in-Ok.ensures.cases.0 c.parse.ensures.value.0)
 
 pub returns-in-Err : goal.returns-in-Err
