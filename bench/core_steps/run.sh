@@ -1,11 +1,11 @@
 #!/usr/bin/env bash
 # Prints the processor time of `run` per packet that is sent on, by subscribers and by endpoints of the room.
-# Wants rt on the path. An argument, if any, is how many packets are timed at once.
+# Wants rt on the path. An argument, if any, is how many packets go out in what is timed at once, about.
 set -euo pipefail
 
 here=$(cd "$(dirname "$0")" && pwd)
 top=$(cd "$here/../.." && pwd)
-packets=${1:-200}
+outs=${1:-1024}
 
 # A repository of its own, so that the program is no crate of this one. What earlier checks kept in out/
 # comes with the copies.
@@ -29,4 +29,5 @@ if ! (cd "$bench" && rt run -- 1) > "$work/log" 2>&1; then
     cat "$work/log" >&2
     exit 1
 fi
-"$bench/out/core_bench" "$packets"
+# The C library is told to keep what it has: giving memory back and asking for it again would be timed.
+MALLOC_TRIM_THRESHOLD_=1073741824 MALLOC_MMAP_THRESHOLD_=1073741824 "$bench/out/core_bench" "$outs"

@@ -3,6 +3,7 @@
 use super::quiet_run_tests::{Draws, hear, media, packet, room, source, tmmbr};
 use super::run_tests::{ASKED, bytes_of, do_events, do_step, settings, settle};
 use super::*;
+use members::Settings;
 use std::alloc::{AllocError, Global};
 use std::fmt::{self, Write};
 use std::process::Abort;
@@ -147,24 +148,38 @@ pub(crate) fn shown(alloc: Global, world: &World) -> Result<String, fmt::Error> 
     Ok(text)
 }
 
+/// What was given out, and the whole world behind it.
+fn text_of(alloc: Global, world: &World, outs: &[Out]) -> Result<String, fmt::Error> {
+    let mut text = lines(alloc, outs)?;
+    write!(text, "{world:?}")?;
+    Ok(text)
+}
+
+/// What the events give out in one call, and the world behind them.
+fn in_one_call(alloc: Global, settings: &Settings, events: &[Event]) -> Result<String, Fail> {
+    let mut world = World::new(alloc, settings)?;
+    let mut outs = Vec::new(alloc);
+    do_events(&mut world, events, &mut outs)?;
+    Ok(text_of(alloc, &world, outs.as_slice())?)
+}
+
+/// What they give out in many calls.
+fn in_many_calls(alloc: Global, settings: &Settings, events: &[Event]) -> Result<String, Fail> {
+    let mut world = World::new(alloc, settings)?;
+    let mut outs = Vec::new(alloc);
+    run_cut(&mut world, events, &mut Draws(5), &mut outs)?;
+    Ok(text_of(alloc, &world, outs.as_slice())?)
+}
+
 #[test]
 fn random_events_cut_at_random(rt: HostRuntime) -> Result<(), Fail> {
-    let alloc = rt.alloc();
-    let events = events(alloc, 15)?;
-    let settings = room(alloc, 900)?;
-    let mut whole = World::new(alloc, &settings)?;
-    let mut given = Vec::new(alloc);
-    do_events(&mut whole, events.as_slice(), &mut given)?;
-    let mut cut = World::new(alloc, &settings)?;
-    let mut given_cut = Vec::new(alloc);
-    run_cut(&mut cut, events.as_slice(), &mut Draws(5), &mut given_cut)?;
-    let text = lines(alloc, given.as_slice())?;
-    assert!(rt; text == lines(alloc, given_cut.as_slice())?);
-    assert_eq!(rt; shown(alloc, &whole)?, shown(alloc, &cut)?);
-    // Also what a world doesn't show is the same: legs, rings, hands.
-    assert!(rt; format!(in alloc; "{whole:?}")? == format!(in alloc; "{cut:?}")?);
+    let events = events(rt.alloc(), 15)?;
+    let settings = room(rt.alloc(), 900)?;
+    let whole = in_one_call(rt.alloc(), &settings, events.as_slice())?;
+    let cut = in_many_calls(rt.alloc(), &settings, events.as_slice())?;
+    assert!(rt; whole == cut, "other outs, or another world");
     for kind in KINDS {
-        assert!(rt; text.as_str().contains(kind), "{kind}");
+        assert!(rt; whole.as_str().contains(kind), "{kind}");
     }
     Ok(())
 }

@@ -1,9 +1,10 @@
 //! Growths that are refused. Run with `rt try --test --fail-alloc 1.. -- each_growth_refused`, which refuses each in turn.
 
 use super::cut_tests::{lines, shown};
-use super::run_tests::{Hear, Ingress, Step, Work, do_events, event_of, examples_print, settings};
+use super::run_tests::{Hear, Ingress, Step, Work, do_events, event_of, settings};
 use super::*;
 use std::alloc::Global;
+use std::process::Abort;
 use std::test::Fail;
 
 /// Examples 21 to 23, step by step.
@@ -31,63 +32,93 @@ const STEPS: [Step<'static>; 21] = [
     Ingress,
 ];
 
-fn new_world(alloc: Global) -> Option<World> {
-    let settings = settings(alloc, 1000, 60_000, 0).ok()?;
-    World::new(alloc, &settings).ok()
-}
-
-/// The events of the examples, a new world, and what they print.
-fn begin(alloc: Global) -> Option<(Vec<Event>, World, String)> {
+/// The events of the examples.
+fn events(alloc: Global) -> Option<Vec<Event>> {
     let mut events = Vec::new(alloc);
     for step in &STEPS {
         let event = event_of(alloc, step).ok()?;
         events.push(event?).ok()?;
     }
-    Some((events, new_world(alloc)?, examples_print(alloc).ok()?))
+    Some(events)
+}
+
+fn new_world(alloc: Global) -> Option<World> {
+    let settings = settings(alloc, 1000, 60_000, 0).ok()?;
+    World::new(alloc, &settings).ok()
 }
 
 /// What was given out, and what the world shows.
-fn text_of(alloc: Global, world: &World, outs: &[Out]) -> Option<(String, String)> {
-    Some((lines(alloc, outs).ok()?, shown(alloc, world).ok()?))
+fn text_of(alloc: Global, world: &World, outs: &[Out]) -> Option<String> {
+    let mut text = lines(alloc, outs).ok()?;
+    let shown = shown(alloc, world).ok()?;
+    text.push_str(shown.as_str()).ok()?;
+    Some(text)
 }
 
 /// What these events give out in a new world, and what it shows behind them.
-fn after(alloc: Global, events: &[Event]) -> Option<(String, String)> {
+fn after(alloc: Global, events: &[Event]) -> Option<String> {
     let mut world = new_world(alloc)?;
     let mut outs = Vec::new(alloc);
     do_events(&mut world, events, &mut outs).ok()?;
     text_of(alloc, &world, outs.as_slice())
 }
 
-/// Whichever growth is refused, world and outs are those of the events before; and run again from there, the events end in
-/// what they would have ended in.
+/// The events and a new world, made again where memory was refused for them.
+fn begin(alloc: Global) -> Option<(Vec<Event>, World)> {
+    let made = match events(alloc) {
+        Some(made) => made,
+        None => events(alloc)?,
+    };
+    let world = match new_world(alloc) {
+        Some(world) => world,
+        None => new_world(alloc)?,
+    };
+    Some((made, world))
+}
+
+/// Does the events. Where a growth is refused, outs and world are those of the events before, and the others are done again.
+fn go_through(
+    rt: &impl Abort,
+    alloc: Global,
+    world: &mut World,
+    events: &[Event],
+    outs: &mut Vec<Out>,
+) -> Result<(), Fail> {
+    if let Err(RunFault::NoMemory { done }) = do_events(world, events, outs) {
+        let (before, rest) = events.split_at(done.min(events.len()));
+        assert!(rt; !rest.is_empty());
+        let (left, wanted) = (text_of(alloc, world, outs.as_slice()), after(alloc, before));
+        assert!(rt; left.is_some() && left == wanted, "behind {done} events");
+        do_events(world, rest, outs)?;
+    }
+    Ok(())
+}
+
+/// What they left, as text; made again where memory was refused for it.
+fn left_by(alloc: Global, world: &World, outs: &[Out]) -> Option<String> {
+    match text_of(alloc, world, outs) {
+        Some(text) => Some(text),
+        None => text_of(alloc, world, outs),
+    }
+}
+
+/// What they have to leave, likewise.
+fn wanted_of(alloc: Global, events: &[Event]) -> Option<String> {
+    match after(alloc, events) {
+        Some(text) => Some(text),
+        None => after(alloc, events),
+    }
+}
+
+/// Whichever growth is refused, the events of the examples end in what they end in without a refusal.
 #[test]
 fn each_growth_refused(rt: HostRuntime) -> Result<(), Fail> {
-    let alloc = rt.alloc();
-    let begun = match begin(alloc) {
-        Some(begun) => begun,
-        None => begin(alloc).ok_or("no memory")?,
-    };
-    let (events, mut world, printed) = begun;
-    let mut outs = Vec::new(alloc);
-    if let Err(RunFault::NoMemory { done }) = do_events(&mut world, events.as_slice(), &mut outs) {
-        let (before, rest) = events.as_slice().split_at(done.min(events.len()));
-        assert!(rt; !rest.is_empty());
-        assert_eq!(rt;
-            text_of(alloc, &world, outs.as_slice()),
-            after(alloc, before)
-        );
-        do_events(&mut world, rest, &mut outs)?;
-    }
-    let left = match text_of(alloc, &world, outs.as_slice()) {
-        Some(text) => text,
-        None => text_of(alloc, &world, outs.as_slice()).ok_or("no memory")?,
-    };
-    let wanted = match after(alloc, events.as_slice()) {
-        Some(text) => text,
-        None => after(alloc, events.as_slice()).ok_or("no memory")?,
-    };
-    assert_eq!(rt; left.0.as_str(), printed.as_str());
-    assert_eq!(rt; left, wanted);
+    let (events, mut world) = begin(rt.alloc()).ok_or("no memory")?;
+    let mut outs = Vec::new(rt.alloc());
+    go_through(&rt, rt.alloc(), &mut world, events.as_slice(), &mut outs)?;
+    let left = left_by(rt.alloc(), &world, outs.as_slice()).ok_or("no memory")?;
+    let wanted = wanted_of(rt.alloc(), events.as_slice()).ok_or("no memory")?;
+    assert_eq!(rt; left.as_str(), wanted.as_str());
+    assert!(rt; left.as_str().starts_with("send 0 80c9"));
     Ok(())
 }

@@ -228,7 +228,7 @@ fn asked_prints(alloc: Global) -> Result<String, AllocError> {
 }
 
 /// What examples 21 to 23 print.
-pub(crate) fn examples_print(alloc: Global) -> Result<String, AllocError> {
+fn examples_print(alloc: Global) -> Result<String, AllocError> {
     let asked = asked_prints(alloc)?;
     let again = "send 1 8060006400000bb800000101aabb\n";
     format!(in alloc;
