@@ -144,6 +144,29 @@ fn call_each<D: DeskCalls, S: SeatCalls, R: Wait + Abort>(
     Ok(())
 }
 
+/// Makes the calls by one of the seats. All seats, with the receipts and the words that a desk counts.
+fn call_all<D: DeskCalls, S: SeatCalls, R: Wait + Abort>(
+    rt: &R,
+    alloc: Global,
+    house: &House<D, S>,
+    seats: Vec<DeskSeat<S>>,
+) -> Result<(Vec<DeskSeat<S>>, Vec<Receipt>, u128), Fail>
+    requires { S.publishers ≡ 2 }
+{
+    let mut seats = seats;
+    let mut caller = Caller {
+        seat: seats.pop().ok_or("a seat")?,
+        receipts: Vec::new(alloc),
+    };
+    let mut desk = Desk::new(alloc, 500, 1000)?;
+    for call in some_calls() {
+        call_each(rt, house, &mut caller, &mut desk, call)?;
+    }
+    let Caller { seat, receipts } = caller;
+    seats.push(seat)?;
+    Ok((seats, receipts, desk.words()))
+}
+
 fn beside_desks<D: DeskCalls, S: SeatCalls, R: Wait + Abort>(
     rt: &R,
     alloc: Global,
@@ -156,20 +179,10 @@ fn beside_desks<D: DeskCalls, S: SeatCalls, R: Wait + Abort>(
     requires numbers { (D.gap ≡ 500) × (D.request_ms ≡ 1000) }
 {
     let (house, seats) = House::<D, S>::new(alloc, recorded, made, 2, 2, 500, 1000)?;
-    let mut seats = seats;
-    let mut caller = Caller {
-        seat: seats.pop().ok_or("a seat")?,
-        receipts: Vec::new(alloc),
-    };
-    let mut desk = Desk::new(alloc, 500, 1000)?;
-    for call in some_calls() {
-        call_each(rt, &house, &mut caller, &mut desk, call)?;
-    }
-    let Caller { seat, receipts } = caller;
-    seats.push(seat)?;
+    let (seats, receipts, words) = call_all(rt, alloc, &house, seats)?;
     let desks = house.gather(seats, receipts.as_slice())?;
-    for one in desks.as_slice() {
-        assert_eq!(rt; (one.calls(), one.words()), (24, desk.words()));
+    for desk in desks.as_slice() {
+        assert_eq!(rt; (desk.calls(), desk.words()), (24, words));
     }
     Ok(())
 }

@@ -111,42 +111,43 @@ fn ask_by_threads<D: DeskCalls + Send + Sync, S: SeatCalls + Send + Sync, R: Thr
     .ok()
 }
 
-/// What several seats made, put together.
+/// Receipts, each with its effect where it isn't of a pulse.
 #[derive(Drop)]
-struct Together<S: SeatCalls> {
-    seats: Vec<DeskSeat<S>>,
+struct Told {
     receipts: Vec<Receipt>,
     effects: Vec<Effect>,
 }
 
-impl<S: SeatCalls> Together<S> {
-    /// Adds what one seat made.
-    fn add(&mut self, one: Made<S>) -> Option<()> {
+impl Told {
+    /// Adds what one seat was told, and gives the seat back.
+    fn add<S: SeatCalls>(&mut self, one: Made<S>) -> Option<DeskSeat<S>> {
         let Made {
             seat,
             receipts,
             effects,
         } = one;
-        self.seats.push(seat).ok()?;
         self.receipts.extend_from_slice(receipts.as_slice()).ok()?;
         for effect in effects {
             self.effects.push(effect).ok()?;
         }
-        Some(())
+        Some(seat)
     }
 }
 
 /// All that was made; `None` where a call was refused.
-fn put_together<S: SeatCalls>(alloc: Global, made: Vec<Option<Made<S>>>) -> Option<Together<S>> {
-    let mut all = Together {
-        seats: Vec::new(alloc),
+fn put_together<S: SeatCalls>(
+    alloc: Global,
+    made: Vec<Option<Made<S>>>,
+) -> Option<(Vec<DeskSeat<S>>, Told)> {
+    let mut seats = Vec::new(alloc);
+    let mut told = Told {
         receipts: Vec::new(alloc),
         effects: Vec::new(alloc),
     };
     for one in made {
-        all.add(one?)?;
+        seats.push(told.add(one?)?).ok()?;
     }
-    Some(all)
+    Some((seats, told))
 }
 
 /// The place among the receipts of the one with this publisher and number.
@@ -157,19 +158,19 @@ fn place_of(receipts: &[Receipt], publisher: usize, number: u64) -> Option<usize
 }
 
 /// Each effect is the one that a new desk gives for the same calls.
-fn assert_told<S: SeatCalls>(
+fn assert_told(
     rt: &impl Abort,
     alloc: Global,
     desk: &Desk,
     publisher: usize,
-    all: &Together<S>,
+    told: &Told,
 ) -> Result<(), Fail> {
     let mut other = Desk::new(alloc, 500, 0)?;
-    let receipts = all.receipts.as_slice();
+    let receipts = told.receipts.as_slice();
     for number in 0..desk.history().len() {
         let place = place_of(receipts, publisher, number as u64).ok_or("a receipt")?;
         let receipt = receipts.get(place).ok_or("a receipt")?;
-        let effect = all.effects.get(place).ok_or("an effect")?;
+        let effect = told.effects.get(place).ok_or("an effect")?;
         let reply = by_desk(&mut other, receipt.call).ok_or("a call again")?;
         assert_same(rt, receipt, effect, &reply);
     }
@@ -228,6 +229,25 @@ fn handed(alloc: Global, receipts: &[Receipt], end: End) -> Option<Vec<Receipt>>
     Some(handed)
 }
 
+/// Each of the two desks has so many calls; where none was folded, each was told what it changed.
+fn assert_desks(
+    rt: &impl Abort,
+    alloc: Global,
+    desks: &[Desk],
+    calls: u64,
+    told: &Told,
+) -> Result<(), Fail> {
+    assert_eq!(rt; desks.len(), 2);
+    for (p, desk) in desks.iter().enumerate() {
+        assert_eq!(rt; (desk.calls(), desk.words()), (calls, 4 * WORDS));
+        if calls < 1024 {
+            assert_told(rt, alloc, desk, p, told)?;
+        }
+        assert_live(rt, desk);
+    }
+    Ok(())
+}
+
 fn four_threads<
     D: DeskCalls + Send + Sync,
     S: SeatCalls + Send + Sync,
@@ -247,28 +267,18 @@ fn four_threads<
 {
     let (house, seats) = House::<D, S>::new(alloc, recorded, made, 2, 4, 500, 0)?;
     let made = ask_by_threads(rt, alloc, &house, pulses, seats).ok_or("threads")?;
-    let mut all = put_together(alloc, made).ok_or("each call is Ok")?;
+    let (seats, told) = put_together(alloc, made).ok_or("each call is Ok")?;
     // Of each publisher: an arrival, 50 requests, and the pulses.
     let calls = (pulses as u64).saturating_add(51);
-    assert_counted(rt, all.seats.as_slice(), calls);
-    let handed = handed(alloc, all.receipts.as_slice(), end).ok_or("the receipts")?;
-    let seats = mem::replace(&mut all.seats, Vec::new(alloc));
-    let desks = match house.gather(seats, handed.as_slice()) {
-        Ok(desks) => desks,
-        Err(fault) => return Ok(Some(fault)),
-    };
-    assert_eq!(rt; desks.len(), 2);
-    for (p, desk) in desks.as_slice().iter().enumerate() {
-        assert_eq!(rt;
-            (desk.calls(), desk.words()),
-            (calls.saturating_mul(4), 4 * WORDS)
-        );
-        if pulses == 0 {
-            assert_told(rt, alloc, desk, p, &all)?;
-        }
-        assert_live(rt, desk);
+    assert_counted(rt, seats.as_slice(), calls);
+    let handed = handed(alloc, told.receipts.as_slice(), end).ok_or("the receipts")?;
+    match house.gather(seats, handed.as_slice()) {
+        Ok(desks) => {
+            assert_desks(rt, alloc, desks.as_slice(), calls.saturating_mul(4), &told)?;
+            Ok(None)
+        },
+        Err(fault) => Ok(Some(fault)),
     }
-    Ok(None)
 }
 
 fn by_threads<R: Threads + Wait + Abort + Sync>(
