@@ -249,24 +249,13 @@ fn sinks_and_ends(
     Ok((sinks, ends))
 }
 
-/// The turns, and what the machine sent.
-#[derive(Drop)]
-struct Played {
-    turns: Vec<Turn>,
-    sent: Sent,
-}
-
-fn played(alloc: Global, settings: &Settings) -> Result<Played, Fail> {
+/// Nobody sent anything.
+fn nothing_sent(alloc: Global) -> Result<Sent, AllocError> {
     let mut sent = Vec::new(alloc);
     for _sender in 0..WORKERS + 1 {
         sent.push(Vec::new(alloc))?;
     }
-    let mut played = Played {
-        turns: make_turns(alloc)?,
-        sent,
-    };
-    play(alloc, settings, &mut played.turns, &mut played.sent)?;
-    Ok(played)
+    Ok(sent)
 }
 
 /// Runs the unit over the turns.
@@ -292,29 +281,19 @@ fn run_turns<R: Threads + Wait + Sync>(
     Ok(run_unit(rt, alloc, settings, source, sinks, clock, &gate, TURNS)?)
 }
 
-/// What the report counts, beside how many datagrams the unit sent as the machine did.
-fn run_beside<R: Threads + Wait + Sync>(
-    rt: &R,
-    alloc: Global,
-    settings: &Settings,
-    played: Played,
-) -> Result<([u64; 4], Option<u64>), Fail> {
-    let Played { turns, sent } = played;
-    let (sinks, mut handed) = sinks_and_ends(alloc)?;
-    let report = run_turns(rt, alloc, settings, turns, sinks)?;
-    Ok((
-        [report.sent, report.failed, report.lost, report.dropped],
-        count_all(&sent, &mut handed),
-    ))
-}
-
 #[test]
 fn unit_beside_machine(rt: HostRuntime) -> Result<(), Fail> {
     let alloc = rt.alloc();
     let settings = room(alloc)?;
-    let played = played(alloc, &settings)?;
-    let (counts, same) = run_beside(&rt, alloc, &settings, played)?;
-    let same = same.ok_or("other datagrams")?;
-    assert_eq!(rt; counts, [same, 0, 0, 0]);
+    let mut turns = make_turns(alloc)?;
+    let mut sent = nothing_sent(alloc)?;
+    play(alloc, &settings, &mut turns, &mut sent)?;
+    let (sinks, mut handed) = sinks_and_ends(alloc)?;
+    let report = run_turns(&rt, alloc, &settings, turns, sinks)?;
+    let count = count_all(&sent, &mut handed).ok_or("other datagrams")?;
+    assert_eq!(rt;
+        (report.sent, report.failed, report.lost, report.dropped),
+        (count, 0, 0, 0)
+    );
     Ok(())
 }
