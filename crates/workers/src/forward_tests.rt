@@ -199,12 +199,17 @@ fn forwards_in<J: Naming, R: Wait + Abort>(rt: &R, alloc: Global, blank: Blank) 
     let (mut writer, mut readers) = routes::<J, R>(rt, alloc, blank, 3)?;
     let noted = writer.change(&on(0)).is_ok();
     writer.publish(rt);
-    let done = does_examples(rt, alloc, &writer, &mut readers[0])
-        .and_then(|()| does_nothing(rt, alloc, &writer, &mut readers[1]))
-        .and_then(|()| lists_both(rt, alloc, &writer, &mut readers[2]));
+    let done = does_examples(rt, alloc, &writer, &mut readers[0]).and_then(|()| does_nothing(
+        rt,
+        alloc,
+        &writer,
+        &mut readers[1],
+    ));
+    let listed = lists_both(rt, alloc, &writer, &mut readers[2]);
     writer.end(rt);
     assert!(rt; noted);
-    done
+    done?;
+    listed
 }
 
 #[test]
