@@ -13,7 +13,7 @@ use std::time::Duration;
 use workers::{Counts, Watch};
 
 /// How many packets each endpoint sends to the other.
-const PACKETS: u32 = 5_000;
+const PACKETS: u32 = 50_000;
 
 /// Every so-manieth packet that comes is asked for again.
 const AGAIN: u32 = 10;
