@@ -9,8 +9,8 @@ use std::fmt::{self, Write};
 use std::process::Abort;
 use std::test::Fail;
 
-/// How many events by chance there are.
-const EVENTS: u16 = 10_000;
+/// How many events by chance there are; some 100,000 of them are datagrams.
+const EVENTS: u32 = 320_000;
 
 /// What by chance was given out at least once.
 const KINDS: [&str; 10] = [
