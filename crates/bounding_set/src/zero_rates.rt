@@ -62,7 +62,7 @@ pub fn announce_stops(rows: &[Request], announced: &mut ArrayVec<Request, MAX_ST
     true
 }
 
-/// Of the requests that stop everything, the one of greatest overhead, then of least owner.
+/// Of the requests that stop everything, one with the greatest overhead; of several of these the least owner's.
 fn strictest_stop(rows: &[Request]) -> Option<Request>
     requires { HasRisingOwners rows.now }
     ensures { MatchOption result (All (λ r. ¬ StopsEverything r) rows.now)

@@ -63,8 +63,8 @@ pub fn rows_and_room_by_history()
         → (worlds_after w history).room ≡ room_after w.room (flat_map (λ (h : Happening). h.calls) history) }
 {}
 
-/// After every run from a world whose desks are legal, each desk is: its announced set is drawn from its live requests, permits
-/// exactly what they together permit, and no smaller choice does.
+/// After every run from a world whose desks are legal, each desk is: what it announces are some of its live requests, which permit
+/// exactly what all of these permit together, and no smaller choice does.
 pub fn desks_stay_legal()
     ensures { (w : WorldState) (events : List Event) (history : List Happening) → Runs w events history
         → All HoldsLegalDesk w.desks → All HoldsLegalDesk (worlds_after w history).desks }

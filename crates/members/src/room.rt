@@ -20,8 +20,8 @@ use tmmbr_tuple::Ssrc;
 /// Who is present, which stays stand, and what was received of whom.
 ///
 /// An endpoint is present from a packet of it that is heard until a goodbye, or until nothing was heard
-/// of it for the timeout. A leg's stay begins when its subscriber and its publisher are both present,
-/// and ends when either leaves. Each call that is handed a moment first lets those leave that are overdue
+/// of it for the timeout. A leg's stay begins once its subscriber and its publisher are there,
+/// and ends with the first of them to leave. Each call that is handed a moment first lets those leave that are overdue
 /// at it; the room's moment is the greatest that it was handed.
 ///
 /// What is received of an endpoint while it is present is counted at the room's moment, anew whenever it
@@ -275,8 +275,8 @@ impl Room {
         Ok(())
     }
 
-    /// Selects the leg or not, after those overdue at this moment left. The selection that the leg has
-    /// gives no order. Another is noted; where a stay stands the leg's row changes, and switching on
+    /// Selects the leg or not, after those overdue at this moment left. Selecting what is selected already
+    /// gives no order. Another selection is noted; where a stay stands the leg's row changes, and switching on
     /// takes a new number as turn.
     ///
     /// Refused as `UnknownLeg`; as `StaysSpent` where the new number would be `MAX_STAY`; as `NoMemory`.

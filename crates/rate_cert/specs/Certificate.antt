@@ -33,7 +33,7 @@ pub record HasPlaces (requests : List Request) (kept : List Kept) (implied : Lis
 abbrev pub ForbidsItsPair : List Request → Kept → Type 0
 ForbidsItsPair requests k = HoldsAt (λ r. Forbids r.tuple (pair_of k.pair)) requests k.place
 
--- 3: No request forbids the pairs of two kept entries.
+-- 3: Of the kept entries' pairs a request forbids one at most.
 abbrev pub ForbidsOnePair : List Kept → Request → Type 0
 ForbidsOnePair kept r =
     AllPairs (λ j k. Forbids r.tuple (pair_of j.pair) → ¬ Forbids r.tuple (pair_of k.pair)) kept

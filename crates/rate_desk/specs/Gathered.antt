@@ -16,7 +16,7 @@ entry_of receipt = record { call = receipt.call; answer = receipt.answer }
 abbrev pub IsFoldedBy : DeskState → Receipt → Type 0
 IsFoldedBy desk receipt = receipt.number < desk.base.calls
 
--- the receipt's call and answer stand at its number in this desk's history, behind the calls of the base
+-- this desk's history has what the receipt says under its number, which is not one of the base's calls
 pub record IsListedBy (desk : DeskState) (receipt : Receipt) : Type 0 where
   pub kept : desk.base.calls ≤ receipt.number
   pub stands : slice_get desk.history (receipt.number - desk.base.calls) ≡ Some (entry_of receipt)
@@ -46,7 +46,7 @@ pub record AddsUp (seats : List SeatState) (desk : DeskState) (p : ℕ) : Type 0
   pub calls : sum_by (calls_to p) seats ≡ calls_of desk
   pub words : sum_by (words_to p) seats ≡ desk.base.words + words_of desk.history
 
--- the counts of all seats add up to the calls and words of the desk of each publisher below this one
+-- what all seats counted is, for each publisher below this one, the calls and words of its desk
 abbrev pub AddUpBelow : ℕ → List SeatState → List DeskState → Type 0
 AddUpBelow n seats desks = (p : ℕ) (d : DeskState) → p < n → AddsUp seats (slice_index_or desks p d) p
 

@@ -117,7 +117,7 @@ fn fits(desks: &[Desk], receipt: &Receipt) -> bool
     }
 }
 
-/// Whether the receipt's call and answer stand at its number, which isn't folded.
+/// Whether the desk lists what the receipt says under its number, which isn't folded.
 fn is_listed(desk: &Desk, receipt: &Receipt) -> bool
     requires { desk.now.base.calls ≤ receipt.now.number }
     ensures { IsTrue result ↔ slice_get desk.now.history

@@ -82,7 +82,7 @@ impl<J: Naming> RouteWriter<J> {
         }
     }
 
-    /// Notes a `Route` of a leg of the table, to be published. Any other order is Ok and notes nothing.
+    /// Notes a `Route` of a leg of the table, to be published. Of other orders nothing is noted, and that is Ok.
     /// Refused where no memory is left; then nothing is noted.
     pub fn change(&mut self, order: &Order) -> Result<(), NoMemory>
         ensures published { self.new.published ≡ self.old.published }

@@ -6,7 +6,7 @@ use thiserror::Error;
 /// packet, and of several the one of least number.
 #[derive(Clone, Copy, Debug, PartialEq, Eq, Error)]
 pub enum RtcpFault {
-    /// 1: no byte at all, or 1 to 3 bytes where a header should stand.
+    /// 1: no byte at all, or only 1 to 3 of a header's bytes.
     #[error("shorter than a header")]
     Short,
     /// 2: another version than 2.

@@ -24,7 +24,7 @@ pub struct Block {
     /// How much the time between packets varies, in units of the source's RTP timestamp. 0 where it
     /// doesn't.
     pub jitter: u32,
-    /// The middle 32 bits of the NTP timestamp of the source's last sender report. 0 where none came.
+    /// Of the source's last sender report: the NTP timestamp's 32 bits in the middle. 0 where none came.
     pub last_sr: u32,
     /// The time since that report came, in 65,536ths of a second. 0 where none came.
     pub delay: u32,

@@ -3,7 +3,7 @@
 use thiserror::Error;
 
 /// Why a datagram is no RTP packet (RFC 3550, sections 5.1 and 5.3.1), or why one can't be written.
-/// Where several causes apply, the one of least number is given.
+/// Of several causes the one with the least number is shown.
 #[derive(Clone, Copy, Debug, PartialEq, Eq, Error)]
 pub enum RtpFault {
     /// 1: fewer than the twelve bytes of a header.

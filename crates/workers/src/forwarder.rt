@@ -61,7 +61,7 @@ impl Forwarder {
     /// handed out; it keeps its number, and may be asked for again. A job for a desk does nothing, nor does one of a leg, a
     /// publisher or a stay that isn't there, or of another worker's leg.
     ///
-    /// After a fault nothing was sent, and no leg changed; the note is learnt, and the view entered if there was one.
+    /// A fault comes before anything is sent or any leg changes; the note is learnt, and the view entered if there was one.
     pub fn forward<J: Naming, S: Sink>(
         &mut self,
         reader: &mut RouteReader<J>,

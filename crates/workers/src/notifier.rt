@@ -94,7 +94,7 @@ impl Notifier {
     }
 
     /// Tells the publisher that a picture of it is wanted (RFC 4585, section 6.3.1): what follows from a pulse whose answer
-    /// says so. After a fault nothing was sent, and the note is learnt.
+    /// says so. A fault comes before anything is sent; the note is learnt.
     #[tactic(auto, using(crate::proofs::AskingLemmas::picture_told))]
     pub fn ask_for_picture<J: Naming, S: Sink>(
         &self,
