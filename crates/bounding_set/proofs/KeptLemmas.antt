@@ -1,14 +1,12 @@
 -- The places of kept requests among the rows.
-use Rattle.std.proofs.Common.{◌≡◌, ℕ, ◌+◌, ◌-◌, ◌*◌, ◌<◌, ◌≤◌, inl, inr, List, [], ◌∷◌, ◌++◌, length, get_or, map, take, drop, suc, refl, sym, ap, ◌∙◌, subst, append_assoc, arith}
+use Rattle.std.proofs.Common.{◌≡◌, ℕ, ◌+◌, ◌-◌, ◌*◌, ◌<◌, ◌≤◌, inl, inr, List, [], ◌∷◌, ◌++◌, length, get_or, map, suc, refl, sym, ap, ◌∙◌, arith}
 use Rattle.std.specs.Prelude.{All, AllPairs, Contains, slice_get}
 use Rattle.std.specs.List.{cons_option}
 use Rattle.std.proofs.lemmas.Bool.{cases_lt}
-use Rattle.std.proofs.lemmas.List.{length-append, map-append, length-map, get_or-map, take_all}
+use Rattle.std.proofs.lemmas.List.{map-append, length-map, get_or-map}
 use Rattle.std.proofs.lemmas.List.Elements.{All-head, All-tail, All-map, All-push, filter_map-append}
 use Rattle.std.proofs.lemmas.Option.{slice_get-get_or}
 use Rattle.tmmbr_tuple.specs.Tuple.{rate_of}
-use Rattle.tmmbr_tuple.specs.RatePair.{pair_of}
-use Rattle.rate_cert.specs.declared.certificate.TheConstants.{MAX_REQUESTS}
 use Rattle.rate_cert.specs.declared.request.Request.{Request}
 use Rattle.rate_cert.specs.declared.certificate.Kept.{Kept}
 use Rattle.rate_cert.specs.Choice.{chosen_requests}
@@ -16,8 +14,8 @@ use Rattle.rate_cert.specs.Certificate.{places_of}
 use Rattle.rate_cert.proofs.CheckerLemmas.{holds_at}
 use Rattle.bounding_set.specs.Rows.{HasRisingOwners, IsRowOf}
 use Rattle.bounding_set.specs.Announced.{Follows}
-use Rattle.bounding_set.specs.Certificate.{End, start_end, right_end, crossing_of, pair_between, pairs_from}
-use Rattle.bounding_set.specs.Kept.{StandsAt, KeepsRequests, IsEndOf, pairs_of}
+use Rattle.bounding_set.specs.Certificate.{right_end, crossing_of}
+use Rattle.bounding_set.specs.Kept.{StandsAt, KeepsRequests, HasLeftEnd, IsEndOf}
 
 -- two rows of one owner are one row
 pub same_place : (rows : List Request) (i j : ℕ) (d : Request) → HasRisingOwners rows → i < length rows → j < length rows
@@ -62,6 +60,25 @@ KeepsRequests-push rows requests kept k request is stands =
 
 pub KeepsRequests-none : (rows : List Request) → KeepsRequests rows [] []
 KeepsRequests-none rows = record { in_range = λ k d below. absurd (omega (arith, below)); in_turn = refl }
+
+-- entries whose places are those of the requests, one by one, keep them
+pub KeepsRequests-each : (rows requests : List Request) (kept : List Kept) → length kept ≡ length requests
+    → ((i : ℕ) (d : Request) (e : Kept) → i < length kept → StandsAt rows (get_or requests i d) (get_or kept i e).place)
+    → KeepsRequests rows requests kept
+KeepsRequests-each rows [] [] as_many stands = KeepsRequests-none rows
+KeepsRequests-each rows [] (k ∷ ks) as_many stands = absurd (omega (arith, as_many))
+KeepsRequests-each rows (r ∷ rs) [] as_many stands = absurd (omega (arith, as_many))
+KeepsRequests-each rows (r ∷ rs) (k ∷ ks) as_many stands =
+    let first : StandsAt rows r k.place = stands 0 r k (omega arith) in
+    let rest : KeepsRequests rows rs ks =
+    KeepsRequests-each rows rs ks (omega (arith, as_many)) (λ i d e below. stands (suc i) d e (omega (arith, below))) in
+    record {
+      in_range = λ i e below. (stands i r e below).in_range;
+      in_turn =
+          ap (λ o. cons_option o (chosen_requests rows (places_of ks))) (slice_get-get_or rows k.place r first.in_range)
+          ∙ ap (λ x. x ∷ chosen_requests rows (places_of ks)) (first.is r)
+          ∙ ap (λ xs. r ∷ xs) rest.in_turn;
+    }
 
 -- the chosen requests place by place
 chosen_by_place : (rows : List Request) (d : Request) (places : List ℕ) → All (λ place. place < length rows) places
@@ -132,77 +149,16 @@ IsEndOf-crossing x y follows =
     after_at x.tuple.overhead y.tuple.overhead (rate_of x.tuple) (rate_of y.tuple)
     (omega (arith, follows.overhead)) (omega (arith, follows.rate)) follows.reach
 
--- the line of the first of these requests may begin at this end
-abbrev pub HasLeftEnd : End → List Request → Type 0
-HasLeftEnd left [] = Unit {0}
-HasLeftEnd left (x ∷ xs) = (1 ≤ left.lower) × IsEndOf x left
-
-HasLeftEnd-right : (x : Request) (behind : List Request) → All (Follows x) behind → HasLeftEnd (right_end x behind) behind
+pub HasLeftEnd-right : (x : Request) (behind : List Request) → All (Follows x) behind → HasLeftEnd (right_end x behind) behind
 HasLeftEnd-right x [] follow = tt
 HasLeftEnd-right x (y ∷ ys) follow =
     let follows : Follows x y = All-head (Follows x) y ys follow in
     (omega (arith, follows.overhead), IsEndOf-crossing x y follows)
 
--- these entries are kept, and the rest of the requests is to come
-pub record KeepsLines (rows announced : List Request) (kept : List Kept) (left : End) (rest : List Request) : Type 0 where
-  pub in_range : All (λ k. k.place < length rows) kept
-  pub in_turn : chosen_requests rows (places_of kept) ++ rest ≡ announced
-  pub pairs : pairs_of kept ++ pairs_from left rest ≡ pairs_from start_end announced
-  pub few : length kept + length rest ≤ MAX_REQUESTS
-  pub are_rows : All (Contains rows) rest
-  pub in_order : AllPairs Follows rest
-  pub left_end : HasLeftEnd left rest
-
 pub follow_first : (x : Request) (behind : List Request) → AllPairs Follows (x ∷ behind) → All (Follows x) behind
 follow_first x behind in_order = λ k d below. in_order 0 (suc k) d (omega arith) (omega arith)
 
-HasLeftEnd-start : (announced : List Request) → HasLeftEnd start_end announced
-HasLeftEnd-start [] = tt
-HasLeftEnd-start (x ∷ xs) = (omega arith, omega arith)
-
-pub KeepsLines-none : (rows announced : List Request) (left : End) → left ≡ start_end → length announced ≤ MAX_REQUESTS → All (Contains rows) announced
-    → AllPairs Follows announced → KeepsLines rows announced [] left announced
-KeepsLines-none rows announced left is few are_rows in_order = record {
-  in_range = λ k d below. absurd (omega (arith, below));
-  in_turn = refl;
-  pairs = ap (λ e. pairs_from e announced) is;
-  few = omega (arith, few);
-  are_rows = are_rows;
-  in_order = in_order;
-  left_end = subst (λ e. HasLeftEnd e announced) (sym is) (HasLeftEnd-start announced);
-}
-
--- one line more
-pub KeepsLines-more : (rows announced : List Request) (kept after : List Kept) (left right : End) (x : Request) (behind : List Request) (k : Kept)
-    → after ≡ kept ++ k ∷ [] → KeepsLines rows announced kept left (x ∷ behind) → right ≡ right_end x behind
-    → StandsAt rows x k.place → pair_of k.pair ≡ pair_between x left right → KeepsLines rows announced after right behind
-KeepsLines-more rows announced kept after left right x behind k pushed is ends stands pair =
-    let chosen = chosen_requests rows (places_of kept) in
-    let kept_now : KeepsRequests rows chosen kept = record { in_range = is.in_range; in_turn = refl } in
-    let more = KeepsRequests-push rows chosen kept k x kept_now stands in
-    let this : pair_of k.pair ≡ pair_between x left (right_end x behind) = pair ∙ ap (pair_between x left) ends in
-    let next = right_end x behind in
-    let done : KeepsLines rows announced (kept ++ k ∷ []) next behind = record {
-      in_range = more.in_range;
-      in_turn = ap (λ rs. rs ++ behind) more.in_turn ∙ append_assoc chosen (x ∷ []) behind ∙ is.in_turn;
-      pairs =
-          ap (λ ps. ps ++ pairs_from next behind)
-          (map-append (λ (e : Kept). pair_of e.pair) kept (k ∷ []) ∙ ap (λ p. pairs_of kept ++ p ∷ []) this)
-          ∙ append_assoc (pairs_of kept) (pair_between x left next ∷ []) (pairs_from next behind)
-          ∙ is.pairs;
-      few = omega (arith, is.few, length-append kept (k ∷ []));
-      are_rows = All-tail (Contains rows) x behind is.are_rows;
-      in_order = λ i j d before below. is.in_order (suc i) (suc j) d (omega arith) (omega arith);
-      left_end = HasLeftEnd-right x behind (follow_first x behind is.in_order);
-    } in
-    subst (λ ks. KeepsLines rows announced ks right behind) (sym pushed)
-    (subst (λ e. KeepsLines rows announced (kept ++ k ∷ []) e behind) (sym ends) done)
-
--- a list and its first element, as a pattern takes it apart
-pub first_and_rest : {X : Type 0} (xs : List X) (x : X) → 1 ≤ length xs → x ≡ get_or xs 0 x → xs ≡ x ∷ take (length xs - 1) (drop 1 xs)
-first_and_rest [] x some is = absurd (omega arith)
-first_and_rest (y ∷ ys) x some is = ap (λ z. z ∷ ys) (sym is) ∙ ap (λ zs. x ∷ zs) (sym (take_all (length (y ∷ ys) - 1) ys (omega arith)))
-
+-- a list of two elements, as a pattern takes it apart
 pub two_elements : {X : Type 0} (xs : List X) (x y : X) → 2 ≤ length xs → length xs < 3 → x ≡ get_or xs 0 x → y ≡ get_or xs 1 y → xs ≡ x ∷ y ∷ []
 two_elements [] x y some few is_x is_y = absurd (omega arith)
 two_elements (u ∷ []) x y some few is_x is_y = absurd (omega arith)

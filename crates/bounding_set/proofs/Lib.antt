@@ -14,6 +14,7 @@ pub mod EssentialLemmas
 pub mod StopScans
 pub mod StopLemmas
 pub mod KeptLemmas
+pub mod PairLemmas
 pub mod ImpliedLemmas
 pub mod NeighbourLemmas
 pub mod CertificateLemmas

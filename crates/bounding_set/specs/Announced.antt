@@ -15,12 +15,15 @@ pub record Follows (x y : Request) : Type 0 where
 -- the line of y isn't below the chord from a to b
 abbrev pub IsAboveChord : Request → Request → Request → Type 0
 IsAboveChord a b y =
-    b.tuple.overhead * rate_of a.tuple + y.tuple.overhead * rate_of b.tuple + a.tuple.overhead * rate_of y.tuple
-    ≤ b.tuple.overhead * rate_of y.tuple + y.tuple.overhead * rate_of a.tuple + a.tuple.overhead * rate_of b.tuple
+    b.tuple.overhead * rate_of a.tuple + y.tuple.overhead * rate_of b.tuple + a.tuple.overhead
+    * rate_of y.tuple
+    ≤ b.tuple.overhead * rate_of y.tuple + y.tuple.overhead * rate_of a.tuple + a.tuple.overhead
+    * rate_of b.tuple
 
 -- y, whose overhead is a's or more, follows from a and its right neighbour, or from the last request of all
 abbrev pub IsCoveredFrom : Request → List Request → Request → Type 0
-IsCoveredFrom a [] y = (0 < a.tuple.overhead) × (rate_of a.tuple * y.tuple.overhead ≤ rate_of y.tuple * a.tuple.overhead)
+IsCoveredFrom a [] y = (0 < a.tuple.overhead) × (rate_of a.tuple * y.tuple.overhead
+    ≤ rate_of y.tuple * a.tuple.overhead)
 IsCoveredFrom a (b ∷ bs) y =
     (y.tuple.overhead < b.tuple.overhead → IsAboveChord a b y)
     × (b.tuple.overhead ≤ y.tuple.overhead → IsCoveredFrom b bs y)
@@ -38,7 +41,8 @@ pub record HasPairs (rows kept : List Request) (pairs : List RatePair) : Type 0 
   pub forbidden : (j : ℕ) (d : Request) (p : RatePair) → j < length kept
       → Forbids (slice_index_or kept j d).tuple (slice_index_or pairs j p)
   pub one_each : (j k : ℕ) (p : RatePair) → j < k → k < length kept
-      → All (λ r. Forbids r.tuple (slice_index_or pairs j p) → ¬ Forbids r.tuple (slice_index_or pairs k p)) rows
+      → All (λ r. Forbids r.tuple (slice_index_or pairs j p)
+      → ¬ Forbids r.tuple (slice_index_or pairs k p)) rows
 
 -- Just the announced requests, by rising overhead, with the pairs and the neighbours that their certificate shows.
 pub record AnnouncesList (rows kept : List Request) : Type 0 where

@@ -23,7 +23,8 @@ StopsEverything r = StopsMedia r × (0 < r.tuple.overhead)
 pub record IsStrictestStop (requests : List Request) (x : Request) : Type 0 where
   pub stops : StopsEverything x
   pub greatest : All (λ y. StopsEverything y → y.tuple.overhead ≤ x.tuple.overhead) requests
-  pub least_owner : All (λ y. StopsEverything y → x.tuple.overhead ≡ y.tuple.overhead → x.owner.0 ≤ y.owner.0) requests
+  pub least_owner : All (λ y. StopsEverything y → x.tuple.overhead ≡ y.tuple.overhead
+      → x.owner.0 ≤ y.owner.0) requests
 
 -- Of the requests that stop the media, where none stops everything, the one of least owner.
 pub record IsFirstStop (requests : List Request) (x : Request) : Type 0 where
@@ -45,8 +46,10 @@ pub record IsLeastReach (requests : List Request) (x : Request) : Type 0 where
   pub none_stops_everything : All (λ y. ¬ StopsEverything y) requests
   pub has_overhead : 0 < x.tuple.overhead
   pub least : All (λ y. 0 < y.tuple.overhead → ReachesNoFarther x y) requests
-  pub least_overhead : All (λ y. 0 < y.tuple.overhead → ReachesAsFar x y → x.tuple.overhead ≤ y.tuple.overhead) requests
-  pub least_owner : All (λ y. 0 < y.tuple.overhead → ReachesAsFar x y → x.tuple.overhead ≡ y.tuple.overhead → x.owner.0 ≤ y.owner.0) requests
+  pub least_overhead : All
+      (λ y. 0 < y.tuple.overhead → ReachesAsFar x y → x.tuple.overhead ≤ y.tuple.overhead) requests
+  pub least_owner : All (λ y. 0 < y.tuple.overhead → ReachesAsFar x y
+      → x.tuple.overhead ≡ y.tuple.overhead → x.owner.0 ≤ y.owner.0) requests
 
 -- A line is essential where it forbids some pair that all requests of other lines permit.
 pub record IsEssential (requests : List Request) (x : Request) : Type 0 where
@@ -64,11 +67,14 @@ pub record IsEssentialOwner (requests : List Request) (x : Request) : Type 0 whe
 -- the requests that are announced
 abbrev pub IsAnnounced : List Request → Request → Type 0
 IsAnnounced requests x =
-    IsStrictestStop requests x ⊎ IsFirstStop requests x ⊎ IsLeastReach requests x ⊎ IsEssentialOwner requests x
+    IsStrictestStop requests x ⊎ IsFirstStop requests x ⊎ IsLeastReach requests x
+    ⊎ IsEssentialOwner requests x
 
 -- The canonical choice has the places of just the announced requests, listed by rising overhead.
 pub record IsCanonical (requests : List Request) (places : List ℕ) : Type 0 where
   pub choice : IsChoice requests places
   pub rising : (d : Request)
-      → AllPairs (λ i j. (slice_index_or requests i d).tuple.overhead < (slice_index_or requests j d).tuple.overhead) places
-  pub announced : (place : ℕ) → place < length requests → (Contains places place ↔ HoldsAt (IsAnnounced requests) requests place)
+      → AllPairs (λ i j. (slice_index_or requests i d).tuple.overhead
+      < (slice_index_or requests j d).tuple.overhead) places
+  pub announced : (place : ℕ) → place < length requests
+      → (Contains places place ↔ HoldsAt (IsAnnounced requests) requests place)

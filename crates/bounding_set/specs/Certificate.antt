@@ -34,7 +34,11 @@ abbrev pub pair_between : Request → End → End → RatePair
 pair_between x left right =
     let packets = left.upper + right.upper in
     let seconds = left.lower + right.lower in
-    record { packets = packets; bits = (rate_of x.tuple * seconds - 8 * x.tuple.overhead * packets) + 1; seconds = seconds }
+    record {
+      packets = packets;
+      bits = (rate_of x.tuple * seconds - 8 * x.tuple.overhead * packets) + 1;
+      seconds = seconds;
+    }
 
 -- the right end of a kept request before the ones that are listed after it
 abbrev pub right_end : Request → List Request → End
@@ -61,7 +65,8 @@ pairs_with_stop (x ∷ xs) = record { packets = 0; bits = 1; seconds = 1 } ∷ m
 
 -- the pairs of the kept requests
 abbrev pub kept_pairs : List Request → List RatePair
-kept_pairs kept = if is_stop_with_reach kept then pairs_with_stop kept else pairs_from start_end kept
+kept_pairs kept =
+    if is_stop_with_reach kept then pairs_with_stop kept else pairs_from start_end kept
 
 -- a kept request's place and overhead
 pub record Listed : Type 0 where
@@ -71,7 +76,8 @@ pub record Listed : Type 0 where
 -- how a dropped request follows from the kept ones: from the first where its overhead isn't greater, from the last
 -- where its overhead isn't less, else from the two neighbours
 abbrev pub implied_above : ℕ → ℕ → Listed → List Listed → Implied
-implied_above place overhead a [] = record { place = place; a = a.place; b = a.place; p = overhead; q = 0; r = a.overhead }
+implied_above place overhead a [] =
+    record { place = place; a = a.place; b = a.place; p = overhead; q = 0; r = a.overhead }
 implied_above place overhead a (b ∷ bs) =
     if nat_lt overhead b.overhead
     then record {
@@ -93,14 +99,17 @@ implied_by (first ∷ kept) place overhead =
 
 -- the places of no kept request, rising
 abbrev pub dropped_places : ℕ → List ℕ → List ℕ
-dropped_places count kept = filter (λ place. not (list_any (λ k. k == place) kept)) (range_with_len 0 count)
+dropped_places count kept =
+    filter (λ place. not (list_any (λ k. k == place) kept)) (range_with_len 0 count)
 
 -- the certificate that is given for these rows: the canonical choice, its pairs, and how the others follow
 pub record IsGivenFor (rows : List Request) (cert : Cert) : Type 0 where
   pub canonical : IsCanonical rows (kept_places cert)
-  pub pairs : map (λ k. pair_of k.pair) cert.kept.items ≡ kept_pairs (chosen_requests rows (kept_places cert))
+  pub pairs : map (λ k. pair_of k.pair) cert.kept.items
+      ≡ kept_pairs (chosen_requests rows (kept_places cert))
   pub implied : (d : Request) → cert.implied.items
       ≡ map (λ place. implied_by
-      (map (λ k. record { place = k; overhead = (slice_index_or rows k d).tuple.overhead }) (kept_places cert))
+      (map (λ k. record { place = k; overhead = (slice_index_or rows k d).tuple.overhead })
+      (kept_places cert))
       place (slice_index_or rows place d).tuple.overhead)
       (dropped_places (length rows) (kept_places cert))

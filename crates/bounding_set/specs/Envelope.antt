@@ -11,7 +11,8 @@ use Rattle.bounding_set.specs.Canonical.{HasSameLine, StopsMedia}
 pub record IsNotAfter (x y : Request) : Type 0 where
   pub overhead : x.tuple.overhead ≤ y.tuple.overhead
   pub rate : x.tuple.overhead ≡ y.tuple.overhead → rate_of x.tuple ≤ rate_of y.tuple
-  pub owner : x.tuple.overhead ≡ y.tuple.overhead → rate_of x.tuple ≡ rate_of y.tuple → x.owner.0 ≤ y.owner.0
+  pub owner : x.tuple.overhead ≡ y.tuple.overhead → rate_of x.tuple ≡ rate_of y.tuple
+      → x.owner.0 ≤ y.owner.0
 
 -- x has less overhead than y, and reaches farther
 pub record ReachesBeyond (y x : Request) : Type 0 where
@@ -32,8 +33,10 @@ pub record Crosses (x y : Request) : Type 0 where
 -- the line of b is below the chord from a to c: between its crossings with the two it is the lowest of the three
 abbrev pub Turns : Request → Request → Request → Type 0
 Turns a b c =
-    c.tuple.overhead * rate_of b.tuple + b.tuple.overhead * rate_of a.tuple + a.tuple.overhead * rate_of c.tuple
-    < c.tuple.overhead * rate_of a.tuple + b.tuple.overhead * rate_of c.tuple + a.tuple.overhead * rate_of b.tuple
+    c.tuple.overhead * rate_of b.tuple + b.tuple.overhead * rate_of a.tuple + a.tuple.overhead
+    * rate_of c.tuple
+    < c.tuple.overhead * rate_of a.tuple + b.tuple.overhead * rate_of c.tuple + a.tuple.overhead
+    * rate_of b.tuple
 
 -- lines by rising overhead, each of which is the lowest somewhere
 pub record IsHull (lines : List Request) : Type 0 where
@@ -54,7 +57,8 @@ pub record IsEnvelopeBelow (rows : List Request) (lines : List Request) (place :
   pub hull : IsHull lines
   pub covers : AllWithin (Covers lines) rows 0 place
   pub are_rows : All (Contains rows) lines
-  pub least_owner : All (λ x. AllWithin (λ y. HasSameLine x y → x.owner.0 ≤ y.owner.0) rows 0 place) lines
+  pub least_owner : All
+      (λ x. AllWithin (λ y. HasSameLine x y → x.owner.0 ≤ y.owner.0) rows 0 place) lines
 
 abbrev pub IsEnvelope : List Request → List Request → Type 0
 IsEnvelope rows lines = IsEnvelopeBelow rows lines (length rows)

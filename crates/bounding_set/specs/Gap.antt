@@ -10,8 +10,10 @@ use Rattle.bounding_set.specs.Envelope.{IsHull, Covers}
 pub record IsEnvelopeButAt (rows lines : List Request) (place : ℕ) : Type 0 where
   pub in_range : place ≤ length lines
   pub hull : IsHull lines
-  pub left : 0 < place → All (λ r. ¬ StopsMedia r → HoldsAt (λ l. r.tuple.overhead ≤ l.tuple.overhead) lines (place - 1) → Covers lines r) rows
-  pub right : place < length lines → All (λ r. ¬ StopsMedia r → HoldsAt (λ l. l.tuple.overhead ≤ r.tuple.overhead) lines place → Covers lines r) rows
+  pub left : 0 < place → All (λ r. ¬ StopsMedia r
+      → HoldsAt (λ l. r.tuple.overhead ≤ l.tuple.overhead) lines (place - 1) → Covers lines r) rows
+  pub right : place < length lines → All (λ r. ¬ StopsMedia r
+      → HoldsAt (λ l. l.tuple.overhead ≤ r.tuple.overhead) lines place → Covers lines r) rows
   pub are_rows : All (Contains rows) lines
   pub send : All (λ l. ¬ StopsMedia l) lines
   pub least_owner : All (λ x. All (λ y. HasSameLine x y → x.owner.0 ≤ y.owner.0) rows) lines

@@ -21,8 +21,10 @@ pub record IsNeededAt (lines : List Request) (x : Request) (at from : ℕ) : Typ
   pub beyond : AllWithin (ReachesBeyond x) lines 0 at
   pub behind : AllWithin (IsBehind x) lines from (length lines)
   pub first : AllWithin (IsNotAfter x) lines at from
-  pub turns : (i j : ℕ) (d : Request) → i < at → from ≤ j → j < length lines → Turns (slice_index_or lines i d) x (slice_index_or lines j d)
-  pub new : (z : Request) → Covers lines z → HasSameLine x z → Any (λ l. HasSameLine x l × (x.owner.0 ≤ l.owner.0)) lines
+  pub turns : (i j : ℕ) (d : Request) → i < at → from ≤ j → j < length lines
+      → Turns (slice_index_or lines i d) x (slice_index_or lines j d)
+  pub new : (z : Request) → Covers lines z → HasSameLine x z
+      → Any (λ l. HasSameLine x l × (x.owner.0 ≤ l.owner.0)) lines
 
 -- x in place of the lines from `low` to `high`: they follow from it and the others, which it crosses and turns with
 pub record StandsFor (lines : List Request) (x : Request) (low high : ℕ) : Type 0 where
@@ -32,6 +34,9 @@ pub record StandsFor (lines : List Request) (x : Request) (low high : ℕ) : Typ
       → AllWithin (λ l. Permits l.tuple p) lines high (length lines) → IsFeasible lines p
   pub before : AllWithin (λ l. Crosses l x) lines 0 low
   pub behind : AllWithin (Crosses x) lines high (length lines)
-  pub turns_before : (i j : ℕ) (d : Request) → i < j → j < low → Turns (slice_index_or lines i d) (slice_index_or lines j d) x
-  pub turns : (i j : ℕ) (d : Request) → i < low → high ≤ j → j < length lines → Turns (slice_index_or lines i d) x (slice_index_or lines j d)
-  pub turns_behind : (i j : ℕ) (d : Request) → high ≤ i → i < j → j < length lines → Turns x (slice_index_or lines i d) (slice_index_or lines j d)
+  pub turns_before : (i j : ℕ) (d : Request) → i < j → j < low
+      → Turns (slice_index_or lines i d) (slice_index_or lines j d) x
+  pub turns : (i j : ℕ) (d : Request) → i < low → high ≤ j → j < length lines
+      → Turns (slice_index_or lines i d) x (slice_index_or lines j d)
+  pub turns_behind : (i j : ℕ) (d : Request) → high ≤ i → i < j → j < length lines
+      → Turns x (slice_index_or lines i d) (slice_index_or lines j d)

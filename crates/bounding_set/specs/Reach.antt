@@ -7,4 +7,5 @@ use Rattle.bounding_set.specs.Canonical.{ReachesAsFar}
 -- x reaches less far than y, or as far by less overhead
 abbrev pub ReachesSooner : Request → Request → Type 0
 ReachesSooner x y =
-    (rate_of x.tuple * y.tuple.overhead < rate_of y.tuple * x.tuple.overhead) ⊎ (ReachesAsFar x y × (x.tuple.overhead < y.tuple.overhead))
+    (rate_of x.tuple * y.tuple.overhead < rate_of y.tuple * x.tuple.overhead)
+    ⊎ (ReachesAsFar x y × (x.tuple.overhead < y.tuple.overhead))

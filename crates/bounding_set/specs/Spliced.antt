@@ -22,7 +22,8 @@ pub record StandsAbove (a b x : Tuple) : Type 0 where
 
 -- x stands behind the first lines, up to `low`, and before the last ones, from `high` on; those between are dropped. Each of
 -- these but one of the overhead of x is tested, and the tests are at most four more than these
-pub record IsSpliced (old : List Request) (x : Request) (new : List Request) (tests : ℕ) : Type 0 where
+pub record IsSpliced (old : List Request) (x : Request) (new : List Request)
+    (tests : ℕ) : Type 0 where
   pub low : ℕ
   pub high : ℕ
   pub rising : low ≤ high

@@ -21,9 +21,11 @@ pub fn needed_before(lines: &[Request], x: &Request, count: &mut u32) -> usize
     requires beyond { All (ReachesBeyond x.now) lines.now }
     requires countable { count.old + length lines.now + 1 < 2 ^ 32 }
     ensures within { result ≤ length lines.now }
-    ensures covers { (p : RatePair) → AllWithin (λ l. Permits l.tuple p) lines.now 0 result → Permits x.now.tuple p → IsFeasible lines.now p }
+    ensures covers { (p : RatePair) → AllWithin (λ l. Permits l.tuple p) lines.now 0 result
+        → Permits x.now.tuple p → IsFeasible lines.now p }
     ensures rates { AllWithin (λ l. rate_of l.tuple < rate_of x.now.tuple) lines.now 0 result }
-    ensures turns { (i j : ℕ) (d : RateRequest) → i < j → j < result → Turns (slice_index_or lines.now i d) (slice_index_or lines.now j d) x.now }
+    ensures turns { (i j : ℕ) (d : RateRequest) → i < j → j < result
+        → Turns (slice_index_or lines.now i d) (slice_index_or lines.now j d) x.now }
     ensures counted { count.old ≤ count.new }
     ensures asked { 0 < length lines.now → count.old + 1 ≤ count.new }
     ensures each { count.old + length lines.now ≤ count.new + result }
@@ -45,7 +47,9 @@ pub fn needed_behind(lines: &[Request], x: &Request, count: &mut u32) -> usize
     requires sends { ¬ StopsMedia x.now }
     requires countable { count.old + length lines.now + 1 < 2 ^ 32 }
     ensures within { result ≤ length lines.now }
-    ensures covers { (p : RatePair) → AllWithin (λ l. Permits l.tuple p) lines.now result (length lines.now) → Permits x.now.tuple p → IsFeasible lines.now p }
+    ensures covers { (p : RatePair)
+        → AllWithin (λ l. Permits l.tuple p) lines.now result (length lines.now)
+        → Permits x.now.tuple p → IsFeasible lines.now p }
     ensures crosses { AllWithin (Crosses x.now) lines.now result (length lines.now) }
     ensures turns { (i j : ℕ) (d : RateRequest) → result ≤ i → i < j → j < length lines.now
         → Turns x.now (slice_index_or lines.now i d) (slice_index_or lines.now j d) }
@@ -67,9 +71,12 @@ fn is_needless_before(lines: &[Request], needed: usize, x: &Request, count: &mut
     requires countable { count.old + 1 < 2 ^ 32 }
     ensures some { IsTrue result → 0 < needed }
     ensures one { (d : RateRequest) → needed ≡ 1
-        → (IsTrue result ↔ ImplyTogether x.now.tuple x.now.tuple (slice_index_or lines.now 0 d).tuple) }
+        → (IsTrue result
+        ↔ ImplyTogether x.now.tuple x.now.tuple (slice_index_or lines.now 0 d).tuple) }
     ensures more { (d : RateRequest) → 1 < needed
-        → (IsTrue result ↔ ImplyTogether (slice_index_or lines.now (needed - 2) d).tuple x.now.tuple (slice_index_or lines.now (needed - 1) d).tuple) }
+        → (IsTrue result
+        ↔ ImplyTogether (slice_index_or lines.now (needed - 2) d).tuple x.now.tuple
+        (slice_index_or lines.now (needed - 1) d).tuple) }
     ensures counted { count.old ≤ count.new }
     ensures asked { 0 < needed → count.new ≡ count.old + 1 }
     ensures few { count.new ≤ count.old + 1 }
@@ -92,9 +99,12 @@ fn is_needless_behind(lines: &[Request], place: usize, x: &Request, count: &mut 
     requires countable { count.old + 1 < 2 ^ 32 }
     ensures some { IsTrue result → place < length lines.now }
     ensures last { (d : RateRequest) → place + 1 ≡ length lines.now
-        → (IsTrue result ↔ ImplyTogether x.now.tuple x.now.tuple (slice_index_or lines.now place d).tuple) }
+        → (IsTrue result
+        ↔ ImplyTogether x.now.tuple x.now.tuple (slice_index_or lines.now place d).tuple) }
     ensures more { (d : RateRequest) → place + 1 < length lines.now
-        → (IsTrue result ↔ ImplyTogether x.now.tuple (slice_index_or lines.now (place + 1) d).tuple (slice_index_or lines.now place d).tuple) }
+        → (IsTrue result
+        ↔ ImplyTogether x.now.tuple (slice_index_or lines.now (place + 1) d).tuple
+        (slice_index_or lines.now place d).tuple) }
     ensures counted { count.old ≤ count.new }
     ensures asked { place < length lines.now → count.new ≡ count.old + 1 }
     ensures few { count.new ≤ count.old + 1 }

@@ -2,7 +2,7 @@
 
 ghost use Rattle.std.specs.Prelude.{◌≡◌, ◌≢◌, ◌<◌, ◌≤◌, ◌↔◌, [], length, All, Some, None, IsTrue, IsOk, IsErr, IfOk, OnOk, OnErr, OnSome, IfNone, IsNone, ◌+◌, ◌*◌};
 
-use crate::announced::announce;
+use crate::announced::{announce, remember};
 use crate::certificate::chosen;
 use crate::live::replace;
 use crate::rows::{Full, LIVE_LIMIT, asked_by, is_asked, take};
@@ -22,6 +22,8 @@ pub struct Bounds {
     lines: ArrayVec<Request, MAX_REQUESTS>,
     /// What is announced while a rate is 0; empty while none is.
     stops: ArrayVec<Request, MAX_STOPS>,
+    /// What was announced before the last change, where these were many.
+    before: ArrayVec<Request, MAX_REQUESTS>,
     cert: Cert,
     /// How many tests the last change took.
     steps: u32,
@@ -42,8 +44,10 @@ impl Model for Bounds {
     ghost view = { λ b. record { rows = b.rows.items; cert = b.cert; steps = b.steps } };
 
     ghost invariant = { λ b. (length b.rows.items ≤ LIVE_LIMIT) × HasRisingOwners b.rows.items
-        × IsEnvelopeOf b.rows.items b.lines.items × HoldsStops b.rows.items b.stops.items × AnnouncesFor b.rows.items b.cert
-        × (chosen_requests b.rows.items (kept_places b.cert) ≡ announced_among b.stops.items b.lines.items) };
+        × IsEnvelopeOf b.rows.items b.lines.items × HoldsStops b.rows.items b.stops.items
+        × AnnouncesFor b.rows.items b.cert
+        × (chosen_requests b.rows.items (kept_places b.cert)
+        ≡ announced_among b.stops.items b.lines.items) };
 }
 
 impl Bounds {
@@ -60,6 +64,7 @@ impl Bounds {
             rows: ArrayVec::new(),
             lines: ArrayVec::new(),
             stops: ArrayVec::new(),
+            before: ArrayVec::new(),
             cert: Cert::default(),
             steps: 0,
         }
@@ -71,16 +76,20 @@ impl Bounds {
     /// Refused as `Full` exactly where the owner isn't live and as many others are as may be; then
     /// nothing changed.
     pub fn set(&mut self, owner: Ssrc, tuple: Tuple) -> Result<bool, Full>
-        ensures full { IsErr result ↔ (IsNone (tuple_of self.old.rows owner.0) × (length self.old.rows ≡ LIVE_LIMIT)) }
+        ensures full { IsErr result
+            ↔ (IsNone (tuple_of self.old.rows owner.0) × (length self.old.rows ≡ LIVE_LIMIT)) }
         ensures unchanged { OnErr result (self.new ≡ self.old) }
         ensures put { OnOk result (Puts self.old.rows self.new.rows owner.0 (Some tuple)) }
         ensures grows { OnOk result (length self.new.rows ≡ count_with self.old.rows owner.0) }
-        ensures changed { IfOk result (λ changed. IsTrue changed ↔ (announced_of self.new ≢ announced_of self.old)) }
+        ensures changed { IfOk result (λ changed. IsTrue changed
+            ↔ (announced_of self.new ≢ announced_of self.old)) }
         ensures rising { HasRisingOwners self.new.rows }
         ensures within { length self.new.rows ≤ LIVE_LIMIT }
         ensures announced { AnnouncesSmallest self.new }
-        ensures steps { tuple_of self.old.rows owner.0 ≡ None → All (λ r. ¬ StopsMedia r) self.new.rows
-            → OnOk result (self.new.steps ≤ dropped_count (announced_of self.old) (announced_of self.new) + 4) }
+        ensures steps { tuple_of self.old.rows owner.0 ≡ None
+            → All (λ r. ¬ StopsMedia r) self.new.rows
+            → OnOk result
+            (self.new.steps ≤ dropped_count (announced_of self.old) (announced_of self.new) + 4) }
         ensures each_step { tuple_of self.old.rows owner.0 ≡ None
             → All (λ r. ¬ StopsMedia r) self.new.rows
             → OnOk result
@@ -101,12 +110,17 @@ impl Bounds {
         if is_asked(asked, tuple) {
             return Ok(false);
         }
+        remember(
+            self.lines.as_slice(),
+            self.stops.as_slice(),
+            &mut self.before,
+        );
         let x = Request { owner, tuple };
         let lines_changed = replace(&mut self.rows, &mut self.lines, &x, &mut self.steps);
         let rows = self.rows.as_slice();
         let stops_changed = update_stops(rows, &mut self.stops, tuple.rate() == 0);
         let (lines, stops) = (self.lines.as_slice(), self.stops.as_slice());
-        announce(rows, lines, stops, &mut self.cert);
+        announce(rows, self.before.as_slice(), lines, stops, &mut self.cert);
         Ok(stops_changed || lines_changed && self.stops.is_empty())
     }
 
@@ -130,12 +144,17 @@ impl Bounds {
     {
         let tuple = take(&mut self.rows, owner)?;
         self.steps = 0;
+        remember(
+            self.lines.as_slice(),
+            self.stops.as_slice(),
+            &mut self.before,
+        );
         let gone = Request { owner, tuple };
         let rows = self.rows.as_slice();
         unsplice(&mut self.lines, &gone, rows, &mut self.steps);
         update_stops(rows, &mut self.stops, false);
         let (lines, stops) = (self.lines.as_slice(), self.stops.as_slice());
-        announce(rows, lines, stops, &mut self.cert);
+        announce(rows, self.before.as_slice(), lines, stops, &mut self.cert);
         Some(tuple)
     }
 

@@ -1,31 +1,33 @@
 //! The certificate for the announced set.
 
-ghost use Rattle.std.specs.Prelude.{◌≡◌, ◌<◌, ◌≤◌, [], length, map, false, All, AllPairs, Contains, slice_index_or};
+ghost use Rattle.std.specs.Prelude.{◌≡◌, ◌<◌, ◌≤◌, length, map, false, All, AllPairs, Contains, slice_index_or};
 ghost use Rattle.rate_cert.specs.declared.request.Request.{Request};
 ghost use Rattle.rate_cert.specs.Choice.{IsChoice, chosen_requests};
 ghost use Rattle.rate_cert.specs.Certificate.{kept_places, places_of};
 ghost use Rattle.bounding_set.specs.Rows.{HasRisingOwners};
 ghost use Rattle.bounding_set.specs.Announced.{AnnouncesList, Follows};
-ghost use Rattle.bounding_set.specs.Certificate.{pairs_from, start_end, kept_pairs, implied_by, dropped_places};
-ghost use Rattle.bounding_set.specs.Kept.{StandsAt, KeepsRequests, IsMarked, pairs_of, listed_of};
+ghost use Rattle.bounding_set.specs.Certificate.{kept_pairs, implied_by, dropped_places};
+ghost use Rattle.bounding_set.specs.Kept.{KeepsRequests, IsMarked, pairs_of, listed_of};
 ghost use Rattle.bounding_set.specs.State.{AnnouncesFor};
 
-use crate::line_end::LineEnd;
 use crate::neighbours::implied_by;
-use crate::rows::place_of;
+use crate::pairs::mend_pairs;
+use crate::places::{find_places, place_in};
 use arrayvec::ArrayVec;
 use rate_cert::{Cert, Implied, Kept, MAX_REQUESTS, Request};
 use tmmbr_tuple::Pair;
 
-/// Makes the certificate of the announced requests, which are given by rising overhead.
-pub fn certify(rows: &[Request], announced: &[Request], cert: &mut Cert)
+/// Makes the certificate of the announced requests, which are given by rising overhead, from that of
+/// those that were announced before; if none such are given, it was any.
+pub fn certify(rows: &[Request], before: &[Request], announced: &[Request], cert: &mut Cert)
     requires rising { HasRisingOwners rows.now }
     requires within { length rows.now ≤ MAX_REQUESTS }
     requires announced { AnnouncesList rows.now announced.now }
+    requires had { 0 < length before.now → pairs_of cert.old.kept.items ≡ kept_pairs before.now }
     ensures announced { AnnouncesFor rows.now cert.new }
     ensures chosen { chosen_requests rows.now (kept_places cert.new) ≡ announced.now }
 {
-    keep(rows, announced, &mut cert.kept);
+    keep(rows, before, announced, &mut cert.kept);
     let entries = cert.kept.as_slice();
     let mut marks = [false; MAX_REQUESTS];
     mark_kept(entries, &mut marks);
@@ -33,18 +35,24 @@ pub fn certify(rows: &[Request], announced: &[Request], cert: &mut Cert)
 }
 
 /// Keeps the announced requests, each with a pair that no other of them forbids.
-fn keep(rows: &[Request], announced: &[Request], kept: &mut ArrayVec<Kept, MAX_REQUESTS>)
+fn keep(
+    rows: &[Request],
+    before: &[Request],
+    announced: &[Request],
+    kept: &mut ArrayVec<Kept, MAX_REQUESTS>,
+)
     requires rising { HasRisingOwners rows.now }
     requires within { length rows.now ≤ MAX_REQUESTS }
     requires few { length announced.now ≤ MAX_REQUESTS }
     requires are_rows { All (Contains rows.now) announced.now }
     requires in_order { AllPairs Follows announced.now }
+    requires had { 0 < length before.now → pairs_of kept.old.items ≡ kept_pairs before.now }
     ensures requests { KeepsRequests rows.now announced.now kept.new.items }
     ensures pairs { pairs_of kept.new.items ≡ kept_pairs announced.now }
 {
-    kept.clear();
     match announced {
         [stop, reach] if stop.tuple.rate() == 0 => {
+            kept.clear();
             kept.push(Kept {
                 place: place_in(rows, stop),
                 pair: Pair {
@@ -62,42 +70,11 @@ fn keep(rows: &[Request], announced: &[Request], kept: &mut ArrayVec<Kept, MAX_R
                 },
             });
         }
-        _ => keep_lines(rows, announced, kept),
+        _ => {
+            mend_pairs(before, announced, kept);
+            find_places(rows, announced, kept.as_mut_slice());
+        }
     }
-}
-
-/// Keeps requests with the pairs between the ends of their lines.
-fn keep_lines(rows: &[Request], announced: &[Request], kept: &mut ArrayVec<Kept, MAX_REQUESTS>)
-    requires rising { HasRisingOwners rows.now }
-    requires within { length rows.now ≤ MAX_REQUESTS }
-    requires few { length announced.now ≤ MAX_REQUESTS }
-    requires are_rows { All (Contains rows.now) announced.now }
-    requires in_order { AllPairs Follows announced.now }
-    requires empty { kept.old.items ≡ [] }
-    ensures requests { KeepsRequests rows.now announced.now kept.new.items }
-    ensures pairs { pairs_of kept.new.items ≡ pairs_from start_end announced.now }
-{
-    let mut left = LineEnd::start();
-    let mut rest = announced;
-    while let [x, behind @ ..] = rest {
-        let right = LineEnd::right_of(x, behind);
-        kept.push(Kept {
-            place: place_in(rows, x),
-            pair: left.pair_to(right, x),
-        });
-        left = right;
-        rest = behind;
-    }
-}
-
-/// The place of a row, by its owner.
-fn place_in(rows: &[Request], request: &Request) -> u16
-    requires rising { HasRisingOwners rows.now }
-    requires within { length rows.now ≤ MAX_REQUESTS }
-    requires live { Contains rows.now request.now }
-    ensures { StandsAt rows.now request.now result }
-{
-    place_of(rows, request.owner).unwrap() as u16
 }
 
 /// Marks the places of the kept entries.
@@ -125,7 +102,8 @@ fn imply_others(
     requires room { length rows.now ≤ length marks.now }
     requires marked { IsMarked kept.now marks.now }
     ensures { (d : Request) → implied.new.items
-        ≡ map (λ place. implied_by (listed_of rows.now d kept.now) place (slice_index_or rows.now place d).tuple.overhead)
+        ≡ map (λ place. implied_by (listed_of rows.now d kept.now) place
+        (slice_index_or rows.now place d).tuple.overhead)
         (dropped_places (length rows.now) (places_of kept.now)) }
 {
     implied.clear();

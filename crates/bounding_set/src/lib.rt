@@ -15,6 +15,8 @@ pub mod laws;
 mod line_end;
 mod live;
 mod neighbours;
+mod pairs;
+mod places;
 mod rows;
 mod splice;
 mod unsplice;

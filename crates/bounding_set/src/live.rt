@@ -32,7 +32,8 @@ pub fn replace(
     ensures changed { IsTrue result ↔ (lines.new.items ≢ lines.old.items) }
     ensures each { tuple_of rows.old.items x.now.owner.0 ≡ None
         → dropped_count lines.old.items lines.new.items ≤ count.new + 1 }
-    ensures few { tuple_of rows.old.items x.now.owner.0 ≡ None → count.new ≤ dropped_count lines.old.items lines.new.items + 4 }
+    ensures few { tuple_of rows.old.items x.now.owner.0 ≡ None
+        → count.new ≤ dropped_count lines.old.items lines.new.items + 4 }
     ensures each_more { length lines.new.items ≤ length lines.old.items + count.new + 1 }
     ensures bounded { count.new ≤ MAX_REQUESTS * (MAX_REQUESTS + 4) + MAX_REQUESTS + 4 }
 {

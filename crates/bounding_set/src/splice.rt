@@ -24,12 +24,14 @@ pub fn splice(lines: &mut ArrayVec<Request, MAX_REQUESTS>, x: &Request, count: &
     requires all_send { All (λ l. ¬ StopsMedia l) lines.old.items }
     requires countable { count.old + length lines.old.items + 4 < 2 ^ 32 }
     ensures unchanged { result ≡ false → lines.new ≡ lines.old }
-    ensures spliced { IsTrue result → IsSpliced lines.old.items x.now lines.new.items (count.new - count.old) }
+    ensures spliced { IsTrue result
+        → IsSpliced lines.old.items x.now lines.new.items (count.new - count.old) }
     ensures hull { IsHull lines.new.items }
     ensures covers { Covers lines.new.items x.now }
     ensures covers_old { All (Covers lines.new.items) lines.old.items }
     ensures least { All (λ l. HasSameLine l x.now → l.owner.0 ≤ x.now.owner.0) lines.new.items }
-    ensures least_new { IsTrue result → (z : RateRequest) → Covers lines.old.items z → HasSameLine x.now z
+    ensures least_new { IsTrue result → (z : RateRequest) → Covers lines.old.items z
+        → HasSameLine x.now z
         → Any (λ l. HasSameLine x.now l × (x.now.owner.0 ≤ l.owner.0)) lines.old.items }
     ensures one_more { length lines.new.items ≤ length lines.old.items + 1 }
     ensures untested { count.new ≡ count.old → length lines.old.items < length lines.new.items
@@ -53,7 +55,8 @@ pub fn lines_before(lines: &[Request], x: &Request) -> usize
     requires { IsHull lines.now }
     ensures within { result ≤ length lines.now }
     ensures before { AllWithin (λ l. l.tuple.overhead < x.now.tuple.overhead) lines.now 0 result }
-    ensures behind { AllWithin (λ l. x.now.tuple.overhead ≤ l.tuple.overhead) lines.now result (length lines.now) }
+    ensures behind { AllWithin (λ l. x.now.tuple.overhead
+        ≤ l.tuple.overhead) lines.now result (length lines.now) }
 {
     lines.partition_point(|line| line.tuple.overhead < x.tuple.overhead)
 }
@@ -63,7 +66,8 @@ fn lines_upto(lines: &[Request], x: &Request) -> usize
     requires { IsHull lines.now }
     ensures within { result ≤ length lines.now }
     ensures before { AllWithin (λ l. l.tuple.overhead ≤ x.now.tuple.overhead) lines.now 0 result }
-    ensures behind { AllWithin (λ l. x.now.tuple.overhead < l.tuple.overhead) lines.now result (length lines.now) }
+    ensures behind { AllWithin (λ l. x.now.tuple.overhead
+        < l.tuple.overhead) lines.now result (length lines.now) }
 {
     lines.partition_point(|line| line.tuple.overhead <= x.tuple.overhead)
 }
@@ -75,7 +79,8 @@ fn is_needless(lines: &[Request], at: usize, from: usize, x: &Request, count: &m
     requires place { IsPlaceOf lines.now x.now at from }
     requires countable { count.old + 1 < 2 ^ 32 }
     ensures covered { IsTrue result → Covers lines.now x.now }
-    ensures least { IsTrue result → All (λ l. HasSameLine l x.now → l.owner.0 ≤ x.now.owner.0) lines.now }
+    ensures least { IsTrue result
+        → All (λ l. HasSameLine l x.now → l.owner.0 ≤ x.now.owner.0) lines.now }
     ensures needed { result ≡ false → IsNeededAt lines.now x.now at from }
     ensures counted { count.old ≤ count.new }
     ensures few { count.new ≤ count.old + 1 }

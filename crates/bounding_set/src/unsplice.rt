@@ -85,7 +85,8 @@ fn put_back(
 
 /// The overhead of the line before this place; `None` at the beginning.
 fn overhead_before(lines: &[Request], place: usize) -> Option<u16>
-    ensures some { (d : RateRequest) → 0 < place → place ≤ length lines.now → result ≡ Some (slice_index_or lines.now (place - 1) d).tuple.overhead }
+    ensures some { (d : RateRequest) → 0 < place → place ≤ length lines.now
+        → result ≡ Some (slice_index_or lines.now (place - 1) d).tuple.overhead }
     ensures none { place ≡ 0 → result ≡ None }
 {
     match place {
@@ -96,7 +97,8 @@ fn overhead_before(lines: &[Request], place: usize) -> Option<u16>
 
 /// The overhead of the line at this place; `None` past the end.
 fn overhead_at(lines: &[Request], place: usize) -> Option<u16>
-    ensures some { (d : RateRequest) → place < length lines.now → result ≡ Some (slice_index_or lines.now place d).tuple.overhead }
+    ensures some { (d : RateRequest) → place < length lines.now
+        → result ≡ Some (slice_index_or lines.now place d).tuple.overhead }
     ensures none { length lines.now ≤ place → result ≡ None }
 {
     lines.get(place).map(|line| line.tuple.overhead)
@@ -104,7 +106,9 @@ fn overhead_at(lines: &[Request], place: usize) -> Option<u16>
 
 /// Whether the row sends, and its overhead lies between these two.
 fn may_return(row: &Request, left: Option<u16>, right: Option<u16>) -> bool
-    ensures { IsTrue result ↔ ((¬ StopsMedia row.now) × IfSome left (λ l. l < row.now.tuple.overhead) × IfSome right (λ r. row.now.tuple.overhead < r)) }
+    ensures { IsTrue result ↔ ((¬ StopsMedia row.now)
+        × IfSome left (λ l. l < row.now.tuple.overhead)
+        × IfSome right (λ r. row.now.tuple.overhead < r)) }
 {
     row.tuple.rate() > 0
         && left.is_none_or(|left| left < row.tuple.overhead)

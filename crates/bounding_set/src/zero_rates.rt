@@ -21,7 +21,8 @@ pub fn update_stops(
     one_stops: bool,
 ) -> bool
     requires rising { HasRisingOwners rows.now }
-    requires none { one_stops ≡ false → length stops.old.items ≡ 0 → All (λ r. ¬ StopsMedia r) rows.now }
+    requires none { one_stops ≡ false → length stops.old.items ≡ 0
+        → All (λ r. ¬ StopsMedia r) rows.now }
     ensures holds { HoldsStops rows.now stops.new.items }
     ensures changed { IsTrue result ↔ (stops.new.items ≢ stops.old.items) }
 {
@@ -118,7 +119,8 @@ fn stops_everything(request: &Request) -> bool
 
 /// Whether the request has more overhead than the strictest stop so far, where there is one.
 fn is_stricter(request: &Request, strictest: Option<Request>) -> bool
-    ensures { IsTrue result ↔ IfSome strictest (λ x. x.tuple.overhead < request.now.tuple.overhead) }
+    ensures { IsTrue result
+        ↔ IfSome strictest (λ x. x.tuple.overhead < request.now.tuple.overhead) }
 {
     strictest.is_none_or(|best| best.tuple.overhead < request.tuple.overhead)
 }

@@ -16,14 +16,14 @@ use Rattle.rate_desk.specs.Call.{HasStay, is_done, moment_after}
 use Rattle.rate_desk.specs.History.{IsLegalHistory}
 use Rattle.rate_desk.specs.Places.{IsArriveOf}
 use Rattle.rate_desk.specs.Presence.{stay_in, unless_present_with}
-use Rattle.rate_desk.specs.State.{DeskState, HoldsLegalDesk, IsOverLimit, calls_of, now_of}
+use Rattle.rate_desk.specs.State.{DeskState, HoldsLegalDesk, IsOverLimit, call_count, now_of}
 use Rattle.rate_desk.specs.Trace.{IsBase, base_with, base_after, present_unless, present_with}
 use Rattle.rate_desk.proofs.PresenceLemmas.{length-without, presence_of-without, present-named}
 use Rattle.rate_desk.proofs.SinceLemmas.{known_in, first_step, stay_back}
 use Rattle.rate_desk.proofs.TraceLemmas.{IsBase-with, answer_follows, base_after-append, legal-first, legal-rest, legal-folded, present-answered}
 use Rattle.core_steps.specs.Happening.{RecordedCall}
 use Rattle.core_steps.specs.Rule.{IsRecordedCall}
-use Rattle.core_steps.specs.Traces.{HasRecorded, HasLeft, entry_of}
+use Rattle.core_steps.specs.Traces.{HasRecorded, HasLeft, recorded_entry}
 use Rattle.core_steps.proofs.TraceLemmas.{answer-owed, now_after}
 
 -- ---- a desk at which the stay isn't begun anew
@@ -51,16 +51,16 @@ no_arrive-is n owner (Time moment signal) other is = is
 
 -- who isn't present with the stay doesn't become so
 stays_away : (gap ms : ℕ) (base : Base) (calls : List RecordedCall) (owner n : ℕ) → 1 ≤ n
-    → IsLegalHistory gap ms base (map entry_of calls) → HasNoArrive n calls → stay_in base.present.items owner ≢ n
-    → stay_in (base_after ms base (map entry_of calls)).present.items owner ≢ n
+    → IsLegalHistory gap ms base (map recorded_entry calls) → HasNoArrive n calls → stay_in base.present.items owner ≢ n
+    → stay_in (base_after ms base (map recorded_entry calls)).present.items owner ≢ n
 stays_away gap ms base [] owner n some legal none away = away
 stays_away gap ms base (a ∷ calls) owner n some legal none away =
-    let e : Entry = entry_of a in
-    stays_away gap ms (base_with ms base e) calls owner n some (legal-rest gap ms base e (map entry_of calls) legal) none.1
+    let e : Entry = recorded_entry a in
+    stays_away gap ms (base_with ms base e) calls owner n some (legal-rest gap ms base e (map recorded_entry calls) legal) none.1
     (λ is. elim (
     stay_back ms (moment_after base.greatest e.call) owner (known_in base.present.items owner)
     (known_in (base_with ms base e).present.items owner) (is_done e.answer) e.call n some is
-    (first_step gap ms owner base e (map entry_of calls) legal)
+    (first_step gap ms owner base e (map recorded_entry calls) legal)
     ) [
       | inl h ↦ absurd (no_arrive-is n owner e.call none.0 h.1)
       | inr h ↦ absurd (away h.0)
@@ -69,7 +69,7 @@ stays_away gap ms base (a ∷ calls) owner n some legal none away =
 pub desk_stays_away : (old new : DeskState) (calls : List RecordedCall) (owner n : ℕ) → 1 ≤ n → HasRecorded old calls new
     → HasNoArrive n calls → HasLeft owner n old → HasLeft owner n new
 desk_stays_away old new calls owner n some r none away =
-    let entries : List Entry = map entry_of calls in
+    let entries : List Entry = map recorded_entry calls in
     let legal : IsLegalHistory old.gap old.request_ms (now_of old) entries =
     legal-folded old.gap old.request_ms old.base old.history entries r.legal in
     subst (λ (b : Base). stay_in b.present.items owner ≢ n)
@@ -112,7 +112,7 @@ away_over d o n some legal over = step (unless_present_with (now_of d).present.i
     whole = IsBase-after d.gap d.request_ms d.base d.history legal.base legal.stays legal.legal
 
     step : (x : Option Answer) → unless_present_with (now_of d).present.items o.0 n ≡ x
-        → CALL_LIMIT < calls_of d + 1 + length (present_unless d.request_ms (now_of d) (Stay o n change.Depart) x) → HasLeft o.0 n d
+        → CALL_LIMIT < call_count d + 1 + length (present_unless d.request_ms (now_of d) (Stay o n change.Depart) x) → HasLeft o.0 n d
     step None e more =
         absurd (omega (
           arith,
@@ -127,7 +127,7 @@ pub away_recorded : (p : ℕ) (d : DeskState) (o : Ssrc) (n : ℕ) (a : Recorded
 away_recorded p d o n a new some r h =
     let owed = answer-owed d (Stay o n change.Depart) a p r in
     subst (λ (b : Base). stay_in b.present.items o.0 ≢ n)
-    (sym (now_after d (a ∷ []) new h ∙ base_after-append d.request_ms d.base d.history (entry_of a ∷ [])))
-    (subst (λ (ps : List Present). stay_in ps o.0 ≢ n) (sym (present-answered d.gap d.request_ms (now_of d) (entry_of a) owed))
+    (sym (now_after d (a ∷ []) new h ∙ base_after-append d.request_ms d.base d.history (recorded_entry a ∷ [])))
+    (subst (λ (ps : List Present). stay_in ps o.0 ≢ n) (sym (present-answered d.gap d.request_ms (now_of d) (recorded_entry a) owed))
     (subst (λ (c : DeskCall). stay_in (present_with d.request_ms (now_of d) c) o.0 ≢ n) (sym r.names)
     (away_with d.request_ms (now_of d) o n some)))

@@ -23,7 +23,7 @@ use Rattle.core_steps.specs.declared.job.Job.{Job}
 use Rattle.core_steps.specs.declared.job.Job.TheVariants.{Packet, Request, Resend, Pli, Report}
 use Rattle.core_steps.specs.DeskCalls.{stay_call, picture_call}
 use Rattle.core_steps.specs.Happening.{Happening, RecordedCall, Worked}
-use Rattle.core_steps.specs.Hearing.{receptions, jobs_of, task_on, task_for, owner_of, job_by, stay_in, media_of, serving, expires, reports, is_report_due, leg_report, present_endpoints}
+use Rattle.core_steps.specs.Hearing.{receptions, jobs_of, task_on, task_for, owner_of, job_by, leg_stay, media_of, serving, expires, reports, is_report_due, leg_report, present_endpoints}
 use Rattle.core_steps.specs.Intake.{Said, media, leaves, control}
 use Rattle.core_steps.specs.Links.{LinkTable, leg_to, worker_of}
 use Rattle.core_steps.specs.Rule.{Replies}
@@ -165,7 +165,7 @@ maybe_if false x y none more = more
 none_on : (t : LinkTable) (r : RoomState) (a : Ask) (leg : Option ℕ) → orders_maybe (task_on t r a leg) ≡ []
 none_on t r a None = refl
 none_on t r a (Some leg) =
-    maybe_if (stay_in r leg == 0) None (Some (push (owner_of t leg) (job_by r.moment leg (stay_in r leg) a))) refl refl
+    maybe_if (leg_stay r leg == 0) None (Some (push (owner_of t leg) (job_by r.moment leg (leg_stay r leg) a))) refl refl
 
 pub none_heard : (t : LinkTable) (r : RoomState) (endpoint : ℕ) (bytes : List ℕ) (said : Said) → orders_in (jobs_of t r endpoint bytes said) ≡ []
 none_heard t r endpoint bytes (media ssrc seq timestamp) =
@@ -180,8 +180,8 @@ none_expires s r =
 
 none_leg : (t : LinkTable) (r : RoomState) (p : ℕ × LegSettings) → orders_in (leg_report t r p) ≡ []
 none_leg t r (leg, l) =
-    none_if (stay_in r leg == 0) []
-    (push (worker_of t l) (Report leg (stay_in r leg) (timestamps_of (reception_at r l.publisher).report)) ∷ []) refl refl
+    none_if (leg_stay r leg == 0) []
+    (push (worker_of t l) (Report leg (leg_stay r leg) (timestamps_of (reception_at r l.publisher).report)) ∷ []) refl refl
 
 none_reports : (w : WorldState) (r : RoomState) → orders_in (reports w r) ≡ []
 none_reports w r =

@@ -10,7 +10,7 @@ use Rattle.tmmbr_tuple.specs.Tuple.{word_of}
 use Rattle.rate_cert.specs.declared.request.Request.{Request}
 use Rattle.rate_cert.proofs.CheckerLemmas.{Contains-map, entry_at}
 use Rattle.rate_desk.specs.declared.effect.Effect.{Effect}
-use Rattle.rate_desk.specs.Effect.{IsEffect, IsLifted, is_same, is_member, owners_of, numbers_of}
+use Rattle.rate_desk.specs.Effect.{IsEffect, IsLifted, is_same, is_member, owners_of, ssrcs_of}
 use Rattle.core_steps.specs.Notification.{is_changed, HasSameMembers}
 
 -- ---- filters that let nothing through
@@ -116,7 +116,7 @@ former_in_now former now once lifted none r member =
 
 -- ---- where the members are the same
 
-none_lifted : (former now : List Request) (owners : List Ssrc) → IsLifted former now (numbers_of owners) → HasSameMembers former now → owners ≡ []
+none_lifted : (former now : List Request) (owners : List Ssrc) → IsLifted former now (ssrcs_of owners) → HasSameMembers former now → owners ≡ []
 none_lifted former now [] lifted same = refl
 none_lifted [] now (s ∷ owners) lifted same =
     let gone = (lifted.members s.0).0 (0, omega arith, refl) in absurd (omega (arith, gone.0.1))
@@ -154,7 +154,7 @@ unchanged_iff former e once effect = (forward, back)
     forward : is_changed e ≡ false → HasSameMembers former e.set.items
     forward unchanged r =
         let parts = or_parts (nat_lt 0 (length e.lifted.items)) (nat_lt 0 (length e.fresh.items)) unchanged in
-        let nobody = subst (λ (owners : List Ssrc). IsLifted former e.set.items (numbers_of owners)) (empty_is e.lifted.items parts.0) effect.lifted in
+        let nobody = subst (λ (owners : List Ssrc). IsLifted former e.set.items (ssrcs_of owners)) (empty_is e.lifted.items parts.0) effect.lifted in
         let none = sym effect.fresh ∙ empty_is e.fresh.items parts.1 in
         same_answers (is_member former r) (is_member e.set.items r)
         (former_in_now former e.set.items once nobody none r) (now_in_former former e.set.items none r)

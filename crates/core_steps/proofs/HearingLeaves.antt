@@ -9,7 +9,7 @@ use Rattle.members.specs.declared.order.Order.{Order}
 use Rattle.members.specs.Room.{RoomState, Step, Answers, hear_step, tick_step, after_packet}
 use Rattle.members.specs.Calls.{Call as RoomCall, Hear, Receive, Report as SenderReport, room_after, room_of}
 use Rattle.tmmbr_tuple.specs.declared.ssrc.Ssrc.{Ssrc}
-use Rattle.core_steps.specs.declared.hearing.Due.TheVariants as due
+use Rattle.core_steps.specs.declared.ticking.Due.TheVariants as due
 use Rattle.core_steps.specs.declared.intake.Ask.{Ask}
 use Rattle.core_steps.specs.declared.intake.Control.{Control as ControlParts}
 use Rattle.core_steps.specs.declared.intake.Heard.{Heard}
@@ -21,8 +21,8 @@ use Rattle.core_steps.specs.declared.output.Out.TheVariants.{Refused}
 use Rattle.core_steps.specs.declared.output.Refusal.{Refusal}
 use Rattle.core_steps.specs.declared.tasks.FollowUp.{FollowUp}
 use Rattle.core_steps.specs.DeskCalls.{source_of}
-use Rattle.core_steps.specs.FollowUps.{due_to, packet_to, report_to, follow_up_for, unfollowed, noted}
-use Rattle.core_steps.specs.Happening.{giving, counted}
+use Rattle.core_steps.specs.FollowUps.{due_to, packet_to, report_to, follow_up_for, refusal_unless, room_with_report}
+use Rattle.core_steps.specs.Happening.{giving, capped_count}
 use Rattle.core_steps.specs.Heard.{HearsBy, heard_of, asks_of}
 use Rattle.core_steps.specs.Hearing.{IsHearing, hearing, hearing_by, ticking, numbers_below, leg_report, reports, expires, present_endpoints, is_report_due, refusals_of, jobs_of, receptions}
 use Rattle.core_steps.specs.Intake.{Said, media, leaves, control, Says}
@@ -159,7 +159,7 @@ medias w moment endpoint bytes bits ssrc seq timestamp n outs all before after r
 -- ---- RTCP packets
 
 noted_is : (r : RoomState) (endpoint : ℕ) (o : Option (ℕ × ℕ))
-    → noted r endpoint o ≡ room_after r (option_map_or (λ (p : ℕ × ℕ). SenderReport endpoint p.0 p.1 ∷ []) o [])
+    → room_with_report r endpoint o ≡ room_after r (option_map_or (λ (p : ℕ × ℕ). SenderReport endpoint p.0 p.1 ∷ []) o [])
 noted_is r endpoint None = refl
 noted_is r endpoint (Some p) = refl
 
@@ -168,8 +168,8 @@ pub controls : (w : WorldState) (moment endpoint : ℕ) (bytes bits : List ℕ) 
     (noting : Option (ℕ × ℕ)) → is_busy w ≡ false → w.lost < 2 ^ 64
     → Answers w.room before (hear_step w.room moment endpoint speaker) (Ok tt) room after → before ≡ [] → noting ≡ last_or None reports
     → asks' ≡ asks → f0 ≡ [] → f1 ≡ f0 ++ filter_map (follow_up_for w.setup.table room endpoint) asks'
-    → all ≡ outs ++ flat_map (λ a. unfollowed (follow_up_for w.setup.table room endpoint a)) asks'
-    → room' ≡ noted room endpoint noting → tasks ≡ map order after ++ map (task_of bits) f1 → count ≡ counted w.tmmbns tmmbns
+    → all ≡ outs ++ flat_map (λ a. refusal_unless (follow_up_for w.setup.table room endpoint a)) asks'
+    → room' ≡ room_with_report room endpoint noting → tasks ≡ map order after ++ map (task_of bits) f1 → count ≡ capped_count w.tmmbns tmmbns
     → Leaves (λ h. h ≡ hearing w moment endpoint bytes (Ok (control speaker reports tmmbns asks))) w outs
     (taken_in w room' tasks w.reported count) all
 controls w moment endpoint bytes bits speaker reports tmmbns asks asks' outs all before after room room' f0 f1 tasks count noting h lost a eb en ea e0 e1 eout er' et ec =
@@ -180,7 +180,7 @@ controls w moment endpoint bytes bits speaker reports tmmbns asks asks' outs all
     let notes : List RoomCall = receptions endpoint said in
     let calls = Hear moment endpoint speaker ∷ notes in
     let here : room' ≡ room_after w.room calls =
-    er' ∙ ap₂ (λ (r : RoomState) (o : Option (ℕ × ℕ)). noted r endpoint o) er en ∙ noted_is s.room endpoint (last_or None reports)
+    er' ∙ ap₂ (λ (r : RoomState) (o : Option (ℕ × ℕ)). room_with_report r endpoint o) er en ∙ noted_is s.room endpoint (last_or None reports)
     ∙ ap (λ (x : Result Step RoomFault). room_after (room_of w.room x) notes) (sym is) in
     let follow : f1 ≡ filter_map (follow_up_for t room endpoint) asks =
     e1 ∙ ap₂ (λ (l : List FollowUp) (k : List Ask). l ++ filter_map (follow_up_for t room endpoint) k) e0 ea in
@@ -190,7 +190,7 @@ controls w moment endpoint bytes bits speaker reports tmmbns asks asks' outs all
     let made : tasks ≡ map order s.orders ++ jobs_of t s.room endpoint bytes said =
     et ∙ ap₂ (λ (o : List Order) (l : List Task). map order o ++ l) orders jobs in
     let told : all ≡ outs ++ refusals_of t s.room endpoint said =
-    eout ∙ ap (λ (k : List Ask). outs ++ flat_map (λ (x : Ask). unfollowed (follow_up_for t room endpoint x)) k) ea
+    eout ∙ ap (λ (k : List Ask). outs ++ flat_map (λ (x : Ask). refusal_unless (follow_up_for t room endpoint x)) k) ea
     ∙ ap (λ (l : List Out). outs ++ l) (asks_refused t room endpoint asks)
     ∙ ap (λ (r : RoomState). outs ++ refusals_of t r endpoint said) er in
     record {

@@ -13,16 +13,16 @@ use Rattle.members.specs.Presence.{is_present_at}
 use Rattle.members.specs.Room.{RoomState, Step, Answers, tick_step, reception_at}
 use Rattle.members.specs.Stream.{timestamps_of}
 use Rattle.members.specs.Calls.{Call as RoomCall, Tick, room_after}
-use Rattle.core_steps.specs.declared.hearing.Due.TheVariants as due
+use Rattle.core_steps.specs.declared.ticking.Due.TheVariants as due
 use Rattle.core_steps.specs.declared.intake.Ask.{Ask}
 use Rattle.core_steps.specs.declared.intake.Ask.TheVariants.{Rate, Resend as Again, Picture}
 use Rattle.core_steps.specs.declared.job.Job.TheVariants as job
 use Rattle.core_steps.specs.declared.output.Out.{Out}
 use Rattle.core_steps.specs.declared.tasks.FollowUp.{FollowUp}
 use Rattle.core_steps.specs.declared.tasks.FollowUp.TheVariants.{Packet, LegReport}
-use Rattle.core_steps.specs.FollowUps.{due_at, due_to, packet_to, report_to, asked_of, follow_up_on, follow_up_for, unfollowed}
-use Rattle.core_steps.specs.Happening.{Happening, giving, counted, world_after}
-use Rattle.core_steps.specs.Hearing.{ticking, numbers_below, stay_in, owner_of, is_served_by, media_of, leg_report, task_for, task_on, refusal_for, job_by}
+use Rattle.core_steps.specs.FollowUps.{due_at, due_to, packet_to, report_to, asked_of, follow_up_on, follow_up_for, refusal_unless}
+use Rattle.core_steps.specs.Happening.{Happening, giving, capped_count, world_after}
+use Rattle.core_steps.specs.Hearing.{ticking, numbers_below, leg_stay, owner_of, is_served_by, media_of, leg_report, task_for, task_on, refusal_for, job_by}
 use Rattle.core_steps.specs.Links.{LinkTable, leg_to, worker_of}
 use Rattle.core_steps.specs.Machine.{task_of}
 use Rattle.core_steps.specs.Rule.{is_busy, is_empty}
@@ -57,16 +57,16 @@ taking_in w outs calls made reported more =
 abbrev pub taken_in : WorldState → RoomState → List Task → ℕ → ℕ → WorldState
 taken_in w room tasks reported tmmbns = record w { room = room; tasks = tasks; reported = reported; tmmbns = tmmbns }
 
-pub uncounted : (n : ℕ) → n < 2 ^ 64 → n ≡ counted n 0
+pub uncounted : (n : ℕ) → n < 2 ^ 64 → n ≡ capped_count n 0
 uncounted n h = omega arith
 
 pub took : (w : WorldState) (outs : List Out) (calls : List RoomCall) (made : List Task) (reported more : ℕ)
     (room : RoomState) (tasks : List Task) (tmmbns : ℕ) → is_busy w ≡ false → w.lost < 2 ^ 64
-    → room ≡ room_after w.room calls → tasks ≡ made → tmmbns ≡ counted w.tmmbns more
+    → room ≡ room_after w.room calls → tasks ≡ made → tmmbns ≡ capped_count w.tmmbns more
     → taken_in w room tasks reported tmmbns ≡ world_after w (taking_in w outs calls made reported more)
 took w outs calls made reported more room tasks tmmbns h lost er et em =
     let e : tasks ≡ drop 0 w.tasks ++ made = et ∙ ap (λ (l : List Task). l ++ made) (sym (idle w h)) in
-    let el : w.lost ≡ counted w.lost 0 = uncounted w.lost lost in
+    let el : w.lost ≡ capped_count w.lost 0 = uncounted w.lost lost in
     λ k. record {
       setup = w.setup;
       room = er k;
@@ -226,8 +226,8 @@ follow_is : (bits : List ℕ) (t : LinkTable) (r : RoomState) (a : Ask) (o : Opt
     → option_map (task_of bits) (follow_up_on t r a o) ≡ task_on t r a o
 follow_is bits t r a None = refl
 follow_is bits t r a (Some leg) =
-    some_unless (task_of bits) (stay_in r leg == 0) (asked_of r.moment (owner_of t leg) leg (stay_in r leg) a)
-    (push (owner_of t leg) (job_by r.moment leg (stay_in r leg) a)) (asked_is bits r.moment (owner_of t leg) leg (stay_in r leg) a)
+    some_unless (task_of bits) (leg_stay r leg == 0) (asked_of r.moment (owner_of t leg) leg (leg_stay r leg) a)
+    (push (owner_of t leg) (job_by r.moment leg (leg_stay r leg) a)) (asked_is bits r.moment (owner_of t leg) leg (leg_stay r leg) a)
 
 pub asks_follow : (bits : List ℕ) (t : LinkTable) (r : RoomState) (endpoint : ℕ) (asks : List Ask)
     → map (task_of bits) (filter_map (follow_up_for t r endpoint) asks) ≡ filter_map (task_for t r endpoint) asks
@@ -235,14 +235,14 @@ asks_follow bits t r endpoint asks =
     map_filter (task_of bits) (follow_up_for t r endpoint) (task_for t r endpoint)
     (λ a. follow_is bits t r a (leg_to t endpoint (media_of a))) asks
 
-refusal_is : (f : FollowUp → Task) (o : Option FollowUp) → unfollowed o ≡ refusal_for (option_map f o)
+refusal_is : (f : FollowUp → Task) (o : Option FollowUp) → refusal_unless o ≡ refusal_for (option_map f o)
 refusal_is f None = refl
 refusal_is f (Some y) = refl
 
 pub asks_refused : (t : LinkTable) (r : RoomState) (endpoint : ℕ) (asks : List Ask)
-    → flat_map (λ a. unfollowed (follow_up_for t r endpoint a)) asks ≡ flat_map (λ a. refusal_for (task_for t r endpoint a)) asks
+    → flat_map (λ a. refusal_unless (follow_up_for t r endpoint a)) asks ≡ flat_map (λ a. refusal_for (task_for t r endpoint a)) asks
 asks_refused t r endpoint asks =
-    flat_same (λ (a : Ask). unfollowed (follow_up_for t r endpoint a)) (λ (a : Ask). refusal_for (task_for t r endpoint a))
+    flat_same (λ (a : Ask). refusal_unless (follow_up_for t r endpoint a)) (λ (a : Ask). refusal_for (task_for t r endpoint a))
     (λ a. refusal_is (task_of []) (follow_up_for t r endpoint a) ∙ ap refusal_for (follow_is [] t r a (leg_to t endpoint (media_of a)))) asks
 
 pub pulses_follow : (bits : List ℕ) (r : RoomState) (ns : List ℕ)
@@ -274,9 +274,9 @@ leg_reports_follow bits t r es = flat_filter (task_of bits) (report_to t r) (leg
   where
     one : (e : ℕ × LegSettings) → map (task_of bits) (option_to_list (report_to t r e)) ≡ leg_report t r e
     one (leg, l) =
-        unless_list (task_of bits) (stay_in r leg == 0)
-        (LegReport (worker_of t l) leg (stay_in r leg) (timestamps_of (reception_at r l.publisher).report))
-        (push (worker_of t l) (job.Report leg (stay_in r leg) (timestamps_of (reception_at r l.publisher).report))) refl
+        unless_list (task_of bits) (leg_stay r leg == 0)
+        (LegReport (worker_of t l) leg (leg_stay r leg) (timestamps_of (reception_at r l.publisher).report))
+        (push (worker_of t l) (job.Report leg (leg_stay r leg) (timestamps_of (reception_at r l.publisher).report))) refl
 
 pub tasks_from : (bits : List ℕ) (orders : List Order) (follow_ups : List FollowUp) (done done' : ℕ) → done ≡ 0 → done' ≡ 0
     → map order (drop done orders) ++ map (task_of bits) (drop done' follow_ups) ≡ map order orders ++ map (task_of bits) follow_ups

@@ -11,7 +11,7 @@ use Rattle.std.proofs.Math.ListN.{set}
 use Rattle.members.specs.Calls.{Call as RoomCall, room_after, room_of, step_of}
 use Rattle.members.specs.Room.{RoomState}
 use Rattle.rate_desk.specs.State.{DeskState, HoldsLegalDesk}
-use Rattle.routes.specs.Rows.{changed}
+use Rattle.routes.specs.Rows.{row_changed}
 use Rattle.core_steps.specs.declared.event.Event.{Event}
 use Rattle.core_steps.specs.declared.job.Job.{Job}
 use Rattle.core_steps.specs.Happening.{Happening, RecordedCall, Worked, world_after, worker_after, workers_by, no_worker, desks_by}
@@ -33,11 +33,11 @@ runs_join w (e ∷ first) second (h ∷ past) next r s = (r.0, runs_join (world_
 -- ---- folds
 
 pub rows_by_history : (w : WorldState) (history : List Happening)
-    → (worlds_after w history).rows ≡ fold changed w.rows (flat_map (λ (h : Happening). h.changes) history)
+    → (worlds_after w history).rows ≡ fold row_changed w.rows (flat_map (λ (h : Happening). h.changes) history)
 rows_by_history w [] = refl
 rows_by_history w (h ∷ history) =
     rows_by_history (world_after w h) history
-    ∙ sym (fold-append changed w.rows h.changes (flat_map (λ (h : Happening). h.changes) history))
+    ∙ sym (fold-append row_changed w.rows h.changes (flat_map (λ (h : Happening). h.changes) history))
 
 room_after-append : (r : RoomState) (xs ys : List RoomCall) → room_after r (xs ++ ys) ≡ room_after (room_after r xs) ys
 room_after-append r [] ys = refl

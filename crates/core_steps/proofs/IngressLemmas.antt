@@ -13,10 +13,10 @@ use Rattle.members.specs.Presence.{source_at}
 use Rattle.members.specs.Reception.{Block}
 use Rattle.members.specs.Calls.{MakeBlock}
 use Rattle.members.specs.Room.{RoomState, reception_at, after_block}
-use Rattle.members.specs.Stream.{IsAnswer}
+use Rattle.members.specs.Stream.{IsBlockAnswer}
 use Rattle.rate_desk.specs.declared.call.Call.{Call as DeskCall}
 use Rattle.rate_desk.specs.State.{DeskState}
-use Rattle.routes.specs.Rows.{changes_by, changed}
+use Rattle.routes.specs.Rows.{changes_by, row_changed}
 use Rattle.core_steps.specs.declared.job.Job.{Job}
 use Rattle.core_steps.specs.declared.output.Out.{Out}
 use Rattle.core_steps.specs.declared.output.Out.TheVariants.{Send, Idle, Lost}
@@ -27,7 +27,7 @@ use Rattle.core_steps.specs.Asking.{desks_after, pending_after, refusals_after, 
 use Rattle.core_steps.specs.Duties.{Reports}
 use Rattle.core_steps.specs.Head.{upstream_report}
 use Rattle.core_steps.specs.World.{WorldState, WorkerState, Task, order, push, report, Pending}
-use Rattle.core_steps.specs.Happening.{RecordedCall, no_worker, giving, counted, world_after, workers_by}
+use Rattle.core_steps.specs.Happening.{RecordedCall, no_worker, giving, capped_count, world_after, workers_by}
 use Rattle.core_steps.specs.Pushing.{Pushed}
 use Rattle.core_steps.specs.Rule.{Replies, IngressAsks, AsksDesk, OrderAsks, DoesTask, DoesNext, IsReporting, done_task, ingress_asked, pushing, putting, pending_datagrams}
 use Rattle.core_steps.specs.Run.{Leaves}
@@ -50,17 +50,17 @@ with_parts w room tasks pending desks rows workers lost tmmbns = record {
 -- what doing a task leaves, as the happening says it, is what the code leaves
 settled : (w : WorldState) (room : RoomState) (tasks : List Task) (pending : Option Pending) (desks : List DeskState) (rows : List Row)
     (workers : List WorkerState) (lost more : ℕ)
-    → tasks ≡ drop 1 w.tasks → lost ≡ counted w.lost more → w.tmmbns < 2 ^ 64
+    → tasks ≡ drop 1 w.tasks → lost ≡ capped_count w.lost more → w.tmmbns < 2 ^ 64
     → with_parts w room tasks pending desks rows workers lost w.tmmbns
-    ≡ with_parts w room (drop 1 w.tasks ++ []) pending desks rows workers (counted w.lost more) (counted w.tmmbns 0)
+    ≡ with_parts w room (drop 1 w.tasks ++ []) pending desks rows workers (capped_count w.lost more) (capped_count w.tmmbns 0)
 settled w room tasks pending desks rows workers lost more is count fits =
-    let same : w.tmmbns ≡ counted w.tmmbns 0 = omega arith in
+    let same : w.tmmbns ≡ capped_count w.tmmbns 0 = omega arith in
     let left : tasks ≡ drop 1 w.tasks ++ [] = is ∙ sym (append-nil (drop 1 w.tasks)) in
     ap (λ (ts : List Task). with_parts w room ts pending desks rows workers lost w.tmmbns) left
     ∙ (ap (λ (n : ℕ). with_parts w room (drop 1 w.tasks ++ []) pending desks rows workers n w.tmmbns) count
-    ∙ ap (λ (n : ℕ). with_parts w room (drop 1 w.tasks ++ []) pending desks rows workers (counted w.lost more) n) same)
+    ∙ ap (λ (n : ℕ). with_parts w room (drop 1 w.tasks ++ []) pending desks rows workers (capped_count w.lost more) n) same)
 
-counted-none : (n : ℕ) → n < 2 ^ 64 → n ≡ counted n 0
+counted-none : (n : ℕ) → n < 2 ^ 64 → n ≡ capped_count n 0
 counted-none n fits = omega arith
 
 -- ---- a desk
@@ -148,7 +148,7 @@ does_none w tasks outs all lost tmmbns is given =
     let same : w ≡ world_after w (giving w (Idle ∷ [])) =
     ap (λ (ts : List Task). with_parts w w.room ts w.pending w.desks w.rows w.workers w.lost w.tmmbns) (sym (append-nil w.tasks))
     ∙ (ap (λ (n : ℕ). with_parts w w.room (w.tasks ++ []) w.pending w.desks w.rows w.workers n w.tmmbns) (counted-none w.lost lost)
-    ∙ ap (λ (n : ℕ). with_parts w w.room (w.tasks ++ []) w.pending w.desks w.rows w.workers (counted w.lost 0) n) (counted-none w.tmmbns tmmbns)) in
+    ∙ ap (λ (n : ℕ). with_parts w w.room (w.tasks ++ []) w.pending w.desks w.rows w.workers (capped_count w.lost 0) n) (counted-none w.tmmbns tmmbns)) in
     let idles : Leaves (DoesNext w None []) w outs w all =
     record { happening = giving w (Idle ∷ []); allowed = refl; leads = same; given = given } in
     subst P (sym is) idles
@@ -175,19 +175,19 @@ told w p outs all lost tmmbns given = record {
   leads =
       ap (λ (ts : List Task). with_parts w w.room ts None w.desks w.rows w.workers w.lost w.tmmbns) (sym (append-nil w.tasks))
       ∙ (ap (λ (n : ℕ). with_parts w w.room (w.tasks ++ []) None w.desks w.rows w.workers n w.tmmbns) (counted-none w.lost lost)
-      ∙ ap (λ (n : ℕ). with_parts w w.room (w.tasks ++ []) None w.desks w.rows w.workers (counted w.lost 0) n) (counted-none w.tmmbns tmmbns));
+      ∙ ap (λ (n : ℕ). with_parts w w.room (w.tasks ++ []) None w.desks w.rows w.workers (capped_count w.lost 0) n) (counted-none w.tmmbns tmmbns));
   given = given;
 }
 
 -- ---- a row
 
 row_put_if : (rows : List Row) (leg : ℕ) (row : Row) (there : Bool) → nat_lt leg (length rows) ≡ there
-    → slice_set rows leg row ≡ fold changed rows (if there then record { leg = leg; row = row } ∷ [] else [])
+    → slice_set rows leg row ≡ fold row_changed rows (if there then record { leg = leg; row = row } ∷ [] else [])
 row_put_if rows leg row true is = refl
 row_put_if rows leg row false is = set_past rows leg row (ltb-false leg (length rows) is)
 
 row_put : (rows : List Row) (leg stay turn : ℕ) (on : Bool)
-    → slice_set rows leg (record { stay = stay; turn = turn; on = on }) ≡ fold changed rows (changes_by (length rows) (Route leg stay turn on))
+    → slice_set rows leg (record { stay = stay; turn = turn; on = on }) ≡ fold row_changed rows (changes_by (length rows) (Route leg stay turn on))
 row_put rows leg stay turn on =
     row_put_if rows leg (record { stay = stay; turn = turn; on = on }) (nat_lt leg (length rows)) refl
 
@@ -196,7 +196,7 @@ pub routed : (w : WorldState) (leg stay turn : ℕ) (on : Bool) (tasks : List Ta
     → rows ≡ slice_set w.rows leg (record { stay = stay; turn = turn; on = on })
     → Leaves (DoesTask w (order (Route leg stay turn on))) w outs (with_parts w w.room tasks w.pending w.desks rows w.workers w.lost w.tmmbns) outs
 routed w leg stay turn on tasks rows outs lost tmmbns is put =
-    let after = fold changed w.rows (changes_by (length w.rows) (Route leg stay turn on)) in
+    let after = fold row_changed w.rows (changes_by (length w.rows) (Route leg stay turn on)) in
     record {
       happening = record (done_task w (order (Route leg stay turn on)) []) { changes = changes_by (length w.rows) (Route leg stay turn on) };
       allowed = refl;
@@ -209,7 +209,7 @@ routed w leg stay turn on tasks rows outs lost tmmbns is put =
 
 -- what is left where the job was given up, or not
 abbrev pub lost_after : Bool → ℕ → ℕ
-lost_after lost n = if lost then counted n 1 else n
+lost_after lost n = if lost then capped_count n 1 else n
 
 abbrev pub lost_outs : Bool → ℕ → List Out
 lost_outs lost k = if lost then Lost k ∷ [] else []
@@ -227,7 +227,7 @@ pushed_some : (w : WorldState) (k : ℕ) (job : Job) (s : WorkerState) (full : B
 pushed_some w k job s true tasks outs lost tmmbns is = record {
   happening = record (done_task w (push k job) (Lost k ∷ [])) { given_up = record { worker = k; job = job } ∷ [] };
   allowed = refl;
-  leads = settled w w.room tasks w.pending w.desks w.rows w.workers (counted w.lost 1) 1 is refl tmmbns;
+  leads = settled w w.room tasks w.pending w.desks w.rows w.workers (capped_count w.lost 1) 1 is refl tmmbns;
   given = refl;
 }
 pushed_some w k job s false tasks outs lost tmmbns is = record {
@@ -261,11 +261,11 @@ pushed_to w k job (Some s) full tasks workers outs lost tmmbns is pushed =
 -- a job that was given up
 pub job_lost : (w : WorldState) (k : ℕ) (job : Job) (tasks : List Task) (workers : List WorkerState) (lost : ℕ) (outs all : List Out)
     → w.lost < 2 ^ 64 → w.tmmbns < 2 ^ 64 → tasks ≡ drop 1 w.tasks
-    → Pushed k job w.workers (slice_get w.workers k) true workers → lost ≡ counted w.lost 1 → all ≡ outs ++ Lost k ∷ []
+    → Pushed k job w.workers (slice_get w.workers k) true workers → lost ≡ capped_count w.lost 1 → all ≡ outs ++ Lost k ∷ []
     → Leaves (λ h. h ≡ pushing w k job (slice_get w.workers k)) w outs (with_job w tasks workers lost) all
 job_lost w k job tasks workers lost outs all fits tmmbns is pushed count given =
     let N : ℕ → Type 0 = λ n. Leaves (λ h. h ≡ pushing w k job (slice_get w.workers k)) w outs (with_job w tasks workers n) all in
-    let O : List Out → Type 0 = λ x. Leaves (λ h. h ≡ pushing w k job (slice_get w.workers k)) w outs (with_job w tasks workers (counted w.lost 1)) x in
+    let O : List Out → Type 0 = λ x. Leaves (λ h. h ≡ pushing w k job (slice_get w.workers k)) w outs (with_job w tasks workers (capped_count w.lost 1)) x in
     subst N (sym count) (subst O (sym given) (pushed_to w k job (slice_get w.workers k) true tasks workers outs fits tmmbns is pushed))
 
 -- a job that wasn't
@@ -328,7 +328,7 @@ pushed_nowhere workers k at job same past =
 
 pub reported : (w : WorldState) (p : ℕ) (block : Option Block) (room : RoomState) (tasks : List Task) (outs all : List Out)
     → w.lost < 2 ^ 64 → w.tmmbns < 2 ^ 64 → tasks ≡ drop 1 w.tasks
-    → IsAnswer (reception_at w.room p) w.room.moment (source_at w.room.endpoints p) block
+    → IsBlockAnswer (reception_at w.room p) w.room.moment (source_at w.room.endpoints p) block
     → room ≡ after_block w.room p → all ≡ outs ++ upstream_report w.setup.unit p block
     → Leaves (IsReporting w p) w outs (with_parts w room tasks w.pending w.desks w.rows w.workers w.lost w.tmmbns) all
 reported w p block room tasks outs all lost tmmbns is answer becomes given = record {

@@ -6,19 +6,19 @@ use Rattle.std.specs.Option.{option_or}
 use Rattle.std.proofs.lemmas.Bool.{cond-false, eq-eqb}
 use Rattle.std.proofs.lemmas.List.Folds.{list_any-append}
 use Rattle.std.proofs.lemmas.List.{append-nil, length-append}
-use Rattle.rtcp_compound.specs.Content.{Content, shown}
-use Rattle.rtcp_compound.specs.Grammar.{Packet, packet_bytes, ReadsRtcp}
+use Rattle.rtcp_compound.specs.Content.{Content, packet_content}
+use Rattle.rtcp_compound.specs.Grammar.{RtcpPacket, packet_bytes, ReadsRtcp}
 use Rattle.rtcp_feedback.specs.declared.fault.FbFault.{FbFault}
 use Rattle.core_steps.specs.declared.intake.Ask.{Ask}
 use Rattle.core_steps.specs.declared.intake.Survey.{Survey}
 use Rattle.core_steps.specs.declared.intake.Heard.{Heard}
 use Rattle.core_steps.specs.declared.intake.Heard.TheVariants.{Control}
 use Rattle.core_steps.specs.Heard.{IsSurveyOf, heard_of}
-use Rattle.core_steps.specs.Intake.{Gist, PacketSays, PacketsSay, control, joined, leaves, nothing, said_by, speaker_of}
+use Rattle.core_steps.specs.Intake.{Gist, PacketSays, PacketsSay, control, joint_gist, leaves, empty_gist, said_by, speaker_of}
 
 -- ---- gists
 
-pub joined_nothing : (a : Gist) → joined a nothing ≡ a
+pub joined_nothing : (a : Gist) → joint_gist a empty_gist ≡ a
 joined_nothing a = λ i. record {
   senders = append-nil a.senders i;
   goodbyes = append-nil a.goodbyes i;
@@ -27,7 +27,7 @@ joined_nothing a = λ i. record {
   asks = append-nil a.asks i;
 }
 
-pub nothing_joined : (a : Gist) → joined nothing a ≡ a
+pub nothing_joined : (a : Gist) → joint_gist empty_gist a ≡ a
 nothing_joined a = λ i. record {
   senders = a.senders;
   goodbyes = a.goodbyes;
@@ -36,7 +36,7 @@ nothing_joined a = λ i. record {
   asks = a.asks;
 }
 
-pub joined_assoc : (a b c : Gist) → joined a (joined b c) ≡ joined (joined a b) c
+pub joined_assoc : (a b c : Gist) → joint_gist a (joint_gist b c) ≡ joint_gist (joint_gist a b) c
 joined_assoc a b c = λ i. record {
   senders = sym (append_assoc a.senders b.senders c.senders) i;
   goodbyes = sym (append_assoc a.goodbyes b.goodbyes c.goodbyes) i;
@@ -47,14 +47,14 @@ joined_assoc a b c = λ i. record {
 
 -- what is said behind this gist, with it
 abbrev pub behind : Gist → Result Gist FbFault → Result Gist FbFault
-behind a (Ok b) = Ok (joined a b)
+behind a (Ok b) = Ok (joint_gist a b)
 behind a (Err fault) = Err fault
 
-pub behind_nothing : (said : Result Gist FbFault) → behind nothing said ≡ said
+pub behind_nothing : (said : Result Gist FbFault) → behind empty_gist said ≡ said
 behind_nothing (Ok b) = ap Ok (nothing_joined b)
 behind_nothing (Err fault) = refl
 
-pub behind_both : (a b : Gist) (said : Result Gist FbFault) → behind a (behind b said) ≡ behind (joined a b) said
+pub behind_both : (a b : Gist) (said : Result Gist FbFault) → behind a (behind b said) ≡ behind (joint_gist a b) said
 behind_both a b (Ok c) = ap Ok (joined_assoc a b c)
 behind_both a b (Err fault) = refl
 
@@ -105,7 +105,7 @@ pub kept_of_both : (own : ℕ) (x y z : Survey) (a b : Gist) → IsSurveyOf own 
     → z.control.speaker.0 ≡ cond (x.control.speaker.0 == own) y.control.speaker.0 x.control.speaker.0
     → z.control.report ≡ option_or y.control.report x.control.report
     → z.control.tmmbns ≡ x.control.tmmbns + y.control.tmmbns
-    → IsSurveyOf own z (joined a b)
+    → IsSurveyOf own z (joint_gist a b)
 kept_of_both own x y z a b sx sy goodbye asking speaker report tmmbns = record {
   goodbye = goodbye ∙ ap₂ (λ p q. p || q) sx.goodbye sy.goodbye ∙ sym (list_any-append (λ s. s == own) a.goodbyes b.goodbyes);
   asking = λ e.
@@ -143,12 +143,12 @@ grown_some old now new done some first rest all n m a more = (
 
 -- ---- the number of packets
 
-pub packets_fit : (ps : List Packet) → length (map shown ps) ≤ length (flat_map packet_bytes ps)
+pub packets_fit : (ps : List RtcpPacket) → length (map packet_content ps) ≤ length (flat_map packet_bytes ps)
 packets_fit [] = omega arith
 packets_fit (p ∷ ps) =
     let rest = packets_fit ps in
     let long = length-append (packet_bytes p) (flat_map packet_bytes ps) in
     omega arith
 
-pub count_fits : (datagram : List ℕ) (ps : List Packet) → ReadsRtcp datagram ps → length (map shown ps) ≤ length datagram
+pub count_fits : (datagram : List ℕ) (ps : List RtcpPacket) → ReadsRtcp datagram ps → length (map packet_content ps) ≤ length datagram
 count_fits datagram ps reads = let fit = packets_fit ps in let long = ap length reads.bytes_are in omega arith

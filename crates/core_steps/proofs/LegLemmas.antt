@@ -20,11 +20,11 @@ use Rattle.core_steps.specs.declared.job.Job.TheVariants as job
 use Rattle.core_steps.specs.declared.leg.LegState.{LegState}
 use Rattle.core_steps.specs.declared.plan.Planned.{Planned}
 use Rattle.core_steps.specs.declared.plan.Planned.TheVariants.{Forward, Resend, Report, Skip, Miss}
-use Rattle.core_steps.specs.Legs.{takes, stands, row_of, answer_on, report_bytes, owned_by, new_legs, new_state, forwarded, handed_out}
+use Rattle.core_steps.specs.Legs.{takes, stands, row_of, answer_on, leg_report_bytes, owned_by, new_legs, new_state, leg_after_packet, handed_out}
 use Rattle.core_steps.specs.Links.{LinkTable, IsLinkTable, numbered_legs, worker_of}
 use Rattle.core_steps.specs.Places.{Sources}
-use Rattle.core_steps.specs.Plan.{changed_at, applied_one, applied}
-use Rattle.core_steps.specs.Planning.{packet_planned, resends, leg_plan, job_plan, plan_by, plan_of, places_of, place_of, ListsPlaces, FindsPlaces, IsRising, AreFound, IsNowhere, IsStandingAt}
+use Rattle.core_steps.specs.Plan.{changed_at, applied_one, legs_after_plan}
+use Rattle.core_steps.specs.Planning.{packet_planned, resends, leg_plan, job_plan, plan_by, plan_of, publisher_places, leg_place, ListsPlaces, FindsPlaces, IsRising, AreFound, IsNowhere, IsStandingAt}
 use Rattle.core_steps.specs.Rtp.{is_rtp, sequence_number}
 use Rattle.core_steps.proofs.LinkLemmas.{at_push}
 use Rattle.core_steps.proofs.PlanLemmas.{at_behind}
@@ -117,7 +117,7 @@ standing_resend cname rows leg stay place nack legs s h =
 
 pub standing_report : (cname : List ℕ) (rows : List Row) (leg stay place : ℕ) (sr : Option (ℕ × ℕ)) (legs : List LegState) (s : LegState)
     → IsStandingAt rows leg stay legs place s
-    → job_plan cname rows legs (job.Report leg stay sr) ≡ Report s.link.subscriber (report_bytes cname s sr) ∷ []
+    → job_plan cname rows legs (job.Report leg stay sr) ≡ Report s.link.subscriber (leg_report_bytes cname s sr) ∷ []
 standing_report cname rows leg stay place sr legs s h =
     only cname rows (job.Report leg stay sr) s 0 place legs h.rising h.at
     (λ k t other. off _ _ _ (stands_only rows leg stay s t h.stands_here other))
@@ -162,7 +162,7 @@ place_step false n f on rtp x places behind here is more = more
 
 places_from : (cname : List ℕ) (rows : List Row) (publisher : ℕ) (bytes : List ℕ) (whole front : List LegState) (n : ℕ)
     (rest : List LegState) → n ≡ length front → whole ≡ front ++ rest → is_rtp bytes ≡ true
-    → flat_map (plan_of rows bytes whole) (places_of publisher (enumerate_from n rest))
+    → flat_map (plan_of rows bytes whole) (publisher_places publisher (enumerate_from n rest))
     ≡ flat_map (leg_plan cname rows (job.Packet publisher bytes)) (enumerate_from n rest)
 places_from cname rows publisher bytes whole front n [] e is rtp = refl
 places_from cname rows publisher bytes whole front n (s ∷ rest) e is rtp =
@@ -172,12 +172,12 @@ places_from cname rows publisher bytes whole front n (s ∷ rest) e is rtp =
     (omega (arith, length-append front (s ∷ []))) (is ∙ sym (append_assoc front (s ∷ []) rest)) rtp in
     place_step (s.link.publisher == publisher) n (plan_of rows bytes whole) (row_of rows s).on (is_rtp bytes)
     (packet_planned n s (row_of rows s).turn bytes (answer_on rows bytes s) ∷ [])
-    (places_of publisher (enumerate_from (n + 1) rest)) (flat_map (leg_plan cname rows (job.Packet publisher bytes)) (enumerate_from (n + 1) rest))
+    (publisher_places publisher (enumerate_from (n + 1) rest)) (flat_map (leg_plan cname rows (job.Packet publisher bytes)) (enumerate_from (n + 1) rest))
     here rtp more
 
 -- what the legs of a publisher do with a packet is all that is planned
 pub at_places : (cname : List ℕ) (rows : List Row) (publisher : ℕ) (bytes : List ℕ) (legs : List LegState) (places : List ℕ)
-    → places ≡ places_of publisher (enumerate_from 0 legs) → is_rtp bytes ≡ true
+    → places ≡ publisher_places publisher (enumerate_from 0 legs) → is_rtp bytes ≡ true
     → flat_map (plan_of rows bytes legs) places ≡ job_plan cname rows legs (job.Packet publisher bytes)
 at_places cname rows publisher bytes legs places is rtp =
     ap (flat_map (plan_of rows bytes legs)) is ∙ places_from cname rows publisher bytes legs [] 0 legs refl refl rtp
@@ -191,44 +191,44 @@ pub record HasNumberAt (number place : ℕ) (legs : List LegState) : Type 0 wher
   pub number_is : leg.number ≡ number
 
 number_from : (number place : ℕ) (whole front : List LegState) (n : ℕ) (rest : List LegState) → n ≡ length front → whole ≡ front ++ rest
-    → place_of number (enumerate_from n rest) ≡ Some place → HasNumberAt number place whole
+    → leg_place number (enumerate_from n rest) ≡ Some place → HasNumberAt number place whole
 number_from number place whole front n [] e is found = absurd (cc)
 number_from number place whole front n (s ∷ rest) e is found =
     ⊎_elim
     (λ h.
-    let first : place_of number (enumerate_from n (s ∷ rest)) ≡ Some n =
-    ap (λ (b : Bool). if b then Some n else place_of number (enumerate_from (n + 1) rest)) h.0 in
+    let first : leg_place number (enumerate_from n (s ∷ rest)) ≡ Some n =
+    ap (λ (b : Bool). if b then Some n else leg_place number (enumerate_from (n + 1) rest)) h.0 in
     let same : n ≡ place = cc in
     let at = at_behind whole front n s rest e is in
     record { leg = s; at = subst (λ (k : ℕ). slice_get whole k ≡ Some s) same at; number_is = h.1 })
     (λ h.
-    let later : place_of number (enumerate_from n (s ∷ rest)) ≡ place_of number (enumerate_from (n + 1) rest) =
-    ap (λ (b : Bool). if b then Some n else place_of number (enumerate_from (n + 1) rest)) h.0 in
+    let later : leg_place number (enumerate_from n (s ∷ rest)) ≡ leg_place number (enumerate_from (n + 1) rest) =
+    ap (λ (b : Bool). if b then Some n else leg_place number (enumerate_from (n + 1) rest)) h.0 in
     number_from number place whole (front ++ s ∷ []) (n + 1) rest (omega (arith, length-append front (s ∷ [])))
     (is ∙ sym (append_assoc front (s ∷ []) rest)) (sym later ∙ found))
     (eqb_tells s.number number)
 
-pub number_at : (number place : ℕ) (legs : List LegState) → place_of number (enumerate_from 0 legs) ≡ Some place
+pub number_at : (number place : ℕ) (legs : List LegState) → leg_place number (enumerate_from 0 legs) ≡ Some place
     → HasNumberAt number place legs
 number_at number place legs found = number_from number place legs [] 0 legs refl refl found
 
 -- where no place is found no leg has the number
-no_place : (number n : ℕ) (legs : List LegState) → place_of number (enumerate_from n legs) ≡ None → All (λ s. s.number ≢ number) legs
+no_place : (number n : ℕ) (legs : List LegState) → leg_place number (enumerate_from n legs) ≡ None → All (λ s. s.number ≢ number) legs
 no_place number n [] none = All-nil (λ s. s.number ≢ number)
 no_place number n (s ∷ legs) none =
     ⊎_elim
     (λ h. absurd (
-    let first : place_of number (enumerate_from n (s ∷ legs)) ≡ Some n =
-    ap (λ (b : Bool). if b then Some n else place_of number (enumerate_from (n + 1) legs)) h.0 in
+    let first : leg_place number (enumerate_from n (s ∷ legs)) ≡ Some n =
+    ap (λ (b : Bool). if b then Some n else leg_place number (enumerate_from (n + 1) legs)) h.0 in
     cc))
     (λ h.
-    let later : place_of number (enumerate_from n (s ∷ legs)) ≡ place_of number (enumerate_from (n + 1) legs) =
-    ap (λ (b : Bool). if b then Some n else place_of number (enumerate_from (n + 1) legs)) h.0 in
+    let later : leg_place number (enumerate_from n (s ∷ legs)) ≡ leg_place number (enumerate_from (n + 1) legs) =
+    ap (λ (b : Bool). if b then Some n else leg_place number (enumerate_from (n + 1) legs)) h.0 in
     All-cons (λ t. t.number ≢ number) s legs h.1 (no_place number (n + 1) legs (sym later ∙ none)))
     (eqb_tells s.number number)
 
 -- the stay stands nowhere where no leg has the number
-pub nowhere_without : (rows : List Row) (number stay : ℕ) (legs : List LegState) → place_of number (enumerate_from 0 legs) ≡ None
+pub nowhere_without : (rows : List Row) (number stay : ℕ) (legs : List LegState) → leg_place number (enumerate_from 0 legs) ≡ None
     → IsNowhere rows number stay legs
 nowhere_without rows number stay legs none = λ k d below.
     ap (λ (x : Bool). x && (not (stay == 0) && ((row_of rows (slice_index_or legs k d)).stay == stay)))
@@ -304,19 +304,19 @@ rising_changed (s ∷ legs) (suc i) change leaves h = (
 )
 
 places_changed : (publisher n : ℕ) (legs : List LegState) (i : ℕ) (change : LegState → LegState) → LeavesLink change
-    → places_of publisher (enumerate_from n (changed_at legs i change)) ≡ places_of publisher (enumerate_from n legs)
+    → publisher_places publisher (enumerate_from n (changed_at legs i change)) ≡ publisher_places publisher (enumerate_from n legs)
 places_changed publisher n [] i change leaves = refl
 places_changed publisher n (s ∷ legs) zero change leaves =
-    ap (λ (l : LegSettings). if (l.publisher == publisher) then n ∷ places_of publisher (enumerate_from (n + 1) legs)
-    else places_of publisher (enumerate_from (n + 1) legs)) (leaves.link s)
+    ap (λ (l : LegSettings). if (l.publisher == publisher) then n ∷ publisher_places publisher (enumerate_from (n + 1) legs)
+    else publisher_places publisher (enumerate_from (n + 1) legs)) (leaves.link s)
 places_changed publisher n (s ∷ legs) (suc i) change leaves =
     ap (λ (l : List ℕ). if (s.link.publisher == publisher) then n ∷ l else l) (places_changed publisher (n + 1) legs i change leaves)
 
 place_changed : (number n : ℕ) (legs : List LegState) (i : ℕ) (change : LegState → LegState) → LeavesLink change
-    → place_of number (enumerate_from n (changed_at legs i change)) ≡ place_of number (enumerate_from n legs)
+    → leg_place number (enumerate_from n (changed_at legs i change)) ≡ leg_place number (enumerate_from n legs)
 place_changed number n [] i change leaves = refl
 place_changed number n (s ∷ legs) zero change leaves =
-    ap (λ (k : ℕ). if (k == number) then Some n else place_of number (enumerate_from (n + 1) legs)) (leaves.number s)
+    ap (λ (k : ℕ). if (k == number) then Some n else leg_place number (enumerate_from (n + 1) legs)) (leaves.number s)
 place_changed number n (s ∷ legs) (suc i) change leaves =
     ap (λ (o : Option ℕ). if (s.number == number) then Some n else o) (place_changed number (n + 1) legs i change leaves)
 
@@ -336,7 +336,7 @@ found_changed lists places legs i change leaves h = record {
 found_one : (lists : List (Vec ℕ)) (places : Sources) (legs : List LegState) (p : Planned) → AreFound lists places legs
     → AreFound lists places (applied_one legs p)
 found_one lists places legs (Forward place endpoint numbers number octets bytes) h =
-    found_changed lists places legs place (λ s. forwarded s numbers number octets bytes)
+    found_changed lists places legs place (λ s. leg_after_packet s numbers number octets bytes)
     (record { number = λ s. refl; link = λ s. refl }) h
 found_one lists places legs (Resend place endpoint seq octets) h =
     found_changed lists places legs place (λ s. handed_out s octets) (record { number = λ s. refl; link = λ s. refl }) h
@@ -346,7 +346,7 @@ found_one lists places legs (Miss leg seq) h = h
 
 -- legs are found as before once a plan is done
 pub found_applied : (lists : List (Vec ℕ)) (places : Sources) (legs : List LegState) (plan : List Planned) → AreFound lists places legs
-    → AreFound lists places (applied legs plan)
+    → AreFound lists places (legs_after_plan legs plan)
 found_applied lists places legs [] h = h
 found_applied lists places legs (p ∷ plan) h = found_applied lists places (applied_one legs p) plan (found_one lists places legs p h)
 
@@ -403,10 +403,10 @@ found_new t ring worker count lists places legs table is among lists_places find
 -- ---- one leg more
 
 pub lists_one_place_more : (lists : List (Vec ℕ)) (v : Vec ℕ) (n : ℕ) (legs : List LegState) → ListsPlaces lists n legs
-    → v.items ≡ places_of n (enumerate_from 0 legs) → ListsPlaces (lists ++ v ∷ []) (n + 1) legs
+    → v.items ≡ publisher_places n (enumerate_from 0 legs) → ListsPlaces (lists ++ v ∷ []) (n + 1) legs
 lists_one_place_more lists v n legs before here =
     let size = before.size in
-    let P : ℕ → Vec ℕ → Type 0 = λ k w. w.items ≡ places_of k (enumerate_from 0 legs) in
+    let P : ℕ → Vec ℕ → Type 0 = λ k w. w.items ≡ publisher_places k (enumerate_from 0 legs) in
     record {
       size = omega (arith, length-append lists (v ∷ []));
       each = at_push lists v P before.each (rw size here);
@@ -469,7 +469,7 @@ not_negated true h = refl
 not_negated false h = absurd (cc)
 
 -- the leg that is found for a number has it
-pub found_number : (number place : ℕ) (legs : List LegState) (s : LegState) → place_of number (enumerate_from 0 legs) ≡ Some place
+pub found_number : (number place : ℕ) (legs : List LegState) (s : LegState) → leg_place number (enumerate_from 0 legs) ≡ Some place
     → slice_get legs place ≡ Some s → s.number ≡ number
 found_number number place legs s found at =
     let h = number_at number place legs found in
@@ -477,7 +477,7 @@ found_number number place legs s found at =
     let same : s ≡ h.leg = cc in
     ap (λ (t : LegState). t.number) same ∙ h.number_is
 
-pub found_within : (number place : ℕ) (legs : List LegState) → place_of number (enumerate_from 0 legs) ≡ Some place → place < length legs
+pub found_within : (number place : ℕ) (legs : List LegState) → leg_place number (enumerate_from 0 legs) ≡ Some place → place < length legs
 found_within number place legs found =
     let h = number_at number place legs found in
     slice_get_within legs place h.leg h.at

@@ -12,7 +12,7 @@ use Rattle.std.specs.HashMap.{get}
 use Rattle.members.specs.declared.settings.LegSettings.{LegSettings}
 use Rattle.members.specs.Settings.{IsLegAmong}
 use Rattle.std.specs.Global.{Vec}
-use Rattle.core_steps.specs.Links.{numbers_of, first_to}
+use Rattle.core_steps.specs.Links.{leg_numbers_of, first_to}
 use Rattle.core_steps.specs.Places.{Sources, ListsLegs, FindsLegs}
 
 -- a list to which one element is put behind has at each place what it had, or that element
@@ -35,7 +35,7 @@ at_push {X} xs x P before here k v is =
 
 -- no leg is of a publisher that isn't there
 pub numbers_past : (n publisher first : ℕ) (legs : List LegSettings) → All (IsLegAmong n) legs → n ≤ publisher
-    → numbers_of publisher (enumerate_from first legs) ≡ []
+    → leg_numbers_of publisher (enumerate_from first legs) ≡ []
 numbers_past n publisher first [] h past = refl
 numbers_past n publisher first (l ∷ ls) h past =
     let bound = (All-head (IsLegAmong n) l ls h).publisher in
@@ -53,11 +53,11 @@ first_past n subscriber source first (l ∷ ls) h past =
 
 -- the numbers from one leg on
 pub numbers_step : (publisher i : ℕ) (legs : List LegSettings) (d : LegSettings) → i < length legs
-    → numbers_of publisher (enumerate_from i (drop i legs))
+    → leg_numbers_of publisher (enumerate_from i (drop i legs))
     ≡ (if (get_or legs i d).publisher == publisher
-    then i ∷ numbers_of publisher (enumerate_from (i + 1) (drop (i + 1) legs))
-    else numbers_of publisher (enumerate_from (i + 1) (drop (i + 1) legs)))
-numbers_step publisher i legs d h = at_drop_more (λ (ls : List LegSettings). numbers_of publisher (enumerate_from i ls)) legs i d h
+    then i ∷ leg_numbers_of publisher (enumerate_from (i + 1) (drop (i + 1) legs))
+    else leg_numbers_of publisher (enumerate_from (i + 1) (drop (i + 1) legs)))
+numbers_step publisher i legs d h = at_drop_more (λ (ls : List LegSettings). leg_numbers_of publisher (enumerate_from i ls)) legs i d h
 
 -- the first leg from one leg on
 pub first_step : (subscriber source i : ℕ) (legs : List LegSettings) (d : LegSettings) → i < length legs
@@ -67,10 +67,10 @@ pub first_step : (subscriber source i : ℕ) (legs : List LegSettings) (d : LegS
 first_step subscriber source i legs d h = at_drop_more (λ (ls : List LegSettings). first_to subscriber source (enumerate_from i ls)) legs i d h
 
 pub lists_one_more : (lists : List (Vec ℕ)) (v : Vec ℕ) (n : ℕ) (legs : List LegSettings) → ListsLegs lists n legs
-    → v.items ≡ numbers_of n (enumerate_from 0 legs) → ListsLegs (lists ++ v ∷ []) (n + 1) legs
+    → v.items ≡ leg_numbers_of n (enumerate_from 0 legs) → ListsLegs (lists ++ v ∷ []) (n + 1) legs
 lists_one_more lists v n legs before here =
     let size = before.size in
-    let P : ℕ → Vec ℕ → Type 0 = λ k w. w.items ≡ numbers_of k (enumerate_from 0 legs) in
+    let P : ℕ → Vec ℕ → Type 0 = λ k w. w.items ≡ leg_numbers_of k (enumerate_from 0 legs) in
     record {
       size = omega (arith, length-append lists (v ∷ []));
       each = at_push lists v P before.each (rw size here);

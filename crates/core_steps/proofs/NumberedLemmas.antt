@@ -12,7 +12,7 @@ use Rattle.circular_buffer.specs.Buffer.{keep_last}
 use Rattle.members.specs.declared.order.Row.{Row}
 use Rattle.members.specs.declared.settings.LegSettings.{LegSettings}
 use Rattle.members.specs.Settings.{Configuration}
-use Rattle.resend_ring.specs.Kept.{Kept, Packet as Sent, kept_in_turn, last_kept_with}
+use Rattle.resend_ring.specs.Kept.{Kept, SentPacket as Sent, kept_in_turn, last_kept_with}
 use Rattle.resend_ring.proofs.KeptLemmas.{kept_from_none}
 use Rattle.rewrite.specs.declared.skip.Skip.{Skip as Cause}
 use Rattle.rewrite.specs.Leg.{Held, new_leg, held_with, held_after}
@@ -24,7 +24,7 @@ use Rattle.core_steps.specs.declared.leg.LegState.{LegState}
 use Rattle.core_steps.specs.Happening.{Happening, Worked, no_worker, worker_after, workers_by, world_after}
 use Rattle.core_steps.specs.Legs.{new_state, owned_by, new_legs, takes, row_of, stands, answer_on, packet_after, resent, leg_after, legs_after}
 use Rattle.core_steps.specs.Links.{LinkTable, table_of, numbered_legs, worker_of}
-use Rattle.core_steps.specs.Numbered.{Finished, finished_by, jobs_of_worker, finished_at, finished_over, Taken, taken_by, taken_on, incoming, sent_as, sent_on, AtLeg, HasTaken, HasTakenAll, legs_at}
+use Rattle.core_steps.specs.Numbered.{Finished, finished_by, jobs_of_worker, finished_at, finished_over, Taken, packets_taken_by, taken_on, incoming_packet, sent_as, sent_on, AtLeg, HasTaken, HasTakenAll, legs_at}
 use Rattle.core_steps.specs.Opening.{IsNewWorld}
 use Rattle.core_steps.specs.Rtp.{sequence_number}
 use Rattle.core_steps.specs.Run.{Runs, worlds_after}
@@ -92,7 +92,7 @@ record Goes (first : List Taken) (s now : LegState) : Type 0 where
   number : now.number ≡ s.number
   link : now.link ≡ s.link
   capacity : now.kept.capacity ≡ s.kept.capacity
-  numbers : (rest : List Taken) → held_after s.numbers (map incoming (first ++ rest)) ≡ held_after now.numbers (map incoming rest)
+  numbers : (rest : List Taken) → held_after s.numbers (map incoming_packet (first ++ rest)) ≡ held_after now.numbers (map incoming_packet rest)
   kept : (rest : List Taken) → kept_in_turn s.kept.capacity s.kept.items (sent_on s.link s.numbers (first ++ rest))
       ≡ kept_in_turn s.kept.capacity now.kept.items (sent_on s.link now.numbers rest)
 
@@ -102,7 +102,7 @@ goes_none s now n l h k = record {
   number = n;
   link = l;
   capacity = ap (λ (x : Kept). x.capacity) k;
-  numbers = λ rest. ap (λ (x : Held). held_after x (map incoming rest)) (sym h);
+  numbers = λ rest. ap (λ (x : Held). held_after x (map incoming_packet rest)) (sym h);
   kept = λ rest. ap (λ (x : Held). kept_in_turn s.kept.capacity s.kept.items (sent_on s.link x rest)) (sym h)
       ∙ ap (λ (x : Kept). kept_in_turn s.kept.capacity x.items (sent_on s.link now.numbers rest)) (sym k);
 }
@@ -118,7 +118,7 @@ goes_packet rows bytes s (Ok number) e =
       number = refl;
       link = refl;
       capacity = refl;
-      numbers = λ rest. ap (λ (x : Result ℕ Cause). held_after (held_with s.numbers turn seq x) (map incoming rest)) e;
+      numbers = λ rest. ap (λ (x : Result ℕ Cause). held_after (held_with s.numbers turn seq x) (map incoming_packet rest)) e;
       kept = λ rest. ap (λ (x : Result ℕ Cause). kept_in_turn s.kept.capacity s.kept.items (sent_as s.link t x ++ sent_on s.link (held_with s.numbers turn seq x) rest)) e;
     }
 goes_packet rows bytes s (Err cause) e =
@@ -129,7 +129,7 @@ goes_packet rows bytes s (Err cause) e =
       number = refl;
       link = refl;
       capacity = refl;
-      numbers = λ rest. ap (λ (x : Result ℕ Cause). held_after (held_with s.numbers turn seq x) (map incoming rest)) e;
+      numbers = λ rest. ap (λ (x : Result ℕ Cause). held_after (held_with s.numbers turn seq x) (map incoming_packet rest)) e;
       kept = λ rest. ap (λ (x : Result ℕ Cause). kept_in_turn s.kept.capacity s.kept.items (sent_as s.link t x ++ sent_on s.link (held_with s.numbers turn seq x) rest)) e;
     }
 
@@ -157,7 +157,7 @@ resend_if : (s : LegState) (seqs : List ℕ) (b : Bool)
 resend_if s seqs true = resent_all s s seqs refl refl refl refl
 resend_if s seqs false = goes_none s s refl refl refl refl
 
-goes : (rows : List Row) (job : Job) (s : LegState) → Goes (taken_by s.number s.link rows job) s (leg_after rows job s)
+goes : (rows : List Row) (job : Job) (s : LegState) → Goes (packets_taken_by s.number s.link rows job) s (leg_after rows job s)
 goes rows (Packet publisher bytes) s = goes_if rows bytes s (takes rows publisher bytes s)
 goes rows (Resend leg stay nack) s = resend_if s (lost_numbers nack) (stands rows leg stay s)
 goes rows (Report leg stay sr) s = goes_none s s refl refl refl refl
@@ -188,7 +188,7 @@ taken_all (j ∷ jobs) s =
     let g = goes j.rows j.job s in
     let rest : taken_on now.number now.link jobs ≡ taken_on s.number s.link jobs =
     ap (λ (n : ℕ). taken_on n now.link jobs) g.number ∙ ap (λ (l : LegSettings). taken_on s.number l jobs) g.link in
-    taken_more (taken_by s.number s.link j.rows j.job) (taken_on s.number s.link jobs) s now (fold leg_by now jobs) g
+    taken_more (packets_taken_by s.number s.link j.rows j.job) (taken_on s.number s.link jobs) s now (fold leg_by now jobs) g
     (subst (λ (ts : List Taken). HasTaken ts now (fold leg_by now jobs)) rest (taken_all jobs now))
 
 pub legs_by_history : (w : WorldState) (events : List Event) (history : List Happening) → Runs w events history
@@ -228,7 +228,7 @@ taken_from_new : (ring : ℕ) (taken : List Taken) (s now : LegState) → IsNewL
 taken_from_new ring taken s now new h = record {
   same_number = h.number;
   link = h.link;
-  numbers = h.numbers ∙ ap (λ (x : Held). held_after x (map incoming taken)) new.numbers;
+  numbers = h.numbers ∙ ap (λ (x : Held). held_after x (map incoming_packet taken)) new.numbers;
   kept = h.kept
       ∙ ap (λ (c : ℕ). kept_in_turn c s.kept.items (sent_on s.link s.numbers taken)) new.capacity
       ∙ ap (λ (items : List Sent). kept_in_turn ring items (sent_on s.link s.numbers taken)) new.kept

@@ -2,11 +2,11 @@
 use Rattle.std.proofs.Common.{◌≡◌, ◌∙◌, ℕ, ◌+◌, ◌<◌, ◌≤◌, ◌⊎◌, inl, inr, List, [], ◌∷◌, ◌++◌, length, map, get_or, Result, Ok, Err, refl, sym, ap, ap₂, subst, arith}
 use Rattle.std.proofs.lemmas.Bool.{cases_lt}
 use Rattle.rtp_packet.specs.declared.fault.RtpFault.{RtpFault}
-use Rattle.rtp_packet.specs.Fault.{HasFault}
-use Rattle.rtp_packet.specs.Grammar.{Packet as RtpPacket}
+use Rattle.rtp_packet.specs.Fault.{HasRtpFault}
+use Rattle.rtp_packet.specs.Grammar.{RtpPacket}
 use Rattle.rtp_packet.proofs.PacketLemmas.{exact_fault, no_fault, one_packet}
-use Rattle.rtcp_compound.specs.Content.{Content, shown, sender_report, receiver_report, description, goodbye, feedback, other}
-use Rattle.rtcp_compound.specs.Grammar.{Packet}
+use Rattle.rtcp_compound.specs.Content.{Content, packet_content, sender_report, receiver_report, description, goodbye, feedback, other}
+use Rattle.rtcp_compound.specs.Grammar.{RtcpPacket}
 use Rattle.rtcp_compound.proofs.DatagramLemmas.{reads_only, refuses_none, refuses_one}
 use Rattle.rtcp_feedback.specs.declared.fault.FbFault.{FbFault}
 use Rattle.rtcp_feedback.specs.declared.fault.FbFault.TheVariants.{Short, OddFci}
@@ -17,7 +17,7 @@ use Rattle.rtcp_feedback.proofs.EntryLemmas.{length-entries, length-nacks}
 use Rattle.rtcp_feedback.proofs.MessageLemmas.{again, reads_long}
 use Rattle.core_steps.specs.declared.output.Refusal.{Refusal}
 use Rattle.core_steps.specs.declared.output.Refusal.TheVariants.{Rtp, Rtcp, Feedback, Room, Desk}
-use Rattle.core_steps.specs.Intake.{FeedbackSays, Gist, IsRtcp, JoinsPackets, PacketSays, PacketsSay, Said, Says, SaysRtcp, SaysRtp, gist_of, joined, media, said_by}
+use Rattle.core_steps.specs.Intake.{FeedbackSays, Gist, IsRtcp, JoinsPackets, PacketSays, PacketsSay, Said, Says, SaysRtcp, SaysRtp, gist_of, joint_gist, media, said_by}
 
 same_ok : {A E : Type 0} (x y : A) → ◌≡◌ {A = Result A E} (Ok x) (Ok y) → x ≡ y
 same_ok x y e = cc
@@ -73,7 +73,7 @@ packets_one [] a b x y = x ∙ sym y
 packets_one (c ∷ cs) (Ok g) (Ok h) (f, o, one, rest, is) (f', o', one', rest', is') =
     let first : f ≡ f' = same_ok {E = FbFault} f f' (packet_one c (Ok f) (Ok f') one one') in
     let others : o ≡ o' = same_ok {E = FbFault} o o' (packets_one cs (Ok o) (Ok o') rest rest') in
-    ap Ok (is ∙ ap₂ joined first others ∙ sym is')
+    ap Ok (is ∙ ap₂ joint_gist first others ∙ sym is')
 packets_one (c ∷ cs) (Ok g) (Err e) (f, o, one, rest, is) (inl fault) = absurd (apart f e (packet_one c (Ok f) (Err e) one fault))
 packets_one (c ∷ cs) (Ok g) (Err e) (f, o, one, rest, is) (inr (f', one', fault)) = absurd (apart o e (packets_one cs (Ok o) (Err e) rest fault))
 packets_one (c ∷ cs) (Err e) (Ok g) (inl fault) (f, o, one, rest, is) = absurd (apart f e (packet_one c (Ok f) (Err e) one fault))
@@ -88,8 +88,8 @@ packets_one (c ∷ cs) (Err e) (Err e') (inr (f, one, fault)) (inr (f', one', fa
 joins_one : (datagram : List ℕ) (a b : Result Gist FbFault) → JoinsPackets datagram a → JoinsPackets datagram b → a ≡ b
 joins_one datagram a b x y =
     let same : x.packets ≡ y.packets = sym (reads_only datagram x.packets x.joins) ∙ reads_only datagram y.packets y.joins in
-    let P : List Packet → Type 0 = λ ps. PacketsSay (map shown ps) a in
-    packets_one (map shown y.packets) a b (subst P same x.say) y.say
+    let P : List RtcpPacket → Type 0 = λ ps. PacketsSay (map packet_content ps) a in
+    packets_one (map packet_content y.packets) a b (subst P same x.say) y.say
 
 rtcp_one : (own : ℕ) (datagram : List ℕ) (a b : Result Said Refusal) → SaysRtcp own datagram a → SaysRtcp own datagram b → a ≡ b
 rtcp_one own datagram (Ok s) (Ok t) (g, joins, is) (h, joins', is') =

@@ -9,11 +9,11 @@ use Rattle.members.specs.declared.order.Order.TheVariants.{Arrive, Depart, Route
 use Rattle.members.specs.declared.presence.Endpoint.{Endpoint}
 use Rattle.members.specs.declared.stays.LegStay.{LegStay}
 use Rattle.members.specs.declared.stays.TheConstants.{MAX_STAY}
-use Rattle.members.specs.Calls.{Call, Hear, Bye, Tick, Select, Receive, Report, MakeBlock, step_of, room_of, orders_of, room_after, orders_after, arrivals, departure_of, departures, drawn_of, drawn, RunsFrom}
+use Rattle.members.specs.Calls.{Call, Hear, Bye, Tick, Select, Receive, Report, MakeBlock, step_of, room_of, orders_of, room_after, orders_after, arrivals, departure_of, departures, drawn_of, drawn_numbers, RunsFrom}
 use Rattle.members.specs.Presence.{is_overdue_at, is_present_at, source_at}
-use Rattle.members.specs.Room.{RoomState, Step, new_room, after_leaving, gone, leg_at, is_selected, takes_turn, row_order, switched}
+use Rattle.members.specs.Room.{RoomState, Step, new_room, after_leaving, after_bye, leg_at, is_selected, takes_turn, row_order, switched_leg}
 use Rattle.members.specs.Settings.{Configuration}
-use Rattle.members.specs.Stays.{Told, told, leave, left, leaving, is_of, ending, ending_of, endings, ended, begins_with, beginning, beginnings, coming_orders, coming_count}
+use Rattle.members.specs.Stays.{Told, without_orders, leave, after_overdue, leaving, is_of, ending, ending_of, endings, leg_without, begins_with, beginning, beginnings, coming_orders, coming_count}
 use Rattle.members.proofs.DrawnLemmas.{runs_law}
 use Rattle.members.proofs.EndedLemmas.{once_new, once_after, once_below}
 
@@ -93,7 +93,7 @@ by_places : (n : ℕ) (ls : List LegStay) → ((k : ℕ) → (leg_at ls k).stay 
 by_places n [] each = tt
 by_places n (l ∷ ls) each = (each zero, by_places n ls (λ k. each (suc k)))
 
-ended-below : (n e : ℕ) (ls : List LegStay) → 1 ≤ n → AllBelow n ls → AllBelow n (map (ended e) ls)
+ended-below : (n e : ℕ) (ls : List LegStay) → 1 ≤ n → AllBelow n ls → AllBelow n (map (leg_without e) ls)
 ended-below n e [] some low = tt
 ended-below n e (l ∷ ls) some low = (step (is_of e l), ended-below n e ls some low.1)
   where
@@ -129,17 +129,17 @@ if-below : (n : ℕ) (b : Bool) (t u : Told) → IsBelow n t → IsBelow n u →
 if-below n true t u first rest = first
 if-below n false t u first rest = rest
 
-left-below : (n timeout m : ℕ) (t : Told) (k : ℕ) → 1 ≤ n → IsBelow n t → IsBelow n (left timeout m t k)
+left-below : (n timeout m : ℕ) (t : Told) (k : ℕ) → 1 ≤ n → IsBelow n t → IsBelow n (after_overdue timeout m t k)
 left-below n timeout m t zero some b = b
 left-below n timeout m t (suc k) some b =
     let before = left-below n timeout m t k some b in
-    if-below n (is_overdue_at timeout m (left timeout m t k).endpoints k) _ _ (leave-below n (left timeout m t k) k some before) before
+    if-below n (is_overdue_at timeout m (after_overdue timeout m t k).endpoints k) _ _ (leave-below n (after_overdue timeout m t k) k some before) before
 
 leaving-below : (n : ℕ) (r : RoomState) (m : ℕ) → 1 ≤ n → AllBelow n r.legs → IsBelow n (after_leaving r m)
 unfolding leaving
-leaving-below n r m some low = left-below n r.timeout m (told r.endpoints r.legs) (length r.endpoints) some (record { legs = low; ends = tt })
+leaving-below n r m some low = left-below n r.timeout m (without_orders r.endpoints r.legs) (length r.endpoints) some (record { legs = low; ends = tt })
 
-gone-below : (n : ℕ) (t : Told) (e : ℕ) → 1 ≤ n → IsBelow n t → IsBelow n (gone t e)
+gone-below : (n : ℕ) (t : Told) (e : ℕ) → 1 ≤ n → IsBelow n t → IsBelow n (after_bye t e)
 gone-below n t e some b = if-below n (is_present_at t.endpoints e) _ _ (leave-below n t e some b) b
 
 beginnings-none : (begins : LegStay → Bool) (next k : ℕ) (ls : List LegStay) → departures (beginnings begins next k ls) ≡ []
@@ -194,8 +194,8 @@ ends_below n r (Select handed number on) some low =
     end_if n (nat_le (length r.legs) number) _ _ tt
     (end_if n (is_selected on (leg_at t.legs number)) _ _ before
     (end_if n (takes_turn on (leg_at t.legs number) && nat_le MAX_STAY r.next) _ _ tt
-    (more-below n t.orders (row_order number (switched on r.next (leg_at t.legs number))) before
-    (row-none number (switched on r.next (leg_at t.legs number))))))
+    (more-below n t.orders (row_order number (switched_leg on r.next (leg_at t.legs number))) before
+    (row-none number (switched_leg on r.next (leg_at t.legs number))))))
 ends_below n r (Receive e seq timestamp) some low = tt
 ends_below n r (Report e ntp rtp) some low = tt
 ends_below n r (MakeBlock e) some low = tt
@@ -226,13 +226,13 @@ runs_high : (a : ℕ) (xs : List ℕ) (b : ℕ) → RunsFrom a xs b → AreFrom 
 runs_high a [] b runs = tt
 runs_high a (x ∷ xs) b runs = (omega (arith, runs.0), from_later a (a + 1) xs (omega arith) (runs_high (a + 1) xs b runs.1))
 
-arrivals_high : (n : ℕ) (os : List Order) → AreFrom n (drawn os) → AreFrom n (arrivals os)
+arrivals_high : (n : ℕ) (os : List Order) → AreFrom n (drawn_numbers os) → AreFrom n (arrivals os)
 arrivals_high n [] high = tt
 arrivals_high n (Arrive leg stay ∷ os) high = (high.0, arrivals_high n os high.1)
 arrivals_high n (Depart leg stay ∷ os) high = arrivals_high n os high
 arrivals_high n (Route leg stay turn on ∷ os) high = step (on && not (turn == stay)) high (arrivals_high n os)
   where
-    step : (b : Bool) → AreFrom n ((cond b (turn ∷ []) []) ++ drawn os) → (AreFrom n (drawn os) → AreFrom n (arrivals os))
+    step : (b : Bool) → AreFrom n ((cond b (turn ∷ []) []) ++ drawn_numbers os) → (AreFrom n (drawn_numbers os) → AreFrom n (arrivals os))
         → AreFrom n (arrivals os)
     step true h rest = rest h.1
     step false h rest = rest h
@@ -244,11 +244,11 @@ begin_high c past calls =
     let os = orders_after (new_room c) past in
     let more = orders_after r calls in
     let last = (room_after (new_room c) (past ++ calls)).next in
-    let whole : RunsFrom 1 (drawn os ++ drawn more) last =
+    let whole : RunsFrom 1 (drawn_numbers os ++ drawn_numbers more) last =
     subst (λ (ns : List ℕ). RunsFrom 1 ns last)
-    (ap drawn (orders_after-append (new_room c) past calls) ∙ flat_map-append drawn_of os more)
+    (ap drawn_numbers (orders_after-append (new_room c) past calls) ∙ flat_map-append drawn_of os more)
     (runs_law c (past ++ calls)) in
-    arrivals_high r.next more (runs_high r.next (drawn more) last (runs_rest 1 (drawn os) (drawn more) r.next last (runs_law c past) whole))
+    arrivals_high r.next more (runs_high r.next (drawn_numbers more) last (runs_rest 1 (drawn_numbers os) (drawn_numbers more) r.next last (runs_law c past) whole))
 
 -- ---- every list of calls
 

@@ -17,8 +17,8 @@ use Rattle.core_steps.specs.declared.output.Out.{Out}
 use Rattle.core_steps.specs.declared.output.Out.TheVariants as out
 use Rattle.core_steps.specs.declared.plan.Planned.{Planned}
 use Rattle.core_steps.specs.declared.plan.Planned.TheVariants.{Report}
-use Rattle.core_steps.specs.Legs.{takes, stands, row_of, answer_on, report_bytes, packet_outs, packet_after, resend_outs, resent, leg_datagrams, leg_after, job_datagrams, legs_after, forwarded, handed_out}
-use Rattle.core_steps.specs.Plan.{kept_at, sent_out, out_of, outs_of, changed_at, applied_one, applied}
+use Rattle.core_steps.specs.Legs.{takes, stands, row_of, answer_on, leg_report_bytes, packet_outs, packet_after, resend_outs, resent, leg_datagrams, leg_after, job_datagrams, legs_after, leg_after_packet, handed_out}
+use Rattle.core_steps.specs.Plan.{kept_at, sent_out, out_of, plan_outs, changed_at, applied_one, legs_after_plan}
 use Rattle.core_steps.specs.Planning.{packet_planned, resend_planned, resends, leg_plan, job_plan}
 
 -- ---- a leg at a place
@@ -96,31 +96,31 @@ outs_here cname rows (job.Packet publisher bytes) whole n s at =
     packet_out whole n (row_of rows s).turn s bytes (answer_on rows bytes s) (takes rows publisher bytes s)
 outs_here cname rows (job.Resend leg stay nack) whole n s at = resend_out whole n s (lost_numbers nack) (stands rows leg stay s) at
 outs_here cname rows (job.Report leg stay sr) whole n s at =
-    report_out whole s.link.subscriber (report_bytes cname s sr) (stands rows leg stay s)
+    report_out whole s.link.subscriber (leg_report_bytes cname s sr) (stands rows leg stay s)
 outs_here cname rows (job.Request leg stay word) whole n s at = refl
 outs_here cname rows (job.Pli leg moment) whole n s at = refl
 
 outs_from : (cname : List ℕ) (rows : List Row) (work : Job) (whole front : List LegState) (n : ℕ) (rest : List LegState)
     → n ≡ length front → whole ≡ front ++ rest
-    → outs_of whole (flat_map (leg_plan cname rows work) (enumerate_from n rest)) ≡ flat_map (leg_datagrams cname rows work) rest
+    → plan_outs whole (flat_map (leg_plan cname rows work) (enumerate_from n rest)) ≡ flat_map (leg_datagrams cname rows work) rest
 outs_from cname rows work whole front n [] e is = refl
 outs_from cname rows work whole front n (s ∷ rest) e is =
     let here = outs_here cname rows work whole n s (at_behind whole front n s rest e is) in
     let more = outs_from cname rows work whole (front ++ s ∷ []) (n + 1) rest (count_before front s n e) (one_before whole front s rest is) in
     flat_map-append (out_of whole) (leg_plan cname rows work (n, s)) (flat_map (leg_plan cname rows work) (enumerate_from (n + 1) rest))
-    ∙ ap (λ (l : List Out). l ++ outs_of whole (flat_map (leg_plan cname rows work) (enumerate_from (n + 1) rest))) here
+    ∙ ap (λ (l : List Out). l ++ plan_outs whole (flat_map (leg_plan cname rows work) (enumerate_from (n + 1) rest))) here
     ∙ ap (λ (l : List Out). leg_datagrams cname rows work s ++ l) more
 
 -- the plan of a job gives out what the job does
 pub plan_gives : (cname : List ℕ) (rows : List Row) (legs : List LegState) (work : Job)
-    → outs_of legs (job_plan cname rows legs work) ≡ job_datagrams cname rows legs work
+    → plan_outs legs (job_plan cname rows legs work) ≡ job_datagrams cname rows legs work
 plan_gives cname rows legs work = outs_from cname rows work legs [] 0 legs refl refl
 
 -- ---- what the legs are then
 
 packet_applied : (rows : List Row) (front : List LegState) (n : ℕ) (s : LegState) (rest : List LegState) (bytes : List ℕ)
     (r : Result ℕ Cause) (b : Bool) → n ≡ length front
-    → applied (front ++ s ∷ rest) (if b then packet_planned n s (row_of rows s).turn bytes r ∷ [] else [])
+    → legs_after_plan (front ++ s ∷ rest) (if b then packet_planned n s (row_of rows s).turn bytes r ∷ [] else [])
     ≡ front ++ (if b then packet_after rows bytes s r else s) ∷ rest
 packet_applied rows front n s rest bytes (Ok number) true e = changed_behind front n s rest _ e
 packet_applied rows front n s rest bytes (Err cause) true e = refl
@@ -138,7 +138,7 @@ kept_same t (Some bytes) = refl
 
 resends_applied : (front : List LegState) (n : ℕ) (s t : LegState) (rest : List LegState) (numbers : List ℕ) → n ≡ length front
     → t.kept ≡ s.kept
-    → applied (front ++ t ∷ rest) (resends n s numbers)
+    → legs_after_plan (front ++ t ∷ rest) (resends n s numbers)
     ≡ front ++ fold (λ u seq. resent u (last_kept_with u.kept.items seq)) t numbers ∷ rest
 resends_applied front n s t rest [] e same = refl
 resends_applied front n s t rest (seq ∷ numbers) e same =
@@ -147,45 +147,45 @@ resends_applied front n s t rest (seq ∷ numbers) e same =
     again_applied front n seq s t rest r e in
     let found : r ≡ last_kept_with t.kept.items seq = ap (λ (k : Kept). last_kept_with k.items seq) (sym same) in
     let more = resends_applied front n s (resent t r) rest numbers e (kept_same t r ∙ same) in
-    ap (λ (l : List LegState). applied l (resends n s numbers)) here ∙ more
+    ap (λ (l : List LegState). legs_after_plan l (resends n s numbers)) here ∙ more
     ∙ ap (λ (o : Option (List ℕ)). front ++ fold (λ u q. resent u (last_kept_with u.kept.items q)) (resent t o) numbers ∷ rest) found
 
 resend_applied : (front : List LegState) (n : ℕ) (s : LegState) (rest : List LegState) (numbers : List ℕ) (b : Bool) → n ≡ length front
-    → applied (front ++ s ∷ rest) (if b then resends n s numbers else [])
+    → legs_after_plan (front ++ s ∷ rest) (if b then resends n s numbers else [])
     ≡ front ++ (if b then fold (λ u seq. resent u (last_kept_with u.kept.items seq)) s numbers else s) ∷ rest
 resend_applied front n s rest numbers true e = resends_applied front n s s rest numbers e refl
 resend_applied front n s rest numbers false e = refl
 
 report_applied : (legs : List LegState) (endpoint : ℕ) (bytes : List ℕ) (b : Bool)
-    → applied legs (if b then Report endpoint bytes ∷ [] else []) ≡ legs
+    → legs_after_plan legs (if b then Report endpoint bytes ∷ [] else []) ≡ legs
 report_applied legs endpoint bytes true = refl
 report_applied legs endpoint bytes false = refl
 
 applied_here : (cname : List ℕ) (rows : List Row) (work : Job) (front : List LegState) (n : ℕ) (s : LegState) (rest : List LegState)
     → n ≡ length front
-    → applied (front ++ s ∷ rest) (leg_plan cname rows work (n, s)) ≡ front ++ leg_after rows work s ∷ rest
+    → legs_after_plan (front ++ s ∷ rest) (leg_plan cname rows work (n, s)) ≡ front ++ leg_after rows work s ∷ rest
 applied_here cname rows (job.Packet publisher bytes) front n s rest e =
     packet_applied rows front n s rest bytes (answer_on rows bytes s) (takes rows publisher bytes s) e
 applied_here cname rows (job.Resend leg stay nack) front n s rest e =
     resend_applied front n s rest (lost_numbers nack) (stands rows leg stay s) e
 applied_here cname rows (job.Report leg stay sr) front n s rest e =
-    report_applied (front ++ s ∷ rest) s.link.subscriber (report_bytes cname s sr) (stands rows leg stay s)
+    report_applied (front ++ s ∷ rest) s.link.subscriber (leg_report_bytes cname s sr) (stands rows leg stay s)
 applied_here cname rows (job.Request leg stay word) front n s rest e = refl
 applied_here cname rows (job.Pli leg moment) front n s rest e = refl
 
 applied_from : (cname : List ℕ) (rows : List Row) (work : Job) (front : List LegState) (n : ℕ) (rest : List LegState) → n ≡ length front
-    → applied (front ++ rest) (flat_map (leg_plan cname rows work) (enumerate_from n rest)) ≡ front ++ map (leg_after rows work) rest
+    → legs_after_plan (front ++ rest) (flat_map (leg_plan cname rows work) (enumerate_from n rest)) ≡ front ++ map (leg_after rows work) rest
 applied_from cname rows work front n [] e = refl
 applied_from cname rows work front n (s ∷ rest) e =
     let behind = flat_map (leg_plan cname rows work) (enumerate_from (n + 1) rest) in
     let t = leg_after rows work s in
     let split = fold-append applied_one (front ++ s ∷ rest) (leg_plan cname rows work (n, s)) behind in
-    let here = ap (λ (l : List LegState). applied l behind) (applied_here cname rows work front n s rest e) in
-    let moved = ap (λ (l : List LegState). applied l behind) (sym (append_assoc front (t ∷ []) rest)) in
+    let here = ap (λ (l : List LegState). legs_after_plan l behind) (applied_here cname rows work front n s rest e) in
+    let moved = ap (λ (l : List LegState). legs_after_plan l behind) (sym (append_assoc front (t ∷ []) rest)) in
     let more = applied_from cname rows work (front ++ t ∷ []) (n + 1) rest (count_before front t n e) in
     split ∙ here ∙ moved ∙ more ∙ append_assoc front (t ∷ []) (map (leg_after rows work) rest)
 
 -- the plan of a job makes of the legs what the job makes of them
 pub plan_makes : (cname : List ℕ) (rows : List Row) (legs : List LegState) (work : Job)
-    → applied legs (job_plan cname rows legs work) ≡ legs_after rows legs work
+    → legs_after_plan legs (job_plan cname rows legs work) ≡ legs_after rows legs work
 plan_makes cname rows legs work = applied_from cname rows work [] 0 legs refl

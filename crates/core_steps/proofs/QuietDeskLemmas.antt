@@ -18,7 +18,7 @@ use Rattle.rate_desk.specs.Answer.{IsAnswerTo, IsAnswerOr}
 use Rattle.rate_desk.specs.Call.{HasStay, moment_after, is_done}
 use Rattle.rate_desk.specs.Presence.{unless_old, is_old, refusal_of}
 use Rattle.rate_desk.specs.Trace.{empty_base, base_with, base_after}
-use Rattle.rate_desk.specs.Places.{StandsAt, WasDone, IsArriveOf, IsRequestOf, IsDepartOf, IsExpire, greatest_until}
+use Rattle.rate_desk.specs.Places.{HasEntryAt, WasDone, IsArriveOf, IsRequestOf, IsDepartOf, IsExpire, greatest_until}
 use Rattle.rate_desk.specs.State.{DeskState, HoldsLegalDesk, Records, now_of}
 use Rattle.rate_desk.proofs.PlaceLemmas.{not_in_nil, at_head, head_is, at_tail, from_tail, within}
 use Rattle.rate_desk.proofs.SinceLemmas.{Known, known_in, asked_as, Was, Step, arrives, asks, departs, expires, rests, step_at}
@@ -141,16 +141,16 @@ module _ (d new : DeskState) (call : Call) (number : ℕ) (answer : Answer) (rec
 
 -- ---- places, and an entry more
 
-stands_more : (P : Entry → Type 0) (xs more : List Entry) (i : ℕ) → StandsAt P xs i → StandsAt P (xs ++ more) i
+stands_more : (P : Entry → Type 0) (xs more : List Entry) (i : ℕ) → HasEntryAt P xs i → HasEntryAt P (xs ++ more) i
 stands_more P [] more i s = absurd (not_in_nil P i s)
 stands_more P (x ∷ xs) more zero s = at_head P x (xs ++ more) (head_is P x xs s)
 stands_more P (x ∷ xs) more (suc i) s = at_tail P x (xs ++ more) i (stands_more P xs more i (from_tail P x xs i s))
 
-stands_last : (P : Entry → Type 0) (xs : List Entry) (e : Entry) → P e → StandsAt P (xs ++ e ∷ []) (length xs)
+stands_last : (P : Entry → Type 0) (xs : List Entry) (e : Entry) → P e → HasEntryAt P (xs ++ e ∷ []) (length xs)
 stands_last P [] e h = at_head P e [] h
 stands_last P (x ∷ xs) e h = at_tail P x (xs ++ e ∷ []) (length xs) (stands_last P xs e h)
 
-stands_split : (P : Entry → Type 0) (xs : List Entry) (e : Entry) (i : ℕ) → StandsAt P (xs ++ e ∷ []) i → StandsAt P xs i ⊎ P e
+stands_split : (P : Entry → Type 0) (xs : List Entry) (e : Entry) (i : ℕ) → HasEntryAt P (xs ++ e ∷ []) i → HasEntryAt P xs i ⊎ P e
 stands_split P [] e zero s = inr (head_is P e [] s)
 stands_split P [] e (suc i) s = absurd (not_in_nil P i (from_tail P e [] i s))
 stands_split P (x ∷ xs) e zero s = inl (at_head P x xs (head_is P x (xs ++ e ∷ []) s))
@@ -176,8 +176,8 @@ greatest_last ms base xs e =
 
 -- the owner's last request that was done is at this place
 pub record IsLastAsked (entries : List Entry) (owner : ℕ) (a : Asked) (place : ℕ) : Type 0 where
-  pub request : StandsAt (WasDone (IsRequestOf owner a.tuple)) entries place
-  pub last : (later : ℕ) (other : Tuple) → place < later → ¬ StandsAt (WasDone (IsRequestOf owner other)) entries later
+  pub request : HasEntryAt (WasDone (IsRequestOf owner a.tuple)) entries place
+  pub last : (later : ℕ) (other : Tuple) → place < later → ¬ HasEntryAt (WasDone (IsRequestOf owner other)) entries later
   pub stamp : a.stamp ≡ greatest_until empty_base entries place
 
 -- the owner asked for this word last: for none, or for the one that it asks for, or for one that an expire took
@@ -192,8 +192,8 @@ module _ (ms owner : ℕ) (entries : List Entry) (e : Entry) (none : (t : Tuple)
   abbrev shown : ℕ
   shown = moment_after (base_after ms empty_base entries).greatest e.call
 
-  still_last : (place : ℕ) → ((later : ℕ) (other : Tuple) → place < later → ¬ StandsAt (WasDone (IsRequestOf owner other)) entries later)
-      → (later : ℕ) (other : Tuple) → place < later → ¬ StandsAt (WasDone (IsRequestOf owner other)) (entries ++ e ∷ []) later
+  still_last : (place : ℕ) → ((later : ℕ) (other : Tuple) → place < later → ¬ HasEntryAt (WasDone (IsRequestOf owner other)) entries later)
+      → (later : ℕ) (other : Tuple) → place < later → ¬ HasEntryAt (WasDone (IsRequestOf owner other)) (entries ++ e ∷ []) later
   still_last place last later other behind s =
       elim (stands_split (WasDone (IsRequestOf owner other)) entries e later s) [
         | inl a ↦ last later other behind a

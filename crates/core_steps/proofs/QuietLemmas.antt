@@ -10,7 +10,7 @@ use Rattle.tmmbr_tuple.specs.declared.tuple.Tuple.{Tuple}
 use Rattle.tmmbr_tuple.specs.Tuple.{word_of}
 use Rattle.bounding_set.specs.Rows.{tuple_of}
 use Rattle.members.specs.declared.settings.LegSettings.{LegSettings}
-use Rattle.members.specs.Room.{RoomState, leg_at, unstarted, new_room}
+use Rattle.members.specs.Room.{RoomState, leg_at, idle_leg, new_room}
 use Rattle.members.specs.Settings.{Configuration, IsInRange}
 use Rattle.members.proofs.EndedLemmas.{once_new}
 use Rattle.members.proofs.StandLemmas.{stands_new}
@@ -33,7 +33,7 @@ use Rattle.core_steps.specs.Happening.{Happening, GivenUp, RecordedCall, giving,
 use Rattle.core_steps.specs.Hearing.{IsHearing}
 use Rattle.core_steps.specs.Links.{table_of, worker_of}
 use Rattle.core_steps.specs.Opening.{setup_by, IsNewDesk, IsNewWorker, IsNewWorld}
-use Rattle.core_steps.specs.Quiet.{HeardRate, HeardIn, Hears, IsHeardOf, rates_said, IsQuiet, LastHeardIsLive, ObeysQuietLaw, IsLastHeard, IsLiveOrTaken, ExpireTook, last_heard_word, entries_at, calls_of}
+use Rattle.core_steps.specs.Quiet.{HeardRate, HeardIn, HearsRates, IsHeardOf, rates_said, IsQuiet, LastHeardIsLive, ObeysQuietLaw, IsLastHeard, IsLiveOrTaken, ExpireTook, last_heard_word, entries_at, calls_of}
 use Rattle.core_steps.specs.Rule.{Does, is_busy}
 use Rattle.core_steps.specs.Run.{Runs, worlds_after, HasRun}
 use Rattle.core_steps.specs.Waits.{waiting_in, hand_count, pending_count, as_counted}
@@ -48,7 +48,7 @@ use Rattle.core_steps.proofs.QuietStepLemmas.{KeptIn, keeps}
 
 -- ---- the new world
 
-unstarted_stay : (ls : List LegSettings) (n : ℕ) → (leg_at (map unstarted ls) n).stay ≡ 0
+unstarted_stay : (ls : List LegSettings) (n : ℕ) → (leg_at (map idle_leg ls) n).stay ≡ 0
 unstarted_stay [] n = refl
 unstarted_stay (l ∷ ls) zero = refl
 unstarted_stay (l ∷ ls) (suc n) = unstarted_stay ls n
@@ -83,7 +83,7 @@ module _ (c : Configuration) (range : IsInRange c) (w : WorldState) (new : IsNew
         hand = subst (λ (x : Hand). IsPlacedHand c k x) (sym h.hand) tt;
       }
 
-  new_leg : (n : ℕ) (l : LegSettings) → IsKeptLeg c n l 1 (leg_at (map unstarted c.legs) n).stay [] w.desks w.workers [] []
+  new_leg : (n : ℕ) (l : LegSettings) → IsKeptLeg c n l 1 (leg_at (map idle_leg c.legs) n).stay [] w.desks w.workers [] []
   new_leg n l = record {
     stay = 0;
     done = [];
@@ -95,10 +95,10 @@ module _ (c : Configuration) (range : IsInRange c) (w : WorldState) (new : IsNew
   }
     where
       waiting : (s : WorkerState) → IsNewWorker c (worker_of (table_of c) l) s
-          → IsWaiting n 1 (leg_at (map unstarted c.legs) n).stay [] (hand_asks n s.hand) (jobs_asks n s.jobs) [] 0 []
+          → IsWaiting n 1 (leg_at (map idle_leg c.legs) n).stay [] (hand_asks n s.hand) (jobs_asks n s.jobs) [] 0 []
       waiting s h =
-          subst (λ (x : Hand). IsWaiting n 1 (leg_at (map unstarted c.legs) n).stay [] (hand_asks n x) (jobs_asks n s.jobs) [] 0 []) (sym h.hand)
-          (subst (λ (js : List Job). IsWaiting n 1 (leg_at (map unstarted c.legs) n).stay [] [] (jobs_asks n js) [] 0 []) (sym h.jobs)
+          subst (λ (x : Hand). IsWaiting n 1 (leg_at (map idle_leg c.legs) n).stay [] (hand_asks n x) (jobs_asks n s.jobs) [] 0 []) (sym h.hand)
+          (subst (λ (js : List Job). IsWaiting n 1 (leg_at (map idle_leg c.legs) n).stay [] [] (jobs_asks n js) [] 0 []) (sym h.jobs)
           (record { bound = 0; flows = refl; below = tt; early = tt; tracks = sym (unstarted_stay c.legs n) }))
 
   pub kept_new : KeptIn c w [] []
@@ -326,7 +326,7 @@ heard_once w moment endpoint bytes h true r = ([], refl)
 heard_once w moment endpoint bytes h false r =
     (rates_said w moment endpoint r.said, record { said = r.said; says = r.says; is = refl })
 
-heard_at : (w : WorldState) (e : Event) (h : Happening) → Does w e h → (rates : List HeardRate) × Hears w e rates
+heard_at : (w : WorldState) (e : Event) (h : Happening) → Does w e h → (rates : List HeardRate) × HearsRates w e rates
 heard_at w (Hear moment endpoint bytes) h r = heard_once w moment endpoint bytes h (is_busy w) r
 heard_at w (Tick moment) h r = ([], refl)
 heard_at w (Select moment number on) h r = ([], refl)

@@ -11,11 +11,11 @@ use Rattle.members.specs.declared.presence.Endpoint.{Endpoint}
 use Rattle.members.specs.declared.stays.LegStay.{LegStay}
 use Rattle.members.specs.declared.stays.TheConstants.{MAX_STAY}
 use Rattle.members.specs.Presence.{is_overdue_at, is_present_at, source_at}
-use Rattle.members.specs.Stays.{Told, told, leave, left, leaving, is_of, ending, ending_of, endings, ended, begins_with, beginning, beginnings, begun, turn_from, coming_orders, coming_count, coming_legs, come}
-use Rattle.members.specs.Room.{RoomState, Step, after_leaving, gone, leg_at, is_selected, takes_turn, row_order, switched}
+use Rattle.members.specs.Stays.{Told, without_orders, leave, after_overdue, leaving, is_of, ending, ending_of, endings, leg_without, begins_with, beginning, beginnings, started_legs, turn_from, coming_orders, coming_count, coming_legs, come}
+use Rattle.members.specs.Room.{RoomState, Step, after_leaving, after_bye, leg_at, is_selected, takes_turn, row_order, switched_leg}
 use Rattle.members.specs.Calls.{Call, Hear, Bye, Tick, Select, Receive, Report, MakeBlock, step_of}
 use Rattle.members.proofs.StandLemmas.{Stand, StandsIn, Matches, both_present, stand_leaving, equal_of}
-use Rattle.core_steps.specs.Hearing.{stay_in}
+use Rattle.core_steps.specs.Hearing.{leg_stay}
 
 -- From this stay of the leg on, the orders end and begin stays of it in turn, up to that one; 0 where none stands. Whatever stay
 -- they begin is numbered from the bound on.
@@ -66,7 +66,7 @@ other_ending n bound a e k l other = step (is_of e l && not (l.stay == 0))
     step true = either_way ((a ≡ l.stay) × (1 ≤ l.stay) × (0 ≡ a)) (a ≡ a) false (k == n) other refl
     step false = refl
 
-own_ending : (n bound e : ℕ) (l : LegStay) → Follows n bound l.stay (ending_of e (n, l)) (ended e l).stay
+own_ending : (n bound e : ℕ) (l : LegStay) → Follows n bound l.stay (ending_of e (n, l)) (leg_without e l).stay
 own_ending n bound e l = step (is_of e l) (l.stay == 0) refl
   where
     step : (a z : Bool) → (l.stay == 0) ≡ z
@@ -83,17 +83,17 @@ endings_behind n bound a e k (l ∷ ls) less =
     (other_ending n bound a e k l (unlike k n less)) (endings_behind n bound a e (k + 1) ls (omega arith))
 
 endings_at : (i k bound e : ℕ) (ls : List LegStay)
-    → Follows (k + i) bound (leg_at ls i).stay (flat_map (ending_of e) (enumerate_from k ls)) (leg_at (map (ended e) ls) i).stay
+    → Follows (k + i) bound (leg_at ls i).stay (flat_map (ending_of e) (enumerate_from k ls)) (leg_at (map (leg_without e) ls) i).stay
 endings_at i k bound e [] = refl
 endings_at zero k bound e (l ∷ ls) =
     let at : k ≡ k + zero = omega arith in
-    subst (λ n. Follows n bound l.stay (flat_map (ending_of e) (enumerate_from k (l ∷ ls))) (ended e l).stay) at
-    (follows-append k bound l.stay (ended e l).stay (ended e l).stay (ending_of e (k, l)) (flat_map (ending_of e) (enumerate_from (k + 1) ls))
-    (own_ending k bound e l) (endings_behind k bound (ended e l).stay e (k + 1) ls (omega arith)))
+    subst (λ n. Follows n bound l.stay (flat_map (ending_of e) (enumerate_from k (l ∷ ls))) (leg_without e l).stay) at
+    (follows-append k bound l.stay (leg_without e l).stay (leg_without e l).stay (ending_of e (k, l)) (flat_map (ending_of e) (enumerate_from (k + 1) ls))
+    (own_ending k bound e l) (endings_behind k bound (leg_without e l).stay e (k + 1) ls (omega arith)))
 endings_at (suc i) k bound e (l ∷ ls) =
     let at : (k + 1) + i ≡ k + suc i = omega arith in
     let was : ℕ = (leg_at ls i).stay in
-    let now : ℕ = (leg_at (map (ended e) ls) i).stay in
+    let now : ℕ = (leg_at (map (leg_without e) ls) i).stay in
     follows-append (k + suc i) bound was was now (ending_of e (k, l)) (flat_map (ending_of e) (enumerate_from (k + 1) ls))
     (other_ending (k + suc i) bound was e k l (unlike_above k (k + suc i) (omega arith)))
     (subst (λ n. Follows n bound was (flat_map (ending_of e) (enumerate_from (k + 1) ls)) now) at (endings_at i (k + 1) bound e ls))
@@ -105,25 +105,25 @@ Tells n bound was t = Follows n bound was t.orders (leg_at t.legs n).stay
 tells_leave : (n bound was : ℕ) (t : Told) (e : ℕ) → Tells n bound was t → Tells n bound was (leave t e)
 tells_leave n bound was t e f =
     let at : 0 + n ≡ n = omega arith in
-    follows-append n bound was (leg_at t.legs n).stay (leg_at (map (ended e) t.legs) n).stay t.orders (endings e t.legs) f
-    (subst (λ m. Follows m bound (leg_at t.legs n).stay (endings e t.legs) (leg_at (map (ended e) t.legs) n).stay) at (endings_at n 0 bound e t.legs))
+    follows-append n bound was (leg_at t.legs n).stay (leg_at (map (leg_without e) t.legs) n).stay t.orders (endings e t.legs) f
+    (subst (λ m. Follows m bound (leg_at t.legs n).stay (endings e t.legs) (leg_at (map (leg_without e) t.legs) n).stay) at (endings_at n 0 bound e t.legs))
 
 tells_if : (n bound was : ℕ) (b : Bool) (t u : Told) → Tells n bound was t → Tells n bound was u → Tells n bound was (cond b t u)
 tells_if n bound was true t u f g = f
 tells_if n bound was false t u f g = g
 
-tells_left : (n bound was timeout m : ℕ) (t : Told) (k : ℕ) → Tells n bound was t → Tells n bound was (left timeout m t k)
+tells_left : (n bound was timeout m : ℕ) (t : Told) (k : ℕ) → Tells n bound was t → Tells n bound was (after_overdue timeout m t k)
 tells_left n bound was timeout m t zero f = f
 tells_left n bound was timeout m t (suc k) f =
     let before = tells_left n bound was timeout m t k f in
-    tells_if n bound was (is_overdue_at timeout m (left timeout m t k).endpoints k) (leave (left timeout m t k) k) (left timeout m t k)
-    (tells_leave n bound was (left timeout m t k) k before) before
+    tells_if n bound was (is_overdue_at timeout m (after_overdue timeout m t k).endpoints k) (leave (after_overdue timeout m t k) k) (after_overdue timeout m t k)
+    (tells_leave n bound was (after_overdue timeout m t k) k before) before
 
 tells_leaving : (n bound : ℕ) (r : RoomState) (m : ℕ) → Tells n bound (leg_at r.legs n).stay (after_leaving r m)
 unfolding leaving
-tells_leaving n bound r m = tells_left n bound (leg_at r.legs n).stay r.timeout m (told r.endpoints r.legs) (length r.endpoints) refl
+tells_leaving n bound r m = tells_left n bound (leg_at r.legs n).stay r.timeout m (without_orders r.endpoints r.legs) (length r.endpoints) refl
 
-tells_gone : (n bound was : ℕ) (t : Told) (e : ℕ) → Tells n bound was t → Tells n bound was (gone t e)
+tells_gone : (n bound was : ℕ) (t : Told) (e : ℕ) → Tells n bound was t → Tells n bound was (after_bye t e)
 tells_gone n bound was t e f = tells_if n bound was (is_present_at t.endpoints e) (leave t e) t (tells_leave n bound was t e f) f
 
 -- ---- an endpoint comes
@@ -149,16 +149,16 @@ beginnings_behind n bound a begins next k (l ∷ ls) less low =
     step false more same = same
 
 beginnings_at : (i k bound : ℕ) (begins : LegStay → Bool) (next : ℕ) (ls : List LegStay) → 1 ≤ next → bound ≤ next → Begins begins ls
-    → Follows (k + i) bound (leg_at ls i).stay (beginnings begins next k ls) (leg_at (begun begins next ls) i).stay
+    → Follows (k + i) bound (leg_at ls i).stay (beginnings begins next k ls) (leg_at (started_legs begins next ls) i).stay
 beginnings_at i k bound begins next [] least low fresh = refl
 beginnings_at zero k bound begins next (l ∷ ls) least low fresh =
     let at : k ≡ k + zero = omega arith in
-    subst (λ n. Follows n bound l.stay (beginnings begins next k (l ∷ ls)) (leg_at (begun begins next (l ∷ ls)) zero).stay) at
+    subst (λ n. Follows n bound l.stay (beginnings begins next k (l ∷ ls)) (leg_at (started_legs begins next (l ∷ ls)) zero).stay) at
     (step (begins l) (fresh 0 l (omega arith)))
   where
     step : (b : Bool) → (b ≡ true → l.stay ≡ 0)
         → Follows k bound l.stay (cond b (beginning k next l ++ beginnings begins (next + 1) (k + 1) ls) (beginnings begins next (k + 1) ls))
-        (leg_at (cond b (record l { stay = next; turn = turn_from next l } ∷ begun begins (next + 1) ls) (l ∷ begun begins next ls)) zero).stay
+        (leg_at (cond b (record l { stay = next; turn = turn_from next l } ∷ started_legs begins (next + 1) ls) (l ∷ started_legs begins next ls)) zero).stay
     step true none = (
       low,
       either_way ((l.stay ≡ 0) × (1 ≤ next) × Follows k bound next (beginnings begins (next + 1) (k + 1) ls) next)
@@ -170,24 +170,24 @@ beginnings_at (suc i) k bound begins next (l ∷ ls) least low fresh =
     let at : (k + 1) + i ≡ k + suc i = omega arith in
     let rest : Begins begins ls = All-tail (λ l. begins l ≡ true → l.stay ≡ 0) l ls fresh in
     step (begins l)
-    (subst (λ n. Follows n bound (leg_at ls i).stay (beginnings begins (next + 1) (k + 1) ls) (leg_at (begun begins (next + 1) ls) i).stay) at
+    (subst (λ n. Follows n bound (leg_at ls i).stay (beginnings begins (next + 1) (k + 1) ls) (leg_at (started_legs begins (next + 1) ls) i).stay) at
     (beginnings_at i (k + 1) bound begins (next + 1) ls (omega arith) (omega arith) rest))
-    (subst (λ n. Follows n bound (leg_at ls i).stay (beginnings begins next (k + 1) ls) (leg_at (begun begins next ls) i).stay) at
+    (subst (λ n. Follows n bound (leg_at ls i).stay (beginnings begins next (k + 1) ls) (leg_at (started_legs begins next ls) i).stay) at
     (beginnings_at i (k + 1) bound begins next ls least low rest))
   where
     was : ℕ
     was = (leg_at ls i).stay
 
     step : (b : Bool)
-        → Follows (k + suc i) bound was (beginnings begins (next + 1) (k + 1) ls) (leg_at (begun begins (next + 1) ls) i).stay
-        → Follows (k + suc i) bound was (beginnings begins next (k + 1) ls) (leg_at (begun begins next ls) i).stay
+        → Follows (k + suc i) bound was (beginnings begins (next + 1) (k + 1) ls) (leg_at (started_legs begins (next + 1) ls) i).stay
+        → Follows (k + suc i) bound was (beginnings begins next (k + 1) ls) (leg_at (started_legs begins next ls) i).stay
         → Follows (k + suc i) bound was (cond b (beginning k next l ++ beginnings begins (next + 1) (k + 1) ls) (beginnings begins next (k + 1) ls))
-        (leg_at (cond b (record l { stay = next; turn = turn_from next l } ∷ begun begins (next + 1) ls) (l ∷ begun begins next ls)) (suc i)).stay
+        (leg_at (cond b (record l { stay = next; turn = turn_from next l } ∷ started_legs begins (next + 1) ls) (l ∷ started_legs begins next ls)) (suc i)).stay
     step true more same = (
       low,
       either_way
-          ((was ≡ 0) × (1 ≤ next) × Follows (k + suc i) bound next (beginnings begins (next + 1) (k + 1) ls) (leg_at (begun begins (next + 1) ls) i).stay)
-          (Follows (k + suc i) bound was (beginnings begins (next + 1) (k + 1) ls) (leg_at (begun begins (next + 1) ls) i).stay)
+          ((was ≡ 0) × (1 ≤ next) × Follows (k + suc i) bound next (beginnings begins (next + 1) (k + 1) ls) (leg_at (started_legs begins (next + 1) ls) i).stay)
+          (Follows (k + suc i) bound was (beginnings begins (next + 1) (k + 1) ls) (leg_at (started_legs begins (next + 1) ls) i).stay)
           false (k == k + suc i) (unlike_above k (k + suc i) (omega arith)) more,
     )
     step false more same = same
@@ -201,11 +201,11 @@ absent_begins es e l absent matches begins =
     none nobody = let same : not (l.stay == 0) ≡ false = matches ∙ nobody in grind (arith, nat_tests)
 
     no_subscriber : is_present_at es l.subscriber ≡ false → both_present es l ≡ false
-    no_subscriber gone = rw gone refl
+    no_subscriber after_bye = rw after_bye refl
 
     no_publisher : (b : Bool) → is_present_at es l.publisher ≡ false → (b && is_present_at es l.publisher) ≡ false
-    no_publisher true gone = gone
-    no_publisher false gone = refl
+    no_publisher true after_bye = after_bye
+    no_publisher false after_bye = refl
 
     step : (a b : Bool) → (l.subscriber == e) ≡ a → (l.publisher == e) ≡ b
         → ((a && is_present_at es l.publisher) || (b && is_present_at es l.subscriber)) ≡ true → l.stay ≡ 0
@@ -220,10 +220,10 @@ tells_come n was m next t e least absent stand f =
     let at : 0 + n ≡ n = omega arith in
     let fresh : Begins (begins_with t.endpoints e) t.legs =
     λ k d below. absent_begins t.endpoints e (get_or t.legs k d) absent (stand.matches k d below) in
-    follows-append n next was (leg_at t.legs n).stay (leg_at (begun (begins_with t.endpoints e) next t.legs) n).stay t.orders
+    follows-append n next was (leg_at t.legs n).stay (leg_at (started_legs (begins_with t.endpoints e) next t.legs) n).stay t.orders
     (beginnings (begins_with t.endpoints e) next 0 t.legs) f
     (subst (λ i. Follows i next (leg_at t.legs n).stay (beginnings (begins_with t.endpoints e) next 0 t.legs)
-    (leg_at (begun (begins_with t.endpoints e) next t.legs) n).stay) at
+    (leg_at (started_legs (begins_with t.endpoints e) next t.legs) n).stay) at
     (beginnings_at n 0 next (begins_with t.endpoints e) next t.legs least (omega arith) fresh))
 
 -- ---- a selection
@@ -243,10 +243,10 @@ no_row n bound a number l = step (l.stay == 0)
     step false = refl
 
 tells_switched : (n bound was next : ℕ) (t : Told) (number : ℕ) (on : Bool) → Tells n bound was t
-    → Follows n bound was (t.orders ++ row_order number (switched on next (leg_at t.legs number)))
-    (leg_at (set t.legs number (switched on next (leg_at t.legs number))) n).stay
+    → Follows n bound was (t.orders ++ row_order number (switched_leg on next (leg_at t.legs number)))
+    (leg_at (set t.legs number (switched_leg on next (leg_at t.legs number))) n).stay
 tells_switched n bound was next t number on f =
-    let x = switched on next (leg_at t.legs number) in
+    let x = switched_leg on next (leg_at t.legs number) in
     let same : (leg_at (set t.legs number x) n).stay ≡ (leg_at t.legs n).stay = stay-set n number t.legs x refl in
     subst (λ s. Follows n bound was (t.orders ++ row_order number x) s) (sym same)
     (follows-append n bound was (leg_at t.legs n).stay (leg_at t.legs n).stay t.orders (row_order number x) f
@@ -256,7 +256,7 @@ tells_switched n bound was next t number on f =
 
 -- what an accepted call says of the leg; and numbers are drawn onward
 pub record Passes (n : ℕ) (r : RoomState) (s : Step) : Type 0 where
-  pub follows : Follows n r.next (stay_in r n) s.orders (stay_in s.room n)
+  pub follows : Follows n r.next (leg_stay r n) s.orders (leg_stay s.room n)
   pub onward : r.next ≤ s.room.next
 
 abbrev pub IfPasses : ℕ → RoomState → Result Step RoomFault → Type 0
@@ -274,7 +274,7 @@ passes n r (Bye handed e) s =
     let t = after_leaving r (max r.moment handed) in
     if_passes n r (nat_le (length r.endpoints) e) _ _ (λ _. tt)
     (λ _. record {
-      follows = tells_gone n r.next (stay_in r n) t e (tells_leaving n r.next r (max r.moment handed));
+      follows = tells_gone n r.next (leg_stay r n) t e (tells_leaving n r.next r (max r.moment handed));
       onward = omega arith;
     })
 passes n r (Hear handed e ssrc) s =
@@ -287,7 +287,7 @@ passes n r (Hear handed e ssrc) s =
     (λ _. if_passes n r (is_present_at t.endpoints e) _ _ (λ _. record { follows = after; onward = omega arith })
     (λ absent. if_passes n r (nat_lt MAX_STAY (r.next + coming_count t.endpoints e t.legs)) _ _ (λ _. tt)
     (λ _. record {
-      follows = tells_come n (stay_in r n) m r.next t e s.numbered absent stand after;
+      follows = tells_come n (leg_stay r n) m r.next t e s.numbered absent stand after;
       onward = omega arith;
     }))))
 passes n r (Select handed number on) s =
@@ -298,7 +298,7 @@ passes n r (Select handed number on) s =
     (λ _. if_passes n r (is_selected on (leg_at t.legs number)) _ _ (λ _. record { follows = after; onward = omega arith })
     (λ _. if_passes n r (takes_turn on (leg_at t.legs number) && nat_le MAX_STAY r.next) _ _ (λ _. tt)
     (λ _. record {
-      follows = tells_switched n r.next (stay_in r n) r.next t number on after;
+      follows = tells_switched n r.next (leg_stay r n) r.next t number on after;
       onward = later (takes_turn on (leg_at t.legs number)) r.next;
     })))
   where

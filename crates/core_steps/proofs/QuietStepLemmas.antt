@@ -33,7 +33,7 @@ use Rattle.core_steps.specs.Intake.{Said}
 use Rattle.core_steps.specs.Legs.{legs_after}
 use Rattle.core_steps.specs.Links.{LinkTable, table_of}
 use Rattle.core_steps.specs.Opening.{setup_by}
-use Rattle.core_steps.specs.Quiet.{HeardRate, Hears, IsHeardOf, rates_said, rates_in, rate_of}
+use Rattle.core_steps.specs.Quiet.{HeardRate, HearsRates, IsHeardOf, rates_said, rates_in, rate_of}
 use Rattle.core_steps.specs.Rule.{Does, DoesNext, DoesTask, DoesJob, Works, WorksOn, is_busy, is_empty, Replies, IngressAsks, OrderAsks, JobAsks, WorkerAsks, ingress_asked, worker_asked, pushing, putting, done_task, taking, working, with_hand, hand_of, pending_of, forwarding}
 use Rattle.core_steps.specs.World.{Setup, WorldState, WorkerState, Task, order, push, pulse, expire, report, Pending, Hand, free, doing, telling}
 use Rattle.core_steps.proofs.OneSaidLemmas.{says_one}
@@ -453,7 +453,7 @@ module _ (c : Configuration) (range : IsInRange c) (w : WorldState) (setup : w.s
       (along (rates_said w moment endpoint r.said) h (hearing w moment endpoint bytes r.said) r.does
       (heard (idle_tasks w.pending w.tasks idle) moment endpoint bytes r.said))
 
-  pub keeps : (e : Event) (h : Happening) (more : List HeardRate) → Does w e h → Hears w e more → Keeps more h
+  pub keeps : (e : Event) (h : Happening) (more : List HeardRate) → Does w e h → HearsRates w e more → Keeps more h
   keeps (Hear moment endpoint bytes) h more r x = hears moment endpoint bytes h more (is_busy w) refl r x
   keeps (Tick moment) h more r x =
       silently more h x (unless_busy h (h ≡ ticking w moment) (is_busy w) refl (λ idle is. along [] h _ is (ticked idle moment)) r)

@@ -19,7 +19,7 @@ use Rattle.core_steps.specs.declared.intake.Ask.TheVariants.{Rate, Resend as Aga
 use Rattle.core_steps.specs.declared.job.Job.TheVariants.{Packet, Report as LegReport}
 use Rattle.core_steps.specs.Happening.{RecordedCall}
 use Rattle.core_steps.specs.Heard.{asks_of}
-use Rattle.core_steps.specs.Hearing.{stay_in, owner_of, receptions, serving, jobs_of, task_on, task_for, job_by, present_endpoints, expires, reports, is_report_due, leg_report}
+use Rattle.core_steps.specs.Hearing.{leg_stay, owner_of, receptions, serving, jobs_of, task_on, task_for, job_by, present_endpoints, expires, reports, is_report_due, leg_report}
 use Rattle.core_steps.specs.Intake.{Said, media, leaves, control}
 use Rattle.core_steps.specs.Links.{LinkTable, leg_to, table_of, worker_of}
 use Rattle.core_steps.specs.Quiet.{HeardRate, rate_of, rate_on}
@@ -87,10 +87,10 @@ silent-reports c r (p ∷ ps) =
     record { none = h.none; placed = (tt, h.placed); asks = h.asks; low = λ n. tt }
 
 silent-one : (c : Configuration) (r : RoomState) (t : LinkTable) (q : RoomState) (l : ℕ × LegSettings) → IsSilent c r (leg_report t q l)
-silent-one c r t q (leg, l) = step (stay_in q leg == 0)
+silent-one c r t q (leg, l) = step (leg_stay q leg == 0)
   where
     step : (b : Bool)
-        → IsSilent c r (cond b [] (push (worker_of t l) (LegReport leg (stay_in q leg) (timestamps_of (reception_at q l.publisher).report)) ∷ []))
+        → IsSilent c r (cond b [] (push (worker_of t l) (LegReport leg (leg_stay q leg) (timestamps_of (reception_at q l.publisher).report)) ∷ []))
     step true = silent-none c r
     step false = record { none = tt; placed = (tt, tt); asks = λ n. refl; low = λ n. tt }
 
@@ -118,59 +118,59 @@ silent-moment c w r =
 abbrev one_task : LinkTable → RoomState → Ask → Option ℕ → List Task → List Task
 one_task t r a leg rest = cons_option (task_on t r a leg) rest
 
-more_asks : (c : Configuration) (r : RoomState) (low : (n : ℕ) → stay_in r n < r.next) (a : Ask) (endpoint : ℕ) (rest : List Task) (more : List HeardRate)
+more_asks : (c : Configuration) (r : RoomState) (low : (n : ℕ) → leg_stay r n < r.next) (a : Ask) (endpoint : ℕ) (rest : List Task) (more : List HeardRate)
     → IsFollowUp c r rest more
     → IsFollowUp c r (cons_option (task_for (table_of c) r endpoint a) rest) (rate_of (table_of c) r endpoint a ++ more)
 more_asks c r low (Rate source word) endpoint rest more h = step (leg_to (table_of c) endpoint source.0)
   where
     rate : (leg : ℕ) → (b : Bool)
         → IsFollowUp c r
-        (cons_option (cond b None (Some (push (owner_of (table_of c) leg) (job_by r.moment leg (stay_in r leg) (Rate source word))))) rest)
-        (cond b [] (record { leg = leg; stay = stay_in r leg; word = word } ∷ []) ++ more)
+        (cons_option (cond b None (Some (push (owner_of (table_of c) leg) (job_by r.moment leg (leg_stay r leg) (Rate source word))))) rest)
+        (cond b [] (record { leg = leg; stay = leg_stay r leg; word = word } ∷ []) ++ more)
     rate leg true = h
     rate leg false = record {
       none = h.none;
       placed = (refl, h.placed);
-      asks = λ n. ap (λ (xs : List (ℕ × ℕ)). asks_if (leg == n) (stay_in r leg) word ++ xs) (h.asks n);
+      asks = λ n. ap (λ (xs : List (ℕ × ℕ)). asks_if (leg == n) (leg_stay r leg) word ++ xs) (h.asks n);
       low = λ n. below n (leg == n);
     }
       where
-        below : (n : ℕ) (b : Bool) → AllBelow r.next (asks_if b (stay_in r leg) word ++ rates_asks n more)
+        below : (n : ℕ) (b : Bool) → AllBelow r.next (asks_if b (leg_stay r leg) word ++ rates_asks n more)
         below n true = (low leg, h.low n)
         below n false = h.low n
 
     step : (o : Option ℕ) → IsFollowUp c r (cons_option (task_on (table_of c) r (Rate source word) o) rest) (rate_on r word o ++ more)
     step None = h
-    step (Some leg) = rate leg (stay_in r leg == 0)
+    step (Some leg) = rate leg (leg_stay r leg == 0)
 more_asks c r low (Again source nack) endpoint rest more h = step (leg_to (table_of c) endpoint source.0)
   where
     step : (o : Option ℕ) → IsFollowUp c r (cons_option (task_on (table_of c) r (Again source nack) o) rest) more
     step None = h
-    step (Some leg) = other (stay_in r leg == 0)
+    step (Some leg) = other (leg_stay r leg == 0)
       where
         other : (b : Bool)
-            → IsFollowUp c r (cons_option (cond b None (Some (push (owner_of (table_of c) leg) (job_by r.moment leg (stay_in r leg) (Again source nack))))) rest) more
+            → IsFollowUp c r (cons_option (cond b None (Some (push (owner_of (table_of c) leg) (job_by r.moment leg (leg_stay r leg) (Again source nack))))) rest) more
         other true = h
         other false = record { none = h.none; placed = (tt, h.placed); asks = h.asks; low = h.low }
 more_asks c r low (Picture source) endpoint rest more h = step (leg_to (table_of c) endpoint source.0)
   where
     step : (o : Option ℕ) → IsFollowUp c r (cons_option (task_on (table_of c) r (Picture source) o) rest) more
     step None = h
-    step (Some leg) = other (stay_in r leg == 0)
+    step (Some leg) = other (leg_stay r leg == 0)
       where
         other : (b : Bool)
-            → IsFollowUp c r (cons_option (cond b None (Some (push (owner_of (table_of c) leg) (job_by r.moment leg (stay_in r leg) (Picture source))))) rest) more
+            → IsFollowUp c r (cons_option (cond b None (Some (push (owner_of (table_of c) leg) (job_by r.moment leg (leg_stay r leg) (Picture source))))) rest) more
         other true = h
         other false = record { none = h.none; placed = (tt, h.placed); asks = h.asks; low = h.low }
 
-entries_follow : (c : Configuration) (r : RoomState) (low : (n : ℕ) → stay_in r n < r.next) (endpoint : ℕ) (asks : List Ask)
+entries_follow : (c : Configuration) (r : RoomState) (low : (n : ℕ) → leg_stay r n < r.next) (endpoint : ℕ) (asks : List Ask)
     → IsFollowUp c r (filter_map (task_for (table_of c) r endpoint) asks) (flat_map (rate_of (table_of c) r endpoint) asks)
 entries_follow c r low endpoint [] = silent-none c r
 entries_follow c r low endpoint (a ∷ asks) =
     more_asks c r low a endpoint (filter_map (task_for (table_of c) r endpoint) asks) (flat_map (rate_of (table_of c) r endpoint) asks)
     (entries_follow c r low endpoint asks)
 
-pub datagram_follows : (c : Configuration) (r : RoomState) (low : (n : ℕ) → stay_in r n < r.next) (endpoint : ℕ) (bytes : List ℕ) (said : Said)
+pub datagram_follows : (c : Configuration) (r : RoomState) (low : (n : ℕ) → leg_stay r n < r.next) (endpoint : ℕ) (bytes : List ℕ) (said : Said)
     → IsFollowUp c r (jobs_of (table_of c) r endpoint bytes said) (flat_map (rate_of (table_of c) r endpoint) (asks_of said))
 datagram_follows c r low endpoint bytes (media ssrc seq timestamp) = silent-packets c r endpoint bytes (serving (table_of c) r endpoint)
 datagram_follows c r low endpoint bytes leaves = silent-none c r
@@ -218,7 +218,7 @@ module _ (c : Configuration) (r : RoomState) (call : RoomCall) (s : Step) (desks
   passes_then : (n : ℕ) → Passes n r s
   passes_then n = subst (λ (x : Result Step RoomFault). IfPasses n r x) accepted (passes n r call standing)
 
-  pub low_then : (n : ℕ) → stay_in s.room n < s.room.next
+  pub low_then : (n : ℕ) → leg_stay s.room n < s.room.next
   low_then n = once_below h.past s.orders s.room.next s.room.legs once_then n
 
   pub kept_taken : (rest : List Task) (more : List HeardRate) → IsFollowUp c s.room rest more

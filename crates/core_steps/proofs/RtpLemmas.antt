@@ -7,8 +7,8 @@ use Rattle.std.specs.Prelude.{if◌then◌else◌, ◌==◌, ◌&&◌, ◌||◌,
 use Rattle.byteorder.specs.Endian.{big_bytes, big_number}
 use Rattle.rtp_packet.specs.declared.fault.RtpFault.{RtpFault}
 use Rattle.rtp_packet.specs.declared.fault.RtpFault.TheVariants.{Short, Version, CsrcShort, ExtensionShort, Padding, Room}
-use Rattle.rtp_packet.specs.Fault.{HasFault, IsNoCount, csrc_end, extension_end}
-use Rattle.rtp_packet.specs.Grammar.{Packet, ReadsRtp, IsPadding, bit_of, fixed_bytes, body_bytes, first_byte, second_byte, bytes_of, readdressed}
+use Rattle.rtp_packet.specs.Fault.{HasRtpFault, IsNoCount, csrc_end, extension_end}
+use Rattle.rtp_packet.specs.Grammar.{RtpPacket, ReadsRtp, IsPadding, bit_of, fixed_bytes, body_bytes, first_byte, second_byte, bytes_of, with_address}
 use Rattle.rtp_packet.proofs.PacketLemmas.{laid_out}
 use Rattle.rtp_packet.proofs.PartLemmas.{count_of_padding}
 use Rattle.core_steps.specs.Rtp.{is_rtp, is_padded, padding_of, sequence_number, payload_octets, readdressed_bytes}
@@ -60,13 +60,13 @@ padding_counts d payload (v ∷ y) e bit size tail valid =
     sym (ap (λ (k : ℕ). slice_index d k) place) ∙ sym (get_or-drop e d n 0) ∙ ap (λ (l : List ℕ). slice_index l n) tail ∙ count in
     rw on last
 
-padding_is : (d : List ℕ) (p : Packet) → ReadsRtp d p → padding_of d ≡ length p.padding
+padding_is : (d : List ℕ) (p : RtpPacket) → ReadsRtp d p → padding_of d ≡ length p.padding
 padding_is d p reads =
     let l = laid_out d p reads in
     padding_counts d p.payload p.padding (extension_end d) l.padded l.end l.tail reads.valid.padding
 
 -- a packet is one
-pub reads_rtp : (d : List ℕ) (p : Packet) → ReadsRtp d p → is_rtp d ≡ true
+pub reads_rtp : (d : List ℕ) (p : RtpPacket) → ReadsRtp d p → is_rtp d ≡ true
 unfolding is_rtp
 reads_rtp d p reads =
     let l = laid_out d p reads in
@@ -85,7 +85,7 @@ reads_rtp d p reads =
     rw (a, b, c, e) refl
 
 -- the octets of a packet's payload
-pub payload_read : (d : List ℕ) (p : Packet) → ReadsRtp d p → payload_octets d ≡ length p.payload
+pub payload_read : (d : List ℕ) (p : RtpPacket) → ReadsRtp d p → payload_octets d ≡ length p.payload
 unfolding payload_octets
 payload_read d p reads =
     let count = padding_is d p reads in
@@ -99,7 +99,7 @@ unfolding fixed_bytes
 number_back a b s t u body h = omega arith
 
 -- the sequence number of a packet
-pub number_read : (d : List ℕ) (p : Packet) → ReadsRtp d p → sequence_number d ≡ p.sequence_number
+pub number_read : (d : List ℕ) (p : RtpPacket) → ReadsRtp d p → sequence_number d ≡ p.sequence_number
 unfolding sequence_number
 number_read d p reads =
     ap (λ (l : List ℕ). big_number 2 (drop 2 l)) reads.bytes
@@ -111,7 +111,7 @@ unfolding fixed_bytes readdressed_bytes
 rewritten a b s t u n v body = refl
 
 -- a packet's bytes under another source and number
-pub readdressed_read : (d : List ℕ) (p : Packet) (v n : ℕ) → ReadsRtp d p → readdressed_bytes v n d ≡ bytes_of (readdressed v n p)
+pub readdressed_read : (d : List ℕ) (p : RtpPacket) (v n : ℕ) → ReadsRtp d p → readdressed_bytes v n d ≡ bytes_of (with_address v n p)
 readdressed_read d p v n reads =
     ap (readdressed_bytes v n) reads.bytes
     ∙ rewritten (first_byte p) (second_byte p) p.sequence_number p.timestamp p.ssrc n v (body_bytes p)
@@ -147,7 +147,7 @@ no_count d e h none =
     (cases_lt e (length d))
 
 -- a datagram with a fault is no packet
-pub faulty : (d : List ℕ) (fault : RtpFault) → HasFault d fault → is_rtp d ≡ false
+pub faulty : (d : List ℕ) (fault : RtpFault) → HasRtpFault d fault → is_rtp d ≡ false
 unfolding is_rtp
 faulty d Short h = rw (beyond 12 (length d) h) refl
 faulty d Version h = no_right _ _ (ap (λ (x : Bool). x && (nat_le (extension_end d + padding_of d) (length d) && (not (is_padded d) || nat_lt 0 (padding_of d)))) (other_number (slice_index d 0 / 64) 2 h.1))
@@ -171,12 +171,12 @@ faulty d Room h = absurd h
 -- ---- what a call wrote
 
 -- the whole buffer holds the packet under another source and number
-pub wrote : (r : Result ℕ RtpFault) (d out new : List ℕ) (p : Packet) (v n : ℕ) → ReadsRtp d p → length out ≡ length d
+pub wrote : (r : Result ℕ RtpFault) (d out new : List ℕ) (p : RtpPacket) (v n : ℕ) → ReadsRtp d p → length out ≡ length d
     → (IsOk r ↔ (length d ≤ length out)) → IfOk r (λ size. size ≡ length d)
-    → IfOk r (λ size. new ≡ bytes_of (readdressed v n p) ++ drop size out) → new ≡ readdressed_bytes v n d
+    → IfOk r (λ size. new ≡ bytes_of (with_address v n p) ++ drop size out) → new ≡ readdressed_bytes v n d
 wrote (Ok size) d out new p v n reads same fits is written =
     let none : drop size out ≡ [] = drop_all size out (omega arith) in
-    written ∙ ap (λ (l : List ℕ). bytes_of (readdressed v n p) ++ l) none ∙ append-nil (bytes_of (readdressed v n p))
+    written ∙ ap (λ (l : List ℕ). bytes_of (with_address v n p) ++ l) none ∙ append-nil (bytes_of (with_address v n p))
     ∙ sym (readdressed_read d p v n reads)
 wrote (Err fault) d out new p v n reads same fits is written =
     let ok : false ≡ true = fits.1 (omega arith) in

@@ -8,7 +8,7 @@ use Rattle.core_steps.specs.declared.event.Event.{Event}
 use Rattle.core_steps.specs.declared.output.Out.{Out}
 use Rattle.core_steps.specs.declared.output.Out.TheVariants.{Busy}
 use Rattle.core_steps.specs.World.{WorldState, Task}
-use Rattle.core_steps.specs.Happening.{Happening, giving, counted, world_after}
+use Rattle.core_steps.specs.Happening.{Happening, giving, capped_count, world_after}
 use Rattle.core_steps.specs.Rule.{Does, UnlessBusy, is_busy}
 use Rattle.core_steps.specs.Run.{Runs, worlds_after, outs_of, HasRun, Leaves}
 
@@ -50,20 +50,20 @@ HasRun-same events old outs mid some new all run is same = record {
 
 -- ---- what is not taken in
 
-pub counted-none : (count : ℕ) → count < 2 ^ 64 → counted count 0 ≡ count
+pub counted-none : (count : ℕ) → count < 2 ^ 64 → capped_count count 0 ≡ count
 counted-none count fits = omega arith
 
 -- nothing comes to the tasks nor to the counts
 abbrev pub settled : WorldState → WorldState
-settled v = record v { tasks = v.tasks ++ []; lost = counted v.lost 0; tmmbns = counted v.tmmbns 0 }
+settled v = record v { tasks = v.tasks ++ []; lost = capped_count v.lost 0; tmmbns = capped_count v.tmmbns 0 }
 
 abbrev parts_of : WorldState → List Task → ℕ → ℕ → WorldState
 parts_of v tasks lost tmmbns = record v { tasks = tasks; lost = lost; tmmbns = tmmbns }
 
 pub settled-same : (v : WorldState) → v.lost < 2 ^ 64 → v.tmmbns < 2 ^ 64 → settled v ≡ v
 settled-same v lost tmmbns =
-    ap (λ (tasks : List Task). parts_of v tasks (counted v.lost 0) (counted v.tmmbns 0)) (append-nil v.tasks)
-    ∙ (ap (λ (n : ℕ). parts_of v v.tasks n (counted v.tmmbns 0)) (counted-none v.lost lost)
+    ap (λ (tasks : List Task). parts_of v tasks (capped_count v.lost 0) (capped_count v.tmmbns 0)) (append-nil v.tasks)
+    ∙ (ap (λ (n : ℕ). parts_of v v.tasks n (capped_count v.tmmbns 0)) (counted-none v.lost lost)
     ∙ ap (λ (n : ℕ). parts_of v v.tasks v.lost n) (counted-none v.tmmbns tmmbns))
 
 pub giving-leads : (w : WorldState) (outs : List Out) → w.lost < 2 ^ 64 → w.tmmbns < 2 ^ 64 → w ≡ world_after w (giving w outs)

@@ -15,8 +15,8 @@ use Rattle.rate_desk.specs.declared.desk.TheConstants.{HISTORY_LIMIT}
 use Rattle.rate_desk.specs.Presence.{live_requests}
 use Rattle.rate_desk.specs.Trace.{empty_base, base_with, base_after, live_after}
 use Rattle.rate_desk.specs.Answer.{IsAnswerTo}
-use Rattle.rate_desk.specs.History.{IsLegalHistory, StandsFor}
-use Rattle.rate_desk.specs.State.{DeskState, HoldsLegalDesk, calls_of, now_of}
+use Rattle.rate_desk.specs.History.{IsLegalHistory, StandsForEntries}
+use Rattle.rate_desk.specs.State.{DeskState, HoldsLegalDesk, call_count, now_of}
 use Rattle.rate_desk.proofs.TraceLemmas.{base_after-append, calls-after, legal-first, legal-rest, legal-folded, legal-push}
 use Rattle.core_steps.specs.declared.event.Event.{Event}
 use Rattle.core_steps.specs.Happening.{Happening, RecordedCall, world_after, desks_by}
@@ -24,7 +24,7 @@ use Rattle.core_steps.specs.Laws.{TellsLegalDesk}
 use Rattle.core_steps.specs.Opening.{IsNewDesk, IsNewWorld}
 use Rattle.core_steps.specs.Rule.{IsRecordedCall, Replies}
 use Rattle.core_steps.specs.Run.{Runs, worlds_after}
-use Rattle.core_steps.specs.Traces.{AtDesk, of_desk, recorded_in, recorded_at, entry_of, AreNumberedFrom, HasRecorded, AnnouncesAfter}
+use Rattle.core_steps.specs.Traces.{AtDesk, of_desk, recorded_in, recorded_at, recorded_entry, AreNumberedFrom, HasRecorded, AnnouncesAfter}
 use Rattle.core_steps.specs.World.{WorldState}
 use Rattle.core_steps.proofs.CauseLemmas.{AsksDeskOf, AsksThere, recorded_of}
 use Rattle.core_steps.proofs.HistoryLemmas.{legal_by, desks_stay_legal}
@@ -68,7 +68,7 @@ numbered-append : (n m : ℕ) (xs ys : List RecordedCall) → m ≡ n + length x
 numbered-append n m [] ys is first rest = subst (λ k. AreNumberedFrom k ys) (omega (arith, is)) rest
 numbered-append n m (x ∷ xs) ys is first rest = (first.0, numbered-append (n + 1) m xs ys (omega (arith, is)) first.1 rest)
 
-length-entries : (calls : List RecordedCall) → length (map entry_of calls) ≡ length calls
+length-entries : (calls : List RecordedCall) → length (map recorded_entry calls) ≡ length calls
 length-entries [] = refl
 length-entries (a ∷ calls) = omega (arith, length-entries calls)
 
@@ -92,9 +92,9 @@ pub answer-owed : (old : DeskState) (call : DeskCall) (a : RecordedCall) (p : �
     → IsAnswerTo old.gap old.request_ms (now_of old) a.call a.answer
 answer-owed old call a p r =
     let new : DeskState = a.desk in
-    let e : Entry = entry_of a in
-    let s : StandsFor old.request_ms old.base (old.history ++ e ∷ []) new.base new.history =
-    subst (λ (c : DeskCall). StandsFor old.request_ms old.base (old.history ++ record { call = c; answer = a.answer } ∷ []) new.base new.history)
+    let e : Entry = recorded_entry a in
+    let s : StandsForEntries old.request_ms old.base (old.history ++ e ∷ []) new.base new.history =
+    subst (λ (c : DeskCall). StandsForEntries old.request_ms old.base (old.history ++ record { call = c; answer = a.answer } ∷ []) new.base new.history)
     (sym r.names) r.records.stands in
     let limit : 1 ≤ HISTORY_LIMIT = lit≤ tt in
     let some : 1 ≤ length new.history = omega (arith, s.listed, length-append old.history (e ∷ []), limit) in
@@ -117,16 +117,16 @@ pub recorded-one : (old : DeskState) (call : DeskCall) (a : RecordedCall) (p : �
     → HasRecorded old (a ∷ []) a.desk
 recorded-one old call a p legal r = record {
   numbered = (r.records.numbered, tt);
-  stands = subst (λ (c : DeskCall). StandsFor old.request_ms old.base (old.history ++ record { call = c; answer = a.answer } ∷ []) a.desk.base a.desk.history)
+  stands = subst (λ (c : DeskCall). StandsForEntries old.request_ms old.base (old.history ++ record { call = c; answer = a.answer } ∷ []) a.desk.base a.desk.history)
       (sym r.names) r.records.stands;
-  legal = legal-push old.gap old.request_ms old.base old.history (entry_of a) legal.legal (answer-owed old call a p r);
+  legal = legal-push old.gap old.request_ms old.base old.history (recorded_entry a) legal.legal (answer-owed old call a p r);
   gap = r.records.gap;
   request_ms = r.records.request_ms;
 }
 
 -- what its calls come to
 pub now_after : (old : DeskState) (calls : List RecordedCall) (new : DeskState) → HasRecorded old calls new
-    → now_of new ≡ base_after old.request_ms old.base (old.history ++ map entry_of calls)
+    → now_of new ≡ base_after old.request_ms old.base (old.history ++ map recorded_entry calls)
 now_after old calls new r =
     ap (λ (m : ℕ). base_after m new.base new.history) r.request_ms
     ∙ ap (λ (b : Base). base_after old.request_ms b new.history) r.stands.stands
@@ -134,14 +134,14 @@ now_after old calls new r =
     ∙ ap (base_after old.request_ms old.base) (sym r.stands.in_turn)
 
 calls_after : (old : DeskState) (calls : List RecordedCall) (new : DeskState) → HasRecorded old calls new
-    → calls_of new ≡ calls_of old + length calls
+    → call_count new ≡ call_count old + length calls
 calls_after old calls new r =
     omega (
       arith,
       ap (λ (b : Base). b.calls) r.stands.stands,
       calls-after old.request_ms old.base r.stands.folded,
       ap (λ (es : List Entry). length es) r.stands.in_turn,
-      length-append old.history (map entry_of calls),
+      length-append old.history (map recorded_entry calls),
       length-append r.stands.folded new.history,
       length-entries calls,
     )
@@ -150,16 +150,16 @@ calls_after old calls new r =
 pub recorded-append : (old mid new : DeskState) (first rest : List RecordedCall) → HasRecorded old first mid → HasRecorded mid rest new
     → HasRecorded old (first ++ rest) new
 recorded-append old mid new first rest r s =
-    let xs : List Entry = map entry_of first in
-    let ys : List Entry = map entry_of rest in
-    let whole : old.history ++ map entry_of (first ++ rest) ≡ r.stands.folded ++ (mid.history ++ ys) =
-    ap (λ (es : List Entry). old.history ++ es) (map-append entry_of first rest)
+    let xs : List Entry = map recorded_entry first in
+    let ys : List Entry = map recorded_entry rest in
+    let whole : old.history ++ map recorded_entry (first ++ rest) ≡ r.stands.folded ++ (mid.history ++ ys) =
+    ap (λ (es : List Entry). old.history ++ es) (map-append recorded_entry first rest)
     ∙ sym (append_assoc old.history xs ys)
     ∙ ap (λ (es : List Entry). es ++ ys) r.stands.in_turn
     ∙ append_assoc r.stands.folded mid.history ys in
     let behind : mid.base ≡ base_after old.request_ms old.base r.stands.folded = r.stands.stands in
     record {
-      numbered = numbered-append (calls_of old) (calls_of mid) first rest (calls_after old first mid r) r.numbered s.numbered;
+      numbered = numbered-append (call_count old) (call_count mid) first rest (calls_after old first mid r) r.numbered s.numbered;
       stands = record {
         folded = r.stands.folded ++ s.stands.folded;
         in_turn = whole ∙ ap (λ (es : List Entry). r.stands.folded ++ es) s.stands.in_turn
@@ -281,17 +281,17 @@ opened_legal c d entries new legal =
     (subst (λ (es : List Entry). IsLegalHistory d.gap d.request_ms d.base (es ++ entries)) new.history legal)))
 
 announced : (c : Configuration) (d later : DeskState) (calls : List RecordedCall) → IsNewDesk c d → HasRecorded d calls later
-    → HoldsLegalDesk later → AnnouncesAfter c (map entry_of calls) later
+    → HoldsLegalDesk later → AnnouncesAfter c (map recorded_entry calls) later
 announced c d later calls new r legal = record {
-  legal = opened_legal c d (map entry_of calls) new r.legal;
+  legal = opened_legal c d (map recorded_entry calls) new r.legal;
   live = legal.live ∙ ap (λ (b : Base). live_requests b.present.items) (now_after d calls later r)
-      ∙ opened_live d.request_ms c.request_ms d.base empty_base d.history (map entry_of calls) new.request_ms new.base new.history;
+      ∙ opened_live d.request_ms c.request_ms d.base empty_base d.history (map recorded_entry calls) new.request_ms new.base new.history;
   announced = legal.announced;
 }
 
 pub announced_over_every_run : (c : Configuration) (w : WorldState) (events : List Event) (history : List Happening)
     → IsNewWorld c w → Runs w events history → (p : ℕ) → p < length c.endpoints
-    → AtDesk (AnnouncesAfter c (map entry_of (recorded_at p history))) (worlds_after w history).desks p
+    → AtDesk (AnnouncesAfter c (map recorded_entry (recorded_at p history))) (worlds_after w history).desks p
 announced_over_every_run c w events history new r p low =
     let count : p < length w.desks = omega (arith, low, new.desk_count) in
     let first = slice_get-some w.desks p count in

@@ -25,7 +25,7 @@ use Rattle.core_steps.specs.Machine.{worker_state}
 use Rattle.core_steps.specs.Notification.{notification_datagrams}
 use Rattle.core_steps.specs.Rule.{WorksOn, Works, DoesJob, JobAsks, WorkerAsks, Replies, pending_datagrams, working, with_hand, taking, hand_of, forwarding, worker_asked}
 use Rattle.core_steps.specs.Run.{Leaves, Stays}
-use Rattle.core_steps.specs.Turns.{asks_by, AsksOf, with_new_hand, IsTold, seen, turned, Turns}
+use Rattle.core_steps.specs.Turns.{asks_by, AsksOf, with_new_hand, IsDeskTold, world_with, world_after_turn, Turns}
 use Rattle.core_steps.specs.World.{Setup, Pending, Hand, free, doing, telling, WorkerState, WorldState}
 use Rattle.core_steps.proofs.RunLemmas.{settled, settled-same, giving-leads}
 
@@ -37,20 +37,20 @@ working_in v d later = record v { desks = later; workers = workers_by v.workers 
 -- the worker's parts are those after what was done at it
 pub turned-leads : (v : WorldState) (s : WorkerState) (d : Worked) (later : List DeskState) (next : WorkerState)
     → slice_get v.workers d.worker ≡ Some s → v.lost < 2 ^ 64 → v.tmmbns < 2 ^ 64 → next ≡ worker_after s d
-    → turned v d.worker later next ≡ settled (working_in v d later)
+    → world_after_turn v d.worker later next ≡ settled (working_in v d later)
 turned-leads v s d later next there lost tmmbns e =
     let at : slice_index_or v.workers d.worker no_worker ≡ s = get_or_from_slice_get v.workers d.worker s no_worker there in
     let is : next ≡ worker_after (slice_index_or v.workers d.worker no_worker) d = e ∙ sym (ap (λ (t : WorkerState). worker_after t d) at) in
-    ap (λ (t : WorkerState). turned v d.worker later t) is ∙ sym (settled-same (working_in v d later) lost tmmbns)
+    ap (λ (t : WorkerState). world_after_turn v d.worker later t) is ∙ sym (settled-same (working_in v d later) lost tmmbns)
 
 -- nothing was done at the worker
 pub turned-same : (v : WorldState) (k : ℕ) (s next : WorkerState) → slice_get v.workers k ≡ Some s → next ≡ s
-    → turned v k v.desks next ≡ v
+    → world_after_turn v k v.desks next ≡ v
 turned-same v k s next there e =
     let at : slice_index_or v.workers k no_worker ≡ s = get_or_from_slice_get v.workers k s no_worker there in
     let is : next ≡ slice_index_or v.workers k no_worker = e ∙ sym at in
     let same : slice_set v.workers k (slice_index_or v.workers k no_worker) ≡ v.workers = set-get_or v.workers k no_worker in
-    ap (λ (t : WorkerState). turned v k v.desks t) is
+    ap (λ (t : WorkerState). world_after_turn v k v.desks t) is
     ∙ ap (λ (workers : List WorkerState). record v { workers = workers }) same
 
 -- ---- nothing in hand
@@ -58,7 +58,7 @@ turned-same v k s next there e =
 pub idle-turns : (setup : Setup) (rows : List Row) (desks : List DeskState) (s next : WorkerState) (outs all : List Out)
     → s.hand ≡ free → s.jobs ≡ [] → next ≡ s → all ≡ outs ++ Idle ∷ [] → Turns setup rows desks desks s next outs all
 idle-turns setup rows desks s next outs all empty none same e w k there lost tmmbns =
-    let v : WorldState = seen w setup rows desks in
+    let v : WorldState = world_with w setup rows desks in
     record {
       happening = giving v (Idle ∷ []);
       allowed = subst (λ (hand : Hand). WorksOn v k s hand s.jobs (giving v (Idle ∷ []))) (sym empty)
@@ -74,7 +74,7 @@ pub taking-turns : (setup : Setup) (rows : List Row) (desks : List DeskState) (s
     (jobs : List Job) → s.hand ≡ free → s.jobs ≡ job ∷ jobs → next ≡ record { jobs = jobs; hand = doing job; legs = s.legs }
     → all ≡ outs → Turns setup rows desks desks s next outs all
 taking-turns setup rows desks s next outs all job jobs empty some is e w k there lost tmmbns =
-    let v : WorldState = seen w setup rows desks in
+    let v : WorldState = world_with w setup rows desks in
     let left : jobs ≡ drop 1 s.jobs ++ [] = sym (append-nil (drop 1 s.jobs) ∙ ap (λ (l : List Job). drop 1 l) some) in
     record {
       happening = working v (taking k s job) [];
@@ -99,7 +99,7 @@ pub telling-turns : (setup : Setup) (rows : List Row) (desks : List DeskState) (
     → all ≡ outs ++ notification_datagrams setup.table setup.unit rows p.notification p.effect
     → Turns setup rows desks desks s next outs all
 telling-turns setup rows desks s next outs all p full is e w k there lost tmmbns =
-    let v : WorldState = seen w setup rows desks in
+    let v : WorldState = world_with w setup rows desks in
     let h : Happening = working v (with_hand k s [] free) (pending_datagrams v p) in
     record {
       happening = h;
@@ -137,7 +137,7 @@ pub nobody-turns : (setup : Setup) (rows : List Row) (desks : List DeskState) (s
     → Turns setup rows desks desks s next outs all
 unfolding AsksBy
 nobody-turns setup rows desks s next outs all job full asks is e w k there lost tmmbns =
-    let v : WorldState = seen w setup rows desks in
+    let v : WorldState = world_with w setup rows desks in
     let h : Happening = working v (with_hand k s (job ∷ []) free) [] in
     record {
       happening = h;
@@ -154,7 +154,7 @@ pub forwarding-turns : (setup : Setup) (rows : List Row) (desks : List DeskState
     → all ≡ outs ++ job_datagrams setup.unit.cname rows s.legs job → Turns setup rows desks desks s next outs all
 unfolding AsksBy
 forwarding-turns setup rows desks s next outs all job full asks is e w k there lost tmmbns =
-    let v : WorldState = seen w setup rows desks in
+    let v : WorldState = world_with w setup rows desks in
     let d : Worked = record { worker = k; taken = []; put = []; finished = job ∷ []; hand = free; legs = legs_after rows s.legs job } in
     record {
       happening = forwarding v k s job;
@@ -172,11 +172,11 @@ replied-turns : (v : WorldState) (k : ℕ) (s next : WorkerState) (outs all : Li
     → Replies p d call reply → later ≡ desks_after v.desks reply → pending ≡ pending_after leg reply
     → all ≡ outs ++ refusals_after reply → next ≡ with_new_hand s (hand_of pending)
     → Leaves (λ h. (r : Option RecordedCall) × Replies p d call r × (h ≡ worker_asked v k s job leg p r)) v outs
-    (turned v k later next) all
+    (world_after_turn v k later next) all
 replied-turns v k s next outs all job p leg call d later pending None there lost tmmbns replies becomes waits given is = record {
   happening = worker_asked v k s job leg p None;
   allowed = (None, replies, refl);
-  leads = ap (λ (l : List DeskState). turned v k l next) becomes
+  leads = ap (λ (l : List DeskState). world_after_turn v k l next) becomes
       ∙ turned-leads v s (with_hand k s (job ∷ []) free) v.desks next there lost tmmbns
       (hand-after s next free (is ∙ ap (λ (q : Option Pending). with_new_hand s (hand_of q)) waits));
   given = given;
@@ -184,7 +184,7 @@ replied-turns v k s next outs all job p leg call d later pending None there lost
 replied-turns v k s next outs all job p leg call d later pending (Some a) there lost tmmbns replies becomes waits given is = record {
   happening = worker_asked v k s job leg p (Some a);
   allowed = (Some a, replies, refl);
-  leads = ap (λ (l : List DeskState). turned v k l next) becomes
+  leads = ap (λ (l : List DeskState). world_after_turn v k l next) becomes
       ∙ turned-leads v s (with_hand k s (job ∷ []) (hand_of (pending_after leg (Some a)))) (desks_by v.desks a) next there lost tmmbns
       (hand-after s next (hand_of (pending_after leg (Some a))) (is ∙ ap (λ (q : Option Pending). with_new_hand s (hand_of q)) waits));
   given = given;
@@ -194,11 +194,11 @@ asked-turns-at : (v : WorldState) (k : ℕ) (s next : WorkerState) (outs all : L
     (call : DeskCall) (found : Option DeskState) (later : List DeskState) (pending : Option Pending)
     → slice_get v.workers k ≡ Some s → v.lost < 2 ^ 64 → v.tmmbns < 2 ^ 64
     → Asked p leg call found v.desks later pending outs all → next ≡ with_new_hand s (hand_of pending)
-    → Leaves (WorkerAsks v k s job leg p call found) v outs (turned v k later next) all
+    → Leaves (WorkerAsks v k s job leg p call found) v outs (world_after_turn v k later next) all
 asked-turns-at v k s next outs all job p leg call None later pending there lost tmmbns asked is = record {
   happening = working v (with_hand k s (job ∷ []) free) [];
   allowed = refl;
-  leads = ap (λ (l : List DeskState). turned v k l next) asked.becomes
+  leads = ap (λ (l : List DeskState). world_after_turn v k l next) asked.becomes
       ∙ turned-leads v s (with_hand k s (job ∷ []) free) v.desks next there lost tmmbns
       (hand-after s next free (is ∙ ap (λ (q : Option Pending). with_new_hand s (hand_of q)) asked.waits));
   given = asked.given ∙ sym (append-nil outs);
@@ -209,12 +209,12 @@ asked-turns-at v k s next outs all job p leg call (Some d) later pending there l
 
 pub asked-turns : (setup : Setup) (rows : List Row) (desks later : List DeskState) (s next : WorkerState) (outs all : List Out) (job : Job)
     (p : ℕ) (leg : Option ℕ) (call : DeskCall)
-    → s.hand ≡ doing job → AsksOf setup.table job (Desk p leg call) → IsTold p leg call desks later s next outs all
+    → s.hand ≡ doing job → AsksOf setup.table job (Desk p leg call) → IsDeskTold p leg call desks later s next outs all
     → Turns setup rows desks later s next outs all
 unfolding AsksBy
 asked-turns setup rows desks later s next outs all job p leg call full asks told w k there lost tmmbns =
-    let v : WorldState = seen w setup rows desks in
-    let did : Leaves (WorkerAsks v k s job leg p call (slice_get desks p)) v outs (turned v k later next) all =
+    let v : WorldState = world_with w setup rows desks in
+    let did : Leaves (WorkerAsks v k s job leg p call (slice_get desks p)) v outs (world_after_turn v k later next) all =
     asked-turns-at v k s next outs all job p leg call (slice_get desks p) later told.pending there lost tmmbns told.asked told.worker in
     record {
       happening = did.happening;
@@ -231,9 +231,9 @@ with_both w desks workers = record w { desks = desks; workers = workers }
 
 pub turn-lifts : (w : WorldState) (k : ℕ) (s next : WorkerState) (later : List DeskState) (new : WorldState) (outs all : List Out)
     → slice_get w.workers k ≡ Some s → w.lost < 2 ^ 64 → w.tmmbns < 2 ^ 64 → Turns w.setup w.rows w.desks later s next outs all
-    → new ≡ turned w k later next → Leaves (Works w k (slice_get w.workers k)) w outs new all
+    → new ≡ world_after_turn w k later next → Leaves (Works w k (slice_get w.workers k)) w outs new all
 turn-lifts w k s next later new outs all there lost tmmbns turns is =
-    let did : Leaves (WorksOn w k s s.hand s.jobs) w outs (turned w k later next) all = turns w k there lost tmmbns in
+    let did : Leaves (WorksOn w k s s.hand s.jobs) w outs (world_after_turn w k later next) all = turns w k there lost tmmbns in
     record {
       happening = did.happening;
       allowed = subst (λ (o : Option WorkerState). Works w k o did.happening) (sym there) did.allowed;
@@ -255,7 +255,7 @@ work-done w k i s next rows desks later left workers outs some all (Ok x) same t
     let d : Turns w.setup w.rows w.desks later s next outs all =
     subst (λ (l : List Out). Turns w.setup w.rows w.desks later s next l all) es b in
     let at : slice_get w.workers k ≡ Some s = subst (λ (j : ℕ). slice_get w.workers j ≡ Some s) same there in
-    let new : with_both w left workers ≡ turned w k later next =
+    let new : with_both w left workers ≡ world_after_turn w k later next =
     ap (λ (l : List DeskState). with_both w l workers) el
     ∙ ap (λ (l : List WorkerState). with_both w later l) (ew ∙ ap (λ (j : ℕ). set w.workers j next) same) in
     turn-lifts w k s next later (with_both w left workers) outs all at lost tmmbns d new

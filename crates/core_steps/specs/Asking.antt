@@ -12,7 +12,11 @@ use Rattle.core_steps.specs.Rule.{Replies, refusals, unrecorded_out, pending_of}
 
 -- what is to be told of a call of this publisher's desk that is answered so
 abbrev pub told_of : ℕ → Option ℕ → Answer → Notification
-told_of p leg answer = record { publisher = p; asked_by = if is_done answer then leg else None; pli = is_answered_up answer }
+told_of p leg answer = record {
+  publisher = p;
+  asked_by = if is_done answer then leg else None;
+  pli = is_answered_up answer;
+}
 
 abbrev pub desk_after : DeskState → Option RecordedCall → DeskState
 desk_after d None = d
@@ -31,7 +35,8 @@ refusals_after None = unrecorded_out
 refusals_after (Some a) = refusals a.answer
 
 -- this desk of a publisher replied: what it is from then on, what waits, and what was given out behind what was there
-pub record Replied (p : ℕ) (leg : Option ℕ) (call : DeskCall) (d new : DeskState) (pending : Option Pending) (outs all : List Out) : Type 0 where
+pub record Replied (p : ℕ) (leg : Option ℕ) (call : DeskCall) (d new : DeskState)
+    (pending : Option Pending) (outs all : List Out) : Type 0 where
   pub reply : Option RecordedCall
   pub replies : Replies p d call reply
   pub desk : new ≡ desk_after d reply
@@ -39,7 +44,8 @@ pub record Replied (p : ℕ) (leg : Option ℕ) (call : DeskCall) (d new : DeskS
   pub given : all ≡ outs ++ refusals_after reply
 
 -- the desk of a publisher was asked among these, where it is there
-pub record HasReply (p : ℕ) (leg : Option ℕ) (call : DeskCall) (d : DeskState) (desks new : List DeskState) (pending : Option Pending) (outs all : List Out) : Type 0 where
+pub record HasReply (p : ℕ) (leg : Option ℕ) (call : DeskCall) (d : DeskState)
+    (desks new : List DeskState) (pending : Option Pending) (outs all : List Out) : Type 0 where
   pub reply : Option RecordedCall
   pub replies : Replies p d call reply
   pub becomes : new ≡ desks_after desks reply
@@ -47,11 +53,14 @@ pub record HasReply (p : ℕ) (leg : Option ℕ) (call : DeskCall) (d : DeskStat
   pub given : all ≡ outs ++ refusals_after reply
 
 -- nobody was asked
-pub record IsNobody (desks new : List DeskState) (pending : Option Pending) (outs all : List Out) : Type 0 where
+pub record IsNobody (desks new : List DeskState) (pending : Option Pending)
+    (outs all : List Out) : Type 0 where
   pub becomes : new ≡ desks
   pub waits : pending ≡ None
   pub given : all ≡ outs
 
-abbrev pub Asked : ℕ → Option ℕ → DeskCall → Option DeskState → List DeskState → List DeskState → Option Pending → List Out → List Out → Type 0
+abbrev pub Asked : ℕ → Option ℕ → DeskCall → Option DeskState → List DeskState → List DeskState
+    → Option Pending → List Out → List Out → Type 0
 Asked p leg call None desks new pending outs all = IsNobody desks new pending outs all
-Asked p leg call (Some d) desks new pending outs all = HasReply p leg call d desks new pending outs all
+Asked p leg call (Some d) desks new pending outs all =
+    HasReply p leg call d desks new pending outs all

@@ -16,8 +16,11 @@ source_of t endpoint = slice_index_or t.endpoints endpoint (record { 0 = 0 })
 abbrev pub stay_call : LinkTable → ℕ → ℕ → Change → Option (ℕ × DeskCall)
 stay_call t leg stay change =
     if stay == 0 then None
-    else option_map (λ (l : LegSettings). (l.publisher, Stay (source_of t l.subscriber) stay change)) (slice_get t.legs leg)
+    else option_map
+    (λ (l : LegSettings). (l.publisher, Stay (source_of t l.subscriber) stay change))
+    (slice_get t.legs leg)
 
 -- the publisher of a leg, and that a picture of it is wanted
 abbrev pub picture_call : LinkTable → ℕ → ℕ → Option (ℕ × DeskCall)
-picture_call t leg moment = option_map (λ (l : LegSettings). (l.publisher, Time moment Pli)) (slice_get t.legs leg)
+picture_call t leg moment =
+    option_map (λ (l : LegSettings). (l.publisher, Time moment Pli)) (slice_get t.legs leg)

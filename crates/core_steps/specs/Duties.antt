@@ -4,7 +4,7 @@ use Rattle.members.specs.Presence.{source_at}
 use Rattle.members.specs.Reception.{Block}
 use Rattle.members.specs.Room.{new_room, reception_at, after_block}
 use Rattle.members.specs.Settings.{Configuration}
-use Rattle.members.specs.Stream.{IsAnswer}
+use Rattle.members.specs.Stream.{IsBlockAnswer}
 use Rattle.core_steps.specs.declared.duties.Duty.{Duty}
 use Rattle.core_steps.specs.declared.duties.Duty.TheVariants.{Order, Push, Pulse, Expire, Report}
 use Rattle.core_steps.specs.Head.{blocks_of, report_bytes}
@@ -36,11 +36,13 @@ task_by (Report publisher) = report publisher
 -- the oldest task is the duty, and waits no more
 abbrev pub HandsOut : WorldState → WorldState → Option Duty → Type 0
 HandsOut old new None = (old.tasks ≡ []) × (new ≡ old)
-HandsOut old new (Some duty) = (old.tasks ≡ task_by duty ∷ new.tasks) × (new ≡ record old { tasks = new.tasks })
+HandsOut old new (Some duty) =
+    (old.tasks ≡ task_by duty ∷ new.tasks) × (new ≡ record old { tasks = new.tasks })
 
 -- a report to the publisher at the room's moment, with the block about it, where a packet of it was received
 pub record Reports (old : WorldState) (p : ℕ) (new : WorldState) (bytes : List ℕ) : Type 0 where
   pub block : Option Block
-  pub answer : IsAnswer (reception_at old.room p) old.room.moment (source_at old.room.endpoints p) block
+  pub answer : IsBlockAnswer (reception_at old.room p) old.room.moment
+      (source_at old.room.endpoints p) block
   pub datagram : bytes ≡ report_bytes old.setup.unit (blocks_of block)
   pub room : new ≡ record old { room = after_block old.room p }

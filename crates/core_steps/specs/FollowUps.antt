@@ -5,8 +5,8 @@ use Rattle.members.specs.declared.settings.LegSettings.{LegSettings}
 use Rattle.members.specs.Presence.{is_present_at}
 use Rattle.members.specs.Room.{RoomState, reception_at, after_report}
 use Rattle.members.specs.Stream.{timestamps_of}
-use Rattle.core_steps.specs.declared.hearing.Due.{Due}
-use Rattle.core_steps.specs.declared.hearing.Due.TheVariants as due
+use Rattle.core_steps.specs.declared.ticking.Due.{Due}
+use Rattle.core_steps.specs.declared.ticking.Due.TheVariants as due
 use Rattle.core_steps.specs.declared.intake.Ask.{Ask}
 use Rattle.core_steps.specs.declared.intake.Ask.TheVariants.{Rate, Resend as Again, Picture}
 use Rattle.core_steps.specs.declared.output.Out.{Out}
@@ -15,7 +15,7 @@ use Rattle.core_steps.specs.declared.output.Refusal.TheVariants.{Room}
 use Rattle.core_steps.specs.declared.tasks.FollowUp.{FollowUp}
 use Rattle.core_steps.specs.declared.tasks.FollowUp.TheVariants.{Packet, Request, Resend, Pli, LegReport, Pulse, Expire, Report}
 use Rattle.core_steps.specs.Links.{LinkTable, leg_to, worker_of}
-use Rattle.core_steps.specs.Hearing.{stay_in, owner_of, is_served_by, media_of}
+use Rattle.core_steps.specs.Hearing.{leg_stay, owner_of, is_served_by, media_of}
 
 abbrev pub due_at : Due → ℕ → FollowUp
 due_at due.Pulse endpoint = Pulse endpoint
@@ -28,13 +28,15 @@ due_to r d endpoint = if is_present_at r.endpoints endpoint then Some (due_at d 
 
 -- the datagram goes to a worker that serves the publisher
 abbrev pub packet_to : LinkTable → RoomState → ℕ → ℕ → Option FollowUp
-packet_to t r publisher worker = if is_served_by t r publisher worker then Some (Packet worker publisher) else None
+packet_to t r publisher worker =
+    if is_served_by t r publisher worker then Some (Packet worker publisher) else None
 
 -- the report to a leg's subscriber, where a stay stands
 abbrev pub report_to : LinkTable → RoomState → ℕ × LegSettings → Option FollowUp
 report_to t r (leg, l) =
-    if stay_in r leg == 0 then None
-    else Some (LegReport (worker_of t l) leg (stay_in r leg) (timestamps_of (reception_at r l.publisher).report))
+    if leg_stay r leg == 0 then None
+    else Some (LegReport (worker_of t l) leg (leg_stay r leg)
+    (timestamps_of (reception_at r l.publisher).report))
 
 abbrev pub asked_of : ℕ → ℕ → ℕ → ℕ → Ask → FollowUp
 asked_of moment worker leg stay (Rate source word) = Request worker leg stay word
@@ -44,18 +46,19 @@ asked_of moment worker leg stay (Picture source) = Pli worker leg moment
 abbrev pub follow_up_on : LinkTable → RoomState → Ask → Option ℕ → Option FollowUp
 follow_up_on t r a None = None
 follow_up_on t r a (Some leg) =
-    if stay_in r leg == 0 then None else Some (asked_of r.moment (owner_of t leg) leg (stay_in r leg) a)
+    if leg_stay r leg == 0 then None
+    else Some (asked_of r.moment (owner_of t leg) leg (leg_stay r leg) a)
 
 -- what follows from an ask of this endpoint
 abbrev pub follow_up_for : LinkTable → RoomState → ℕ → Ask → Option FollowUp
 follow_up_for t r endpoint a = follow_up_on t r a (leg_to t endpoint (media_of a))
 
 -- an ask from which nothing follows is refused
-abbrev pub unfollowed : Option FollowUp → List Out
-unfollowed None = Refused (Room UnknownLeg) ∷ []
-unfollowed (Some next) = []
+abbrev pub refusal_unless : Option FollowUp → List Out
+refusal_unless None = Refused (Room UnknownLeg) ∷ []
+refusal_unless (Some next) = []
 
 -- the room with this sender report of the endpoint, where there is one
-abbrev pub noted : RoomState → ℕ → Option (ℕ × ℕ) → RoomState
-noted r endpoint None = r
-noted r endpoint (Some t) = after_report r endpoint t.0 t.1
+abbrev pub room_with_report : RoomState → ℕ → Option (ℕ × ℕ) → RoomState
+room_with_report r endpoint None = r
+room_with_report r endpoint (Some t) = after_report r endpoint t.0 t.1

@@ -6,7 +6,7 @@ use Rattle.rate_desk.specs.declared.call.Answer.{Answer}
 use Rattle.rate_desk.specs.declared.effect.Effect.{Effect}
 use Rattle.rate_desk.specs.State.{DeskState}
 use Rattle.routes.specs.declared.change.Change.{Change}
-use Rattle.routes.specs.Rows.{changed}
+use Rattle.routes.specs.Rows.{row_changed}
 use Rattle.core_steps.specs.declared.job.Job.{Job}
 use Rattle.core_steps.specs.declared.output.Out.{Out}
 use Rattle.core_steps.specs.declared.leg.LegState.{LegState}
@@ -71,17 +71,19 @@ giving w outs = record {
 }
 
 -- a count that stays at its greatest once it is there
-abbrev pub counted : ℕ → ℕ → ℕ
-counted count more = min (count + more) (2 ^ 64 - 1)
+abbrev pub capped_count : ℕ → ℕ → ℕ
+capped_count count more = min (count + more) (2 ^ 64 - 1)
 
 abbrev pub no_worker : WorkerState
 no_worker = record { jobs = []; hand = free; legs = [] }
 
 abbrev pub worker_after : WorkerState → Worked → WorkerState
-worker_after s d = record { jobs = drop (length d.taken) s.jobs ++ d.put; hand = d.hand; legs = d.legs }
+worker_after s d =
+    record { jobs = drop (length d.taken) s.jobs ++ d.put; hand = d.hand; legs = d.legs }
 
 abbrev pub workers_by : List WorkerState → Worked → List WorkerState
-workers_by workers d = slice_set workers d.worker (worker_after (slice_index_or workers d.worker no_worker) d)
+workers_by workers d =
+    slice_set workers d.worker (worker_after (slice_index_or workers d.worker no_worker) d)
 
 abbrev pub desks_by : List DeskState → RecordedCall → List DeskState
 desks_by desks a = slice_set desks a.publisher a.desk
@@ -94,9 +96,9 @@ world_after w h = record {
   tasks = drop (length h.did) w.tasks ++ h.made;
   pending = h.pending;
   desks = fold desks_by w.desks h.asked;
-  rows = fold changed w.rows h.changes;
+  rows = fold row_changed w.rows h.changes;
   workers = fold workers_by w.workers h.worked;
   reported = h.reported;
-  lost = counted w.lost (length h.given_up);
-  tmmbns = counted w.tmmbns h.tmmbns;
+  lost = capped_count w.lost (length h.given_up);
+  tmmbns = capped_count w.tmmbns h.tmmbns;
 }

@@ -18,7 +18,11 @@ abbrev pub heard_of : Said → Heard
 heard_of (media source number timestamp) = Media (record { 0 = source }) number timestamp
 heard_of leaves = Goodbye
 heard_of (control speaker reports tmmbns asks) =
-    Control (record { speaker = record { 0 = speaker }; report = last_or None reports; tmmbns = tmmbns })
+    Control (record {
+      speaker = record { 0 = speaker };
+      report = last_or None reports;
+      tmmbns = tmmbns;
+    })
 
 abbrev pub asks_of : Said → List Ask
 asks_of (media source number timestamp) = []
@@ -27,7 +31,8 @@ asks_of (control speaker reports tmmbns asks) = asks
 
 -- The call answers what is said, and appends what is asked for; else the list is as it was. Memory is wanted only for
 -- what is asked for, and only of a datagram that isn't refused.
-abbrev pub HearsBy : (Result Said Refusal → Type 0) → List Ask → List Ask → Result Heard Unheard → Type 0
+abbrev pub HearsBy : (Result Said Refusal → Type 0) → List Ask → List Ask → Result Heard Unheard
+    → Type 0
 HearsBy says before after (Ok heard) =
     (said : Said) × says (Ok said) × (heard ≡ heard_of said) × (after ≡ before ++ asks_of said)
 HearsBy says before after (Err (Refused refusal)) = says (Err refusal) × (after ≡ before)
@@ -64,13 +69,16 @@ pub record IsSurveyOf (own : ℕ) (s : Survey) (g : Gist) : Type 0 where
   pub tmmbns : s.control.tmmbns ≡ g.tmmbns
 
 abbrev pub Surveys : ℕ → (Result Gist FbFault → Type 0) → Result Survey FbFault → Type 0
-Surveys own says r = MatchResult r (λ s. (g : Gist) × says (Ok g) × IsSurveyOf own s g) (λ fault. says (Err fault))
+Surveys own says r =
+    MatchResult r (λ s. (g : Gist) × says (Ok g) × IsSurveyOf own s g) (λ fault. says (Err fault))
 
 -- a call appends all of this, or nothing where memory is wanted
 abbrev pub Appends : {E : Type 0} → List Ask → List Ask → List Ask → Result (Unit {0}) E → Type 0
-Appends before after more r = MatchResult r (λ _. after ≡ before ++ more) (λ _. (0 < length more) × (after ≡ before))
+Appends before after more r =
+    MatchResult r (λ _. after ≡ before ++ more) (λ _. (0 < length more) × (after ≡ before))
 
 -- a call appends all of this, or something where memory is wanted
 abbrev pub Fills : {E : Type 0} → List Ask → List Ask → List Ask → Result (Unit {0}) E → Type 0
 Fills before after more r =
-    MatchResult r (λ _. after ≡ before ++ more) (λ _. (0 < length more) × ((some : List Ask) × (after ≡ before ++ some)))
+    MatchResult r (λ _. after ≡ before ++ more)
+    (λ _. (0 < length more) × ((some : List Ask) × (after ≡ before ++ some)))

@@ -41,8 +41,8 @@ receptions endpoint (control speaker reports tmmbns asks) =
     option_map_or (λ (r : ℕ × ℕ). SenderReport endpoint r.0 r.1 ∷ []) (last_or None reports) []
 
 -- the stay of the leg that stands in the room; 0 where none does
-abbrev pub stay_in : RoomState → ℕ → ℕ
-stay_in r leg = (leg_at r.legs leg).stay
+abbrev pub leg_stay : RoomState → ℕ → ℕ
+leg_stay r leg = (leg_at r.legs leg).stay
 
 -- the worker that owns the leg of this number
 abbrev pub owner_of : LinkTable → ℕ → ℕ
@@ -50,7 +50,8 @@ owner_of t leg = option_map_or (worker_of t) (slice_get t.legs leg) 0
 
 -- the workers that own one of this publisher's legs that has a stay, by rising number
 abbrev pub is_served_by : LinkTable → RoomState → ℕ → ℕ → Bool
-is_served_by t r publisher worker = list_any (λ leg. not (stay_in r leg == 0) && (owner_of t leg == worker)) (legs_of t publisher)
+is_served_by t r publisher worker =
+    list_any (λ leg. not (leg_stay r leg == 0) && (owner_of t leg == worker)) (legs_of t publisher)
 
 abbrev pub numbers_below : ℕ → List ℕ
 numbers_below n = map (λ (p : ℕ × ℕ). p.0) (enumerate_from 0 (replicate n 0))
@@ -73,7 +74,8 @@ job_by moment leg stay (Picture source) = Pli leg moment
 abbrev pub task_on : LinkTable → RoomState → Ask → Option ℕ → Option Task
 task_on t r a None = None
 task_on t r a (Some leg) =
-    if stay_in r leg == 0 then None else Some (push (owner_of t leg) (job_by r.moment leg (stay_in r leg) a))
+    if leg_stay r leg == 0 then None
+    else Some (push (owner_of t leg) (job_by r.moment leg (leg_stay r leg) a))
 
 abbrev pub task_for : LinkTable → RoomState → ℕ → Ask → Option Task
 task_for t r endpoint a = task_on t r a (leg_to t endpoint (media_of a))
@@ -84,9 +86,11 @@ refusal_for (Some task) = []
 
 -- the jobs that follow from a datagram, in the order of its packets and entries
 abbrev pub jobs_of : LinkTable → RoomState → ℕ → List ℕ → Said → List Task
-jobs_of t r endpoint bytes (media ssrc seq timestamp) = map (λ w. push w (Packet endpoint bytes)) (serving t r endpoint)
+jobs_of t r endpoint bytes (media ssrc seq timestamp) =
+    map (λ w. push w (Packet endpoint bytes)) (serving t r endpoint)
 jobs_of t r endpoint bytes leaves = []
-jobs_of t r endpoint bytes (control speaker reports tmmbns asks) = filter_map (task_for t r endpoint) asks
+jobs_of t r endpoint bytes (control speaker reports tmmbns asks) =
+    filter_map (task_for t r endpoint) asks
 
 -- each entry that names no leg with a stay of this subscriber is refused by itself
 abbrev pub refusals_of : LinkTable → RoomState → ℕ → Said → List Out
@@ -103,18 +107,21 @@ room_refuses w fault = giving w (Refused (Room fault) ∷ [])
 
 abbrev pub hearing_by : WorldState → ℕ → ℕ → List ℕ → Said → Result Step RoomFault → Happening
 hearing_by w moment endpoint bytes said (Err fault) = room_refuses w fault
-hearing_by w moment endpoint bytes said (Ok step) = record (giving w (refusals_of w.setup.table step.room endpoint said)) {
-  calls = room_call moment endpoint said ∷ receptions endpoint said;
-  made = map order step.orders ++ jobs_of w.setup.table step.room endpoint bytes said;
-  tmmbns = tmmbns_of said;
-}
+hearing_by w moment endpoint bytes said (Ok step) =
+    record (giving w (refusals_of w.setup.table step.room endpoint said)) {
+      calls = room_call moment endpoint said ∷ receptions endpoint said;
+      made = map order step.orders ++ jobs_of w.setup.table step.room endpoint bytes said;
+      tmmbns = tmmbns_of said;
+    }
 
 abbrev pub hearing : WorldState → ℕ → ℕ → List ℕ → Result Said Refusal → Happening
 hearing w moment endpoint bytes (Err refusal) = giving w (Refused refusal ∷ [])
-hearing w moment endpoint bytes (Ok said) = hearing_by w moment endpoint bytes said (step_of w.room (room_call moment endpoint said))
+hearing w moment endpoint bytes (Ok said) =
+    hearing_by w moment endpoint bytes said (step_of w.room (room_call moment endpoint said))
 
 -- what the datagram says is done, or it is refused
-pub record IsHearing (w : WorldState) (moment endpoint : ℕ) (bytes : List ℕ) (h : Happening) : Type 0 where
+pub record IsHearing (w : WorldState) (moment endpoint : ℕ) (bytes : List ℕ)
+    (h : Happening) : Type 0 where
   pub said : Result Said Refusal
   pub says : Says (source_of w.setup.table endpoint).0 bytes said
   pub does : h ≡ hearing w moment endpoint bytes said
@@ -134,19 +141,22 @@ is_report_due w r = nat_le w.setup.report_ms (r.moment - w.reported)
 -- a report for the subscriber of a leg in which a stay stands
 abbrev pub leg_report : LinkTable → RoomState → ℕ × LegSettings → List Task
 leg_report t r (leg, l) =
-    if stay_in r leg == 0 then []
-    else push (worker_of t l) (Report leg (stay_in r leg) (timestamps_of (reception_at r l.publisher).report)) ∷ []
+    if leg_stay r leg == 0 then []
+    else push (worker_of t l)
+    (Report leg (leg_stay r leg) (timestamps_of (reception_at r l.publisher).report)) ∷ []
 
 abbrev pub reports : WorldState → RoomState → List Task
 reports w r =
     if is_report_due w r
-    then map report (present_endpoints w.setup.table r) ++ flat_map (leg_report w.setup.table r) (enumerate_from 0 w.setup.table.legs)
+    then map report (present_endpoints w.setup.table r)
+    ++ flat_map (leg_report w.setup.table r) (enumerate_from 0 w.setup.table.legs)
     else []
 
 abbrev pub ticking_by : WorldState → ℕ → Step → Happening
 ticking_by w moment step = record (giving w []) {
   calls = Tick moment ∷ [];
-  made = map order step.orders ++ map pulse (present_endpoints w.setup.table step.room) ++ expires w.setup step.room ++ reports w step.room;
+  made = map order step.orders ++ map pulse (present_endpoints w.setup.table step.room)
+      ++ expires w.setup step.room ++ reports w step.room;
   reported = if is_report_due w step.room then step.room.moment else w.reported;
 }
 
@@ -157,7 +167,8 @@ ticking w moment = ticking_by w moment (tick_step w.room moment)
 
 abbrev pub selecting_by : WorldState → ℕ → ℕ → Bool → Result Step RoomFault → Happening
 selecting_by w moment leg on (Err fault) = room_refuses w fault
-selecting_by w moment leg on (Ok step) = record (giving w []) { calls = Select moment leg on ∷ []; made = map order step.orders }
+selecting_by w moment leg on (Ok step) =
+    record (giving w []) { calls = Select moment leg on ∷ []; made = map order step.orders }
 
 abbrev pub selecting : WorldState → ℕ → ℕ → Bool → Happening
 selecting w moment leg on = selecting_by w moment leg on (select_step w.room moment leg on)

@@ -34,7 +34,8 @@ new_state ring number link = record {
 abbrev pub owned_by : LinkTable → ℕ → ℕ → List (ℕ × LegSettings) → List LegState
 owned_by t ring worker [] = []
 owned_by t ring worker (e ∷ es) =
-    if worker_of t e.1 == worker then new_state ring e.0 e.1 ∷ owned_by t ring worker es else owned_by t ring worker es
+    if worker_of t e.1 == worker then new_state ring e.0 e.1 ∷ owned_by t ring worker es
+    else owned_by t ring worker es
 
 -- the legs of this worker as they begin, by rising number
 abbrev pub new_legs : LinkTable → ℕ → ℕ → List LegState
@@ -48,21 +49,27 @@ row_of rows s = slice_index_or rows s.number opening_row
 
 -- a datagram more was handed out
 abbrev pub handed_out : LegState → ℕ → LegState
-handed_out s more = record s { packets = (s.packets + 1) % 2 ^ 32; octets = (s.octets + more) % 2 ^ 32 }
+handed_out s more =
+    record s { packets = (s.packets + 1) % 2 ^ 32; octets = (s.octets + more) % 2 ^ 32 }
 
 abbrev pub kept_with : Kept → ℕ → List ℕ → Kept
-kept_with k number bytes = record k { items = keep_last k.capacity (k.items ++ record { number = number; bytes = bytes } ∷ []) }
+kept_with k number bytes =
+    record k {
+      items = keep_last k.capacity
+          (k.items ++ record { number = number; bytes = bytes } ∷ []);
+    }
 
 -- a packet went out under a number, was kept, and counts
-abbrev pub forwarded : LegState → Held → ℕ → ℕ → List ℕ → LegState
-forwarded s numbers number more bytes =
+abbrev pub leg_after_packet : LegState → Held → ℕ → ℕ → List ℕ → LegState
+leg_after_packet s numbers number more bytes =
     record (handed_out s more) { numbers = numbers; kept = kept_with s.kept number bytes }
 
 -- ---- a packet
 
 -- the packet is of the leg's publisher, and the leg's row is on
 abbrev pub takes : List Row → ℕ → List ℕ → LegState → Bool
-takes rows publisher bytes s = (s.link.publisher == publisher) && ((row_of rows s).on && is_rtp bytes)
+takes rows publisher bytes s =
+    (s.link.publisher == publisher) && ((row_of rows s).on && is_rtp bytes)
 
 abbrev pub answer_on : List Row → List ℕ → LegState → Result ℕ Cause
 answer_on rows bytes s = answer_to s.numbers (row_of rows s).turn (sequence_number bytes)
@@ -77,7 +84,9 @@ packet_outs s bytes (Err cause) = Skip s.number cause ∷ []
 
 abbrev pub packet_after : List Row → List ℕ → LegState → Result ℕ Cause → LegState
 packet_after rows bytes s (Ok number) =
-    forwarded s (held_with s.numbers (row_of rows s).turn (sequence_number bytes) (Ok number)) number (payload_octets bytes)
+    leg_after_packet s
+    (held_with s.numbers (row_of rows s).turn (sequence_number bytes) (Ok number)) number
+    (payload_octets bytes)
     (outgoing_bytes s bytes number)
 packet_after rows bytes s (Err cause) = s
 
@@ -100,10 +109,12 @@ resent s (Some bytes) = handed_out s (payload_octets bytes)
 -- unit's canonical name (RFC 3550, sections 6.4.1, 6.4.2 and 6.5.1)
 abbrev pub report_packet : LegState → Option (ℕ × ℕ) → List ℕ
 report_packet s None = packet_bytes (rr_packet s.link.out_ssrc.0 [])
-report_packet s (Some sr) = packet_bytes (sr_packet s.link.out_ssrc.0 sr.0 sr.1 s.packets s.octets [])
+report_packet s (Some sr) =
+    packet_bytes (sr_packet s.link.out_ssrc.0 sr.0 sr.1 s.packets s.octets [])
 
-abbrev pub report_bytes : List ℕ → LegState → Option (ℕ × ℕ) → List ℕ
-report_bytes cname s sr = report_packet s sr ++ packet_bytes (cname_packet s.link.out_ssrc.0 cname)
+abbrev pub leg_report_bytes : List ℕ → LegState → Option (ℕ × ℕ) → List ℕ
+leg_report_bytes cname s sr =
+    report_packet s sr ++ packet_bytes (cname_packet s.link.out_ssrc.0 cname)
 
 -- ---- jobs
 
@@ -115,7 +126,7 @@ leg_datagrams cname rows (Resend leg stay nack) s =
     then flat_map (λ seq. resend_outs s seq (last_kept_with s.kept.items seq)) (lost_numbers nack)
     else []
 leg_datagrams cname rows (Report leg stay sr) s =
-    if stands rows leg stay s then Send s.link.subscriber (report_bytes cname s sr) ∷ [] else []
+    if stands rows leg stay s then Send s.link.subscriber (leg_report_bytes cname s sr) ∷ [] else []
 leg_datagrams cname rows (Request leg stay word) s = []
 leg_datagrams cname rows (Pli leg moment) s = []
 

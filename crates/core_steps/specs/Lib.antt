@@ -16,6 +16,7 @@ pub mod Rule
 pub mod Run
 pub mod Opening
 pub mod Laws
+pub mod EveryRun
 pub mod Traces
 pub mod Numbered
 pub mod FollowUps

@@ -27,20 +27,22 @@ abbrev pub numbered_legs : LinkTable → List (ℕ × LegSettings)
 numbered_legs t = enumerate_from 0 t.legs
 
 -- the numbers of those of these legs that are of this publisher
-abbrev pub numbers_of : ℕ → List (ℕ × LegSettings) → List ℕ
-numbers_of publisher [] = []
-numbers_of publisher (e ∷ es) =
-    if e.1.publisher == publisher then e.0 ∷ numbers_of publisher es else numbers_of publisher es
+abbrev pub leg_numbers_of : ℕ → List (ℕ × LegSettings) → List ℕ
+leg_numbers_of publisher [] = []
+leg_numbers_of publisher (e ∷ es) =
+    if e.1.publisher == publisher then e.0 ∷ leg_numbers_of publisher es
+    else leg_numbers_of publisher es
 
 -- the numbers of the legs of this publisher, rising
 abbrev pub legs_of : LinkTable → ℕ → List ℕ
-legs_of t publisher = numbers_of publisher (numbered_legs t)
+legs_of t publisher = leg_numbers_of publisher (numbered_legs t)
 
 -- the number of the first of these legs on which this subscriber is sent this source
 abbrev pub first_to : ℕ → ℕ → List (ℕ × LegSettings) → Option ℕ
 first_to subscriber source [] = None
 first_to subscriber source (e ∷ es) =
-    if (e.1.subscriber == subscriber && e.1.out_ssrc.0 == source) then Some e.0 else first_to subscriber source es
+    if (e.1.subscriber == subscriber && e.1.out_ssrc.0 == source) then Some e.0
+    else first_to subscriber source es
 
 -- the number of the leg on which this subscriber is sent this source
 abbrev pub leg_to : LinkTable → ℕ → ℕ → Option ℕ

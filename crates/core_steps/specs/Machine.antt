@@ -32,7 +32,8 @@ task_in bytes (Follows next) = task_of bytes next
 
 -- those that aren't done yet
 abbrev pub tasks_of : Tasks → List Task
-tasks_of t = map order (drop t.orders_done t.orders.items) ++ map (task_of t.datagram.items) (drop t.follow_ups_done t.follow_ups.items)
+tasks_of t = map order (drop t.orders_done t.orders.items)
+    ++ map (task_of t.datagram.items) (drop t.follow_ups_done t.follow_ups.items)
 
 abbrev pub pending_with : Effect → Notification → Pending
 pending_with effect n = record { notification = n; effect = effect }
@@ -46,7 +47,8 @@ abbrev pub worker_state : Worker → WorkerState
 worker_state w = record { jobs = w.jobs; hand = hand_in w.effect w.hand; legs = w.legs }
 
 abbrev pub setup_of : SetupParts → Setup
-setup_of s = record { table = s.links; unit = s.head; request_ms = s.request_ms; report_ms = s.report_ms }
+setup_of s =
+    record { table = s.links; unit = s.head; request_ms = s.request_ms; report_ms = s.report_ms }
 
 abbrev pub state_of : Machine → WorldState
 state_of m = record {

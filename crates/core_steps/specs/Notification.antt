@@ -22,11 +22,11 @@ abbrev pub no_limit : ℕ
 no_limit = 63 * 2 ^ 26 + 131071 * 2 ^ 9
 
 -- an entry for each request of the set, in its order: its owner and its word
-abbrev pub entry_of : Request → TmmbrEntry
-entry_of r = record { ssrc = r.owner; word = word_of r.tuple }
+abbrev pub tmmbr_entry_of : Request → TmmbrEntry
+tmmbr_entry_of r = record { ssrc = r.owner; word = word_of r.tuple }
 
 abbrev pub entries_of : List Request → List TmmbrEntry
-entries_of set = map entry_of set
+entries_of set = map tmmbr_entry_of set
 
 -- whether the announced set changed: a member that came is fresh; one that is gone is lifted, or its
 -- owner has another word now, which is fresh

@@ -4,10 +4,10 @@ use Rattle.std.specs.List.{flat_map}
 use Rattle.circular_buffer.specs.Buffer.{keep_last}
 use Rattle.members.specs.declared.order.Row.{Row}
 use Rattle.members.specs.declared.settings.LegSettings.{LegSettings}
-use Rattle.resend_ring.specs.Kept.{Packet as Sent, kept_in_turn}
+use Rattle.resend_ring.specs.Kept.{SentPacket as Sent, kept_in_turn}
 use Rattle.rewrite.specs.declared.skip.Skip.{Skip as Cause}
 use Rattle.rewrite.specs.Leg.{Held, new_leg, held_after, history_of}
-use Rattle.rewrite.specs.Numbering.{Packet as Incoming, Entry as Numbered}
+use Rattle.rewrite.specs.Numbering.{IncomingPacket as Incoming, Entry as Numbered}
 use Rattle.routes.specs.Rows.{opening_row}
 use Rattle.core_steps.specs.declared.job.Job.{Job}
 use Rattle.core_steps.specs.declared.job.Job.TheVariants.{Packet, Request, Resend, Pli, Report}
@@ -47,33 +47,34 @@ abbrev pub row_at : List Row → ℕ → Row
 row_at rows number = slice_index_or rows number opening_row
 
 -- the leg of this number takes a packet of its publisher, while its row is on
-abbrev pub taken_by : ℕ → LegSettings → List Row → Job → List Taken
-taken_by number l rows (Packet publisher bytes) =
+abbrev pub packets_taken_by : ℕ → LegSettings → List Row → Job → List Taken
+packets_taken_by number l rows (Packet publisher bytes) =
     if (l.publisher == publisher) && ((row_at rows number).on && is_rtp bytes)
     then record { turn = (row_at rows number).turn; bytes = bytes } ∷ []
     else []
-taken_by number l rows (Request leg stay word) = []
-taken_by number l rows (Resend leg stay nack) = []
-taken_by number l rows (Pli leg moment) = []
-taken_by number l rows (Report leg stay sr) = []
+packets_taken_by number l rows (Request leg stay word) = []
+packets_taken_by number l rows (Resend leg stay nack) = []
+packets_taken_by number l rows (Pli leg moment) = []
+packets_taken_by number l rows (Report leg stay sr) = []
 
 abbrev pub taken_on : ℕ → LegSettings → List Finished → List Taken
-taken_on number l jobs = flat_map (λ (f : Finished). taken_by number l f.rows f.job) jobs
+taken_on number l jobs = flat_map (λ (f : Finished). packets_taken_by number l f.rows f.job) jobs
 
 -- ---- what the leg makes of them
 
 -- as the leg's numbers see them
-abbrev pub incoming : Taken → Incoming
-incoming t = record { turn = t.turn; seq = sequence_number t.bytes }
+abbrev pub incoming_packet : Taken → Incoming
+incoming_packet t = record { turn = t.turn; seq = sequence_number t.bytes }
 
 -- what the leg answers to them in turn
 abbrev pub answers_to : Held → List Taken → List Numbered
-answers_to held taken = history_of held (map incoming taken)
+answers_to held taken = history_of held (map incoming_packet taken)
 
 -- a packet that got a number as it goes out: under the leg's source, with the number's low 16 bits
 abbrev pub sent_as : LegSettings → Taken → Result ℕ Cause → List Sent
 sent_as l t (Ok number) =
-    record { number = number; bytes = readdressed_bytes l.out_ssrc.0 (number % 2 ^ 16) t.bytes } ∷ []
+    record { number = number; bytes = readdressed_bytes l.out_ssrc.0 (number % 2 ^ 16) t.bytes }
+    ∷ []
 sent_as l t (Err cause) = []
 
 abbrev pub sent_with : LegSettings → List Taken → List Numbered → List Sent
@@ -96,16 +97,18 @@ pub record AtLeg (P : LegState → Type 0) (legs : List LegState) (place : ℕ) 
 pub record HasTaken (taken : List Taken) (old new : LegState) : Type 0 where
   pub number : new.number ≡ old.number
   pub link : new.link ≡ old.link
-  pub numbers : new.numbers ≡ held_after old.numbers (map incoming taken)
+  pub numbers : new.numbers ≡ held_after old.numbers (map incoming_packet taken)
   pub capacity : new.kept.capacity ≡ old.kept.capacity
-  pub kept : new.kept.items ≡ kept_in_turn old.kept.capacity old.kept.items (sent_on old.link old.numbers taken)
+  pub kept : new.kept.items
+      ≡ kept_in_turn old.kept.capacity old.kept.items (sent_on old.link old.numbers taken)
 
 -- A new leg once these packets were taken: its numbers are a new leg's, and it keeps the last of those that got one, as many as
 -- its ring has room for.
-pub record HasTakenAll (ring number : ℕ) (l : LegSettings) (taken : List Taken) (now : LegState) : Type 0 where
+pub record HasTakenAll (ring number : ℕ) (l : LegSettings) (taken : List Taken)
+    (now : LegState) : Type 0 where
   pub same_number : now.number ≡ number
   pub link : now.link ≡ l
-  pub numbers : now.numbers ≡ held_after (new_leg l.first_seq) (map incoming taken)
+  pub numbers : now.numbers ≡ held_after (new_leg l.first_seq) (map incoming_packet taken)
   pub kept : now.kept.items ≡ keep_last ring (sent_on l (new_leg l.first_seq) taken)
 
 -- the legs of this worker

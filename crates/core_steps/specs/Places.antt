@@ -6,7 +6,7 @@ use Rattle.std.specs.HashMap.{HashMap, get}
 use Rattle.std.specs.declared.hash.FoldHasher.{FoldHasher}
 use Rattle.std.specs.declared.hash.BuildHasherDefault.{BuildHasherDefault}
 use Rattle.members.specs.declared.settings.LegSettings.{LegSettings}
-use Rattle.core_steps.specs.Links.{numbers_of, first_to}
+use Rattle.core_steps.specs.Links.{leg_numbers_of, first_to}
 
 abbrev pub Sources : Type 0
 Sources = HashMap ℕ ℕ (BuildHasherDefault FoldHasher)
@@ -14,7 +14,8 @@ Sources = HashMap ℕ ℕ (BuildHasherDefault FoldHasher)
 -- so many lists, the list at each number has the legs of the publisher with that number
 pub record ListsLegs (lists : List (Vec ℕ)) (count : ℕ) (legs : List LegSettings) : Type 0 where
   pub size : length lists ≡ count
-  pub each : (k : ℕ) (v : Vec ℕ) → slice_get lists k ≡ Some v → v.items ≡ numbers_of k (enumerate_from 0 legs)
+  pub each : (k : ℕ) (v : Vec ℕ) → slice_get lists k ≡ Some v
+      → v.items ≡ leg_numbers_of k (enumerate_from 0 legs)
 
 -- so many maps, the map at each number has the legs to the subscriber with that number, by their sources
 pub record FindsLegs (maps : List Sources) (count : ℕ) (legs : List LegSettings) : Type 0 where

@@ -10,7 +10,7 @@ use Rattle.members.specs.Settings.{Configuration, IsInRange}
 use Rattle.members.specs.Room.{RoomState, Step}
 use Rattle.members.specs.Calls.{step_of}
 use Rattle.rate_desk.specs.declared.call.Entry.{Entry}
-use Rattle.rate_desk.specs.Places.{StandsAt, WasDone, IsRequestOf, TakesAt, greatest_until}
+use Rattle.rate_desk.specs.Places.{HasEntryAt, WasDone, IsRequestOf, TakesAt, greatest_until}
 use Rattle.rate_desk.specs.State.{DeskState}
 use Rattle.rate_desk.specs.Trace.{empty_base}
 use Rattle.core_steps.specs.declared.event.Event.{Event}
@@ -21,7 +21,7 @@ use Rattle.core_steps.specs.declared.output.Refusal.{Refusal}
 use Rattle.core_steps.specs.DeskCalls.{source_of}
 use Rattle.core_steps.specs.Happening.{Happening, RecordedCall, world_after}
 use Rattle.core_steps.specs.Heard.{asks_of}
-use Rattle.core_steps.specs.Hearing.{room_call, stay_in}
+use Rattle.core_steps.specs.Hearing.{room_call, leg_stay}
 use Rattle.core_steps.specs.Intake.{Said, Says}
 use Rattle.core_steps.specs.Links.{LinkTable, leg_to, table_of}
 use Rattle.core_steps.specs.Opening.{IsNewWorld}
@@ -42,7 +42,8 @@ pub record HeardRate : Type 0 where
 -- it is heard of a leg of which a stay stands
 abbrev pub rate_on : RoomState → ℕ → Option ℕ → List HeardRate
 rate_on r word None = []
-rate_on r word (Some leg) = if stay_in r leg == 0 then [] else record { leg = leg; stay = stay_in r leg; word = word } ∷ []
+rate_on r word (Some leg) = if leg_stay r leg == 0 then []
+    else record { leg = leg; stay = leg_stay r leg; word = word } ∷ []
 
 -- an entry asks about the leg on which its endpoint is sent the source that it names
 abbrev pub rate_of : LinkTable → RoomState → ℕ → Ask → List HeardRate
@@ -57,28 +58,31 @@ rates_in t endpoint said (Ok step) = flat_map (rate_of t step.room endpoint) (as
 
 abbrev pub rates_said : WorldState → ℕ → ℕ → Result Said Refusal → List HeardRate
 rates_said w moment endpoint (Err refusal) = []
-rates_said w moment endpoint (Ok said) = rates_in w.setup.table endpoint said (step_of w.room (room_call moment endpoint said))
+rates_said w moment endpoint (Ok said) =
+    rates_in w.setup.table endpoint said (step_of w.room (room_call moment endpoint said))
 
 -- what is heard of a datagram is what it says
-pub record IsHeardOf (w : WorldState) (moment endpoint : ℕ) (bytes : List ℕ) (rates : List HeardRate) : Type 0 where
+pub record IsHeardOf (w : WorldState) (moment endpoint : ℕ) (bytes : List ℕ)
+    (rates : List HeardRate) : Type 0 where
   pub said : Result Said Refusal
   pub says : Says (source_of w.setup.table endpoint).0 bytes said
   pub is : rates ≡ rates_said w moment endpoint said
 
 -- what is heard at an event: nothing of a datagram that isn't taken in
-abbrev pub Hears : WorldState → Event → List HeardRate → Type 0
-Hears w (Hear moment endpoint bytes) rates = MatchBool (is_busy w) (rates ≡ []) (IsHeardOf w moment endpoint bytes rates)
-Hears w (Tick moment) rates = rates ≡ []
-Hears w (Select moment leg on) rates = rates ≡ []
-Hears w Ingress rates = rates ≡ []
-Hears w (Work k) rates = rates ≡ []
+abbrev pub HearsRates : WorldState → Event → List HeardRate → Type 0
+HearsRates w (Hear moment endpoint bytes) rates =
+    MatchBool (is_busy w) (rates ≡ []) (IsHeardOf w moment endpoint bytes rates)
+HearsRates w (Tick moment) rates = rates ≡ []
+HearsRates w (Select moment leg on) rates = rates ≡ []
+HearsRates w Ingress rates = rates ≡ []
+HearsRates w (Work k) rates = rates ≡ []
 
 -- what is heard in a run, in order
 abbrev pub HeardIn : WorldState → List Event → List Happening → List HeardRate → Type 0
 HeardIn w [] history rates = rates ≡ []
 HeardIn w (e ∷ events) [] rates = rates ≡ []
 HeardIn w (e ∷ events) (h ∷ history) rates =
-    (first : List HeardRate) × (others : List HeardRate) × Hears w e first
+    (first : List HeardRate) × (others : List HeardRate) × HearsRates w e first
     × HeardIn (world_after w h) events history others × (rates ≡ first ++ others)
 
 -- the words that were heard in this stay of a leg, in order
@@ -117,43 +121,51 @@ pub record ExpireTook (request_ms : ℕ) (entries : List Entry) (owner word : �
   pub tuple : Tuple
   pub asks : word_of tuple ≡ word
   pub asked : ℕ
-  pub request : StandsAt (WasDone (IsRequestOf owner tuple)) entries asked
-  pub last : (later : ℕ) (other : Tuple) → asked < later → ¬ StandsAt (WasDone (IsRequestOf owner other)) entries later
+  pub request : HasEntryAt (WasDone (IsRequestOf owner tuple)) entries asked
+  pub last : (later : ℕ) (other : Tuple) → asked < later
+      → ¬ HasEntryAt (WasDone (IsRequestOf owner other)) entries later
   pub place : ℕ
   pub behind : asked < place
   pub takes : TakesAt request_ms empty_base entries (greatest_until empty_base entries asked) place
 
 -- the request of this owner is the word that was heard last of a leg of the publisher to it, in the stay that stands
-pub record IsLastHeard (c : Configuration) (rates : List HeardRate) (w : WorldState) (publisher owner : ℕ) (tuple : Tuple) : Type 0 where
+pub record IsLastHeard (c : Configuration) (rates : List HeardRate) (w : WorldState)
+    (publisher owner : ℕ) (tuple : Tuple) : Type 0 where
   pub number : ℕ
   pub leg : LegSettings
   pub there : slice_get c.legs number ≡ Some leg
   pub from : leg.publisher ≡ publisher
   pub to : (source_of (table_of c) leg.subscriber).0 ≡ owner
-  pub stands : stay_in w.room number ≢ 0
-  pub heard : last_heard_word number (stay_in w.room number) rates ≡ Some (word_of tuple)
+  pub stands : leg_stay w.room number ≢ 0
+  pub heard : last_heard_word number (leg_stay w.room number) rates ≡ Some (word_of tuple)
 
 -- the owner asks for this word, or an expire took it
 abbrev pub IsLiveOrTaken : ℕ → List Entry → DeskState → ℕ → ℕ → Type 0
 IsLiveOrTaken request_ms entries d owner word =
-    ((tuple : Tuple) × (word_of tuple ≡ word) × (tuple_of d.bounds.rows owner ≡ Some tuple)) ⊎ ExpireTook request_ms entries owner word
+    ((tuple : Tuple) × (word_of tuple ≡ word) × (tuple_of d.bounds.rows owner ≡ Some tuple))
+    ⊎ ExpireTook request_ms entries owner word
 
 -- Each live request is the word heard last in the stay that stands; where there is such a word, it is live, unless an expire
 -- took it; and where no stay stands, nothing is live.
-pub record LastHeardIsLive (c : Configuration) (history : List Happening) (rates : List HeardRate) (w : WorldState) : Type 0 where
-  pub live : (publisher owner : ℕ) (d : DeskState) (tuple : Tuple) → slice_get w.desks publisher ≡ Some d
+pub record LastHeardIsLive (c : Configuration) (history : List Happening) (rates : List HeardRate)
+    (w : WorldState) : Type 0 where
+  pub live : (publisher owner : ℕ) (d : DeskState) (tuple : Tuple)
+      → slice_get w.desks publisher ≡ Some d
       → tuple_of d.bounds.rows owner ≡ Some tuple → IsLastHeard c rates w publisher owner tuple
-  pub heard : (number word : ℕ) (leg : LegSettings) (d : DeskState) → slice_get c.legs number ≡ Some leg
-      → slice_get w.desks leg.publisher ≡ Some d → stay_in w.room number ≢ 0
-      → last_heard_word number (stay_in w.room number) rates ≡ Some word
-      → IsLiveOrTaken c.request_ms (entries_at leg.publisher (calls_of history)) d (source_of (table_of c) leg.subscriber).0 word
+  pub heard : (number word : ℕ) (leg : LegSettings) (d : DeskState)
+      → slice_get c.legs number ≡ Some leg
+      → slice_get w.desks leg.publisher ≡ Some d → leg_stay w.room number ≢ 0
+      → last_heard_word number (leg_stay w.room number) rates ≡ Some word
+      → IsLiveOrTaken c.request_ms (entries_at leg.publisher (calls_of history)) d
+      (source_of (table_of c) leg.subscriber).0 word
   pub none : (number : ℕ) (leg : LegSettings) (d : DeskState) → slice_get c.legs number ≡ Some leg
-      → slice_get w.desks leg.publisher ≡ Some d → stay_in w.room number ≡ 0
+      → slice_get w.desks leg.publisher ≡ Some d → leg_stay w.room number ≡ 0
       → tuple_of d.bounds.rows (source_of (table_of c) leg.subscriber).0 ≡ None
 
 -- Behind a run from a new world: these events have a history that leads on to the new world, with what was heard in the whole
 -- run, and where that is quiet, what was heard last is live.
-pub record LeavesLastHeardLive (c : Configuration) (start : WorldState) (before : List Event) (past : List Happening) (events : List Event) (old new : WorldState) : Type 0 where
+pub record LeavesLastHeardLive (c : Configuration) (start : WorldState) (before : List Event)
+    (past : List Happening) (events : List Event) (old new : WorldState) : Type 0 where
   pub next : List Happening
   pub runs : Runs old events next
   pub leads : new ≡ worlds_after old next
@@ -164,5 +176,7 @@ pub record LeavesLastHeardLive (c : Configuration) (start : WorldState) (before 
 -- it is so behind every run from a new world of settings, in however many calls
 abbrev pub ObeysQuietLaw : List Event → WorldState → WorldState → Type 0
 ObeysQuietLaw events old new =
-    (c : Configuration) (start : WorldState) (before : List Event) (past : List Happening) → IsInRange c → IsNewWorld c start
-    → Runs start before past → old ≡ worlds_after start past → LeavesLastHeardLive c start before past events old new
+    (c : Configuration) (start : WorldState) (before : List Event) (past : List Happening)
+    → IsInRange c → IsNewWorld c start
+    → Runs start before past → old ≡ worlds_after start past
+    → LeavesLastHeardLive c start before past events old new

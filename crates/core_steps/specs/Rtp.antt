@@ -2,7 +2,7 @@
 use Rattle.std.specs.Prelude.{◌≡◌, ◌==◌, ◌&&◌, ◌||◌, not, ℕ, ◌+◌, ◌-◌, ◌/◌, ◌%◌, nat_le, nat_lt, Bool, true, List, ◌++◌, length, take, drop, slice_index, if◌then◌else◌}
 use Rattle.byteorder.specs.Endian.{big_bytes, big_number}
 use Rattle.rtp_packet.specs.Fault.{extension_end}
-use Rattle.rtp_packet.specs.Grammar.{Packet, bytes_of, readdressed}
+use Rattle.rtp_packet.specs.Grammar.{RtpPacket, bytes_of, with_address}
 
 -- the padding bit is set
 abbrev pub is_padded : List ℕ → Bool
@@ -16,7 +16,8 @@ padding_of d = if is_padded d then slice_index d (length d - 1) else 0
 unfoldable pub is_rtp : List ℕ → Bool
 is_rtp d =
     nat_le 12 (length d) && ((slice_index d 0 / 64 == 2)
-    && (nat_le (extension_end d + padding_of d) (length d) && (not (is_padded d) || nat_lt 0 (padding_of d))))
+    && (nat_le (extension_end d + padding_of d) (length d)
+    && (not (is_padded d) || nat_lt 0 (padding_of d))))
 
 unfoldable pub sequence_number : List ℕ → ℕ
 sequence_number d = big_number 2 (drop 2 d)
@@ -27,11 +28,13 @@ payload_octets d = if is_rtp d then length d - (extension_end d + padding_of d) 
 
 -- the packet's bytes under another source and sequence number
 unfoldable pub readdressed_bytes : ℕ → ℕ → List ℕ → List ℕ
-readdressed_bytes ssrc number d = take 2 d ++ (big_bytes 2 number ++ (take 4 (drop 4 d) ++ (big_bytes 4 ssrc ++ drop 12 d)))
+readdressed_bytes ssrc number d =
+    take 2 d ++ (big_bytes 2 number ++ (take 4 (drop 4 d) ++ (big_bytes 4 ssrc ++ drop 12 d)))
 
 -- these words say of the datagram what the packet has
-pub record SaysAs (d : List ℕ) (p : Packet) : Type 0 where
+pub record SaysAs (d : List ℕ) (p : RtpPacket) : Type 0 where
   pub is_packet : is_rtp d ≡ true
   pub number : sequence_number d ≡ p.sequence_number
   pub octets : payload_octets d ≡ length p.payload
-  pub under : (ssrc number : ℕ) → readdressed_bytes ssrc number d ≡ bytes_of (readdressed ssrc number p)
+  pub under : (ssrc number : ℕ)
+      → readdressed_bytes ssrc number d ≡ bytes_of (with_address ssrc number p)

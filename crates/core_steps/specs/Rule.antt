@@ -7,7 +7,7 @@ use Rattle.members.specs.Presence.{source_at}
 use Rattle.members.specs.Room.{reception_at}
 use Rattle.members.specs.Calls.{MakeBlock}
 use Rattle.members.specs.Reception.{Block}
-use Rattle.members.specs.Stream.{IsAnswer}
+use Rattle.members.specs.Stream.{IsBlockAnswer}
 use Rattle.bounding_set.specs.State.{announced_of}
 use Rattle.tmmbr_tuple.specs.declared.tuple.Tuple.{Tuple}
 use Rattle.tmmbr_tuple.specs.Tuple.{word_of}
@@ -42,7 +42,8 @@ use Rattle.core_steps.specs.Hearing.{IsHearing, ticking, selecting}
 -- ---- a call of a desk
 
 -- the desk records the call, with its effect
-pub record IsRecordedCall (p : ℕ) (d : DeskState) (call : DeskCall) (a : RecordedCall) : Type 0 where
+pub record IsRecordedCall (p : ℕ) (d : DeskState) (call : DeskCall)
+    (a : RecordedCall) : Type 0 where
   pub publisher : a.publisher ≡ p
   pub names : a.call ≡ call
   pub records : Records d call a.number a.answer a.desk
@@ -80,7 +81,8 @@ pending_of leg a =
     else None
 
 abbrev pub pending_datagrams : WorldState → Pending → List Out
-pending_datagrams w p = notification_datagrams w.setup.table w.setup.unit w.rows p.notification p.effect
+pending_datagrams w p =
+    notification_datagrams w.setup.table w.setup.unit w.rows p.notification p.effect
 
 -- ---- the ingress
 
@@ -90,12 +92,14 @@ done_task w t outs = record (giving w outs) { did = t ∷ [] }
 
 abbrev pub ingress_asked : WorldState → Task → ℕ → Option RecordedCall → Happening
 ingress_asked w t p None = record (done_task w t unrecorded_out) { unrecorded = p ∷ [] }
-ingress_asked w t p (Some a) = record (done_task w t (refusals a.answer)) { asked = a ∷ []; pending = pending_of None a }
+ingress_asked w t p (Some a) =
+    record (done_task w t (refusals a.answer)) { asked = a ∷ []; pending = pending_of None a }
 
 -- the task asks the publisher's desk; there is none of a publisher that isn't there
 abbrev pub IngressAsks : WorldState → Task → ℕ → DeskCall → Option DeskState → Happening → Type 0
 IngressAsks w t p call None h = h ≡ done_task w t []
-IngressAsks w t p call (Some d) h = (reply : Option RecordedCall) × Replies p d call reply × (h ≡ ingress_asked w t p reply)
+IngressAsks w t p call (Some d) h =
+    (reply : Option RecordedCall) × Replies p d call reply × (h ≡ ingress_asked w t p reply)
 
 abbrev pub AsksDesk : WorldState → Task → ℕ → DeskCall → Happening → Type 0
 AsksDesk w t p call h = IngressAsks w t p call (slice_get w.desks p) h
@@ -107,21 +111,27 @@ OrderAsks w t (Some (p, call)) h = AsksDesk w t p call h
 
 -- the worker's hand and legs stay, and the job stands behind those in its ring
 abbrev pub putting : ℕ → WorkerState → Job → Worked
-putting k s job = record { worker = k; taken = []; put = job ∷ []; finished = []; hand = s.hand; legs = s.legs }
+putting k s job =
+    record { worker = k; taken = []; put = job ∷ []; finished = []; hand = s.hand; legs = s.legs }
 
 -- the job goes into the ring of its worker, or is given up where as many wait there as may
 abbrev pub pushing : WorldState → ℕ → Job → Option WorkerState → Happening
 pushing w k job None = done_task w (push k job) []
 pushing w k job (Some s) =
     if nat_le JOB_LIMIT (length s.jobs)
-    then record (done_task w (push k job) (Lost k ∷ [])) { given_up = record { worker = k; job = job } ∷ [] }
+    then record (done_task w (push k job) (Lost k ∷ [])) {
+      given_up = record { worker = k; job = job } ∷ [];
+    }
     else record (done_task w (push k job) []) { worked = putting k s job ∷ [] }
 
 -- a report to a publisher, with the block about it, where a packet of it was received
 pub record IsReporting (w : WorldState) (p : ℕ) (h : Happening) : Type 0 where
   pub block : Option Block
-  pub answer : IsAnswer (reception_at w.room p) w.room.moment (source_at w.room.endpoints p) block
-  pub does : h ≡ record (done_task w (report p) (upstream_report w.setup.unit p block)) { calls = MakeBlock p ∷ [] }
+  pub answer : IsBlockAnswer (reception_at w.room p) w.room.moment
+      (source_at w.room.endpoints p) block
+  pub does : h ≡ record (done_task w (report p) (upstream_report w.setup.unit p block)) {
+    calls = MakeBlock p ∷ [];
+  }
 
 abbrev pub DoesTask : WorldState → Task → Happening → Type 0
 DoesTask w (order (Arrive leg stay)) h =
@@ -129,7 +139,9 @@ DoesTask w (order (Arrive leg stay)) h =
 DoesTask w (order (Depart leg stay)) h =
     OrderAsks w (order (Depart leg stay)) (stay_call w.setup.table leg stay change.Depart) h
 DoesTask w (order (Route leg stay turn on)) h =
-    h ≡ record (done_task w (order (Route leg stay turn on)) []) { changes = changes_by (length w.rows) (Route leg stay turn on) }
+    h ≡ record (done_task w (order (Route leg stay turn on)) []) {
+      changes = changes_by (length w.rows) (Route leg stay turn on);
+    }
 DoesTask w (push k job) h = h ≡ pushing w k job (slice_get w.workers k)
 DoesTask w (pulse p) h = AsksDesk w (pulse p) p (Time w.room.moment signal.Tick) h
 DoesTask w (expire p) h = AsksDesk w (expire p) p (Time w.room.moment signal.Expire) h
@@ -149,27 +161,42 @@ working w d outs = record (giving w outs) { worked = d ∷ [] }
 
 -- the worker's hand is this one from then on
 abbrev pub with_hand : ℕ → WorkerState → List Job → Hand → Worked
-with_hand k s finished hand = record { worker = k; taken = []; put = []; finished = finished; hand = hand; legs = s.legs }
+with_hand k s finished hand =
+    record { worker = k; taken = []; put = []; finished = finished; hand = hand; legs = s.legs }
 
 abbrev pub taking : ℕ → WorkerState → Job → Worked
-taking k s job = record { worker = k; taken = job ∷ []; put = []; finished = []; hand = doing job; legs = s.legs }
+taking k s job = record {
+  worker = k;
+  taken = job ∷ [];
+  put = [];
+  finished = [];
+  hand = doing job;
+  legs = s.legs;
+}
 
 abbrev pub hand_of : Option Pending → Hand
 hand_of None = free
 hand_of (Some p) = telling p
 
-abbrev pub worker_asked : WorldState → ℕ → WorkerState → Job → Option ℕ → ℕ → Option RecordedCall → Happening
-worker_asked w k s job leg p None = record (working w (with_hand k s (job ∷ []) free) unrecorded_out) { unrecorded = p ∷ [] }
+abbrev pub worker_asked : WorldState → ℕ → WorkerState → Job → Option ℕ → ℕ → Option RecordedCall
+    → Happening
+worker_asked w k s job leg p None =
+    record (working w (with_hand k s (job ∷ []) free) unrecorded_out) { unrecorded = p ∷ [] }
 worker_asked w k s job leg p (Some a) =
-    record (working w (with_hand k s (job ∷ []) (hand_of (pending_of leg a))) (refusals a.answer)) { asked = a ∷ [] }
+    record (working w (with_hand k s (job ∷ []) (hand_of (pending_of leg a))) (refusals a.answer)) {
+      asked = a ∷ [];
+    }
 
 -- the job asks a desk; one that names no leg or no stay does nothing
-abbrev pub WorkerAsks : WorldState → ℕ → WorkerState → Job → Option ℕ → ℕ → DeskCall → Option DeskState → Happening → Type 0
+abbrev pub WorkerAsks : WorldState → ℕ → WorkerState → Job → Option ℕ → ℕ → DeskCall
+    → Option DeskState → Happening → Type 0
 WorkerAsks w k s job leg p call None h = h ≡ working w (with_hand k s (job ∷ []) free) []
 WorkerAsks w k s job leg p call (Some d) h =
-    (reply : Option RecordedCall) × Replies p d call reply × (h ≡ worker_asked w k s job leg p reply)
+    (reply : Option RecordedCall) × Replies p d call reply
+    × (h ≡ worker_asked w k s job leg p reply)
 
-abbrev pub JobAsks : WorldState → ℕ → WorkerState → Job → Option ℕ → Option (ℕ × DeskCall) → Happening → Type 0
+abbrev pub JobAsks : WorldState → ℕ → WorkerState → Job → Option ℕ → Option (ℕ × DeskCall)
+    → Happening → Type 0
 JobAsks w k s job leg None h = h ≡ working w (with_hand k s (job ∷ []) free) []
 JobAsks w k s job leg (Some (p, call)) h = WorkerAsks w k s job leg p call (slice_get w.desks p) h
 
@@ -193,8 +220,10 @@ DoesJob w k s (Resend leg stay nack) h = h ≡ forwarding w k s (Resend leg stay
 DoesJob w k s (Report leg stay sr) h = h ≡ forwarding w k s (Report leg stay sr)
 DoesJob w k s (Request leg stay word) h =
     (tuple : Tuple) × (word_of tuple ≡ word)
-    × JobAsks w k s (Request leg stay word) (Some leg) (stay_call w.setup.table leg stay (change.Request tuple)) h
-DoesJob w k s (Pli leg moment) h = JobAsks w k s (Pli leg moment) None (picture_call w.setup.table leg moment) h
+    × JobAsks w k s (Request leg stay word) (Some leg)
+    (stay_call w.setup.table leg stay (change.Request tuple)) h
+DoesJob w k s (Pli leg moment) h =
+    JobAsks w k s (Pli leg moment) None (picture_call w.setup.table leg moment) h
 
 abbrev pub WorksOn : WorldState → ℕ → WorkerState → Hand → List Job → Happening → Type 0
 WorksOn w k s (telling p) jobs h = h ≡ working w (with_hand k s [] free) (pending_datagrams w p)

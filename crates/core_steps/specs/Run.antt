@@ -24,7 +24,8 @@ outs_of history = flat_map (λ (h : Happening). h.outs) history
 
 -- There is a history of these events, a happening for each, that leads from the old world to the new one, and what it gave
 -- out stands behind what was there.
-pub record HasRun (events : List Event) (old : WorldState) (outs : List Out) (new : WorldState) (all : List Out) : Type 0 where
+pub record HasRun (events : List Event) (old : WorldState) (outs : List Out) (new : WorldState)
+    (all : List Out) : Type 0 where
   pub history : List Happening
   pub runs : Runs old events history
   pub leads : new ≡ worlds_after old history
@@ -32,7 +33,8 @@ pub record HasRun (events : List Event) (old : WorldState) (outs : List Out) (ne
 
 -- Something that this allows was done: it leads from the old world to the new one, and what it gave out stands behind what was
 -- there.
-pub record Leaves (P : Happening → Type 0) (old : WorldState) (outs : List Out) (new : WorldState) (all : List Out) : Type 0 where
+pub record Leaves (P : Happening → Type 0) (old : WorldState) (outs : List Out) (new : WorldState)
+    (all : List Out) : Type 0 where
   pub happening : Happening
   pub allowed : P happening
   pub leads : new ≡ world_after old happening

@@ -6,8 +6,8 @@ use Rattle.bounding_set.specs.State.{AnnouncesSmallest}
 use Rattle.rate_desk.specs.declared.call.Entry.{Entry}
 use Rattle.rate_desk.specs.Presence.{stay_in}
 use Rattle.rate_desk.specs.Trace.{empty_base, live_after}
-use Rattle.rate_desk.specs.History.{IsLegalHistory, StandsFor}
-use Rattle.rate_desk.specs.State.{DeskState, calls_of, now_of}
+use Rattle.rate_desk.specs.History.{IsLegalHistory, StandsForEntries}
+use Rattle.rate_desk.specs.State.{DeskState, call_count, now_of}
 use Rattle.core_steps.specs.Happening.{RecordedCall, Happening}
 
 -- this holds of the publisher's desk, which is there
@@ -28,8 +28,8 @@ abbrev pub recorded_at : ℕ → List Happening → List RecordedCall
 recorded_at p history = flat_map (recorded_in p) history
 
 -- a call with its answer, as a desk lists it
-abbrev pub entry_of : RecordedCall → Entry
-entry_of a = record { call = a.call; answer = a.answer }
+abbrev pub recorded_entry : RecordedCall → Entry
+recorded_entry a = record { call = a.call; answer = a.answer }
 
 -- ---- what they make of a desk
 
@@ -40,10 +40,13 @@ AreNumberedFrom n (a ∷ calls) = (a.number ≡ n) × AreNumberedFrom (n + 1) ca
 
 -- The desk recorded these calls one after another. Each has the count of the desk's calls before it as its number. Base and
 -- history stand for the former ones and the calls with their answers, which are those that are owed.
-pub record HasRecorded (old : DeskState) (calls : List RecordedCall) (new : DeskState) : Type 0 where
-  pub numbered : AreNumberedFrom (calls_of old) calls
-  pub stands : StandsFor old.request_ms old.base (old.history ++ map entry_of calls) new.base new.history
-  pub legal : IsLegalHistory old.gap old.request_ms old.base (old.history ++ map entry_of calls)
+pub record HasRecorded (old : DeskState) (calls : List RecordedCall)
+    (new : DeskState) : Type 0 where
+  pub numbered : AreNumberedFrom (call_count old) calls
+  pub stands : StandsForEntries old.request_ms old.base
+      (old.history ++ map recorded_entry calls) new.base new.history
+  pub legal : IsLegalHistory old.gap old.request_ms old.base
+      (old.history ++ map recorded_entry calls)
   pub gap : new.gap ≡ old.gap
   pub request_ms : new.request_ms ≡ old.request_ms
 

@@ -31,7 +31,8 @@ AsksOf t (Packet publisher bytes) asks = asks ≡ Legs
 AsksOf t (Resend leg stay nack) asks = asks ≡ Legs
 AsksOf t (Report leg stay sr) asks = asks ≡ Legs
 AsksOf t (Request leg stay word) asks =
-    (tuple : Tuple) × (word_of tuple ≡ word) × (asks ≡ asks_by (Some leg) (stay_call t leg stay (change.Request tuple)))
+    (tuple : Tuple) × (word_of tuple ≡ word)
+    × (asks ≡ asks_by (Some leg) (stay_call t leg stay (change.Request tuple)))
 AsksOf t (Pli leg moment) asks = asks ≡ asks_by None (picture_call t leg moment)
 
 -- a call of a desk is in a stay
@@ -46,22 +47,25 @@ abbrev pub with_new_hand : WorkerState → Hand → WorkerState
 with_new_hand s hand = record s { hand = hand }
 
 -- the desk of a publisher was asked among these, and what waits to be told stays in the worker's hand
-pub record IsTold (p : ℕ) (leg : Option ℕ) (call : DeskCall) (desks later : List DeskState) (s next : WorkerState) (outs all : List Out) : Type 0 where
+pub record IsDeskTold (p : ℕ) (leg : Option ℕ) (call : DeskCall) (desks later : List DeskState)
+    (s next : WorkerState) (outs all : List Out) : Type 0 where
   pub pending : Option Pending
   pub asked : Asked p leg call (slice_get desks p) desks later pending outs all
   pub worker : next ≡ with_new_hand s (hand_of pending)
 
 -- the world with this setup, and these rows and desks
-abbrev pub seen : WorldState → Setup → List Row → List DeskState → WorldState
-seen w setup rows desks = record w { setup = setup; rows = rows; desks = desks }
+abbrev pub world_with : WorldState → Setup → List Row → List DeskState → WorldState
+world_with w setup rows desks = record w { setup = setup; rows = rows; desks = desks }
 
 -- the world with these desks, and this worker under its number
-abbrev pub turned : WorldState → ℕ → List DeskState → WorkerState → WorldState
-turned w k desks s = record w { desks = desks; workers = slice_set w.workers k s }
+abbrev pub world_after_turn : WorldState → ℕ → List DeskState → WorkerState → WorldState
+world_after_turn w k desks s = record w { desks = desks; workers = slice_set w.workers k s }
 
 -- in each world with these parts the worker's turn is one that it may do
-abbrev pub Turns : Setup → List Row → List DeskState → List DeskState → WorkerState → WorkerState → List Out → List Out → Type 0
+abbrev pub Turns : Setup → List Row → List DeskState → List DeskState → WorkerState → WorkerState
+    → List Out → List Out → Type 0
 Turns setup rows desks later s next outs all =
     (w : WorldState) (k : ℕ) → slice_get w.workers k ≡ Some s → w.lost < 2 ^ 64 → w.tmmbns < 2 ^ 64
-    → Leaves (WorksOn (seen w setup rows desks) k s s.hand s.jobs) (seen w setup rows desks) outs
-    (turned (seen w setup rows desks) k later next) all
+    → Leaves (WorksOn (world_with w setup rows desks) k s s.hand s.jobs)
+    (world_with w setup rows desks) outs
+    (world_after_turn (world_with w setup rows desks) k later next) all

@@ -1,7 +1,9 @@
 //! What the ingress takes in, for a driver that does itself what follows.
 
 ghost use Rattle.std.specs.Prelude.{◌≡◌, IfOk, OnOk, OnErr};
+ghost use Rattle.core_steps.specs.declared.duties.Duty.TheVariants.{Push};
 ghost use Rattle.core_steps.specs.declared.event.Event.TheVariants.{Tick};
+ghost use Rattle.core_steps.specs.declared.tasks.NextTask.TheVariants.{FollowUp as AFollowUp};
 ghost use Rattle.core_steps.specs.Duties.{task_by};
 ghost use Rattle.core_steps.specs.Machine.{state_of, task_in};
 ghost use Rattle.core_steps.specs.Rule.{Does};
@@ -9,7 +11,7 @@ ghost use Rattle.core_steps.specs.Run.{Leaves, Stays};
 
 use crate::bytes::Bytes;
 use crate::head::Head;
-use crate::hearing::{hear, select, tick};
+use crate::hearing::{hear, select};
 use crate::ingress::report_on;
 use crate::job::Job;
 use crate::links::Links;
@@ -18,6 +20,7 @@ use crate::output::Out;
 use crate::plan::Plan;
 use crate::runner::busy;
 use crate::tasks::{FollowUp, NextTask, Tasks};
+use crate::ticking::tick;
 use members::{Order, Room, Settings};
 use rate_desk::Effect;
 use std::alloc::{AllocError, Global};
@@ -218,61 +221,53 @@ fn tick_or_busy(m: &mut Machine, moment: u64, outs: &mut Vec<Out>) -> Result<(),
 fn duty_of(alloc: Global, datagram: &[u8], next: NextTask) -> Result<Duty, AllocError>
     ensures { IfOk result (λ duty. task_by duty ≡ task_in datagram.now next) }
 {
-    let duty = match next {
-        NextTask::Order(order) => Duty::Order(order),
-        NextTask::FollowUp(FollowUp::Packet { worker, publisher }) => Duty::Push {
+    match next {
+        NextTask::Order(order) => Ok(Duty::Order(order)),
+        NextTask::FollowUp(next) => duty_that_follows(alloc, datagram, next),
+    }
+}
+
+/// The duty that this follow-up is, where the datagram has these bytes.
+fn duty_that_follows(alloc: Global, datagram: &[u8], next: FollowUp) -> Result<Duty, AllocError>
+    ensures { IfOk result (λ duty. task_by duty ≡ task_in datagram.now (AFollowUp next)) }
+{
+    Ok(match next {
+        FollowUp::Packet { worker, publisher } => {
+            let bytes = Bytes::copy_of(alloc, datagram)?;
+            push(worker, Job::Packet { publisher, bytes })
+        }
+        FollowUp::Request {
             worker,
-            job: Job::Packet {
-                publisher,
-                bytes: Bytes::copy_of(alloc, datagram)?,
-            },
-        },
-        NextTask::FollowUp(
-            FollowUp::Request {
-                worker,
-                leg,
-                stay,
-                word,
-            },
-        ) => Duty::Push {
+            leg,
+            stay,
+            word,
+        } => push(worker, Job::Request { leg, stay, word }),
+        FollowUp::Resend {
             worker,
-            job: Job::Request { leg, stay, word },
-        },
-        NextTask::FollowUp(
-            FollowUp::Resend {
-                worker,
-                leg,
-                stay,
-                nack,
-            },
-        ) => Duty::Push {
+            leg,
+            stay,
+            nack,
+        } => push(worker, Job::Resend { leg, stay, nack }),
+        FollowUp::Pli {
             worker,
-            job: Job::Resend { leg, stay, nack },
-        },
-        NextTask::FollowUp(
-            FollowUp::Pli {
-                worker,
-                leg,
-                moment,
-            },
-        ) => Duty::Push {
+            leg,
+            moment,
+        } => push(worker, Job::Pli { leg, moment }),
+        FollowUp::LegReport {
             worker,
-            job: Job::Pli { leg, moment },
-        },
-        NextTask::FollowUp(
-            FollowUp::LegReport {
-                worker,
-                leg,
-                stay,
-                sr,
-            },
-        ) => Duty::Push {
-            worker,
-            job: Job::Report { leg, stay, sr },
-        },
-        NextTask::FollowUp(FollowUp::Pulse(publisher)) => Duty::Pulse(publisher),
-        NextTask::FollowUp(FollowUp::Expire(publisher)) => Duty::Expire(publisher),
-        NextTask::FollowUp(FollowUp::Report(publisher)) => Duty::Report(publisher),
-    };
-    Ok(duty)
+            leg,
+            stay,
+            sr,
+        } => push(worker, Job::Report { leg, stay, sr }),
+        FollowUp::Pulse(publisher) => Duty::Pulse(publisher),
+        FollowUp::Expire(publisher) => Duty::Expire(publisher),
+        FollowUp::Report(publisher) => Duty::Report(publisher),
+    })
+}
+
+/// The worker of this number gets the job.
+fn push(worker: u16, job: Job) -> Duty
+    ensures { result ≡ Push worker job }
+{
+    Duty::Push { worker, job }
 }

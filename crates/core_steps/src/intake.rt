@@ -6,7 +6,7 @@ ghost use Rattle.rtcp_compound.specs.Content.{content_of, sources_left};
 ghost use Rattle.rtcp_compound.specs.Left.{contents_left};
 ghost use Rattle.rtcp_feedback.specs.Reading.{entries_left, message_of, nacks_left};
 ghost use Rattle.core_steps.specs.Heard.{Appends, Fills, Hears, HearsPackets, HearsRtcp, HearsRtp, IsSurveyOf, Surveys};
-ghost use Rattle.core_steps.specs.Intake.{Gist, IsRtcp, PacketSays, PacketsSay, Said, Says, gist_of, joined, nothing, sent_by};
+ghost use Rattle.core_steps.specs.Intake.{Gist, IsRtcp, PacketSays, PacketsSay, Said, Says, gist_of, joint_gist, empty_gist, sent_by};
 ghost use Rattle.core_steps.specs.declared.intake.Ask.{Ask as Asked};
 ghost use Rattle.core_steps.specs.declared.output.Refusal.{Refusal as RefusedBy};
 
@@ -159,7 +159,7 @@ struct Survey {
 impl Survey {
     /// Of packets that say nothing.
     fn silent(own: Ssrc) -> Survey
-        ensures { IsSurveyOf own.0 result nothing }
+        ensures { IsSurveyOf own.0 result empty_gist }
     {
         Survey {
             goodbye: false,
@@ -195,7 +195,7 @@ impl Survey {
     fn then(self, next: Survey, own: Ssrc) -> Survey
         requires { self.control.tmmbns + next.control.tmmbns < 2 ^ 64 }
         ensures { (a b : Gist) → IsSurveyOf own.0 self a → IsSurveyOf own.0 next b
-            → IsSurveyOf own.0 result (joined a b) }
+            → IsSurveyOf own.0 result (joint_gist a b) }
     {
         Survey {
             goodbye: self.goodbye || next.goodbye,

@@ -34,7 +34,7 @@ const BYE: [u8; 8] = [0x81, 0xcb, 0, 1, 0, 0, 0, 0x11];
 /// A TMMBR of 17 that ends within an entry.
 const ODD: [u8; 16] = [0x83, 0xcd, 0, 3, 0, 0, 0, 0x11, 0, 0, 0, 0, 0, 0, 1, 1];
 
-const WORD: u32 = 0x0007_d028;
+const TUPLE: u32 = 0x0007_d028;
 
 const fn control(speaker: u32, report: Option<(u64, u32)>, tmmbns: u64) -> Heard {
     Heard::Control(Control {
@@ -148,7 +148,7 @@ fn the_first_stranger_speaks(rt: HostRuntime) -> Result<(), Fail> {
 #[test]
 fn what_is_asked_for(rt: HostRuntime) -> Result<(), Fail> {
     let quiet = Ok(control(17, None, 0));
-    expect(&rt, 17, &[&TMMBR], quiet, &[rate(257, WORD)])?;
+    expect(&rt, 17, &[&TMMBR], quiet, &[rate(257, TUPLE)])?;
     expect(&rt, 17, &[&NACK], quiet, &[resend(257, 100, 1)])?;
     expect(&rt, 17, &[&PLI], quiet, &[picture(257)])?;
     expect(&rt, 17, &[&TMMBN], Ok(control(17, None, 1)), &[])?;
@@ -164,7 +164,13 @@ fn what_is_asked_for(rt: HostRuntime) -> Result<(), Fail> {
         0x83, 0xcd, 0, 6, 0, 0, 0, 0x11, 0, 0, 0, 0, 0, 0, 1, 1, 0, 0x07, 0xd0, 0x28, 0, 0, 0x03,
         0xe7, 0, 0x07, 0xd0, 0x28,
     ];
-    expect(&rt, 17, &[&two], quiet, &[rate(257, WORD), rate(999, WORD)])?;
+    expect(
+        &rt,
+        17,
+        &[&two],
+        quiet,
+        &[rate(257, TUPLE), rate(999, TUPLE)],
+    )?;
     // Two entries for one source.
     let mut again = two;
     again[22] = 1;
@@ -175,7 +181,7 @@ fn what_is_asked_for(rt: HostRuntime) -> Result<(), Fail> {
         17,
         &[&again],
         quiet,
-        &[rate(257, WORD), rate(257, 0x0007_d00a)],
+        &[rate(257, TUPLE), rate(257, 0x0007_d00a)],
     )?;
     // In the order of packets.
     expect(
@@ -185,8 +191,8 @@ fn what_is_asked_for(rt: HostRuntime) -> Result<(), Fail> {
         Ok(control(17, None, 1)),
         &[
             picture(257),
-            rate(257, WORD),
-            rate(999, WORD),
+            rate(257, TUPLE),
+            rate(999, TUPLE),
             resend(257, 100, 1),
         ],
     )?;

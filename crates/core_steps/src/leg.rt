@@ -36,7 +36,7 @@ fn counted(count: u32, more: u64) -> u32
 
 impl LegState {
     ghost use Rattle.std.specs.Option.{option_to_list};
-    ghost use Rattle.core_steps.specs.Legs.{new_state, handed_out, forwarded};
+    ghost use Rattle.core_steps.specs.Legs.{new_state, handed_out, leg_after_packet};
 
     /// The leg with this number before its first packet, which keeps so many packets.
     pub(crate) fn new(
@@ -75,7 +75,7 @@ impl LegState {
         octets: u64,
         bytes: Vec<u8>,
     ) -> Option<Vec<u8>>
-        ensures { self.new ≡ forwarded self.old numbers number octets bytes.items }
+        ensures { self.new ≡ leg_after_packet self.old numbers number octets bytes.items }
     {
         self.hand_out(octets);
         self.numbers = numbers;

@@ -5,7 +5,7 @@ ghost use Rattle.std.specs.Prelude.{◌≡◌, ◌≤◌, ◌++◌, [], length, 
 ghost use Rattle.std.specs.Prelude.{ℕ, List};
 ghost use Rattle.std.specs.List.{enumerate_from, flat_map};
 ghost use Rattle.core_steps.specs.Legs.{new_legs, row_of};
-ghost use Rattle.core_steps.specs.Planning.{places_of, plan_of, ListsPlaces, FindsPlaces};
+ghost use Rattle.core_steps.specs.Planning.{publisher_places, plan_of, ListsPlaces, FindsPlaces};
 
 use crate::job::Job;
 use crate::leg::LegState;
@@ -67,7 +67,7 @@ fn owned(
 /// The places of the legs of a publisher.
 fn places_by(alloc: Global, legs: &[LegState], publisher: usize) -> Result<Vec<u16>, AllocError>
     requires { length legs.now ≤ MAX_LEGS }
-    ensures { IfOk result (λ v. v.items ≡ places_of publisher (enumerate_from 0 legs.now)) }
+    ensures { IfOk result (λ v. v.items ≡ publisher_places publisher (enumerate_from 0 legs.now)) }
 {
     let mut places = Vec::new(alloc);
     for (place, leg) in legs.iter().enumerate() {
@@ -167,7 +167,7 @@ fn plan_places(
 impl Legs {
     ghost use Rattle.std.specs.Prelude.{option_copied, MatchOption};
     ghost use Rattle.core_steps.specs.Legs.{job_datagrams, legs_after};
-    ghost use Rattle.core_steps.specs.Plan.{kept_at, outs_of, applied};
+    ghost use Rattle.core_steps.specs.Plan.{kept_at, plan_outs, legs_after_plan};
     ghost use Rattle.core_steps.specs.Planning.{job_plan, IsNowhere, IsStandingAt};
     ghost use Rattle.core_steps.specs.declared.job.Job.TheVariants as job;
 
@@ -215,9 +215,9 @@ impl Legs {
         plan: &mut Plan,
     ) -> Result<(), AllocError>
         requires { length cname.now ≤ CNAME_LIMIT }
-        ensures outs { OnOk result (outs_of self.now plan.new
+        ensures outs { OnOk result (plan_outs self.now plan.new
             ≡ job_datagrams cname.now rows.now self.now job.now) }
-        ensures after { OnOk result (applied self.now plan.new
+        ensures after { OnOk result (legs_after_plan self.now plan.new
             ≡ legs_after rows.now self.now job.now) }
         ensures err { OnErr result (plan.new ≡ []) }
     {
@@ -233,7 +233,7 @@ impl Legs {
 
     /// Does what is planned on these legs, and plans nothing any more: packets that went out are kept and count.
     pub fn apply(&mut self, plan: &mut Plan)
-        ensures legs { self.new ≡ applied self.old plan.old }
+        ensures legs { self.new ≡ legs_after_plan self.old plan.old }
         ensures done { plan.new ≡ [] }
     {
         plan.apply_to(self.legs.as_mut_slice());

@@ -1,8 +1,8 @@
 //! The unit as one machine: datagrams, moments and selections go in, one atomic step an event; datagrams and
 //! refusals come out (RFC 7667, section 3.7). Nothing reads a clock, starts a thread or opens a socket.
 //!
-//! Read `event` and `output` first, then `world` and `runner`. `hearing`, `ingress` and `working` are the three kinds of
-//! step; `legs` is what one worker sends on, `notification` what follows from a desk's call, `intake` what a datagram
+//! Read `event` and `output` first, then `world` and `runner`. `hearing` and `ticking`, `ingress` and `working` are the three
+//! kinds of step; `legs` is what one worker sends on, `notification` what follows from a desk's call, `intake` what a datagram
 //! says, `duties` the ingress for a driver of its own, `laws` what holds of every run, `quiet` what is live once nothing
 //! waits.
 #![tactic(auto)]
@@ -11,6 +11,7 @@ mod asking;
 mod bytes;
 mod duties;
 mod event;
+mod follow_ups;
 mod head;
 mod hearing;
 mod ingress;
@@ -30,6 +31,7 @@ mod ring;
 pub mod rtp_laws;
 mod runner;
 mod tasks;
+mod ticking;
 mod working;
 mod world;
 
@@ -58,12 +60,20 @@ mod intake_tests;
 #[cfg(test)]
 mod legs_tests;
 #[cfg(test)]
+mod listener;
+#[cfg(test)]
 mod memory_tests;
 #[cfg(test)]
 mod notification_tests;
+#[cfg(test)]
+mod prefix_tests;
 #[cfg(test)]
 mod quiet_run_tests;
 #[cfg(test)]
 mod quiet_tests;
 #[cfg(test)]
+mod random_room;
+#[cfg(test)]
 mod run_tests;
+#[cfg(test)]
+mod steps;

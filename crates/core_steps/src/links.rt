@@ -3,7 +3,7 @@
 ghost use Rattle.std.specs.Prelude.{◌≡◌, ◌≤◌, ℕ, length, nat_eq, IfOk};
 ghost use Rattle.std.specs.HashMap.{get};
 ghost use Rattle.std.specs.List.{enumerate_from};
-ghost use Rattle.core_steps.specs.Links.{numbers_of, first_to};
+ghost use Rattle.core_steps.specs.Links.{leg_numbers_of, first_to};
 ghost use Rattle.core_steps.specs.Places.{ListsLegs, FindsLegs};
 
 use members::{LegSettings, MAX_LEGS, Settings};
@@ -35,7 +35,11 @@ impl Model for Links {
         record { workers = l.workers; endpoints = l.endpoints.items; legs = l.legs.items } };
 
     ghost invariant = { λ l.
-        IsLinkTable (record { workers = l.workers; endpoints = l.endpoints.items; legs = l.legs.items })
+        IsLinkTable (record {
+          workers = l.workers;
+          endpoints = l.endpoints.items;
+          legs = l.legs.items;
+        })
         × ListsLegs l.published.items (length l.endpoints.items) l.legs.items
         × FindsLegs l.sent.items (length l.endpoints.items) l.legs.items };
 }
@@ -47,7 +51,7 @@ fn published_by(
     publisher: usize,
 ) -> Result<Vec<u16>, AllocError>
     requires { length legs.now ≤ MAX_LEGS }
-    ensures { IfOk result (λ v. v.items ≡ numbers_of publisher (enumerate_from 0 legs.now)) }
+    ensures { IfOk result (λ v. v.items ≡ leg_numbers_of publisher (enumerate_from 0 legs.now)) }
 {
     let mut numbers = Vec::new(alloc);
     for (number, leg) in legs.iter().enumerate() {

@@ -1,8 +1,7 @@
 //! Growths that are refused. Run with `rt try --test --fail-alloc 1.. -- each_growth_refused`, which refuses each in turn.
 
-use super::cut_tests::{lines, shown};
-use super::run_tests::{Hear, Ingress, Step, Work, do_events, event_of, settings};
 use super::*;
+use crate::steps::{Hear, Ingress, Step, Work, do_events, event_of, lines, settings, shown};
 use std::alloc::Global;
 use std::process::Abort;
 use std::test::Fail;

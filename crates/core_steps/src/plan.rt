@@ -1,8 +1,8 @@
 //! What a job is about to do on the legs of a worker.
 
 ghost use Rattle.std.specs.Prelude.{◌≡◌, ◌++◌, ◌∷◌, [], length, IfOk, OnOk, OnErr};
-ghost use Rattle.core_steps.specs.Legs.{forwarded, handed_out};
-ghost use Rattle.core_steps.specs.Plan.{applied, applied_one, changed_at};
+ghost use Rattle.core_steps.specs.Legs.{leg_after_packet, handed_out};
+ghost use Rattle.core_steps.specs.Plan.{legs_after_plan, applied_one, changed_at};
 
 use crate::bytes::Bytes;
 use crate::leg::LegState;
@@ -75,7 +75,7 @@ fn forward_at(
     bytes: Vec<u8>,
 ) -> Option<Vec<u8>>
     ensures { legs.new
-        ≡ changed_at legs.old place (λ s. forwarded s numbers number octets bytes.items) }
+        ≡ changed_at legs.old place (λ s. leg_after_packet s numbers number octets bytes.items) }
 {
     if place < legs.len() {
         legs[place].forward(numbers, number, octets, bytes)
@@ -171,7 +171,7 @@ impl Plan {
 
     /// Does on these legs what is planned, and plans nothing any more.
     pub(crate) fn apply_to(&mut self, legs: &mut [LegState])
-        ensures legs { legs.new ≡ applied legs.old self.old }
+        ensures legs { legs.new ≡ legs_after_plan legs.old self.old }
         ensures done { self.new ≡ [] }
     {
         self.planned.reverse();

@@ -3,7 +3,7 @@
 ghost use Rattle.std.specs.Prelude.{◌≡◌, ◌≤◌, ◌++◌, ◌∷◌, [], length, IfOk, OnOk};
 ghost use Rattle.rewrite.specs.Leg.{answer_to};
 ghost use Rattle.resend_ring.specs.Kept.{last_kept_with};
-ghost use Rattle.core_steps.specs.Legs.{report_bytes};
+ghost use Rattle.core_steps.specs.Legs.{leg_report_bytes};
 ghost use Rattle.core_steps.specs.Planning.{packet_planned, resend_planned, resends};
 ghost use Rattle.core_steps.specs.Rtp.{sequence_number, payload_octets, readdressed_bytes};
 
@@ -130,7 +130,7 @@ pub fn plan_report(
 ) -> Result<Planned, AllocError>
     requires { length cname.now ≤ CNAME_LIMIT }
     ensures { IfOk result (λ planned. planned
-        ≡ Planned.Report leg.now.link.subscriber (report_bytes cname.now leg.now sr)) }
+        ≡ Planned.Report leg.now.link.subscriber (leg_report_bytes cname.now leg.now sr)) }
 {
     let source = leg.link.out_ssrc;
     let mut bytes = Vec::new(alloc);

@@ -13,7 +13,9 @@ ghost use Rattle.core_steps.specs.World.{WorldState};
 /// word that was heard last in the stay that stands; where one was heard, it is live, unless an expire took it; and where no
 /// stay stands, nothing is live.
 pub fn last_heard_is_live()
-    ensures { (c : Configuration) (w : WorldState) (events : List Event) (history : List Happening) (rates : List HeardRate)
+    ensures { (c : Configuration) (w : WorldState) (events : List Event) (history : List Happening)
+        (rates : List HeardRate)
         → IsInRange c → IsNewWorld c w → Runs w events history → HeardIn w events history rates
-        → IsQuiet history (worlds_after w history) → LastHeardIsLive c history rates (worlds_after w history) }
+        → IsQuiet history (worlds_after w history)
+        → LastHeardIsLive c history rates (worlds_after w history) }
 {}

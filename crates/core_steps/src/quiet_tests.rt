@@ -1,9 +1,10 @@
 //! What is live at the end of the examples, where nothing waits.
 
-use super::run_tests::{ASKED, Hear, Ingress, Settle, Step, Tick, do_step, settings};
 use super::*;
+use crate::steps::{ASKED, Hear, Ingress, Settle, Step, Tick, do_step, settings};
 use std::alloc::Global;
 use std::fmt::Write;
+use std::process::Abort;
 use std::test::Fail;
 
 const NOTHING: Waiting = Waiting {
@@ -45,41 +46,51 @@ const LATER: [Step<'static>; 6] = [
     Settle,
 ];
 
+/// Each of these plays leaves nothing that waits, lost nothing, and leaves these requests live.
+fn leaves_live(
+    rt: &impl Abort,
+    alloc: Global,
+    world: &mut World,
+    plays: &[(&[Step<'_>], &str)],
+) -> Result<(), Fail> {
+    for (steps, wanted) in plays {
+        play(alloc, world, *steps)?;
+        assert_eq!(rt; (world.waiting(), world.lost()), (NOTHING, 0));
+        assert_eq!(rt; live(alloc, world)?.as_str(), *wanted);
+    }
+    Ok(())
+}
+
 #[test]
 fn quiet(rt: HostRuntime) -> Result<(), Fail> {
     let alloc = rt.alloc();
+    let asked = "17 0007d028;";
 
     // Examples 21, 22 and 23, one behind the other.
     let mut world = World::new(alloc, &settings(alloc, 1000, 60_000, 0)?)?;
-    play(alloc, &mut world, ASKED.as_slice())?;
-    assert_eq!(rt; world.waiting(), NOTHING);
-    assert_eq!(rt; live(alloc, &world)?.as_str(), "17 0007d028;");
-    play(alloc, &mut world, &LATER[..4])?;
-    assert_eq!(rt; world.waiting(), NOTHING);
-    assert_eq!(rt; live(alloc, &world)?.as_str(), "17 0007d028;");
-    play(alloc, &mut world, &LATER[4..])?;
-    assert_eq!(rt; world.waiting(), NOTHING);
-    assert_eq!(rt; live(alloc, &world)?.as_str(), "");
-    assert_eq!(rt; world.lost(), 0);
+    let plays = [
+        (ASKED.as_slice(), asked),
+        (&LATER[..4], asked),
+        (&LATER[4..], ""),
+    ];
+    leaves_live(&rt, alloc, &mut world, &plays)?;
 
     // Of two entries about one leg the second was heard last.
     let mut world = World::new(alloc, &settings(alloc, 1000, 60_000, 0)?)?;
     let twice = "83cd00060000001100000000000001010007d028000001010007d00a";
-    play(alloc, &mut world, &ASKED[..4])?;
-    play(alloc, &mut world, &[Hear(10, 1, twice), Settle])?;
-    assert_eq!(rt; world.waiting(), NOTHING);
-    assert_eq!(rt; live(alloc, &world)?.as_str(), "17 0007d00a;");
+    let both = [Hear(10, 1, twice), Settle];
+    let plays = [(&ASKED[..4], ""), (both.as_slice(), "17 0007d00a;")];
+    leaves_live(&rt, alloc, &mut world, &plays)?;
 
     // A request that an expire took.
     let mut world = World::new(alloc, &settings(alloc, 5000, 60_000, 1000)?)?;
-    play(alloc, &mut world, ASKED.as_slice())?;
-    play(alloc, &mut world, &[Tick(999), Settle])?;
-    assert_eq!(rt; world.waiting(), NOTHING);
-    assert_eq!(rt; live(alloc, &world)?.as_str(), "17 0007d028;");
-    play(alloc, &mut world, &[Tick(1000), Settle])?;
-    assert_eq!(rt; world.waiting(), NOTHING);
-    assert_eq!(rt; live(alloc, &world)?.as_str(), "");
-    Ok(())
+    let (young, old) = ([Tick(999), Settle], [Tick(1000), Settle]);
+    let plays = [
+        (ASKED.as_slice(), asked),
+        (young.as_slice(), asked),
+        (old.as_slice(), ""),
+    ];
+    leaves_live(&rt, alloc, &mut world, &plays)
 }
 
 #[test]

@@ -62,7 +62,8 @@ impl JobRing {
 
     /// Takes the oldest job.
     pub(crate) fn pop(&mut self) -> Option<Job>
-        ensures { MatchOption result ((self.old ≡ []) × (self.new ≡ [])) (λ job. self.old ≡ job ∷ self.new) }
+        ensures { MatchOption result ((self.old ≡ []) × (self.new ≡ []))
+            (λ job. self.old ≡ job ∷ self.new) }
     {
         self.jobs.pop_front()
     }

@@ -10,10 +10,11 @@ ghost use Rattle.core_steps.specs.Run.{HasRun, Leaves, Stays};
 ghost use Rattle.core_steps.specs.RunFaults.{done_of};
 
 use crate::event::Event;
-use crate::hearing::{hear, select, tick};
+use crate::hearing::{hear, select};
 use crate::ingress::do_next;
 use crate::machine::Machine;
 use crate::output::Out;
+use crate::ticking::tick;
 use crate::working::work;
 use crate::world::World;
 use std::alloc::AllocError;
@@ -33,16 +34,19 @@ pub fn run(world: &mut World, events: &[Event], outs: &mut Vec<Out>) -> Result<(
     ensures ok { OnOk result (HasRun events.now world.old outs.old.items world.new outs.new.items) }
     ensures quiet { OnOk result (ObeysQuietLaw events.now world.old world.new) }
     ensures err { IfErr result (λ fault. (done_of fault ≤ length events.now)
-        × HasRun (take (done_of fault) events.now) world.old outs.old.items world.new outs.new.items) }
+        × HasRun (take (done_of fault) events.now) world.old outs.old.items world.new
+        outs.new.items) }
 {
     run_machine(&mut world.machine, events, outs)
 }
 
 /// Does the events in order on the machine's parts.
 fn run_machine(m: &mut Machine, events: &[Event], outs: &mut Vec<Out>) -> Result<(), RunFault>
-    ensures ok { OnOk result (HasRun events.now (state_of m.old) outs.old.items (state_of m.new) outs.new.items) }
+    ensures ok { OnOk result (HasRun events.now (state_of m.old) outs.old.items
+        (state_of m.new) outs.new.items) }
     ensures err { IfErr result (λ fault. (done_of fault ≤ length events.now)
-        × HasRun (take (done_of fault) events.now) (state_of m.old) outs.old.items (state_of m.new) outs.new.items) }
+        × HasRun (take (done_of fault) events.now) (state_of m.old) outs.old.items
+        (state_of m.new) outs.new.items) }
 {
     for (done, event) in events.iter().enumerate() {
         if step(m, event, outs).is_err() {

@@ -131,7 +131,8 @@ impl Tasks {
     /// The oldest that waits.
     pub(crate) fn oldest(&self) -> Option<NextTask>
         ensures { MatchOption result (tasks_of self.now ≡ [])
-            (λ next. tasks_of self.now ≡ task_in self.now.datagram.items next ∷ drop 1 (tasks_of self.now)) }
+            (λ next. tasks_of self.now
+            ≡ task_in self.now.datagram.items next ∷ drop 1 (tasks_of self.now)) }
     {
         if self.orders_done < self.orders.len() {
             return Some(NextTask::Order(self.orders[self.orders_done]));

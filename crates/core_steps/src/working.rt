@@ -6,10 +6,10 @@ ghost use Rattle.rate_desk.specs.Call.{HasStay};
 ghost use Rattle.core_steps.specs.declared.output.Out.TheVariants.{Send};
 ghost use Rattle.core_steps.specs.Legs.{job_datagrams, legs_after};
 ghost use Rattle.core_steps.specs.Machine.{state_of, setup_of, worker_state};
-ghost use Rattle.core_steps.specs.Plan.{out_of, outs_of};
+ghost use Rattle.core_steps.specs.Plan.{out_of, plan_outs};
 ghost use Rattle.core_steps.specs.Rule.{Works};
 ghost use Rattle.core_steps.specs.Run.{Leaves, Stays};
-ghost use Rattle.core_steps.specs.Turns.{asks_by, AsksOf, IsCallable, IsTold, Turns};
+ghost use Rattle.core_steps.specs.Turns.{asks_by, AsksOf, IsCallable, IsDeskTold, Turns};
 
 use crate::asking::{ask, picture_call, stay_call};
 use crate::bytes::Bytes;
@@ -27,7 +27,8 @@ use tmmbr_tuple::Tuple;
 
 /// One step of the worker of this number.
 pub(crate) fn work(m: &mut Machine, worker: u16, outs: &mut Vec<Out>) -> Result<(), AllocError>
-    ensures ok { OnOk result (Leaves (Works (state_of m.old) worker (slice_get (state_of m.old).workers worker))
+    ensures ok { OnOk result (Leaves
+        (Works (state_of m.old) worker (slice_get (state_of m.old).workers worker))
         (state_of m.old) outs.old.items (state_of m.new) outs.new.items) }
     ensures err { OnErr result (Stays (state_of m.old) outs.old.items (state_of m.new) outs.new.items) }
 {
@@ -161,7 +162,7 @@ fn ask_desk(
 )
     requires stay { HasStay call.now }
     requires room { vec_len outs.old < vec_capacity outs.old }
-    ensures { IsTold publisher leg call.now desks.old desks.new
+    ensures { IsDeskTold publisher leg call.now desks.old desks.new
         (worker_state w.old) (worker_state w.new) outs.old.items outs.new.items }
 {
     match ask(desks, publisher, leg, call, &mut w.effect, outs) {
@@ -181,7 +182,8 @@ fn forward(
     outs: &mut Vec<Out>,
 ) -> Result<(), AllocError>
     requires { length cname.now ≤ CNAME_LIMIT }
-    ensures outs { OnOk result (outs.new.items ≡ outs.old.items ++ job_datagrams cname.now rows.now legs.old job.now) }
+    ensures outs { OnOk result (outs.new.items ≡ outs.old.items
+        ++ job_datagrams cname.now rows.now legs.old job.now) }
     ensures legs { OnOk result (legs.new ≡ legs_after rows.now legs.old job.now) }
     ensures err { OnErr result ((legs.new ≡ legs.old) × (outs.new.items ≡ outs.old.items)) }
 {
@@ -194,7 +196,7 @@ fn forward(
 
 /// What a plan on these legs gives out.
 fn planned_outs(alloc: Global, legs: &Legs, plan: &[Planned]) -> Result<Vec<Out>, AllocError>
-    ensures { IfOk result (λ given. given.items ≡ outs_of legs.now plan.now) }
+    ensures { IfOk result (λ given. given.items ≡ plan_outs legs.now plan.now) }
 {
     let mut given = Vec::with_capacity(alloc, plan.len())?;
     for planned in plan {

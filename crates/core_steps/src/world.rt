@@ -87,7 +87,8 @@ fn new_worker(
 /// The workers of these settings.
 fn new_workers(alloc: Global, settings: &Settings, links: &Links) -> Result<Vec<Worker>, AllocError>
     requires { links.now ≡ table_of settings.now }
-    ensures { IfOk result (λ workers. AreNewWorkers settings.now links.now.workers (map worker_state workers.items)) }
+    ensures { IfOk result
+        (λ workers. AreNewWorkers settings.now links.now.workers (map worker_state workers.items)) }
 {
     let mut workers = Vec::new(alloc);
     for number in 0..links.workers() {

@@ -9,11 +9,11 @@ use Rattle.members.specs.declared.fault.RoomFault.{RoomFault}
 use Rattle.members.specs.declared.presence.Endpoint.{Endpoint}
 use Rattle.members.specs.declared.stays.TheConstants.{MAX_STAY}
 use Rattle.members.specs.Presence.{is_overdue_at, is_present_at, source_at, with_heard}
-use Rattle.members.specs.Stays.{Told, told, leave, left, leaving, coming_count}
+use Rattle.members.specs.Stays.{Told, without_orders, leave, after_overdue, leaving, coming_count}
 use Rattle.tmmbr_tuple.specs.declared.ssrc.Ssrc.{Ssrc}
 use Rattle.members.specs.Settings.{Configuration}
 use Rattle.members.specs.Room.{RoomState, Step, step_with, after_leaving, leg_at, is_selected, takes_turn, absent, new_room}
-use Rattle.members.specs.Calls.{Call, Hear, Bye, Tick, Select, Receive, Report, MakeBlock, step_of, room_of, if_accepted, room_after, accepted, moment_of, greatest_moment, heard_by, last_heard, is_recent, is_present_after}
+use Rattle.members.specs.Calls.{Call, Hear, Bye, Tick, Select, Receive, Report, MakeBlock, step_of, room_of, if_accepted, room_after, accepted_calls, moment_of, greatest_moment, heard_by, last_heard, is_recent, is_present_after}
 
 -- ---- when an endpoint was heard
 
@@ -52,30 +52,30 @@ abbrev pub lapsed : ℕ → ℕ → Option ℕ → Option ℕ
 lapsed t m heard = if overdue_of t m heard then None else heard
 
 record LeftEndpoints (t m : ℕ) (s : Told) (n : ℕ) : Type 0 where
-  count : length (left t m s n).endpoints ≡ length s.endpoints
-  below : (k : ℕ) → k < n → k < length s.endpoints → heard_at (left t m s n).endpoints k ≡ lapsed t m (heard_at s.endpoints k)
-  above : (k : ℕ) → n ≤ k → heard_at (left t m s n).endpoints k ≡ heard_at s.endpoints k
+  count : length (after_overdue t m s n).endpoints ≡ length s.endpoints
+  below : (k : ℕ) → k < n → k < length s.endpoints → heard_at (after_overdue t m s n).endpoints k ≡ lapsed t m (heard_at s.endpoints k)
+  above : (k : ℕ) → n ≤ k → heard_at (after_overdue t m s n).endpoints k ≡ heard_at s.endpoints k
 
 left_endpoints : (t m : ℕ) (s : Told) (n : ℕ) → LeftEndpoints t m s n
 left_endpoints t m s zero = record { count = refl; below = λ k less _. absurd (omega arith); above = λ k more. refl }
-left_endpoints t m s (suc n) = step (is_overdue_at t m (left t m s n).endpoints n) refl (left_endpoints t m s n)
+left_endpoints t m s (suc n) = step (is_overdue_at t m (after_overdue t m s n).endpoints n) refl (left_endpoints t m s n)
   where
-    step : (b : Bool) → is_overdue_at t m (left t m s n).endpoints n ≡ b → LeftEndpoints t m s n → LeftEndpoints t m s (suc n)
+    step : (b : Bool) → is_overdue_at t m (after_overdue t m s n).endpoints n ≡ b → LeftEndpoints t m s n → LeftEndpoints t m s (suc n)
     step true is h =
         let was : overdue_of t m (heard_at s.endpoints n) ≡ true =
-        ap (overdue_of t m) (sym (h.above n (omega arith))) ∙ (sym (overdue_heard t m (left t m s n).endpoints n) ∙ is) in
+        ap (overdue_of t m) (sym (h.above n (omega arith))) ∙ (sym (overdue_heard t m (after_overdue t m s n).endpoints n) ∙ is) in
         record {
-          count = rw is (length-set (left t m s n).endpoints n _ ∙ h.count);
+          count = rw is (length-set (after_overdue t m s n).endpoints n _ ∙ h.count);
           below = λ k less inside. rw is (elim (cases_lt k n) [
-            | inl lower ↦ heard_set_other (left t m s n).endpoints n k _ (λ same. omega arith) ∙ h.below k lower inside
+            | inl lower ↦ heard_set_other (after_overdue t m s n).endpoints n k _ (λ same. omega arith) ∙ h.below k lower inside
             | inr more ↦ (let same : k ≡ n = omega arith in
-                rw same (heard_set_same (left t m s n).endpoints n _ (omega (arith, h.count)) ∙ rw was refl))
+                rw same (heard_set_same (after_overdue t m s n).endpoints n _ (omega (arith, h.count)) ∙ rw was refl))
           ]);
-          above = λ k more. rw is (heard_set_other (left t m s n).endpoints n k _ (λ same. omega arith) ∙ h.above k (omega arith));
+          above = λ k more. rw is (heard_set_other (after_overdue t m s n).endpoints n k _ (λ same. omega arith) ∙ h.above k (omega arith));
         }
     step false is h =
         let was : overdue_of t m (heard_at s.endpoints n) ≡ false =
-        ap (overdue_of t m) (sym (h.above n (omega arith))) ∙ (sym (overdue_heard t m (left t m s n).endpoints n) ∙ is) in
+        ap (overdue_of t m) (sym (h.above n (omega arith))) ∙ (sym (overdue_heard t m (after_overdue t m s n).endpoints n) ∙ is) in
         record {
           count = rw is h.count;
           below = λ k less inside. rw is (elim (cases_lt k n) [
@@ -127,12 +127,12 @@ if_keeps e heard r c false x y yeah nope = nope refl
 -- once those overdue have left
 pub leaving_count : (r : RoomState) (m : ℕ) → length (after_leaving r m).endpoints ≡ length r.endpoints
 unfolding leaving
-leaving_count r m = (left_endpoints r.timeout m (told r.endpoints r.legs) (length r.endpoints)).count
+leaving_count r m = (left_endpoints r.timeout m (without_orders r.endpoints r.legs) (length r.endpoints)).count
 
 pub leaving_lapsed : (r : RoomState) (m e : ℕ) → e < length r.endpoints
     → heard_at (after_leaving r m).endpoints e ≡ lapsed r.timeout m (heard_at r.endpoints e)
 unfolding leaving
-leaving_lapsed r m e inside = (left_endpoints r.timeout m (told r.endpoints r.legs) (length r.endpoints)).below e inside inside
+leaving_lapsed r m e inside = (left_endpoints r.timeout m (without_orders r.endpoints r.legs) (length r.endpoints)).below e inside inside
 
 pub leaving_heard : (r : RoomState) (m e : ℕ) (heard : Option ℕ) → r.moment ≤ m → e < length r.endpoints
     → heard_at r.endpoints e ≡ fresh r.timeout r.moment heard → heard_at (after_leaving r m).endpoints e ≡ fresh r.timeout m heard
@@ -257,13 +257,13 @@ record Heard (e : ℕ) (heard : Option ℕ) (timeout moment : ℕ) (final : Room
   latest : final.moment ≡ greatest_moment moment calls
 
 heard_after : (e : ℕ) (heard : Option ℕ) (r : RoomState) (calls : List Call) → Before e heard r
-    → Heard e heard r.timeout r.moment (room_after r calls) (accepted r calls)
+    → Heard e heard r.timeout r.moment (room_after r calls) (accepted_calls r calls)
 heard_after e heard r [] b = record { held = b.is; latest = refl }
 heard_after e heard r (c ∷ calls) b = step (step_of r c) (keeps e heard r c b) (λ heard' r' b'. heard_after e heard' r' calls b')
   where
     step : (x : Result Step RoomFault) → IfKeeps e heard r c x
-        → ((heard' : Option ℕ) (r' : RoomState) → Before e heard' r' → Heard e heard' r'.timeout r'.moment (room_after r' calls) (accepted r' calls))
-        → Heard e heard r.timeout r.moment (room_after (room_of r x) calls) (if_accepted c x ++ accepted (room_of r x) calls)
+        → ((heard' : Option ℕ) (r' : RoomState) → Before e heard' r' → Heard e heard' r'.timeout r'.moment (room_after r' calls) (accepted_calls r' calls))
+        → Heard e heard r.timeout r.moment (room_after (room_of r x) calls) (if_accepted c x ++ accepted_calls (room_of r x) calls)
     step (Err fault) k rest = rest heard r b
     step (Ok s) k rest =
         let now = max r.moment (moment_of c) in
@@ -275,11 +275,11 @@ heard_after e heard r (c ∷ calls) b = step (step_of r c) (keeps e heard r c b)
         let after = rest (heard_by e now heard c) s.room before in
         record {
           held = subst (λ t. heard_at (room_after s.room calls).endpoints e
-              ≡ fresh t (greatest_moment now (accepted s.room calls)) (last_heard e now (heard_by e now heard c) (accepted s.room calls))) k.timeout
+              ≡ fresh t (greatest_moment now (accepted_calls s.room calls)) (last_heard e now (heard_by e now heard c) (accepted_calls s.room calls))) k.timeout
               (subst (λ m. heard_at (room_after s.room calls).endpoints e
-              ≡ fresh s.room.timeout (greatest_moment m (accepted s.room calls)) (last_heard e m (heard_by e now heard c) (accepted s.room calls))) k.moment
+              ≡ fresh s.room.timeout (greatest_moment m (accepted_calls s.room calls)) (last_heard e m (heard_by e now heard c) (accepted_calls s.room calls))) k.moment
               after.held);
-          latest = subst (λ m. (room_after s.room calls).moment ≡ greatest_moment m (accepted s.room calls)) k.moment after.latest;
+          latest = subst (λ m. (room_after s.room calls).moment ≡ greatest_moment m (accepted_calls s.room calls)) k.moment after.latest;
         }
 
 -- ---- a new room
@@ -297,13 +297,13 @@ before_new s e least inside = record {
 }
 
 pub presence_law : (s : Configuration) (calls : List Call) (e : ℕ) → 1 ≤ s.timeout_ms → e < length s.endpoints
-    → is_present_at (room_after (new_room s) calls).endpoints e ≡ is_present_after s.timeout_ms e (accepted (new_room s) calls)
+    → is_present_at (room_after (new_room s) calls).endpoints e ≡ is_present_after s.timeout_ms e (accepted_calls (new_room s) calls)
 presence_law s calls e least inside =
     let h = heard_after e None (new_room s) calls (before_new s e least inside) in
     present_heard (room_after (new_room s) calls).endpoints e
     ∙ (ap is_some h.held
-    ∙ is_some-fresh s.timeout_ms (greatest_moment 0 (accepted (new_room s) calls)) (last_heard e 0 None (accepted (new_room s) calls)))
+    ∙ is_some-fresh s.timeout_ms (greatest_moment 0 (accepted_calls (new_room s) calls)) (last_heard e 0 None (accepted_calls (new_room s) calls)))
 
 pub moment_law : (s : Configuration) (calls : List Call) (e : ℕ) → 1 ≤ s.timeout_ms → e < length s.endpoints
-    → (room_after (new_room s) calls).moment ≡ greatest_moment 0 (accepted (new_room s) calls)
+    → (room_after (new_room s) calls).moment ≡ greatest_moment 0 (accepted_calls (new_room s) calls)
 moment_law s calls e least inside = (heard_after e None (new_room s) calls (before_new s e least inside)).latest

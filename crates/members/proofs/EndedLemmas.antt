@@ -15,8 +15,8 @@ use Rattle.members.specs.declared.stays.TheConstants.{MAX_STAY}
 use Rattle.members.specs.declared.settings.LegSettings.{LegSettings}
 use Rattle.members.specs.Presence.{is_overdue_at, is_present_at, source_at}
 use Rattle.members.specs.Settings.{Configuration}
-use Rattle.members.specs.Stays.{Told, told, leave, left, leaving, is_of, ending, ending_of, endings, ended, begins_with, beginning, beginnings, begun, turn_from, coming_orders, coming_count, coming_legs, come}
-use Rattle.members.specs.Room.{RoomState, Step, after_leaving, gone, leg_at, no_leg, is_selected, takes_turn, row_order, switched, next_after, unstarted, new_room}
+use Rattle.members.specs.Stays.{Told, without_orders, leave, after_overdue, leaving, is_of, ending, ending_of, endings, leg_without, begins_with, beginning, beginnings, started_legs, turn_from, coming_orders, coming_count, coming_legs, come}
+use Rattle.members.specs.Room.{RoomState, Step, after_leaving, after_bye, leg_at, no_leg, is_selected, takes_turn, row_order, switched_leg, next_after, idle_leg, new_room}
 use Rattle.members.specs.Calls.{Call, Hear, Bye, Tick, Select, Receive, Report, MakeBlock, step_of, room_of, orders_of, room_after, orders_after, departure_of, departures, StandsNowhere}
 
 abbrev is_one : ℕ → ℕ → ℕ
@@ -53,7 +53,7 @@ not_zero n least = grind (arith, nat_tests)
 -- ---- an endpoint leaves: each of its stays goes from the legs to the departures
 
 moved_one : (n e k : ℕ) (l : LegStay) → 1 ≤ n
-    → times n (departures (ending_of e (k, l))) + cond ((ended e l).stay == n) 1 0 ≡ cond (l.stay == n) 1 0
+    → times n (departures (ending_of e (k, l))) + cond ((leg_without e l).stay == n) 1 0 ≡ cond (l.stay == n) 1 0
 unfolding times
 moved_one n e k l least = step (is_of e l) (l.stay == 0) refl
   where
@@ -66,7 +66,7 @@ moved_one n e k l least = step (is_of e l) (l.stay == 0) refl
     step false z is = omega arith
 
 moved : (n e k : ℕ) (ls : List LegStay) → 1 ≤ n
-    → times n (departures (flat_map (ending_of e) (enumerate_from k ls))) + standing n (map (ended e) ls) ≡ standing n ls
+    → times n (departures (flat_map (ending_of e) (enumerate_from k ls))) + standing n (map (leg_without e) ls) ≡ standing n ls
 unfolding standing times
 moved n e k [] least = refl
 moved n e k (l ∷ ls) least =
@@ -111,11 +111,11 @@ record Begun (n next count was now : ℕ) : Type 0 where
   once : next ≤ n → was ≡ 0 → now ≤ 1
 
 begun_standing : (n : ℕ) (begins : LegStay → Bool) (next : ℕ) (ls : List LegStay)
-    → Begun n next (count_by begins ls) (standing n ls) (standing n (begun begins next ls))
+    → Begun n next (count_by begins ls) (standing n ls) (standing n (started_legs begins next ls))
 unfolding standing
 begun_standing n begins next [] = record { before = λ less. omega arith; behind = λ more. omega arith; once = λ more none. omega arith }
 begun_standing n begins next (l ∷ ls) =
-    subst (λ c. Begun n next c (cond (l.stay == n) 1 0 + standing n ls) (standing n (begun begins next (l ∷ ls))))
+    subst (λ c. Begun n next c (cond (l.stay == n) 1 0 + standing n ls) (standing n (started_legs begins next (l ∷ ls))))
     (sym (sum_by-cons (λ x. cond (begins x) 1 0) l ls))
     (step (begins l) (begun_standing n begins (next + 1) ls) (begun_standing n begins next ls))
   where
@@ -126,18 +126,18 @@ begun_standing n begins next (l ∷ ls) =
     other apart = grind (arith, nat_tests)
 
     first : (b : Bool) → (next == n) ≡ b → next ≤ n → standing n ls ≡ 0
-        → Begun n (next + 1) (count_by begins ls) (standing n ls) (standing n (begun begins (next + 1) ls))
-        → cond b 1 0 + standing n (begun begins (next + 1) ls) ≤ 1
+        → Begun n (next + 1) (count_by begins ls) (standing n ls) (standing n (started_legs begins (next + 1) ls))
+        → cond b 1 0 + standing n (started_legs begins (next + 1) ls) ≤ 1
     first true is more none h = let same : next ≡ n = grind (arith, nat_tests) in omega (arith, h.before (omega arith))
     first false is more none h =
         let apart : ¬ (next ≡ n) = λ same. absurd (grind (arith, nat_tests)) in
         let above : next + 1 ≤ n = elim (cases_lt next n) [ inl less ↦ omega arith | inr most ↦ absurd (apart (omega arith)) ] in
         omega (arith, h.once above none)
 
-    step : (b : Bool) → Begun n (next + 1) (count_by begins ls) (standing n ls) (standing n (begun begins (next + 1) ls))
-        → Begun n next (count_by begins ls) (standing n ls) (standing n (begun begins next ls))
+    step : (b : Bool) → Begun n (next + 1) (count_by begins ls) (standing n ls) (standing n (started_legs begins (next + 1) ls))
+        → Begun n next (count_by begins ls) (standing n ls) (standing n (started_legs begins next ls))
         → Begun n next (cond b 1 0 + count_by begins ls) (cond (l.stay == n) 1 0 + standing n ls)
-        (standing n (cond b (record l { stay = next; turn = turn_from next l } ∷ begun begins (next + 1) ls) (l ∷ begun begins next ls)))
+        (standing n (cond b (record l { stay = next; turn = turn_from next l } ∷ started_legs begins (next + 1) ls) (l ∷ started_legs begins next ls)))
     step true h same = record {
       before = λ less. omega (arith, here (other (λ e. omega arith)), h.before (omega arith));
       behind = λ more. omega (arith, here (other (λ e. omega arith)), h.behind (omega arith));
@@ -180,18 +180,18 @@ once_if past next true t u first second = first
 once_if past next false t u first second = second
 
 once_left : (past : List ℕ) (next timeout m : ℕ) (t : Told) (n : ℕ) → Once past t.orders next t.legs
-    → Once past (left timeout m t n).orders next (left timeout m t n).legs
+    → Once past (after_overdue timeout m t n).orders next (after_overdue timeout m t n).legs
 once_left past next timeout m t zero h = h
 once_left past next timeout m t (suc n) h =
     let before = once_left past next timeout m t n h in
-    once_if past next (is_overdue_at timeout m (left timeout m t n).endpoints n) _ _ (once_leave past next (left timeout m t n) n before) before
+    once_if past next (is_overdue_at timeout m (after_overdue timeout m t n).endpoints n) _ _ (once_leave past next (after_overdue timeout m t n) n before) before
 
 pub once_leaving : (past : List ℕ) (r : RoomState) (m : ℕ) → Once past [] r.next r.legs
     → Once past (after_leaving r m).orders r.next (after_leaving r m).legs
 unfolding leaving
-once_leaving past r m h = once_left past r.next r.timeout m (told r.endpoints r.legs) (length r.endpoints) h
+once_leaving past r m h = once_left past r.next r.timeout m (without_orders r.endpoints r.legs) (length r.endpoints) h
 
-once_gone : (past : List ℕ) (next : ℕ) (t : Told) (e : ℕ) → Once past t.orders next t.legs → Once past (gone t e).orders next (gone t e).legs
+once_gone : (past : List ℕ) (next : ℕ) (t : Told) (e : ℕ) → Once past t.orders next t.legs → Once past (after_bye t e).orders next (after_bye t e).legs
 once_gone past next t e h = once_if past next (is_present_at t.endpoints e) _ _ (once_leave past next t e h) h
 
 no_more : (n : ℕ) (orders more : List Order) → departures more ≡ [] → times n (departures (orders ++ more)) ≡ times n (departures orders)
@@ -231,8 +231,8 @@ later true n = omega arith
 later false n = omega arith
 
 once_switched : (past : List ℕ) (next : ℕ) (t : Told) (number : ℕ) (on : Bool) → Once past t.orders next t.legs
-    → Once past (t.orders ++ row_order number (switched on next (leg_at t.legs number))) (next_after on next (leg_at t.legs number))
-    (set t.legs number (switched on next (leg_at t.legs number)))
+    → Once past (t.orders ++ row_order number (switched_leg on next (leg_at t.legs number))) (next_after on next (leg_at t.legs number))
+    (set t.legs number (switched_leg on next (leg_at t.legs number)))
 once_switched past next t number on h = record {
   bound = λ n least. omega (arith, same n, kept n, h.bound n least);
   fresh = λ n more. omega (arith, same n, kept n, h.fresh n (omega (arith, later (takes_turn on l) next)));
@@ -243,11 +243,11 @@ once_switched past next t number on h = record {
     l : LegStay
     l = leg_at t.legs number
 
-    same : (n : ℕ) → times n (departures (t.orders ++ row_order number (switched on next (leg_at t.legs number)))) ≡ times n (departures t.orders)
-    same n = no_more n t.orders (row_order number (switched on next (leg_at t.legs number))) (row_departs number (switched on next (leg_at t.legs number)))
+    same : (n : ℕ) → times n (departures (t.orders ++ row_order number (switched_leg on next (leg_at t.legs number)))) ≡ times n (departures t.orders)
+    same n = no_more n t.orders (row_order number (switched_leg on next (leg_at t.legs number))) (row_departs number (switched_leg on next (leg_at t.legs number)))
 
-    kept : (n : ℕ) → standing n (set t.legs number (switched on next (leg_at t.legs number))) ≡ standing n t.legs
-    kept n = standing-set n number t.legs (switched on next (leg_at t.legs number)) refl
+    kept : (n : ℕ) → standing n (set t.legs number (switched_leg on next (leg_at t.legs number))) ≡ standing n t.legs
+    kept n = standing-set n number t.legs (switched_leg on next (leg_at t.legs number)) refl
 
 itself : (n : ℕ) → is_one n n ≡ 1
 itself n = grind (arith, nat_tests)
@@ -341,12 +341,12 @@ room_after-append : (r : RoomState) (before after : List Call) → room_after r 
 room_after-append r [] after = refl
 room_after-append r (c ∷ before) after = room_after-append (room_of r (step_of r c)) before after
 
-unstarted_standing : (n : ℕ) (legs : List LegSettings) → 1 ≤ n → standing n (map unstarted legs) ≡ 0
+unstarted_standing : (n : ℕ) (legs : List LegSettings) → 1 ≤ n → standing n (map idle_leg legs) ≡ 0
 unfolding standing
 unstarted_standing n [] least = refl
 unstarted_standing n (l ∷ legs) least = omega (arith, not_zero n least, unstarted_standing n legs least)
 
-pub once_new : (s : Configuration) → Once [] [] 1 (map unstarted s.legs)
+pub once_new : (s : Configuration) → Once [] [] 1 (map idle_leg s.legs)
 unfolding times
 once_new s = record {
   bound = λ n least. omega (arith, unstarted_standing n s.legs least);

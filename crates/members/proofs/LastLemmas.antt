@@ -12,9 +12,9 @@ use Rattle.members.specs.declared.stays.TheConstants.{MAX_STAY}
 use Rattle.members.specs.declared.settings.LegSettings.{LegSettings}
 use Rattle.members.specs.Presence.{is_overdue_at, is_present_at, source_at}
 use Rattle.members.specs.Settings.{Configuration, IsInRange, IsLegAmong}
-use Rattle.members.specs.Stays.{Told, told, leave, left, leaving, is_of, ended, begins_with, begun, turn_from, coming_count, coming_legs}
-use Rattle.members.specs.Room.{RoomState, Step, after_leaving, gone, leg_at, no_leg, is_selected, takes_turn, switched, unstarted, new_room}
-use Rattle.members.specs.Calls.{Call, Hear, Bye, Tick, Select, Receive, Report, MakeBlock, step_of, room_of, if_accepted, room_after, orders_after, accepted, moment_of, heard_by, is_recent, is_present_after, comes_by, comings_from, stay_after, IsOnePresence}
+use Rattle.members.specs.Stays.{Told, without_orders, leave, after_overdue, leaving, is_of, leg_without, begins_with, started_legs, turn_from, coming_count, coming_legs}
+use Rattle.members.specs.Room.{RoomState, Step, after_leaving, after_bye, leg_at, no_leg, is_selected, takes_turn, switched_leg, idle_leg, new_room}
+use Rattle.members.specs.Calls.{Call, Hear, Bye, Tick, Select, Receive, Report, MakeBlock, step_of, room_of, if_accepted, room_after, orders_after, accepted_calls, moment_of, heard_by, is_recent, is_present_after, comes_by, comings_from, stay_after, IsOnePresence}
 use Rattle.members.proofs.CallLemmas.{IfKeeps, Keeps, keeps, Before, before_new, presence_law}
 use Rattle.members.proofs.StandLemmas.{Matches, both_present, Stand, StandsIn, IfStands, stands, stands_new, stand_law, stand_leaving, equal_of, same_test}
 use Rattle.members.proofs.ReceivedLemmas.{present_recent}
@@ -44,38 +44,38 @@ fades_if : (k : ℕ) (b : Bool) (ls : List LegStay) (t u : Told) → Fades k ls 
 fades_if k true ls t u first second = first
 fades_if k false ls t u first second = second
 
-fades_ended : (e k : ℕ) (ls : List LegStay) → Fades k ls (map (ended e) ls)
+fades_ended : (e k : ℕ) (ls : List LegStay) → Fades k ls (map (leg_without e) ls)
 fades_ended e k [] = fades_same k []
 fades_ended e zero (l ∷ ls) = step (is_of e l)
   where
-    step : (b : Bool) → Fades zero (l ∷ ls) (cond b (record l { stay = 0 }) l ∷ map (ended e) ls)
-    step true = record { count = ap suc (length-map ls (ended e)); subscriber = refl; publisher = refl; stay = λ some. absurd (some refl) }
-    step false = record { count = ap suc (length-map ls (ended e)); subscriber = refl; publisher = refl; stay = λ some. refl }
+    step : (b : Bool) → Fades zero (l ∷ ls) (cond b (record l { stay = 0 }) l ∷ map (leg_without e) ls)
+    step true = record { count = ap suc (length-map ls (leg_without e)); subscriber = refl; publisher = refl; stay = λ some. absurd (some refl) }
+    step false = record { count = ap suc (length-map ls (leg_without e)); subscriber = refl; publisher = refl; stay = λ some. refl }
 fades_ended e (suc k) (l ∷ ls) =
     let rest = fades_ended e k ls in
     record { count = ap suc rest.count; subscriber = rest.subscriber; publisher = rest.publisher; stay = rest.stay }
 
-fades_left : (k timeout m : ℕ) (t : Told) (n : ℕ) → Fades k t.legs (left timeout m t n).legs
+fades_left : (k timeout m : ℕ) (t : Told) (n : ℕ) → Fades k t.legs (after_overdue timeout m t n).legs
 fades_left k timeout m t zero = fades_same k t.legs
 fades_left k timeout m t (suc n) =
     let before = fades_left k timeout m t n in
-    fades_if k (is_overdue_at timeout m (left timeout m t n).endpoints n) t.legs (leave (left timeout m t n) n) (left timeout m t n)
-    (fades_then k t.legs (left timeout m t n).legs (map (ended n) (left timeout m t n).legs) before (fades_ended n k (left timeout m t n).legs))
+    fades_if k (is_overdue_at timeout m (after_overdue timeout m t n).endpoints n) t.legs (leave (after_overdue timeout m t n) n) (after_overdue timeout m t n)
+    (fades_then k t.legs (after_overdue timeout m t n).legs (map (leg_without n) (after_overdue timeout m t n).legs) before (fades_ended n k (after_overdue timeout m t n).legs))
     before
 
 fades_leaving : (k : ℕ) (r : RoomState) (m : ℕ) → Fades k r.legs (after_leaving r m).legs
 unfolding leaving
-fades_leaving k r m = fades_left k r.timeout m (told r.endpoints r.legs) (length r.endpoints)
+fades_leaving k r m = fades_left k r.timeout m (without_orders r.endpoints r.legs) (length r.endpoints)
 
-fades_gone : (k : ℕ) (t : Told) (e : ℕ) → Fades k t.legs (gone t e).legs
+fades_gone : (k : ℕ) (t : Told) (e : ℕ) → Fades k t.legs (after_bye t e).legs
 fades_gone k t e = fades_if k (is_present_at t.endpoints e) t.legs (leave t e) t (fades_ended e k t.legs) (fades_same k t.legs)
 
 -- another selection leaves each stay
-fades_switched : (k : ℕ) (ls : List LegStay) (n next : ℕ) (on : Bool) → Fades k ls (set ls n (switched on next (leg_at ls n)))
+fades_switched : (k : ℕ) (ls : List LegStay) (n next : ℕ) (on : Bool) → Fades k ls (set ls n (switched_leg on next (leg_at ls n)))
 fades_switched k [] n next on = fades_same k []
 fades_switched zero (l ∷ ls) zero next on = record { count = refl; subscriber = refl; publisher = refl; stay = λ some. refl }
 fades_switched zero (l ∷ ls) (suc n) next on =
-    record { count = ap suc (length-set ls n (switched on next (leg_at ls n))); subscriber = refl; publisher = refl; stay = λ some. refl }
+    record { count = ap suc (length-set ls n (switched_leg on next (leg_at ls n))); subscriber = refl; publisher = refl; stay = λ some. refl }
 fades_switched (suc k) (l ∷ ls) zero next on = record { count = refl; subscriber = refl; publisher = refl; stay = λ some. refl }
 fades_switched (suc k) (l ∷ ls) (suc n) next on =
     let rest = fades_switched k ls n next on in
@@ -91,12 +91,12 @@ record Starts (k next : ℕ) (begins : LegStay → Bool) (ls ms : List LegStay) 
   anew : begins (leg_at ls k) ≡ true → (leg_at ms k).stay ≢ 0 → next ≤ (leg_at ms k).stay
   kept : begins (leg_at ls k) ≡ false → (leg_at ms k).stay ≡ (leg_at ls k).stay
 
-starts_begun : (k : ℕ) (begins : LegStay → Bool) (next : ℕ) (ls : List LegStay) → Starts k next begins ls (begun begins next ls)
+starts_begun : (k : ℕ) (begins : LegStay → Bool) (next : ℕ) (ls : List LegStay) → Starts k next begins ls (started_legs begins next ls)
 starts_begun k begins next [] = record { count = refl; subscriber = refl; publisher = refl; anew = λ is some. absurd (some refl); kept = λ is. refl }
 starts_begun zero begins next (l ∷ ls) = step (begins l) refl (starts_begun 0 begins (next + 1) ls) (starts_begun 0 begins next ls)
   where
-    step : (b : Bool) → begins l ≡ b → Starts 0 (next + 1) begins ls (begun begins (next + 1) ls) → Starts 0 next begins ls (begun begins next ls)
-        → Starts 0 next begins (l ∷ ls) (cond b (record l { stay = next; turn = turn_from next l } ∷ begun begins (next + 1) ls) (l ∷ begun begins next ls))
+    step : (b : Bool) → begins l ≡ b → Starts 0 (next + 1) begins ls (started_legs begins (next + 1) ls) → Starts 0 next begins ls (started_legs begins next ls)
+        → Starts 0 next begins (l ∷ ls) (cond b (record l { stay = next; turn = turn_from next l } ∷ started_legs begins (next + 1) ls) (l ∷ started_legs begins next ls))
     step true is more same = record {
       count = ap suc more.count;
       subscriber = refl;
@@ -113,8 +113,8 @@ starts_begun zero begins next (l ∷ ls) = step (begins l) refl (starts_begun 0 
     }
 starts_begun (suc k) begins next (l ∷ ls) = step (begins l) (starts_begun k begins (next + 1) ls) (starts_begun k begins next ls)
   where
-    step : (b : Bool) → Starts k (next + 1) begins ls (begun begins (next + 1) ls) → Starts k next begins ls (begun begins next ls)
-        → Starts (suc k) next begins (l ∷ ls) (cond b (record l { stay = next; turn = turn_from next l } ∷ begun begins (next + 1) ls) (l ∷ begun begins next ls))
+    step : (b : Bool) → Starts k (next + 1) begins ls (started_legs begins (next + 1) ls) → Starts k next begins ls (started_legs begins next ls)
+        → Starts (suc k) next begins (l ∷ ls) (cond b (record l { stay = next; turn = turn_from next l } ∷ started_legs begins (next + 1) ls) (l ∷ started_legs begins next ls))
     step true more same = record {
       count = ap suc more.count;
       subscriber = more.subscriber;
@@ -293,8 +293,8 @@ moves k a b ha hb r (Hear handed e ssrc) is = moves_hear k a b ha hb r handed e 
 moves k a b ha hb r (Bye handed e) is =
     let t = after_leaving r (max r.moment handed) in
     if_moves k r false (nat_le (length r.endpoints) e) _ _ (λ _. tt)
-    (λ _. moves_fades k r.next r.next false r.legs (gone t e).legs (omega arith) refl
-    (fades_then k r.legs t.legs (gone t e).legs (fades_leaving k r (max r.moment handed)) (fades_gone k t e)))
+    (λ _. moves_fades k r.next r.next false r.legs (after_bye t e).legs (omega arith) refl
+    (fades_then k r.legs t.legs (after_bye t e).legs (fades_leaving k r (max r.moment handed)) (fades_gone k t e)))
 moves k a b ha hb r (Tick handed) is =
     moves_fades k r.next r.next false r.legs (after_leaving r (max r.moment handed)).legs (omega arith) refl (fades_leaving k r (max r.moment handed))
 moves k a b ha hb r (Select handed number on) is =
@@ -305,8 +305,8 @@ moves k a b ha hb r (Select handed number on) is =
     (λ _. if_moves k r false (is_selected on l) _ _
     (λ _. moves_fades k r.next r.next false r.legs t.legs (omega arith) refl (fades_leaving k r m))
     (λ _. if_moves k r false (takes_turn on l && nat_le MAX_STAY r.next) _ _ (λ _. tt)
-    (λ _. moves_fades k r.next (cond (takes_turn on l) (r.next + 1) r.next) false r.legs (set t.legs number (switched on r.next l)) (later (takes_turn on l) r.next) refl
-    (fades_then k r.legs t.legs (set t.legs number (switched on r.next l)) (fades_leaving k r m) (fades_switched k t.legs number r.next on)))))
+    (λ _. moves_fades k r.next (cond (takes_turn on l) (r.next + 1) r.next) false r.legs (set t.legs number (switched_leg on r.next l)) (later (takes_turn on l) r.next) refl
+    (fades_then k r.legs t.legs (set t.legs number (switched_leg on r.next l)) (fades_leaving k r m) (fades_switched k t.legs number r.next on)))))
 moves k a b ha hb r (Receive e seq timestamp) is = moves_fades k r.next r.next false r.legs r.legs (omega arith) refl (fades_same k r.legs)
 moves k a b ha hb r (Report e ntp rtp) is = moves_fades k r.next r.next false r.legs r.legs (omega arith) refl (fades_same k r.legs)
 moves k a b ha hb r (MakeBlock e) is = moves_fades k r.next r.next false r.legs r.legs (omega arith) refl (fades_same k r.legs)
@@ -334,16 +334,16 @@ is_next k a b ha hb r c s is ka kb st mv = record {
 
 -- how often the endpoint comes by calls from this room on
 abbrev coming : ℕ → Option ℕ → RoomState → List Call → ℕ
-coming e heard r calls = comings_from r.timeout e r.moment heard (accepted r calls)
+coming e heard r calls = comings_from r.timeout e r.moment heard (accepted_calls r calls)
 
 -- how often it comes by an accepted call and those after it
 coming_next : (e : ℕ) (heard : Option ℕ) (r : RoomState) (c : Call) (s : Step) (calls : List Call) → Keeps e heard r c s
-    → comings_from r.timeout e r.moment heard (c ∷ accepted s.room calls)
+    → comings_from r.timeout e r.moment heard (c ∷ accepted_calls s.room calls)
     ≡ cond (comes_by r.timeout e (max r.moment (moment_of c)) heard c) 1 0 + coming e (heard_by e (max r.moment (moment_of c)) heard c) s.room calls
 coming_next e heard r c s calls k =
     let now = max r.moment (moment_of c) in
     let heard' = heard_by e now heard c in
-    let all = accepted s.room calls in
+    let all = accepted_calls s.room calls in
     let same : comings_from s.room.timeout e s.room.moment heard' all ≡ comings_from r.timeout e now heard' all =
     ap (λ t. comings_from t e s.room.moment heard' all) k.timeout ∙ ap (λ m. comings_from r.timeout e m heard' all) k.moment in
     ap (λ n. cond (comes_by r.timeout e now heard c) 1 0 + n) (sym same)
@@ -393,8 +393,8 @@ lasts_after k a b ha hb r (c ∷ calls) is =
         → ((ha' hb' : Option ℕ) (r' : RoomState) → IsAt k a b ha' hb' r'
         → Lasts k r'.next (coming a ha' r' calls + coming b hb' r' calls) r'.legs (room_after r' calls).legs)
         → Lasts k r.next
-        (comings_from r.timeout a r.moment ha (if_accepted c x ++ accepted (room_of r x) calls)
-        + comings_from r.timeout b r.moment hb (if_accepted c x ++ accepted (room_of r x) calls))
+        (comings_from r.timeout a r.moment ha (if_accepted c x ++ accepted_calls (room_of r x) calls)
+        + comings_from r.timeout b r.moment hb (if_accepted c x ++ accepted_calls (room_of r x) calls))
         r.legs (room_after (room_of r x) calls).legs
     step (Err fault) ka kb st mv rest = rest ha hb r is
     step (Ok s) ka kb st mv rest =
@@ -404,7 +404,7 @@ lasts_after k a b ha hb r (c ∷ calls) is =
         let after = lasts_more k r.next s.room.next (comes_by r.timeout a now ha c) (comes_by r.timeout b now hb c)
         (coming a ha' s.room calls) (coming b hb' s.room calls) r.legs s.room.legs (room_after s.room calls).legs mv
         (rest ha' hb' s.room (is_next k a b ha hb r c s is ka kb st mv)) in
-        subst (λ n. Lasts k r.next (n + comings_from r.timeout b r.moment hb (c ∷ accepted s.room calls)) r.legs (room_after s.room calls).legs)
+        subst (λ n. Lasts k r.next (n + comings_from r.timeout b r.moment hb (c ∷ accepted_calls s.room calls)) r.legs (room_after s.room calls).legs)
         (sym (coming_next a ha r c s calls ka))
         (subst (λ n. Lasts k r.next (cond (comes_by r.timeout a now ha c) 1 0 + coming a ha' s.room calls + n) r.legs (room_after s.room calls).legs)
         (sym (coming_next b hb r c s calls kb)) after)
@@ -438,10 +438,10 @@ splits k a b ha hb r (c ∷ before) after is =
         → Parts k (room_after r' before).next (coming a ha' r' before) (coming a ha' r' (before ++ after)) (coming b hb' r' before) (coming b hb' r' (before ++ after))
         (room_after r' before).legs (room_after r' (before ++ after)).legs)
         → Parts k (room_after (room_of r x) before).next
-        (comings_from r.timeout a r.moment ha (if_accepted c x ++ accepted (room_of r x) before))
-        (comings_from r.timeout a r.moment ha (if_accepted c x ++ accepted (room_of r x) (before ++ after)))
-        (comings_from r.timeout b r.moment hb (if_accepted c x ++ accepted (room_of r x) before))
-        (comings_from r.timeout b r.moment hb (if_accepted c x ++ accepted (room_of r x) (before ++ after)))
+        (comings_from r.timeout a r.moment ha (if_accepted c x ++ accepted_calls (room_of r x) before))
+        (comings_from r.timeout a r.moment ha (if_accepted c x ++ accepted_calls (room_of r x) (before ++ after)))
+        (comings_from r.timeout b r.moment hb (if_accepted c x ++ accepted_calls (room_of r x) before))
+        (comings_from r.timeout b r.moment hb (if_accepted c x ++ accepted_calls (room_of r x) (before ++ after)))
         (room_after (room_of r x) before).legs (room_after (room_of r x) (before ++ after)).legs
     step (Err fault) ka kb st mv rest = rest ha hb r is
     step (Ok s) ka kb st mv rest =
@@ -465,7 +465,7 @@ record Ends (s : Configuration) (k : ℕ) : Type 0 where
 ends : (s : Configuration) (k : ℕ) → IsInRange s → k < length s.legs → Ends s k
 ends s k range below =
     let any : LegSettings = record { subscriber = 0; publisher = 0; out_ssrc = record { 0 = 0 }; first_seq = 0; on = false } in
-    let is : leg_at (new_room s).legs k ≡ unstarted (get_or s.legs k any) = get_or-map unstarted s.legs k any no_leg below in
+    let is : leg_at (new_room s).legs k ≡ idle_leg (get_or s.legs k any) = get_or-map idle_leg s.legs k any no_leg below in
     let among : IsLegAmong (length s.endpoints) (get_or s.legs k any) = range.legs k any below in
     record {
       subscriber = subst (λ (l : LegStay). l.subscriber < length s.endpoints) (sym is) among.subscriber;
@@ -488,10 +488,10 @@ start s k range e = record {
 -- a stay stands exactly while both ends of the leg are present
 record IsThere (s : Configuration) (k : ℕ) (calls : List Call) : Type 0 where
   both : stay_after s calls k ≢ 0
-      → (is_present_after s.timeout_ms (leg_at (new_room s).legs k).subscriber (accepted (new_room s) calls)
-      && is_present_after s.timeout_ms (leg_at (new_room s).legs k).publisher (accepted (new_room s) calls)) ≡ true
-  stands : (is_present_after s.timeout_ms (leg_at (new_room s).legs k).subscriber (accepted (new_room s) calls)
-      && is_present_after s.timeout_ms (leg_at (new_room s).legs k).publisher (accepted (new_room s) calls)) ≡ true
+      → (is_present_after s.timeout_ms (leg_at (new_room s).legs k).subscriber (accepted_calls (new_room s) calls)
+      && is_present_after s.timeout_ms (leg_at (new_room s).legs k).publisher (accepted_calls (new_room s) calls)) ≡ true
+  stands : (is_present_after s.timeout_ms (leg_at (new_room s).legs k).subscriber (accepted_calls (new_room s) calls)
+      && is_present_after s.timeout_ms (leg_at (new_room s).legs k).publisher (accepted_calls (new_room s) calls)) ≡ true
       → stay_after s calls k ≢ 0
 
 there : (s : Configuration) (k : ℕ) (calls : List Call) → IsInRange s → k < length s.legs → Ends s k → IsThere s k calls
@@ -502,12 +502,12 @@ there s k calls range below e =
     let l = lasts_after k a b None None (new_room s) calls (start s k range e) in
     let stand = stand_law s calls (differ s range) in
     let same : both_present r.endpoints (leg_at r.legs k)
-    ≡ (is_present_after s.timeout_ms a (accepted (new_room s) calls) && is_present_after s.timeout_ms b (accepted (new_room s) calls)) =
+    ≡ (is_present_after s.timeout_ms a (accepted_calls (new_room s) calls) && is_present_after s.timeout_ms b (accepted_calls (new_room s) calls)) =
     ap (λ i. is_present_at r.endpoints i && is_present_at r.endpoints (leg_at r.legs k).publisher) l.subscriber
     ∙ (ap (λ i. is_present_at r.endpoints a && is_present_at r.endpoints i) l.publisher
     ∙ (ap (λ p. p && is_present_at r.endpoints b) (presence_law s calls a range.least_timeout e.subscriber)
-    ∙ ap (λ p. is_present_after s.timeout_ms a (accepted (new_room s) calls) && p) (presence_law s calls b range.least_timeout e.publisher))) in
-    let inside : k < length r.legs = omega (arith, l.count, length-map s.legs unstarted) in
+    ∙ ap (λ p. is_present_after s.timeout_ms a (accepted_calls (new_room s) calls) && p) (presence_law s calls b range.least_timeout e.publisher))) in
+    let inside : k < length r.legs = omega (arith, l.count, length-map s.legs idle_leg) in
     record {
       both = λ some. sym same ∙ both_of r.endpoints r.legs k stand.matches some;
       stands = λ present. some_of r.endpoints r.legs k inside stand.matches (same ∙ present);

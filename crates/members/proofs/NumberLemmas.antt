@@ -11,8 +11,8 @@ use Rattle.members.specs.declared.stays.LegStay.{LegStay}
 use Rattle.members.specs.declared.stays.TheConstants.{MAX_STAY}
 use Rattle.members.specs.Presence.{is_overdue_at, is_present_at, source_at}
 use Rattle.members.specs.Settings.{Configuration}
-use Rattle.members.specs.Stays.{Told, told, leave, left, leaving, is_of, ending, ending_of, endings, begins_with, beginnings, coming_orders, coming_count}
-use Rattle.members.specs.Room.{RoomState, Step, after_leaving, gone, leg_at, is_selected, takes_turn, row_order, switched, new_room}
+use Rattle.members.specs.Stays.{Told, without_orders, leave, after_overdue, leaving, is_of, ending, ending_of, endings, begins_with, beginnings, coming_orders, coming_count}
+use Rattle.members.specs.Room.{RoomState, Step, after_leaving, after_bye, leg_at, is_selected, takes_turn, row_order, switched_leg, new_room}
 use Rattle.members.specs.Calls.{Call, Hear, Bye, Tick, Select, Receive, Report, MakeBlock, step_of, room_of, orders_of, room_after, orders_after, arrival_of, arrivals, RiseWithin}
 
 arrivals-append : (xs ys : List Order) → arrivals (xs ++ ys) ≡ arrivals xs ++ arrivals ys
@@ -44,20 +44,20 @@ none_endings e k (l ∷ ls) =
 none_leave : (t : Told) (e : ℕ) → arrivals t.orders ≡ [] → arrivals (leave t e).orders ≡ []
 none_leave t e none = arrivals-append t.orders (endings e t.legs) ∙ rw (none, none_endings e 0 t.legs) refl
 
-none_left : (timeout m : ℕ) (t : Told) (n : ℕ) → arrivals t.orders ≡ [] → arrivals (left timeout m t n).orders ≡ []
+none_left : (timeout m : ℕ) (t : Told) (n : ℕ) → arrivals t.orders ≡ [] → arrivals (after_overdue timeout m t n).orders ≡ []
 none_left timeout m t zero none = none
-none_left timeout m t (suc n) none = step (is_overdue_at timeout m (left timeout m t n).endpoints n) (none_left timeout m t n none)
+none_left timeout m t (suc n) none = step (is_overdue_at timeout m (after_overdue timeout m t n).endpoints n) (none_left timeout m t n none)
   where
-    step : (b : Bool) → arrivals (left timeout m t n).orders ≡ []
-        → arrivals (cond b (leave (left timeout m t n) n) (left timeout m t n)).orders ≡ []
-    step true before = none_leave (left timeout m t n) n before
+    step : (b : Bool) → arrivals (after_overdue timeout m t n).orders ≡ []
+        → arrivals (cond b (leave (after_overdue timeout m t n) n) (after_overdue timeout m t n)).orders ≡ []
+    step true before = none_leave (after_overdue timeout m t n) n before
     step false before = before
 
 none_leaving : (r : RoomState) (m : ℕ) → arrivals (after_leaving r m).orders ≡ []
 unfolding leaving
-none_leaving r m = none_left r.timeout m (told r.endpoints r.legs) (length r.endpoints) refl
+none_leaving r m = none_left r.timeout m (without_orders r.endpoints r.legs) (length r.endpoints) refl
 
-none_gone : (t : Told) (e : ℕ) → arrivals t.orders ≡ [] → arrivals (gone t e).orders ≡ []
+none_gone : (t : Told) (e : ℕ) → arrivals t.orders ≡ [] → arrivals (after_bye t e).orders ≡ []
 none_gone t e none = step (is_present_at t.endpoints e)
   where
     step : (b : Bool) → arrivals (cond b (leave t e) t).orders ≡ []
@@ -110,7 +110,7 @@ draws r (Tick handed) = draws_none r.next r.next (after_leaving r (max r.moment 
 draws r (Bye handed e) =
     let t = after_leaving r (max r.moment handed) in
     draws_if r (nat_le (length r.endpoints) e) _ _ tt
-    (draws_none r.next r.next (gone t e).orders (none_gone t e (none_leaving r (max r.moment handed))) (omega arith))
+    (draws_none r.next r.next (after_bye t e).orders (none_gone t e (none_leaving r (max r.moment handed))) (omega arith))
 draws r (Hear handed e ssrc) =
     let m = max r.moment handed in
     let t = after_leaving r m in
@@ -128,8 +128,8 @@ draws r (Select handed number on) =
     draws_if r (nat_le (length r.legs) number) _ _ tt
     (draws_if r (is_selected on l) _ _ (draws_none r.next r.next t.orders (none_leaving r m) (omega arith))
     (draws_if r (takes_turn on l && nat_le MAX_STAY r.next) _ _ tt
-    (draws_none r.next (cond (takes_turn on l) (r.next + 1) r.next) (t.orders ++ row_order number (switched on r.next l))
-    (draws_row number (switched on r.next l) t (none_leaving r m)) (least (takes_turn on l) r.next))))
+    (draws_none r.next (cond (takes_turn on l) (r.next + 1) r.next) (t.orders ++ row_order number (switched_leg on r.next l))
+    (draws_row number (switched_leg on r.next l) t (none_leaving r m)) (least (takes_turn on l) r.next))))
   where
     least : (b : Bool) (n : ℕ) → n ≤ cond b (n + 1) n
     least true n = omega arith

@@ -10,10 +10,10 @@ use Rattle.members.specs.declared.stays.TheConstants.{MAX_STAY}
 use Rattle.members.specs.Presence.{is_present_at, source_at, with_heard}
 use Rattle.members.specs.Settings.{Configuration}
 use Rattle.members.specs.Stays.{Told, leave, coming_count}
-use Rattle.members.specs.Stream.{nothing_heard, heard_packet, heard_report, heard_block, IsAnswer}
-use Rattle.members.specs.Reception.{Block, Heard, Call as ReceptionCall, Received, SenderReported, BlockMade, reception_of, IsBlockAfter}
-use Rattle.members.specs.Room.{RoomState, Step, after_leaving, gone, leg_at, is_selected, takes_turn, reception_at, with_reception, new_room}
-use Rattle.members.specs.Calls.{Call, Hear, Bye, Tick, Select, Receive, Report, MakeBlock, step_of, room_of, if_accepted, room_after, accepted, moment_of, heard_by, is_recent, received_by, received_since, received_in_presence}
+use Rattle.members.specs.Stream.{nothing_heard, heard_packet, heard_report, heard_block, IsBlockAnswer}
+use Rattle.members.specs.Reception.{Block, Heard, ReceptionCall, Received, SenderReported, BlockMade, reception_of, IsBlockAfter}
+use Rattle.members.specs.Room.{RoomState, Step, after_leaving, after_bye, leg_at, is_selected, takes_turn, reception_at, with_reception, new_room}
+use Rattle.members.specs.Calls.{Call, Hear, Bye, Tick, Select, Receive, Report, MakeBlock, step_of, room_of, if_accepted, room_after, accepted_calls, moment_of, heard_by, is_recent, received_by, received_since, received_in_presence}
 use Rattle.members.proofs.CallLemmas.{heard_at, present_heard, lapsed, is_some-fresh, leaving_count, leaving_lapsed, leaving_heard, IfKeeps, keeps, Before, before_new, presence_law}
 use Rattle.members.proofs.StandLemmas.{absent_now, other_now, equal_of}
 use Rattle.members.proofs.ReceptionLemmas.{one_more, heard_after-is, answers_by}
@@ -57,7 +57,7 @@ present_before r m e inside present =
     ∙ present_lapsed r.timeout m (heard_at r.endpoints e)
     (ap is_some (sym (leaving_lapsed r m e inside)) ∙ (sym (present_heard (after_leaving r m).endpoints e) ∙ present))
 
-present_gone : (t : Told) (other e : ℕ) → is_present_at (gone t other).endpoints e ≡ true → is_present_at t.endpoints e ≡ true
+present_gone : (t : Told) (other e : ℕ) → is_present_at (after_bye t other).endpoints e ≡ true → is_present_at t.endpoints e ≡ true
 present_gone t other e = step (is_present_at t.endpoints other)
   where
     left_one : (q : Bool) → (other == e) ≡ q → is_present_at (with_heard t.endpoints other None) e ≡ true → is_present_at t.endpoints e ≡ true
@@ -248,7 +248,7 @@ holds e heard since r (MakeBlock other) b h = holds_received e since r other hea
 
 received_after : (e : ℕ) (heard : Option ℕ) (since : List ReceptionCall) (r : RoomState) (calls : List Call) → Before e heard r → Holds e since r
     → is_present_at (room_after r calls).endpoints e ≡ true
-    → get_or (room_after r calls).receptions e nothing_heard ≡ reception_of (received_since r.timeout e r.moment heard since (accepted r calls))
+    → get_or (room_after r calls).receptions e nothing_heard ≡ reception_of (received_since r.timeout e r.moment heard since (accepted_calls r calls))
 received_after e heard since r [] b h = h.held
 received_after e heard since r (c ∷ calls) b h =
     step (step_of r c) (keeps e heard r c b) (holds e heard since r c b h) (λ heard' since' r' b' h'. received_after e heard' since' r' calls b' h')
@@ -256,10 +256,10 @@ received_after e heard since r (c ∷ calls) b h =
     step : (x : Result Step RoomFault) → IfKeeps e heard r c x → IfHolds e (after_call e heard since r c) x
         → ((heard' : Option ℕ) (since' : List ReceptionCall) (r' : RoomState) → Before e heard' r' → Holds e since' r'
         → is_present_at (room_after r' calls).endpoints e ≡ true
-        → get_or (room_after r' calls).receptions e nothing_heard ≡ reception_of (received_since r'.timeout e r'.moment heard' since' (accepted r' calls)))
+        → get_or (room_after r' calls).receptions e nothing_heard ≡ reception_of (received_since r'.timeout e r'.moment heard' since' (accepted_calls r' calls)))
         → is_present_at (room_after (room_of r x) calls).endpoints e ≡ true
         → get_or (room_after (room_of r x) calls).receptions e nothing_heard
-        ≡ reception_of (received_since r.timeout e r.moment heard since (if_accepted c x ++ accepted (room_of r x) calls))
+        ≡ reception_of (received_since r.timeout e r.moment heard since (if_accepted c x ++ accepted_calls (room_of r x) calls))
     step (Err fault) k l rest present = rest heard since r b h present
     step (Ok s) k l rest present =
         let now = max r.moment (moment_of c) in
@@ -270,10 +270,10 @@ received_after e heard since r (c ∷ calls) b h =
           inside = rw k.count b.inside;
           is = rw (k.timeout, k.moment) k.marks;
         } in
-        subst (λ t. get_or (room_after s.room calls).receptions e nothing_heard ≡ reception_of (received_since t e now heard' since' (accepted s.room calls)))
+        subst (λ t. get_or (room_after s.room calls).receptions e nothing_heard ≡ reception_of (received_since t e now heard' since' (accepted_calls s.room calls)))
         k.timeout
         (subst (λ m. get_or (room_after s.room calls).receptions e nothing_heard
-        ≡ reception_of (received_since s.room.timeout e m heard' since' (accepted s.room calls))) k.moment
+        ≡ reception_of (received_since s.room.timeout e m heard' since' (accepted_calls s.room calls))) k.moment
         (rest heard' since' s.room before l present))
 
 -- ---- a new room
@@ -290,22 +290,22 @@ holds_new s e = record {
     nothing (x ∷ ssrcs) (suc k) = nothing ssrcs k
 
 pub reception_law : (s : Configuration) (calls : List Call) (e : ℕ) → 1 ≤ s.timeout_ms → e < length s.endpoints
-    → reception_at (room_after (new_room s) calls) e ≡ reception_of (received_in_presence s.timeout_ms e (accepted (new_room s) calls))
+    → reception_at (room_after (new_room s) calls) e ≡ reception_of (received_in_presence s.timeout_ms e (accepted_calls (new_room s) calls))
 reception_law s calls e least inside =
     let r = room_after (new_room s) calls in
-    let since = received_since s.timeout_ms e 0 None [] (accepted (new_room s) calls) in
+    let since = received_since s.timeout_ms e 0 None [] (accepted_calls (new_room s) calls) in
     subst (λ q. reception_at r e ≡ reception_of (cond q since [])) (presence_law s calls e least inside) (step (is_present_at r.endpoints e) refl)
   where
     step : (q : Bool) → is_present_at (room_after (new_room s) calls).endpoints e ≡ q
         → cond q (get_or (room_after (new_room s) calls).receptions e nothing_heard) nothing_heard
-        ≡ reception_of (cond q (received_since s.timeout_ms e 0 None [] (accepted (new_room s) calls)) [])
+        ≡ reception_of (cond q (received_since s.timeout_ms e 0 None [] (accepted_calls (new_room s) calls)) [])
     step true present = received_after e None [] (new_room s) calls (before_new s e least inside) (holds_new s e) present
     step false absent = heard_after-is []
 
 pub answer_law : (s : Configuration) (calls : List Call) (e : ℕ) (moment : ℕ) (source : Ssrc) (answer : Option Block) → 1 ≤ s.timeout_ms → e < length s.endpoints
-    → IsAnswer (reception_at (room_after (new_room s) calls) e) moment source answer
-    → IsBlockAfter (received_in_presence s.timeout_ms e (accepted (new_room s) calls)) moment source answer
+    → IsBlockAnswer (reception_at (room_after (new_room s) calls) e) moment source answer
+    → IsBlockAfter (received_in_presence s.timeout_ms e (accepted_calls (new_room s) calls)) moment source answer
 answer_law s calls e moment source answer least inside is =
-    let since = received_in_presence s.timeout_ms e (accepted (new_room s) calls) in
+    let since = received_in_presence s.timeout_ms e (accepted_calls (new_room s) calls) in
     answers_by since moment source answer
-    (subst (λ h. IsAnswer h moment source answer) (reception_law s calls e least inside ∙ sym (heard_after-is since)) is)
+    (subst (λ h. IsBlockAnswer h moment source answer) (reception_law s calls e least inside ∙ sym (heard_after-is since)) is)

@@ -11,8 +11,8 @@ use Rattle.tmmbr_tuple.specs.declared.ssrc.Ssrc.{Ssrc}
 use Rattle.members.specs.declared.reception.SenderReport.{SenderReport}
 use Rattle.members.specs.declared.stream.Stream.{Stream}
 use Rattle.members.specs.declared.stream.TheConstants.{COUNTED_PACKETS, SEQ_CYCLE}
-use Rattle.members.specs.Reception.{Block, Packet, Call, Received, SenderReported, BlockMade, packet_in, report_in, is_block, counted_packets, last_report, extended_number, first_number, greatest_number, expected_of, transit_of, apart, differences, jitter_after, jitter_of, last_of, Heard, stream_of, packets_before_block, reception_of, AnswersBlock, IsBlockAfter, IsNearest, IsGreatest, AllStandFor, IsHighest}
-use Rattle.members.specs.Stream.{counted_with, with_packet, stream_with, closed, heard_call, heard_after, IsAnswer, IsAnswerBy}
+use Rattle.members.specs.Reception.{Block, Arrival, ReceptionCall, Received, SenderReported, BlockMade, packet_in, report_in, is_block, counted_packets, last_report, extended_number, first_number, greatest_number, expected_of, transit_of, apart, differences, jitter_after, jitter_of, last_of, Heard, stream_of, packets_before_block, reception_of, AnswersBlock, IsBlockAfter, IsNearest, IsGreatest, AllStandFor, IsHighest}
+use Rattle.members.specs.Stream.{counted_with, with_packet, stream_with, stream_after_block, heard_call, heard_after, IsBlockAnswer, IsAnswerBy}
 
 -- ---- lists
 
@@ -106,7 +106,7 @@ counted_full : (s : Stream) (seq t : ℕ) → s.received ≡ COUNTED_PACKETS →
 counted_full s seq t full = grind (arith, nat_tests)
 
 -- one more packet that counts
-stream_push : (before packets : List Packet) (p : Packet) → (packets ≡ [] → before ≡ []) → length packets < COUNTED_PACKETS
+stream_push : (before packets : List Arrival) (p : Arrival) → (packets ≡ [] → before ≡ []) → length packets < COUNTED_PACKETS
     → stream_of before (packets ++ p ∷ []) ≡ Some (stream_with (stream_of before packets) p.seq (transit_of p))
 stream_push before [] p empty below = rw (empty refl) refl
 stream_push before (first ∷ rest) p empty below =
@@ -125,7 +125,7 @@ stream_push before (first ∷ rest) p empty below =
     ∙ sym (counted_below s p.seq t below))
 
 -- a packet beyond those that count
-stream_full : (before packets : List Packet) (p : Packet) → length packets ≡ COUNTED_PACKETS
+stream_full : (before packets : List Arrival) (p : Arrival) → length packets ≡ COUNTED_PACKETS
     → stream_of before packets ≡ Some (stream_with (stream_of before packets) p.seq (transit_of p))
 stream_full before [] p full = absurd (omega arith)
 stream_full before (first ∷ rest) p full =
@@ -133,24 +133,24 @@ stream_full before (first ∷ rest) p full =
     (last_of (transit_of first) (map transit_of rest)) (jitter_of (first ∷ rest)) in
     ap Some (sym (counted_full s p.seq (transit_of p) full))
 
-stream_closed : (before packets : List Packet) → stream_of packets packets ≡ option_map closed (stream_of before packets)
+stream_closed : (before packets : List Arrival) → stream_of packets packets ≡ option_map stream_after_block (stream_of before packets)
 stream_closed before [] = refl
 stream_closed before (first ∷ rest) = refl
 
 -- ---- one call
 
-counted-none : (calls : List Call) (c : Call) → packet_in c ≡ None → counted_packets (calls ++ c ∷ []) ≡ counted_packets calls
+counted-none : (calls : List ReceptionCall) (c : ReceptionCall) → packet_in c ≡ None → counted_packets (calls ++ c ∷ []) ≡ counted_packets calls
 counted-none calls c e = ap (take COUNTED_PACKETS) (filter_map-none packet_in calls c e)
 
-before-none : (calls : List Call) (c : Call) → is_block c ≡ false → packets_before_block (calls ++ c ∷ []) ≡ packets_before_block calls
+before-none : (calls : List ReceptionCall) (c : ReceptionCall) → is_block c ≡ false → packets_before_block (calls ++ c ∷ []) ≡ packets_before_block calls
 before-none calls c e = ap counted_packets (before_last-no is_block calls c e)
 
-none_before : (calls : List Call) → counted_packets calls ≡ [] → packets_before_block calls ≡ []
+none_before : (calls : List ReceptionCall) → counted_packets calls ≡ [] → packets_before_block calls ≡ []
 none_before calls e =
     ap (take COUNTED_PACKETS)
     (filter_map-empty packet_in _ calls (empty_from_take COUNTED_PACKETS (filter_map packet_in calls) (omega arith) e))
 
-stream_received : (calls : List Call) (p : Packet) → Some (stream_with (reception_of calls).stream p.seq (transit_of p)) ≡ (reception_of (calls ++ Received p ∷ [])).stream
+stream_received : (calls : List ReceptionCall) (p : Arrival) → Some (stream_with (reception_of calls).stream p.seq (transit_of p)) ≡ (reception_of (calls ++ Received p ∷ [])).stream
 stream_received calls p =
     let before = packets_before_block calls in
     let all = filter_map packet_in calls in
@@ -168,22 +168,22 @@ stream_received calls p =
           ∙ stream_full before packets p (length-take-le COUNTED_PACKETS all full)))
     ]
 
-stream_block : (calls : List Call) → option_map closed (reception_of calls).stream ≡ (reception_of (calls ++ BlockMade ∷ [])).stream
+stream_block : (calls : List ReceptionCall) → option_map stream_after_block (reception_of calls).stream ≡ (reception_of (calls ++ BlockMade ∷ [])).stream
 stream_block calls =
     let packets = counted_packets calls in
     sym (ap (λ b. stream_of b (counted_packets (calls ++ BlockMade ∷ []))) (ap counted_packets (before_last-yes is_block calls BlockMade refl))
     ∙ (ap (stream_of packets) (counted-none calls BlockMade refl) ∙ stream_closed (packets_before_block calls) packets))
 
-stream_reported : (calls : List Call) (r : SenderReport) → (reception_of calls).stream ≡ (reception_of (calls ++ SenderReported r ∷ [])).stream
+stream_reported : (calls : List ReceptionCall) (r : SenderReport) → (reception_of calls).stream ≡ (reception_of (calls ++ SenderReported r ∷ [])).stream
 stream_reported calls r =
     let c = SenderReported r in
     sym (ap (λ b. stream_of b (counted_packets (calls ++ c ∷ []))) (before-none calls c refl)
     ∙ ap (stream_of (packets_before_block calls)) (counted-none calls c refl))
 
-report-none : (calls : List Call) (c : Call) → report_in c ≡ None → last_report calls ≡ last_report (calls ++ c ∷ [])
+report-none : (calls : List ReceptionCall) (c : ReceptionCall) → report_in c ≡ None → last_report calls ≡ last_report (calls ++ c ∷ [])
 report-none calls c e = sym (ap (λ reports. slice_get reports (length reports - 1)) (filter_map-none report_in calls c e))
 
-report-some : (calls : List Call) (r : SenderReport) → Some r ≡ last_report (calls ++ SenderReported r ∷ [])
+report-some : (calls : List ReceptionCall) (r : SenderReport) → Some r ≡ last_report (calls ++ SenderReported r ∷ [])
 report-some calls r =
     sym (ap (λ reports. slice_get reports (length reports - 1)) (filter_map-some report_in calls (SenderReported r) r refl)
     ∙ get_last (filter_map report_in calls) r)
@@ -195,23 +195,23 @@ heard_same s s' r r' a b =
     ap (λ x. h x r) a ∙ ap (h s') b
 
 -- what the calls come to, and one more call, is what all of them come to
-pub one_more : (calls : List Call) (c : Call) → heard_call (reception_of calls) c ≡ reception_of (calls ++ c ∷ [])
+pub one_more : (calls : List ReceptionCall) (c : ReceptionCall) → heard_call (reception_of calls) c ≡ reception_of (calls ++ c ∷ [])
 one_more calls (Received p) = heard_same _ _ _ _ (stream_received calls p) (report-none calls (Received p) refl)
 one_more calls (SenderReported r) = heard_same _ _ _ _ (stream_reported calls r) (report-some calls r)
 one_more calls BlockMade = heard_same _ _ _ _ (stream_block calls) (report-none calls BlockMade refl)
 
 -- ---- a whole list
 
-after : (past calls : List Call) → fold heard_call (reception_of past) calls ≡ reception_of (past ++ calls)
+after : (past calls : List ReceptionCall) → fold heard_call (reception_of past) calls ≡ reception_of (past ++ calls)
 after past [] = ap reception_of (sym (append-nil past))
 after past (c ∷ calls) =
     ap (λ h. fold heard_call h calls) (one_more past c)
     ∙ (after (past ++ c ∷ []) calls ∙ ap reception_of (append_assoc past (c ∷ []) calls))
 
-pub heard_after-is : (calls : List Call) → heard_after calls ≡ reception_of calls
+pub heard_after-is : (calls : List ReceptionCall) → heard_after calls ≡ reception_of calls
 heard_after-is calls = after [] calls
 
-answer_of : (before packets : List Packet) (report : Option SenderReport) (moment : ℕ) (source : Ssrc) (answer : Option Block)
+answer_of : (before packets : List Arrival) (report : Option SenderReport) (moment : ℕ) (source : Ssrc) (answer : Option Block)
     → IsAnswerBy (stream_of before packets) report moment source answer → AnswersBlock before packets report moment source answer
 answer_of before [] report moment source answer h = h
 answer_of before (first ∷ rest) report moment source None h = h
@@ -225,10 +225,10 @@ answer_of before (first ∷ rest) report moment source (Some b) h = record {
   delay = h.delay;
 }
 
-pub answers_by : (calls : List Call) (moment : ℕ) (source : Ssrc) (answer : Option Block) → IsAnswer (heard_after calls) moment source answer → IsBlockAfter calls moment source answer
+pub answers_by : (calls : List ReceptionCall) (moment : ℕ) (source : Ssrc) (answer : Option Block) → IsBlockAnswer (heard_after calls) moment source answer → IsBlockAfter calls moment source answer
 answers_by calls moment source answer h =
     answer_of (packets_before_block calls) (counted_packets calls) (last_report calls) moment source answer
-    (subst (λ held. IsAnswer held moment source answer) (heard_after-is calls) h)
+    (subst (λ held. IsBlockAnswer held moment source answer) (heard_after-is calls) h)
 
 -- ---- the greatest extended number
 
@@ -247,27 +247,27 @@ greatest-push past highest number g = record {
 }
 
 -- the numbers that packets stand for after others, and the greatest of all
-record Extends (past : List ℕ) (packets : List Packet) (highest : ℕ) : Type 0 where
+record Extends (past : List ℕ) (packets : List Arrival) (highest : ℕ) : Type 0 where
   numbers : List ℕ
   stand_for : AllStandFor past packets numbers
   greatest : IsGreatest (past ++ numbers) (fold (λ highest p. max highest (extended_number highest p.seq)) highest packets)
 
-extends : (m : ℕ) (past : List ℕ) (packets : List Packet) (highest : ℕ) → IsGreatest (m ∷ past) highest → SEQ_CYCLE ≤ highest
+extends : (m : ℕ) (past : List ℕ) (packets : List Arrival) (highest : ℕ) → IsGreatest (m ∷ past) highest → SEQ_CYCLE ≤ highest
     → All (λ p. p.seq < SEQ_CYCLE) packets → Extends (m ∷ past) packets highest
 extends m past [] highest g cycled fits = record { numbers = []; stand_for = tt; greatest = rw append-nil g }
 extends m past (p ∷ packets) highest g cycled fits =
     let number = extended_number highest p.seq in
     let more = extends m (past ++ number ∷ []) packets (max highest number) (greatest-push (m ∷ past) highest number g) (omega arith)
-    (All-tail (λ (q : Packet). q.seq < SEQ_CYCLE) p packets fits) in
+    (All-tail (λ (q : Arrival). q.seq < SEQ_CYCLE) p packets fits) in
     record {
       numbers = number ∷ more.numbers;
-      stand_for = ((highest, (g, nearest highest p.seq cycled (All-head (λ (q : Packet). q.seq < SEQ_CYCLE) p packets fits))), more.stand_for);
+      stand_for = ((highest, (g, nearest highest p.seq cycled (All-head (λ (q : Arrival). q.seq < SEQ_CYCLE) p packets fits))), more.stand_for);
       greatest = rw append_assoc at more.greatest;
     }
 
-pub highest-is : (first : Packet) (rest : List Packet) → All (λ p. p.seq < SEQ_CYCLE) (first ∷ rest) → IsHighest (first ∷ rest) (greatest_number (first ∷ rest))
+pub highest-is : (first : Arrival) (rest : List Arrival) → All (λ p. p.seq < SEQ_CYCLE) (first ∷ rest) → IsHighest (first ∷ rest) (greatest_number (first ∷ rest))
 highest-is first rest fits =
     let n = first_number first in
     let g : IsGreatest (n ∷ []) n = record { reached = Contains-push [] n; bound = All-cons (λ m. m ≤ n) n [] (omega arith) (All-nil (λ m. m ≤ n)) } in
-    let more = extends n [] rest n g (omega arith) (All-tail (λ (q : Packet). q.seq < SEQ_CYCLE) first rest fits) in
+    let more = extends n [] rest n g (omega arith) (All-tail (λ (q : Arrival). q.seq < SEQ_CYCLE) first rest fits) in
     record { numbers = n ∷ more.numbers; stand_for = (refl, more.stand_for); greatest = more.greatest }

@@ -16,7 +16,8 @@ use Rattle.members.specs.declared.fault.SettingsFault.{SettingsFault}
 use Rattle.members.specs.Settings.{Check, check, checks, top_checks, endpoint_checks, leg_checks, first_fault, are_distinct, sources, number_or_zero, number_within, is_cname, name_of, ssrc_of, leg_of, number_below, or_zero, is_same, has_pair, is_publisher, AreNumbersOf, IsInRange, IsLegAmong, HasOtherEnds}
 use Rattle.members.specs.declared.checks.Numbers.{Numbers}
 use Rattle.members.specs.declared.fault.SettingsFault.TheVariants.{SameSsrc}
-use Rattle.members.specs.declared.settings.TheConstants.{SSRCS, MAX_WORKERS, MAX_RING, LEAST_HISTORY, MAX_HISTORY, MAX_PERIOD_MS, MAX_CNAME, MAX_ENDPOINTS, MAX_LEGS}
+use Rattle.rtcp_compound.specs.declared.writer.TheConstants.{CNAME_LIMIT}
+use Rattle.members.specs.declared.settings.TheConstants.{SSRCS, MAX_WORKERS, MAX_RING, LEAST_HISTORY, MAX_HISTORY, MAX_PERIOD_MS, MAX_ENDPOINTS, MAX_LEGS}
 use Rattle.members.specs.declared.parts.LegParts.{LegParts}
 use Rattle.std.specs.Prelude.{ℤ, pos, negsuc, nat_le, nat_lt, ◌≢◌, is_some, take}
 
@@ -194,7 +195,7 @@ endpoint_bounds p top = let e = (top_passes p top).endpoint in grind (arith, nat
 pub leg_bound : (p : Parts) → first_fault (top_checks p) ≡ None → length p.legs.items ≤ MAX_LEGS
 leg_bound p top = let e = (top_passes p top).leg in grind (arith, nat_tests)
 
-name_bounds : (name : List ℕ) → is_cname name ≡ true → (1 ≤ length name) × (length name ≤ MAX_CNAME)
+name_bounds : (name : List ℕ) → is_cname name ≡ true → (1 ≤ length name) × (length name ≤ CNAME_LIMIT)
 name_bounds name is = grind (arith, nat_tests)
 
 -- no fault in two lists of checks one after the other: none in either

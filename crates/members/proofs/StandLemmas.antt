@@ -9,11 +9,11 @@ use Rattle.members.specs.declared.presence.Endpoint.{Endpoint}
 use Rattle.members.specs.declared.stays.LegStay.{LegStay}
 use Rattle.members.specs.declared.stays.TheConstants.{MAX_STAY}
 use Rattle.members.specs.Presence.{is_overdue_at, is_present_at, source_at, with_heard}
-use Rattle.members.specs.Stays.{Told, told, leave, left, leaving, is_of, ended, begins_with, begun, turn_from, coming_count, coming_legs}
+use Rattle.members.specs.Stays.{Told, without_orders, leave, after_overdue, leaving, is_of, leg_without, begins_with, started_legs, turn_from, coming_count, coming_legs}
 use Rattle.members.specs.declared.settings.LegSettings.{LegSettings}
 use Rattle.tmmbr_tuple.specs.declared.ssrc.Ssrc.{Ssrc}
 use Rattle.members.specs.Settings.{Configuration}
-use Rattle.members.specs.Room.{RoomState, Step, after_leaving, gone, leg_at, no_leg, is_selected, takes_turn, switched, absent, unstarted, new_room}
+use Rattle.members.specs.Room.{RoomState, Step, after_leaving, after_bye, leg_at, no_leg, is_selected, takes_turn, switched_leg, absent, idle_leg, new_room}
 use Rattle.members.specs.Calls.{Call, Hear, Bye, Tick, Select, Receive, Report, MakeBlock, step_of, room_of, room_after}
 use Rattle.members.proofs.CallLemmas.{leaving_count}
 
@@ -60,17 +60,17 @@ and_true true = refl
 and_true false = refl
 
 -- the endpoint leaves
-matches_left : (es : List Endpoint) (k : ℕ) (l : LegStay) → Matches es l → Matches (with_heard es k None) (ended k l)
+matches_left : (es : List Endpoint) (k : ℕ) (l : LegStay) → Matches es l → Matches (with_heard es k None) (leg_without k l)
 matches_left es k l m = step (l.subscriber == k) (l.publisher == k) refl refl
   where
     step : (a b : Bool) → (l.subscriber == k) ≡ a → (l.publisher == k) ≡ b
         → not ((cond (a || b) (record l { stay = 0 }) l).stay == 0) ≡ both_present (with_heard es k None) (cond (a || b) (record l { stay = 0 }) l)
     step true b is other =
-        let gone : is_present_at (with_heard es k None) l.subscriber ≡ false = rw (equal_of l.subscriber k is) (absent_now es k _ refl) in
-        rw gone refl
+        let after_bye : is_present_at (with_heard es k None) l.subscriber ≡ false = rw (equal_of l.subscriber k is) (absent_now es k _ refl) in
+        rw after_bye refl
     step false true is other =
-        let gone : is_present_at (with_heard es k None) l.publisher ≡ false = rw (equal_of l.publisher k other) (absent_now es k _ refl) in
-        rw gone (sym (and_false (is_present_at (with_heard es k None) l.subscriber)))
+        let after_bye : is_present_at (with_heard es k None) l.publisher ≡ false = rw (equal_of l.publisher k other) (absent_now es k _ refl) in
+        rw after_bye (sym (and_false (is_present_at (with_heard es k None) l.subscriber)))
     step false false is other =
         rw (other_now es k l.subscriber _ (same_test k l.subscriber ∙ is), other_now es k l.publisher _ (same_test k l.publisher ∙ other)) m
 
@@ -82,40 +82,40 @@ pub record Stand (es : List Endpoint) (ls : List LegStay) : Type 0 where
   pub matches : All (Matches es) ls
   pub differ : All Differs ls
 
-ended_matches : (es : List Endpoint) (k : ℕ) (ls : List LegStay) → All (Matches es) ls → All (Matches (with_heard es k None)) (map (ended k) ls)
+ended_matches : (es : List Endpoint) (k : ℕ) (ls : List LegStay) → All (Matches es) ls → All (Matches (with_heard es k None)) (map (leg_without k) ls)
 ended_matches es k [] all = All-nil (Matches (with_heard es k None))
 ended_matches es k (l ∷ ls) all =
-    All-cons (Matches (with_heard es k None)) (ended k l) (map (ended k) ls) (matches_left es k l (all 0 l (omega arith)))
+    All-cons (Matches (with_heard es k None)) (leg_without k l) (map (leg_without k) ls) (matches_left es k l (all 0 l (omega arith)))
     (ended_matches es k ls (All-tail (Matches es) l ls all))
 
-ended_differs : (k : ℕ) (l : LegStay) → Differs l → Differs (ended k l)
+ended_differs : (k : ℕ) (l : LegStay) → Differs l → Differs (leg_without k l)
 ended_differs k l d = step (is_of k l)
   where
     step : (b : Bool) → Differs (cond b (record l { stay = 0 }) l)
     step true = d
     step false = d
 
-ended_differ : (k : ℕ) (ls : List LegStay) → All Differs ls → All Differs (map (ended k) ls)
+ended_differ : (k : ℕ) (ls : List LegStay) → All Differs ls → All Differs (map (leg_without k) ls)
 ended_differ k [] all = All-nil Differs
 ended_differ k (l ∷ ls) all =
-    All-cons Differs (ended k l) (map (ended k) ls) (ended_differs k l (all 0 l (omega arith))) (ended_differ k ls (All-tail Differs l ls all))
+    All-cons Differs (leg_without k l) (map (leg_without k) ls) (ended_differs k l (all 0 l (omega arith))) (ended_differ k ls (All-tail Differs l ls all))
 
 stand_leave : (t : Told) (k : ℕ) → Stand t.endpoints t.legs → Stand (leave t k).endpoints (leave t k).legs
 stand_leave t k s = record { matches = ended_matches t.endpoints k t.legs s.matches; differ = ended_differ k t.legs s.differ }
 
-stand_left : (timeout m : ℕ) (t : Told) (n : ℕ) → Stand t.endpoints t.legs → Stand (left timeout m t n).endpoints (left timeout m t n).legs
+stand_left : (timeout m : ℕ) (t : Told) (n : ℕ) → Stand t.endpoints t.legs → Stand (after_overdue timeout m t n).endpoints (after_overdue timeout m t n).legs
 stand_left timeout m t zero s = s
-stand_left timeout m t (suc n) s = step (is_overdue_at timeout m (left timeout m t n).endpoints n) (stand_left timeout m t n s)
+stand_left timeout m t (suc n) s = step (is_overdue_at timeout m (after_overdue timeout m t n).endpoints n) (stand_left timeout m t n s)
   where
-    step : (b : Bool) → Stand (left timeout m t n).endpoints (left timeout m t n).legs
-        → Stand (cond b (leave (left timeout m t n) n) (left timeout m t n)).endpoints (cond b (leave (left timeout m t n) n) (left timeout m t n)).legs
-    step true h = stand_leave (left timeout m t n) n h
+    step : (b : Bool) → Stand (after_overdue timeout m t n).endpoints (after_overdue timeout m t n).legs
+        → Stand (cond b (leave (after_overdue timeout m t n) n) (after_overdue timeout m t n)).endpoints (cond b (leave (after_overdue timeout m t n) n) (after_overdue timeout m t n)).legs
+    step true h = stand_leave (after_overdue timeout m t n) n h
     step false h = h
 
 pub stand_leaving : (timeout m : ℕ) (es : List Endpoint) (ls : List LegStay) → Stand es ls
     → Stand (leaving timeout m es ls).endpoints (leaving timeout m es ls).legs
 unfolding leaving
-stand_leaving timeout m es ls s = stand_left timeout m (told es ls) (length es) s
+stand_leaving timeout m es ls s = stand_left timeout m (without_orders es ls) (length es) s
 
 -- the endpoint comes
 or_false : (p : Bool) → (p || false) ≡ p
@@ -156,7 +156,7 @@ matches_come es e m n l inside absent least differs was = step (l.subscriber == 
         rw (other_now es e l.subscriber _ (same_test e l.subscriber ∙ is), other_now es e l.publisher _ (same_test e l.publisher ∙ other)) was
 
 begun_matches : (es : List Endpoint) (e m n : ℕ) (ls : List LegStay) → e < length es → is_present_at es e ≡ false → 1 ≤ n → Stand es ls
-    → All (Matches (with_heard es e (Some m))) (begun (begins_with es e) n ls)
+    → All (Matches (with_heard es e (Some m))) (started_legs (begins_with es e) n ls)
 begun_matches es e m n [] inside absent least s = All-nil (Matches (with_heard es e (Some m)))
 begun_matches es e m n (l ∷ ls) inside absent least s =
     let rest : Stand es ls = record { matches = All-tail (Matches es) l ls s.matches; differ = All-tail Differs l ls s.differ } in
@@ -166,15 +166,15 @@ begun_matches es e m n (l ∷ ls) inside absent least s =
     (begun_matches es e m n ls inside absent least rest)
   where
     step : (b : Bool) → Matches (with_heard es e (Some m)) (cond b (record l { stay = n; turn = turn_from n l }) l)
-        → All (Matches (with_heard es e (Some m))) (begun (begins_with es e) (n + 1) ls)
-        → All (Matches (with_heard es e (Some m))) (begun (begins_with es e) n ls)
+        → All (Matches (with_heard es e (Some m))) (started_legs (begins_with es e) (n + 1) ls)
+        → All (Matches (with_heard es e (Some m))) (started_legs (begins_with es e) n ls)
         → All (Matches (with_heard es e (Some m)))
-        (cond b (record l { stay = n; turn = turn_from n l } ∷ begun (begins_with es e) (n + 1) ls) (l ∷ begun (begins_with es e) n ls))
+        (cond b (record l { stay = n; turn = turn_from n l } ∷ started_legs (begins_with es e) (n + 1) ls) (l ∷ started_legs (begins_with es e) n ls))
     step true first more same =
-        All-cons (Matches (with_heard es e (Some m))) (record l { stay = n; turn = turn_from n l }) (begun (begins_with es e) (n + 1) ls) first more
-    step false first more same = All-cons (Matches (with_heard es e (Some m))) l (begun (begins_with es e) n ls) first same
+        All-cons (Matches (with_heard es e (Some m))) (record l { stay = n; turn = turn_from n l }) (started_legs (begins_with es e) (n + 1) ls) first more
+    step false first more same = All-cons (Matches (with_heard es e (Some m))) l (started_legs (begins_with es e) n ls) first same
 
-begun_differ : (begins : LegStay → Bool) (n : ℕ) (ls : List LegStay) → All Differs ls → All Differs (begun begins n ls)
+begun_differ : (begins : LegStay → Bool) (n : ℕ) (ls : List LegStay) → All Differs ls → All Differs (started_legs begins n ls)
 begun_differ begins n [] all = All-nil Differs
 begun_differ begins n (l ∷ ls) all =
     step (begins l) (begun_differ begins (n + 1) ls (All-tail Differs l ls all)) (begun_differ begins n ls (All-tail Differs l ls all))
@@ -182,25 +182,25 @@ begun_differ begins n (l ∷ ls) all =
     first : Differs l
     first = all 0 l (omega arith)
 
-    step : (b : Bool) → All Differs (begun begins (n + 1) ls) → All Differs (begun begins n ls)
-        → All Differs (cond b (record l { stay = n; turn = turn_from n l } ∷ begun begins (n + 1) ls) (l ∷ begun begins n ls))
-    step true more same = All-cons Differs (record l { stay = n; turn = turn_from n l }) (begun begins (n + 1) ls) first more
-    step false more same = All-cons Differs l (begun begins n ls) first same
+    step : (b : Bool) → All Differs (started_legs begins (n + 1) ls) → All Differs (started_legs begins n ls)
+        → All Differs (cond b (record l { stay = n; turn = turn_from n l } ∷ started_legs begins (n + 1) ls) (l ∷ started_legs begins n ls))
+    step true more same = All-cons Differs (record l { stay = n; turn = turn_from n l }) (started_legs begins (n + 1) ls) first more
+    step false more same = All-cons Differs l (started_legs begins n ls) first same
 
 -- ---- one call
 
-left_legs : (timeout m : ℕ) (t : Told) (n : ℕ) → length (left timeout m t n).legs ≡ length t.legs
+left_legs : (timeout m : ℕ) (t : Told) (n : ℕ) → length (after_overdue timeout m t n).legs ≡ length t.legs
 left_legs timeout m t zero = refl
-left_legs timeout m t (suc n) = step (is_overdue_at timeout m (left timeout m t n).endpoints n) (left_legs timeout m t n)
+left_legs timeout m t (suc n) = step (is_overdue_at timeout m (after_overdue timeout m t n).endpoints n) (left_legs timeout m t n)
   where
-    step : (b : Bool) → length (left timeout m t n).legs ≡ length t.legs
-        → length (cond b (leave (left timeout m t n) n) (left timeout m t n)).legs ≡ length t.legs
-    step true same = length-map (left timeout m t n).legs (ended n) ∙ same
+    step : (b : Bool) → length (after_overdue timeout m t n).legs ≡ length t.legs
+        → length (cond b (leave (after_overdue timeout m t n) n) (after_overdue timeout m t n)).legs ≡ length t.legs
+    step true same = length-map (after_overdue timeout m t n).legs (leg_without n) ∙ same
     step false same = same
 
 leaving_legs : (r : RoomState) (m : ℕ) → length (after_leaving r m).legs ≡ length r.legs
 unfolding leaving
-leaving_legs r m = left_legs r.timeout m (told r.endpoints r.legs) (length r.endpoints)
+leaving_legs r m = left_legs r.timeout m (without_orders r.endpoints r.legs) (length r.endpoints)
 
 pub record StandsIn (r : RoomState) : Type 0 where
   pub stand : Stand r.endpoints r.legs
@@ -242,7 +242,7 @@ stands_come t e m n absent inside least s = record {
   differ = begun_differ (begins_with t.endpoints e) n t.legs s.differ;
 }
 
-stands_gone : (t : Told) (e : ℕ) → Stand t.endpoints t.legs → Stand (gone t e).endpoints (gone t e).legs
+stands_gone : (t : Told) (e : ℕ) → Stand t.endpoints t.legs → Stand (after_bye t e).endpoints (after_bye t e).legs
 stands_gone t e s = step (is_present_at t.endpoints e)
   where
     step : (b : Bool) → Stand (cond b (leave t e) t).endpoints (cond b (leave t e) t).legs
@@ -250,10 +250,10 @@ stands_gone t e s = step (is_present_at t.endpoints e)
     step false = s
 
 stands_switched : (es : List Endpoint) (ls : List LegStay) (number next : ℕ) (on : Bool) → number < length ls → Stand es ls
-    → Stand es (set ls number (switched on next (leg_at ls number)))
+    → Stand es (set ls number (switched_leg on next (leg_at ls number)))
 stands_switched es ls number next on inside s = record {
-  matches = All-set (Matches es) ls number (switched on next (leg_at ls number)) (s.matches number no_leg inside) s.matches;
-  differ = All-set Differs ls number (switched on next (leg_at ls number)) (s.differ number no_leg inside) s.differ;
+  matches = All-set (Matches es) ls number (switched_leg on next (leg_at ls number)) (s.matches number no_leg inside) s.matches;
+  differ = All-set Differs ls number (switched_leg on next (leg_at ls number)) (s.differ number no_leg inside) s.differ;
 }
 
 pub stands : (r : RoomState) (c : Call) → StandsIn r → IfStands (step_of r c)
@@ -321,10 +321,10 @@ nobody_present (s ∷ ssrcs) zero = refl
 nobody_present (s ∷ ssrcs) (suc e) = nobody_present ssrcs e
 
 unstarted_stand : (ssrcs : List Ssrc) (legs : List LegSettings) → All (λ l. l.subscriber ≢ l.publisher) legs
-    → Stand (map absent ssrcs) (map unstarted legs)
+    → Stand (map absent ssrcs) (map idle_leg legs)
 unstarted_stand ssrcs legs differ = record {
-  matches = All-map (Matches (map absent ssrcs)) unstarted legs (λ k d below. rw (nobody_present ssrcs (get_or legs k d).subscriber) refl);
-  differ = All-map Differs unstarted legs differ;
+  matches = All-map (Matches (map absent ssrcs)) idle_leg legs (λ k d below. rw (nobody_present ssrcs (get_or legs k d).subscriber) refl);
+  differ = All-map Differs idle_leg legs differ;
 }
 
 pub stands_new : (s : Configuration) → All (λ l. l.subscriber ≢ l.publisher) s.legs → StandsIn (new_room s)

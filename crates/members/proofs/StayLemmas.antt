@@ -13,7 +13,7 @@ use Rattle.std.proofs.lemmas.Bool.Decides.{nat_tests}
 use Rattle.std.proofs.lemmas.List.Folds.{list_any_kept, list_any_more}
 use Rattle.members.specs.declared.presence.TheConstants.{LAST_MOMENT}
 use Rattle.members.specs.Presence.{NobodyOverdue, is_overdue, is_overdue_at, is_present_at}
-use Rattle.members.specs.Stays.{Told, told, leaving, told_more, Tells, leave, leave_if_overdue, left}
+use Rattle.members.specs.Stays.{Told, without_orders, leaving, told_more, Tells, leave, leave_if_overdue, after_overdue}
 
 -- ---- drafts
 
@@ -37,7 +37,7 @@ tells_append a (Some zs) c xs ys first second = record {
 
 -- what a draft told from nothing is what is appended
 pub told_all : (more old new : List Order) (draft : Option (List Order)) → Tells (Some []) more draft
-    → IsSomeAnd draft (λ told. new ≡ old ++ told) → new ≡ old ++ more
+    → IsSomeAnd draft (λ without_orders. new ≡ old ++ without_orders) → new ≡ old ++ more
 told_all more old new None tells some = absurd some
 told_all more old new (Some orders) tells some =
     let same : Some more ≡ Some orders = tells.ends orders refl in
@@ -61,12 +61,12 @@ changed_next xs k y rest below = rw (take_more_set xs k y below, append_assoc (t
 
 -- ---- endpoints
 
-pub left_more : (timeout moment : ℕ) (t : Told) (n : ℕ) → is_overdue_at timeout moment (left timeout moment t n).endpoints n ≡ true
-    → left timeout moment t (n + 1) ≡ leave (left timeout moment t n) n
+pub left_more : (timeout moment : ℕ) (t : Told) (n : ℕ) → is_overdue_at timeout moment (after_overdue timeout moment t n).endpoints n ≡ true
+    → after_overdue timeout moment t (n + 1) ≡ leave (after_overdue timeout moment t n) n
 left_more timeout moment t n overdue = rw (add-one n, overdue) refl
 
-pub left_skip : (timeout moment : ℕ) (t : Told) (n : ℕ) → is_overdue_at timeout moment (left timeout moment t n).endpoints n ≡ false
-    → left timeout moment t (n + 1) ≡ left timeout moment t n
+pub left_skip : (timeout moment : ℕ) (t : Told) (n : ℕ) → is_overdue_at timeout moment (after_overdue timeout moment t n).endpoints n ≡ false
+    → after_overdue timeout moment t (n + 1) ≡ after_overdue timeout moment t n
 left_skip timeout moment t n quiet = rw (add-one n, quiet) refl
 
 -- nobody is overdue
@@ -78,7 +78,7 @@ never_overdue_at timeout moment (e ∷ es) zero quiet = quiet 0 e (omega arith)
 never_overdue_at timeout moment (e ∷ es) (suc n) quiet = never_overdue_at timeout moment es n (λ k d below. quiet (suc k) d (omega arith))
 
 pub left_quiet : (timeout moment : ℕ) (t : Told) (n : ℕ) → All (λ e. is_overdue timeout moment e ≡ false) t.endpoints
-    → left timeout moment t n ≡ t
+    → after_overdue timeout moment t n ≡ t
 left_quiet timeout moment t zero quiet = refl
 left_quiet timeout moment t (suc n) quiet =
     ap (leave_if_overdue timeout moment n) (left_quiet timeout moment t n quiet)
@@ -92,9 +92,9 @@ quiet_more timeout moment es k d below before here =
 
 -- where nobody is overdue nobody leaves
 pub leaving_quiet : (timeout moment : ℕ) (es : List Endpoint) (ls : List LegStay) → All (λ e. is_overdue timeout moment e ≡ false) es
-    → leaving timeout moment es ls ≡ told es ls
+    → leaving timeout moment es ls ≡ without_orders es ls
 unfolding leaving
-leaving_quiet timeout moment es ls quiet = left_quiet timeout moment (told es ls) (length es) quiet
+leaving_quiet timeout moment es ls quiet = left_quiet timeout moment (without_orders es ls) (length es) quiet
 
 pub quiet_all : (timeout moment : ℕ) (es : List Endpoint) (k : ℕ) → length es ≤ k
     → All (λ e. is_overdue timeout moment e ≡ false) (take k es) → All (λ e. is_overdue timeout moment e ≡ false) es

@@ -9,7 +9,7 @@ use Rattle.members.specs.declared.stays.LegStay.{LegStay}
 use Rattle.members.specs.Presence.{is_present_at}
 use Rattle.members.specs.Settings.{Configuration}
 use Rattle.members.specs.Room.{RoomState, Step, new_room, leg_at, tick_step, bye_step, hear_step, select_step, after_packet, after_report, after_block}
-use Rattle.members.specs.Reception.{Call as ReceptionCall, Received, SenderReported, BlockMade}
+use Rattle.members.specs.Reception.{ReceptionCall, Received, SenderReported, BlockMade}
 
 pub data Call : Type 0 where
   Hear : ℕ → ℕ → ℕ → Call
@@ -58,9 +58,10 @@ orders_after r [] = []
 orders_after r (c ∷ calls) = orders_of (step_of r c) ++ orders_after (room_of r (step_of r c)) calls
 
 -- the calls that weren't refused
-abbrev pub accepted : RoomState → List Call → List Call
-accepted r [] = []
-accepted r (c ∷ calls) = if_accepted c (step_of r c) ++ accepted (room_of r (step_of r c)) calls
+abbrev pub accepted_calls : RoomState → List Call → List Call
+accepted_calls r [] = []
+accepted_calls r (c ∷ calls) =
+    if_accepted c (step_of r c) ++ accepted_calls (room_of r (step_of r c)) calls
 
 -- ---- presence, by the whole list of accepted calls
 
@@ -81,7 +82,8 @@ greatest_moment moment (c ∷ calls) = greatest_moment (max moment (moment_of c)
 
 -- a hear of the endpoint counts from its moment, until a goodbye of it
 abbrev pub heard_by : ℕ → ℕ → Option ℕ → Call → Option ℕ
-heard_by endpoint moment heard (Hear handed other ssrc) = if other == endpoint then Some moment else heard
+heard_by endpoint moment heard (Hear handed other ssrc) =
+    if other == endpoint then Some moment else heard
 heard_by endpoint moment heard (Bye handed other) = if other == endpoint then None else heard
 heard_by endpoint moment heard (Tick handed) = heard
 heard_by endpoint moment heard (Select handed leg on) = heard
@@ -93,7 +95,8 @@ heard_by endpoint moment heard (MakeBlock other) = heard
 abbrev pub last_heard : ℕ → ℕ → Option ℕ → List Call → Option ℕ
 last_heard endpoint moment heard [] = heard
 last_heard endpoint moment heard (c ∷ calls) =
-    let now = max moment (moment_of c) in last_heard endpoint now (heard_by endpoint now heard c) calls
+    let now = max moment (moment_of c) in
+    last_heard endpoint now (heard_by endpoint now heard c) calls
 
 -- that was less than the timeout ago
 abbrev pub is_recent : ℕ → ℕ → Option ℕ → Bool
@@ -102,13 +105,15 @@ is_recent timeout moment heard = option_map_or (λ h. nat_lt moment (h + timeout
 -- The endpoint is present after these calls: it has a last hear, no goodbye of it came after, and the greatest moment is
 -- less than the timeout past that of the hear.
 abbrev pub is_present_after : ℕ → ℕ → List Call → Bool
-is_present_after timeout endpoint calls = is_recent timeout (greatest_moment 0 calls) (last_heard endpoint 0 None calls)
+is_present_after timeout endpoint calls =
+    is_recent timeout (greatest_moment 0 calls) (last_heard endpoint 0 None calls)
 
 -- ---- what was received, and how often an endpoint came, by the whole list of accepted calls
 
 -- the endpoint comes by this call at this moment: it is heard, and no hear of it was recent
 abbrev pub comes_by : ℕ → ℕ → ℕ → Option ℕ → Call → Bool
-comes_by timeout endpoint moment heard (Hear handed other ssrc) = other == endpoint && not (is_recent timeout moment heard)
+comes_by timeout endpoint moment heard (Hear handed other ssrc) =
+    other == endpoint && not (is_recent timeout moment heard)
 comes_by timeout endpoint moment heard (Bye handed other) = false
 comes_by timeout endpoint moment heard (Tick handed) = false
 comes_by timeout endpoint moment heard (Select handed leg on) = false
@@ -123,27 +128,33 @@ reception_call endpoint moment (Bye handed other) = []
 reception_call endpoint moment (Tick handed) = []
 reception_call endpoint moment (Select handed leg on) = []
 reception_call endpoint moment (Receive other seq timestamp) =
-    if other == endpoint then Received (record { moment = moment; seq = seq; timestamp = timestamp }) ∷ [] else []
+    if other == endpoint
+    then Received (record { moment = moment; seq = seq; timestamp = timestamp }) ∷ [] else []
 reception_call endpoint moment (Report other ntp rtp) =
-    if other == endpoint then SenderReported (record { moment = moment; ntp = ntp; rtp = rtp }) ∷ [] else []
+    if other == endpoint then SenderReported (record { moment = moment; ntp = ntp; rtp = rtp }) ∷ []
+    else []
 reception_call endpoint moment (MakeBlock other) = if other == endpoint then BlockMade ∷ [] else []
 
 -- these, and that of one more call, begun anew where the endpoint comes by it
 abbrev pub received_by : ℕ → ℕ → ℕ → Option ℕ → List ReceptionCall → Call → List ReceptionCall
 received_by timeout endpoint moment heard since c =
-    if comes_by timeout endpoint moment heard c then [] else since ++ reception_call endpoint moment c
+    if comes_by timeout endpoint moment heard c then []
+    else since ++ reception_call endpoint moment c
 
 -- the reception calls of the endpoint since it last came, each at the greatest moment handed in before it
-abbrev pub received_since : ℕ → ℕ → ℕ → Option ℕ → List ReceptionCall → List Call → List ReceptionCall
+abbrev pub received_since : ℕ → ℕ → ℕ → Option ℕ → List ReceptionCall → List Call
+    → List ReceptionCall
 received_since timeout endpoint moment heard since [] = since
 received_since timeout endpoint moment heard since (c ∷ calls) =
     let now = max moment (moment_of c) in
-    received_since timeout endpoint now (heard_by endpoint now heard c) (received_by timeout endpoint now heard since c) calls
+    received_since timeout endpoint now (heard_by endpoint now heard c)
+    (received_by timeout endpoint now heard since c) calls
 
 -- the reception calls of the endpoint in its present presence: none where it is absent
 abbrev pub received_in_presence : ℕ → ℕ → List Call → List ReceptionCall
 received_in_presence timeout endpoint calls =
-    if is_present_after timeout endpoint calls then received_since timeout endpoint 0 None [] calls else []
+    if is_present_after timeout endpoint calls then received_since timeout endpoint 0 None [] calls
+    else []
 
 -- how often the endpoint comes
 abbrev pub comings_from : ℕ → ℕ → ℕ → Option ℕ → List Call → ℕ
@@ -160,10 +171,10 @@ comings timeout endpoint calls = comings_from timeout endpoint 0 None calls
 -- The endpoint is in one presence after the calls before and after all of them: it is present after both, and came no
 -- more between.
 pub record IsOnePresence (s : Configuration) (endpoint : ℕ) (before all : List Call) : Type 0 where
-  pub was : is_present_after s.timeout_ms endpoint (accepted (new_room s) before) ≡ true
-  pub is : is_present_after s.timeout_ms endpoint (accepted (new_room s) all) ≡ true
-  pub same : comings s.timeout_ms endpoint (accepted (new_room s) all)
-      ≡ comings s.timeout_ms endpoint (accepted (new_room s) before)
+  pub was : is_present_after s.timeout_ms endpoint (accepted_calls (new_room s) before) ≡ true
+  pub is : is_present_after s.timeout_ms endpoint (accepted_calls (new_room s) all) ≡ true
+  pub same : comings s.timeout_ms endpoint (accepted_calls (new_room s) all)
+      ≡ comings s.timeout_ms endpoint (accepted_calls (new_room s) before)
 
 -- the stay of the leg of this number after these calls; 0 where none stands
 abbrev pub stay_after : Configuration → List Call → ℕ → ℕ
@@ -188,8 +199,8 @@ drawn_of (Depart leg stay) = []
 drawn_of (Route leg stay turn on) = if on && not (turn == stay) then turn ∷ [] else []
 
 -- the numbers drawn for stays and turns, in the order of the orders
-abbrev pub drawn : List Order → List ℕ
-drawn orders = flat_map drawn_of orders
+abbrev pub drawn_numbers : List Order → List ℕ
+drawn_numbers orders = flat_map drawn_of orders
 
 -- the numbers from the first on, one after another, to below the last
 abbrev pub RunsFrom : ℕ → List ℕ → ℕ → Type 0
@@ -214,7 +225,8 @@ RiseWithin first (x ∷ xs) last = (first ≤ x) × RiseWithin (x + 1) xs last
 
 -- the leg's stay stands exactly while its subscriber and its publisher are both present
 abbrev pub StandsByPresence : List Endpoint → LegStay → Type 0
-StandsByPresence endpoints l = not (l.stay == 0) ≡ (is_present_at endpoints l.subscriber && is_present_at endpoints l.publisher)
+StandsByPresence endpoints l = not (l.stay == 0) ≡ (is_present_at endpoints l.subscriber
+    && is_present_at endpoints l.publisher)
 
 -- no leg has this stay
 abbrev pub StandsNowhere : List LegStay → ℕ → Type 0

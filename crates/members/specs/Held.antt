@@ -9,10 +9,12 @@ use Rattle.members.specs.Reception.{Heard}
 
 -- no endpoint is overdue before this moment
 abbrev pub IsQuietUntil : ℕ → ℕ → List Endpoint → Type 0
-IsQuietUntil timeout until endpoints = (moment : ℕ) → moment < until → NobodyOverdue timeout moment endpoints
+IsQuietUntil timeout until endpoints = (moment : ℕ) → moment < until
+    → NobodyOverdue timeout moment endpoints
 
 pub record IsWellFormed (timeout next until : ℕ) (endpoints : List Endpoint) (legs : List LegStay)
-    (draft_endpoints : List Endpoint) (draft_legs : List LegStay) (receptions : List Heard) : Type 0 where
+    (draft_endpoints : List Endpoint) (draft_legs : List LegStay)
+    (receptions : List Heard) : Type 0 where
   pub few : length legs ≤ MAX_LEGS
   pub numbered : next ≤ MAX_STAY
   pub quiet : IsQuietUntil timeout until endpoints

@@ -14,16 +14,20 @@ NobodyOverdue timeout moment endpoints = All (λ e. is_overdue timeout moment e 
 
 -- the endpoint of this number is there, and overdue
 unfoldable pub is_overdue_at : ℕ → ℕ → List Endpoint → ℕ → Bool
-is_overdue_at timeout moment endpoints number = option_map_or (is_overdue timeout moment) (slice_get endpoints number) false
+is_overdue_at timeout moment endpoints number =
+    option_map_or (is_overdue timeout moment) (slice_get endpoints number) false
 
 -- the endpoint of this number is there, and present
 unfoldable pub is_present_at : List Endpoint → ℕ → Bool
-is_present_at endpoints number = option_map_or (λ (e : Endpoint). is_some e.heard) (slice_get endpoints number) false
+is_present_at endpoints number =
+    option_map_or (λ (e : Endpoint). is_some e.heard) (slice_get endpoints number) false
 
 -- the source of the endpoint of this number
 unfoldable pub source_at : List Endpoint → ℕ → Ssrc
-source_at endpoints number = option_map_or (λ (e : Endpoint). e.ssrc) (slice_get endpoints number) (record { 0 = 0 })
+source_at endpoints number =
+    option_map_or (λ (e : Endpoint). e.ssrc) (slice_get endpoints number) (record { 0 = 0 })
 
 -- the endpoint of this number was last heard then, or is absent
 abbrev pub with_heard : List Endpoint → ℕ → Option ℕ → List Endpoint
-with_heard endpoints number heard = slice_set endpoints number (record { ssrc = source_at endpoints number; heard = heard })
+with_heard endpoints number heard =
+    slice_set endpoints number (record { ssrc = source_at endpoints number; heard = heard })

@@ -1,16 +1,17 @@
 -- What a room holds, and what each call does.
-use Rattle.std.specs.Prelude.{◌≡◌, IfOk, IfErr, OnOk, OnErr, ◌==◌, ℕ, ◌+◌, nat_lt, nat_le, max, Bool, false, not, List, [], ◌∷◌, ◌++◌, length, map, slice_index_or, slice_set, ◌&&◌, None, Some, Result, Ok, Err, if◌then◌else◌}
+use Rattle.std.specs.Prelude.{◌≡◌, IfOk, IfErr, OnOk, OnErr, ◌==◌, ℕ, ◌+◌, ◌<◌, nat_lt, nat_le, max, Bool, false, not, List, [], ◌∷◌, ◌++◌, length, map, slice_index_or, slice_set, ◌&&◌, None, Some, Result, Ok, Err, if◌then◌else◌}
 use Rattle.tmmbr_tuple.specs.declared.ssrc.Ssrc.{Ssrc}
 use Rattle.members.specs.declared.order.Order.{Order}
 use Rattle.members.specs.declared.order.Order.TheVariants.{Route}
 use Rattle.members.specs.declared.fault.RoomFault.{RoomFault}
 use Rattle.members.specs.declared.fault.RoomFault.TheVariants.{UnknownEndpoint, WrongSsrc, UnknownLeg, StaysSpent, NoMemory}
 use Rattle.members.specs.declared.presence.Endpoint.{Endpoint}
+use Rattle.members.specs.declared.presence.TheConstants.{LAST_MOMENT}
 use Rattle.members.specs.declared.stays.LegStay.{LegStay}
 use Rattle.members.specs.declared.stays.TheConstants.{MAX_STAY}
 use Rattle.members.specs.declared.settings.LegSettings.{LegSettings}
 use Rattle.members.specs.Settings.{Configuration}
-use Rattle.members.specs.Presence.{is_present_at, source_at, with_heard}
+use Rattle.members.specs.Presence.{NobodyOverdue, is_present_at, source_at, with_heard}
 use Rattle.members.specs.Stays.{Told, leave, leaving, coming_count, come}
 use Rattle.members.specs.Reception.{Heard}
 use Rattle.members.specs.Stream.{nothing_heard, heard_packet, heard_report, heard_block}
@@ -48,19 +49,22 @@ abbrev pub after_leaving : RoomState → ℕ → Told
 after_leaving r moment = leaving r.timeout moment r.endpoints r.legs
 
 abbrev pub tick_step : RoomState → ℕ → Step
-tick_step r handed = step_with r (max r.moment handed) r.next (after_leaving r (max r.moment handed))
+tick_step r handed =
+    step_with r (max r.moment handed) r.next (after_leaving r (max r.moment handed))
 
-abbrev pub gone : Told → ℕ → Told
-gone t endpoint = if is_present_at t.endpoints endpoint then leave t endpoint else t
+abbrev pub after_bye : Told → ℕ → Told
+after_bye t endpoint = if is_present_at t.endpoints endpoint then leave t endpoint else t
 
 abbrev pub bye_step : RoomState → ℕ → ℕ → Result Step RoomFault
 bye_step r handed endpoint =
     if nat_le (length r.endpoints) endpoint then Err UnknownEndpoint
-    else Ok (step_with r (max r.moment handed) r.next (gone (after_leaving r (max r.moment handed)) endpoint))
+    else Ok (step_with r (max r.moment handed) r.next
+    (after_bye (after_leaving r (max r.moment handed)) endpoint))
 
 -- a present endpoint is heard again
 abbrev pub heard_again : Told → ℕ → ℕ → Told
-heard_again t moment endpoint = record t { endpoints = with_heard t.endpoints endpoint (Some moment) }
+heard_again t moment endpoint =
+    record t { endpoints = with_heard t.endpoints endpoint (Some moment) }
 
 -- nothing was received yet of the endpoint
 abbrev pub anew : RoomState → ℕ → RoomState
@@ -69,9 +73,11 @@ anew r endpoint = record r { receptions = slice_set r.receptions endpoint nothin
 -- an endpoint is heard: it was present, or it comes, and its reception begins anew
 abbrev pub heard_step : RoomState → ℕ → ℕ → Told → Result Step RoomFault
 heard_step r moment endpoint t =
-    if is_present_at t.endpoints endpoint then Ok (step_with r moment r.next (heard_again t moment endpoint))
+    if is_present_at t.endpoints endpoint
+    then Ok (step_with r moment r.next (heard_again t moment endpoint))
     else if nat_lt MAX_STAY (r.next + coming_count t.endpoints endpoint t.legs) then Err StaysSpent
-    else Ok (step_with (anew r endpoint) moment (r.next + coming_count t.endpoints endpoint t.legs) (come t moment r.next endpoint))
+    else Ok (step_with (anew r endpoint) moment (r.next + coming_count t.endpoints endpoint t.legs)
+    (come t moment r.next endpoint))
 
 abbrev pub hear_step : RoomState → ℕ → ℕ → ℕ → Result Step RoomFault
 hear_step r handed endpoint ssrc =
@@ -93,8 +99,8 @@ is_selected on l = if on then l.selected else not l.selected
 abbrev pub takes_turn : Bool → LegStay → Bool
 takes_turn on l = on && not (l.stay == 0)
 
-abbrev pub switched : Bool → ℕ → LegStay → LegStay
-switched on next l = record l { selected = on; turn = if takes_turn on l then next else l.turn }
+abbrev pub switched_leg : Bool → ℕ → LegStay → LegStay
+switched_leg on next l = record l { selected = on; turn = if takes_turn on l then next else l.turn }
 
 -- the leg's row as it is now, where a stay stands
 abbrev pub row_order : ℕ → LegStay → List Order
@@ -115,33 +121,51 @@ abbrev pub selected_step : RoomState → ℕ → Told → ℕ → Bool → LegSt
 selected_step r moment t number on l =
     if is_selected on l then Ok (step_with r moment r.next t)
     else if takes_turn on l && nat_le MAX_STAY r.next then Err StaysSpent
-    else Ok (step_with r moment (next_after on r.next l) (with_leg t number (switched on r.next l)))
+    else Ok (step_with r moment (next_after on r.next l)
+    (with_leg t number (switched_leg on r.next l)))
 
 abbrev pub select_step : RoomState → ℕ → ℕ → Bool → Result Step RoomFault
 select_step r handed number on =
     if nat_le (length r.legs) number then Err UnknownLeg
-    else (let t = after_leaving r (max r.moment handed) in selected_step r (max r.moment handed) t number on (leg_at t.legs number))
+    else (let t = after_leaving r (max r.moment handed) in
+    selected_step r (max r.moment handed) t number on (leg_at t.legs number))
+
+-- the room is the step's, and its orders are appended
+abbrev pub TakesStep : Step → List Order → RoomState → List Order → Type 0
+TakesStep step orders new new_orders = (new ≡ step.room) × (new_orders ≡ orders ++ step.orders)
+
+-- the room and the orders are as they were
+abbrev pub ChangesNothing : RoomState → List Order → RoomState → List Order → Type 0
+ChangesNothing old orders new new_orders = (new ≡ old) × (new_orders ≡ orders)
 
 -- What a call answers and leaves. Where its step is a fault it is refused with that, and else for want of memory alone.
--- Refused it leaves the room and the orders as they were; else the room is the step's, and its orders are appended.
+-- Refused it changes nothing; else it takes its step.
 pub record Answers (old : RoomState) (orders : List Order) (step : Result Step RoomFault)
-    (result : Result (Unit {0}) RoomFault) (new : RoomState) (new_orders : List Order) : Type 0 where
-  pub ok : IfOk step (λ s. OnOk result ((new ≡ s.room) × (new_orders ≡ orders ++ s.orders)))
+    (result : Result (Unit {0}) RoomFault) (new : RoomState)
+    (new_orders : List Order) : Type 0 where
+  pub ok : IfOk step (λ s. OnOk result (TakesStep s orders new new_orders))
   pub refused : IfErr step (λ fault. result ≡ Err fault)
   pub no_memory : OnOk step (OnErr result (result ≡ Err NoMemory))
-  pub unchanged : OnErr result ((new ≡ old) × (new_orders ≡ orders))
+  pub unchanged : OnErr result (ChangesNothing old orders new new_orders)
+
+-- handed this moment nobody is overdue, and the moment isn't the last of all
+abbrev pub IsCalm : RoomState → ℕ → Type 0
+IsCalm r handed =
+    NobodyOverdue r.timeout (max r.moment handed) r.endpoints × (max r.moment handed < LAST_MOMENT)
 
 -- ---- what is received
 
 -- what was received of the endpoint in its present presence: nothing where it is absent
 abbrev pub reception_at : RoomState → ℕ → Heard
 reception_at r endpoint =
-    if is_present_at r.endpoints endpoint then slice_index_or r.receptions endpoint nothing_heard else nothing_heard
+    if is_present_at r.endpoints endpoint then slice_index_or r.receptions endpoint nothing_heard
+    else nothing_heard
 
 -- the room with this as what was received of the endpoint, where it is present
 abbrev pub with_reception : RoomState → ℕ → Heard → RoomState
 with_reception r endpoint h = record r {
-  receptions = if is_present_at r.endpoints endpoint then slice_set r.receptions endpoint h else r.receptions;
+  receptions = if is_present_at r.endpoints endpoint then slice_set r.receptions endpoint h
+      else r.receptions;
 }
 
 -- a packet of the endpoint came at the room's moment
@@ -151,7 +175,8 @@ after_packet r endpoint seq timestamp =
 
 -- a sender report of the endpoint came at the room's moment
 abbrev pub after_report : RoomState → ℕ → ℕ → ℕ → RoomState
-after_report r endpoint ntp rtp = with_reception r endpoint (heard_report (reception_at r endpoint) r.moment ntp rtp)
+after_report r endpoint ntp rtp =
+    with_reception r endpoint (heard_report (reception_at r endpoint) r.moment ntp rtp)
 
 -- a block about the endpoint was made
 abbrev pub after_block : RoomState → ℕ → RoomState
@@ -162,8 +187,14 @@ after_block r endpoint = with_reception r endpoint (heard_block (reception_at r 
 abbrev pub absent : Ssrc → Endpoint
 absent ssrc = record { ssrc = ssrc; heard = None }
 
-abbrev pub unstarted : LegSettings → LegStay
-unstarted l = record { subscriber = l.subscriber; publisher = l.publisher; stay = 0; turn = 0; selected = l.on }
+abbrev pub idle_leg : LegSettings → LegStay
+idle_leg l = record {
+  subscriber = l.subscriber;
+  publisher = l.publisher;
+  stay = 0;
+  turn = 0;
+  selected = l.on;
+}
 
 abbrev pub new_room : Configuration → RoomState
 new_room s = record {
@@ -171,6 +202,6 @@ new_room s = record {
   moment = 0;
   next = 1;
   endpoints = map absent s.endpoints;
-  legs = map unstarted s.legs;
+  legs = map idle_leg s.legs;
   receptions = map (λ _. nothing_heard) s.endpoints;
 }

@@ -2,12 +2,14 @@
 use Rattle.std.specs.Prelude.{◌≡◌, ◌≢◌, ◌==◌, ℕ, ◌<◌, ◌≤◌, nat_lt, nat_le, Bool, true, false, not, ◌&&◌, List, [], ◌∷◌, ◌++◌, map, length, take, flat_map, All, AllPairs, Option, None, Some, is_some, unwrap_or, String, string_bytes, if◌then◌else◌, ℤ, pos, negsuc}
 use Rattle.std.specs.Global.{Global}
 use Rattle.std.specs.List.{list_all, list_any, enumerate_from}
+use Rattle.rtcp_compound.specs.declared.writer.TheConstants.{CNAME_LIMIT}
 use Rattle.tmmbr_tuple.specs.declared.ssrc.Ssrc.{Ssrc}
 use Rattle.members.specs.declared.parts.Parts.{Parts}
 use Rattle.members.specs.declared.parts.LegParts.{LegParts}
 use Rattle.members.specs.declared.settings.LegSettings.{LegSettings}
 use Rattle.members.specs.declared.checks.Numbers.{Numbers}
-use Rattle.members.specs.declared.settings.TheConstants.{MAX_ENDPOINTS, MAX_LEGS, MAX_WORKERS, MAX_RING, LEAST_HISTORY, MAX_HISTORY, MAX_PERIOD_MS, MAX_CNAME, SSRCS, SEQS}
+use Rattle.members.specs.declared.settings.TheConstants.{MAX_ENDPOINTS, MAX_LEGS, MAX_WORKERS, MAX_RING, LEAST_HISTORY, MAX_HISTORY, MAX_PERIOD_MS, SSRCS}
+use Rattle.members.specs.declared.stream.TheConstants.{SEQ_CYCLE}
 use Rattle.members.specs.declared.fault.SettingsFault.{SettingsFault}
 use Rattle.members.specs.declared.fault.SettingsFault.TheVariants.{Top, Endpoint, Leg, SameSsrc}
 use Rattle.members.specs.declared.fault.Key.TheVariants as key
@@ -47,13 +49,15 @@ name_of None = []
 name_of (Some text) = string_bytes text
 
 abbrev pub is_cname : List ℕ → Bool
-is_cname bytes = nat_le 1 (length bytes) && nat_le (length bytes) MAX_CNAME && list_all (λ b. nat_lt b 128) bytes
+is_cname bytes = nat_le 1 (length bytes) && nat_le (length bytes) CNAME_LIMIT
+    && list_all (λ b. nat_lt b 128) bytes
 
 -- the keys of the table, by their names
 unfoldable pub top_checks : Parts → List Check
 top_checks p =
     check (is_cname (name_of p.cname)) (Top key.Cname)
-    ∷ check (nat_le 1 (length p.endpoints.items) && nat_le (length p.endpoints.items) MAX_ENDPOINTS) (Top key.Endpoint)
+    ∷ check (nat_le 1 (length p.endpoints.items) && nat_le (length p.endpoints.items) MAX_ENDPOINTS)
+    (Top key.Endpoint)
     ∷ check (is_some (number_within p.history LEAST_HISTORY MAX_HISTORY)) (Top key.History)
     ∷ check (nat_le (length p.legs.items) MAX_LEGS) (Top key.Leg)
     ∷ check (is_some (number_within p.pli_gap_ms 0 MAX_PERIOD_MS)) (Top key.PliGapMs)
@@ -71,21 +75,24 @@ endpoint_checks e = check (is_some (number_below e.1 SSRCS)) (Endpoint e.0 key.S
 -- an earlier leg has this subscriber and this publisher
 abbrev pub has_pair : List LegParts → ℕ → Option ℕ → Option ℕ → Bool
 has_pair legs endpoints subscriber publisher =
-    list_any (λ l. is_same (number_below l.subscriber endpoints) subscriber && is_same (number_below l.publisher endpoints) publisher) legs
+    list_any (λ l. is_same (number_below l.subscriber endpoints) subscriber
+    && is_same (number_below l.publisher endpoints) publisher) legs
 
 -- A leg's publisher is an endpoint, another one than its subscriber, and no earlier leg has this pair.
 abbrev pub is_publisher : List LegParts → ℕ → Option ℕ → Option ℕ → Bool
 is_publisher earlier endpoints subscriber publisher =
-    is_some publisher && not (is_same subscriber publisher) && not (has_pair earlier endpoints subscriber publisher)
+    is_some publisher && not (is_same subscriber publisher)
+    && not (has_pair earlier endpoints subscriber publisher)
 
 -- the keys of a leg, by their names
 abbrev pub leg_checks : Parts → ℕ × LegParts → List Check
 leg_checks p (k, l) =
     let subscriber = number_below l.subscriber (length p.endpoints.items) in
     let publisher = number_below l.publisher (length p.endpoints.items) in
-    check (is_some (number_below (or_zero l.first_seq) SEQS)) (Leg k key.FirstSeq)
+    check (is_some (number_below (or_zero l.first_seq) SEQ_CYCLE)) (Leg k key.FirstSeq)
     ∷ check (is_some (number_below l.out_ssrc SSRCS)) (Leg k key.OutSsrc)
-    ∷ check (is_publisher (take k p.legs.items) (length p.endpoints.items) subscriber publisher) (Leg k key.Publisher)
+    ∷ check (is_publisher (take k p.legs.items) (length p.endpoints.items) subscriber publisher)
+    (Leg k key.Publisher)
     ∷ check (is_some subscriber) (Leg k key.Subscriber)
     ∷ []
 
@@ -97,7 +104,8 @@ number_or_zero value limit = unwrap_or (number_below value limit) 0
 unfoldable pub sources : Parts → List ℕ
 sources p =
     number_or_zero p.unit_ssrc SSRCS
-    ∷ (map (λ e. number_or_zero e SSRCS) p.endpoints.items ++ map (λ l. number_or_zero l.out_ssrc SSRCS) p.legs.items)
+    ∷ (map (λ e. number_or_zero e SSRCS) p.endpoints.items
+    ++ map (λ l. number_or_zero l.out_ssrc SSRCS) p.legs.items)
 
 abbrev pub are_distinct : List ℕ → Bool
 are_distinct [] = true
@@ -138,7 +146,7 @@ leg_of endpoints l = record {
   subscriber = number_or_zero l.subscriber endpoints;
   publisher = number_or_zero l.publisher endpoints;
   out_ssrc = ssrc_of l.out_ssrc;
-  first_seq = number_or_zero l.first_seq SEQS;
+  first_seq = number_or_zero l.first_seq SEQ_CYCLE;
   on = unwrap_or l.on true;
 }
 
@@ -187,7 +195,7 @@ pub record IsInRange (s : Configuration) : Type 0 where
   pub most_request : s.request_ms ≤ MAX_PERIOD_MS
   pub most_gap : s.pli_gap_ms ≤ MAX_PERIOD_MS
   pub least_cname : 1 ≤ length s.cname
-  pub most_cname : length s.cname ≤ MAX_CNAME
+  pub most_cname : length s.cname ≤ CNAME_LIMIT
   pub least_endpoints : 1 ≤ length s.endpoints
   pub most_endpoints : length s.endpoints ≤ MAX_ENDPOINTS
   pub most_legs : length s.legs ≤ MAX_LEGS

@@ -13,8 +13,8 @@ pub record Told : Type 0 where
   pub legs : List LegStay
   pub orders : List Order
 
-abbrev pub told : List Endpoint → List LegStay → Told
-told endpoints legs = record { endpoints = endpoints; legs = legs; orders = [] }
+abbrev pub without_orders : List Endpoint → List LegStay → Told
+without_orders endpoints legs = record { endpoints = endpoints; legs = legs; orders = [] }
 
 -- the endpoint is the leg's subscriber or its publisher
 abbrev pub is_of : ℕ → LegStay → Bool
@@ -32,33 +32,37 @@ ending_of endpoint p = if is_of endpoint p.1 && not (p.1.stay == 0) then ending 
 abbrev pub endings : ℕ → List LegStay → List Order
 endings endpoint legs = flat_map (ending_of endpoint) (enumerate_from 0 legs)
 
-abbrev pub ended : ℕ → LegStay → LegStay
-ended endpoint l = if is_of endpoint l then record l { stay = 0 } else l
+abbrev pub leg_without : ℕ → LegStay → LegStay
+leg_without endpoint l = if is_of endpoint l then record l { stay = 0 } else l
 
 abbrev pub leave : Told → ℕ → Told
 leave t endpoint = record {
   endpoints = with_heard t.endpoints endpoint None;
-  legs = map (ended endpoint) t.legs;
+  legs = map (leg_without endpoint) t.legs;
   orders = t.orders ++ endings endpoint t.legs;
 }
 
 abbrev pub leave_if_overdue : ℕ → ℕ → ℕ → Told → Told
-leave_if_overdue timeout moment endpoint t = if is_overdue_at timeout moment t.endpoints endpoint then leave t endpoint else t
+leave_if_overdue timeout moment endpoint t =
+    if is_overdue_at timeout moment t.endpoints endpoint then leave t endpoint else t
 
 -- those of the first endpoints that are overdue leave, one after another
-abbrev pub left : ℕ → ℕ → Told → ℕ → Told
-left timeout moment t zero = t
-left timeout moment t (suc number) = leave_if_overdue timeout moment number (left timeout moment t number)
+abbrev pub after_overdue : ℕ → ℕ → Told → ℕ → Told
+after_overdue timeout moment t zero = t
+after_overdue timeout moment t (suc number) =
+    leave_if_overdue timeout moment number (after_overdue timeout moment t number)
 
 -- all that are overdue leave
 unfoldable pub leaving : ℕ → ℕ → List Endpoint → List LegStay → Told
-leaving timeout moment endpoints legs = left timeout moment (told endpoints legs) (length endpoints)
+leaving timeout moment endpoints legs =
+    after_overdue timeout moment (without_orders endpoints legs) (length endpoints)
 
 -- ---- an endpoint comes: its legs to and from those present begin stays, each with the next number
 
 abbrev pub begins_with : List Endpoint → ℕ → LegStay → Bool
 begins_with endpoints endpoint l =
-    (l.subscriber == endpoint && is_present_at endpoints l.publisher) || (l.publisher == endpoint && is_present_at endpoints l.subscriber)
+    (l.subscriber == endpoint && is_present_at endpoints l.publisher)
+    || (l.publisher == endpoint && is_present_at endpoints l.subscriber)
 
 -- the turn of a leg whose stay begins
 abbrev pub turn_from : ℕ → LegStay → ℕ
@@ -71,12 +75,14 @@ beginning number stay l = Arrive number stay ∷ Route number stay (turn_from st
 abbrev pub beginnings : (LegStay → Bool) → ℕ → ℕ → List LegStay → List Order
 beginnings begins next number [] = []
 beginnings begins next number (l ∷ legs) =
-    if begins l then beginning number next l ++ beginnings begins (next + 1) (number + 1) legs else beginnings begins next (number + 1) legs
+    if begins l then beginning number next l ++ beginnings begins (next + 1) (number + 1) legs
+    else beginnings begins next (number + 1) legs
 
-abbrev pub begun : (LegStay → Bool) → ℕ → List LegStay → List LegStay
-begun begins next [] = []
-begun begins next (l ∷ legs) =
-    if begins l then record l { stay = next; turn = turn_from next l } ∷ begun begins (next + 1) legs else l ∷ begun begins next legs
+abbrev pub started_legs : (LegStay → Bool) → ℕ → List LegStay → List LegStay
+started_legs begins next [] = []
+started_legs begins next (l ∷ legs) =
+    if begins l then record l { stay = next; turn = turn_from next l }
+    ∷ started_legs begins (next + 1) legs else l ∷ started_legs begins next legs
 
 -- how many stays begin as the endpoint comes, the orders that say so, and the legs from then on
 unfoldable pub coming_count : List Endpoint → ℕ → List LegStay → ℕ
@@ -86,7 +92,7 @@ unfoldable pub coming_orders : List Endpoint → ℕ → ℕ → List LegStay �
 coming_orders endpoints endpoint next legs = beginnings (begins_with endpoints endpoint) next 0 legs
 
 unfoldable pub coming_legs : List Endpoint → ℕ → ℕ → List LegStay → List LegStay
-coming_legs endpoints endpoint next legs = begun (begins_with endpoints endpoint) next legs
+coming_legs endpoints endpoint next legs = started_legs (begins_with endpoints endpoint) next legs
 
 abbrev pub come : Told → ℕ → ℕ → ℕ → Told
 come t moment next endpoint = record {
@@ -101,5 +107,6 @@ told_more None more = None
 told_more (Some orders) more = Some (orders ++ more)
 
 -- The draft holds the orders that it held and these behind them, unless it is short.
-pub record Tells (old : Option (List Order)) (more : List Order) (new : Option (List Order)) : Type 0 where
+pub record Tells (old : Option (List Order)) (more : List Order)
+    (new : Option (List Order)) : Type 0 where
   pub ends : (orders : List Order) → new ≡ Some orders → told_more old more ≡ Some orders

@@ -7,9 +7,11 @@ ghost use Rattle.members.specs.Settings.{number_within, number_below, or_zero, i
 use crate::fault::{Key, SettingsFault};
 use crate::parts::{LegParts, Parts};
 use crate::settings::{
-    LEAST_HISTORY, MAX_CNAME, MAX_ENDPOINTS, MAX_HISTORY, MAX_LEGS, MAX_PERIOD_MS, MAX_RING,
-    MAX_WORKERS, SEQS, SSRCS,
+    LEAST_HISTORY, MAX_ENDPOINTS, MAX_HISTORY, MAX_LEGS, MAX_PERIOD_MS, MAX_RING, MAX_WORKERS,
+    SSRCS,
 };
+use crate::stream::SEQ_CYCLE;
+use rtcp_compound::CNAME_LIMIT;
 
 /// The plain numbers of settings.
 #[derive(Clone, Copy, Debug)]
@@ -83,7 +85,7 @@ fn is_name(cname: &Option<String>) -> bool
     match cname {
         Some(text) => {
             let bytes = text.as_bytes();
-            1 <= bytes.len() && bytes.len() <= MAX_CNAME && are_ascii(bytes)
+            1 <= bytes.len() && bytes.len() <= CNAME_LIMIT && are_ascii(bytes)
         }
         None => false,
     }
@@ -181,7 +183,7 @@ fn check_leg(parts: &Parts, k: usize) -> Result<(), SettingsFault>
     let endpoints = parts.endpoints.len() as u64;
     let subscriber = number_under(leg.subscriber, endpoints);
     let publisher = number_under(leg.publisher, endpoints);
-    let first_seq = number_under(or_zero(leg.first_seq), SEQS);
+    let first_seq = number_under(or_zero(leg.first_seq), SEQ_CYCLE);
     require(first_seq.is_some(), SettingsFault::Leg(k, Key::FirstSeq))?;
     let out_ssrc = number_under(leg.out_ssrc, SSRCS);
     require(out_ssrc.is_some(), SettingsFault::Leg(k, Key::OutSsrc))?;

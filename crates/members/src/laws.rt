@@ -5,12 +5,12 @@ ghost use Rattle.std.specs.Prelude.{◌≡◌, ◌≢◌, All, ℕ, ◌<◌, Lis
 ghost use Rattle.members.specs.Presence.{is_present_at};
 ghost use Rattle.members.specs.Settings.{Configuration, IsInRange};
 ghost use Rattle.members.specs.Room.{new_room, leg_at, reception_at};
-ghost use Rattle.members.specs.Calls.{Call, room_after, orders_after, accepted, greatest_moment, is_present_after, arrivals, departures, received_in_presence, RiseWithin, StandsByPresence, StandsNowhere};
-ghost use Rattle.members.specs.Calls.{drawn, RunsFrom, stay_after, IsOnePresence};
+ghost use Rattle.members.specs.Calls.{Call, room_after, orders_after, accepted_calls, greatest_moment, is_present_after, arrivals, departures, received_in_presence, RiseWithin, StandsByPresence, StandsNowhere};
+ghost use Rattle.members.specs.Calls.{drawn_numbers, RunsFrom, stay_after, IsOnePresence};
 ghost use Rattle.std.specs.Prelude.{Option, ◌∷◌, ◌++◌, ◌↔◌};
 ghost use Rattle.tmmbr_tuple.specs.declared.ssrc.Ssrc.{Ssrc};
-ghost use Rattle.members.specs.Reception.{Block, Call as ReceptionCall, Packet, reception_of, IsBlockAfter, IsHighest, greatest_number};
-ghost use Rattle.members.specs.Stream.{heard_after, IsAnswer};
+ghost use Rattle.members.specs.Reception.{Block, ReceptionCall, Arrival, reception_of, IsBlockAfter, IsHighest, greatest_number};
+ghost use Rattle.members.specs.Stream.{heard_after, IsBlockAnswer};
 
 use crate::stream::SEQ_CYCLE;
 
@@ -21,9 +21,10 @@ pub fn present_by_last_hears()
     ensures present { (s : Configuration) (calls : List Call) (endpoint : ℕ)
         → IsInRange s → endpoint < length s.endpoints
         → is_present_at (room_after (new_room s) calls).endpoints endpoint
-        ≡ is_present_after s.timeout_ms endpoint (accepted (new_room s) calls) }
+        ≡ is_present_after s.timeout_ms endpoint (accepted_calls (new_room s) calls) }
     ensures moment { (s : Configuration) (calls : List Call) → IsInRange s
-        → (room_after (new_room s) calls).moment ≡ greatest_moment 0 (accepted (new_room s) calls) }
+        → (room_after (new_room s) calls).moment
+        ≡ greatest_moment 0 (accepted_calls (new_room s) calls) }
 {}
 
 /// The stays that begin are numbered by rising numbers, from 1 on: no number is drawn twice.
@@ -36,7 +37,7 @@ pub fn stays_rise()
 /// counter gives both, and no number is drawn twice.
 pub fn numbers_run()
     ensures { (s : Configuration) (calls : List Call) → RunsFrom 1
-        (drawn (orders_after (new_room s) calls)) (room_after (new_room s) calls).next }
+        (drawn_numbers (orders_after (new_room s) calls)) (room_after (new_room s) calls).next }
 {}
 
 /// A stay's number is that of one presence of its leg's subscriber together with one of its publisher: where
@@ -73,9 +74,9 @@ pub fn receives()
     ensures values { (calls : List ReceptionCall) → heard_after calls ≡ reception_of calls }
     ensures answers { (calls : List ReceptionCall)
         (moment : ℕ) (source : Ssrc) (answer : Option Block)
-        → IsAnswer (heard_after calls) moment source answer
+        → IsBlockAnswer (heard_after calls) moment source answer
         → IsBlockAfter calls moment source answer }
-    ensures highest { (first : Packet) (rest : List Packet)
+    ensures highest { (first : Arrival) (rest : List Arrival)
         → All (λ p. p.seq < SEQ_CYCLE) (first ∷ rest)
         → IsHighest (first ∷ rest) (greatest_number (first ∷ rest)) }
 {}
@@ -87,11 +88,13 @@ pub fn receives_since_it_came()
     ensures values { (s : Configuration) (calls : List Call) (endpoint : ℕ)
         → IsInRange s → endpoint < length s.endpoints
         → reception_at (room_after (new_room s) calls) endpoint
-        ≡ reception_of (received_in_presence s.timeout_ms endpoint (accepted (new_room s) calls)) }
+        ≡ reception_of
+        (received_in_presence s.timeout_ms endpoint (accepted_calls (new_room s) calls)) }
     ensures answers { (s : Configuration) (calls : List Call)
         (endpoint moment : ℕ) (source : Ssrc) (answer : Option Block)
         → IsInRange s → endpoint < length s.endpoints
-        → IsAnswer (reception_at (room_after (new_room s) calls) endpoint) moment source answer
-        → IsBlockAfter (received_in_presence s.timeout_ms endpoint (accepted (new_room s) calls))
+        → IsBlockAnswer (reception_at (room_after (new_room s) calls) endpoint) moment source answer
+        → IsBlockAfter
+        (received_in_presence s.timeout_ms endpoint (accepted_calls (new_room s) calls))
         moment source answer }
 {}

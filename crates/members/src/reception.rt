@@ -2,7 +2,7 @@
 
 ghost use Rattle.std.specs.Prelude.{◌≡◌, ◌↔◌, IfNone, IsNone};
 
-use crate::stream::{self, Stream, WORD};
+use crate::stream::{self, Stream, WORD_VALUES};
 use rtcp_compound::Block;
 use std::marker::Model;
 use tmmbr_tuple::Ssrc;
@@ -43,7 +43,7 @@ impl Model for Reception {
 }
 
 impl Reception {
-    ghost use Rattle.members.specs.Stream.{nothing_heard, heard_packet, heard_report, heard_block, IsAnswer, timestamps_of};
+    ghost use Rattle.members.specs.Stream.{nothing_heard, heard_packet, heard_report, heard_block, IsBlockAnswer, timestamps_of};
 
     /// Nothing was received yet.
     pub const fn new() -> Reception
@@ -79,7 +79,7 @@ impl Reception {
     ///
     /// A moment before the last sender report's counts as that report's own.
     pub fn block(&mut self, moment: u64, source: Ssrc) -> Option<Block>
-        ensures answer { IsAnswer self.old moment source result }
+        ensures answer { IsBlockAnswer self.old moment source result }
         ensures none { IsNone result ↔ (self.old.stream ≡ None) }
         ensures kept { self.new ≡ heard_block self.old }
         ensures unchanged { IfNone result (self.new ≡ self.old) }
@@ -93,7 +93,7 @@ impl Reception {
             source,
             fraction: stream.fraction_lost(),
             lost: stream::lost(stream.expected(), stream.received),
-            highest: ((stream.max_seq - stream::SEQ_CYCLE) % WORD) as u32,
+            highest: ((stream.max_seq - stream::SEQ_CYCLE) % WORD_VALUES) as u32,
             jitter: (stream.jitter / 16) as u32,
             last_sr,
             delay,
@@ -118,7 +118,7 @@ impl SenderReport {
     fn middle(&self) -> u32
         ensures { result ≡ middle_of self.now.ntp }
     {
-        (self.ntp / (1 << 16) % WORD) as u32
+        (self.ntp / (1 << 16) % WORD_VALUES) as u32
     }
 
     /// How long ago it came, in units of 1/65536 second modulo 2^32.
@@ -126,6 +126,6 @@ impl SenderReport {
         ensures { result ≡ delay_of self.now.moment moment }
     {
         let since = u128::from(moment.saturating_sub(self.moment));
-        (since * 65536 / 1000 % u128::from(WORD)) as u32
+        (since * 65536 / 1000 % u128::from(WORD_VALUES)) as u32
     }
 }

@@ -1,7 +1,7 @@
 //! A room: who is present, which stays stand, and what was received of whom.
 
 ghost use Rattle.std.specs.Prelude.{◌≡◌, map, IfOk};
-ghost use Rattle.members.specs.Stays.{told, leaving};
+ghost use Rattle.members.specs.Stays.{without_orders, leaving};
 ghost use Rattle.members.specs.Stream.{nothing_heard};
 
 use crate::fault::RoomFault;
@@ -72,9 +72,9 @@ impl Model for Room {
 impl Room {
     ghost use Rattle.std.specs.Prelude.{◌≡◌, ◌<◌, ◌++◌, ◌↔◌, max, true, IsTrue, IsOk, IsNone, IfNone, IfOk, OnOk, OnErr, length};
     ghost use Rattle.members.specs.Presence.{NobodyOverdue, is_present_at, source_at};
-    ghost use Rattle.members.specs.Room.{new_room, tick_step, bye_step, hear_step, heard_step, select_step, after_leaving, leg_at, Answers};
+    ghost use Rattle.members.specs.Room.{new_room, tick_step, bye_step, hear_step, heard_step, select_step, after_leaving, leg_at, Answers, ChangesNothing, IsCalm, TakesStep};
     ghost use Rattle.members.specs.Room.{reception_at, after_packet, after_report, after_block};
-    ghost use Rattle.members.specs.Stream.{IsAnswer, timestamps_of};
+    ghost use Rattle.members.specs.Stream.{IsBlockAnswer, timestamps_of};
 
     /// The room of these settings: nobody is present, its moment is 0.
     pub fn new(alloc: Global, settings: &Settings) -> Result<Room, AllocError>
@@ -123,7 +123,7 @@ impl Room {
         ensures same { self.new ≡ self.old }
         ensures quiet { IsTrue result
             → leaving self.old.timeout moment self.old.endpoints self.old.legs
-            ≡ told self.old.endpoints self.old.legs }
+            ≡ without_orders self.old.endpoints self.old.legs }
         ensures finds { NobodyOverdue self.old.timeout moment self.old.endpoints
             → moment < LAST_MOMENT → IsTrue result }
     {
@@ -138,12 +138,11 @@ impl Room {
     /// nothing changed, the orders and the moment included. Where nobody is overdue it takes none and isn't
     /// refused, unless the moment is the last of all.
     pub fn tick(&mut self, moment: u64, orders: &mut Vec<Order>) -> Result<(), AllocError>
-        ensures ok { OnOk result ((self.new ≡ (tick_step self.old moment).room)
-            × (orders.new.items ≡ orders.old.items ++ (tick_step self.old moment).orders)) }
+        ensures ok { OnOk result
+            (TakesStep (tick_step self.old moment) orders.old.items self.new orders.new.items) }
         ensures unchanged { OnErr result
-            ((self.new ≡ self.old) × (orders.new.items ≡ orders.old.items)) }
-        ensures calm { NobodyOverdue self.old.timeout (max self.old.moment moment) self.old.endpoints
-            → max self.old.moment moment < LAST_MOMENT → IsOk result }
+            (ChangesNothing self.old orders.old.items self.new orders.new.items) }
+        ensures calm { IsCalm self.old moment → IsOk result }
     {
         let moment = self.moment.max(moment);
         if self.is_quiet(moment) {
@@ -210,9 +209,8 @@ impl Room {
             (hear_step self.old moment endpoint ssrc.0)
             result self.new orders.new.items }
         ensures calm { (source_at self.old.endpoints endpoint).0 ≡ ssrc.0
-            → is_present_at self.old.endpoints endpoint ≡ true
-            → NobodyOverdue self.old.timeout (max self.old.moment moment) self.old.endpoints
-            → max self.old.moment moment < LAST_MOMENT → IsOk result }
+            → is_present_at self.old.endpoints endpoint ≡ true → IsCalm self.old moment
+            → IsOk result }
     {
         let at = usize::from(endpoint);
         if at >= self.held.endpoints.len() {
@@ -334,7 +332,7 @@ impl Room {
     /// `None` exactly where no packet of it was received in its present presence, and then nothing
     /// changes. The next block's interval begins where this one's ends.
     pub fn block(&mut self, endpoint: u16) -> Option<Block>
-        ensures answer { IsAnswer (reception_at self.old endpoint) self.old.moment
+        ensures answer { IsBlockAnswer (reception_at self.old endpoint) self.old.moment
             (source_at self.old.endpoints endpoint) result }
         ensures none { IsNone result ↔ ((reception_at self.old endpoint).stream ≡ None) }
         ensures kept { self.new ≡ after_block self.old endpoint }

@@ -6,6 +6,7 @@ ghost use Rattle.members.specs.Settings.{name_of, first_fault, ssrc_of, leg_of, 
 use crate::checks::{Numbers, checked, number_or_none};
 use crate::fault::SettingsFault;
 use crate::parts::{LegParts, Parts};
+use crate::stream::SEQ_CYCLE;
 use std::alloc::{AllocError, Global};
 use std::marker::Model;
 use tmmbr_tuple::Ssrc;
@@ -31,14 +32,8 @@ pub const MAX_HISTORY: u64 = 65_536;
 /// The longest time that settings name, in milliseconds: a day.
 pub const MAX_PERIOD_MS: u64 = 86_400_000;
 
-/// How many bytes a canonical name may have (RFC 3550, section 6.5).
-pub const MAX_CNAME: usize = 255;
-
 /// How many sources there are (RFC 3550, section 5.1).
 pub const SSRCS: u64 = 1 << 32;
-
-/// How many sequence numbers there are (RFC 3550, section 5.1).
-pub const SEQS: u64 = 1 << 16;
 
 /// A leg: what one endpoint publishes, sent on to another.
 #[derive(Clone, Copy, Debug, PartialEq, Eq)]
@@ -117,7 +112,7 @@ fn leg_settings(leg: &LegParts, endpoints: u64) -> LegSettings
         subscriber: number_or_none(leg.subscriber, endpoints) as u16,
         publisher: number_or_none(leg.publisher, endpoints) as u16,
         out_ssrc: source_of(leg.out_ssrc),
-        first_seq: number_or_none(leg.first_seq, SEQS) as u16,
+        first_seq: number_or_none(leg.first_seq, SEQ_CYCLE) as u16,
         on: leg.on.unwrap_or(true),
     }
 }

@@ -3,8 +3,8 @@
 ghost use Rattle.std.specs.Prelude.{◌≡◌, ◌+◌, ◌<◌, ◌≤◌, ◌&&◌, ◌||◌, ◌==◌, not, length, map, count_by, None, Some, [], if◌then◌else◌};
 ghost use Rattle.std.specs.Prelude.{true, false, nat_le, nat_lt, slice_set, IsTrue, Ok, Err};
 ghost use Rattle.members.specs.Presence.{is_present_at, is_overdue_at, with_heard};
-ghost use Rattle.members.specs.Room.{is_selected, leg_at, takes_turn, switched, next_after, row_order};
-ghost use Rattle.members.specs.Stays.{is_of, ending, ending_of, endings, ended, leaving, begins_with, turn_from, beginning, coming_count, coming_orders, coming_legs, Tells};
+ghost use Rattle.members.specs.Room.{is_selected, leg_at, takes_turn, switched_leg, next_after, row_order};
+ghost use Rattle.members.specs.Stays.{is_of, ending, ending_of, endings, leg_without, leaving, begins_with, turn_from, beginning, coming_count, coming_orders, coming_legs, Tells};
 
 use crate::fault::RoomFault;
 use crate::order::{Draft, Order};
@@ -88,7 +88,7 @@ fn tell_endings(legs: &[LegStay], endpoint: usize, draft: &mut Draft)
 
 /// Ends the stays of an endpoint that leaves.
 fn end_stays(legs: &mut [LegStay], endpoint: usize)
-    ensures { legs.new ≡ map (ended endpoint) legs.old }
+    ensures { legs.new ≡ map (leg_without endpoint) legs.old }
 {
     for leg in legs.iter_mut() {
         if leg.is_of(endpoint) {
@@ -102,7 +102,7 @@ pub fn leave(endpoints: &mut [Endpoint], legs: &mut [LegStay], endpoint: usize, 
     requires known { endpoint < length endpoints.old }
     requires few { length legs.old ≤ MAX_LEGS }
     ensures endpoints { endpoints.new ≡ with_heard endpoints.old endpoint None }
-    ensures legs { legs.new ≡ map (ended endpoint) legs.old }
+    ensures legs { legs.new ≡ map (leg_without endpoint) legs.old }
     ensures orders { Tells draft.old (endings endpoint legs.old) draft.new }
 {
     tell_endings(legs, endpoint, draft);
@@ -249,7 +249,7 @@ pub fn leave_present(
     requires few { length legs.old ≤ MAX_LEGS }
     ensures present { is_present_at endpoints.old endpoint ≡ true
         → (endpoints.new ≡ with_heard endpoints.old endpoint None)
-        × (legs.new ≡ map (ended endpoint) legs.old)
+        × (legs.new ≡ map (leg_without endpoint) legs.old)
         × Tells draft.old (endings endpoint legs.old) draft.new }
     ensures absent { is_present_at endpoints.old endpoint ≡ false
         → (endpoints.new ≡ endpoints.old) × (legs.new ≡ legs.old) × (draft.new ≡ draft.old) }
@@ -275,12 +275,12 @@ pub fn select_leg(
     ensures spent { is_selected on (leg_at legs.old number) ≡ false
         → takes_turn on (leg_at legs.old number) ≡ true → MAX_STAY ≤ next
         → result ≡ Err RoomFault.StaysSpent }
-    ensures switched { is_selected on (leg_at legs.old number) ≡ false
+    ensures switched_leg { is_selected on (leg_at legs.old number) ≡ false
         → (takes_turn on (leg_at legs.old number) && nat_le MAX_STAY next) ≡ false
         → (result ≡ Ok (next_after on next (leg_at legs.old number)))
-        × (legs.new ≡ slice_set legs.old number (switched on next (leg_at legs.old number)))
+        × (legs.new ≡ slice_set legs.old number (switched_leg on next (leg_at legs.old number)))
         × Tells draft.old
-        (row_order number (switched on next (leg_at legs.old number))) draft.new }
+        (row_order number (switched_leg on next (leg_at legs.old number))) draft.new }
 {
     let at = usize::from(number);
     let mut leg = legs[at];

@@ -2,7 +2,7 @@
 
 ghost use Rattle.std.specs.Prelude.{◌≡◌, ◌+◌, ◌-◌, ◌^◌, ◌<◌, ◌≤◌};
 ghost use Rattle.members.specs.Reception.{transit_at, expected_in, lost_of, fraction_of, jitter_after, extended_number};
-ghost use Rattle.members.specs.Stream.{IsCounted, begun, counted_with, closed};
+ghost use Rattle.members.specs.Stream.{IsCounted, new_stream, counted_with, stream_after_block};
 
 /// How many packets of a stream count. Each raises the highest number by less than 2^15, so that numbers
 /// stay below 2^63.
@@ -15,7 +15,7 @@ pub const SEQ_CYCLE: u64 = 1 << 16;
 pub const SEQ_REACH: u64 = 1 << 15;
 
 /// How many numbers 32 bits hold.
-pub const WORD: u64 = 1 << 32;
+pub const WORD_VALUES: u64 = 1 << 32;
 
 /// Ticks of the timestamps' clock in a millisecond: it runs at 90,000 Hz.
 const TICKS: u64 = 90;
@@ -50,14 +50,14 @@ pub struct Stream {
 pub fn transit(moment: u64, timestamp: u32) -> u32
     ensures { result ≡ transit_at moment timestamp }
 {
-    let arrival = (moment % WORD * TICKS % WORD) as u32;
+    let arrival = (moment % WORD_VALUES * TICKS % WORD_VALUES) as u32;
     arrival.wrapping_sub(timestamp)
 }
 
 impl Stream {
     /// The stream that begins with this packet.
     pub fn begin(seq: u16, transit: u32) -> Stream
-        ensures value { result ≡ begun seq transit }
+        ensures value { result ≡ new_stream seq transit }
         ensures within { IsCounted result }
     {
         let base_seq = SEQ_CYCLE + u64::from(seq);
@@ -125,7 +125,7 @@ impl Stream {
     /// The next block's interval begins.
     pub fn close(&mut self)
         requires { IsCounted self.old }
-        ensures value { self.new ≡ closed self.old }
+        ensures value { self.new ≡ stream_after_block self.old }
         ensures within { IsCounted self.new }
     {
         self.expected_prior = self.expected();

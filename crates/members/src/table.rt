@@ -2,7 +2,7 @@
 
 ghost use Rattle.std.specs.Prelude.{◌≡◌, ◌≤◌, length, map, IfOk};
 ghost use Rattle.members.specs.Stays.{leaving, Tells};
-ghost use Rattle.members.specs.Room.{absent, unstarted};
+ghost use Rattle.members.specs.Room.{absent, idle_leg};
 
 use crate::order::Draft;
 use crate::presence::Endpoint;
@@ -31,7 +31,7 @@ fn absent_endpoints(alloc: Global, sources: &[Ssrc]) -> Result<Vec<Endpoint>, Al
 
 /// Every leg, without a stay.
 fn unstarted_legs(alloc: Global, legs: &[LegSettings]) -> Result<Vec<LegStay>, AllocError>
-    ensures { IfOk result (λ v. v.items ≡ map unstarted legs.now) }
+    ensures { IfOk result (λ v. v.items ≡ map idle_leg legs.now) }
 {
     let legs = legs.iter().map(|leg| LegStay {
         subscriber: leg.subscriber,
@@ -48,7 +48,7 @@ impl Table {
     pub fn new(alloc: Global, settings: &Settings) -> Result<Table, AllocError>
         ensures endpoints { IfOk result
             (λ t. t.endpoints.items ≡ map absent settings.now.endpoints) }
-        ensures legs { IfOk result (λ t. t.legs.items ≡ map unstarted settings.now.legs) }
+        ensures legs { IfOk result (λ t. t.legs.items ≡ map idle_leg settings.now.legs) }
     {
         Ok(Table {
             endpoints: absent_endpoints(alloc, settings.endpoints())?,

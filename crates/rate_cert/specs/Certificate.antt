@@ -25,7 +25,8 @@ abbrev pub HasNeighbours : List ℕ → Implied → Type 0
 HasNeighbours places i = Contains places i.a × Contains places i.b
 
 -- 1: The places are places of requests, none is named twice, and neighbours are kept.
-pub record HasPlaces (requests : List Request) (kept : List Kept) (implied : List Implied) : Type 0 where
+pub record HasPlaces (requests : List Request) (kept : List Kept)
+    (implied : List Implied) : Type 0 where
   pub named : IsChoice requests (named_places kept implied)
   pub neighbours : All (HasNeighbours (places_of kept)) implied
 
@@ -51,7 +52,8 @@ pub record Implies (a b r : Request) (i : Implied) : Type 0 where
 
 abbrev pub IsImplied : List Request → Implied → Type 0
 IsImplied requests i = (d : Request)
-    → Implies (slice_index_or requests i.a d) (slice_index_or requests i.b d) (slice_index_or requests i.place d) i
+    → Implies (slice_index_or requests i.a d) (slice_index_or requests i.b d)
+    (slice_index_or requests i.place d) i
 
 abbrev pub IsImpliedIfAt : List Request → ℕ → Implied → Type 0
 IsImpliedIfAt requests place i = i.place ≡ place → IsImplied requests i
@@ -70,7 +72,8 @@ abbrev pub IsNamed : List Kept → List Implied → ℕ → Type 0
 IsNamed kept implied place = Contains (named_places kept implied) place
 
 -- The certificate holds where all five conditions do.
-pub record MeetsConditions (requests : List Request) (kept : List Kept) (implied : List Implied) : Type 0 where
+pub record MeetsConditions (requests : List Request) (kept : List Kept)
+    (implied : List Implied) : Type 0 where
   pub places : HasPlaces requests kept implied
   pub forbidden : All (ForbidsItsPair requests) kept
   pub one_each : EachIndex requests (ForbidsOnePairAt requests kept)

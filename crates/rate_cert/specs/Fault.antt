@@ -36,5 +36,5 @@ FailsFirst requests kept implied (Missing place) =
     × EachIndex requests (IsImpliedAt requests implied)
     × FailsFirstAt requests (IsNamed kept implied) place
 
-abbrev pub IsFirstFault : List Request → Cert → CertFault → Type 0
-IsFirstFault requests cert fault = FailsFirst requests cert.kept.items cert.implied.items fault
+abbrev pub IsFirstCertFault : List Request → Cert → CertFault → Type 0
+IsFirstCertFault requests cert fault = FailsFirst requests cert.kept.items cert.implied.items fault

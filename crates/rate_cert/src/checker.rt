@@ -3,7 +3,7 @@
 ghost use Rattle.std.specs.Prelude.{◌≡◌, ◌≢◌, ◌<◌, ◌≤◌, ◌↔◌, length, IsTrue, IsOk, IfErr, OnOk, All, AllPairs, Contains, EachIndex, MatchOption};
 ghost use Rattle.rate_cert.specs.Choice.{IsChoice, IsSmallest};
 ghost use Rattle.rate_cert.specs.Certificate.{kept_places, HasNeighbours, IsInRange, IsImpliedIfAt, HasPlaces, ForbidsItsPair, ForbidsOnePair, ForbidsOnePairAt, Implies, IsImplied, IsImpliedAt, IsNamed, MeetsConditions, IsCertified, named_places, places_of};
-ghost use Rattle.rate_cert.specs.Fault.{FailsFirstAt, FailsFirst, IsFirstFault};
+ghost use Rattle.rate_cert.specs.Fault.{FailsFirstAt, FailsFirst, IsFirstCertFault};
 
 use crate::certificate::{Cert, Implied, Kept, MAX_REQUESTS};
 use crate::fault::CertFault;
@@ -21,7 +21,7 @@ const MAX_NAMED: usize = 2 * MAX_REQUESTS;
 /// and that no fewer of them do.
 pub fn check(requests: &[Request], cert: &Cert) -> Result<(), CertFault>
     ensures certified { IsOk result ↔ IsCertified requests.now cert.now }
-    ensures first_fault { IfErr result (IsFirstFault requests.now cert.now) }
+    ensures first_fault { IfErr result (IsFirstCertFault requests.now cert.now) }
     ensures choice { OnOk result (IsChoice requests.now (kept_places cert.now)) }
     ensures smallest { OnOk result (IsSmallest requests.now (kept_places cert.now)) }
 {

@@ -10,6 +10,8 @@ ghost use Rattle.rate_cert.specs.Certificate.{IsCertified, kept_places};
 /// Where a certificate holds, its kept places are a choice of requests, and a smallest one: each kept pair
 /// has to be forbidden by a member of any faithful choice, and no member forbids two of these.
 pub fn certified_is_smallest()
-    ensures choice { (requests : List RateRequest) (cert : Certificate) → IsCertified requests cert → IsChoice requests (kept_places cert) }
-    ensures smallest { (requests : List RateRequest) (cert : Certificate) → IsCertified requests cert → IsSmallest requests (kept_places cert) }
+    ensures choice { (requests : List RateRequest) (cert : Certificate) → IsCertified requests cert
+        → IsChoice requests (kept_places cert) }
+    ensures smallest { (requests : List RateRequest) (cert : Certificate)
+        → IsCertified requests cert → IsSmallest requests (kept_places cert) }
 {}

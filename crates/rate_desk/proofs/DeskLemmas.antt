@@ -18,9 +18,9 @@ use Rattle.rate_desk.specs.Call.{HasStay}
 use Rattle.rate_desk.specs.Trace.{IsBase, empty_base, base_with, base_after, present_with}
 use Rattle.rate_desk.specs.Presence.{live_requests}
 use Rattle.rate_desk.specs.Answer.{IsAnswerTo}
-use Rattle.rate_desk.specs.History.{IsLegalHistory, StandsFor, Follows, FirstFollows}
+use Rattle.rate_desk.specs.History.{IsLegalHistory, StandsForEntries, Follows, FirstFollows}
 use Rattle.rate_desk.specs.Standing.{Stand, IsStand}
-use Rattle.rate_desk.specs.State.{DeskState, HoldsLegalDesk, IsOverLimit, now_of, calls_of}
+use Rattle.rate_desk.specs.State.{DeskState, HoldsLegalDesk, IsOverLimit, now_of, call_count}
 use Rattle.rate_desk.specs.Held.{IsHeld}
 use Rattle.rate_desk.proofs.LiveLemmas.{live-rising}
 use Rattle.rate_desk.proofs.EffectLemmas.{announced_once}
@@ -39,11 +39,11 @@ nothing_first (x ∷ xs) none = absurd (let no : Some x ≡ None = none in cc)
 -- an entry behind fewer than are listed pushes none out
 pub stands-listed : (request_ms : ℕ) (base : Base) (items : List Entry) (e : Entry) (capacity : ℕ) → capacity ≡ HISTORY_LIMIT
     → cond (nat_lt (length items) capacity) None (slice_get (items ++ e ∷ []) 0) ≡ None
-    → StandsFor request_ms base (items ++ e ∷ []) base (keep_last capacity (items ++ e ∷ []))
+    → StandsForEntries request_ms base (items ++ e ∷ []) base (keep_last capacity (items ++ e ∷ []))
 stands-listed request_ms base items e capacity is none = step (nat_lt (length items) capacity) refl none
   where
     step : (b : Bool) → nat_lt (length items) capacity ≡ b → cond b None (slice_get (items ++ e ∷ []) 0) ≡ None
-        → StandsFor request_ms base (items ++ e ∷ []) base (keep_last capacity (items ++ e ∷ []))
+        → StandsForEntries request_ms base (items ++ e ∷ []) base (keep_last capacity (items ++ e ∷ []))
     step true less from =
         let few : length items < capacity = grind (arith, nat_tests, less) in
         let whole : keep_last capacity (items ++ e ∷ []) ≡ items ++ e ∷ [] =
@@ -58,7 +58,7 @@ stands-listed request_ms base items e capacity is none = step (nat_lt (length it
 
 first_out : (request_ms : ℕ) (base : Base) (entries : List Entry) (oldest : Entry) (capacity : ℕ) → capacity ≡ HISTORY_LIMIT
     → length entries ≡ capacity + 1 → slice_get entries 0 ≡ Some oldest
-    → StandsFor request_ms base entries (base_with request_ms base oldest) (keep_last capacity entries)
+    → StandsForEntries request_ms base entries (base_with request_ms base oldest) (keep_last capacity entries)
 first_out request_ms base [] oldest capacity is count first = absurd (omega (arith, count))
 first_out request_ms base (x ∷ rest) oldest capacity is count first =
     let same : x ≡ oldest = cc in
@@ -74,11 +74,11 @@ first_out request_ms base (x ∷ rest) oldest capacity is count first =
 pub stands-folded : (request_ms : ℕ) (base : Base) (items : List Entry) (e oldest : Entry) (capacity : ℕ) → capacity ≡ HISTORY_LIMIT
     → length items ≤ HISTORY_LIMIT
     → cond (nat_lt (length items) capacity) None (slice_get (items ++ e ∷ []) 0) ≡ Some oldest
-    → StandsFor request_ms base (items ++ e ∷ []) (base_with request_ms base oldest) (keep_last capacity (items ++ e ∷ []))
+    → StandsForEntries request_ms base (items ++ e ∷ []) (base_with request_ms base oldest) (keep_last capacity (items ++ e ∷ []))
 stands-folded request_ms base items e oldest capacity is listed some = step (nat_lt (length items) capacity) refl some
   where
     step : (b : Bool) → nat_lt (length items) capacity ≡ b → cond b None (slice_get (items ++ e ∷ []) 0) ≡ Some oldest
-        → StandsFor request_ms base (items ++ e ∷ []) (base_with request_ms base oldest) (keep_last capacity (items ++ e ∷ []))
+        → StandsForEntries request_ms base (items ++ e ∷ []) (base_with request_ms base oldest) (keep_last capacity (items ++ e ∷ []))
     step true less from = absurd (cc)
     step false more from =
         let full : capacity ≤ length items = grind (arith, nat_tests, more) in
@@ -101,15 +101,15 @@ first_follows gap request_ms base (e ∷ rest) legal stays first is =
 
 -- ---- a desk
 
-pub calls_of-now : (d : DeskState) → (now_of d).calls ≡ calls_of d
+pub calls_of-now : (d : DeskState) → (now_of d).calls ≡ call_count d
 calls_of-now d = calls-after d.request_ms d.base d.history
 
-pub whole_calls : (d : DeskState) (room : ℕ) (s : Stand) → IsHeld d room s → s.whole.calls ≡ calls_of d
+pub whole_calls : (d : DeskState) (room : ℕ) (s : Stand) → IsHeld d room s → s.whole.calls ≡ call_count d
 whole_calls d room s held = ap (λ (b : Base). b.calls) held.whole ∙ calls_of-now d
 
 pub room_for_call : (d : DeskState) (room : ℕ) (s : Stand) (call : Call) → IsHeld d room s → ¬ IsOverLimit d call → s.whole.calls < CALL_LIMIT
 room_for_call d room s call held fits =
-    elim (cases_lt CALL_LIMIT (calls_of d + 1 + length (present_with d.request_ms (now_of d) call))) [
+    elim (cases_lt CALL_LIMIT (call_count d + 1 + length (present_with d.request_ms (now_of d) call))) [
       | inl over ↦ absurd (fits over)
       | inr within ↦ omega (arith, within, whole_calls d room s held)
     ]
@@ -165,9 +165,9 @@ module _ (d : DeskState) (room : ℕ) (old new : Stand) (call : Call) (answer : 
   abbrev entry : Entry
   entry = record { call = call; answer = answer }
 
-  pub has_room : calls_of d + 1 + length (present_with d.request_ms (now_of d) call) ≤ CALL_LIMIT
+  pub has_room : call_count d + 1 + length (present_with d.request_ms (now_of d) call) ≤ CALL_LIMIT
   has_room =
-      elim (cases_lt CALL_LIMIT (calls_of d + 1 + length (present_with d.request_ms (now_of d) call))) [
+      elim (cases_lt CALL_LIMIT (call_count d + 1 + length (present_with d.request_ms (now_of d) call))) [
         | inl over ↦ absurd (fits over)
         | inr within ↦ within
       ]
@@ -186,7 +186,7 @@ module _ (d : DeskState) (room : ℕ) (old new : Stand) (call : Call) (answer : 
 
   -- what is held once the entry is listed
   pub held-recorded : (base : Base) (history : List Entry) (space : ℕ) → space ≡ HISTORY_LIMIT → new.whole ≡ base_with d.request_ms old.whole entry
-      → IsStand new.whole new.bounds → StandsFor d.request_ms d.base (d.history ++ entry ∷ []) base history → IsBase base
+      → IsStand new.whole new.bounds → StandsForEntries d.request_ms d.base (d.history ++ entry ∷ []) base history → IsBase base
       → IsHeld (record { gap = d.gap; request_ms = d.request_ms; base = base; history = history; bounds = new.bounds }) space new
   held-recorded base history space enough whole stand stands is =
       let state : DeskState = record { gap = d.gap; request_ms = d.request_ms; base = base; history = history; bounds = new.bounds } in
@@ -202,7 +202,7 @@ module _ (d : DeskState) (room : ℕ) (old new : Stand) (call : Call) (answer : 
       (subst (IsLegalHistory d.gap d.request_ms d.base) stands.in_turn legal_behind) in
       let present : length (now_of state).present.items ≡ length (present_with d.request_ms (now_of d) call) =
       ap (λ (b : Base). length b.present.items) is_now ∙ ap length (present-answered d.gap d.request_ms (now_of d) entry owed_now) in
-      let calls : (now_of state).calls ≡ calls_of d + 1 =
+      let calls : (now_of state).calls ≡ call_count d + 1 =
       ap (λ (b : Base). b.calls) is_now ∙ ap (λ n. n + 1) (calls_of-now d) in
       let rising : RowsRise new.bounds.rows =
       subst RowsRise (sym stand.live) (live-rising new.whole.present.items stand.base.rising) in

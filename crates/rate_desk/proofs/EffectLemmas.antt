@@ -32,7 +32,7 @@ use Rattle.bounding_set.specs.State.{State, AnnouncesSmallest, announced_of}
 use Rattle.bounding_set.specs.declared.rows.TheConstants.{LIVE_LIMIT}
 use Rattle.bounding_set.proofs.KeptLemmas.{same_place, requests_by_place}
 use Rattle.rate_desk.specs.declared.effect.Effect.{Effect}
-use Rattle.rate_desk.specs.Effect.{IsEffect, IsLifted, owners_of, numbers_of, is_same, is_member}
+use Rattle.rate_desk.specs.Effect.{IsEffect, IsLifted, owners_of, ssrcs_of, is_same, is_member}
 use Rattle.tmmbr_tuple.specs.Tuple.{word_of}
 
 -- ---- lists
@@ -101,7 +101,7 @@ pub gone_same : (former now : List Request) (i : ℕ) (r : Request) → i < leng
     → sources_of (gone (take (i + 1) former) now) ≡ sources_of (gone (take i former) now)
 gone_same former now i r below is present = gone_step former now i r false below is (ap not present) ∙ append-nil _
 
-numbers_of-sources : (requests : List Request) → numbers_of (sources_of requests) ≡ owners_of requests
+numbers_of-sources : (requests : List Request) → ssrcs_of (sources_of requests) ≡ owners_of requests
 numbers_of-sources [] = refl
 numbers_of-sources (r ∷ requests) = ap (λ owners. r.owner.0 ∷ owners) (numbers_of-sources requests)
 
@@ -149,23 +149,23 @@ gone_at (r ∷ former) now owner (suc place) none below is =
 -- the owners of what is gone, sorted
 pub IsLifted-sorted : (former now : List Request) (before after : List Ssrc) → AllPairs (λ x y. x.owner.0 ≢ y.owner.0) former
     → before ≡ sources_of (gone former now) → IsPermutation before after → IsNonDecreasingBy (λ s. s.0) after
-    → IsLifted former now (numbers_of after)
+    → IsLifted former now (ssrcs_of after)
 IsLifted-sorted former now before after once is moved up =
     let owners = owners_of (gone former now) in
-    let sorted : IsPermutation owners (numbers_of after) =
-    subst (λ ns. IsPermutation ns (numbers_of after)) (ap numbers_of is ∙ numbers_of-sources (gone former now))
+    let sorted : IsPermutation owners (ssrcs_of after) =
+    subst (λ ns. IsPermutation ns (ssrcs_of after)) (ap ssrcs_of is ∙ numbers_of-sources (gone former now))
     (IsPermutation-map (λ (s : Ssrc). s.0) before after moved) in
     let apart : AllPairs (λ x y. x ≢ y) owners =
     AllPairs-map (λ x y. x ≢ y) (λ (r : Request). r.owner.0) (gone former now)
     (AllPairs-filter (λ x y. x.owner.0 ≢ y.owner.0) (λ r. has_none now r.owner.0) former once) in
     record {
-      rising = rise (numbers_of after)
+      rising = rise (ssrcs_of after)
           (AllPairs-map (λ x y. x ≤ y) (λ (s : Ssrc). s.0) after (λ i j d earlier below. up i j d (omega arith) below))
-          (AllPairs-permutation owners (numbers_of after) sorted apart);
+          (AllPairs-permutation owners (ssrcs_of after) sorted apart);
       members = λ owner. (
-        λ has. gone_from former now owner (Contains-permutation (numbers_of after) owners owner (IsPermutation-sym owners (numbers_of after) sorted) has),
+        λ has. gone_from former now owner (Contains-permutation (ssrcs_of after) owners owner (IsPermutation-sym owners (ssrcs_of after) sorted) has),
         λ lifted. let at = lifted.0 in
-            Contains-permutation owners (numbers_of after) owner sorted
+            Contains-permutation owners (ssrcs_of after) owner sorted
             (gone_at former now owner at.0 (none_from_absent now owner lifted.1) at.1 at.2),
       );
     }
@@ -219,7 +219,7 @@ none_passes p (x ∷ xs) none =
 pub IsEffect-same : (now : List Request) (e : Effect) → e.set.items ≡ now → e.lifted.items ≡ [] → e.fresh.items ≡ [] → IsEffect now now e
 IsEffect-same now e set lifted fresh = record {
   announced = set;
-  lifted = subst (λ owners. IsLifted now now (numbers_of owners)) (sym lifted) (record {
+  lifted = subst (λ owners. IsLifted now now (ssrcs_of owners)) (sym lifted) (record {
     rising = λ i j d before below. absurd (omega (arith, below));
     members = λ owner. (λ has. absurd (omega (arith, has.1)), λ gone. absurd (gone.1 gone.0));
   });

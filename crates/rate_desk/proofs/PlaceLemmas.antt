@@ -6,32 +6,32 @@ use Rattle.rate_desk.specs.declared.call.Entry.{Entry}
 use Rattle.rate_desk.specs.declared.base.Base.{Base}
 use Rattle.rate_desk.specs.Call.{moment_after}
 use Rattle.rate_desk.specs.Trace.{base_with}
-use Rattle.rate_desk.specs.Places.{StandsAt, greatest_until}
+use Rattle.rate_desk.specs.Places.{HasEntryAt, greatest_until}
 
 -- ---- the first place and the others
 
-pub not_in_nil : (P : Entry → Type 0) (place : ℕ) → ¬ StandsAt P [] place
+pub not_in_nil : (P : Entry → Type 0) (place : ℕ) → ¬ HasEntryAt P [] place
 not_in_nil P place s = none-some s.entry s.there
 
-pub at_head : (P : Entry → Type 0) (e : Entry) (entries : List Entry) → P e → StandsAt P (e ∷ entries) 0
+pub at_head : (P : Entry → Type 0) (e : Entry) (entries : List Entry) → P e → HasEntryAt P (e ∷ entries) 0
 at_head P e entries is = record { entry = e; there = refl; is = is }
 
-pub head_is : (P : Entry → Type 0) (e : Entry) (entries : List Entry) → StandsAt P (e ∷ entries) 0 → P e
+pub head_is : (P : Entry → Type 0) (e : Entry) (entries : List Entry) → HasEntryAt P (e ∷ entries) 0 → P e
 head_is P e entries s = subst P (sym (same_Some e s.entry s.there)) s.is
 
-pub at_tail : (P : Entry → Type 0) (e : Entry) (entries : List Entry) (place : ℕ) → StandsAt P entries place → StandsAt P (e ∷ entries) (suc place)
+pub at_tail : (P : Entry → Type 0) (e : Entry) (entries : List Entry) (place : ℕ) → HasEntryAt P entries place → HasEntryAt P (e ∷ entries) (suc place)
 at_tail P e entries place s = record { entry = s.entry; there = s.there; is = s.is }
 
-pub from_tail : (P : Entry → Type 0) (e : Entry) (entries : List Entry) (place : ℕ) → StandsAt P (e ∷ entries) (suc place) → StandsAt P entries place
+pub from_tail : (P : Entry → Type 0) (e : Entry) (entries : List Entry) (place : ℕ) → HasEntryAt P (e ∷ entries) (suc place) → HasEntryAt P entries place
 from_tail P e entries place s = record { entry = s.entry; there = s.there; is = s.is }
 
-pub within : (P : Entry → Type 0) (entries : List Entry) (place : ℕ) → StandsAt P entries place → place < length entries
+pub within : (P : Entry → Type 0) (entries : List Entry) (place : ℕ) → HasEntryAt P entries place → place < length entries
 within P entries place s = slice_get_within entries place s.entry s.there
 
 -- ---- from a place on
 
 abbrev pub NoneFrom : (Entry → Type 0) → List Entry → ℕ → Type 0
-NoneFrom P entries from = (place : ℕ) → from ≤ place → ¬ StandsAt P entries place
+NoneFrom P entries from = (place : ℕ) → from ≤ place → ¬ HasEntryAt P entries place
 
 pub none_later : (P : Entry → Type 0) (e : Entry) (entries : List Entry) (from : ℕ) → NoneFrom P entries from → NoneFrom P (e ∷ entries) (suc from)
 none_later P e entries from none zero after s = absurd (omega arith)
@@ -55,10 +55,10 @@ slice_get-take (suc n) [] place below = refl
 slice_get-take (suc n) (e ∷ entries) zero below = refl
 slice_get-take (suc n) (e ∷ entries) (suc place) below = slice_get-take n entries place (omega arith)
 
-pub to_part : (P : Entry → Type 0) (n : ℕ) (entries : List Entry) (place : ℕ) → place < n → StandsAt P entries place → StandsAt P (take n entries) place
+pub to_part : (P : Entry → Type 0) (n : ℕ) (entries : List Entry) (place : ℕ) → place < n → HasEntryAt P entries place → HasEntryAt P (take n entries) place
 to_part P n entries place below s = record { entry = s.entry; there = slice_get-take n entries place below ∙ s.there; is = s.is }
 
-pub to_whole : (P : Entry → Type 0) (n : ℕ) (entries : List Entry) (place : ℕ) → place < n → StandsAt P (take n entries) place → StandsAt P entries place
+pub to_whole : (P : Entry → Type 0) (n : ℕ) (entries : List Entry) (place : ℕ) → place < n → HasEntryAt P (take n entries) place → HasEntryAt P entries place
 to_whole P n entries place below s = record { entry = s.entry; there = sym (slice_get-take n entries place below) ∙ s.there; is = s.is }
 
 -- ---- the greatest moment

@@ -20,7 +20,7 @@ use Rattle.rate_desk.specs.declared.call.Call.TheVariants.{Stay, Time}
 use Rattle.rate_desk.specs.declared.call.Change.TheVariants.{Arrive, Request as Ask, Depart}
 use Rattle.rate_desk.specs.declared.call.Signal.TheVariants.{Pli, Tick, Expire}
 use Rattle.rate_desk.specs.Call.{HasStay}
-use Rattle.rate_desk.specs.Presence.{HasRisingOwners, HasStays, IsPlaceOf, IsGapFor, presence_of, present_by, refusal_of, stay_in, with_presence, without_owner, without_old, unless_old, is_old, unless_absent_with_room, unless_present_with}
+use Rattle.rate_desk.specs.Presence.{HasRisingOwners, HasStays, IsOwnerPlace, IsGapFor, presence_of, present_by, refusal_of, stay_in, with_presence, without_owner, without_old, unless_old, is_old, unless_absent_with_room, unless_present_with}
 use Rattle.rate_desk.specs.Standing.{count_by, IsDepart}
 
 -- those present have greater owners than this one
@@ -41,7 +41,7 @@ below_tail owner p present is = λ k d below. is (suc k) d (omega arith)
 pub below_lesser : (owner lesser : ℕ) (present : List Present) → lesser < owner → IsBelow owner present → IsBelow lesser present
 below_lesser owner lesser present lt is = λ k d below. omega (arith, is k d below)
 
-place_tail : (p : Present) (present : List Present) (owner place : ℕ) → IsPlaceOf (p ∷ present) owner (suc place) → IsPlaceOf present owner place
+place_tail : (p : Present) (present : List Present) (owner place : ℕ) → IsOwnerPlace (p ∷ present) owner (suc place) → IsOwnerPlace present owner place
 place_tail p present owner place is = record { in_range = omega (arith, is.in_range); is_owner = λ d. is.is_owner d }
 
 gap_tail : (p : Present) (present : List Present) (owner place : ℕ) → IsGapFor (p ∷ present) owner (suc place) → IsGapFor present owner place
@@ -52,7 +52,7 @@ gap_tail p present owner place gap = record {
 }
 
 -- the owner at a later place is greater than the first
-place_above : (p : Present) (present : List Present) (owner place : ℕ) → HasRisingOwners (p ∷ present) → IsPlaceOf (p ∷ present) owner (suc place)
+place_above : (p : Present) (present : List Present) (owner place : ℕ) → HasRisingOwners (p ∷ present) → IsOwnerPlace (p ∷ present) owner (suc place)
     → p.owner.0 < owner
 place_above p present owner place rising is = omega (arith, rising zero (suc place) p (omega arith) is.in_range, is.is_owner p)
 
@@ -63,7 +63,7 @@ presence_of-below [] owner is = refl
 presence_of-below (p ∷ present) owner is =
     grind (arith, nat_tests, is zero p (omega arith), presence_of-below present owner (below_tail owner p present is))
 
-pub presence_of-place : (present : List Present) (owner place : ℕ) (d : Present) → HasRisingOwners present → IsPlaceOf present owner place
+pub presence_of-place : (present : List Present) (owner place : ℕ) (d : Present) → HasRisingOwners present → IsOwnerPlace present owner place
     → presence_of present owner ≡ Some (get_or present place d)
 presence_of-place [] owner place d rising is = absurd (omega (arith, is.in_range))
 presence_of-place (p ∷ present) owner zero d rising is = grind (arith, nat_tests, is.is_owner p)
@@ -91,7 +91,7 @@ presence_of-gap (p ∷ present) owner (suc place) gap =
 -- what a binary search by owner answers
 pub searched : (present : List Present) (owner : ℕ) (r : Result ℕ ℕ) → HasRisingOwners present → IsSearchInRange r (length present)
     → IsBinarySearchResult (λ p. nat_cmp p.owner.0 owner) present r
-    → record { found : IfOk r (IsPlaceOf present owner); absent : IfErr r (IsGapFor present owner) }
+    → record { found : IfOk r (IsOwnerPlace present owner); absent : IfErr r (IsGapFor present owner) }
 searched present owner (Ok at) rising in_range equal = record {
   found = record { in_range = in_range; is_owner = λ d. ranked _ owner _ (sym (equal d)) };
   absent = tt;
@@ -116,7 +116,7 @@ searched present owner (Err at) rising in_range parted =
 -- ---- edits
 
 -- a write over what was known of the owner
-pub set_is : (present : List Present) (place : ℕ) (new : Present) → HasRisingOwners present → IsPlaceOf present new.owner.0 place
+pub set_is : (present : List Present) (place : ℕ) (new : Present) → HasRisingOwners present → IsOwnerPlace present new.owner.0 place
     → set present place new ≡ with_presence present new
 set_is [] place new rising is = absurd (omega (arith, is.in_range))
 set_is (p ∷ present) zero new rising is = grind (arith, nat_tests, is.is_owner p)
@@ -162,7 +162,7 @@ without_owner-absent (p ∷ present) owner none =
     ]
 
 -- taking the one at its place out
-pub remove_is : (present : List Present) (place owner : ℕ) → HasRisingOwners present → IsPlaceOf present owner place
+pub remove_is : (present : List Present) (place owner : ℕ) → HasRisingOwners present → IsOwnerPlace present owner place
     → remove present place ≡ without_owner present owner
 remove_is [] place owner rising is = absurd (omega (arith, is.in_range))
 remove_is (p ∷ present) zero owner rising is =

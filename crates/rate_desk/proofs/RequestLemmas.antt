@@ -14,7 +14,7 @@ use Rattle.rate_desk.specs.Call.{HasStay, moment_after, is_done}
 use Rattle.rate_desk.specs.Presence.{presence_of, stay_in, asked_in}
 use Rattle.rate_desk.specs.Trace.{IsBase, base_with, base_after, live_after}
 use Rattle.rate_desk.specs.History.{IsLegalHistory}
-use Rattle.rate_desk.specs.Places.{StandsAt, WasDone, IsArriveOf, IsRequestOf, IsDepartOf, IsExpire, IsPresentFrom, greatest_until, TakesAt, IsLastRequestFrom, IsRequestOfBase, IsLiveFrom}
+use Rattle.rate_desk.specs.Places.{HasEntryAt, WasDone, IsArriveOf, IsRequestOf, IsDepartOf, IsExpire, IsPresentFrom, greatest_until, TakesAt, IsLastRequestFrom, IsRequestOfBase, IsLiveFrom}
 use Rattle.rate_desk.proofs.PresenceLemmas.{absent_without_stay}
 use Rattle.rate_desk.proofs.LiveLemmas.{tuple_in, asked_by, tuple_of-live}
 use Rattle.rate_desk.proofs.TraceLemmas.{IsBase-with, answer_follows, legal-first, legal-rest}
@@ -78,8 +78,8 @@ module _ (request_ms : ℕ) (base : Base) (e : Entry) (entries : List Entry) (ow
     old = subst (λ m. stamp + request_ms ≤ m) (sym (greatest-tail request_ms base e entries place)) takes.old;
   }
 
-  last_on : (from asked : ℕ) → from ≤ asked → StandsAt (Asked_for t) (e ∷ entries) asked
-      → ((later : ℕ) (other : Tuple) → asked < later → ¬ StandsAt (Asked_for other) (e ∷ entries) later)
+  last_on : (from asked : ℕ) → from ≤ asked → HasEntryAt (Asked_for t) (e ∷ entries) asked
+      → ((later : ℕ) (other : Tuple) → asked < later → ¬ HasEntryAt (Asked_for other) (e ∷ entries) later)
       → ((later : ℕ) → asked < later → ¬ TakesAt request_ms base (e ∷ entries) (greatest_until base (e ∷ entries) asked) later)
       → IsLiveFrom request_ms behind entries owner (less_one from) t
   last_on from zero counts request last untaken = inr (
@@ -143,7 +143,7 @@ module _ (request_ms : ℕ) (base : Base) (e : Entry) (entries : List Entry) (ow
     untaken = untaken;
   }
     where
-      last : (later : ℕ) (other : Tuple) → suc l.asked < later → ¬ StandsAt (Asked_for other) (e ∷ entries) later
+      last : (later : ℕ) (other : Tuple) → suc l.asked < later → ¬ HasEntryAt (Asked_for other) (e ∷ entries) later
       last zero other after s = absurd (omega arith)
       last (suc later) other after s = l.last later other (omega arith) (from_tail (Asked_for other) e entries later s)
 
@@ -166,7 +166,7 @@ module _ (request_ms : ℕ) (base : Base) (e : Entry) (entries : List Entry) (ow
     untaken = untaken;
   }
     where
-      last : (later : ℕ) (other : Tuple) → 0 < later → ¬ StandsAt (Asked_for other) (e ∷ entries) later
+      last : (later : ℕ) (other : Tuple) → 0 < later → ¬ HasEntryAt (Asked_for other) (e ∷ entries) later
       last zero other after s = absurd (omega arith)
       last (suc later) other after s = r.last later other (from_tail (Asked_for other) e entries later s)
 
@@ -202,7 +202,7 @@ module _ (request_ms : ℕ) (base : Base) (e : Entry) (entries : List Entry) (ow
         | inl at ↦ absurd (omega (arith, at.0))
         | inr at ↦
             let first : at.0 ≡ 0 = omega (arith, none, at.1) in
-            let came : Came e = head_is Came e entries (subst (λ place. StandsAt Came (e ∷ entries) place) first at.2) in
+            let came : Came e = head_is Came e entries (subst (λ place. HasEntryAt Came (e ∷ entries) place) first at.2) in
             let quiet = arrived request_ms shown owner was_known is_known (is_done e.answer) e.call stay came step in
             absurd (none-some (record { tuple = t; stamp = r.stamp }) (sym quiet.1 ∙ r.there))
       ]

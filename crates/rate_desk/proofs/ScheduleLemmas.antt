@@ -14,7 +14,7 @@ use Rattle.rate_desk.specs.Presence.{refusal_of}
 use Rattle.rate_desk.specs.Trace.{base_with, is_due, goes_up}
 use Rattle.rate_desk.specs.Answer.{IsAnswerOr, IsAnswerTo}
 use Rattle.rate_desk.specs.History.{IsLegalHistory}
-use Rattle.rate_desk.specs.Places.{StandsAt, greatest_until}
+use Rattle.rate_desk.specs.Places.{HasEntryAt, greatest_until}
 use Rattle.rate_desk.specs.Schedule.{WentUpAt, IsAt, IsGreatestUntil, IsUnanswered, NoneUpBefore, IsWantedSinceBase, IsLastUpBefore, IsDueAt, IsPliSchedule}
 use Rattle.rate_desk.proofs.TraceLemmas.{refusal-not_done, legal-first, legal-rest}
 use Rattle.rate_desk.proofs.PlaceLemmas.{not_in_nil, at_head, head_is, at_tail, from_tail, within, to_part, to_whole, greatest_from, greatest-tail}
@@ -293,7 +293,7 @@ least_below : (least : ℕ) (entries : List Entry) → least ≤ greatest_from l
 least_below least [] = omega arith
 least_below least (e ∷ entries) = omega (arith, moment_least least e.call, least_below (moment_after least e.call) entries)
 
-shown_below : (least : ℕ) (entries : List Entry) (place shown : ℕ) → StandsAt (λ e. IsAt shown e.call) entries place → shown ≤ greatest_from least entries
+shown_below : (least : ℕ) (entries : List Entry) (place shown : ℕ) → HasEntryAt (λ e. IsAt shown e.call) entries place → shown ≤ greatest_from least entries
 shown_below least [] place shown s = absurd (not_in_nil (λ e. IsAt shown e.call) place s)
 shown_below least (e ∷ entries) zero shown s =
     omega (
@@ -305,7 +305,7 @@ shown_below least (e ∷ entries) (suc place) shown s =
     shown_below (moment_after least e.call) entries place shown (from_tail (λ x. IsAt shown x.call) e entries place s)
 
 abbrev Reaches : List Entry → ℕ → Type 0
-Reaches entries m = (place : ℕ) × StandsAt (λ e. IsAt m e.call) entries place
+Reaches entries m = (place : ℕ) × HasEntryAt (λ e. IsAt m e.call) entries place
 
 reached : (least : ℕ) (entries : List Entry) → (greatest_from least entries ≡ least) ⊎ Reaches entries (greatest_from least entries)
 reached least [] = inl refl
@@ -335,7 +335,7 @@ greatest_law base entries place = record {
   where
     step : (greatest_until base entries place ≡ base.greatest) ⊎ Reaches (take (place + 1) entries) (greatest_until base entries place)
         → (greatest_until base entries place ≡ base.greatest)
-        ⊎ ((earlier : ℕ) × (earlier ≤ place) × StandsAt (λ e. IsAt (greatest_until base entries place) e.call) entries earlier)
+        ⊎ ((earlier : ℕ) × (earlier ≤ place) × HasEntryAt (λ e. IsAt (greatest_until base entries place) e.call) entries earlier)
     step (inl same) = inl same
     step (inr found) =
         let inside : found.0 < place + 1 = omega (

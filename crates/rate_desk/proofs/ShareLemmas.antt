@@ -14,7 +14,7 @@ use Rattle.rate_desk.specs.declared.call.Change.TheVariants.{Arrive, Request as 
 use Rattle.rate_desk.specs.declared.call.Entry.{Entry}
 use Rattle.rate_desk.specs.Call.{requested_word}
 use Rattle.rate_desk.specs.Trace.{words_of}
-use Rattle.rate_desk.specs.State.{DeskState, HoldsLegalDesk, Records, calls_of}
+use Rattle.rate_desk.specs.State.{DeskState, HoldsLegalDesk, Records, call_count}
 use Rattle.rate_desk.proofs.TraceLemmas.{calls-after}
 
 word_of-small : (t : Tuple) → word_of t ≤ 2 ^ 32
@@ -33,7 +33,7 @@ words_within (e ∷ es) = omega (arith, sum_by-cons (λ (x : Entry). requested_w
 
 -- a desk that recorded a call has one call more
 pub one_more : (former : DeskState) (call : Call) (number : ℕ) (answer : Answer) (desk : DeskState)
-    → Records former call number answer desk → calls_of desk ≡ calls_of former + 1
+    → Records former call number answer desk → call_count desk ≡ call_count former + 1
 one_more former call number answer desk r =
     let e : Entry = record { call = call; answer = answer } in
     omega (
@@ -46,7 +46,7 @@ one_more former call number answer desk r =
     )
 
 -- a legal desk has fewer calls, and fewer words, than a count can show
-pub few_calls : (d : DeskState) → HoldsLegalDesk d → calls_of d < 2 ^ 64 - 1
+pub few_calls : (d : DeskState) → HoldsLegalDesk d → call_count d < 2 ^ 64 - 1
 few_calls d legal = let low : CALL_LIMIT < 2 ^ 64 - 1 = lit< tt in omega (arith, legal.within, low)
 
 pub few_words : (d : DeskState) → HoldsLegalDesk d → d.base.words + words_of d.history < 2 ^ 128 - 1

@@ -20,7 +20,7 @@ use Rattle.rate_desk.specs.Call.{moment_after, is_done}
 use Rattle.rate_desk.specs.Presence.{presence_of, stay_in, asked_in, with_presence, without_owner, without_old, unless_old, is_old, present_changed, present_by, refusal_in, refusal_of, unless_absent_with_room}
 use Rattle.rate_desk.specs.Trace.{base_with, base_after, present_behind}
 use Rattle.rate_desk.specs.History.{IsLegalHistory}
-use Rattle.rate_desk.specs.Places.{StandsAt, WasDone, IsArriveOf, IsRequestOf, IsDepartOf, IsExpire, IsPresentFrom, IsPresent}
+use Rattle.rate_desk.specs.Places.{HasEntryAt, WasDone, IsArriveOf, IsRequestOf, IsDepartOf, IsExpire, IsPresentFrom, IsPresent}
 use Rattle.rate_desk.proofs.PresenceLemmas.{presence_of-with, presence_of-with_other, presence_of-without, presence_of-without_other, stay_in-named}
 use Rattle.rate_desk.proofs.TraceLemmas.{done_accepted, legal-first, legal-rest}
 use Rattle.rate_desk.proofs.PlaceLemmas.{not_in_nil, at_head, head_is, at_tail, from_tail, none_later, none_cons, none_tail, none_rest}
@@ -304,8 +304,8 @@ module _ (request_ms : ℕ) (base : Base) (e : Entry) (entries : List Entry) (ow
   abbrev Came : Entry → Type 0
   Came = WasDone (IsArriveOf owner stay)
 
-  came_at : (from place : ℕ) → suc from ≡ place + 1 → StandsAt Came (e ∷ entries) place
-      → ((from ≡ 0) × (is_known.stay ≡ stay)) ⊎ ((a : ℕ) × (from ≡ a + 1) × StandsAt Came entries a)
+  came_at : (from place : ℕ) → suc from ≡ place + 1 → HasEntryAt Came (e ∷ entries) place
+      → ((from ≡ 0) × (is_known.stay ≡ stay)) ⊎ ((a : ℕ) × (from ≡ a + 1) × HasEntryAt Came entries a)
   came_at from zero eq s =
       inl (omega arith, (arrived request_ms shown owner was_known is_known (is_done e.answer) e.call stay (head_is Came e entries s) step).0)
   came_at from (suc place) eq s = inr (place, omega arith, from_tail Came e entries place s)
@@ -313,8 +313,8 @@ module _ (request_ms : ℕ) (base : Base) (e : Entry) (entries : List Entry) (ow
   pub present_on : (from : ℕ) → IsPresentFrom base (e ∷ entries) owner stay from → IsPresentFrom (base_with request_ms base e) entries owner stay (less_one from)
   present_on zero p = record { began = began p.began; stayed = none_rest Departed e entries p.stayed }
     where
-      began : ((zero ≡ zero) × (was_known.stay ≡ stay)) ⊎ ((a : ℕ) × (zero ≡ a + 1) × StandsAt Came (e ∷ entries) a)
-          → ((zero ≡ zero) × (is_known.stay ≡ stay)) ⊎ ((a : ℕ) × (zero ≡ a + 1) × StandsAt Came entries a)
+      began : ((zero ≡ zero) × (was_known.stay ≡ stay)) ⊎ ((a : ℕ) × (zero ≡ a + 1) × HasEntryAt Came (e ∷ entries) a)
+          → ((zero ≡ zero) × (is_known.stay ≡ stay)) ⊎ ((a : ℕ) × (zero ≡ a + 1) × HasEntryAt Came entries a)
       began (inl at) = inl (
         refl,
         stay_on request_ms shown owner was_known is_known (is_done e.answer) e.call stay least at.1
@@ -323,8 +323,8 @@ module _ (request_ms : ℕ) (base : Base) (e : Entry) (entries : List Entry) (ow
       began (inr at) = absurd (omega (arith, at.1))
   present_on (suc from) p = record { began = began p.began; stayed = none_tail Departed e entries from p.stayed }
     where
-      began : ((suc from ≡ 0) × (was_known.stay ≡ stay)) ⊎ ((a : ℕ) × (suc from ≡ a + 1) × StandsAt Came (e ∷ entries) a)
-          → ((from ≡ 0) × (is_known.stay ≡ stay)) ⊎ ((a : ℕ) × (from ≡ a + 1) × StandsAt Came entries a)
+      began : ((suc from ≡ 0) × (was_known.stay ≡ stay)) ⊎ ((a : ℕ) × (suc from ≡ a + 1) × HasEntryAt Came (e ∷ entries) a)
+          → ((from ≡ 0) × (is_known.stay ≡ stay)) ⊎ ((a : ℕ) × (from ≡ a + 1) × HasEntryAt Came entries a)
       began (inl at) = absurd (omega (arith, at.0))
       began (inr at) = came_at from at.0 at.1 at.2
 
@@ -347,7 +347,7 @@ module _ (request_ms : ℕ) (base : Base) (e : Entry) (entries : List Entry) (ow
         },
       )
 
-      began : ((from ≡ 0) × (is_known.stay ≡ stay)) ⊎ ((a : ℕ) × (from ≡ a + 1) × StandsAt Came entries a) → IsPresent base (e ∷ entries) owner stay
+      began : ((from ≡ 0) × (is_known.stay ≡ stay)) ⊎ ((a : ℕ) × (from ≡ a + 1) × HasEntryAt Came entries a) → IsPresent base (e ∷ entries) owner stay
       began (inl at) = here at.0 (stay_back request_ms shown owner was_known is_known (is_done e.answer) e.call stay least at.1 step)
       began (inr at) = (
         suc from,

@@ -9,7 +9,8 @@ use Rattle.rate_desk.specs.Trace.{goes_up, present_behind}
 use Rattle.rate_desk.specs.Kept.{KeepsRows}
 
 -- done: whether a PLI is sent upstream, and which of the live requests after the call are announced
-pub record IsDone (gap request_ms : ℕ) (before : Base) (call : Call) (answer : Answer) : Type 0 where
+pub record IsDone (gap request_ms : ℕ) (before : Base) (call : Call)
+    (answer : Answer) : Type 0 where
   pub kept : List ℕ
   pub is : answer ≡ Done (goes_up gap before call) kept
   pub keeps : KeepsRows (live_requests (present_behind request_ms before call)) kept

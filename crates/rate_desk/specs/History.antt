@@ -17,7 +17,8 @@ IsLegalHistory gap request_ms base entries =
 
 -- A base and a history stand for these entries behind a former base: the last of them are listed, as many as may be, and those
 -- that left are folded into the base.
-pub record StandsFor (request_ms : ℕ) (former : Base) (entries : List Entry) (base : Base) (history : List Entry) : Type 0 where
+pub record StandsForEntries (request_ms : ℕ) (former : Base) (entries : List Entry) (base : Base)
+    (history : List Entry) : Type 0 where
   pub folded : List Entry
   pub in_turn : entries ≡ folded ++ history
   pub listed : length history ≡ min HISTORY_LIMIT (length entries)

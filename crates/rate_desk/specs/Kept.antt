@@ -12,5 +12,6 @@ IsMarked words row = bit_at (slice_index_or words (row / WORD_BITS) 0) (row % WO
 
 -- a row's bit says that it is announced, and no bit behind the rows is set
 pub record KeepsRows (rows : List Request) (kept : List ℕ) : Type 0 where
-  pub announced : (row : ℕ) → row < length rows → (IsMarked kept row ↔ HoldsAt (IsAnnounced rows) rows row)
+  pub announced : (row : ℕ) → row < length rows
+      → (IsMarked kept row ↔ HoldsAt (IsAnnounced rows) rows row)
   pub no_more : (row : ℕ) → length rows ≤ row → ¬ IsMarked kept row

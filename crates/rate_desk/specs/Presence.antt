@@ -63,19 +63,27 @@ is_old request_ms now stamp = nat_lt 0 request_ms && nat_le (stamp + request_ms)
 
 abbrev pub unless_old : ℕ → ℕ → Option Asked → Option Asked
 unless_old request_ms now None = None
-unless_old request_ms now (Some asked) = if is_old request_ms now asked.stamp then None else Some asked
+unless_old request_ms now (Some asked) =
+    if is_old request_ms now asked.stamp then None else Some asked
 
 -- the owner stays, and asks for nothing any more where its request is too old
 abbrev pub without_old : ℕ → ℕ → Present → Present
-without_old request_ms now p = record { owner = p.owner; stay = p.stay; asked = unless_old request_ms now p.asked }
+without_old request_ms now p =
+    record { owner = p.owner; stay = p.stay; asked = unless_old request_ms now p.asked }
 
 -- ---- what a call makes of it
 
 -- an arrive begins a stay without a request, a request is the last one of its stay, a depart ends a stay
 abbrev pub present_changed : ℕ → List Present → Ssrc → ℕ → Change → List Present
-present_changed now present owner stay Arrive = with_presence present (record { owner = owner; stay = stay; asked = None })
+present_changed now present owner stay Arrive =
+    with_presence present (record { owner = owner; stay = stay; asked = None })
 present_changed now present owner stay (Ask tuple) =
-    with_presence present (record { owner = owner; stay = stay; asked = Some (record { tuple = tuple; stamp = now }) })
+    with_presence present
+    (record {
+      owner = owner;
+      stay = stay;
+      asked = Some (record { tuple = tuple; stamp = now });
+    })
 present_changed now present owner stay Depart = without_owner present owner.0
 
 -- requests age
@@ -86,14 +94,17 @@ present_signalled request_ms now present Expire = map (without_old request_ms no
 
 -- who is present once the call was done, the greatest moment so far being `now`
 abbrev pub present_by : ℕ → ℕ → List Present → Call → List Present
-present_by request_ms now present (Stay owner stay change) = present_changed now present owner stay change
-present_by request_ms now present (Time moment signal) = present_signalled request_ms now present signal
+present_by request_ms now present (Stay owner stay change) =
+    present_changed now present owner stay change
+present_by request_ms now present (Time moment signal) =
+    present_signalled request_ms now present signal
 
 -- ---- refusals
 
 -- the owner has to be present with the stay that the call names
 abbrev pub unless_present_with : List Present → ℕ → ℕ → Option Answer
-unless_present_with present owner stay = if stay_in present owner == stay then None else Some (NotPresent (stay_in present owner))
+unless_present_with present owner stay =
+    if stay_in present owner == stay then None else Some (NotPresent (stay_in present owner))
 
 -- who arrives is absent yet, and there is room
 abbrev pub unless_absent_with_room : List Present → ℕ → Option Answer
@@ -115,7 +126,7 @@ refusal_of present (Time moment signal) = None
 -- ---- places
 
 -- the owner is at this place
-pub record IsPlaceOf (present : List Present) (owner place : ℕ) : Type 0 where
+pub record IsOwnerPlace (present : List Present) (owner place : ℕ) : Type 0 where
   pub in_range : place < length present
   pub is_owner : HoldsAt (λ p. p.owner.0 ≡ owner) present place
 

@@ -5,11 +5,11 @@ use Rattle.rate_desk.specs.declared.call.Call.TheVariants.{Stay, Time}
 use Rattle.rate_desk.specs.declared.call.Entry.{Entry}
 use Rattle.rate_desk.specs.declared.base.Base.{Base}
 use Rattle.rate_desk.specs.Call.{can_send, wishes, went_up}
-use Rattle.rate_desk.specs.Places.{StandsAt, greatest_until}
+use Rattle.rate_desk.specs.Places.{HasEntryAt, greatest_until}
 
 -- a PLI was sent upstream at this place
 abbrev pub WentUpAt : List Entry → ℕ → Type 0
-WentUpAt entries place = StandsAt (λ e. went_up e ≡ true) entries place
+WentUpAt entries place = HasEntryAt (λ e. went_up e ≡ true) entries place
 
 -- the call shows this moment
 abbrev pub IsAt : ℕ → Call → Type 0
@@ -19,13 +19,15 @@ IsAt moment (Time shown signal) = shown ≡ moment
 -- it is the greatest moment up to this place, that of the base included
 pub record IsGreatestUntil (base : Base) (entries : List Entry) (place moment : ℕ) : Type 0 where
   pub base_bound : base.greatest ≤ moment
-  pub bound : (earlier shown : ℕ) → earlier ≤ place → StandsAt (λ e. IsAt shown e.call) entries earlier → shown ≤ moment
-  pub reached : (moment ≡ base.greatest) ⊎ ((earlier : ℕ) × (earlier ≤ place) × StandsAt (λ e. IsAt moment e.call) entries earlier)
+  pub bound : (earlier shown : ℕ) → earlier ≤ place
+      → HasEntryAt (λ e. IsAt shown e.call) entries earlier → shown ≤ moment
+  pub reached : (moment ≡ base.greatest)
+      ⊎ ((earlier : ℕ) × (earlier ≤ place) × HasEntryAt (λ e. IsAt moment e.call) entries earlier)
 
 -- a wish for a picture at this place or before it, with no PLI sent upstream since
 pub record IsUnanswered (entries : List Entry) (place wish : ℕ) : Type 0 where
   pub not_after : wish ≤ place
-  pub wished : StandsAt (λ e. wishes e.call ≡ true) entries wish
+  pub wished : HasEntryAt (λ e. wishes e.call ≡ true) entries wish
   pub unanswered : (between : ℕ) → wish ≤ between → between < place → ¬ WentUpAt entries between
 
 -- no PLI was sent upstream at any place before this one
@@ -45,15 +47,17 @@ pub record IsLastUpBefore (entries : List Entry) (place last : ℕ) : Type 0 whe
 -- A PLI is due at this place: it is a `pli` or a `tick`, a picture is wanted, and the last PLI, which may be one of the base, was sent
 -- upstream at least the gap ago.
 pub record IsDueAt (gap : ℕ) (base : Base) (entries : List Entry) (place : ℕ) : Type 0 where
-  pub can_send : StandsAt (λ e. can_send e.call ≡ true) entries place
+  pub can_send : HasEntryAt (λ e. can_send e.call ≡ true) entries place
   pub wanted : ((wish : ℕ) × IsUnanswered entries place wish) ⊎ IsWantedSinceBase base entries place
   pub gapped : (last : ℕ) → IsLastUpBefore entries place last
       → greatest_until base entries last + gap ≤ greatest_until base entries place
-  pub gapped_since_base : NoneUpBefore entries place → IfSome base.last_up (λ up. up + gap ≤ greatest_until base entries place)
+  pub gapped_since_base : NoneUpBefore entries place
+      → IfSome base.last_up (λ up. up + gap ≤ greatest_until base entries place)
 
 -- PLIs are sent upstream just where they are due
 abbrev pub IsPliSchedule : ℕ → Base → List Entry → Type 0
-IsPliSchedule gap base entries = (place : ℕ) → place < length entries → WentUpAt entries place ↔ IsDueAt gap base entries place
+IsPliSchedule gap base entries = (place : ℕ) → place < length entries
+    → WentUpAt entries place ↔ IsDueAt gap base entries place
 
 -- the calls, without their answers
 abbrev pub calls_in : List Entry → List Call

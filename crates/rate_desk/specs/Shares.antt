@@ -8,7 +8,7 @@ use Rattle.rate_desk.specs.declared.receipt.HouseFault.{HouseFault}
 use Rattle.rate_desk.specs.declared.receipt.HouseFault.TheVariants.{HistoryFull, Behind}
 use Rattle.rate_desk.specs.Call.{requested_word}
 use Rattle.rate_desk.specs.Effect.{IsEffect}
-use Rattle.rate_desk.specs.State.{DeskState, HoldsLegalDesk, IsOverLimit, Records, calls_of}
+use Rattle.rate_desk.specs.State.{DeskState, HoldsLegalDesk, IsOverLimit, Records, call_count}
 
 -- the recorded calls to each publisher, the sums of the words that they requested, and the calls that the share stands for
 pub record SeatState : Type 0 where
@@ -26,11 +26,13 @@ words_to p seat = get_or seat.words p 0
 
 -- a seat that made no calls yet, beside so many publishers
 abbrev pub new_seat : ℕ → SeatState
-new_seat publishers = record { calls = replicate publishers 0; words = replicate publishers 0; share = 0 }
+new_seat publishers =
+    record { calls = replicate publishers 0; words = replicate publishers 0; share = 0 }
 
 -- no word is more than 32 bits
 abbrev pub HasSmallWords : List ℕ → List ℕ → Type 0
-HasSmallWords calls words = (p : ℕ) → p < length calls → get_or words p 0 ≤ get_or calls p 0 * 2 ^ 32
+HasSmallWords calls words = (p : ℕ) → p < length calls
+    → get_or words p 0 ≤ get_or calls p 0 * 2 ^ 32
 
 -- one call to this publisher more, and no other
 pub record Counts (p : ℕ) (call : Call) (old new : SeatState) : Type 0 where
@@ -53,7 +55,8 @@ pub record IsDeskOf (gap request_ms : ℕ) (desk : DeskState) : Type 0 where
   pub age : desk.request_ms ≡ request_ms
 
 -- a desk of the house recorded the receipt's call, and became another
-pub record Recorded (gap request_ms : ℕ) (receipt : Receipt) (former desk : DeskState) : Type 0 where
+pub record Recorded (gap request_ms : ℕ) (receipt : Receipt)
+    (former desk : DeskState) : Type 0 where
   pub was : IsDeskOf gap request_ms former
   pub is : IsDeskOf gap request_ms desk
   pub records : Records former receipt.call receipt.number receipt.answer desk
@@ -74,11 +77,12 @@ pub record IsPulsed (gap request_ms : ℕ) (receipt : Receipt) : Type 0 where
 
 -- The desk has fewer calls than the seat made to it, and this many are shown; else it has no room for the call.
 abbrev pub IsFaultAt : ℕ → Call → SeatState → DeskState → HouseFault → Type 0
-IsFaultAt p call seat desk HistoryFull = (calls_to p seat ≤ calls_of desk) × IsOverLimit desk call
-IsFaultAt p call seat desk (Behind calls) = (calls ≡ calls_of desk) × (calls < calls_to p seat)
+IsFaultAt p call seat desk HistoryFull = (calls_to p seat ≤ call_count desk) × IsOverLimit desk call
+IsFaultAt p call seat desk (Behind calls) = (calls ≡ call_count desk) × (calls < calls_to p seat)
 
 -- some desk of the house has this fault
-pub record IsFaultOf (gap request_ms p : ℕ) (call : Call) (seat : SeatState) (fault : HouseFault) : Type 0 where
+pub record IsFaultOf (gap request_ms p : ℕ) (call : Call) (seat : SeatState)
+    (fault : HouseFault) : Type 0 where
   pub desk : DeskState
   pub is : IsDeskOf gap request_ms desk
   pub here : IsFaultAt p call seat desk fault

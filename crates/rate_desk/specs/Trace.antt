@@ -13,17 +13,28 @@ use Rattle.rate_desk.specs.Presence.{HasRisingOwners, HasStays, present_by, live
 
 -- nobody is present, no picture is wanted, no call was recorded
 abbrev pub empty_base : Base
-empty_base = record { present = record { items = [] }; wanted = false; greatest = 0; last_up = None; calls = 0; words = 0 }
+empty_base = record {
+  present = record { items = [] };
+  wanted = false;
+  greatest = 0;
+  last_up = None;
+  calls = 0;
+  words = 0;
+}
 
 -- who is present once the call was done
 abbrev pub present_behind : ℕ → Base → Call → List Present
-present_behind request_ms base call = present_by request_ms (moment_after base.greatest call) base.present.items call
+present_behind request_ms base call =
+    present_by request_ms (moment_after base.greatest call) base.present.items call
 
 -- What the base and one entry come to. Who is present changes where the call was done. A PLI that was sent upstream leaves no
 -- wish and its moment. Each entry counts, and its word.
 abbrev pub base_with : ℕ → Base → Entry → Base
 base_with request_ms base e = record {
-  present = record { items = if is_done e.answer then present_behind request_ms base e.call else base.present.items };
+  present = record {
+    items = if is_done e.answer then present_behind request_ms base e.call
+        else base.present.items;
+  };
   wanted = not (went_up e) && (wishes e.call || base.wanted);
   greatest = moment_after base.greatest e.call;
   last_up = if went_up e then Some (moment_after base.greatest e.call) else base.last_up;
@@ -37,7 +48,8 @@ base_after request_ms base entries = fold (base_with request_ms) base entries
 
 -- the live requests after these calls, by rising owner
 abbrev pub live_after : ℕ → Base → List Entry → List Request
-live_after request_ms base entries = live_requests (base_after request_ms base entries).present.items
+live_after request_ms base entries =
+    live_requests (base_after request_ms base entries).present.items
 
 -- the sum of the requested words, of calls accepted or refused
 abbrev pub words_of : List Entry → ℕ
@@ -60,7 +72,8 @@ is_due gap last now = option_map_or (λ up. nat_le (up + gap) now) last true
 -- one was sent at least the gap ago (RFC 4585, section 6.3.1; the gap is this project's own).
 abbrev pub goes_up : ℕ → Base → Call → Bool
 goes_up gap base call =
-    can_send call && (wishes call || base.wanted) && is_due gap base.last_up (moment_after base.greatest call)
+    can_send call && (wishes call || base.wanted)
+    && is_due gap base.last_up (moment_after base.greatest call)
 
 -- who is present behind a call, done or refused
 abbrev pub present_unless : ℕ → Base → Call → Option Answer → List Present
@@ -68,4 +81,5 @@ present_unless request_ms base call None = present_behind request_ms base call
 present_unless request_ms base call (Some refusal) = base.present.items
 
 abbrev pub present_with : ℕ → Base → Call → List Present
-present_with request_ms base call = present_unless request_ms base call (refusal_of base.present.items call)
+present_with request_ms base call =
+    present_unless request_ms base call (refusal_of base.present.items call)

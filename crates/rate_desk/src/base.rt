@@ -64,7 +64,8 @@ impl Base {
     pub(crate) fn count_behind(&self, call: &Call) -> usize
         requires base { IsBase self.now }
         requires stays { HasStay call.now }
-        ensures count { (request_ms : ℕ) → result ≡ length (present_with request_ms self.now call.now) }
+        ensures count { (request_ms : ℕ)
+            → result ≡ length (present_with request_ms self.now call.now) }
         ensures few { result ≤ PRESENT_LIMIT }
     {
         let count = self.present.len();

@@ -59,9 +59,22 @@ impl Model for Desk {
 
     ghost Value = { DeskState };
 
-    ghost view = { λ d. record { gap = d.gap; request_ms = d.request_ms; base = d.base; history = d.history.items; bounds = d.standing.bounds } };
+    ghost view = { λ d. record {
+      gap = d.gap;
+      request_ms = d.request_ms;
+      base = d.base;
+      history = d.history.items;
+      bounds = d.standing.bounds;
+    } };
 
-    ghost invariant = { λ d. IsHeld (record { gap = d.gap; request_ms = d.request_ms; base = d.base; history = d.history.items; bounds = d.standing.bounds })
+    ghost invariant = { λ d. IsHeld
+        (record {
+          gap = d.gap;
+          request_ms = d.request_ms;
+          base = d.base;
+          history = d.history.items;
+          bounds = d.standing.bounds;
+        })
         d.history.capacity d.standing };
 }
 
@@ -74,7 +87,7 @@ impl Desk {
     ghost use Rattle.rate_desk.specs.Call.{HasStay};
     ghost use Rattle.rate_desk.specs.Trace.{empty_base, live_after, words_of};
     ghost use Rattle.rate_desk.specs.Effect.{IsEffect};
-    ghost use Rattle.rate_desk.specs.State.{DeskState, HoldsLegalDesk, IsOverLimit, IsQuiet, Records, calls_of};
+    ghost use Rattle.rate_desk.specs.State.{DeskState, HoldsLegalDesk, IsOverLimit, IsQuietCall, Records, call_count};
 
     /// A desk where nobody is present. It sends PLIs upstream at least `gap` milliseconds apart, and takes
     /// requests away that are `request_ms` milliseconds old; never where that is 0.
@@ -102,8 +115,10 @@ impl Desk {
         requires { 1 ≤ stay }
         ensures full { IsErr result ↔ IsOverLimit self.old (call.Stay owner stay change.Arrive) }
         ensures unchanged { OnErr result (self.new ≡ self.old) }
-        ensures recorded { IfOk result (λ r. Records self.old (call.Stay owner stay change.Arrive) r.number r.answer self.new) }
-        ensures effect { IfOk result (λ r. IsEffect (announced_of self.old.bounds) (announced_of self.new.bounds) r.effect) }
+        ensures recorded { IfOk result (λ r. Records self.old
+            (call.Stay owner stay change.Arrive) r.number r.answer self.new) }
+        ensures effect { IfOk result (λ r. IsEffect (announced_of self.old.bounds)
+            (announced_of self.new.bounds) r.effect) }
         ensures legal { HoldsLegalDesk self.new }
     {
         self.reply(Call::Stay {
@@ -119,10 +134,13 @@ impl Desk {
     /// nothing changed.
     pub fn request(&mut self, owner: Ssrc, stay: u64, tuple: Tuple) -> Result<Reply, HistoryFull>
         requires { 1 ≤ stay }
-        ensures full { IsErr result ↔ IsOverLimit self.old (call.Stay owner stay (change.Request tuple)) }
+        ensures full { IsErr result
+            ↔ IsOverLimit self.old (call.Stay owner stay (change.Request tuple)) }
         ensures unchanged { OnErr result (self.new ≡ self.old) }
-        ensures recorded { IfOk result (λ r. Records self.old (call.Stay owner stay (change.Request tuple)) r.number r.answer self.new) }
-        ensures effect { IfOk result (λ r. IsEffect (announced_of self.old.bounds) (announced_of self.new.bounds) r.effect) }
+        ensures recorded { IfOk result (λ r. Records self.old
+            (call.Stay owner stay (change.Request tuple)) r.number r.answer self.new) }
+        ensures effect { IfOk result (λ r. IsEffect (announced_of self.old.bounds)
+            (announced_of self.new.bounds) r.effect) }
         ensures legal { HoldsLegalDesk self.new }
     {
         self.reply(Call::Stay {
@@ -140,8 +158,10 @@ impl Desk {
         requires { 1 ≤ stay }
         ensures full { IsErr result ↔ IsOverLimit self.old (call.Stay owner stay change.Depart) }
         ensures unchanged { OnErr result (self.new ≡ self.old) }
-        ensures recorded { IfOk result (λ r. Records self.old (call.Stay owner stay change.Depart) r.number r.answer self.new) }
-        ensures effect { IfOk result (λ r. IsEffect (announced_of self.old.bounds) (announced_of self.new.bounds) r.effect) }
+        ensures recorded { IfOk result (λ r. Records self.old
+            (call.Stay owner stay change.Depart) r.number r.answer self.new) }
+        ensures effect { IfOk result (λ r. IsEffect (announced_of self.old.bounds)
+            (announced_of self.new.bounds) r.effect) }
         ensures legal { HoldsLegalDesk self.new }
     {
         self.reply(Call::Stay {
@@ -156,8 +176,10 @@ impl Desk {
     pub fn pli(&mut self, moment: u64) -> Result<Reply, HistoryFull>
         ensures full { IsErr result ↔ IsOverLimit self.old (call.Time moment signal.Pli) }
         ensures unchanged { OnErr result (self.new ≡ self.old) }
-        ensures recorded { IfOk result (λ r. Records self.old (call.Time moment signal.Pli) r.number r.answer self.new) }
-        ensures effect { IfOk result (λ r. IsEffect (announced_of self.old.bounds) (announced_of self.new.bounds) r.effect) }
+        ensures recorded { IfOk result (λ r. Records self.old
+            (call.Time moment signal.Pli) r.number r.answer self.new) }
+        ensures effect { IfOk result (λ r. IsEffect (announced_of self.old.bounds)
+            (announced_of self.new.bounds) r.effect) }
         ensures legal { HoldsLegalDesk self.new }
     {
         self.reply(Call::Time {
@@ -171,8 +193,10 @@ impl Desk {
     pub fn tick(&mut self, moment: u64) -> Result<Reply, HistoryFull>
         ensures full { IsErr result ↔ IsOverLimit self.old (call.Time moment signal.Tick) }
         ensures unchanged { OnErr result (self.new ≡ self.old) }
-        ensures recorded { IfOk result (λ r. Records self.old (call.Time moment signal.Tick) r.number r.answer self.new) }
-        ensures effect { IfOk result (λ r. IsEffect (announced_of self.old.bounds) (announced_of self.new.bounds) r.effect) }
+        ensures recorded { IfOk result (λ r. Records self.old
+            (call.Time moment signal.Tick) r.number r.answer self.new) }
+        ensures effect { IfOk result (λ r. IsEffect (announced_of self.old.bounds)
+            (announced_of self.new.bounds) r.effect) }
         ensures legal { HoldsLegalDesk self.new }
     {
         self.reply(Call::Time {
@@ -186,8 +210,10 @@ impl Desk {
     pub fn expire(&mut self, moment: u64) -> Result<Reply, HistoryFull>
         ensures full { IsErr result ↔ IsOverLimit self.old (call.Time moment signal.Expire) }
         ensures unchanged { OnErr result (self.new ≡ self.old) }
-        ensures recorded { IfOk result (λ r. Records self.old (call.Time moment signal.Expire) r.number r.answer self.new) }
-        ensures effect { IfOk result (λ r. IsEffect (announced_of self.old.bounds) (announced_of self.new.bounds) r.effect) }
+        ensures recorded { IfOk result (λ r. Records self.old
+            (call.Time moment signal.Expire) r.number r.answer self.new) }
+        ensures effect { IfOk result (λ r. IsEffect (announced_of self.old.bounds)
+            (announced_of self.new.bounds) r.effect) }
         ensures legal { HoldsLegalDesk self.new }
     {
         self.reply(Call::Time {
@@ -214,7 +240,7 @@ impl Desk {
 
     /// How many calls were recorded, listed or folded.
     pub fn calls(&self) -> u64
-        ensures value { result ≡ calls_of self.now }
+        ensures value { result ≡ call_count self.now }
         ensures legal { HoldsLegalDesk self.now }
     {
         self.standing.whole().calls
@@ -260,7 +286,8 @@ impl Desk {
         ensures unchanged { OnErr result (self.new ≡ self.old) }
         ensures effect_unchanged { OnErr result (effect.new ≡ effect.old) }
         ensures recorded { IfOk result (λ r. Records self.old call.now r.number r.answer self.new) }
-        ensures effect { OnOk result (IsEffect (announced_of self.old.bounds) (announced_of self.new.bounds) effect.new) }
+        ensures effect { OnOk result (IsEffect (announced_of self.old.bounds)
+            (announced_of self.new.bounds) effect.new) }
         ensures legal { HoldsLegalDesk self.new }
     {
         if self.is_over_limit(call) {
@@ -284,7 +311,8 @@ impl Desk {
     pub fn pulse(&mut self, moment: u64) -> Result<Recorded, HistoryFull>
         ensures full { IsErr result ↔ IsOverLimit self.old (call.Time moment signal.Tick) }
         ensures unchanged { OnErr result (self.new ≡ self.old) }
-        ensures recorded { IfOk result (λ r. Records self.old (call.Time moment signal.Tick) r.number r.answer self.new) }
+        ensures recorded { IfOk result (λ r. Records self.old
+            (call.Time moment signal.Tick) r.number r.answer self.new) }
         ensures set { self.new.bounds ≡ self.old.bounds }
         ensures legal { HoldsLegalDesk self.new }
     {
@@ -304,7 +332,8 @@ impl Desk {
         ensures full { IsErr result ↔ IsOverLimit self.old call }
         ensures unchanged { OnErr result (self.new ≡ self.old) }
         ensures recorded { IfOk result (λ r. Records self.old call r.number r.answer self.new) }
-        ensures effect { IfOk result (λ r. IsEffect (announced_of self.old.bounds) (announced_of self.new.bounds) r.effect) }
+        ensures effect { IfOk result (λ r. IsEffect (announced_of self.old.bounds)
+            (announced_of self.new.bounds) r.effect) }
         ensures legal { HoldsLegalDesk self.new }
     {
         let mut effect = Effect::new();
@@ -329,7 +358,7 @@ impl Desk {
 
     /// Whether the call changes no request: by its kind, or since it is refused.
     fn is_quiet(&self, call: &Call) -> bool
-        ensures { IsTrue result → IsQuiet self.now call.now }
+        ensures { IsTrue result → IsQuietCall self.now call.now }
     {
         !call.may_change() || self.standing.whole().refusal(call).is_some()
     }
@@ -340,7 +369,7 @@ impl Desk {
         requires stays { HasStay call.now }
         requires room { ¬ IsOverLimit self.old call.now }
         ensures recorded { Records self.old call.now result.number result.answer self.new }
-        ensures quiet { IsQuiet self.old call.now → self.new.bounds ≡ self.old.bounds }
+        ensures quiet { IsQuietCall self.old call.now → self.new.bounds ≡ self.old.bounds }
         ensures legal { HoldsLegalDesk self.new }
     {
         let number = self.standing.whole().calls;

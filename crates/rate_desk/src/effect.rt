@@ -5,7 +5,7 @@ ghost use Rattle.std.specs.List.{list_any};
 ghost use Rattle.rate_cert.specs.Choice.{IsChoice, chosen_requests};
 ghost use Rattle.rate_cert.specs.Certificate.{kept_places};
 ghost use Rattle.bounding_set.specs.State.{announced_of};
-ghost use Rattle.rate_desk.specs.Effect.{IsEffect, IsLifted, numbers_of, is_member};
+ghost use Rattle.rate_desk.specs.Effect.{IsEffect, IsLifted, ssrcs_of, is_member};
 ghost use Rattle.rate_cert.specs.declared.certificate.TheConstants.{MAX_REQUESTS as REQUESTS};
 
 use arrayvec::ArrayVec;
@@ -89,7 +89,7 @@ fn list_kept(rows: &[Request], cert: &Cert, set: &mut ArrayVec<Request, MAX_REQU
 fn list_lifted(former: &[Request], set: &[Request], lifted: &mut ArrayVec<Ssrc, MAX_REQUESTS>)
     requires few { length former.now ≤ REQUESTS }
     requires once { AllPairs (λ x y. x.owner.0 ≢ y.owner.0) former.now }
-    ensures { IsLifted former.now set.now (numbers_of lifted.new.items) }
+    ensures { IsLifted former.now set.now (ssrcs_of lifted.new.items) }
 {
     lifted.clear();
     for request in former {

@@ -76,7 +76,7 @@ impl Gathering<'_> {
 }
 
 /// The receipts of the calls to publisher 1: 17 arrives and asks, somebody wants a picture, and so many pulses.
-fn call_in_turn<D: DeskCalls, S: SeatCalls, R: Wait>(
+pub(super) fn call_in_turn<D: DeskCalls, S: SeatCalls, R: Wait>(
     rt: &R,
     alloc: Global,
     house: &House<D, S>,

@@ -3,7 +3,7 @@
 
 ghost use Rattle.std.specs.Prelude.{◌≡◌, ◌≢◌, ◌<◌, ◌≤◌, ◌-◌, ◌↔◌, ◌⊎◌, [], length, vec_len, vec_capacity, min, sum_by, slice_get, Some, All, AllPairs, MatchOption, MatchResult, IfOk, IfErr, IsTrue, ◌^◌};
 ghost use Rattle.rate_desk.specs.Shares.{calls_to, words_to};
-ghost use Rattle.rate_desk.specs.Gathered.{AddsUp, AddUpBelow, Agrees, AreDesksOf, AtItsDesk, FailsToGather, Fits, GathersAll, IsApart, IsFirst, IsFirstFault, IsFirstOff, IsFirstTwice, IsFoldedAt, IsFoldedIn, StandsIn, entry_of};
+ghost use Rattle.rate_desk.specs.Gathered.{AddsUp, AddUpBelow, Agrees, AreDesksOf, AtItsDesk, FailsToGather, Fits, GathersAll, IsApart, IsFirst, IsFirstGatherFault, IsFirstOff, IsFirstTwice, IsFoldedAt, IsFoldedIn, StandsIn, receipt_entry};
 
 use crate::call::{Answer, Call, Change, Signal};
 use crate::desk::Desk;
@@ -74,7 +74,7 @@ fn compare<S: SeatCalls>(
     receipts: &[Receipt],
 ) -> Result<(), GatherFault>
     ensures { MatchResult result (λ done. Agrees made seats.now receipts.now desks.now)
-        (IsFirstFault made seats.now receipts.now desks.now) }
+        (IsFirstGatherFault made seats.now receipts.now desks.now) }
 {
     if let Some(receipt) = first_differing(desks, receipts) {
         return Err(GatherFault::Differs(receipt));
@@ -121,7 +121,7 @@ fn fits(desks: &[Desk], receipt: &Receipt) -> bool
 fn is_listed(desk: &Desk, receipt: &Receipt) -> bool
     requires { desk.now.base.calls ≤ receipt.now.number }
     ensures { IsTrue result ↔ slice_get desk.now.history
-        (receipt.now.number - desk.now.base.calls) ≡ Some (entry_of receipt.now) }
+        (receipt.now.number - desk.now.base.calls) ≡ Some (receipt_entry receipt.now) }
 {
     let place = receipt.number - desk.base().calls;
     match desk.history().get(place as usize) {

@@ -1,7 +1,7 @@
 //! What lies under a publisher's lock.
 
 ghost use Rattle.std.specs.Prelude.{◌≡◌};
-ghost use Rattle.rate_desk.specs.State.{calls_of};
+ghost use Rattle.rate_desk.specs.State.{call_count};
 
 use crate::base::CALL_LIMIT;
 use crate::desk::Desk;
@@ -15,7 +15,7 @@ pub struct HeldDesk<D: DeskCalls> {
     pub desk: Desk,
     pub share: Share<D>,
     pub ghost one_part: { share.parts ≡ 1 },
-    pub ghost counted: { share.amount ≡ calls_of desk },
+    pub ghost counted: { share.amount ≡ call_count desk },
     pub ghost gap: { desk.gap ≡ D.gap },
     pub ghost request_ms: { desk.request_ms ≡ D.request_ms },
 }

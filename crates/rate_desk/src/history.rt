@@ -4,7 +4,7 @@ ghost use Rattle.std.specs.Prelude.{◌≡◌, ◌<◌, ◌≤◌, ◌++◌, ◌
 ghost use Rattle.rate_desk.specs.declared.base.TheConstants.{CALL_LIMIT};
 ghost use Rattle.rate_desk.specs.declared.desk.TheConstants.{HISTORY_LIMIT};
 ghost use Rattle.rate_desk.specs.Trace.{IsBase};
-ghost use Rattle.rate_desk.specs.History.{StandsFor, FirstFollows};
+ghost use Rattle.rate_desk.specs.History.{StandsForEntries, FirstFollows};
 
 use crate::base::Base;
 use crate::call::Entry;
@@ -17,7 +17,8 @@ pub fn list(base: &mut Base, history: &mut HeapCircularBuffer<Entry>, request_ms
     requires base { IsBase base.old }
     requires room { base.old.calls < CALL_LIMIT }
     requires follows { FirstFollows base.old (history.old.items ++ entry ∷ []) }
-    ensures stands { StandsFor request_ms base.old (history.old.items ++ entry ∷ []) base.new history.new.items }
+    ensures stands { StandsForEntries request_ms base.old (history.old.items ++ entry
+        ∷ []) base.new history.new.items }
     ensures base { IsBase base.new }
     ensures capacity { history.new.capacity ≡ HISTORY_LIMIT }
 {

@@ -20,7 +20,49 @@ pub(super) fn assert_same(rt: &impl Abort, receipt: &Receipt, effect: &Effect, r
     assert_eq!(rt; effect.fresh.as_slice(), reply.effect.fresh.as_slice());
 }
 
-/// The call, made of a house by its name.
+/// What a house says to the call, which is made by its name.
+pub(super) fn told_by_house<D: DeskCalls, S: SeatCalls, R: Wait>(
+    rt: &R,
+    house: &House<D, S>,
+    seat: &mut DeskSeat<S>,
+    publisher: usize,
+    call: Call,
+) -> Option<Result<(Receipt, Effect), HouseFault>>
+    requires { publisher < S.publishers }
+{
+    match call {
+        Call::Stay { stay: 0, .. } => None,
+        Call::Stay {
+            owner,
+            stay,
+            change: Change::Arrive,
+        } => Some(house.arrive(rt, seat, publisher, owner, stay)),
+        Call::Stay {
+            owner,
+            stay,
+            change: Change::Request(tuple),
+        } => Some(house.request(rt, seat, publisher, owner, stay, tuple)),
+        Call::Stay {
+            owner,
+            stay,
+            change: Change::Depart,
+        } => Some(house.depart(rt, seat, publisher, owner, stay)),
+        Call::Time {
+            moment,
+            signal: Signal::Pli,
+        } => Some(house.pli(rt, seat, publisher, moment)),
+        Call::Time {
+            moment,
+            signal: Signal::Tick,
+        } => Some(house.tick(rt, seat, publisher, moment)),
+        Call::Time {
+            moment,
+            signal: Signal::Expire,
+        } => Some(house.expire(rt, seat, publisher, moment)),
+    }
+}
+
+/// The receipt and the effect of the call, where the house records it.
 pub(super) fn by_house<D: DeskCalls, S: SeatCalls, R: Wait>(
     rt: &R,
     house: &House<D, S>,
@@ -30,36 +72,7 @@ pub(super) fn by_house<D: DeskCalls, S: SeatCalls, R: Wait>(
 ) -> Option<(Receipt, Effect)>
     requires { publisher < S.publishers }
 {
-    match call {
-        Call::Stay { stay: 0, .. } => None,
-        Call::Stay {
-            owner,
-            stay,
-            change: Change::Arrive,
-        } => house.arrive(rt, seat, publisher, owner, stay).ok(),
-        Call::Stay {
-            owner,
-            stay,
-            change: Change::Request(tuple),
-        } => house.request(rt, seat, publisher, owner, stay, tuple).ok(),
-        Call::Stay {
-            owner,
-            stay,
-            change: Change::Depart,
-        } => house.depart(rt, seat, publisher, owner, stay).ok(),
-        Call::Time {
-            moment,
-            signal: Signal::Pli,
-        } => house.pli(rt, seat, publisher, moment).ok(),
-        Call::Time {
-            moment,
-            signal: Signal::Tick,
-        } => house.tick(rt, seat, publisher, moment).ok(),
-        Call::Time {
-            moment,
-            signal: Signal::Expire,
-        } => house.expire(rt, seat, publisher, moment).ok(),
-    }
+    told_by_house(rt, house, seat, publisher, call)?.ok()
 }
 
 /// Each of the six calls, done and refused, with PLIs sent and not, requests that come, go and grow old.

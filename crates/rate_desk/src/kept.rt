@@ -16,7 +16,8 @@ pub const WORD_BITS: usize = u64::BITS as usize;
 /// The rows that a certificate keeps: bit i modulo 64 of word i / 64 says that row i is kept.
 pub fn kept_bits(cert: &Cert) -> [u64; KEPT_WORDS]
     requires { All (λ k. k.place < LIVE_LIMIT) cert.now.kept.items }
-    ensures { (rows : List Request) → IsCanonical rows (kept_places cert.now) → KeepsRows rows result }
+    ensures { (rows : List Request) → IsCanonical rows (kept_places cert.now)
+        → KeepsRows rows result }
 {
     let mut words = [0; KEPT_WORDS];
     for kept in cert.kept.as_slice() {

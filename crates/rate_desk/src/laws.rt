@@ -31,7 +31,8 @@ pub fn folding_keeps_the_trace()
 pub fn present_since_arrival()
     ensures { (gap ms : ℕ) (base : Base) (entries : List Entry) (owner stay : ℕ)
         → IsLegalHistory gap ms base entries → 1 ≤ stay
-        → stay_in (base_after ms base entries).present.items owner ≡ stay ↔ IsPresent base entries owner stay }
+        → stay_in (base_after ms base entries).present.items owner ≡ stay
+        ↔ IsPresent base entries owner stay }
 {}
 
 /// What an owner asks for that is present is the last request of it that was done since it arrived, or what
@@ -40,11 +41,13 @@ pub fn present_since_arrival()
 pub fn live_since_request()
     ensures absent { (gap ms : ℕ) (base : Base) (entries : List Entry) (owner : ℕ)
         → IsBase base → All (λ e. HasStay e.call) entries → IsLegalHistory gap ms base entries
-        → stay_in (base_after ms base entries).present.items owner ≡ 0 → tuple_of (live_after ms base entries) owner ≡ None }
+        → stay_in (base_after ms base entries).present.items owner ≡ 0
+        → tuple_of (live_after ms base entries) owner ≡ None }
     ensures live { (gap ms : ℕ) (base : Base) (entries : List Entry) (owner stay from : ℕ) (tuple : Tuple)
         → IsBase base → All (λ e. HasStay e.call) entries → IsLegalHistory gap ms base entries
         → 1 ≤ stay → IsPresentFrom base entries owner stay from
-        → tuple_of (live_after ms base entries) owner ≡ Some tuple ↔ IsLiveFrom ms base entries owner from tuple }
+        → tuple_of (live_after ms base entries) owner ≡ Some tuple
+        ↔ IsLiveFrom ms base entries owner from tuple }
 {}
 
 /// In every legal history, PLIs are sent upstream by the schedule: at a `pli` or a `tick`, where a picture
@@ -61,6 +64,7 @@ pub fn plis_on_schedule()
 /// two ways, and both keep to the schedule, PLIs go upstream at the same places, whatever else is answered.
 pub fn one_pli_schedule()
     ensures { (gap : ℕ) (base : Base) (entries others : List Entry) (place : ℕ)
-        → calls_in entries ≡ calls_in others → IsPliSchedule gap base entries → IsPliSchedule gap base others
+        → calls_in entries ≡ calls_in others → IsPliSchedule gap base entries
+        → IsPliSchedule gap base others
         → WentUpAt entries place ↔ WentUpAt others place }
 {}

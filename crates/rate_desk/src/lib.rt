@@ -34,6 +34,8 @@ pub use receipt::{GatherFault, HouseFault, Receipt};
 pub use seat::DeskSeat;
 
 #[cfg(test)]
+mod fault_tests;
+#[cfg(test)]
 mod gather_tests;
 #[cfg(test)]
 mod house_tests;

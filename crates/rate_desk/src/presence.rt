@@ -2,7 +2,7 @@
 
 ghost use Rattle.std.specs.Prelude.{◌≡◌, ◌<◌, ◌≤◌, length, map, None, IsNone, IfOk, IfErr, false};
 ghost use Rattle.rate_desk.specs.Call.{HasStay};
-ghost use Rattle.rate_desk.specs.Presence.{HasRisingOwners, IsPlaceOf, IsGapFor, is_old, without_old, present_by, present_changed, presence_of, with_presence, without_owner, refusal_of, refusal_in, stay_in};
+ghost use Rattle.rate_desk.specs.Presence.{HasRisingOwners, IsOwnerPlace, IsGapFor, is_old, without_old, present_by, present_changed, presence_of, with_presence, without_owner, refusal_of, refusal_in, stay_in};
 ghost use Rattle.std.specs.Option.{option_map_or};
 
 use crate::call::{Answer, Call, Change, Signal};
@@ -165,7 +165,8 @@ pub fn is_too_old(p: &Present, request_ms: u64, now: u64) -> bool
 /// Puts what is known of an owner in the place of what was, or among the others by rising owner.
 fn put(present: &mut ArrayVec<Present, MAX_REQUESTS>, new: Present)
     requires rising { HasRisingOwners present.old.items }
-    requires room { IsNone (presence_of present.old.items new.owner.0) → length present.old.items < PRESENT_LIMIT }
+    requires room { IsNone (presence_of present.old.items new.owner.0)
+        → length present.old.items < PRESENT_LIMIT }
     ensures { present.new.items ≡ with_presence present.old.items new }
 {
     match place_of(present.as_slice(), new.owner) {
@@ -180,7 +181,7 @@ fn put(present: &mut ArrayVec<Present, MAX_REQUESTS>, new: Present)
 /// Where the owner is, or where it would go.
 fn place_of(present: &[Present], owner: Ssrc) -> Result<usize, usize>
     requires { HasRisingOwners present.now }
-    ensures found { IfOk result (IsPlaceOf present.now owner.0) }
+    ensures found { IfOk result (IsOwnerPlace present.now owner.0) }
     ensures absent { IfErr result (IsGapFor present.now owner.0) }
 {
     present.binary_search_by_key(&owner.0, |p| p.owner.0)

@@ -41,7 +41,7 @@ impl<S: SeatCalls> DeskSeat<S> {
     ghost use Rattle.rate_desk.specs.declared.call.Signal.TheVariants as signal;
     ghost use Rattle.rate_desk.specs.Call.{HasStay};
     ghost use Rattle.rate_desk.specs.Effect.{IsEffect};
-    ghost use Rattle.rate_desk.specs.State.{IsOverLimit, Records, calls_of};
+    ghost use Rattle.rate_desk.specs.State.{IsOverLimit, Records, call_count};
     ghost use Rattle.rate_desk.specs.Shares.{calls_to, words_to, new_seat, Counts, IsReceiptOf, IsFaultAt, IsFaultOf, IsTold, IsPulsed};
 
     /// A seat that made no calls, with its part of the ledger.
@@ -88,7 +88,7 @@ impl<S: SeatCalls> DeskSeat<S> {
     ) -> Result<Receipt, HouseFault>
         requires stays { HasStay call }
         requires publisher { publisher < S.publishers }
-        ensures refused { IsErr result ↔ (calls_of held.old.desk < calls_to publisher self.old)
+        ensures refused { IsErr result ↔ (call_count held.old.desk < calls_to publisher self.old)
             ⊎ IsOverLimit held.old.desk call }
         ensures fault_here { IfErr result (IsFaultAt publisher call self.old held.old.desk) }
         ensures fault { IfErr result (IsFaultOf D.gap D.request_ms publisher call self.old) }
@@ -129,7 +129,7 @@ impl<S: SeatCalls> DeskSeat<S> {
         moment: u64,
     ) -> Result<Receipt, HouseFault>
         requires publisher { publisher < S.publishers }
-        ensures refused { IsErr result ↔ (calls_of held.old.desk < calls_to publisher self.old)
+        ensures refused { IsErr result ↔ (call_count held.old.desk < calls_to publisher self.old)
             ⊎ IsOverLimit held.old.desk (call.Time moment signal.Tick) }
         ensures fault_here { IfErr result (IsFaultAt publisher
             (call.Time moment signal.Tick) self.old held.old.desk) }

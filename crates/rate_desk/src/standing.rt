@@ -73,7 +73,8 @@ impl Standing {
         requires stays { HasStay call.now }
         requires room { self.old.whole.calls < CALL_LIMIT }
         ensures owed { IsAnswerTo gap request_ms self.old.whole call.now result }
-        ensures whole { self.new.whole ≡ base_with request_ms self.old.whole (record { call = call.now; answer = result }) }
+        ensures whole { self.new.whole
+            ≡ base_with request_ms self.old.whole (record { call = call.now; answer = result }) }
         ensures refused { is_done result ≡ false → self.new.bounds ≡ self.old.bounds }
         ensures quiet { may_change call.now ≡ false → self.new.bounds ≡ self.old.bounds }
         ensures stand { IsStand self.new.whole self.new.bounds }
@@ -95,7 +96,10 @@ fn owed(bounds: &mut Bounds, before: &Base, gap: u64, request_ms: u64, call: &Ca
     requires stays { HasStay call.now }
     requires stand { IsStand before.now bounds.old }
     ensures owed { IsAnswerTo gap request_ms before.now call.now result }
-    ensures live { bounds.new.rows ≡ live_requests (base_with request_ms before.now (record { call = call.now; answer = result })).present.items }
+    ensures live { bounds.new.rows
+        ≡ live_requests
+        (base_with request_ms before.now
+        (record { call = call.now; answer = result })).present.items }
     ensures announced { AnnouncesSmallest bounds.new }
     ensures refused { is_done result ≡ false → bounds.new ≡ bounds.old }
     ensures quiet { may_change call.now ≡ false → bounds.new ≡ bounds.old }
@@ -153,7 +157,9 @@ fn follow_change(bounds: &mut Bounds, before: &Base, owner: Ssrc, stay: u64, cha
     requires stays { 1 ≤ stay }
     requires accepted { refusal_in before.now.present.items owner.0 stay change.now ≡ None }
     requires stand { IsStand before.now bounds.old }
-    ensures live { bounds.new.rows ≡ live_requests (present_changed before.now.greatest before.now.present.items owner stay change.now) }
+    ensures live { bounds.new.rows
+        ≡ live_requests
+        (present_changed before.now.greatest before.now.present.items owner stay change.now) }
     ensures announced { AnnouncesSmallest bounds.new }
     ensures quiet { moves_request change.now ≡ false → bounds.new ≡ bounds.old }
 {

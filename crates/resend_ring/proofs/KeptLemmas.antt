@@ -7,7 +7,7 @@ use Rattle.std.proofs.lemmas.Option.{get_or_from_slice_get}
 use Rattle.std.proofs.lemmas.List.{drop-append-le, drop-drop, append-nil, length-map, get_or-map}
 use Rattle.circular_buffer.specs.Buffer.{keep_last}
 use Rattle.resend_ring.specs.declared.ring.TheConstants.{CYCLE}
-use Rattle.resend_ring.specs.Kept.{Packet, packet_of, kept_in_turn}
+use Rattle.resend_ring.specs.Kept.{SentPacket, sent_packet, kept_in_turn}
 
 -- what left before makes no difference to what is kept of the last ones
 pub keep_last-append : {X : Type 0} (n : ℕ) (xs ys : List X) → keep_last n (keep_last n xs ++ ys) ≡ keep_last n (xs ++ ys)
@@ -22,7 +22,7 @@ keep_last-append n xs ys =
     ∙ (drop-drop (length xs + length ys - k - n) k (xs ++ ys)
     ∙ ap (λ m. drop m (xs ++ ys)) (places ∙ ap (λ m. m - n) (sym (length-append xs ys)))))
 
-pub kept_in_turn-is : (capacity : ℕ) (before packets : List Packet)
+pub kept_in_turn-is : (capacity : ℕ) (before packets : List SentPacket)
     → kept_in_turn capacity (keep_last capacity before) packets ≡ keep_last capacity (before ++ packets)
 kept_in_turn-is capacity before [] = ap (keep_last capacity) (sym (append-nil before))
 kept_in_turn-is capacity before (p ∷ packets) =
@@ -34,11 +34,11 @@ drop_none zero = refl
 drop_none (suc n) = refl
 
 -- a new ring keeps the last packets of all
-pub kept_from_none : (capacity : ℕ) (packets : List Packet) → kept_in_turn capacity [] packets ≡ keep_last capacity packets
+pub kept_from_none : (capacity : ℕ) (packets : List SentPacket) → kept_in_turn capacity [] packets ≡ keep_last capacity packets
 kept_from_none capacity packets =
     ap (λ items. kept_in_turn capacity items packets) (sym (drop_none (0 - capacity))) ∙ kept_in_turn-is capacity [] packets
 
-abbrev pub has_seq : ℕ → Packet → Bool
+abbrev pub has_seq : ℕ → SentPacket → Bool
 has_seq seq p = p.number % CYCLE == seq
 
 -- ---- the packet so many places from the newest
@@ -51,10 +51,10 @@ pub slice_get_back : {T : Type 0} (xs : List T) (back : ℕ) → back < length x
 slice_get_back xs back below = grind (arith, nat_tests)
 
 pub packet_at : (xs : List (ℕ × Vec ℕ)) (back : ℕ) (x : ℕ × Vec ℕ) → back < length xs → Some x ≡ nth_from_back xs back
-    → get_or (map packet_of xs) (length (map packet_of xs) - back - 1) (packet_of x) ≡ packet_of x
+    → get_or (map sent_packet xs) (length (map sent_packet xs) - back - 1) (sent_packet x) ≡ sent_packet x
 packet_at xs back x below is =
     let place = length xs - back - 1 in
     let inside : place < length xs = omega arith in
-    rw (length-map xs packet_of)
-    (get_or-map packet_of xs place x (packet_of x) inside
-    ∙ ap packet_of (get_or_from_slice_get xs place x x (sym (is ∙ slice_get_back xs back below))))
+    rw (length-map xs sent_packet)
+    (get_or-map sent_packet xs place x (sent_packet x) inside
+    ∙ ap sent_packet (get_or_from_slice_get xs place x x (sym (is ∙ slice_get_back xs back below))))

@@ -11,7 +11,7 @@ use Rattle.std.proofs.lemmas.List.Folds.{find_at}
 use Rattle.std.proofs.lemmas.List.Sums.{position_or_len_is, fails_before_first, passes_at_first}
 use Rattle.circular_buffer.specs.Buffer.{keep_last}
 use Rattle.resend_ring.specs.declared.ring.TheConstants.{CYCLE}
-use Rattle.resend_ring.specs.Kept.{Packet, packet_of, last_kept_with, places_back, AreMarks}
+use Rattle.resend_ring.specs.Kept.{SentPacket, sent_packet, last_kept_with, places_back, AreMarks}
 use Rattle.resend_ring.proofs.KeptLemmas.{has_seq, nth_from_back, slice_get_back, packet_at}
 
 -- ---- keeping
@@ -24,11 +24,11 @@ first_place p xs ys d inside =
     (λ k less. let within : k < length xs = omega arith in ap p (get_or_append_left xs ys d k within) ∙ fails_before_first p xs k d less)
     (λ _. ap p (get_or_append_left xs ys d (position_or_len p xs) inside) ∙ passes_at_first p xs d inside)
 
-abbrev nothing : Packet
+abbrev nothing : SentPacket
 nothing = record { number = 0; bytes = [] }
 
 -- marks of all packets are marks of the last ones
-marks_dropped : (clock : ℕ) (marks : List ℕ) (k : ℕ) (items : List Packet) → AreMarks clock marks items → AreMarks clock marks (drop k items)
+marks_dropped : (clock : ℕ) (marks : List ℕ) (k : ℕ) (items : List SentPacket) → AreMarks clock marks items → AreMarks clock marks (drop k items)
 marks_dropped clock marks k items h = record {
   every_number = h.every_number;
   latest = λ seq inside.
@@ -41,13 +41,13 @@ marks_dropped clock marks k items h = record {
       h.latest seq all ∙ ap (λ back. (clock + CYCLE - back) % CYCLE) same;
 }
 
-has_own : (p : Packet) (seq : ℕ) → p.number % CYCLE ≡ seq → has_seq seq p ≡ true
+has_own : (p : SentPacket) (seq : ℕ) → p.number % CYCLE ≡ seq → has_seq seq p ≡ true
 has_own p seq same = grind (arith, nat_tests)
 
-has_other : (p : Packet) (seq : ℕ) → p.number % CYCLE ≢ seq → has_seq seq p ≡ false
+has_other : (p : SentPacket) (seq : ℕ) → p.number % CYCLE ≢ seq → has_seq seq p ≡ false
 has_other p seq other = grind (arith, nat_tests)
 
-marks_pushed : (clock : ℕ) (marks : List ℕ) (items : List Packet) (p : Packet) → AreMarks clock marks items → length items < CYCLE
+marks_pushed : (clock : ℕ) (marks : List ℕ) (items : List SentPacket) (p : SentPacket) → AreMarks clock marks items → length items < CYCLE
     → AreMarks ((clock + 1) % CYCLE) (set marks (p.number % CYCLE) ((clock + 1) % CYCLE)) (items ++ p ∷ [])
 marks_pushed clock marks items p h few = record {
   every_number = length-set marks (p.number % CYCLE) ((clock + 1) % CYCLE) ∙ h.every_number;
@@ -70,13 +70,13 @@ marks_pushed clock marks items p h few = record {
       ];
 }
 
-pub marks_kept : (clock capacity : ℕ) (marks : List ℕ) (xs : List (ℕ × Vec ℕ)) (x : ℕ × Vec ℕ) → AreMarks clock marks (map packet_of xs)
+pub marks_kept : (clock capacity : ℕ) (marks : List ℕ) (xs : List (ℕ × Vec ℕ)) (x : ℕ × Vec ℕ) → AreMarks clock marks (map sent_packet xs)
     → length xs < CYCLE
-    → AreMarks ((clock + 1) % CYCLE) (set marks (x.0 % CYCLE) ((clock + 1) % CYCLE)) (map packet_of (keep_last capacity (xs ++ x ∷ [])))
+    → AreMarks ((clock + 1) % CYCLE) (set marks (x.0 % CYCLE) ((clock + 1) % CYCLE)) (map sent_packet (keep_last capacity (xs ++ x ∷ [])))
 marks_kept clock capacity marks xs x h few =
     let all = xs ++ x ∷ [] in
-    let pushed = marks_pushed clock marks (map packet_of xs) (packet_of x) h (rw (length-map xs packet_of) few) in
-    rw (← drop-map, map-append) (marks_dropped ((clock + 1) % CYCLE) (set marks (x.0 % CYCLE) ((clock + 1) % CYCLE)) (length all - capacity) (map packet_of xs ++ packet_of x ∷ []) pushed)
+    let pushed = marks_pushed clock marks (map sent_packet xs) (sent_packet x) h (rw (length-map xs sent_packet) few) in
+    rw (← drop-map, map-append) (marks_dropped ((clock + 1) % CYCLE) (set marks (x.0 % CYCLE) ((clock + 1) % CYCLE)) (length all - capacity) (map sent_packet xs ++ sent_packet x ∷ []) pushed)
 
 -- ---- finding
 
@@ -87,12 +87,12 @@ nth_inside xs back x is = elim (cases_lt back (length xs)) [
 ]
 
 newest_at : (xs : List (ℕ × Vec ℕ)) (back : ℕ) (x : ℕ × Vec ℕ) → back < length xs → Some x ≡ nth_from_back xs back
-    → get_or (reverse (map packet_of xs)) back (packet_of x) ≡ packet_of x
+    → get_or (reverse (map sent_packet xs)) back (sent_packet x) ≡ sent_packet x
 newest_at xs back x inside is =
-    let within : back < length (map packet_of xs) = rw (length-map xs packet_of) inside in
-    let places : length (map packet_of xs) - 1 - back ≡ length (map packet_of xs) - back - 1 = omega arith in
-    get_or-reverse (map packet_of xs) back (packet_of x) within
-    ∙ (ap (λ k. get_or (map packet_of xs) k (packet_of x)) places ∙ packet_at xs back x inside is)
+    let within : back < length (map sent_packet xs) = rw (length-map xs sent_packet) inside in
+    let places : length (map sent_packet xs) - 1 - back ≡ length (map sent_packet xs) - back - 1 = omega arith in
+    get_or-reverse (map sent_packet xs) back (sent_packet x) within
+    ∙ (ap (λ k. get_or (map sent_packet xs) k (sent_packet x)) places ∙ packet_at xs back x inside is)
 
 -- the place that a mark leads to, once it is known to be right
 led_to : (clock back pos seq mark : ℕ) (marks : List ℕ) → pos < CYCLE → length marks ≡ CYCLE → seq < CYCLE → get_or marks seq 0 ≡ (clock + CYCLE - pos) % CYCLE
@@ -109,37 +109,37 @@ others xs seq back x y there other is = let both : Some x ≡ Some y = is ∙ sy
 pub no_others : (xs : List (ℕ × Vec ℕ)) (seq back : ℕ) (x : ℕ × Vec ℕ) → None ≡ nth_from_back xs back → Some x ≡ nth_from_back xs back → x.0 % CYCLE ≢ seq
 no_others xs seq back x none is = let e : Some x ≡ None = is ∙ sym none in absurd cc
 
-pub found_by_mark : (clock : ℕ) (marks : List ℕ) (seq mark back : ℕ) (xs : List (ℕ × Vec ℕ)) (x : ℕ × Vec ℕ) → AreMarks clock marks (map packet_of xs)
+pub found_by_mark : (clock : ℕ) (marks : List ℕ) (seq mark back : ℕ) (xs : List (ℕ × Vec ℕ)) (x : ℕ × Vec ℕ) → AreMarks clock marks (map sent_packet xs)
     → length xs < CYCLE → seq < CYCLE → mark ≡ get_or marks seq mark → back ≡ (clock + (CYCLE - mark)) % CYCLE → Some x ≡ nth_from_back xs back → x.0 % CYCLE ≡ seq
-    → Some x.1.items ≡ last_kept_with (map packet_of xs) seq
+    → Some x.1.items ≡ last_kept_with (map sent_packet xs) seq
 found_by_mark clock marks seq mark back xs x h few fits read back_is is same =
-    let items = map packet_of xs in
+    let items = map sent_packet xs in
     let newest = reverse items in
     let p = has_seq seq in
     let inside = nth_inside xs back x is in
     let at = newest_at xs back x inside is in
-    let counted : length newest ≡ length xs = length-reverse items ∙ length-map xs packet_of in
-    let passes : p (get_or newest back (packet_of x)) ≡ true = ap p at ∙ has_own (packet_of x) seq same in
+    let counted : length newest ≡ length xs = length-reverse items ∙ length-map xs sent_packet in
+    let passes : p (get_or newest back (sent_packet x)) ≡ true = ap p at ∙ has_own (sent_packet x) seq same in
     let reached : position_or_len p newest ≤ back = elim (cases_lt back (position_or_len p newest)) [
-      | inl less ↦ absurd (let e = sym passes ∙ fails_before_first p newest back (packet_of x) less in cc)
+      | inl less ↦ absurd (let e = sym passes ∙ fails_before_first p newest back (sent_packet x) less in cc)
       | inr more ↦ more
     ] in
-    let within : places_back seq items < length items = omega (arith, reached, inside, length-map xs packet_of) in
+    let within : places_back seq items < length items = omega (arith, reached, inside, length-map xs sent_packet) in
     let place : position_or_len p newest ≡ back =
     led_to clock back (position_or_len p newest) seq mark marks (omega arith) h.every_number fits (h.latest seq within) read back_is in
-    let found : find p newest ≡ Some (packet_of x) =
-    find_at p newest ∙ (ap (slice_get newest) place ∙ (slice_get-get_or newest back (packet_of x) (omega arith) ∙ ap Some at)) in
-    sym (ap (option_map (λ (q : Packet). q.bytes)) found)
+    let found : find p newest ≡ Some (sent_packet x) =
+    find_at p newest ∙ (ap (slice_get newest) place ∙ (slice_get-get_or newest back (sent_packet x) (omega arith) ∙ ap Some at)) in
+    sym (ap (option_map (λ (q : SentPacket). q.bytes)) found)
 
-pub missed_by_mark : (clock : ℕ) (marks : List ℕ) (seq mark back : ℕ) (xs : List (ℕ × Vec ℕ)) → AreMarks clock marks (map packet_of xs)
+pub missed_by_mark : (clock : ℕ) (marks : List ℕ) (seq mark back : ℕ) (xs : List (ℕ × Vec ℕ)) → AreMarks clock marks (map sent_packet xs)
     → length xs < CYCLE → seq < CYCLE → mark ≡ get_or marks seq mark → back ≡ (clock + (CYCLE - mark)) % CYCLE
     → ((x : ℕ × Vec ℕ) → Some x ≡ nth_from_back xs back → x.0 % CYCLE ≢ seq)
-    → None ≡ last_kept_with (map packet_of xs) seq
+    → None ≡ last_kept_with (map sent_packet xs) seq
 missed_by_mark clock marks seq mark back xs h few fits read back_is other =
-    let items = map packet_of xs in
+    let items = map sent_packet xs in
     let newest = reverse items in
     let p = has_seq seq in
-    let counted : length newest ≡ length xs = length-reverse items ∙ length-map xs packet_of in
+    let counted : length newest ≡ length xs = length-reverse items ∙ length-map xs sent_packet in
     elim (cases_lt (position_or_len p newest) (length newest)) [
       | inl less ↦
           let within : places_back seq items < length items = rw (← length-reverse items) less in
@@ -150,13 +150,13 @@ missed_by_mark clock marks seq mark back xs h few fits read back_is other =
             | inl there ↦
                 let x = there.0 in
                 let is : Some x ≡ nth_from_back xs back = sym (slice_get_back xs back inside ∙ there.2) in
-                let passes = passes_at_first p newest (packet_of x) less in
-                let own : p (packet_of x) ≡ true = ap p (sym (newest_at xs back x inside is) ∙ ap (λ k. get_or newest k (packet_of x)) (sym place)) ∙ passes in
+                let passes = passes_at_first p newest (sent_packet x) less in
+                let own : p (sent_packet x) ≡ true = ap p (sym (newest_at xs back x inside is) ∙ ap (λ k. get_or newest k (sent_packet x)) (sym place)) ∙ passes in
                 absurd (other x is (is_own x seq own))
             | inr past ↦ absurd (omega (arith, past.0))
           ]
-      | inr more ↦ sym (ap (option_map (λ (q : Packet). q.bytes)) (find_at p newest ∙ slice_get_past newest (position_or_len p newest) more))
+      | inr more ↦ sym (ap (option_map (λ (q : SentPacket). q.bytes)) (find_at p newest ∙ slice_get_past newest (position_or_len p newest) more))
     ]
   where
-    is_own : (x : ℕ × Vec ℕ) (seq : ℕ) → has_seq seq (packet_of x) ≡ true → x.0 % CYCLE ≡ seq
+    is_own : (x : ℕ × Vec ℕ) (seq : ℕ) → has_seq seq (sent_packet x) ≡ true → x.0 % CYCLE ≡ seq
     is_own x seq own = grind (arith, nat_tests)

@@ -6,35 +6,37 @@ use Rattle.circular_buffer.specs.Buffer.{keep_last}
 use Rattle.resend_ring.specs.declared.ring.TheConstants.{CYCLE}
 
 -- a packet as it was sent: its outgoing number, and its bytes
-pub record Packet : Type 0 where
+pub record SentPacket : Type 0 where
   pub number : ℕ
   pub bytes : List ℕ
 
 -- how many packets there may be, and the packets, from the oldest to the newest
 pub record Kept : Type 0 where
   pub capacity : ℕ
-  pub items : List Packet
+  pub items : List SentPacket
 
-abbrev pub packet_of : ℕ × Vec ℕ → Packet
-packet_of p = record { number = p.0; bytes = p.1.items }
+abbrev pub sent_packet : ℕ × Vec ℕ → SentPacket
+sent_packet p = record { number = p.0; bytes = p.1.items }
 
 -- the bytes of the latest packet whose number is congruent to seq modulo 65536
-abbrev pub last_kept_with : List Packet → ℕ → Option (List ℕ)
-last_kept_with items seq = option_map (λ (p : Packet). p.bytes) (find (λ p. p.number % CYCLE == seq) (reverse items))
+abbrev pub last_kept_with : List SentPacket → ℕ → Option (List ℕ)
+last_kept_with items seq =
+    option_map (λ (p : SentPacket). p.bytes) (find (λ p. p.number % CYCLE == seq) (reverse items))
 
 -- what is kept of these once more packets came in turn
-abbrev pub kept_in_turn : ℕ → List Packet → List Packet → List Packet
+abbrev pub kept_in_turn : ℕ → List SentPacket → List SentPacket → List SentPacket
 kept_in_turn capacity items [] = items
-kept_in_turn capacity items (p ∷ packets) = kept_in_turn capacity (keep_last capacity (items ++ p ∷ [])) packets
+kept_in_turn capacity items (p ∷ packets) =
+    kept_in_turn capacity (keep_last capacity (items ++ p ∷ [])) packets
 
 -- how many places behind the newest the latest packet with this sequence number stands; where there is none, as many
 -- as there are packets
-abbrev pub places_back : ℕ → List Packet → ℕ
+abbrev pub places_back : ℕ → List SentPacket → ℕ
 places_back seq items = position_or_len (λ p. p.number % CYCLE == seq) (reverse items)
 
 -- The clock counts the packets that were kept, modulo 65536. For each sequence number of a packet that is kept, its mark is
 -- what the clock was when the latest such packet came.
-pub record AreMarks (clock : ℕ) (marks : List ℕ) (items : List Packet) : Type 0 where
+pub record AreMarks (clock : ℕ) (marks : List ℕ) (items : List SentPacket) : Type 0 where
   pub every_number : length marks ≡ CYCLE
   pub latest : (seq : ℕ) → places_back seq items < length items
       → slice_index marks seq ≡ (clock + CYCLE - places_back seq items) % CYCLE

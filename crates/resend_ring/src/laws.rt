@@ -3,12 +3,14 @@
 
 ghost use Rattle.std.specs.Prelude.{ℕ, ◌≡◌, List, []};
 ghost use Rattle.circular_buffer.specs.Buffer.{keep_last};
-ghost use Rattle.resend_ring.specs.Kept.{Packet, kept_in_turn, last_kept_with};
+ghost use Rattle.resend_ring.specs.Kept.{SentPacket, kept_in_turn, last_kept_with};
 
 /// Of all packets that a new ring was given, it keeps the last ones, as many as its capacity; and what
 /// it finds is the latest of these.
 pub fn keeps_the_last()
-    ensures kept { (capacity : ℕ) (packets : List Packet) → kept_in_turn capacity [] packets ≡ keep_last capacity packets }
-    ensures found { (capacity seq : ℕ) (packets : List Packet)
-        → last_kept_with (kept_in_turn capacity [] packets) seq ≡ last_kept_with (keep_last capacity packets) seq }
+    ensures kept { (capacity : ℕ) (packets : List SentPacket)
+        → kept_in_turn capacity [] packets ≡ keep_last capacity packets }
+    ensures found { (capacity seq : ℕ) (packets : List SentPacket)
+        → last_kept_with (kept_in_turn capacity [] packets) seq
+        ≡ last_kept_with (keep_last capacity packets) seq }
 {}

@@ -5,7 +5,7 @@ ghost use Rattle.std.specs.Option.{option_to_list};
 ghost use Rattle.circular_buffer.specs.Buffer.{keep_last};
 
 use circular_buffer::HeapCircularBuffer;
-use std::alloc::{AllocError, Global};
+use std::alloc::{AllocError, Allocator, Global};
 use std::marker::Model;
 
 /// The most packets that a ring may keep.
@@ -16,41 +16,43 @@ const CYCLE: u64 = 1 << 16;
 
 /// The last packets of a leg, each with its outgoing number and its bytes.
 #[derive(Debug, Drop)]
-pub struct Ring {
+pub struct Ring<A: Allocator = Global> {
     /// From the oldest to the newest.
-    packets: HeapCircularBuffer<(u64, Vec<u8>)>,
+    packets: HeapCircularBuffer<(u64, Vec<u8>), A>,
     /// How many packets were kept so far, modulo 65,536.
     clock: u16,
     /// For each sequence number what the clock was as the latest packet with it came. A packet may have
     /// left since, so that whoever follows a mark looks whether the packet there is the one.
-    marks: Vec<u16>,
+    marks: Vec<u16, A>,
 }
 
-impl Model for Ring {
+impl<A: Allocator> Model for Ring<A> {
     ghost use Rattle.std.specs.Prelude.{◌≤◌, length, map};
     ghost use Rattle.resend_ring.specs.declared.ring.TheConstants.{MAX_CAPACITY};
-    ghost use Rattle.resend_ring.specs.Kept.{Kept, packet_of, AreMarks};
+    ghost use Rattle.resend_ring.specs.Kept.{Kept, sent_packet, AreMarks};
 
     ghost Value = { Kept };
 
-    ghost view = { λ r. record { capacity = r.packets.capacity; items = map packet_of r.packets.items } };
+    ghost view = { λ r. record { capacity = r.packets.capacity; items = map sent_packet r.packets.items } };
 
     ghost invariant = { λ r. (1 ≤ r.packets.capacity)
         × (r.packets.capacity ≤ MAX_CAPACITY)
         × (length r.packets.items ≤ r.packets.capacity)
-        × AreMarks r.clock r.marks.items (map packet_of r.packets.items) };
+        × AreMarks r.clock r.marks.items (map sent_packet r.packets.items) };
 }
 
-impl Ring {
-    ghost use Rattle.resend_ring.specs.Kept.{Kept, Packet, packet_of, last_kept_with};
+impl<A: Allocator> Ring<A> {
+    ghost use Rattle.resend_ring.specs.Kept.{Kept, SentPacket, sent_packet, last_kept_with};
 
     /// An empty ring that keeps this many packets, from 1 to `MAX_CAPACITY`.
-    pub fn new(alloc: Global, capacity: usize) -> Result<Ring, AllocError>
+    pub fn new(alloc: A, capacity: usize) -> Result<Ring<A>, AllocError>
+    where
+        A: Clone,
         requires least { 1 ≤ capacity }
         requires most { capacity ≤ MAX_CAPACITY }
         ensures { IfOk result (λ ring. ring ≡ record { capacity = capacity; items = [] }) }
     {
-        let packets = HeapCircularBuffer::with_capacity(alloc, capacity)?;
+        let packets = HeapCircularBuffer::with_capacity(alloc.clone()?, capacity)?;
         let marks = vec![in alloc; 0; CYCLE as usize]?;
         Ok(Ring {
             packets,
@@ -66,7 +68,7 @@ impl Ring {
               (self.old.items ++ record { number = number; bytes = bytes.items } ∷ []);
         } }
         ensures left { self.old.items ++ record { number = number; bytes = bytes.items } ∷ []
-            ≡ option_to_list (option_map packet_of result) ++ self.new.items }
+            ≡ option_to_list (option_map sent_packet result) ++ self.new.items }
     {
         self.clock = self.clock.wrapping_add(1);
         self.marks[(number % CYCLE) as usize] = self.clock;

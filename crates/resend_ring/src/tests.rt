@@ -2,6 +2,7 @@
 ghost use Rattle.std.specs.Prelude.{◌≤◌};
 
 use super::*;
+use bumpalo::Bump;
 use std::alloc::Global;
 use std::test::Fail;
 
@@ -128,5 +129,22 @@ fn follows_no_stale_mark(rt: HostRuntime) -> Result<(), Fail> {
 fn greatest_ring(rt: HostRuntime) -> Result<(), Fail> {
     let ring = Ring::new(rt.alloc(), MAX_CAPACITY)?;
     assert!(rt; ring.find(0).is_none());
+    Ok(())
+}
+
+/// A ring of 512 packets wants 16 KiB for them, and 128 KiB for its marks.
+#[test]
+fn refused_without_memory(rt: HostRuntime) -> Result<(), Fail> {
+    for (limit, is_made) in [
+        (0, false),
+        (10_000, false),
+        (100_000, false),
+        (1_000_000, true),
+    ] {
+        let bump = Bump::new(rt.alloc());
+        bump.set_allocation_limit(Some(limit));
+        let made = Ring::new(&bump, MAX_CAPACITY).is_ok();
+        assert_eq!(rt; made, is_made, "in {limit} bytes");
+    }
     Ok(())
 }

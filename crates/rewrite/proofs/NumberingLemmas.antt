@@ -11,11 +11,11 @@ use Rattle.rewrite.specs.declared.segment.Segment.{Segment}
 use Rattle.rewrite.specs.declared.segment.TheConstants.{NUMBER_LIMIT, CYCLE}
 use Rattle.rewrite.specs.declared.skip.Skip.{Skip}
 use Rattle.rewrite.specs.declared.skip.Skip.TheVariants.{Old, Spent}
-use Rattle.rewrite.specs.Leg.{Held, IsWithinLimit, opened, last_number, extended_number, answer_at, answer_in, with_number, answer_to, answer_by, held_with, segment_with, history_of, held_after, LeavesOpen, IsHeldBy}
-use Rattle.rewrite.specs.Numbering.{Packet, Entry, Numbered, numbered, numbered_as, within_limit, IsNextNumber, extended_of, IsExtension, IsHighest, Begins, Continues, IsAnswer, RenumbersAfter, AreApart}
+use Rattle.rewrite.specs.Leg.{Held, IsWithinLimit, first_segment, last_number, extended_number, answer_at, answer_in, with_number, answer_to, answer_by, held_with, segment_with, history_of, held_after, LeavesOpen, IsHeldBy}
+use Rattle.rewrite.specs.Numbering.{IncomingPacket, Entry, Numbered, entry_numbers, numbered_as, within_limit, IsNextNumber, extended_of, IsExtendedNumber, IsHighest, Begins, Continues, IsNumberAnswer, RenumbersAfter, AreApart}
 
 -- the extended number is the near one
-pub extended_number-is : (highest seq : ℕ) → CYCLE ≤ highest → seq < CYCLE → IsExtension highest seq (extended_number highest seq)
+pub extended_number-is : (highest seq : ℕ) → CYCLE ≤ highest → seq < CYCLE → IsExtendedNumber highest seq (extended_number highest seq)
 extended_number-is highest seq cycled fits = record {
   congruent = omega arith;
   at_least = omega arith;
@@ -74,7 +74,7 @@ after first segment turn seq answer = (held_with (record { first = first; segmen
 
 -- an answer is that of the list, and what is held after it is what the list with it says
 record Steps (first : ℕ) (segment : Option Segment) (past : List Numbered) (turn seq : ℕ) (answer : Result ℕ Skip) : Type 0 where
-  answered : IsAnswer first past (entry turn seq answer)
+  answered : IsNumberAnswer first past (entry turn seq answer)
   holds : HoldsFor (after first segment turn seq answer) (past ++ numbered_as turn seq answer)
   apart : AreApart past → AreApart (past ++ numbered_as turn seq answer)
 
@@ -92,7 +92,7 @@ apart_push past y above apart =
 
 -- a packet that begins a segment
 holds_opened : (past : List Numbered) (turn seq number : ℕ) → All (λ p. (p.turn < turn) × (p.number < number)) past
-    → seq < CYCLE → number < NUMBER_LIMIT → Holds (opened turn seq number) (past ++ made turn seq number ∷ [])
+    → seq < CYCLE → number < NUMBER_LIMIT → Holds (first_segment turn seq number) (past ++ made turn seq number ∷ [])
 holds_opened past turn seq number fresh fits limit = record {
   within = record { cycled = omega arith; first_cycle = omega arith; risen = omega arith; limit = omega arith };
   base = made turn seq number;
@@ -105,12 +105,12 @@ holds_opened past turn seq number fresh fits limit = record {
   base_turn = refl;
   base_at = refl;
   start_at = refl;
-  each = All-push (Fits (opened turn seq number)) past (made turn seq number)
-      (All-weaker (λ p. (p.turn < turn) × (p.number < number)) (Fits (opened turn seq number))
+  each = All-push (Fits (first_segment turn seq number)) past (made turn seq number)
+      (All-weaker (λ p. (p.turn < turn) × (p.number < number)) (Fits (first_segment turn seq number))
       (λ p f. record { turn = omega (arith, f.0); number = omega (arith, f.1); own = λ same. absurd (omega (arith, f.0)); lesser = λ _. f.1 })
       past fresh)
       (record { turn = omega arith; number = omega arith; own = λ _. omega arith; lesser = λ less. absurd (omega arith) });
-  highest = Any-push (λ p. (p.turn ≡ turn) × (p.number ≡ last_number (opened turn seq number))) past (made turn seq number) (refl, omega arith);
+  highest = Any-push (λ p. (p.turn ≡ turn) × (p.number ≡ last_number (first_segment turn seq number))) past (made turn seq number) (refl, omega arith);
 }
 
 -- a packet of the segment that is open
@@ -152,7 +152,7 @@ answer_late first s turn seq less = grind (arith, nat_tests)
 answer_same : (first : ℕ) (s : Segment) (seq : ℕ) → answer_by first (Some s) s.turn seq ≡ answer_in s seq
 answer_same first s seq = grind (arith, nat_tests)
 
-with_fresh : (s : Segment) (turn seq number : ℕ) → s.turn < turn → segment_with (Some s) turn seq number ≡ opened turn seq number
+with_fresh : (s : Segment) (turn seq number : ℕ) → s.turn < turn → segment_with (Some s) turn seq number ≡ first_segment turn seq number
 with_fresh s turn seq number less = grind (arith, nat_tests)
 
 with_same : (s : Segment) (seq number : ℕ) → segment_with (Some s) s.turn seq number ≡ with_number s number
@@ -202,7 +202,7 @@ continues s past seq answer h fits is = record {
 
 -- a packet that gets no number changes nothing
 unanswered : (first : ℕ) (s : Segment) (past : List Numbered) (turn seq : ℕ) (skip : Skip) → Holds s past
-    → IsAnswer first past (entry turn seq (Err skip)) → Steps first (Some s) past turn seq (Err skip)
+    → IsNumberAnswer first past (entry turn seq (Err skip)) → Steps first (Some s) past turn seq (Err skip)
 unanswered first s past turn seq skip h is = record {
   answered = is;
   holds = rw append-nil h;
@@ -299,22 +299,22 @@ same_first : (held : Held) (turn seq : ℕ) (answer : Result ℕ Skip) → (held
 same_first held turn seq (Ok number) = refl
 same_first held turn seq (Err skip) = refl
 
-pub renumbers_after : (first : ℕ) (held : Held) (past : List Numbered) (packets : List Packet) → held.first ≡ first → first < CYCLE
+pub renumbers_after : (first : ℕ) (held : Held) (past : List Numbered) (packets : List IncomingPacket) → held.first ≡ first → first < CYCLE
     → All (λ p. p.seq < CYCLE) packets → HoldsFor held.segment past → RenumbersAfter first past (history_of held packets)
 renumbers_after first held past [] same fits seqs h = tt
 renumbers_after first held past (p ∷ packets) same fits seqs h =
     let answer = answer_to held p.turn p.seq in
     let seq_fits : p.seq < CYCLE = seqs 0 p (omega arith) in
     let step = steps held.first held.segment past p.turn p.seq h (omega arith) seq_fits in
-    let turned : IsAnswer first past (entry p.turn p.seq answer) = subst (λ f. IsAnswer f past (entry p.turn p.seq answer)) same step.answered in (
+    let turned : IsNumberAnswer first past (entry p.turn p.seq answer) = subst (λ f. IsNumberAnswer f past (entry p.turn p.seq answer)) same step.answered in (
       turned,
       renumbers_after first (held_with held p.turn p.seq answer) (past ++ numbered_as p.turn p.seq answer) packets
-          (same_first held p.turn p.seq answer ∙ same) fits (All-tail (λ (q : Packet). q.seq < CYCLE) p packets seqs) step.holds,
+          (same_first held p.turn p.seq answer ∙ same) fits (All-tail (λ (q : IncomingPacket). q.seq < CYCLE) p packets seqs) step.holds,
     )
 
-pub apart_after : (held : Held) (past : List Numbered) (packets : List Packet) → held.first < CYCLE
+pub apart_after : (held : Held) (past : List Numbered) (packets : List IncomingPacket) → held.first < CYCLE
     → All (λ p. p.seq < CYCLE) packets → HoldsFor held.segment past → AreApart past
-    → AreApart (past ++ flat_map numbered (history_of held packets))
+    → AreApart (past ++ flat_map entry_numbers (history_of held packets))
 apart_after held past [] fits seqs h apart = rw append-nil apart
 apart_after held past (p ∷ packets) fits seqs h apart =
     let answer = answer_to held p.turn p.seq in
@@ -322,7 +322,7 @@ apart_after held past (p ∷ packets) fits seqs h apart =
     let step = steps held.first held.segment past p.turn p.seq h fits seq_fits in
     let first_fits : (held_with held p.turn p.seq answer).first < CYCLE = rw (same_first held p.turn p.seq answer) fits in
     let rest = apart_after (held_with held p.turn p.seq answer) (past ++ numbered_as p.turn p.seq answer) packets
-    first_fits (All-tail (λ (q : Packet). q.seq < CYCLE) p packets seqs) step.holds (step.apart apart) in
+    first_fits (All-tail (λ (q : IncomingPacket). q.seq < CYCLE) p packets seqs) step.holds (step.apart apart) in
     rw append_assoc at rest
 
 -- ---- what is held
@@ -338,9 +338,9 @@ leaves_open (Some s) past h = record {
   is_highest = highest_of s past h;
 }
 
-pub held_after-is : (first : ℕ) (held : Held) (past : List Numbered) (packets : List Packet) → held.first ≡ first → first < CYCLE
+pub held_after-is : (first : ℕ) (held : Held) (past : List Numbered) (packets : List IncomingPacket) → held.first ≡ first → first < CYCLE
     → All (λ p. p.seq < CYCLE) packets → HoldsFor held.segment past
-    → IsHeldBy first (past ++ flat_map numbered (history_of held packets)) (held_after held packets)
+    → IsHeldBy first (past ++ flat_map entry_numbers (history_of held packets)) (held_after held packets)
 held_after-is first held past [] same fits seqs h =
     rw append-nil (record { same_first = same; open_segment = leaves_open held.segment past h })
 held_after-is first held past (p ∷ packets) same fits seqs h =
@@ -348,5 +348,5 @@ held_after-is first held past (p ∷ packets) same fits seqs h =
     let seq_fits : p.seq < CYCLE = seqs 0 p (omega arith) in
     let step = steps held.first held.segment past p.turn p.seq h (omega arith) seq_fits in
     let rest = held_after-is first (held_with held p.turn p.seq answer) (past ++ numbered_as p.turn p.seq answer) packets
-    (same_first held p.turn p.seq answer ∙ same) fits (All-tail (λ (q : Packet). q.seq < CYCLE) p packets seqs) step.holds in
+    (same_first held p.turn p.seq answer ∙ same) fits (All-tail (λ (q : IncomingPacket). q.seq < CYCLE) p packets seqs) step.holds in
     rw append_assoc at rest

@@ -4,7 +4,7 @@ use Rattle.rewrite.specs.declared.skip.Skip.{Skip}
 use Rattle.rewrite.specs.declared.skip.Skip.TheVariants.{Old}
 use Rattle.rewrite.specs.declared.segment.Segment.{Segment}
 use Rattle.rewrite.specs.declared.segment.TheConstants.{NUMBER_LIMIT, CYCLE, REACH}
-use Rattle.rewrite.specs.Numbering.{Packet, Entry, Numbered, IsBase, IsHighest, base_place, within_limit}
+use Rattle.rewrite.specs.Numbering.{IncomingPacket, Entry, Numbered, IsBase, IsHighest, base_place, within_limit}
 
 -- the first number, and the packets of the latest turn
 pub record Held : Type 0 where
@@ -12,8 +12,9 @@ pub record Held : Type 0 where
   pub segment : Option Segment
 
 -- a segment begins with this packet; extended numbers begin one cycle up
-abbrev pub opened : ℕ → ℕ → ℕ → Segment
-opened turn seq start = record { turn = turn; base = CYCLE + seq; start = start; highest = CYCLE + seq }
+abbrev pub first_segment : ℕ → ℕ → ℕ → Segment
+first_segment turn seq start =
+    record { turn = turn; base = CYCLE + seq; start = start; highest = CYCLE + seq }
 
 -- the outgoing number of the highest packet
 abbrev pub last_number : Segment → ℕ
@@ -33,7 +34,8 @@ extended_number highest seq =
 
 -- the answer at an extended number: as far above the start as that is above the base
 abbrev pub answer_at : Segment → ℕ → Result ℕ Skip
-answer_at s extended = if nat_lt extended s.base then Err Old else within_limit (s.start + (extended - s.base))
+answer_at s extended =
+    if nat_lt extended s.base then Err Old else within_limit (s.start + (extended - s.base))
 
 -- the answer to a packet of the segment's own turn
 abbrev pub answer_in : Segment → ℕ → Result ℕ Skip
@@ -57,25 +59,28 @@ answer_to held turn seq = answer_by held.first held.segment turn seq
 
 -- the latest segment, once a packet has this number
 abbrev pub segment_with : Option Segment → ℕ → ℕ → ℕ → Segment
-segment_with None turn seq number = opened turn seq number
-segment_with (Some s) turn seq number = if nat_lt s.turn turn then opened turn seq number else with_number s number
+segment_with None turn seq number = first_segment turn seq number
+segment_with (Some s) turn seq number =
+    if nat_lt s.turn turn then first_segment turn seq number else with_number s number
 
 -- what is held once a packet was answered
 abbrev pub held_with : Held → ℕ → ℕ → Result ℕ Skip → Held
-held_with held turn seq (Ok number) = record { first = held.first; segment = Some (segment_with held.segment turn seq number) }
+held_with held turn seq (Ok number) =
+    record { first = held.first; segment = Some (segment_with held.segment turn seq number) }
 held_with held turn seq (Err skip) = held
 
 -- what a leg answers to packets in turn
-abbrev pub history_of : Held → List Packet → List Entry
+abbrev pub history_of : Held → List IncomingPacket → List Entry
 history_of held [] = []
 history_of held (p ∷ packets) =
     record { turn = p.turn; seq = p.seq; answer = answer_to held p.turn p.seq }
     ∷ history_of (held_with held p.turn p.seq (answer_to held p.turn p.seq)) packets
 
 -- what a leg holds after packets in turn
-abbrev pub held_after : Held → List Packet → Held
+abbrev pub held_after : Held → List IncomingPacket → Held
 held_after held [] = held
-held_after held (p ∷ packets) = held_after (held_with held p.turn p.seq (answer_to held p.turn p.seq)) packets
+held_after held (p ∷ packets) =
+    held_after (held_with held p.turn p.seq (answer_to held p.turn p.seq)) packets
 
 abbrev pub new_leg : ℕ → Held
 new_leg first = record { first = first; segment = None }

@@ -5,7 +5,7 @@ use Rattle.rewrite.specs.declared.skip.Skip.TheVariants.{Old, Spent}
 use Rattle.rewrite.specs.declared.segment.TheConstants.{NUMBER_LIMIT, CYCLE, REACH}
 
 -- a packet that comes in
-pub record Packet : Type 0 where
+pub record IncomingPacket : Type 0 where
   pub turn : ℕ
   pub seq : ℕ
 
@@ -25,8 +25,8 @@ abbrev pub numbered_as : ℕ → ℕ → Result ℕ Skip → List Numbered
 numbered_as turn seq (Ok number) = record { turn = turn; seq = seq; number = number } ∷ []
 numbered_as turn seq (Err skip) = []
 
-abbrev pub numbered : Entry → List Numbered
-numbered e = numbered_as e.turn e.seq e.answer
+abbrev pub entry_numbers : Entry → List Numbered
+entry_numbers e = numbered_as e.turn e.seq e.answer
 
 -- the number, or Spent from the limit on
 abbrev pub within_limit : ℕ → Result ℕ Skip
@@ -56,13 +56,14 @@ pub record IsHighest (past : List Numbered) (base : Numbered) (highest : ℕ) : 
   pub greatest : All (λ p. p.turn ≡ base.turn → extended_of base p ≤ highest) past
 
 -- the number congruent to seq whose distance from the highest lies from -32768 to 32767
-pub record IsExtension (highest seq extended : ℕ) : Type 0 where
+pub record IsExtendedNumber (highest seq extended : ℕ) : Type 0 where
   pub congruent : extended % CYCLE ≡ seq
   pub at_least : highest ≤ extended + REACH
   pub below : extended < highest + REACH
 
 -- the packet's turn is greater than all before, or nothing came before: it begins a segment
-pub record Begins (first : ℕ) (past : List Numbered) (turn : ℕ) (answer : Result ℕ Skip) : Type 0 where
+pub record Begins (first : ℕ) (past : List Numbered) (turn : ℕ)
+    (answer : Result ℕ Skip) : Type 0 where
   pub fresh : All (λ p. p.turn < turn) past
   pub number : ℕ
   pub next : IsNextNumber first past number
@@ -77,9 +78,10 @@ pub record Continues (past : List Numbered) (turn seq : ℕ) (answer : Result �
   pub highest : ℕ
   pub is_highest : IsHighest past base highest
   pub extended : ℕ
-  pub is_extension : IsExtension highest seq extended
+  pub is_extension : IsExtendedNumber highest seq extended
   pub answered : answer ≡
-      (if nat_lt extended (base_place base) then Err Old else within_limit (base.number + (extended - base_place base)))
+      (if nat_lt extended (base_place base) then Err Old
+      else within_limit (base.number + (extended - base_place base)))
 
 -- a greater turn was before
 pub record IsLate (past : List Numbered) (turn : ℕ) (answer : Result ℕ Skip) : Type 0 where
@@ -87,13 +89,15 @@ pub record IsLate (past : List Numbered) (turn : ℕ) (answer : Result ℕ Skip)
   pub answered : answer ≡ Err Old
 
 -- the answer to a packet, by those before it that got a number
-abbrev pub IsAnswer : ℕ → List Numbered → Entry → Type 0
-IsAnswer first past e =
-    Begins first past e.turn e.answer ⊎ (Continues past e.turn e.seq e.answer ⊎ IsLate past e.turn e.answer)
+abbrev pub IsNumberAnswer : ℕ → List Numbered → Entry → Type 0
+IsNumberAnswer first past e =
+    Begins first past e.turn e.answer
+    ⊎ (Continues past e.turn e.seq e.answer ⊎ IsLate past e.turn e.answer)
 
 abbrev pub RenumbersAfter : ℕ → List Numbered → List Entry → Type 0
 RenumbersAfter first past [] = Unit {0}
-RenumbersAfter first past (e ∷ entries) = IsAnswer first past e × RenumbersAfter first (past ++ numbered e) entries
+RenumbersAfter first past (e ∷ entries) =
+    IsNumberAnswer first past e × RenumbersAfter first (past ++ entry_numbers e) entries
 
 -- the answers are those of a leg with this first number, from its first packet on
 abbrev pub Renumbers : ℕ → List Entry → Type 0

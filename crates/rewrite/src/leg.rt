@@ -30,7 +30,7 @@ impl Model for Leg {
 }
 
 impl Leg {
-    ghost use Rattle.rewrite.specs.Leg.{new_leg, answer_to, held_with, opened};
+    ghost use Rattle.rewrite.specs.Leg.{new_leg, answer_to, held_with, first_segment};
 
     /// A leg whose first packet gets this number.
     pub fn new(first: u16) -> Self
@@ -80,7 +80,7 @@ impl Leg {
     fn begin(&mut self, turn: u64, seq: u16, start: u64) -> u64
         requires { start < NUMBER_LIMIT }
         ensures value { result ≡ start }
-        ensures kept { self.new ≡ record self.old { segment = Some (opened turn seq start) } }
+        ensures kept { self.new ≡ record self.old { segment = Some (first_segment turn seq start) } }
     {
         self.segment = Some(Segment::open(turn, seq, start));
         start

@@ -1,7 +1,7 @@
 //! Packets of one turn, numbered from the first of them.
 
 ghost use Rattle.std.specs.Prelude.{◌≡◌, ◌<◌, MatchResult};
-ghost use Rattle.rewrite.specs.Leg.{IsWithinLimit, opened, last_number, extended_number, answer_in, with_number};
+ghost use Rattle.rewrite.specs.Leg.{IsWithinLimit, first_segment, last_number, extended_number, answer_in, with_number};
 
 use crate::skip::Skip;
 
@@ -31,7 +31,7 @@ pub struct Segment {
 impl Segment {
     /// The segment that begins with this packet, which gets the number `start`.
     pub fn open(turn: u64, seq: u16, start: u64) -> Segment
-        ensures { result ≡ opened turn seq start }
+        ensures { result ≡ first_segment turn seq start }
     {
         let base = CYCLE + u64::from(seq);
         Segment {
@@ -66,7 +66,8 @@ impl Segment {
     pub fn take(&mut self, seq: u16) -> Result<u64, Skip>
         requires { IsWithinLimit self.old }
         ensures answer { result ≡ answer_in self.old seq }
-        ensures kept { MatchResult result (λ number. self.new ≡ with_number self.old number) (λ _. self.new ≡ self.old) }
+        ensures kept { MatchResult result (λ number. self.new
+            ≡ with_number self.old number) (λ _. self.new ≡ self.old) }
         ensures within { IsWithinLimit self.new }
     {
         let extended = self.extended(seq);

@@ -6,11 +6,11 @@ use Rattle.std.proofs.lemmas.Grind.{flat_map-append}
 use mathlib.Core.List.{IsPrefix}
 use Rattle.members.specs.declared.order.Row.{Row}
 use Rattle.routes.specs.declared.change.Change.{Change}
-use Rattle.routes.specs.Rows.{changed, opening_rows, opening_row, rows_after}
+use Rattle.routes.specs.Rows.{row_changed, opening_rows, opening_row, rows_after}
 use Rattle.routes.specs.Publications.{Publication, changes_of}
 
 -- changes keep the number of rows
-pub changed_length : (rows : List Row) (changes : List Change) → length (fold changed rows changes) ≡ length rows
+pub changed_length : (rows : List Row) (changes : List Change) → length (fold row_changed rows changes) ≡ length rows
 changed_length rows [] = refl
 changed_length rows (c ∷ cs) = changed_length (slice_set rows c.leg c.row) cs ∙ length-set rows c.leg c.row
 
@@ -30,9 +30,9 @@ changes_begin_by false xs ys h = changes_begin ys xs h
 pub changes_more : (log : List Publication) (e : Publication) → changes_of (log ++ e ∷ []) ≡ changes_of log ++ e
 changes_more log e = flat_map-append (λ q. q) log (e ∷ []) ∙ ap (λ z. changes_of log ++ z) (append-nil e)
 
-pub rows_more : (legs : ℕ) (log : List Publication) (e : Publication) → rows_after legs (changes_of (log ++ e ∷ [])) ≡ fold changed (rows_after legs (changes_of log)) e
-rows_more legs log e = ap (rows_after legs) (changes_more log e) ∙ fold-append changed (opening_rows legs) (changes_of log) e
+pub rows_more : (legs : ℕ) (log : List Publication) (e : Publication) → rows_after legs (changes_of (log ++ e ∷ [])) ≡ fold row_changed (rows_after legs (changes_of log)) e
+rows_more legs log e = ap (rows_after legs) (changes_more log e) ∙ fold-append row_changed (opening_rows legs) (changes_of log) e
 
 -- one change more of a list of changes
-pub changed_more : (rows : List Row) (changes : List Change) (c : Change) → fold changed rows (changes ++ c ∷ []) ≡ slice_set (fold changed rows changes) c.leg c.row
-changed_more rows changes c = fold-append changed rows changes (c ∷ [])
+pub changed_more : (rows : List Row) (changes : List Change) (c : Change) → fold row_changed rows (changes ++ c ∷ []) ≡ slice_set (fold row_changed rows changes) c.leg c.row
+changed_more rows changes c = fold-append row_changed rows changes (c ∷ [])

@@ -8,7 +8,7 @@ use Rattle.routes.specs.declared.change.Change.{Change}
 use Rattle.routes.specs.declared.mark.Mark.{Mark}
 use Rattle.routes.specs.declared.table.Batch.{Batch}
 use Rattle.routes.specs.declared.table.Table.{Table}
-use Rattle.routes.specs.Rows.{changed, rows_after}
+use Rattle.routes.specs.Rows.{row_changed, rows_after}
 use Rattle.routes.specs.Publications.{Publication, changes_of}
 use Rattle.routes.specs.Views.{ReaderView, IsTable, IsAhead, IsNext, Sees, mark_after, rows_with}
 use Rattle.routes.proofs.RowLemmas.{changes_begin, changes_begin_by, rows_more}
@@ -31,7 +31,7 @@ knows_by b told known rows n v told_is is h =
 
 -- taking in batches, apart in rows and mark
 pub absorbs : {S : Type 0} (seen : Mark → S) (pending : List Batch) (rows : List Row) (m : Mark)
-    → fold (λ (s : List Row × S) (b : Batch). (fold changed s.0 b.changes.items, seen b.mark)) (rows, seen m) pending ≡ (fold rows_with rows pending, seen (mark_after m pending))
+    → fold (λ (s : List Row × S) (b : Batch). (fold row_changed s.0 b.changes.items, seen b.mark)) (rows, seen m) pending ≡ (fold rows_with rows pending, seen (mark_after m pending))
 absorbs seen [] rows m = refl
 absorbs seen (b ∷ bs) rows m = absorbs seen bs (rows_with rows b) b.mark
 
@@ -42,7 +42,7 @@ ahead_more book legs log pending t b ahead next =
     let last : mark_after t.mark (pending ++ b ∷ []) ≡ b.mark = fold-append (λ (_ : Mark) (b : Batch). b.mark) t.mark pending (b ∷ []) in (
       ap (λ (m : Mark). m.seen.book) last ∙ next.0,
       ap (λ (m : Mark). m.seen.log) last,
-      fold-append rows_with t.rows.items pending (b ∷ []) ∙ (ap (λ (r : List Row). fold changed r b.changes.items) ahead.2
+      fold-append rows_with t.rows.items pending (b ∷ []) ∙ (ap (λ (r : List Row). fold row_changed r b.changes.items) ahead.2
           ∙ (sym (rows_more legs log b.changes.items) ∙ ap (λ (l : List Publication). rows_after legs (changes_of l)) (sym next.1))),
     )
 
@@ -50,7 +50,7 @@ ahead_more book legs log pending t b ahead next =
 pub ahead_shown : {S : Type 0} (seen : Mark → S) (book_of : S → Book) (log_of : S → List Publication)
     → ((m : Mark) → book_of (seen m) ≡ m.seen.book) → ((m : Mark) → log_of (seen m) ≡ m.seen.log)
     → (book : Book) (legs : ℕ) (log : List Publication) (pending : List Batch) (t next : Table) → IsAhead book legs log pending t
-    → (next.rows.items, seen next.mark) ≡ fold (λ (s : List Row × S) (b : Batch). (fold changed s.0 b.changes.items, seen b.mark)) (t.rows.items, seen t.mark) pending
+    → (next.rows.items, seen next.mark) ≡ fold (λ (s : List Row × S) (b : Batch). (fold row_changed s.0 b.changes.items, seen b.mark)) (t.rows.items, seen t.mark) pending
     → IsAhead book legs log [] next
 ahead_shown seen book_of log_of books logs book legs log pending t next ahead is =
     let e = is ∙ absorbs seen pending t.rows.items t.mark in

@@ -13,15 +13,17 @@ abbrev pub opening_rows : ℕ → List Row
 opening_rows legs = replicate legs opening_row
 
 -- the rows once the change was done
-abbrev pub changed : List Row → Change → List Row
-changed rows c = slice_set rows c.leg c.row
+abbrev pub row_changed : List Row → Change → List Row
+row_changed rows c = slice_set rows c.leg c.row
 
 -- the rows of so many legs after these changes
 abbrev pub rows_after : ℕ → List Change → List Row
-rows_after legs changes = fold changed (opening_rows legs) changes
+rows_after legs changes = fold row_changed (opening_rows legs) changes
 
 -- what an order changes in a table of so many legs
 abbrev pub changes_by : ℕ → Order → List Change
 changes_by legs (Arrive leg stay) = []
 changes_by legs (Depart leg stay) = []
-changes_by legs (Route leg stay turn on) = if nat_lt leg legs then record { leg = leg; row = record { stay = stay; turn = turn; on = on } } ∷ [] else []
+changes_by legs (Route leg stay turn on) =
+    if nat_lt leg legs
+    then record { leg = leg; row = record { stay = stay; turn = turn; on = on } } ∷ [] else []

@@ -7,7 +7,7 @@ use Rattle.routes.specs.declared.change.Change.{Change}
 use Rattle.routes.specs.declared.mark.Mark.{Mark}
 use Rattle.routes.specs.declared.table.Batch.{Batch}
 use Rattle.routes.specs.declared.table.Table.{Table}
-use Rattle.routes.specs.Rows.{changed, opening_rows, rows_after}
+use Rattle.routes.specs.Rows.{row_changed, opening_rows, rows_after}
 use Rattle.routes.specs.Publications.{Publication, changes_of}
 
 -- a reader: the published changes that it saw or was told of, and the rows that it saw last
@@ -36,11 +36,13 @@ pub record BlankView : Type 0 where
 
 -- the table's mark is of this book, and its rows are those after the mark's changes
 abbrev pub IsTable : Book → ℕ → Table → Type 0
-IsTable book legs t = (t.mark.seen.book ≡ book) × (t.rows.items ≡ rows_after legs (changes_of t.mark.seen.log))
+IsTable book legs t =
+    (t.mark.seen.book ≡ book) × (t.rows.items ≡ rows_after legs (changes_of t.mark.seen.log))
 
 -- a look at the table: either more is known, and the rows are those after it, or nothing changed
 abbrev pub Sees : ℕ → List Publication → List Row → Bool → List Publication → List Row → Type 0
-Sees legs log rows is_new known copy = MatchBool is_new (IsPrefix log known × (copy ≡ rows_after legs (changes_of known))) ((known ≡ log) × (copy ≡ rows))
+Sees legs log rows is_new known copy = MatchBool is_new (IsPrefix log known
+    × (copy ≡ rows_after legs (changes_of known))) ((known ≡ log) × (copy ≡ rows))
 
 -- the batch makes the publication that follows this log
 abbrev pub IsNext : Book → List Publication → Batch → Type 0
@@ -51,7 +53,7 @@ abbrev pub mark_after : Mark → List Batch → Mark
 mark_after m pending = fold (λ (_ : Mark) (b : Batch). b.mark) m pending
 
 abbrev pub rows_with : List Row → Batch → List Row
-rows_with rows b = fold changed rows b.changes.items
+rows_with rows b = fold row_changed rows b.changes.items
 
 -- once the table took in the batches that wait for it, its mark is of this book and has this log, and its
 -- rows are those after it

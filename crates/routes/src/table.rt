@@ -1,7 +1,7 @@
 //! The table that readers take: the rows, and the mark of the publications that they follow from.
 
 ghost use Rattle.std.specs.Prelude.{◌≡◌, fold};
-ghost use Rattle.routes.specs.Rows.{changed};
+ghost use Rattle.routes.specs.Rows.{row_changed};
 
 use crate::change::Change;
 use crate::mark::{Law, Mark};
@@ -26,13 +26,13 @@ pub struct Batch {
 
 impl Absorb<Batch> for Table {
     ghost use Rattle.std.specs.Prelude.{fold};
-    ghost use Rattle.routes.specs.Rows.{changed};
+    ghost use Rattle.routes.specs.Rows.{row_changed};
 
     type State = ([Row; 0], Seen<[Change; 0], u64, Law>);
 
     ghost state = { λ t. (t.rows.items, t.mark.seen) };
 
-    ghost applied = { λ s b. (fold changed s.0 b.changes.items, b.mark.seen) };
+    ghost applied = { λ s b. (fold row_changed s.0 b.changes.items, b.mark.seen) };
 
     ghost never_fails = { Unit {0} };
 
@@ -45,7 +45,7 @@ impl Absorb<Batch> for Table {
 
 /// Does the changes in their order. One of a leg beyond the table changes nothing.
 fn apply(rows: &mut [Row], changes: &[Change])
-    ensures { rows.new ≡ fold changed rows.old changes.now }
+    ensures { rows.new ≡ fold row_changed rows.old changes.now }
 {
     for change in changes {
         let leg = usize::from(change.leg);

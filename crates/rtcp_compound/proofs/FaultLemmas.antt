@@ -6,8 +6,8 @@ use Rattle.std.proofs.lemmas.List.{take-append-drop, length-take, length-drop, t
 use Rattle.byteorder.specs.Endian.{big_number}
 use Rattle.rtcp_compound.specs.declared.fault.RtcpFault.{RtcpFault}
 use Rattle.rtcp_compound.specs.declared.fault.RtcpFault.TheVariants.{Short, Version, Length, PaddingNotLast, Padding, CountOver, SdesUnended}
-use Rattle.rtcp_compound.specs.Fault.{HasFault, HasFrame, IsWithin, SaysPadded, IsNoPadding, IsNoBody, size_of, last_byte}
-use Rattle.rtcp_compound.specs.Grammar.{Packet, IsBody}
+use Rattle.rtcp_compound.specs.Fault.{HasRtcpFault, HasFrame, IsWithin, SaysPadded, IsNoBody, ends_in_padding, size_of}
+use Rattle.rtcp_compound.specs.Grammar.{RtcpPacket, IsBody, last_byte}
 use Rattle.rtcp_compound.specs.Reading.{◌>>=◌, content_at, padding_in, is_padded, fault_in, unless, packet_at}
 use Rattle.rtcp_compound.proofs.HeaderLemmas.{guard_ok, same_ok, HasContent, content_takes, content_again, HasPadding, padding_takes, padding_again}
 use Rattle.rtcp_compound.proofs.PacketLemmas.{ends_with, after_padding, after_content, packet_short, body_takes, body_again}
@@ -28,18 +28,18 @@ guard_err : {A : Type 0} (b : Bool) (d f : RtcpFault) (r : Result A RtcpFault) �
 guard_err true d f r e = inl (refl, same_err d f e)
 guard_err false d f r e = inr (refl, e)
 
-unless_err : (o : Option RtcpFault) (p : Packet) (f : RtcpFault) → unless o p ≡ Err f → o ≡ Some f
+unless_err : (o : Option RtcpFault) (p : RtcpPacket) (f : RtcpFault) → unless o p ≡ Err f → o ≡ Some f
 unless_err None p f e = absurd (ok_or_err p f e)
 unless_err (Some d) p f e = ap Some (same_err d f e)
 
-content_refused : (bytes : List ℕ) (f : RtcpFault) → content_at bytes ≡ Err f → HasFault bytes f
+content_refused : (bytes : List ℕ) (f : RtcpFault) → content_at bytes ≡ Err f → HasRtcpFault bytes f
 unfolding content_at
 content_refused bytes f e =
     let behind : Result (List ℕ × List ℕ) RtcpFault = Ok (take (size_of bytes - 4) (drop 4 bytes), drop (size_of bytes) bytes) in
     let early = cond (is_padded bytes && nat_lt (size_of bytes) (length bytes)) (Err PaddingNotLast) behind in
     let beyond = cond (nat_lt (length bytes) (size_of bytes)) (Err Length) early in
     let other = cond (not (slice_index bytes 0 / 64 == 2)) (Err Version) beyond in
-    let P : RtcpFault → Type 0 = λ g. HasFault bytes g in
+    let P : RtcpFault → Type 0 = λ g. HasRtcpFault bytes g in
     elim (guard_err (nat_lt (length bytes) 4) Short f other e) [
       | inl s ↦ subst P s.1 (ltb-true _ _ s.0)
       | inr s ↦
@@ -60,24 +60,13 @@ content_refused bytes f e =
           ]
     ]
 
-padding_refused : (padded : Bool) (content : List ℕ) (f : RtcpFault) → padding_in padded content ≡ Err f → (padded ≡ true) × (Padding ≡ f) × IsNoPadding content
+padding_refused : (padded : Bool) (content : List ℕ) (f : RtcpFault) → padding_in padded content ≡ Err f → (padded ≡ true) × (Padding ≡ f) × (ends_in_padding content ≡ false)
 unfolding padding_in
 padding_refused false content f e = absurd (ok_or_err _ f e)
-padding_refused true content f e =
-    let last = last_byte content in
-    let found : Result ℕ RtcpFault = Ok last in
-    let above = cond (nat_lt (length content) last) (Err Padding) found in
-    let odd = cond (not (last % 4 == 0)) (Err Padding) above in
-    elim (guard_err (last == 0) Padding f odd e) [
-      | inl z ↦ (refl, z.1, inl (eqb-true _ _ z.0))
-      | inr z ↦ elim (guard_err (not (last % 4 == 0)) Padding f above z.1) [
-        | inl w ↦ (refl, w.1, inr (inl (eqb-false _ _ (not-true _ w.0))))
-        | inr w ↦ elim (guard_err (nat_lt (length content) last) Padding f found w.1) [
-          | inl l ↦ (refl, l.1, inr (inr (ltb-true _ _ l.0)))
-          | inr l ↦ absurd (ok_or_err _ f l.1)
-        ]
-      ]
-    ]
+padding_refused true content f e = elim (cases_Bool (ends_in_padding content)) [
+  | inl ends ↦ absurd (ok_or_err (last_byte content) f (sym (cond-true (ends_in_padding content) _ _ ends) ∙ e))
+  | inr bad ↦ (refl, same_err {A = ℕ} Padding f (sym (cond-false (ends_in_padding content) _ _ bad) ∙ e), bad)
+]
 
 -- ---- what a body lacks
 
@@ -161,9 +150,9 @@ framed bytes content rest n is h pad =
     }
 
 body_refused : (bytes content rest : List ℕ) (n : ℕ) (f : RtcpFault) → take (size_of bytes - 4) (drop 4 bytes) ≡ content → HasContent bytes content rest → HasPadding (is_padded bytes) content n
-    → fault_in (slice_index bytes 1) (slice_index bytes 0 % 32) (take (length content - n) content) ≡ Some f → HasFault bytes f
+    → fault_in (slice_index bytes 1) (slice_index bytes 0 % 32) (take (length content - n) content) ≡ Some f → HasRtcpFault bytes f
 body_refused bytes content rest n f is h pad e =
-    let P : RtcpFault → Type 0 = λ g. HasFault bytes g in
+    let P : RtcpFault → Type 0 = λ g. HasRtcpFault bytes g in
     let within : n ≤ length content = pad.within in
     let whole : n % 4 ≡ 0 = pad.whole in
     let long : length content ≡ 4 * big_number 2 (drop 2 bytes) = h.length_is in
@@ -175,7 +164,7 @@ body_refused bytes content rest n f is h pad e =
       | inr k ↦ subst P k.1 (take (length content - n) content, framed bytes content rest n is h pad, k.0, lacks)
     ]
 
-pub packet_refused : (bytes : List ℕ) (f : RtcpFault) → packet_at bytes ≡ Err f → HasFault bytes f
+pub packet_refused : (bytes : List ℕ) (f : RtcpFault) → packet_at bytes ≡ Err f → HasRtcpFault bytes f
 unfolding packet_at
 packet_refused bytes f e = elim (bind_err (content_at bytes) (after_content bytes) f e) [
   | inl c ↦ content_refused bytes f c
@@ -183,15 +172,15 @@ packet_refused bytes f e = elim (bind_err (content_at bytes) (after_content byte
       let h = content_takes bytes c.0 c.1 in
       elim (bind_err (padding_in (is_padded bytes) c.0.0) (after_padding bytes c.0) f c.2) [
         | inl p ↦
-            let P : RtcpFault → Type 0 = λ g. HasFault bytes g in
-            let Q : List ℕ → Type 0 = λ y. IsNoPadding y in
+            let P : RtcpFault → Type 0 = λ g. HasRtcpFault bytes g in
+            let Q : List ℕ → Type 0 = λ y. ends_in_padding y ≡ false in
             let bad = padding_refused (is_padded bytes) c.0.0 f p in
             let last = content_last bytes c.0.0 c.0.1 h bad.0 in
             subst P bad.1 (content_within bytes c.0.0 c.0.1 h, eqb-true _ _ bad.0, last.0, subst Q (sym last.1) bad.2)
         | inr n ↦
             let o = fault_in (slice_index bytes 1) (slice_index bytes 0 % 32) (take (length c.0.0 - n.0) c.0.0) in
-            let read : Packet = record { count = slice_index bytes 0 % 32; kind = slice_index bytes 1; body = take (length c.0.0 - n.0) c.0.0; padding = drop (length c.0.0 - n.0) c.0.0 } in
-            elim (bind_err (unless o read) (λ (p : Packet). Ok (p, c.0.1)) f n.2) [
+            let read : RtcpPacket = record { count = slice_index bytes 0 % 32; kind = slice_index bytes 1; body = take (length c.0.0 - n.0) c.0.0; padding = drop (length c.0.0 - n.0) c.0.0 } in
+            elim (bind_err (unless o read) (λ (p : RtcpPacket). Ok (p, c.0.1)) f n.2) [
               | inl u ↦ body_refused bytes c.0.0 c.0.1 n.0 f (content_is bytes c.0 c.1) h (padding_takes (is_padded bytes) c.0.0 n.0 n.1) (unless_err o read f u)
               | inr u ↦ absurd (ok_or_err _ f u.2)
             ]
@@ -200,42 +189,28 @@ packet_refused bytes f e = elim (bind_err (content_at bytes) (after_content byte
 
 -- ---- what has the fault is refused
 
-content_version : (bytes : List ℕ) → HasFault bytes Version → content_at bytes ≡ Err Version
+content_version : (bytes : List ℕ) → HasRtcpFault bytes Version → content_at bytes ≡ Err Version
 unfolding content_at
 content_version bytes h = cond-false (nat_lt (length bytes) 4) _ _ (le-ltb _ _ h.0) ∙ cond-true (not (slice_index bytes 0 / 64 == 2)) _ _ (ap not (ne_eqb _ _ h.1))
 
-content_beyond : (bytes : List ℕ) → HasFault bytes Length → content_at bytes ≡ Err Length
+content_beyond : (bytes : List ℕ) → HasRtcpFault bytes Length → content_at bytes ≡ Err Length
 unfolding content_at
 content_beyond bytes h =
     cond-false (nat_lt (length bytes) 4) _ _ (le-ltb _ _ h.0.0) ∙ cond-false (not (slice_index bytes 0 / 64 == 2)) _ _ (ap not (eq-eqb _ _ h.0.1))
     ∙ cond-true (nat_lt (length bytes) (size_of bytes)) _ _ (lt-ltb _ _ h.1)
 
-content_early : (bytes : List ℕ) → HasFault bytes PaddingNotLast → content_at bytes ≡ Err PaddingNotLast
+content_early : (bytes : List ℕ) → HasRtcpFault bytes PaddingNotLast → content_at bytes ≡ Err PaddingNotLast
 unfolding content_at
 content_early bytes h =
     cond-false (nat_lt (length bytes) 4) _ _ (le-ltb _ _ h.0.0.0) ∙ cond-false (not (slice_index bytes 0 / 64 == 2)) _ _ (ap not (eq-eqb _ _ h.0.0.1))
     ∙ cond-false (nat_lt (length bytes) (size_of bytes)) _ _ (le-ltb _ _ h.0.1)
     ∙ cond-true (is_padded bytes && nat_lt (size_of bytes) (length bytes)) _ _ (and_from _ _ (eq-eqb _ _ h.1) (lt-ltb _ _ h.2))
 
-no_padding : (content : List ℕ) → IsNoPadding content → padding_in true content ≡ Err Padding
+no_padding : (content : List ℕ) → ends_in_padding content ≡ false → padding_in true content ≡ Err Padding
 unfolding padding_in
-no_padding content h =
-    let last = last_byte content in
-    elim (cases_Bool (last == 0)) [
-      | inl z ↦ cond-true (last == 0) _ _ z
-      | inr z ↦ cond-false (last == 0) _ _ z ∙ elim (cases_Bool (last % 4 == 0)) [
-        | inr w ↦ cond-true (not (last % 4 == 0)) _ _ (ap not w)
-        | inl w ↦ cond-false (not (last % 4 == 0)) _ _ (ap not w) ∙ elim h [
-          | inl is ↦ absurd (eqb-false _ _ z is)
-          | inr more ↦ elim more [
-            | inl odd ↦ absurd (odd (eqb-true _ _ w))
-            | inr above ↦ cond-true (nat_lt (length content) last) _ _ (lt-ltb _ _ above)
-          ]
-        ]
-      ]
-    ]
+no_padding content bad = cond-false (ends_in_padding content) _ _ bad
 
-padding_again_err : (bytes : List ℕ) → HasFault bytes Padding → packet_at bytes ≡ Err Padding
+padding_again_err : (bytes : List ℕ) → HasRtcpFault bytes Padding → packet_at bytes ≡ Err Padding
 unfolding packet_at
 padding_again_err bytes h =
     let header : 4 ≤ length bytes = h.0.0.0 in
@@ -315,7 +290,7 @@ frame_whole bytes body h =
     let whole : length h.padding % 4 ≡ 0 = h.whole in
     omega arith
 
-pub fault_again : (bytes : List ℕ) (f : RtcpFault) → HasFault bytes f → packet_at bytes ≡ Err f
+pub fault_again : (bytes : List ℕ) (f : RtcpFault) → HasRtcpFault bytes f → packet_at bytes ≡ Err f
 unfolding packet_at
 fault_again bytes Short h = packet_short bytes h
 fault_again bytes Version h = ap (λ r. r >>= after_content bytes) (content_version bytes h)

@@ -6,22 +6,22 @@ use Rattle.std.specs.List.{flat_map}
 use Rattle.std.specs.Result.{IfOk}
 use Rattle.rtcp_compound.specs.declared.fault.RtcpFault.{RtcpFault}
 use Rattle.rtcp_compound.specs.declared.fault.RtcpFault.TheVariants.{CountOver}
-use Rattle.rtcp_compound.specs.Grammar.{Packet, ReadsRtcp, packet_bytes}
+use Rattle.rtcp_compound.specs.Grammar.{RtcpPacket, ReadsRtcp, packet_bytes}
 use Rattle.rtcp_compound.specs.Reading.{◌>>=◌, Gives, IsReadWhole, content_at, fault_in, fits_bye, frame_at, is_padded, packet_at, packets_in, padding_in, sizes, unless}
 use Rattle.rtcp_compound.proofs.HeaderLemmas.{bind_ok, same_ok, unless_ok, content_takes, padding_takes}
 use Rattle.rtcp_compound.proofs.PacketLemmas.{after_content, after_padding, guard_none, wanted, packet_short}
 use Rattle.rtcp_compound.proofs.DatagramLemmas.{packets_more, packets_none, read_cases, reads_only}
 
-abbrev framed : List ℕ → List ℕ × List ℕ → ℕ → Packet
+abbrev framed : List ℕ → List ℕ × List ℕ → ℕ → RtcpPacket
 framed bytes c n = record { count = slice_index bytes 0 % 32; kind = slice_index bytes 1; body = take (length c.0 - n) c.0; padding = drop (length c.0 - n) c.0 }
 
-abbrev frame_padded : List ℕ → List ℕ × List ℕ → ℕ → Result (Packet × List ℕ) RtcpFault
+abbrev frame_padded : List ℕ → List ℕ × List ℕ → ℕ → Result (RtcpPacket × List ℕ) RtcpFault
 frame_padded bytes c n = Ok (framed bytes c n, c.1)
 
-abbrev frame_content : List ℕ → List ℕ × List ℕ → Result (Packet × List ℕ) RtcpFault
+abbrev frame_content : List ℕ → List ℕ × List ℕ → Result (RtcpPacket × List ℕ) RtcpFault
 frame_content bytes c = padding_in (is_padded bytes) c.0 >>= frame_padded bytes c
 
-abbrev checked : Packet × List ℕ → Result (Packet × List ℕ) RtcpFault
+abbrev checked : RtcpPacket × List ℕ → Result (RtcpPacket × List ℕ) RtcpFault
 checked x = unless (fault_in x.0.kind x.0.count x.0.body) x.0 >>= λ q. Ok (q, x.1)
 
 -- the packet is its frame, once the body is checked
@@ -32,10 +32,10 @@ packet_by_frame bytes = elim (content_at bytes) as (λ r. (r >>= after_content b
   | Err f ↦ refl
 ]
 
-pub packet_checked : (bytes : List ℕ) (x : Packet × List ℕ) → frame_at bytes ≡ Ok x → fault_in x.0.kind x.0.count x.0.body ≡ None → packet_at bytes ≡ Ok x
+pub packet_checked : (bytes : List ℕ) (x : RtcpPacket × List ℕ) → frame_at bytes ≡ Ok x → fault_in x.0.kind x.0.count x.0.body ≡ None → packet_at bytes ≡ Ok x
 packet_checked bytes x e none = packet_by_frame bytes ∙ ap (λ r. r >>= checked) e ∙ ap (λ o. unless o x.0 >>= λ q. Ok (q, x.1)) none
 
-pub packet_faulty : (bytes : List ℕ) (x : Packet × List ℕ) (f : RtcpFault) → frame_at bytes ≡ Ok x → fault_in x.0.kind x.0.count x.0.body ≡ Some f → packet_at bytes ≡ Err f
+pub packet_faulty : (bytes : List ℕ) (x : RtcpPacket × List ℕ) (f : RtcpFault) → frame_at bytes ≡ Ok x → fault_in x.0.kind x.0.count x.0.body ≡ Some f → packet_at bytes ≡ Err f
 packet_faulty bytes x f e some = packet_by_frame bytes ∙ ap (λ r. r >>= checked) e ∙ ap (λ o. unless o x.0 >>= λ q. Ok (q, x.1)) some
 
 pub frame_faulty : (bytes : List ℕ) (f : RtcpFault) → frame_at bytes ≡ Err f → packet_at bytes ≡ Err f
@@ -44,7 +44,7 @@ frame_faulty bytes f e = packet_by_frame bytes ∙ ap (λ r. r >>= checked) e
 -- ---- packets that were read before
 
 -- header, content and what follows are all there is
-frame_size : (bytes : List ℕ) (x : Packet × List ℕ) → frame_at bytes ≡ Ok x → 4 + (length x.0.body + length x.0.padding) + length x.1 ≡ length bytes
+frame_size : (bytes : List ℕ) (x : RtcpPacket × List ℕ) → frame_at bytes ≡ Ok x → 4 + (length x.0.body + length x.0.padding) + length x.1 ≡ length bytes
 unfolding frame_at
 frame_size bytes x e =
     let c = bind_ok (content_at bytes) (frame_content bytes) x e in
@@ -52,30 +52,30 @@ frame_size bytes x e =
     let h = content_takes bytes c.0 c.1 in
     let header : 4 ≤ length bytes = h.header in
     let all : length bytes - 4 ≡ length c.0.0 + length c.0.1 = sym (length-drop 4 bytes) ∙ ap length h.bytes_are ∙ length-append c.0.0 c.0.1 in
-    let R : Packet × List ℕ → Type 0 = λ y. 4 + (length y.0.body + length y.0.padding) + length y.1 ≡ length bytes in
+    let R : RtcpPacket × List ℕ → Type 0 = λ y. 4 + (length y.0.body + length y.0.padding) + length y.1 ≡ length bytes in
     let front = length-take (length c.0.0 - n.0) c.0.0 in
     let behind = length-drop (length c.0.0 - n.0) c.0.0 in
     subst R (same_ok (framed bytes c.0 n.0, c.0.1) x n.2) (omega arith)
 
 -- a body that is checked
-fits_by : (bytes : List ℕ) (x : Packet × List ℕ) → frame_at bytes ≡ Ok x → ((y : Packet × List ℕ) × (packet_at bytes ≡ Ok y)) → fault_in x.0.kind x.0.count x.0.body ≡ None
+fits_by : (bytes : List ℕ) (x : RtcpPacket × List ℕ) → frame_at bytes ≡ Ok x → ((y : RtcpPacket × List ℕ) × (packet_at bytes ≡ Ok y)) → fault_in x.0.kind x.0.count x.0.body ≡ None
 fits_by bytes x e y =
-    let c = bind_ok (unless (fault_in x.0.kind x.0.count x.0.body) x.0) (λ (q : Packet). Ok (q, x.1)) y.0 (sym (packet_by_frame bytes ∙ ap (λ r. r >>= checked) e) ∙ y.1) in
+    let c = bind_ok (unless (fault_in x.0.kind x.0.count x.0.body) x.0) (λ (q : RtcpPacket). Ok (q, x.1)) y.0 (sym (packet_by_frame bytes ∙ ap (λ r. r >>= checked) e) ∙ y.1) in
     (unless_ok (fault_in x.0.kind x.0.count x.0.body) x.0 c.0 c.1).0
 
 -- what is known of the packet at the front of packets that were all read
-pub record IsKnown (bytes : List ℕ) (x : Packet × List ℕ) : Type 0 where
+pub record IsKnown (bytes : List ℕ) (x : RtcpPacket × List ℕ) : Type 0 where
   pub packet : packet_at bytes ≡ Ok x
   pub rest : IsReadWhole x.1
   pub fits : fault_in x.0.kind x.0.count x.0.body ≡ None
 
-front_read : (bytes : List ℕ) (x : Packet × List ℕ) → IsReadWhole bytes → frame_at bytes ≡ Ok x → (y : Packet × List ℕ) × (packet_at bytes ≡ Ok y)
+front_read : (bytes : List ℕ) (x : RtcpPacket × List ℕ) → IsReadWhole bytes → frame_at bytes ≡ Ok x → (y : RtcpPacket × List ℕ) × (packet_at bytes ≡ Ok y)
 front_read bytes x whole e = elim (read_cases (packet_at bytes)) [
   | inl y ↦ y
   | inr f ↦ let none : 0 ≡ length bytes = sym (ap sizes (packets_none bytes f.0 f.1)) ∙ whole in let size = frame_size bytes x e in absurd (omega arith)
 ]
 
-pub known : (bytes : List ℕ) (x : Packet × List ℕ) → IsReadWhole bytes → frame_at bytes ≡ Ok x → IsKnown bytes x
+pub known : (bytes : List ℕ) (x : RtcpPacket × List ℕ) → IsReadWhole bytes → frame_at bytes ≡ Ok x → IsKnown bytes x
 known bytes x whole e =
     let fits = fits_by bytes x e (front_read bytes x whole e) in
     let packet = packet_checked bytes x e fits in
@@ -84,12 +84,12 @@ known bytes x whole e =
     record { packet = packet; rest = omega (arith, more, whole, size); fits = fits }
 
 -- the same for what a call gives
-pub gives_again : {X : Type 0} (view : X → Packet × List ℕ) (bytes : List ℕ) (r : Result X RtcpFault) → IsReadWhole bytes → Gives view r (frame_at bytes)
+pub gives_again : {X : Type 0} (view : X → RtcpPacket × List ℕ) (bytes : List ℕ) (r : Result X RtcpFault) → IsReadWhole bytes → Gives view r (frame_at bytes)
     → Gives view r (packet_at bytes)
 gives_again view bytes (Ok x) whole e = (known bytes (view x) whole e).packet
 gives_again view bytes (Err f) whole e = frame_faulty bytes f e
 
-pub ok_again : {X : Type 0} (view : X → Packet × List ℕ) (P : X → Type 0) (bytes : List ℕ) (r : Result X RtcpFault) → IsReadWhole bytes
+pub ok_again : {X : Type 0} (view : X → RtcpPacket × List ℕ) (P : X → Type 0) (bytes : List ℕ) (r : Result X RtcpFault) → IsReadWhole bytes
     → Gives view r (frame_at bytes) → ((x : X) → IsKnown bytes (view x) → P x) → IfOk r P
 ok_again view P bytes (Ok x) whole e h = h x (known bytes (view x) whole e)
 ok_again view P bytes (Err f) whole e h = tt
@@ -114,7 +114,7 @@ goodbye_fits kind count body e is =
     ltb-false (length body) (4 * count) (not-true _ (and_parts _ _ fits).0)
 
 -- a datagram that is split
-sizes_are : (ps : List Packet) → sizes ps ≡ length (flat_map packet_bytes ps)
+sizes_are : (ps : List RtcpPacket) → sizes ps ≡ length (flat_map packet_bytes ps)
 sizes_are [] = refl
 sizes_are (p ∷ ps) =
     let rest = sizes_are ps in
@@ -122,5 +122,5 @@ sizes_are (p ∷ ps) =
     let body = length-append p.body p.padding in
     omega arith
 
-pub reads_whole : (bytes : List ℕ) (ps : List Packet) → ReadsRtcp bytes ps → IsReadWhole bytes
+pub reads_whole : (bytes : List ℕ) (ps : List RtcpPacket) → ReadsRtcp bytes ps → IsReadWhole bytes
 reads_whole bytes ps h = ap sizes (reads_only bytes ps h) ∙ (sizes_are ps ∙ ap length (sym h.bytes_are))

@@ -1,12 +1,12 @@
 -- What a header and a padding say, read both ways.
 use Rattle.std.proofs.Common.{◌≡◌, ◌∙◌, ℕ, ◌+◌, ◌-◌, ◌*◌, ◌/◌, ◌%◌, ◌<◌, ◌≤◌, ◌&&◌, inl, inr, Bool, true, false, not, List, [], ◌++◌, length, take, drop, slice_index, Option, Some, None, Result, Ok, Err, cond, nat_lt, refl, sym, ap, ap₂, subst, arith, length-append}
 use Rattle.std.specs.Prelude.{◌==◌}
-use Rattle.std.proofs.lemmas.Bool.{cond-false, cases_Bool, eq-eqb, ne_eqb, eqb-true, eqb-false, ltb-false, le-ltb, not-false, and_cases, and_left, and_right, both_ways, false≢true, true≢false}
+use Rattle.std.proofs.lemmas.Bool.{cond-true, cond-false, cases_Bool, eq-eqb, eqb-true, ltb-true, ltb-false, leb-true, lt-ltb, le-ltb, le-leb, not-false, and_parts, and_from, and_cases, and_left, and_right, both_ways, false≢true, true≢false}
 use Rattle.std.proofs.lemmas.List.{take-append-drop, length-take, length-drop, take_at, drop_at, drop-drop, drop_all}
 use Rattle.byteorder.specs.Endian.{big_number}
 use Rattle.rtcp_compound.specs.declared.fault.RtcpFault.{RtcpFault}
-use Rattle.rtcp_compound.specs.Grammar.{Packet}
-use Rattle.rtcp_compound.specs.Fault.{size_of}
+use Rattle.rtcp_compound.specs.Grammar.{RtcpPacket, last_byte}
+use Rattle.rtcp_compound.specs.Fault.{ends_in_padding, size_of}
 use Rattle.rtcp_compound.specs.Reading.{◌>>=◌, content_at, padding_in, is_padded, unless}
 
 -- ---- reading in steps
@@ -19,10 +19,14 @@ pub guard_ok : {A : Type 0} (b : Bool) (d : RtcpFault) (r : Result A RtcpFault) 
 guard_ok true d r y e = cc
 guard_ok false d r y e = (refl, e)
 
+otherwise_ok : {A : Type 0} (b : Bool) (d : RtcpFault) (r : Result A RtcpFault) (y : A) → cond b r (Err d) ≡ Ok y → (b ≡ true) × (r ≡ Ok y)
+otherwise_ok true d r y e = (refl, e)
+otherwise_ok false d r y e = cc
+
 pub same_ok : {A : Type 0} (x y : A) → ◌≡◌ {A = Result A RtcpFault} (Ok x) (Ok y) → x ≡ y
 same_ok x y e = cc
 
-pub unless_ok : (o : Option RtcpFault) (p q : Packet) → unless o p ≡ Ok q → (o ≡ None) × (p ≡ q)
+pub unless_ok : (o : Option RtcpFault) (p q : RtcpPacket) → unless o p ≡ Ok q → (o ≡ None) × (p ≡ q)
 unless_ok None p q e = (refl, same_ok p q e)
 unless_ok (Some f) p q e = cc
 
@@ -106,16 +110,14 @@ padding_takes false content n e =
       last = λ f. absurd (false≢true f);
     })
 padding_takes true content n e =
-    let some = guard_ok _ _ _ _ e in
-    let whole = guard_ok _ _ _ _ some.1 in
-    let within = guard_ok _ _ _ _ whole.1 in
-    let last = slice_index content (length content - 1) in
-    let positive : last ≡ 0 → ⊥ = eqb-false last 0 some.0 in
+    let found = otherwise_ok (ends_in_padding content) _ _ _ e in
+    let parts = and_parts _ _ found.0 in
+    let counts = and_parts _ _ parts.0 in
     let P : ℕ → Type 0 = λ m. HasPadding true content m in
-    subst P (same_ok _ _ within.1) (record {
-      within = ltb-false _ _ within.0;
-      whole = eqb-true _ _ (not-false _ whole.0);
-      some = λ _. omega arith;
+    subst P (same_ok _ _ found.1) (record {
+      within = leb-true _ _ parts.1;
+      whole = eqb-true _ _ counts.1;
+      some = λ _. ltb-true _ _ counts.0;
       none = λ f. absurd (true≢false f);
       last = λ _. refl;
     })
@@ -124,13 +126,11 @@ pub padding_again : (padded : Bool) (content : List ℕ) (n : ℕ) → HasPaddin
 unfolding padding_in
 padding_again false content n h = ap Ok (sym (h.none refl))
 padding_again true content n h =
-    let last = slice_index content (length content - 1) in
+    let last = last_byte content in
     let is : last ≡ n = h.last refl in
-    let some : 0 < n = h.some refl in
-    let positive : last ≡ 0 → ⊥ = λ z. absurd (omega arith) in
+    let below : 0 < n = h.some refl in
+    let some : 0 < last = omega arith in
     let whole : last % 4 ≡ 0 = ap (λ (m : ℕ). m % 4) is ∙ h.whole in
     let within : last ≤ length content = omega (arith, h.within) in
-    cond-false (last == 0) _ _ (ne_eqb last 0 positive)
-    ∙ cond-false (not (last % 4 == 0)) _ _ (ap not (eq-eqb _ _ whole))
-    ∙ cond-false (nat_lt (length content) last) _ _ (le-ltb _ _ within)
-    ∙ ap Ok is
+    let ends : ends_in_padding content ≡ true = and_from _ _ (and_from _ _ (lt-ltb _ _ some) (eq-eqb _ _ whole)) (le-leb _ _ within) in
+    cond-true (ends_in_padding content) _ _ ends ∙ ap Ok is

@@ -4,34 +4,34 @@ use Rattle.std.specs.List.{flat_map}
 use Rattle.std.proofs.lemmas.List.{take_at, drop_at}
 use Rattle.std.proofs.lemmas.List.Concat.{flat_map-append}
 use Rattle.rtcp_compound.specs.Content.{Content}
-use Rattle.rtcp_compound.specs.Grammar.{Packet, packet_bytes, AreJoined, ReadsRtcp, Item, item_bytes, AreItems, Chunk, chunk_bytes, IsChunk, AreChunks, HasChunks}
+use Rattle.rtcp_compound.specs.Grammar.{RtcpPacket, packet_bytes, AreJoined, ReadsRtcp, Item, item_bytes, AreItems, Chunk, chunk_bytes, IsChunk, AreChunks, HasChunks}
 use Rattle.rtcp_compound.specs.Fault.{AreUnpadded}
 use Rattle.rtcp_compound.specs.Written.{Appends}
 
 -- ---- in front of a datagram
 
-joined_alone : (ps : List Packet) → AreUnpadded ps → AreJoined ps
+joined_alone : (ps : List RtcpPacket) → AreUnpadded ps → AreJoined ps
 joined_alone [] each = tt
 joined_alone (p ∷ []) each = each.0
 joined_alone (p ∷ (q ∷ ps)) each = (each.0, each.1, joined_alone (q ∷ ps) each.2)
 
-joined_front : (ps qs : List Packet) → AreUnpadded ps → 0 < length qs → AreJoined qs → AreJoined (ps ++ qs)
+joined_front : (ps qs : List RtcpPacket) → AreUnpadded ps → 0 < length qs → AreJoined qs → AreJoined (ps ++ qs)
 joined_front [] qs each some joined = joined
 joined_front (p ∷ []) [] each some joined = absurd (omega arith)
 joined_front (p ∷ []) (q ∷ qs) each some joined = (each.0, each.1, joined)
 joined_front (p ∷ (r ∷ ps)) qs each some joined = (each.0, each.1, joined_front (r ∷ ps) qs each.2 some joined)
 
-pub reads_alone : (ps : List Packet) → AreUnpadded ps → 0 < length ps → ReadsRtcp (flat_map packet_bytes ps) ps
+pub reads_alone : (ps : List RtcpPacket) → AreUnpadded ps → 0 < length ps → ReadsRtcp (flat_map packet_bytes ps) ps
 reads_alone ps each some = record { some = some; joined = joined_alone ps each; bytes_are = refl }
 
-pub reads_front : (ps qs : List Packet) (datagram : List ℕ) → AreUnpadded ps → ReadsRtcp datagram qs → ReadsRtcp (flat_map packet_bytes ps ++ datagram) (ps ++ qs)
+pub reads_front : (ps qs : List RtcpPacket) (datagram : List ℕ) → AreUnpadded ps → ReadsRtcp datagram qs → ReadsRtcp (flat_map packet_bytes ps ++ datagram) (ps ++ qs)
 reads_front ps qs datagram each h = record {
   some = let all = length-append ps qs in let more : 0 < length qs = h.some in omega arith;
   joined = joined_front ps qs each h.some h.joined;
   bytes_are = ap (λ y. flat_map packet_bytes ps ++ y) h.bytes_are ∙ sym (flat_map-append packet_bytes ps qs);
 }
 
-pub reads_written : (p : Packet) (content : Content) (appended datagram : List ℕ) (qs : List Packet) → Appends [] appended p content → ReadsRtcp datagram qs → ReadsRtcp (appended ++ datagram) (p ∷ qs)
+pub reads_written : (p : RtcpPacket) (content : Content) (appended datagram : List ℕ) (qs : List RtcpPacket) → Appends [] appended p content → ReadsRtcp datagram qs → ReadsRtcp (appended ++ datagram) (p ∷ qs)
 reads_written p content appended datagram qs a h =
     let P : List ℕ → Type 0 = λ y. ReadsRtcp y (p ∷ qs) in
     subst P (ap (λ y. y ++ datagram) (append-nil (packet_bytes p) ∙ sym a.bytes_are)) (reads_front (p ∷ []) qs datagram (a.whole, a.no_padding, tt) h)

@@ -6,7 +6,7 @@ use Rattle.std.proofs.lemmas.Bool.{cond-true, cond-false, cond_both, cases_Bool,
 use Rattle.std.proofs.lemmas.List.{take-append-drop, length-take, length-drop, take_at, drop_at, get_or-drop, nil_from_length, get_or-append_right}
 use Rattle.rtcp_compound.specs.declared.fault.RtcpFault.{RtcpFault}
 use Rattle.rtcp_compound.specs.declared.fault.RtcpFault.TheVariants.{Short}
-use Rattle.rtcp_compound.specs.Grammar.{Packet, packet_bytes, IsPacket, IsBody, HasChunks, HasSources}
+use Rattle.rtcp_compound.specs.Grammar.{RtcpPacket, packet_bytes, IsPacket, IsBody, HasChunks, HasSources}
 use Rattle.rtcp_compound.specs.Reading.{◌>>=◌, content_at, padding_in, is_padded, fault_in, fits_bye, after_chunks, unless, packet_at}
 use Rattle.rtcp_compound.proofs.HeaderLemmas.{bind_ok, same_ok, unless_ok, HasContent, content_takes, content_again, HasPadding, padding_takes, padding_again}
 use Rattle.rtcp_compound.proofs.ChunkLemmas.{chunks_take, chunks_again}
@@ -68,7 +68,7 @@ body_again kind count body whole h =
 -- ---- packets
 
 -- the packet stands at the front, before the rest
-pub record Takes (p : Packet) (bytes rest : List ℕ) : Type 0 where
+pub record Takes (p : RtcpPacket) (bytes rest : List ℕ) : Type 0 where
   pub packet : IsPacket p
   pub bytes_are : bytes ≡ packet_bytes p ++ rest
   pub last : 0 < length p.padding → rest ≡ []
@@ -92,7 +92,7 @@ low_byte : (m a b : ℕ) → m ≡ 4 * (a * 256 + (b * 1 + 0)) → b < 256 → m
 low_byte m a b e h = omega arith
 
 -- what is made of a content and its padding
-made : ℕ → ℕ → List ℕ → ℕ → Packet
+made : ℕ → ℕ → List ℕ → ℕ → RtcpPacket
 made b0 b1 content n = record { count = b0 % 32; kind = b1; body = take (length content - n) content; padding = drop (length content - n) content }
 
 -- the header of that packet, before these bytes
@@ -163,48 +163,48 @@ takes_made (b0 ∷ (b1 ∷ (b2 ∷ []))) content rest n fit h pad fits = let hea
 takes_made (b0 ∷ (b1 ∷ (b2 ∷ (b3 ∷ tail)))) content rest n fit h pad fits = packet_made b0 b1 b2 b3 tail content rest n (fit 2) (fit 3) h pad fits
 
 -- reading goes on behind the content, and behind the padding
-abbrev pub ends_with : ℕ → ℕ → List ℕ → List ℕ → List ℕ → Result (Packet × List ℕ) RtcpFault
+abbrev pub ends_with : ℕ → ℕ → List ℕ → List ℕ → List ℕ → Result (RtcpPacket × List ℕ) RtcpFault
 ends_with kind count body padding rest =
     unless (fault_in kind count body) (record { count = count; kind = kind; body = body; padding = padding }) >>= λ p. Ok (p, rest)
 
-abbrev pub after_padding : List ℕ → List ℕ × List ℕ → ℕ → Result (Packet × List ℕ) RtcpFault
+abbrev pub after_padding : List ℕ → List ℕ × List ℕ → ℕ → Result (RtcpPacket × List ℕ) RtcpFault
 after_padding bytes c n = ends_with (slice_index bytes 1) (slice_index bytes 0 % 32) (take (length c.0 - n) c.0) (drop (length c.0 - n) c.0) c.1
 
-abbrev pub after_content : List ℕ → List ℕ × List ℕ → Result (Packet × List ℕ) RtcpFault
+abbrev pub after_content : List ℕ → List ℕ × List ℕ → Result (RtcpPacket × List ℕ) RtcpFault
 after_content bytes c = padding_in (is_padded bytes) c.0 >>= λ n. after_padding bytes c n
 
 pub packet_short : (bytes : List ℕ) → length bytes < 4 → packet_at bytes ≡ Err Short
 unfolding packet_at content_at
 packet_short bytes h = ap (λ r. r >>= after_content bytes) (cond-true (nat_lt (length bytes) 4) (Err Short) _ (lt-ltb _ _ h))
 
-pub packet_takes : (bytes : List ℕ) (x : Packet × List ℕ) → IsBytes bytes → packet_at bytes ≡ Ok x → Takes x.0 bytes x.1
+pub packet_takes : (bytes : List ℕ) (x : RtcpPacket × List ℕ) → IsBytes bytes → packet_at bytes ≡ Ok x → Takes x.0 bytes x.1
 unfolding packet_at made
 packet_takes bytes x fit e =
     let c = bind_ok (content_at bytes) (after_content bytes) x e in
     let n = bind_ok (padding_in (is_padded bytes) c.0.0) (after_padding bytes c.0) x c.2 in
     let b0 = slice_index bytes 0 in
     let b1 = slice_index bytes 1 in
-    let p = bind_ok (unless (fault_in b1 (b0 % 32) (take (length c.0.0 - n.0) c.0.0)) (made b0 b1 c.0.0 n.0)) (λ (q : Packet). Ok (q, c.0.1)) x n.2 in
+    let p = bind_ok (unless (fault_in b1 (b0 % 32) (take (length c.0.0 - n.0) c.0.0)) (made b0 b1 c.0.0 n.0)) (λ (q : RtcpPacket). Ok (q, c.0.1)) x n.2 in
     let u = unless_ok (fault_in b1 (b0 % 32) (take (length c.0.0 - n.0) c.0.0)) (made b0 b1 c.0.0 n.0) p.0 p.1 in
-    let Q : Packet → Type 0 = λ q. Takes q bytes c.0.1 in
-    let R : Packet × List ℕ → Type 0 = λ y. Takes y.0 bytes y.1 in
-    let same : ◌≡◌ {A = Result (Packet × List ℕ) RtcpFault} (Ok (p.0, c.0.1)) (Ok x) = p.2 in
+    let Q : RtcpPacket → Type 0 = λ q. Takes q bytes c.0.1 in
+    let R : RtcpPacket × List ℕ → Type 0 = λ y. Takes y.0 bytes y.1 in
+    let same : ◌≡◌ {A = Result (RtcpPacket × List ℕ) RtcpFault} (Ok (p.0, c.0.1)) (Ok x) = p.2 in
     let first = takes_made bytes c.0.0 c.0.1 n.0 fit (content_takes bytes c.0 c.1) (padding_takes (is_padded bytes) c.0.0 n.0 n.1) u.0 in
     subst R (same_ok (p.0, c.0.1) x same) (subst Q u.1 first)
 
-pub packet_shorter : (bytes : List ℕ) (x : Packet × List ℕ) → packet_at bytes ≡ Ok x → length x.1 + 4 ≤ length bytes
+pub packet_shorter : (bytes : List ℕ) (x : RtcpPacket × List ℕ) → packet_at bytes ≡ Ok x → length x.1 + 4 ≤ length bytes
 unfolding packet_at
 packet_shorter bytes x e =
     let c = bind_ok (content_at bytes) (after_content bytes) x e in
     let n = bind_ok (padding_in (is_padded bytes) c.0.0) (after_padding bytes c.0) x c.2 in
     let b0 = slice_index bytes 0 in
     let b1 = slice_index bytes 1 in
-    let p = bind_ok (unless (fault_in b1 (b0 % 32) (take (length c.0.0 - n.0) c.0.0)) (record { count = b0 % 32; kind = b1; body = take (length c.0.0 - n.0) c.0.0; padding = drop (length c.0.0 - n.0) c.0.0 })) (λ (q : Packet). Ok (q, c.0.1)) x n.2 in
-    let same : ◌≡◌ {A = Result (Packet × List ℕ) RtcpFault} (Ok (p.0, c.0.1)) (Ok x) = p.2 in
+    let p = bind_ok (unless (fault_in b1 (b0 % 32) (take (length c.0.0 - n.0) c.0.0)) (record { count = b0 % 32; kind = b1; body = take (length c.0.0 - n.0) c.0.0; padding = drop (length c.0.0 - n.0) c.0.0 })) (λ (q : RtcpPacket). Ok (q, c.0.1)) x n.2 in
+    let same : ◌≡◌ {A = Result (RtcpPacket × List ℕ) RtcpFault} (Ok (p.0, c.0.1)) (Ok x) = p.2 in
     let h = content_takes bytes c.0 c.1 in
     let header : 4 ≤ length bytes = h.header in
     let all : length bytes - 4 ≡ length c.0.0 + length c.0.1 = sym (length-drop 4 bytes) ∙ ap length h.bytes_are ∙ length-append c.0.0 c.0.1 in
-    let R : Packet × List ℕ → Type 0 = λ y. length y.1 + 4 ≤ length bytes in
+    let R : RtcpPacket × List ℕ → Type 0 = λ y. length y.1 + 4 ≤ length bytes in
     let here : length c.0.1 + 4 ≤ length bytes = omega arith in
     subst R (same_ok (p.0, c.0.1) x same) here
 
@@ -230,7 +230,7 @@ last_read body padding some is =
 body_whole : (a b : ℕ) → (a + b) % 4 ≡ 0 → b % 4 ≡ 0 → a % 4 ≡ 0
 body_whole a b e f = omega arith
 
-pub packet_again : (p : Packet) (rest : List ℕ) → IsPacket p → (0 < length p.padding → rest ≡ []) → packet_at (packet_bytes p ++ rest) ≡ Ok (p, rest)
+pub packet_again : (p : RtcpPacket) (rest : List ℕ) → IsPacket p → (0 < length p.padding → rest ≡ []) → packet_at (packet_bytes p ++ rest) ≡ Ok (p, rest)
 unfolding packet_at
 packet_again p rest h last =
     let bytes = packet_bytes p ++ rest in

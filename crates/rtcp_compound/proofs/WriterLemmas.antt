@@ -9,10 +9,10 @@ use Rattle.std.proofs.lemmas.List.{flat_map_more, map_more, take_all, length-rep
 use Rattle.std.proofs.lemmas.List.Elements.{All-push}
 use Rattle.byteorder.specs.Endian.{big_bytes, twos_complement}
 use Rattle.byteorder.specs.Numbers.{big_number-reads_back}
-use Rattle.rtcp_compound.specs.Content.{Content, sender_report, receiver_report, description, goodbye, shown, sources_in}
+use Rattle.rtcp_compound.specs.Content.{Content, sender_report, receiver_report, description, goodbye, packet_content, sources_in}
 use Rattle.rtcp_compound.specs.Grammar.{packet_bytes, IsPacket, IsBody, chunk_bytes, IsChunk, HasChunks}
 use Rattle.rtcp_compound.specs.Report.{ReportBlock, IsReportBlock, block_bytes, block_in, blocks_in, lost_word}
-use Rattle.rtcp_compound.specs.Written.{unpadded, sr_packet, rr_packet, cname_chunk, cname_packet, bye_packet, Appends}
+use Rattle.rtcp_compound.specs.Written.{plain_packet, sr_packet, rr_packet, cname_chunk, cname_packet, bye_packet, Appends}
 use Rattle.rtcp_compound.proofs.EntryLemmas.{same_block, blocks_more, blocks_none, sources_more, sources_none}
 
 -- ---- appending piece by piece
@@ -96,14 +96,14 @@ length-sources (s ∷ ss) = let rest = length-sources ss in omega arith
 -- ---- a header before a body
 
 header_is : (count kind words : ℕ) (body : List ℕ) → words < 65536 → length body ≡ 4 * words
-    → (128 + count) ∷ (kind ∷ (big_bytes 2 words ++ body)) ≡ packet_bytes (unpadded count kind body)
+    → (128 + count) ∷ (kind ∷ (big_bytes 2 words ++ body)) ≡ packet_bytes (plain_packet count kind body)
 header_is count kind words body fits long =
     let high : words / 256 % 256 ≡ (length body + 0) / 4 / 256 = omega arith in
     let low : words % 256 ≡ (length body + 0) / 4 % 256 = omega arith in
     ap₂ (λ (x y : ℕ). (128 + count) ∷ (kind ∷ (x ∷ (y ∷ body)))) high low
     ∙ ap (λ y. (128 + count) ∷ (kind ∷ (((length body + 0) / 4 / 256) ∷ (((length body + 0) / 4 % 256) ∷ y)))) (sym (append-nil body))
 
-whole_packet : (count kind words : ℕ) (body : List ℕ) → count < 32 → words < 65536 → length body ≡ 4 * words → IsBody kind count body → IsPacket (unpadded count kind body)
+whole_packet : (count kind words : ℕ) (body : List ℕ) → count < 32 → words < 65536 → length body ≡ 4 * words → IsBody kind count body → IsPacket (plain_packet count kind body)
 whole_packet count kind words body counted fits long is = record {
   count = counted;
   words = omega arith;
@@ -114,8 +114,8 @@ whole_packet count kind words body counted fits long is = record {
 }
 
 pub appended : (old new : List ℕ) (n count kind words : ℕ) (body : List ℕ) (content : Content) → n ≡ count → count < 32 → words < 65536 → length body ≡ 4 * words
-    → IsBody kind count body → shown (unpadded count kind body) ≡ content → new ≡ old ++ ((128 + n) ∷ (kind ∷ (big_bytes 2 words ++ body)))
-    → Appends old new (unpadded count kind body) content
+    → IsBody kind count body → packet_content (plain_packet count kind body) ≡ content → new ≡ old ++ ((128 + n) ∷ (kind ∷ (big_bytes 2 words ++ body)))
+    → Appends old new (plain_packet count kind body) content
 appended old new n count kind words body content same counted fits long is says e = record {
   bytes_are = e ∙ ap (λ m. old ++ ((128 + m) ∷ (kind ∷ (big_bytes 2 words ++ body)))) same ∙ ap (λ y. old ++ y) (header_is count kind words body fits long);
   whole = whole_packet count kind words body counted fits long is;
@@ -123,7 +123,7 @@ appended old new n count kind words body content same counted fits long is says 
   says = says;
 }
 
-packet_length : (count kind : ℕ) (body : List ℕ) → length (packet_bytes (unpadded count kind body)) ≡ 4 + length body
+packet_length : (count kind : ℕ) (body : List ℕ) → length (packet_bytes (plain_packet count kind body)) ≡ 4 + length body
 packet_length count kind body = let same = ap length (append-nil body) in omega arith
 
 -- ---- each packet
@@ -140,7 +140,7 @@ pub sr_written : (old new : List ℕ) (sender ntp rtp packets octets n words : �
     → new ≡ old ++ ((128 + n) ∷ (200 ∷ (big_bytes 2 words
     ++ (big_bytes 4 sender ++ (big_bytes 8 ntp ++ (big_bytes 4 rtp ++ (big_bytes 4 packets ++ (big_bytes 4 octets ++ flat_map block_bytes bs))))))))
     → Appends old new (sr_packet sender ntp rtp packets octets bs) (sender_report sender ntp rtp packets octets bs)
-unfolding sr_packet shown
+unfolding sr_packet packet_content
 sr_written old new sender ntp rtp packets octets n words bs same few is s t r p o each e =
     let long = length-blocks bs in
     appended old new n (length bs) 200 words _ _ same (omega arith) (omega arith) (omega arith)
@@ -157,7 +157,7 @@ sr_length sender ntp rtp packets octets bs =
 pub rr_written : (old new : List ℕ) (sender n words : ℕ) (bs : List ReportBlock) → n ≡ length bs → n ≤ 31 → words ≡ 1 + 6 * n → sender < 2 ^ 32 → All IsReportBlock bs
     → new ≡ old ++ ((128 + n) ∷ (201 ∷ (big_bytes 2 words ++ (big_bytes 4 sender ++ flat_map block_bytes bs))))
     → Appends old new (rr_packet sender bs) (receiver_report sender bs)
-unfolding rr_packet shown
+unfolding rr_packet packet_content
 rr_written old new sender n words bs same few is s each e =
     let long = length-blocks bs in
     appended old new n (length bs) 201 words _ _ same (omega arith) (omega arith) (omega arith)
@@ -174,7 +174,7 @@ sources_taken ss each = ap sources_in (take_all (4 * length ss) (flat_map (big_b
 pub bye_written : (old new : List ℕ) (n words : ℕ) (ss : List ℕ) → n ≡ length ss → n ≤ 31 → words ≡ n → All (λ s. s < 2 ^ 32) ss
     → new ≡ old ++ ((128 + n) ∷ (203 ∷ (big_bytes 2 words ++ flat_map (big_bytes 4) ss)))
     → Appends old new (bye_packet ss) (goodbye ss)
-unfolding bye_packet shown
+unfolding bye_packet packet_content
 bye_written old new n words ss same few is each e =
     let long = length-sources ss in
     appended old new n (length ss) 203 words _ _ same (omega arith) (omega arith) (omega arith)
@@ -227,7 +227,7 @@ is_cname_chunk source cname = record {
 pub cname_written : (old new : List ℕ) (source words : ℕ) (cname : List ℕ) → length cname ≤ 255 → words ≡ 2 + (2 + length cname) / 4
     → new ≡ old ++ (129 ∷ (202 ∷ (big_bytes 2 words ++ (big_bytes 4 source ++ (1 ∷ (length cname ∷ (cname ++ zeros_behind (length cname + 2))))))))
     → Appends old new (cname_packet source cname) (description 1 (chunk_bytes (cname_chunk source cname)))
-unfolding cname_packet shown
+unfolding cname_packet packet_content
 cname_written old new source words cname short is e =
     let body = chunk_bytes (cname_chunk source cname) in
     let long : length body ≡ 8 + 4 * ((2 + length cname) / 4) = chunk_length source cname in

@@ -5,7 +5,7 @@ use Rattle.rtcp_compound.specs.declared.bye.Sources.{Sources}
 use Rattle.rtcp_compound.specs.declared.view.RtcpView.{RtcpView}
 use Rattle.rtcp_compound.specs.declared.view.RtcpView.TheVariants.{Sr, Rr, Sdes, Bye, Feedback, Other}
 use Rattle.rtcp_compound.specs.Entries.{entries_from}
-use Rattle.rtcp_compound.specs.Grammar.{Packet}
+use Rattle.rtcp_compound.specs.Grammar.{RtcpPacket}
 use Rattle.rtcp_compound.specs.Report.{ReportBlock, blocks_in, blocks_left}
 
 -- the sources that stand whole in the bytes
@@ -28,12 +28,15 @@ pub data Content : Type 0 where
 
 -- sender, NTP and RTP timestamps, packets, octets and blocks; sender and blocks; count and chunks; sources; FMT, type and
 -- body; count, type and body
-unfoldable pub shown : Packet → Content
-shown p =
+unfoldable pub packet_content : RtcpPacket → Content
+packet_content p =
     if p.kind == 200 then
-    sender_report (big_number 4 p.body) (big_number 8 (drop 4 p.body)) (big_number 4 (drop 12 p.body))
-    (big_number 4 (drop 16 p.body)) (big_number 4 (drop 20 p.body)) (blocks_in (take (24 * p.count) (drop 24 p.body)))
-    else if p.kind == 201 then receiver_report (big_number 4 p.body) (blocks_in (take (24 * p.count) (drop 4 p.body)))
+    sender_report (big_number 4 p.body) (big_number 8 (drop 4 p.body))
+    (big_number 4 (drop 12 p.body))
+    (big_number 4 (drop 16 p.body)) (big_number 4 (drop 20 p.body))
+    (blocks_in (take (24 * p.count) (drop 24 p.body)))
+    else if p.kind == 201
+    then receiver_report (big_number 4 p.body) (blocks_in (take (24 * p.count) (drop 4 p.body)))
     else if p.kind == 202 then description p.count p.body
     else if p.kind == 203 then goodbye (sources_in (take (4 * p.count) p.body))
     else if (p.kind == 205) || (p.kind == 206) then feedback p.count p.kind p.body
@@ -41,7 +44,8 @@ shown p =
 
 -- what a view stands for
 abbrev pub content_of : RtcpView → Content
-content_of (Sr sender ntp rtp packets octets blocks) = sender_report sender.0 ntp rtp packets octets (blocks_left blocks)
+content_of (Sr sender ntp rtp packets octets blocks) =
+    sender_report sender.0 ntp rtp packets octets (blocks_left blocks)
 content_of (Rr sender blocks) = receiver_report sender.0 (blocks_left blocks)
 content_of (Sdes count chunks) = description count chunks.now
 content_of (Bye sources) = goodbye (sources_left sources)

@@ -1,21 +1,21 @@
 -- Why a datagram joins no packets, by arithmetic on its bytes (RFC 3550, sections 6.1 and 6.4 to 6.6). A byte past the end
 -- counts as 0.
-use Rattle.std.specs.Prelude.{◌≡◌, ◌≢◌, ℕ, ◌+◌, ◌-◌, ◌*◌, ◌/◌, ◌%◌, ◌<◌, ◌≤◌, ◌⊎◌, List, [], ◌∷◌, ◌++◌, length, take, drop, slice_index}
+use Rattle.std.specs.Prelude.{◌≡◌, ◌≢◌, ◌==◌, ℕ, ◌+◌, ◌-◌, ◌*◌, ◌/◌, ◌%◌, ◌<◌, ◌≤◌, nat_lt, nat_le, Bool, false, ◌&&◌, List, [], ◌∷◌, ◌++◌, length, take, drop, slice_index}
 use Rattle.std.specs.List.{flat_map}
 use Rattle.byteorder.specs.Endian.{big_number}
 use Rattle.rtcp_compound.specs.declared.fault.RtcpFault.{RtcpFault}
 use Rattle.rtcp_compound.specs.declared.fault.RtcpFault.TheVariants.{Short, Version, Length, PaddingNotLast, Padding, CountOver, SdesUnended}
-use Rattle.rtcp_compound.specs.Grammar.{Packet, packet_bytes, IsPacket, IsBody}
+use Rattle.rtcp_compound.specs.Grammar.{RtcpPacket, packet_bytes, last_byte, IsPacket, IsBody}
 
 -- the numbers of the faults, as texts show them
-abbrev pub number_of : RtcpFault → ℕ
-number_of Short = 1
-number_of Version = 2
-number_of Length = 3
-number_of PaddingNotLast = 4
-number_of Padding = 5
-number_of CountOver = 6
-number_of SdesUnended = 7
+abbrev pub rtcp_fault_number : RtcpFault → ℕ
+rtcp_fault_number Short = 1
+rtcp_fault_number Version = 2
+rtcp_fault_number Length = 3
+rtcp_fault_number PaddingNotLast = 4
+rtcp_fault_number Padding = 5
+rtcp_fault_number CountOver = 6
+rtcp_fault_number SdesUnended = 7
 
 -- the length of the packet at the front with its header, as the header says
 abbrev pub size_of : List ℕ → ℕ
@@ -33,12 +33,11 @@ IsWithin bytes = HasHeader bytes × (size_of bytes ≤ length bytes)
 abbrev pub SaysPadded : List ℕ → Type 0
 SaysPadded bytes = slice_index bytes 0 / 32 % 2 ≡ 1
 
-abbrev pub last_byte : List ℕ → ℕ
-last_byte bytes = slice_index bytes (length bytes - 1)
-
--- the last byte is no length of padding within these bytes: it is 0, no multiple of four, or above their number
-abbrev pub IsNoPadding : List ℕ → Type 0
-IsNoPadding bytes = (last_byte bytes ≡ 0) ⊎ ((last_byte bytes % 4 ≢ 0) ⊎ (length bytes < last_byte bytes))
+-- the last byte counts a padding that ends these bytes: at least one, a multiple of four, and none that isn't there
+-- (RFC 3550, section 6.4.1)
+abbrev pub ends_in_padding : List ℕ → Bool
+ends_in_padding bytes = nat_lt 0 (last_byte bytes) && (last_byte bytes % 4 == 0)
+    && nat_le (last_byte bytes) (length bytes)
 
 -- Header, length and padding of the packet at the front are good: between header and padding stands this body. There is
 -- padding where the header says so, the packet then is the last, and the last byte is how much.
@@ -57,23 +56,27 @@ abbrev pub IsNoBody : List ℕ → List ℕ → Type 0
 IsNoBody bytes body = IsBody (slice_index bytes 1) (slice_index bytes 0 % 32) body → ⊥
 
 -- The bytes begin with a packet that has this fault, and none of a lesser number.
-abbrev pub HasFault : List ℕ → RtcpFault → Type 0
-HasFault bytes Short = length bytes < 4
-HasFault bytes Version = (4 ≤ length bytes) × (slice_index bytes 0 / 64 ≢ 2)
-HasFault bytes Length = HasHeader bytes × (length bytes < size_of bytes)
-HasFault bytes PaddingNotLast = IsWithin bytes × SaysPadded bytes × (size_of bytes < length bytes)
-HasFault bytes Padding = IsWithin bytes × SaysPadded bytes × (size_of bytes ≡ length bytes) × IsNoPadding (drop 4 bytes)
-HasFault bytes CountOver = (body : List ℕ) × HasFrame bytes body × (slice_index bytes 1 ≢ 202) × IsNoBody bytes body
-HasFault bytes SdesUnended = (body : List ℕ) × HasFrame bytes body × (slice_index bytes 1 ≡ 202) × IsNoBody bytes body
+abbrev pub HasRtcpFault : List ℕ → RtcpFault → Type 0
+HasRtcpFault bytes Short = length bytes < 4
+HasRtcpFault bytes Version = (4 ≤ length bytes) × (slice_index bytes 0 / 64 ≢ 2)
+HasRtcpFault bytes Length = HasHeader bytes × (length bytes < size_of bytes)
+HasRtcpFault bytes PaddingNotLast =
+    IsWithin bytes × SaysPadded bytes × (size_of bytes < length bytes)
+HasRtcpFault bytes Padding = IsWithin bytes × SaysPadded bytes × (size_of bytes ≡ length bytes)
+    × (ends_in_padding (drop 4 bytes) ≡ false)
+HasRtcpFault bytes CountOver =
+    (body : List ℕ) × HasFrame bytes body × (slice_index bytes 1 ≢ 202) × IsNoBody bytes body
+HasRtcpFault bytes SdesUnended =
+    (body : List ℕ) × HasFrame bytes body × (slice_index bytes 1 ≡ 202) × IsNoBody bytes body
 
 -- whole packets without padding
-abbrev pub AreUnpadded : List Packet → Type 0
+abbrev pub AreUnpadded : List RtcpPacket → Type 0
 AreUnpadded [] = Unit {0}
 AreUnpadded (p ∷ ps) = IsPacket p × (p.padding ≡ []) × AreUnpadded ps
 
 -- Before the rest stand whole packets without padding. There may be none of them; behind one something follows.
 pub record Passes (bytes rest : List ℕ) : Type 0 where
-  pub before : List Packet
+  pub before : List RtcpPacket
   pub each : AreUnpadded before
   pub goes_on : 0 < length before → 0 < length rest
   pub bytes_are : bytes ≡ flat_map packet_bytes before ++ rest
@@ -82,4 +85,4 @@ pub record Passes (bytes rest : List ℕ) : Type 0 where
 pub record Refuses (bytes : List ℕ) (fault : RtcpFault) : Type 0 where
   pub rest : List ℕ
   pub passes : Passes bytes rest
-  pub here : HasFault rest fault
+  pub here : HasRtcpFault rest fault

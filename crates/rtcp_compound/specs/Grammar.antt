@@ -3,7 +3,7 @@ use Rattle.std.specs.Prelude.{◌≡◌, ℕ, ◌+◌, ◌-◌, ◌*◌, ◌/◌
 use Rattle.std.specs.List.{flat_map}
 
 -- A packet: the count of its entries (or the FMT of feedback), its type, its body, and its padding, which most have not.
-pub record Packet : Type 0 where
+pub record RtcpPacket : Type 0 where
   pub count : ℕ
   pub kind : ℕ
   pub body : List ℕ
@@ -11,10 +11,11 @@ pub record Packet : Type 0 where
 
 -- A header is the version 2 in two bits, a bit for padding and five bits of count; the type; and the length in words
 -- behind the header (RFC 3550, section 6.4.1).
-abbrev pub packet_bytes : Packet → List ℕ
+abbrev pub packet_bytes : RtcpPacket → List ℕ
 packet_bytes p =
     (128 + (if nat_lt 0 (length p.padding) then 32 else 0) + p.count) ∷ p.kind
-    ∷ ((length p.body + length p.padding) / 4 / 256) ∷ ((length p.body + length p.padding) / 4 % 256)
+    ∷ ((length p.body + length p.padding) / 4 / 256)
+    ∷ ((length p.body + length p.padding) / 4 % 256)
     ∷ (p.body ++ p.padding)
 
 -- an item of a chunk: its type, which is never 0, its length and its text (RFC 3550, section 6.5)
@@ -60,7 +61,8 @@ pub record HasChunks (n : ℕ) (body : List ℕ) : Type 0 where
 -- rest is ignored.
 abbrev pub HasSources : ℕ → List ℕ → Type 0
 HasSources count body =
-    (4 * count ≤ length body) × ((length body ≡ 4 * count) ⊎ (4 * count + 1 + slice_index body (4 * count) ≤ length body))
+    (4 * count ≤ length body)
+    × ((length body ≡ 4 * count) ⊎ (4 * count + 1 + slice_index body (4 * count) ≤ length body))
 
 -- What stands in a body by the packet's type: behind the sender (4 bytes) and what a sender report says of its sender (20
 -- bytes more) so many blocks of 24 bytes, and behind them an extension, which is ignored (RFC 3550, sections 6.4.1 and
@@ -71,23 +73,26 @@ pub record IsBody (kind count : ℕ) (body : List ℕ) : Type 0 where
   pub description : kind ≡ 202 → HasChunks count body
   pub goodbye : kind ≡ 203 → HasSources count body
 
--- the last byte of a padding is its length, a multiple of four
-pub record IsPacket (p : Packet) : Type 0 where
+abbrev pub last_byte : List ℕ → ℕ
+last_byte bytes = slice_index bytes (length bytes - 1)
+
+-- the last byte of a padding is its length, a multiple of four (RFC 3550, section 6.4.1)
+pub record IsPacket (p : RtcpPacket) : Type 0 where
   pub count : p.count < 32
   pub words : (length p.body + length p.padding) % 4 ≡ 0
   pub length_fits : length p.body + length p.padding < 4 * 2 ^ 16
   pub padding : length p.padding % 4 ≡ 0
-  pub padding_length : slice_index p.padding (length p.padding - 1) ≡ length p.padding
+  pub padding_length : last_byte p.padding ≡ length p.padding
   pub body : IsBody p.kind p.count p.body
 
 -- one or more packets, the last alone with padding
-abbrev pub AreJoined : List Packet → Type 0
+abbrev pub AreJoined : List RtcpPacket → Type 0
 AreJoined [] = Unit {0}
 AreJoined (p ∷ []) = IsPacket p
 AreJoined (p ∷ (q ∷ ps)) = IsPacket p × (p.padding ≡ []) × AreJoined (q ∷ ps)
 
 -- a datagram of these packets
-pub record ReadsRtcp (bytes : List ℕ) (ps : List Packet) : Type 0 where
+pub record ReadsRtcp (bytes : List ℕ) (ps : List RtcpPacket) : Type 0 where
   pub some : 0 < length ps
   pub joined : AreJoined ps
   pub bytes_are : bytes ≡ flat_map packet_bytes ps

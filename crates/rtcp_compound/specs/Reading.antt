@@ -4,11 +4,12 @@ use Rattle.std.specs.Prelude.{◌≡◌, ◌==◌, ℕ, zero, suc, ◌+◌, ◌-
 use Rattle.rtcp_compound.specs.declared.fault.RtcpFault.{RtcpFault}
 use Rattle.rtcp_compound.specs.declared.fault.RtcpFault.TheVariants.{Short, Version, Length, PaddingNotLast, Padding, CountOver, SdesUnended}
 use Rattle.rtcp_compound.specs.declared.packet.Packet.{Packet as ReadPacket}
-use Rattle.rtcp_compound.specs.Fault.{size_of}
-use Rattle.rtcp_compound.specs.Grammar.{Packet}
+use Rattle.rtcp_compound.specs.Fault.{ends_in_padding, size_of}
+use Rattle.rtcp_compound.specs.Grammar.{RtcpPacket, last_byte}
 
 infixl 10 ◌>>=◌
-abbrev pub ◌>>=◌ : {A B : Type 0} → Result A RtcpFault → (A → Result B RtcpFault) → Result B RtcpFault
+abbrev pub ◌>>=◌ : {A B : Type 0} → Result A RtcpFault → (A → Result B RtcpFault)
+    → Result B RtcpFault
 (Ok x) >>= f = f x
 (Err e) >>= f = Err e
 
@@ -32,10 +33,8 @@ content_at bytes =
 unfoldable pub padding_in : Bool → List ℕ → Result ℕ RtcpFault
 padding_in padded content =
     if not padded then Ok 0
-    else if slice_index content (length content - 1) == 0 then Err Padding
-    else if not (slice_index content (length content - 1) % 4 == 0) then Err Padding
-    else if nat_lt (length content) (slice_index content (length content - 1)) then Err Padding
-    else Ok (slice_index content (length content - 1))
+    else if ends_in_padding content then Ok (last_byte content)
+    else Err Padding
 
 -- the bytes behind the zero byte that ends the items; so many bytes of an item's text are still to come
 abbrev pub after_items : ℕ → List ℕ → Option (List ℕ)
@@ -59,43 +58,51 @@ after_chunks (suc n) body = option_and_then (after_chunks n) (after_chunk body)
 abbrev pub fits_bye : ℕ → List ℕ → Bool
 fits_bye count body =
     not (nat_lt (length body) (4 * count))
-    && ((length body == 4 * count) || not (nat_lt (length body) (4 * count + 1 + slice_index body (4 * count))))
+    && ((length body == 4 * count)
+    || not (nat_lt (length body) (4 * count + 1 + slice_index body (4 * count))))
 
 unfoldable pub fault_in : ℕ → ℕ → List ℕ → Option RtcpFault
 fault_in kind count body =
     if kind == 200 then (if nat_lt (length body) (24 + 24 * count) then Some CountOver else None)
-    else if kind == 201 then (if nat_lt (length body) (4 + 24 * count) then Some CountOver else None)
+    else if kind == 201
+    then (if nat_lt (length body) (4 + 24 * count) then Some CountOver else None)
     else if kind == 202 then (if is_some (after_chunks count body) then None else Some SdesUnended)
     else if kind == 203 then (if fits_bye count body then None else Some CountOver)
     else None
 
-abbrev pub unless : Option RtcpFault → Packet → Result Packet RtcpFault
+abbrev pub unless : Option RtcpFault → RtcpPacket → Result RtcpPacket RtcpFault
 unless None p = Ok p
 unless (Some f) p = Err f
 
 -- the packet at the front, and the bytes behind it
-unfoldable pub packet_at : List ℕ → Result (Packet × List ℕ) RtcpFault
+unfoldable pub packet_at : List ℕ → Result (RtcpPacket × List ℕ) RtcpFault
 packet_at bytes =
     content_at bytes >>= λ c.
     padding_in (is_padded bytes) c.0 >>= λ n.
     unless (fault_in (slice_index bytes 1) (slice_index bytes 0 % 32) (take (length c.0 - n) c.0))
-    (record { count = slice_index bytes 0 % 32; kind = slice_index bytes 1; body = take (length c.0 - n) c.0; padding = drop (length c.0 - n) c.0 }) >>= λ p.
+    (record {
+      count = slice_index bytes 0 % 32;
+      kind = slice_index bytes 1;
+      body = take (length c.0 - n) c.0;
+      padding = drop (length c.0 - n) c.0;
+    }) >>= λ p.
     Ok (p, c.1)
 
-abbrev pub found_then : (List ℕ → List Packet) → Result (Packet × List ℕ) RtcpFault → List Packet
+abbrev pub found_then : (List ℕ → List RtcpPacket) → Result (RtcpPacket × List ℕ) RtcpFault
+    → List RtcpPacket
 found_then others (Ok x) = x.0 ∷ others x.1
 found_then others (Err f) = []
 
 -- the packets that the bytes hold from the front up to a fault, at most so many
-abbrev pub packets_within : ℕ → List ℕ → List Packet
+abbrev pub packets_within : ℕ → List ℕ → List RtcpPacket
 packets_within zero bytes = []
 packets_within (suc n) bytes = found_then (packets_within n) (packet_at bytes)
 
-unfoldable pub packets_in : List ℕ → List Packet
+unfoldable pub packets_in : List ℕ → List RtcpPacket
 packets_in bytes = packets_within (length bytes) bytes
 
 -- header, body and padding
-abbrev pub sizes : List Packet → ℕ
+abbrev pub sizes : List RtcpPacket → ℕ
 sizes [] = 0
 sizes (p ∷ ps) = 4 + (length p.body + length p.padding) + sizes ps
 
@@ -104,12 +111,21 @@ abbrev pub IsReadWhole : List ℕ → Type 0
 IsReadWhole bytes = sizes (packets_in bytes) ≡ length bytes
 
 -- the packet at the front by its header and padding alone, whatever its body holds, and the bytes behind it
-unfoldable pub frame_at : List ℕ → Result (Packet × List ℕ) RtcpFault
+unfoldable pub frame_at : List ℕ → Result (RtcpPacket × List ℕ) RtcpFault
 frame_at bytes =
     content_at bytes >>= λ c.
     padding_in (is_padded bytes) c.0 >>= λ n.
-    Ok (record { count = slice_index bytes 0 % 32; kind = slice_index bytes 1; body = take (length c.0 - n) c.0; padding = drop (length c.0 - n) c.0 }, c.1)
+    Ok (
+      record {
+        count = slice_index bytes 0 % 32;
+        kind = slice_index bytes 1;
+        body = take (length c.0 - n) c.0;
+        padding = drop (length c.0 - n) c.0;
+      },
+      c.1,
+    )
 
 -- what a packet that was read stands for
-abbrev pub packet_of : ReadPacket → Packet
-packet_of p = record { count = p.count; kind = p.kind; body = p.body.now; padding = p.padding.now }
+abbrev pub rtcp_packet_of : ReadPacket → RtcpPacket
+rtcp_packet_of p =
+    record { count = p.count; kind = p.kind; body = p.body.now; padding = p.padding.now }

@@ -36,7 +36,8 @@ pub record IsReportBlock (b : ReportBlock) : Type 0 where
 abbrev pub block_bytes : ReportBlock → List ℕ
 block_bytes b =
     big_bytes 4 b.source ++ (b.fraction ∷ (big_bytes 3 (lost_word b.lost)
-    ++ (big_bytes 4 b.highest ++ (big_bytes 4 b.jitter ++ (big_bytes 4 b.last_sr ++ big_bytes 4 b.delay)))))
+    ++ (big_bytes 4 b.highest
+    ++ (big_bytes 4 b.jitter ++ (big_bytes 4 b.last_sr ++ big_bytes 4 b.delay)))))
 
 -- the block that the bytes begin with
 unfoldable pub block_in : List ℕ → ReportBlock

@@ -2,22 +2,26 @@
 use Rattle.std.specs.Prelude.{◌≡◌, ℕ, ◌+◌, ◌-◌, ◌%◌, List, [], ◌∷◌, ◌++◌, length, replicate}
 use Rattle.std.specs.List.{flat_map}
 use Rattle.byteorder.specs.Endian.{big_bytes}
-use Rattle.rtcp_compound.specs.Content.{Content, shown}
-use Rattle.rtcp_compound.specs.Grammar.{Packet, packet_bytes, IsPacket, Chunk, chunk_bytes}
+use Rattle.rtcp_compound.specs.Content.{Content, packet_content}
+use Rattle.rtcp_compound.specs.Grammar.{RtcpPacket, packet_bytes, IsPacket, Chunk, chunk_bytes}
 use Rattle.rtcp_compound.specs.Report.{ReportBlock, block_bytes}
 
-abbrev pub unpadded : ℕ → ℕ → List ℕ → Packet
-unpadded count kind body = record { count = count; kind = kind; body = body; padding = [] }
+abbrev pub plain_packet : ℕ → ℕ → List ℕ → RtcpPacket
+plain_packet count kind body = record { count = count; kind = kind; body = body; padding = [] }
 
 -- a sender report: sender, NTP and RTP timestamps, packets, octets, blocks (RFC 3550, section 6.4.1)
-unfoldable pub sr_packet : ℕ → ℕ → ℕ → ℕ → ℕ → List ReportBlock → Packet
+unfoldable pub sr_packet : ℕ → ℕ → ℕ → ℕ → ℕ → List ReportBlock → RtcpPacket
 sr_packet sender ntp rtp packets octets blocks =
-    unpadded (length blocks) 200
-    (big_bytes 4 sender ++ (big_bytes 8 ntp ++ (big_bytes 4 rtp ++ (big_bytes 4 packets ++ (big_bytes 4 octets ++ flat_map block_bytes blocks)))))
+    plain_packet (length blocks) 200
+    (big_bytes 4 sender
+    ++ (big_bytes 8 ntp
+    ++ (big_bytes 4 rtp
+    ++ (big_bytes 4 packets ++ (big_bytes 4 octets ++ flat_map block_bytes blocks)))))
 
 -- a receiver report (RFC 3550, section 6.4.2)
-unfoldable pub rr_packet : ℕ → List ReportBlock → Packet
-rr_packet sender blocks = unpadded (length blocks) 201 (big_bytes 4 sender ++ flat_map block_bytes blocks)
+unfoldable pub rr_packet : ℕ → List ReportBlock → RtcpPacket
+rr_packet sender blocks =
+    plain_packet (length blocks) 201 (big_bytes 4 sender ++ flat_map block_bytes blocks)
 
 -- one source with its CNAME, an item of type 1, filled with zeros (RFC 3550, sections 6.5 and 6.5.1)
 unfoldable pub cname_chunk : ℕ → List ℕ → Chunk
@@ -27,16 +31,16 @@ cname_chunk source cname = record {
   filling = replicate (3 - (length cname + 2) % 4) 0;
 }
 
-unfoldable pub cname_packet : ℕ → List ℕ → Packet
-cname_packet source cname = unpadded 1 202 (chunk_bytes (cname_chunk source cname))
+unfoldable pub cname_packet : ℕ → List ℕ → RtcpPacket
+cname_packet source cname = plain_packet 1 202 (chunk_bytes (cname_chunk source cname))
 
 -- a goodbye without a reason (RFC 3550, section 6.6)
-unfoldable pub bye_packet : List ℕ → Packet
-bye_packet sources = unpadded (length sources) 203 (flat_map (big_bytes 4) sources)
+unfoldable pub bye_packet : List ℕ → RtcpPacket
+bye_packet sources = plain_packet (length sources) 203 (flat_map (big_bytes 4) sources)
 
 -- Behind the old bytes this packet stands now. It is whole and without padding, and what it says is this content.
-pub record Appends (old new : List ℕ) (packet : Packet) (content : Content) : Type 0 where
+pub record Appends (old new : List ℕ) (packet : RtcpPacket) (content : Content) : Type 0 where
   pub bytes_are : new ≡ old ++ packet_bytes packet
   pub whole : IsPacket packet
   pub no_padding : packet.padding ≡ []
-  pub says : shown packet ≡ content
+  pub says : packet_content packet ≡ content

@@ -31,11 +31,11 @@ pub enum RtcpFault {
 
 impl RtcpFault {
     ghost use Rattle.std.specs.Prelude.{◌≡◌};
-    ghost use Rattle.rtcp_compound.specs.Fault.{number_of};
+    ghost use Rattle.rtcp_compound.specs.Fault.{rtcp_fault_number};
 
     /// The fault's number, as texts show it.
     pub fn number(self) -> u8
-        ensures { result ≡ number_of self }
+        ensures { result ≡ rtcp_fault_number self }
     {
         match self {
             RtcpFault::Short => 1,

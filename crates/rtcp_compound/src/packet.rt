@@ -1,7 +1,7 @@
 //! The packet at the front of a datagram.
 
 ghost use Rattle.std.specs.Prelude.{◌≡◌, ◌≤◌, ◌*◌, ◌+◌, ◌<◌, MatchResult, MatchOption, IfOk, IsTrue, Ok, Err, Some, None, length};
-ghost use Rattle.rtcp_compound.specs.Reading.{Gives, IsReadWhole, content_at, padding_in, fault_in, fits_bye, frame_at, packet_at, packet_of};
+ghost use Rattle.rtcp_compound.specs.Reading.{Gives, IsReadWhole, content_at, padding_in, fault_in, fits_bye, frame_at, packet_at, rtcp_packet_of};
 
 use crate::fault::RtcpFault;
 use crate::sdes::after_chunks;
@@ -21,7 +21,7 @@ pub const RTPFB: u8 = 205;
 pub const PSFB: u8 = 206;
 
 /// The length of a header in bytes, and of a word and a source.
-pub const WORD: usize = 4;
+pub const WORD_BYTES: usize = 4;
 /// The length of what a sender report says of its sender: source, times and counts.
 pub const SENDER: usize = 24;
 /// The length of a report block.
@@ -41,7 +41,7 @@ pub struct Packet<'a> {
 /// The packet at the front of the bytes, and the bytes behind it.
 #[tactic(auto, using(crate::proofs::FrameLemmas::frame_faulty))]
 pub fn read_packet(bytes: &[u8]) -> Result<(Packet<'_>, &[u8]), RtcpFault>
-    ensures reads { Gives (λ x. (packet_of x.0, x.1.now)) result (packet_at bytes.now) }
+    ensures reads { Gives (λ x. (rtcp_packet_of x.0, x.1.now)) result (packet_at bytes.now) }
     ensures shorter { IfOk result (λ x. length x.1.now + 4 ≤ length bytes.now) }
 {
     let (packet, rest) = read_frame(bytes)?;
@@ -53,7 +53,7 @@ pub fn read_packet(bytes: &[u8]) -> Result<(Packet<'_>, &[u8]), RtcpFault>
 /// at again. Refused where nothing is left.
 pub fn read_again(bytes: &[u8]) -> Result<(Packet<'_>, &[u8]), RtcpFault>
     requires { IsReadWhole bytes.now }
-    ensures reads { Gives (λ x. (packet_of x.0, x.1.now)) result (packet_at bytes.now) }
+    ensures reads { Gives (λ x. (rtcp_packet_of x.0, x.1.now)) result (packet_at bytes.now) }
     ensures rest { IfOk result (λ x. IsReadWhole x.1.now) }
     ensures counted { IfOk result (λ x. x.0.count < 32) }
     ensures sender_report { IfOk result (λ x. x.0.kind ≡ 200 → 24 + 24 * x.0.count ≤ length x.0.body.now) }
@@ -66,7 +66,7 @@ pub fn read_again(bytes: &[u8]) -> Result<(Packet<'_>, &[u8]), RtcpFault>
 /// The packet at the front of the bytes by its header and padding, and the bytes behind it.
 #[tactic(auto, using(crate::proofs::BitLemmas::low_five, crate::proofs::BitLemmas::low_one), unfolding(crate::specs::Reading::frame_at))]
 fn read_frame(bytes: &[u8]) -> Result<(Packet<'_>, &[u8]), RtcpFault>
-    ensures reads { Gives (λ x. (packet_of x.0, x.1.now)) result (frame_at bytes.now) }
+    ensures reads { Gives (λ x. (rtcp_packet_of x.0, x.1.now)) result (frame_at bytes.now) }
     ensures shorter { IfOk result (λ x. length x.1.now + 4 ≤ length bytes.now) }
     ensures counted { IfOk result (λ x. x.0.count < 32) }
 {
@@ -90,20 +90,20 @@ fn read_content(bytes: &[u8]) -> Result<(&[u8], &[u8]), RtcpFault>
     ensures reads { Gives (λ x. (x.0.now, x.1.now)) result (content_at bytes.now) }
     ensures shorter { IfOk result (λ x. length x.1.now + 4 ≤ length bytes.now) }
 {
-    if bytes.len() < WORD {
+    if bytes.len() < WORD_BYTES {
         return Err(RtcpFault::Short);
     }
     if bytes[0] >> 6 != 2 {
         return Err(RtcpFault::Version);
     }
-    let size = WORD * (usize::from(BigEndian::read_u16(&bytes[2..])) + 1);
+    let size = WORD_BYTES * (usize::from(BigEndian::read_u16(&bytes[2..])) + 1);
     if bytes.len() < size {
         return Err(RtcpFault::Length);
     }
     if (bytes[0] >> 5) & 1 == 1 && size < bytes.len() {
         return Err(RtcpFault::PaddingNotLast);
     }
-    Ok((&bytes[WORD..size], &bytes[size..]))
+    Ok((&bytes[WORD_BYTES..size], &bytes[size..]))
 }
 
 /// How many bytes of padding end this, as its last byte says.
@@ -119,7 +119,7 @@ fn padding_len(padded: bool, content: &[u8]) -> Result<usize, RtcpFault>
         return Err(RtcpFault::Padding);
     }
     let padding = usize::from(content[content.len() - 1]);
-    if padding == 0 || padding % WORD != 0 || content.len() < padding {
+    if padding == 0 || padding % WORD_BYTES != 0 || content.len() < padding {
         return Err(RtcpFault::Padding);
     }
     Ok(padding)
@@ -128,12 +128,13 @@ fn padding_len(padded: bool, content: &[u8]) -> Result<usize, RtcpFault>
 /// Whether the body holds what its type and count say.
 #[tactic(auto, unfolding(crate::specs::Reading::fault_in))]
 fn check_body(kind: u8, count: u8, body: &[u8]) -> Result<(), RtcpFault>
-    ensures { MatchResult result (λ _. fault_in kind count body.now ≡ None) (λ fault. fault_in kind count body.now ≡ Some fault) }
+    ensures { MatchResult result (λ _. fault_in kind count body.now ≡ None)
+        (λ fault. fault_in kind count body.now ≡ Some fault) }
 {
     let count = usize::from(count);
     match kind {
         SR if body.len() < SENDER + BLOCK * count => Err(RtcpFault::CountOver),
-        RR if body.len() < WORD + BLOCK * count => Err(RtcpFault::CountOver),
+        RR if body.len() < WORD_BYTES + BLOCK * count => Err(RtcpFault::CountOver),
         SDES if after_chunks(count, body).is_none() => Err(RtcpFault::SdesUnended),
         BYE if !fits_bye(count, body) => Err(RtcpFault::CountOver),
         _ => Ok(()),
@@ -145,7 +146,7 @@ fn fits_bye(count: usize, body: &[u8]) -> bool
     requires { count < 256 }
     ensures { result ≡ fits_bye count body.now }
 {
-    let sources = WORD * count;
+    let sources = WORD_BYTES * count;
     body.len() == sources
         || sources < body.len() && sources + 1 + usize::from(body[sources]) <= body.len()
 }

@@ -3,11 +3,12 @@
 ghost use Rattle.std.specs.Prelude.{◌≡◌, ◌≤◌, Some, None, MatchOption, length};
 ghost use Rattle.rtcp_compound.specs.Reading.{after_items, after_chunk, after_chunks};
 
-use crate::packet::WORD;
+use crate::packet::WORD_BYTES;
 
 /// The bytes behind so many chunks, where they end within the body.
 pub fn after_chunks(count: usize, body: &[u8]) -> Option<&[u8]>
-    ensures { MatchOption result (after_chunks count body.now ≡ None) (λ x. after_chunks count body.now ≡ Some x.now) }
+    ensures { MatchOption result (after_chunks count body.now ≡ None)
+        (λ x. after_chunks count body.now ≡ Some x.now) }
 {
     let mut rest = body;
     let mut left = count;
@@ -21,19 +22,21 @@ pub fn after_chunks(count: usize, body: &[u8]) -> Option<&[u8]>
 /// The bytes behind the chunk at the front, in a body that ends at a word boundary.
 #[tactic(auto, unfolding(crate::specs::Reading::after_chunk))]
 fn after_chunk(body: &[u8]) -> Option<&[u8]>
-    ensures { MatchOption result (after_chunk body.now ≡ None) (λ x. after_chunk body.now ≡ Some x.now) }
+    ensures { MatchOption result (after_chunk body.now ≡ None)
+        (λ x. after_chunk body.now ≡ Some x.now) }
 {
-    if body.len() < WORD {
+    if body.len() < WORD_BYTES {
         return None;
     }
-    let rest = after_items(&body[WORD..])?;
-    Some(&rest[rest.len() % WORD..])
+    let rest = after_items(&body[WORD_BYTES..])?;
+    Some(&rest[rest.len() % WORD_BYTES..])
 }
 
 /// The bytes behind the zero byte that ends the items.
 #[tactic(auto, using(crate::proofs::SdesLemmas::items_end, crate::proofs::SdesLemmas::items_single, crate::proofs::SdesLemmas::items_cut))]
 fn after_items(items: &[u8]) -> Option<&[u8]>
-    ensures { MatchOption result (after_items 0 items.now ≡ None) (λ x. after_items 0 items.now ≡ Some x.now) }
+    ensures { MatchOption result (after_items 0 items.now ≡ None)
+        (λ x. after_items 0 items.now ≡ Some x.now) }
 {
     let mut rest = items;
     while !rest.is_empty() {

@@ -1,11 +1,11 @@
 //! What a packet says, by its type.
 
 ghost use Rattle.std.specs.Prelude.{◌≡◌, ◌≤◌, ◌<◌, ◌+◌, ◌*◌, length};
-ghost use Rattle.rtcp_compound.specs.Content.{content_of, shown};
-ghost use Rattle.rtcp_compound.specs.Reading.{packet_of};
+ghost use Rattle.rtcp_compound.specs.Content.{content_of, packet_content};
+ghost use Rattle.rtcp_compound.specs.Reading.{rtcp_packet_of};
 
 use crate::bye::Sources;
-use crate::packet::{BLOCK, BYE, PSFB, Packet, RR, RTPFB, SDES, SENDER, SR, WORD};
+use crate::packet::{BLOCK, BYE, PSFB, Packet, RR, RTPFB, SDES, SENDER, SR, WORD_BYTES};
 use crate::report::Blocks;
 use byteorder::{BigEndian, ByteOrder};
 use tmmbr_tuple::Ssrc;
@@ -54,13 +54,13 @@ pub enum RtcpView<'a> {
 }
 
 /// What a packet says.
-#[tactic(auto, unfolding(crate::specs::Content::shown))]
+#[tactic(auto, unfolding(crate::specs::Content::packet_content))]
 pub fn view_of(packet: Packet<'_>) -> RtcpView<'_>
     requires counted { packet.count < 32 }
     requires sender_report { packet.kind ≡ 200 → 24 + 24 * packet.count ≤ length packet.body.now }
     requires receiver_report { packet.kind ≡ 201 → 4 + 24 * packet.count ≤ length packet.body.now }
     requires goodbye { packet.kind ≡ 203 → 4 * packet.count ≤ length packet.body.now }
-    ensures { content_of result ≡ shown (packet_of packet.entry) }
+    ensures { content_of result ≡ packet_content (rtcp_packet_of packet.entry) }
 {
     let Packet {
         count,
@@ -83,7 +83,7 @@ pub fn view_of(packet: Packet<'_>) -> RtcpView<'_>
         RR => RtcpView::Rr {
             sender: Ssrc(BigEndian::read_u32(body)),
             blocks: Blocks {
-                bytes: &body[WORD..WORD + BLOCK * entries],
+                bytes: &body[WORD_BYTES..WORD_BYTES + BLOCK * entries],
             },
         },
         SDES => RtcpView::Sdes {
@@ -92,7 +92,7 @@ pub fn view_of(packet: Packet<'_>) -> RtcpView<'_>
         },
         BYE => RtcpView::Bye {
             sources: Sources {
-                bytes: &body[..WORD * entries],
+                bytes: &body[..WORD_BYTES * entries],
             },
         },
         RTPFB | PSFB => RtcpView::Feedback {

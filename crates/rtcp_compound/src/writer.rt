@@ -8,18 +8,19 @@ ghost use Rattle.rtcp_compound.specs.Grammar.{packet_bytes, chunk_bytes};
 ghost use Rattle.rtcp_compound.specs.Report.{block_of, block_bytes, lost_word, IsReportBlock};
 ghost use Rattle.rtcp_compound.specs.Written.{Appends, sr_packet, rr_packet, cname_packet, cname_chunk, bye_packet};
 
-use crate::packet::{BLOCK, BYE, RR, SDES, SENDER, SR, WORD};
+use crate::packet::{BLOCK, BYE, RR, SDES, SENDER, SR, WORD_BYTES};
 use crate::report::Block;
 use byteorder::{BigEndian, ByteOrder};
 use std::alloc::{AllocError, Allocator};
 use tmmbr_tuple::Ssrc;
 
-/// The most blocks of one report, and sources of one goodbye: five bits count them.
+/// The most blocks of one report, and sources of one goodbye: five bits count them (RFC 3550, section
+/// 6.4.1).
 pub const ENTRY_LIMIT: usize = 31;
-/// The longest CNAME in bytes: one byte says how long it is.
+/// The longest CNAME in bytes: one byte says how long it is (RFC 3550, section 6.5).
 pub const CNAME_LIMIT: usize = 255;
 
-/// The version 2, without padding and with a count of 0.
+/// The version 2, without padding and with a count of 0 (RFC 3550, section 6.4.1).
 const VERSION: u8 = 0x80;
 /// The type of an item that is a CNAME (RFC 3550, section 6.5.1).
 const CNAME: u8 = 1;
@@ -42,10 +43,12 @@ pub fn write_sr<A: Allocator>(
         (sender_report sender.0 ntp rtp packets octets (map block_of blocks.now))) }
     ensures unchanged { OnErr result (out.new.items ≡ out.old.items) }
     ensures no_memory { OnErr result (vec_capacity out.old
-        < vec_len out.old + length (packet_bytes (sr_packet sender.0 ntp rtp packets octets (map block_of blocks.now)))) }
+        < vec_len out.old
+        + length (packet_bytes
+        (sr_packet sender.0 ntp rtp packets octets (map block_of blocks.now)))) }
 {
-    let words = (SENDER + BLOCK * blocks.len()) / WORD;
-    out.reserve(WORD + WORD * words)?;
+    let words = (SENDER + BLOCK * blocks.len()) / WORD_BYTES;
+    out.reserve(WORD_BYTES + WORD_BYTES * words)?;
     put_header(out, blocks.len(), SR, words);
     put_u32(out, sender.0);
     put_u64(out, ntp);
@@ -71,8 +74,8 @@ pub fn write_rr<A: Allocator>(
     ensures no_memory { OnErr result (vec_capacity out.old
         < vec_len out.old + length (packet_bytes (rr_packet sender.0 (map block_of blocks.now)))) }
 {
-    let words = (WORD + BLOCK * blocks.len()) / WORD;
-    out.reserve(WORD + WORD * words)?;
+    let words = (WORD_BYTES + BLOCK * blocks.len()) / WORD_BYTES;
+    out.reserve(WORD_BYTES + WORD_BYTES * words)?;
     put_header(out, blocks.len(), RR, words);
     put_u32(out, sender.0);
     put_blocks(out, blocks);
@@ -94,13 +97,13 @@ pub fn write_sdes_cname<A: Allocator>(
         < vec_len out.old + length (packet_bytes (cname_packet source.0 cname.now))) }
 {
     let item = 2 + cname.len();
-    let words = 2 + item / WORD;
-    out.reserve(WORD + WORD * words)?;
+    let words = 2 + item / WORD_BYTES;
+    out.reserve(WORD_BYTES + WORD_BYTES * words)?;
     put_header(out, 1, SDES, words);
     put_u32(out, source.0);
     put(out, &[CNAME, cname.len() as u8]);
     put(out, cname);
-    put_zeros(out, WORD - item % WORD);
+    put_zeros(out, WORD_BYTES - item % WORD_BYTES);
     Ok(())
 }
 
@@ -109,12 +112,14 @@ pub fn write_sdes_cname<A: Allocator>(
 pub fn write_bye<A: Allocator>(out: &mut Vec<u8, A>, sources: &[Ssrc]) -> Result<(), AllocError>
     requires { length sources.now ≤ ENTRY_LIMIT }
     ensures ok { OnOk result (Appends out.old.items out.new.items
-        (bye_packet (map (λ source. source.0) sources.now)) (goodbye (map (λ source. source.0) sources.now))) }
+        (bye_packet (map (λ source. source.0) sources.now))
+        (goodbye (map (λ source. source.0) sources.now))) }
     ensures unchanged { OnErr result (out.new.items ≡ out.old.items) }
     ensures no_memory { OnErr result (vec_capacity out.old
-        < vec_len out.old + length (packet_bytes (bye_packet (map (λ source. source.0) sources.now)))) }
+        < vec_len out.old
+        + length (packet_bytes (bye_packet (map (λ source. source.0) sources.now)))) }
 {
-    out.reserve(WORD + WORD * sources.len())?;
+    out.reserve(WORD_BYTES + WORD_BYTES * sources.len())?;
     put_header(out, sources.len(), BYE, sources.len());
     put_sources(out, sources);
     Ok(())
@@ -165,7 +170,8 @@ fn put_block<A: Allocator>(out: &mut Vec<u8, A>, block: Block)
 /// Appends these sources.
 fn put_sources<A: Allocator>(out: &mut Vec<u8, A>, sources: &[Ssrc])
     requires room { vec_len out.old + 4 * length sources.now ≤ vec_capacity out.old }
-    ensures items { out.new.items ≡ out.old.items ++ flat_map (big_bytes 4) (map (λ source. source.0) sources.now) }
+    ensures items { out.new.items ≡ out.old.items
+        ++ flat_map (big_bytes 4) (map (λ source. source.0) sources.now) }
     ensures each { All (λ source. source < 2 ^ 32) (map (λ source. source.0) sources.now) }
 {
     for source in sources {
@@ -221,7 +227,7 @@ fn put_zeros<A: Allocator>(out: &mut Vec<u8, A>, count: usize)
     ensures len { vec_len out.new ≡ vec_len out.old + count }
     ensures capacity { vec_capacity out.old ≤ vec_capacity out.new }
 {
-    put(out, &[0; WORD][..count]);
+    put(out, &[0; WORD_BYTES][..count]);
 }
 
 /// Appends bytes for which there is room.

@@ -1,9 +1,9 @@
 -- What is written, and what its body is read as.
 use Rattle.std.proofs.Common.{◌≡◌, ◌∙◌, ℕ, ◌+◌, ◌*◌, ◌/◌, ◌%◌, ◌^◌, ◌<◌, ◌≤◌, List, [], ◌∷◌, ◌++◌, length, refl, sym, ap, subst, arith, append_assoc, append-nil}
 use Rattle.std.specs.List.{flat_map, All}
-use Rattle.rtcp_compound.specs.Content.{feedback, shown}
+use Rattle.rtcp_compound.specs.Content.{feedback, packet_content}
 use Rattle.rtcp_compound.specs.Grammar.{ReadsRtcp}
-use Rattle.rtcp_compound.specs.Written.{Appends, unpadded}
+use Rattle.rtcp_compound.specs.Written.{Appends, plain_packet}
 use Rattle.rtcp_compound.proofs.WriterLemmas.{appended}
 use Rattle.rtcp_compound.proofs.LawLemmas.{reads_alone, reads_written}
 use Rattle.rtcp_feedback.specs.declared.tmmb.TmmbrEntry.{TmmbrEntry}
@@ -53,9 +53,9 @@ packet_is old fmt words sender entries h =
 -- ---- as packets of a compound datagram
 
 joins : (fmt kind : ℕ) (body : List ℕ) → fmt < 32 → 203 < kind → length body % 4 ≡ 0 → length body / 4 < 65536
-    → shown (unpadded fmt kind body) ≡ feedback fmt kind body → JoinsCompounds fmt kind body
+    → packet_content (plain_packet fmt kind body) ≡ feedback fmt kind body → JoinsCompounds fmt kind body
 joins fmt kind body fits above words long says =
-    let p = unpadded fmt kind body in
+    let p = plain_packet fmt kind body in
     let one : Appends [] (packet_bytes fmt kind body) p (feedback fmt kind body) =
     appended [] (packet_bytes fmt kind body) fmt fmt kind (length body / 4) body (feedback fmt kind body) refl fits long (omega arith)
     (record { sender_report = λ k. absurd (omega arith); receiver_report = λ k. absurd (omega arith); description = λ k. absurd (omega arith); goodbye = λ k. absurd (omega arith) })
@@ -66,12 +66,12 @@ joins fmt kind body fits above words long says =
       front = λ datagram others h. reads_written p (feedback fmt kind body) (packet_bytes fmt kind body) datagram others one h;
     }
 
-shown_205 : (fmt : ℕ) (body : List ℕ) → shown (unpadded fmt 205 body) ≡ feedback fmt 205 body
-unfolding shown
+shown_205 : (fmt : ℕ) (body : List ℕ) → packet_content (plain_packet fmt 205 body) ≡ feedback fmt 205 body
+unfolding packet_content
 shown_205 fmt body = refl
 
-shown_206 : (fmt : ℕ) (body : List ℕ) → shown (unpadded fmt 206 body) ≡ feedback fmt 206 body
-unfolding shown
+shown_206 : (fmt : ℕ) (body : List ℕ) → packet_content (plain_packet fmt 206 body) ≡ feedback fmt 206 body
+unfolding packet_content
 shown_206 fmt body = refl
 
 pub tmmb_joins : (fmt sender : ℕ) (entries : List TmmbrEntry) → fmt < 32 → length entries ≤ 32766 → JoinsCompounds fmt 205 (tmmb_body sender entries)

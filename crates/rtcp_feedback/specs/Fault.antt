@@ -3,12 +3,13 @@ use Rattle.std.specs.Prelude.{◌≡◌, ◌≢◌, ◌⊎◌, ◌≤◌, ◌-�
 use Rattle.rtcp_feedback.specs.declared.fault.FbFault.{FbFault}
 use Rattle.rtcp_feedback.specs.declared.fault.FbFault.TheVariants.{Short, OddFci}
 
-abbrev pub number_of : FbFault → ℕ
-number_of Short = 1
-number_of OddFci = 2
+abbrev pub feedback_fault_number : FbFault → ℕ
+feedback_fault_number Short = 1
+feedback_fault_number OddFci = 2
 
 -- behind the two sources, entries of a NACK (4 bytes) or of a TMMBR or TMMBN (8 bytes) don't end where the body ends
 abbrev pub HasOddFci : ℕ → ℕ → List ℕ → Type 0
 HasOddFci fmt kind body =
     (8 ≤ length body) × (kind ≡ 205)
-    × (((fmt ≡ 1) × ((length body - 8) % 4 ≢ 0)) ⊎ (((fmt ≡ 3) ⊎ (fmt ≡ 4)) × ((length body - 8) % 8 ≢ 0)))
+    × (((fmt ≡ 1) × ((length body - 8) % 4 ≢ 0))
+    ⊎ (((fmt ≡ 3) ⊎ (fmt ≡ 4)) × ((length body - 8) % 8 ≢ 0)))

@@ -42,18 +42,22 @@ pub record IsBody (body : List ℕ) (sender media : ℕ) (fci : List ℕ) : Type
 -- NACK, TMMBR and TMMBN are the FMTs 1, 3 and 4 of transport layer feedback, the packet type 205; PLI is the FMT 1 of
 -- payload-specific feedback, 206.
 abbrev pub IsKnown : ℕ → ℕ → Type 0
-IsKnown fmt kind = ((kind ≡ 205) × ((fmt ≡ 1) ⊎ ((fmt ≡ 3) ⊎ (fmt ≡ 4)))) ⊎ ((kind ≡ 206) × (fmt ≡ 1))
+IsKnown fmt kind =
+    ((kind ≡ 205) × ((fmt ≡ 1) ⊎ ((fmt ≡ 3) ⊎ (fmt ≡ 4)))) ⊎ ((kind ≡ 206) × (fmt ≡ 1))
 
 -- A packet of this FMT, type and body says this. The source of media in a TMMBR and a TMMBN may be any, and so may the
 -- FCI of a PLI, and all behind the sender of an unknown packet.
 abbrev pub ReadsFeedback : ℕ → ℕ → List ℕ → Message → Type 0
 ReadsFeedback fmt kind body (nack sender media entries) =
-    (kind ≡ 205) × (fmt ≡ 1) × All IsNack entries × IsBody body sender media (flat_map nack_bytes entries)
+    (kind ≡ 205) × (fmt ≡ 1) × All IsNack entries
+    × IsBody body sender media (flat_map nack_bytes entries)
 ReadsFeedback fmt kind body (pli sender media) =
     (kind ≡ 206) × (fmt ≡ 1) × ((fci : List ℕ) × IsBody body sender media fci)
 ReadsFeedback fmt kind body (tmmbr sender entries) =
-    (kind ≡ 205) × (fmt ≡ 3) × All IsEntry entries × ((media : ℕ) × IsBody body sender media (flat_map entry_bytes entries))
+    (kind ≡ 205) × (fmt ≡ 3) × All IsEntry entries
+    × ((media : ℕ) × IsBody body sender media (flat_map entry_bytes entries))
 ReadsFeedback fmt kind body (tmmbn sender entries) =
-    (kind ≡ 205) × (fmt ≡ 4) × All IsEntry entries × ((media : ℕ) × IsBody body sender media (flat_map entry_bytes entries))
+    (kind ≡ 205) × (fmt ≡ 4) × All IsEntry entries
+    × ((media : ℕ) × IsBody body sender media (flat_map entry_bytes entries))
 ReadsFeedback fmt kind body (unknown sender) =
     ¬ IsKnown fmt kind × ((media : ℕ) × (fci : List ℕ) × IsBody body sender media fci)

@@ -20,7 +20,10 @@ nacks_in _ = []
 -- the entries of a TMMBR or a TMMBN, eight bytes each; fewer at the end are none
 abbrev pub entries_in : List ℕ → List TmmbrEntry
 entries_in (a ∷ (b ∷ (c ∷ (d ∷ (e ∷ (f ∷ (g ∷ (h ∷ rest)))))))) =
-    record { ssrc = record { 0 = big_number 4 (a ∷ (b ∷ (c ∷ (d ∷ [])))) }; word = big_number 4 (e ∷ (f ∷ (g ∷ (h ∷ [])))) } ∷ entries_in rest
+    record {
+      ssrc = record { 0 = big_number 4 (a ∷ (b ∷ (c ∷ (d ∷ [])))) };
+      word = big_number 4 (e ∷ (f ∷ (g ∷ (h ∷ []))));
+    } ∷ entries_in rest
 entries_in _ = []
 
 -- what iterators have left to yield
@@ -41,9 +44,12 @@ message_of (Unknown sender) = unknown sender.0
 -- what a packet of this FMT and type says behind its two sources
 unfoldable pub message_at : ℕ → ℕ → ℕ → ℕ → List ℕ → Result Message FbFault
 message_at fmt kind sender media fci =
-    if (kind == 205) && (fmt == 1) then (if length fci % 4 == 0 then Ok (nack sender media (nacks_in fci)) else Err OddFci)
-    else if (kind == 205) && (fmt == 3) then (if length fci % 8 == 0 then Ok (tmmbr sender (entries_in fci)) else Err OddFci)
-    else if (kind == 205) && (fmt == 4) then (if length fci % 8 == 0 then Ok (tmmbn sender (entries_in fci)) else Err OddFci)
+    if (kind == 205) && (fmt == 1)
+    then (if length fci % 4 == 0 then Ok (nack sender media (nacks_in fci)) else Err OddFci)
+    else if (kind == 205) && (fmt == 3)
+    then (if length fci % 8 == 0 then Ok (tmmbr sender (entries_in fci)) else Err OddFci)
+    else if (kind == 205) && (fmt == 4)
+    then (if length fci % 8 == 0 then Ok (tmmbn sender (entries_in fci)) else Err OddFci)
     else if (kind == 206) && (fmt == 1) then Ok (pli sender media)
     else Ok (unknown sender)
 

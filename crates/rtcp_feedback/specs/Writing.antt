@@ -4,8 +4,8 @@ use Rattle.std.specs.Prelude.{◌≡◌, ℕ, ◌+◌, ◌/◌, ◌%◌, ◌^◌
 use Rattle.std.specs.List.{flat_map}
 use Rattle.byteorder.specs.Endian.{big_bytes}
 use Rattle.rtcp_compound.specs.Content.{feedback}
-use Rattle.rtcp_compound.specs.Grammar.{Packet, ReadsRtcp}
-use Rattle.rtcp_compound.specs.Written.{Appends, unpadded}
+use Rattle.rtcp_compound.specs.Grammar.{RtcpPacket, ReadsRtcp}
+use Rattle.rtcp_compound.specs.Written.{Appends, plain_packet}
 use Rattle.rtcp_feedback.specs.declared.tmmb.TmmbrEntry.{TmmbrEntry}
 use Rattle.rtcp_feedback.specs.Grammar.{Message, ReadsFeedback, body_bytes, entry_bytes}
 
@@ -39,7 +39,8 @@ front_bytes fmt kind words sender media =
 -- These bytes are one RTCP packet, whole and without padding, which shows this FMT, type and body. It is read alone, and
 -- in front of any datagram, whose packets then follow.
 pub record JoinsCompounds (fmt kind : ℕ) (body : List ℕ) : Type 0 where
-  pub one : Appends [] (packet_bytes fmt kind body) (unpadded fmt kind body) (feedback fmt kind body)
-  pub alone : ReadsRtcp (packet_bytes fmt kind body) (unpadded fmt kind body ∷ [])
-  pub front : (datagram : List ℕ) (others : List Packet) → ReadsRtcp datagram others
-      → ReadsRtcp (packet_bytes fmt kind body ++ datagram) (unpadded fmt kind body ∷ others)
+  pub one : Appends [] (packet_bytes fmt kind body) (plain_packet fmt kind body)
+      (feedback fmt kind body)
+  pub alone : ReadsRtcp (packet_bytes fmt kind body) (plain_packet fmt kind body ∷ [])
+  pub front : (datagram : List ℕ) (others : List RtcpPacket) → ReadsRtcp datagram others
+      → ReadsRtcp (packet_bytes fmt kind body ++ datagram) (plain_packet fmt kind body ∷ others)

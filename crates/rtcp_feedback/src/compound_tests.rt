@@ -7,7 +7,7 @@ use std::test::Fail;
 use tmmbr_tuple::Ssrc;
 
 /// 1,000 bit/s at an overhead of 40 bytes.
-const WORD: u32 = 0x0007_d028;
+const TUPLE: u32 = 0x0007_d028;
 
 /// The next packet, which is feedback of this FMT and type, as it is read.
 fn next_feedback<'a>(
@@ -28,7 +28,7 @@ fn next_feedback<'a>(
 fn written_packets_are_split_and_read(rt: HostRuntime) -> Result<(), Fail> {
     let asked = TmmbrEntry {
         ssrc: Ssrc(16),
-        word: WORD,
+        word: TUPLE,
     };
     let mut out = Vec::new(rt.alloc());
     write_tmmbr(&mut out, Ssrc(17), &[asked, asked])?;

@@ -16,11 +16,11 @@ pub enum FbFault {
 
 impl FbFault {
     ghost use Rattle.std.specs.Prelude.{◌≡◌};
-    ghost use Rattle.rtcp_feedback.specs.Fault.{number_of};
+    ghost use Rattle.rtcp_feedback.specs.Fault.{feedback_fault_number};
 
     /// The fault's number, as texts show it.
     pub fn number(self) -> u8
-        ensures { result ≡ number_of self }
+        ensures { result ≡ feedback_fault_number self }
     {
         match self {
             FbFault::Short => 1,

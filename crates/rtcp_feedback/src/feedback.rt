@@ -48,7 +48,8 @@ pub enum Feedback<'a> {
 /// padding. Refused with `Short` and `OddFci`, each exactly by its cause. Takes no memory.
 pub fn read_feedback(fmt: u8, kind: u8, body: &[u8]) -> Result<Feedback<'_>, FbFault>
     ensures read { IfOk result (λ found. ReadsFeedback fmt kind body.now (message_of found)) }
-    ensures every { (m : Message) → ReadsFeedback fmt kind body.now m → IsOkAnd result (λ found. message_of found ≡ m) }
+    ensures every { (m : Message) → ReadsFeedback fmt kind body.now m
+        → IsOkAnd result (λ found. message_of found ≡ m) }
     ensures short { IsErrOf result FbFault.Short ↔ (length body.now < 8) }
     ensures odd_fci { IsErrOf result FbFault.OddFci ↔ HasOddFci fmt kind body.now }
 {

@@ -12,17 +12,22 @@ use crate::tmmb::MAX_ENTRIES;
 /// `read_feedback` of such a body answers the writer's arguments, since it answers whatever the grammar
 /// reads.
 pub fn writers_read_again()
-    ensures tmmbr { (sender : ℕ) (entries : List Entry) → sender < 2 ^ 32 → All IsEntry entries → length entries ≤ MAX_ENTRIES
+    ensures tmmbr { (sender : ℕ) (entries : List Entry) → sender < 2 ^ 32 → All IsEntry entries
+        → length entries ≤ MAX_ENTRIES
         → IsReadAs 3 205 (tmmb_body sender entries) (tmmbr sender entries) }
-    ensures tmmbn { (sender : ℕ) (entries : List Entry) → sender < 2 ^ 32 → All IsEntry entries → length entries ≤ MAX_ENTRIES
+    ensures tmmbn { (sender : ℕ) (entries : List Entry) → sender < 2 ^ 32 → All IsEntry entries
+        → length entries ≤ MAX_ENTRIES
         → IsReadAs 4 205 (tmmb_body sender entries) (tmmbn sender entries) }
-    ensures pli { (sender media : ℕ) → sender < 2 ^ 32 → media < 2 ^ 32 → IsReadAs 1 206 (pli_body sender media) (pli sender media) }
+    ensures pli { (sender media : ℕ) → sender < 2 ^ 32 → media < 2 ^ 32
+        → IsReadAs 1 206 (pli_body sender media) (pli sender media) }
 {}
 
 /// Each packet that a writer appends is one whole RTCP packet without padding, which shows its FMT, type and
 /// body. So it is read alone, and in front of any datagram, whose packets then follow.
 pub fn writers_join_compounds()
-    ensures tmmbr { (sender : ℕ) (entries : List Entry) → length entries ≤ MAX_ENTRIES → JoinsCompounds 3 205 (tmmb_body sender entries) }
-    ensures tmmbn { (sender : ℕ) (entries : List Entry) → length entries ≤ MAX_ENTRIES → JoinsCompounds 4 205 (tmmb_body sender entries) }
+    ensures tmmbr { (sender : ℕ) (entries : List Entry) → length entries ≤ MAX_ENTRIES
+        → JoinsCompounds 3 205 (tmmb_body sender entries) }
+    ensures tmmbn { (sender : ℕ) (entries : List Entry) → length entries ≤ MAX_ENTRIES
+        → JoinsCompounds 4 205 (tmmb_body sender entries) }
     ensures pli { (sender media : ℕ) → JoinsCompounds 1 206 (pli_body sender media) }
 {}

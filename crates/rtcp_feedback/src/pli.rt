@@ -15,7 +15,8 @@ pub fn write_pli<A: Allocator>(
     sender: Ssrc,
     media: Ssrc,
 ) -> Result<(), AllocError>
-    ensures written { OnOk result (out.new.items ≡ out.old.items ++ packet_bytes 1 206 (pli_body sender.0 media.0)) }
+    ensures written { OnOk result (out.new.items ≡ out.old.items
+        ++ packet_bytes 1 206 (pli_body sender.0 media.0)) }
     ensures unchanged { OnErr result (out.new.items ≡ out.old.items) }
     ensures succeeds { vec_len out.old + 12 ≤ vec_capacity out.old → IsOk result }
 {

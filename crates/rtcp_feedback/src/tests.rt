@@ -8,7 +8,7 @@ use std::test::Fail;
 use tmmbr_tuple::Ssrc;
 
 /// 1,000 bit/s at an overhead of 40 bytes: exponent 0, mantissa 1000, overhead 40.
-const WORD: u32 = 0x0007_d028;
+const TUPLE: u32 = 0x0007_d028;
 
 /// A TMMBN of sender 1 with one entry, owner 17.
 const TMMBN: [u8; 20] = [
@@ -91,13 +91,13 @@ fn lost_of_example_15(rt: HostRuntime) {
 #[test]
 fn writers_read_again(rt: HostRuntime) -> Result<(), Fail> {
     let mut out = vec![in rt.alloc(); 7]?;
-    let answer = write_tmmbn(&mut out, Ssrc(1), &[entry(17, WORD)]);
+    let answer = write_tmmbn(&mut out, Ssrc(1), &[entry(17, TUPLE)]);
     written(&rt, &out, answer, &TMMBN)?;
     let mut out = vec![in rt.alloc(); 7]?;
     let answer = write_tmmbn(&mut out, Ssrc(1), &[]);
     written(&rt, &out, answer, &EMPTY_TMMBN)?;
     let mut out = vec![in rt.alloc(); 7]?;
-    let answer = write_tmmbr(&mut out, Ssrc(17), &[entry(16, WORD)]);
+    let answer = write_tmmbr(&mut out, Ssrc(17), &[entry(16, TUPLE)]);
     written(&rt, &out, answer, &TMMBR)?;
     let mut out = vec![in rt.alloc(); 7]?;
     let answer = write_pli(&mut out, Ssrc(9), Ssrc(16));
@@ -111,7 +111,7 @@ fn writers_read_again(rt: HostRuntime) -> Result<(), Fail> {
             },
         ) => {
             assert_eq!(rt; sender, Ssrc(1));
-            assert_eq!(rt; entries.next(), Some(entry(17, WORD)));
+            assert_eq!(rt; entries.next(), Some(entry(17, TUPLE)));
             assert_eq!(rt; entries.next(), None);
         }
         _ => panic!(rt; "a TMMBN"),
@@ -124,7 +124,7 @@ fn writers_read_again(rt: HostRuntime) -> Result<(), Fail> {
             },
         ) => {
             assert_eq!(rt; sender, Ssrc(17));
-            assert_eq!(rt; entries.next(), Some(entry(16, WORD)));
+            assert_eq!(rt; entries.next(), Some(entry(16, TUPLE)));
             assert_eq!(rt; entries.next(), None);
         }
         _ => panic!(rt; "a TMMBR"),
@@ -208,7 +208,7 @@ fn ignored_parts(rt: HostRuntime) {
             },
         ) => {
             assert_eq!(rt; sender, Ssrc(17));
-            assert_eq!(rt; entries.next(), Some(entry(16, WORD)));
+            assert_eq!(rt; entries.next(), Some(entry(16, TUPLE)));
         }
         _ => panic!(rt; "a TMMBR"),
     }
@@ -244,7 +244,7 @@ fn each_fault(rt: HostRuntime) {
 /// The longest packet: 65,534 words behind its header.
 #[test]
 fn as_many_entries_as_may_be(rt: HostRuntime) -> Result<(), Fail> {
-    let entries = vec![in rt.alloc(); entry(16, WORD); MAX_ENTRIES]?;
+    let entries = vec![in rt.alloc(); entry(16, TUPLE); MAX_ENTRIES]?;
     let mut out = vec![in rt.alloc()]?;
     write_tmmbr(&mut out, Ssrc(17), entries.as_slice())?;
     assert_eq!(rt; out.len(), 4 * 65_535);
@@ -284,8 +284,8 @@ fn memory_refused(rt: HostRuntime) -> Result<(), Fail> {
 /// What one of the three writers appends.
 fn write<A: Allocator>(writer: u8, out: &mut Vec<u8, A>) -> Result<(), AllocError> {
     match writer {
-        0 => write_tmmbr(out, Ssrc(17), &[entry(16, WORD)]),
-        1 => write_tmmbn(out, Ssrc(1), &[entry(17, WORD)]),
+        0 => write_tmmbr(out, Ssrc(17), &[entry(16, TUPLE)]),
+        1 => write_tmmbn(out, Ssrc(1), &[entry(17, TUPLE)]),
         _ => write_pli(out, Ssrc(9), Ssrc(16)),
     }
 }

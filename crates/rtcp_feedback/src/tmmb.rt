@@ -77,9 +77,11 @@ pub fn write_tmmbr<A: Allocator>(
     entries: &[TmmbrEntry],
 ) -> Result<(), AllocError>
     requires { length entries.now ≤ MAX_ENTRIES }
-    ensures written { OnOk result (out.new.items ≡ out.old.items ++ packet_bytes 3 205 (tmmb_body sender.0 entries.now)) }
+    ensures written { OnOk result (out.new.items ≡ out.old.items
+        ++ packet_bytes 3 205 (tmmb_body sender.0 entries.now)) }
     ensures unchanged { OnErr result (out.new.items ≡ out.old.items) }
-    ensures succeeds { vec_len out.old + (12 + 8 * length entries.now) ≤ vec_capacity out.old → IsOk result }
+    ensures succeeds { vec_len out.old + (12 + 8 * length entries.now) ≤ vec_capacity out.old
+        → IsOk result }
 {
     write_entries(out, FMT_TMMBR, sender, entries)
 }
@@ -92,9 +94,11 @@ pub fn write_tmmbn<A: Allocator>(
     entries: &[TmmbrEntry],
 ) -> Result<(), AllocError>
     requires { length entries.now ≤ MAX_ENTRIES }
-    ensures written { OnOk result (out.new.items ≡ out.old.items ++ packet_bytes 4 205 (tmmb_body sender.0 entries.now)) }
+    ensures written { OnOk result (out.new.items ≡ out.old.items
+        ++ packet_bytes 4 205 (tmmb_body sender.0 entries.now)) }
     ensures unchanged { OnErr result (out.new.items ≡ out.old.items) }
-    ensures succeeds { vec_len out.old + (12 + 8 * length entries.now) ≤ vec_capacity out.old → IsOk result }
+    ensures succeeds { vec_len out.old + (12 + 8 * length entries.now) ≤ vec_capacity out.old
+        → IsOk result }
 {
     write_entries(out, FMT_TMMBN, sender, entries)
 }
@@ -108,9 +112,11 @@ fn write_entries<A: Allocator>(
 ) -> Result<(), AllocError>
     requires fmt { fmt < 32 }
     requires count { length entries.now ≤ MAX_ENTRIES }
-    ensures written { OnOk result (out.new.items ≡ out.old.items ++ packet_bytes fmt 205 (tmmb_body sender.0 entries.now)) }
+    ensures written { OnOk result (out.new.items ≡ out.old.items
+        ++ packet_bytes fmt 205 (tmmb_body sender.0 entries.now)) }
     ensures unchanged { OnErr result (out.new.items ≡ out.old.items) }
-    ensures succeeds { vec_len out.old + (12 + 8 * length entries.now) ≤ vec_capacity out.old → IsOk result }
+    ensures succeeds { vec_len out.old + (12 + 8 * length entries.now) ≤ vec_capacity out.old
+        → IsOk result }
 {
     out.reserve(FRONT + ENTRY * entries.len())?;
     let words = 2 + 2 * entries.len() as u16;

@@ -6,21 +6,21 @@ use Rattle.byteorder.specs.Endian.{big_number}
 use Rattle.rtp_packet.specs.declared.header.Header.{Header}
 use Rattle.rtp_packet.specs.declared.fault.RtpFault.{RtpFault}
 use Rattle.rtp_packet.specs.declared.fault.RtpFault.TheVariants.{Short, Version, CsrcShort, ExtensionShort, Padding, Room}
-use Rattle.rtp_packet.specs.Grammar.{Packet, ExtensionTree, ReadsRtp, IsExtension, IsPadding, bit_of, is_there, body_bytes, first_byte, second_byte, extension_bytes}
+use Rattle.rtp_packet.specs.Grammar.{RtpPacket, ExtensionTree, ReadsRtp, IsExtension, IsPadding, bit_of, is_there, body_bytes, first_byte, second_byte, extension_bytes}
 use Rattle.rtp_packet.specs.Header.{IsHeaderOf}
-use Rattle.rtp_packet.specs.Fault.{HasFault, IsNoCount, csrc_end, extension_end}
+use Rattle.rtp_packet.specs.Fault.{HasRtpFault, IsNoCount, csrc_end, extension_end}
 use Rattle.rtp_packet.proofs.FixedLemmas.{length-packet_bytes, first_of_fixed, drop-fixed_bytes, fixed_bytes-read, fixed_bytes-injective}
 use Rattle.rtp_packet.proofs.PartLemmas.{first_parts, second_parts, bit_of-injective, append-parts, drop-part, extension_bytes-injective, padding-injective, count_of_padding, above-from_bit, extension_end-is}
 
 -- packets with the same parts are one
-same_packet : (p q : Packet) → p.marker ≡ q.marker → p.payload_type ≡ q.payload_type → p.sequence_number ≡ q.sequence_number
+same_packet : (p q : RtpPacket) → p.marker ≡ q.marker → p.payload_type ≡ q.payload_type → p.sequence_number ≡ q.sequence_number
     → p.timestamp ≡ q.timestamp → p.ssrc ≡ q.ssrc → p.csrcs ≡ q.csrcs → p.extension ≡ q.extension → p.payload ≡ q.payload
     → p.padding ≡ q.padding → p ≡ q
 same_packet p q a b c d e f g h k =
     λ i. record { marker = a i; payload_type = b i; sequence_number = c i; timestamp = d i; ssrc = e i; csrcs = f i; extension = g i; payload = h i; padding = k i }
 
 -- A datagram is one packet at most.
-pub one_packet : (datagram : List ℕ) (p q : Packet) → ReadsRtp datagram p → ReadsRtp datagram q → p ≡ q
+pub one_packet : (datagram : List ℕ) (p q : RtpPacket) → ReadsRtp datagram p → ReadsRtp datagram q → p ≡ q
 one_packet datagram p q rp rq =
     let vp = rp.valid in
     let vq = rq.valid in
@@ -93,7 +93,7 @@ csrc_end-is d h csrcs header size =
 
 pub extension_fault : (d : List ℕ) (h : Header) (csrcs rest : List ℕ) → IsHeaderOf d h
     → drop 12 d ≡ csrcs ++ rest → length csrcs ≡ 4 * h.csrc_count → h.extension ≡ true
-    → length rest < 4 + 4 * big_number 2 (drop 2 rest) → HasFault d ExtensionShort
+    → length rest < 4 + 4 * big_number 2 (drop 2 rest) → HasRtpFault d ExtensionShort
 extension_fault d h csrcs rest header cut size there short =
     let parts = first_parts (slice_index d 0) h.csrc_count h.padding h.extension header.first header.csrc_count in
     let whole = header.whole in
@@ -108,7 +108,7 @@ extension_fault d h csrcs rest header cut size there short =
 pub padding_fault : (d : List ℕ) (h : Header) (csrcs rest : List ℕ) (e : Option ExtensionTree) (more : List ℕ)
     → IsHeaderOf d h → drop 12 d ≡ csrcs ++ rest → length csrcs ≡ 4 * h.csrc_count
     → rest ≡ extension_bytes e ++ more → IsExtension e → is_there e ≡ h.extension
-    → h.padding ≡ true → IsNoCount more → HasFault d Padding
+    → h.padding ≡ true → IsNoCount more → HasRtpFault d Padding
 padding_fault d h csrcs rest e more header cut size cut_e valid_e there padded none =
     let parts = first_parts (slice_index d 0) h.csrc_count h.padding h.extension header.first header.csrc_count in
     let whole = header.whole in
@@ -122,7 +122,7 @@ padding_fault d h csrcs rest e more header cut size cut_e valid_e there padded n
     ((whole, parts.0), omega arith, omega arith, parts.1 ∙ ap bit_of padded, subst P (sym tail) none)
 
 -- where the parts of a packet stand in its datagram
-pub record IsLaidOut (d : List ℕ) (p : Packet) : Type 0 where
+pub record IsLaidOut (d : List ℕ) (p : RtpPacket) : Type 0 where
   pub whole : 12 ≤ length d
   pub version : slice_index d 0 / 64 ≡ 2
   pub padded : slice_index d 0 / 32 % 2 ≡ bit_of (nat_lt 0 (length p.padding))
@@ -130,7 +130,7 @@ pub record IsLaidOut (d : List ℕ) (p : Packet) : Type 0 where
   pub end : extension_end d + length (p.payload ++ p.padding) ≡ length d
   pub tail : drop (extension_end d) d ≡ p.payload ++ p.padding
 
-pub laid_out : (d : List ℕ) (p : Packet) → ReadsRtp d p → IsLaidOut d p
+pub laid_out : (d : List ℕ) (p : RtpPacket) → ReadsRtp d p → IsLaidOut d p
 laid_out d p reads =
     let valid = reads.valid in
     let csrcs_whole = valid.csrcs_whole in
@@ -166,7 +166,7 @@ not_no_count payload padding valid some h =
     elim h [ inl none ↦ omega arith | inr other ↦ elim other [ inl zero_count ↦ omega arith | inr above ↦ omega arith ] ]
 
 -- A packet has no fault.
-pub no_fault : (d : List ℕ) (p : Packet) (fault : RtpFault) → ReadsRtp d p → HasFault d fault → ⊥
+pub no_fault : (d : List ℕ) (p : RtpPacket) (fault : RtpFault) → ReadsRtp d p → HasRtpFault d fault → ⊥
 no_fault d p Short reads h = let l = laid_out d p reads in omega arith
 no_fault d p Version reads h = let l = laid_out d p reads in h.1 l.version
 no_fault d p CsrcShort reads h = let l = laid_out d p reads in omega arith
@@ -178,7 +178,7 @@ no_fault d p Padding reads h =
     not_no_count p.payload p.padding reads.valid.padding some (subst P l.tail h.4)
 no_fault d p Room reads h = h
 
-pub csrc_fault : (d : List ℕ) (h : Header) → IsHeaderOf d h → length (drop 12 d) < 4 * h.csrc_count → HasFault d CsrcShort
+pub csrc_fault : (d : List ℕ) (h : Header) → IsHeaderOf d h → length (drop 12 d) < 4 * h.csrc_count → HasRtpFault d CsrcShort
 csrc_fault d h header short =
     let parts = first_parts (slice_index d 0) h.csrc_count h.padding h.extension header.first header.csrc_count in
     let whole = header.whole in
@@ -186,11 +186,11 @@ csrc_fault d h header short =
     let left = length-drop 12 d in
     ((whole, parts.0), omega arith)
 
-pub whole_header : (d : List ℕ) (p : Packet) → ReadsRtp d p → 12 ≤ length d
+pub whole_header : (d : List ℕ) (p : RtpPacket) → ReadsRtp d p → 12 ≤ length d
 whole_header d p reads = let l = laid_out d p reads in l.whole
 
 -- A datagram has one fault at most.
-one_fault : (d : List ℕ) (f g : RtpFault) → HasFault d f → HasFault d g → f ≡ g
+one_fault : (d : List ℕ) (f g : RtpFault) → HasRtpFault d f → HasRtpFault d g → f ≡ g
 one_fault d Short Short h k = refl
 one_fault d Version Version h k = refl
 one_fault d CsrcShort CsrcShort h k = refl
@@ -201,6 +201,6 @@ one_fault d f Room h k = absurd k
 one_fault d f g h k = absurd (omega arith)
 
 -- what was refused by a fault that the datagram has was refused by each that it has
-pub exact_fault : {T : Type 0} (d : List ℕ) (r : Result T RtpFault) (f : RtpFault) → r ≡ Err f → HasFault d f
-    → (g : RtpFault) → HasFault d g → IsErrOf r g
+pub exact_fault : {T : Type 0} (d : List ℕ) (r : Result T RtpFault) (f : RtpFault) → r ≡ Err f → HasRtpFault d f
+    → (g : RtpFault) → HasRtpFault d g → IsErrOf r g
 exact_fault d r f is has g k = is ∙ ap Err (one_fault d f g has k)

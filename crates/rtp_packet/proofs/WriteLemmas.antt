@@ -3,7 +3,7 @@ use Rattle.std.proofs.Common.{◌≡◌, ℕ, ◌+◌, ◌-◌, ◌≤◌, List,
 use Rattle.std.proofs.lemmas.List.{append_assoc, take_rest}
 use borrow.Rule.Slice.PartMut.{put_mid}
 use Rattle.byteorder.specs.Endian.{big_bytes}
-use Rattle.rtp_packet.specs.Grammar.{Packet, ReadsRtp, bytes_of, body_bytes, first_byte, second_byte, fixed_bytes, readdressed}
+use Rattle.rtp_packet.specs.Grammar.{RtpPacket, ReadsRtp, bytes_of, body_bytes, first_byte, second_byte, fixed_bytes, with_address}
 use Rattle.rtp_packet.proofs.FixedLemmas.{length-packet_bytes, sequence_number_written, ssrc_written}
 use Rattle.rtp_packet.proofs.PacketLemmas.{whole_header}
 
@@ -12,20 +12,20 @@ pub length-part : (n k : ℕ) (xs : List ℕ) → n + k ≤ length xs → k ≤ 
 length-part n k xs h = rw (take_rest xs n, length-drop n xs) (omega arith)
 
 -- the packet's bytes and what stands behind them
-copied : (d copy tail : List ℕ) (p : Packet) → ReadsRtp d p → copy ≡ d
+copied : (d copy tail : List ℕ) (p : RtpPacket) → ReadsRtp d p → copy ≡ d
     → copy ++ tail ≡ fixed_bytes (first_byte p) (second_byte p) p.sequence_number p.timestamp p.ssrc ++ (body_bytes p ++ tail)
 copied d copy tail p reads same =
     ap (λ (l : List ℕ). l ++ tail) (same ∙ reads.bytes)
     ∙ append_assoc (fixed_bytes (first_byte p) (second_byte p) p.sequence_number p.timestamp p.ssrc) (body_bytes p) tail
 
-pub length-copied : (d copy tail : List ℕ) (p : Packet) → ReadsRtp d p → copy ≡ d → 12 ≤ length (copy ++ tail)
+pub length-copied : (d copy tail : List ℕ) (p : RtpPacket) → ReadsRtp d p → copy ≡ d → 12 ≤ length (copy ++ tail)
 length-copied d copy tail p reads same =
     let whole = whole_header d p reads in
     let size = ap length same in
     omega (arith, length-append copy tail)
 
 -- with the sequence number written
-pub numbered : (d copy tail w : List ℕ) (p : Packet) (s : ℕ) → ReadsRtp d p → copy ≡ d
+pub numbered : (d copy tail w : List ℕ) (p : RtpPacket) (s : ℕ) → ReadsRtp d p → copy ≡ d
     → w ≡ big_bytes 2 s ++ drop 2 (take (length (copy ++ tail) - 2) (drop 2 (copy ++ tail)))
     → put_mid 2 (length (copy ++ tail) - 2) (copy ++ tail) w
     ≡ fixed_bytes (first_byte p) (second_byte p) s p.timestamp p.ssrc ++ (body_bytes p ++ tail)
@@ -33,7 +33,7 @@ numbered d copy tail w p s reads same e =
     sequence_number_written (first_byte p) (second_byte p) p.sequence_number p.timestamp p.ssrc s (body_bytes p ++ tail) (copy ++ tail) w
     (copied d copy tail p reads same) e
 
-pub length-numbered : (d copy tail w : List ℕ) (p : Packet) (s : ℕ) → ReadsRtp d p → copy ≡ d
+pub length-numbered : (d copy tail w : List ℕ) (p : RtpPacket) (s : ℕ) → ReadsRtp d p → copy ≡ d
     → w ≡ big_bytes 2 s ++ drop 2 (take (length (copy ++ tail) - 2) (drop 2 (copy ++ tail)))
     → 12 ≤ length (put_mid 2 (length (copy ++ tail) - 2) (copy ++ tail) w)
 length-numbered d copy tail w p s reads same e =
@@ -42,11 +42,11 @@ length-numbered d copy tail w p s reads same e =
     omega (arith, size, whole)
 
 -- with the SSRC written too
-pub addressed : (d copy tail w v : List ℕ) (p : Packet) (s u : ℕ) → ReadsRtp d p → copy ≡ d
+pub addressed : (d copy tail w v : List ℕ) (p : RtpPacket) (s u : ℕ) → ReadsRtp d p → copy ≡ d
     → w ≡ big_bytes 2 s ++ drop 2 (take (length (copy ++ tail) - 2) (drop 2 (copy ++ tail)))
     → (xs : List ℕ) → xs ≡ put_mid 2 (length (copy ++ tail) - 2) (copy ++ tail) w
     → v ≡ big_bytes 4 u ++ drop 4 (take (length xs - 8) (drop 8 xs))
-    → put_mid 8 (length xs - 8) xs v ≡ bytes_of (readdressed u s p) ++ tail
+    → put_mid 8 (length xs - 8) xs v ≡ bytes_of (with_address u s p) ++ tail
 addressed d copy tail w v p s u reads same e xs is f =
     ssrc_written (first_byte p) (second_byte p) s p.timestamp p.ssrc u (body_bytes p ++ tail) xs v
     (is ∙ numbered d copy tail w p s reads same e) f

@@ -35,16 +35,18 @@ IsNoCount rest =
     (length rest ≡ 0) ⊎ ((count ≡ 0) ⊎ (length rest < count))
 
 -- The datagram has this fault, and none of a lesser number.
-abbrev pub HasFault : List ℕ → RtpFault → Type 0
-HasFault d Short = length d < 12
-HasFault d Version = (12 ≤ length d) × (slice_index d 0 / 64 ≢ 2)
-HasFault d CsrcShort = HasFixedHeader d × (length d < csrc_end d)
-HasFault d ExtensionShort = HasFixedHeader d × (csrc_end d ≤ length d) × (length d < extension_end d)
-HasFault d Padding =
+abbrev pub HasRtpFault : List ℕ → RtpFault → Type 0
+HasRtpFault d Short = length d < 12
+HasRtpFault d Version = (12 ≤ length d) × (slice_index d 0 / 64 ≢ 2)
+HasRtpFault d CsrcShort = HasFixedHeader d × (length d < csrc_end d)
+HasRtpFault d ExtensionShort =
+    HasFixedHeader d × (csrc_end d ≤ length d) × (length d < extension_end d)
+HasRtpFault d Padding =
     HasFixedHeader d × (csrc_end d ≤ length d) × (extension_end d ≤ length d)
     × (slice_index d 0 / 32 % 2 ≡ 1) × IsNoCount (drop (extension_end d) d)
-HasFault d Room = ⊥
+HasRtpFault d Room = ⊥
 
 -- the datagram's fixed header has this fault
 abbrev pub HasHeaderFault : List ℕ → RtpFault → Type 0
-HasHeaderFault d fault = ((fault ≡ Short) × HasFault d Short) ⊎ ((fault ≡ Version) × HasFault d Version)
+HasHeaderFault d fault =
+    ((fault ≡ Short) × HasRtpFault d Short) ⊎ ((fault ≡ Version) × HasRtpFault d Version)

@@ -9,7 +9,7 @@ pub record ExtensionTree : Type 0 where
   pub words : List ℕ
 
 -- a packet of version 2: its numbers, and the bytes of its parts
-pub record Packet : Type 0 where
+pub record RtpPacket : Type 0 where
   pub marker : Bool
   pub payload_type : ℕ
   pub sequence_number : ℕ
@@ -28,11 +28,12 @@ is_there None = false
 is_there (Some e) = true
 
 -- the first byte: the version 2 in two bits, a bit for padding, a bit for an extension, the count of CSRCs in four
-abbrev pub first_byte : Packet → ℕ
-first_byte p = 2 * 64 + 32 * bit_of (nat_lt 0 (length p.padding)) + 16 * bit_of (is_there p.extension) + length p.csrcs / 4
+abbrev pub first_byte : RtpPacket → ℕ
+first_byte p = 2 * 64 + 32 * bit_of (nat_lt 0 (length p.padding)) + 16
+    * bit_of (is_there p.extension) + length p.csrcs / 4
 
 -- the second byte: the marker bit, and the payload type in seven bits
-abbrev pub second_byte : Packet → ℕ
+abbrev pub second_byte : RtpPacket → ℕ
 second_byte p = 128 * bit_of p.marker + p.payload_type
 
 -- twelve bytes: two, the sequence number in two, the timestamp and the SSRC in four each
@@ -46,22 +47,24 @@ extension_bytes None = []
 extension_bytes (Some e) = big_bytes 2 e.profile ++ (big_bytes 2 (length e.words / 4) ++ e.words)
 
 -- what follows the fixed header
-abbrev pub body_bytes : Packet → List ℕ
+abbrev pub body_bytes : RtpPacket → List ℕ
 body_bytes p = p.csrcs ++ (extension_bytes p.extension ++ (p.payload ++ p.padding))
 
-abbrev pub bytes_of : Packet → List ℕ
-bytes_of p = fixed_bytes (first_byte p) (second_byte p) p.sequence_number p.timestamp p.ssrc ++ body_bytes p
+abbrev pub bytes_of : RtpPacket → List ℕ
+bytes_of p =
+    fixed_bytes (first_byte p) (second_byte p) p.sequence_number p.timestamp p.ssrc ++ body_bytes p
 
 -- whole words, as many as a count of two bytes can say
 abbrev pub IsExtension : Option ExtensionTree → Type 0
-IsExtension o = ForSome o (λ e. (e.profile < 2 ^ 16) × (length e.words % 4 ≡ 0) × (length e.words / 4 < 2 ^ 16))
+IsExtension o =
+    ForSome o (λ e. (e.profile < 2 ^ 16) × (length e.words % 4 ≡ 0) × (length e.words / 4 < 2 ^ 16))
 
 -- where there is padding, its last byte counts its bytes
 abbrev pub IsPadding : List ℕ → Type 0
 IsPadding padding = slice_index padding (length padding - 1) ≡ length padding
 
 -- each number fits its bits, and the parts are whole words
-pub record IsPacket (p : Packet) : Type 0 where
+pub record IsPacket (p : RtpPacket) : Type 0 where
   pub payload_type : p.payload_type < 128
   pub sequence_number : p.sequence_number < 2 ^ 16
   pub timestamp : p.timestamp < 2 ^ 32
@@ -72,10 +75,10 @@ pub record IsPacket (p : Packet) : Type 0 where
   pub padding : IsPadding p.padding
 
 -- the datagram is this packet
-pub record ReadsRtp (datagram : List ℕ) (p : Packet) : Type 0 where
+pub record ReadsRtp (datagram : List ℕ) (p : RtpPacket) : Type 0 where
   pub valid : IsPacket p
   pub bytes : datagram ≡ bytes_of p
 
 -- the packet under another SSRC and sequence number
-abbrev pub readdressed : ℕ → ℕ → Packet → Packet
-readdressed ssrc sequence_number p = record p { ssrc = ssrc; sequence_number = sequence_number }
+abbrev pub with_address : ℕ → ℕ → RtpPacket → RtpPacket
+with_address ssrc sequence_number p = record p { ssrc = ssrc; sequence_number = sequence_number }

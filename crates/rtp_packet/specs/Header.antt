@@ -7,7 +7,8 @@ use Rattle.rtp_packet.specs.Grammar.{bit_of}
 -- the datagram begins with this header, of version 2
 pub record IsHeaderOf (datagram : List ℕ) (h : Header) : Type 0 where
   pub whole : 12 ≤ length datagram
-  pub first : slice_index datagram 0 ≡ 2 * 64 + 32 * bit_of h.padding + 16 * bit_of h.extension + h.csrc_count
+  pub first : slice_index datagram 0
+      ≡ 2 * 64 + 32 * bit_of h.padding + 16 * bit_of h.extension + h.csrc_count
   pub csrc_count : h.csrc_count < 16
   pub second : slice_index datagram 1 ≡ 128 * bit_of h.marker + h.payload_type
   pub payload_type : h.payload_type < 128

@@ -1,10 +1,10 @@
 -- The packet that a view shows.
 use Rattle.rtp_packet.specs.declared.view.RtpView.{RtpView}
-use Rattle.rtp_packet.specs.Grammar.{Packet}
+use Rattle.rtp_packet.specs.Grammar.{RtpPacket}
 use Rattle.rtp_packet.specs.Trees.{tree_of}
 
-abbrev pub packet_of : RtpView → Packet
-packet_of v = record {
+abbrev pub rtp_packet_of : RtpView → RtpPacket
+rtp_packet_of v = record {
   marker = v.marker;
   payload_type = v.payload_type;
   sequence_number = v.sequence_number;

@@ -16,7 +16,7 @@ use tmmbr_tuple::Ssrc;
 pub const HEADER: usize = 12;
 
 /// The length of a word, which CSRCs and extensions are made of, and of an extension's own header.
-const WORD: usize = 4;
+const WORD_BYTES: usize = 4;
 
 /// The fixed header (RFC 3550, section 5.1), without its version.
 #[derive(Clone, Copy)]
@@ -60,9 +60,10 @@ impl Header {
     pub fn split_csrcs(self, rest: &[u8]) -> Result<(&[u8], &[u8]), RtpFault>
         ensures parts { IfOk result (λ parts. rest.now ≡ parts.0.now ++ parts.1.now) }
         ensures count { IfOk result (λ parts. length parts.0.now ≡ 4 * self.csrc_count) }
-        ensures short { IfErr result (λ fault. (fault ≡ RtpFault.CsrcShort) × (length rest.now < 4 * self.csrc_count)) }
+        ensures short { IfErr result (λ fault. (fault ≡ RtpFault.CsrcShort)
+            × (length rest.now < 4 * self.csrc_count)) }
     {
-        let count = WORD * usize::from(self.csrc_count);
+        let count = WORD_BYTES * usize::from(self.csrc_count);
         if rest.len() < count {
             return Err(RtpFault::CsrcShort);
         }
@@ -80,12 +81,12 @@ impl Header {
         if !self.extension {
             return Ok((None, rest));
         }
-        if rest.len() < WORD {
+        if rest.len() < WORD_BYTES {
             return Err(RtpFault::ExtensionShort);
         }
         let profile = BigEndian::read_u16(rest);
-        let count = WORD * usize::from(BigEndian::read_u16(&rest[2..]));
-        let behind = &rest[WORD..];
+        let count = WORD_BYTES * usize::from(BigEndian::read_u16(&rest[2..]));
+        let behind = &rest[WORD_BYTES..];
         if behind.len() < count {
             return Err(RtpFault::ExtensionShort);
         }
@@ -98,7 +99,8 @@ impl Header {
         ensures parts { IfOk result (λ parts. rest.now ≡ parts.0.now ++ parts.1.now) }
         ensures valid { IfOk result (λ parts. IsPadding parts.1.now) }
         ensures there { IfOk result (λ parts. nat_lt 0 (length parts.1.now) ≡ self.padding) }
-        ensures no_count { IfErr result (λ fault. (fault ≡ RtpFault.Padding) × (self.padding ≡ true) × IsNoCount rest.now) }
+        ensures no_count { IfErr result (λ fault. (fault ≡ RtpFault.Padding) × (self.padding ≡ true)
+            × IsNoCount rest.now) }
     {
         if !self.padding {
             return Ok((rest, &[]));

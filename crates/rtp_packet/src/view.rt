@@ -49,18 +49,19 @@ pub struct RtpView<'a> {
 
 impl<'a> RtpView<'a> {
     ghost use Rattle.std.specs.Prelude.{◌≡◌, ◌≤◌, ◌<◌, ◌++◌, ◌↔◌, length, drop, IsOk, IsErrOf, IsOkAnd, IfOk, IfErr};
-    ghost use Rattle.rtp_packet.specs.Grammar.{Packet, ReadsRtp, bytes_of, readdressed};
-    ghost use Rattle.rtp_packet.specs.Parts.{packet_of};
-    ghost use Rattle.rtp_packet.specs.Fault.{HasFault};
+    ghost use Rattle.rtp_packet.specs.Grammar.{RtpPacket, ReadsRtp, bytes_of, with_address};
+    ghost use Rattle.rtp_packet.specs.Parts.{rtp_packet_of};
+    ghost use Rattle.rtp_packet.specs.Fault.{HasRtpFault};
     ghost use Rattle.rtp_packet.specs.declared.fault.RtpFault.{RtpFault as Fault};
 
     /// The packet that a datagram is. Refused where it is none: `Short`, `Version`, `CsrcShort`,
     /// `ExtensionShort` and `Padding`, the first of these that applies.
     pub fn parse(datagram: &'a [u8]) -> Result<RtpView<'a>, RtpFault>
-        ensures read { IfOk result (λ view. ReadsRtp datagram.now (packet_of view)) }
-        ensures every { (packet : Packet) → ReadsRtp datagram.now packet → IsOkAnd result (λ view. packet_of view ≡ packet) }
-        ensures fault { IfErr result (HasFault datagram.now) }
-        ensures exact { (fault : Fault) → HasFault datagram.now fault → IsErrOf result fault }
+        ensures read { IfOk result (λ view. ReadsRtp datagram.now (rtp_packet_of view)) }
+        ensures every { (packet : RtpPacket) → ReadsRtp datagram.now packet
+            → IsOkAnd result (λ view. rtp_packet_of view ≡ packet) }
+        ensures fault { IfErr result (HasRtpFault datagram.now) }
+        ensures exact { (fault : Fault) → HasRtpFault datagram.now fault → IsErrOf result fault }
     {
         let header = Header::read(datagram)?;
         let (csrcs, rest) = header.split_csrcs(&datagram[HEADER..])?;
@@ -92,7 +93,8 @@ impl<'a> RtpView<'a> {
         ensures fits { IsOk result ↔ (length self.now.datagram.now ≤ length out.old) }
         ensures size { IfOk result (λ size. size ≡ length self.now.datagram.now) }
         ensures written { IfOk result (λ size.
-            out.new ≡ bytes_of (readdressed ssrc.0 sequence_number (packet_of self.now)) ++ drop size out.old) }
+            out.new ≡ bytes_of (with_address ssrc.0 sequence_number (rtp_packet_of self.now))
+            ++ drop size out.old) }
         ensures room { IfErr result (λ fault. (fault ≡ RtpFault.Room) × (out.new ≡ out.old)) }
     {
         let size = self.datagram.len();

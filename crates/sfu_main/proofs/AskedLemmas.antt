@@ -11,7 +11,7 @@ use Rattle.hex.specs.declared.error.FromHexError.TheVariants.{InvalidHexCharacte
 use Rattle.sfu_main.specs.declared.fault.LineFault.{LineFault}
 use Rattle.sfu_main.specs.declared.fault.LineFault.TheVariants.{Hex}
 use Rattle.sfu_main.specs.Asked.{Change, AskTogether, Asks, AsksFor, IsReadable, changes_of, leaves}
-use Rattle.sfu_main.specs.Lines.{Asked, Demands, LineLeaves, Spelled, after_changes, decoded, skipped, spelled_by}
+use Rattle.sfu_main.specs.Lines.{Asked, Demands, LineLeaves, Spelled, after_changes, spelling_of, skipped, spelled_by}
 use Rattle.sfu_main.specs.Outcome.{Leaves, LeavesDatagram, RefusesLine, undecoded_at}
 
 -- a packet that can be read asks for something, or for nothing
@@ -41,12 +41,12 @@ leaves_datagram media bytes live rows changes asks (Err fault) says = record { a
 pub skipped_line : (line : List ℕ) → ((length line ≡ 0) ⊎ (get_or line 0 0 ≡ 35)) → spelled_by line ≡ skipped
 skipped_line [] why = refl
 skipped_line (b ∷ bs) (inl empty) = absurd (omega (arith, empty))
-skipped_line (b ∷ bs) (inr mark) = cond-true (eqb b 35) skipped (decoded (decode_of (b ∷ bs))) (eq-eqb b 35 mark)
+skipped_line (b ∷ bs) (inr mark) = cond-true (eqb b 35) skipped (spelling_of (decode_of (b ∷ bs))) (eq-eqb b 35 mark)
 
 -- another line stands for what is decoded of it
-decoded_line : (line : List ℕ) → length line ≢ 0 → get_or line 0 0 ≢ 35 → spelled_by line ≡ decoded (decode_of line)
+decoded_line : (line : List ℕ) → length line ≢ 0 → get_or line 0 0 ≢ 35 → spelled_by line ≡ spelling_of (decode_of line)
 decoded_line [] some unmarked = absurd (some refl)
-decoded_line (b ∷ bs) some unmarked = cond-false (eqb b 35) skipped (decoded (decode_of (b ∷ bs))) (ne_eqb b 35 unmarked)
+decoded_line (b ∷ bs) some unmarked = cond-false (eqb b 35) skipped (spelling_of (decode_of (b ∷ bs))) (ne_eqb b 35 unmarked)
 
 pub refuses_hex : (media number : ℕ) (line : List ℕ) (live : List Asked) (error : FromHexError) → length line ≢ 0 → get_or line 0 0 ≢ 35
     → ((error ≡ OutOfMemory) ⊎ (decode_of line ≡ Err error)) → RefusesLine media number line live (undecoded_at number error)
@@ -56,7 +56,7 @@ refuses_hex media number line live error some unmarked why =
       | inr is ↦
           here error (record {
             asked = Err Hex;
-            says = subst (λ (s : Spelled). Demands media s (Err Hex)) (sym (decoded_line line some unmarked ∙ ap decoded is)) refl;
+            says = subst (λ (s : Spelled). Demands media s (Err Hex)) (sym (decoded_line line some unmarked ∙ ap spelling_of is)) refl;
             done = refl;
           })
     ]

@@ -4,9 +4,9 @@ use Rattle.std.specs.Prelude.{IfSome}
 use Rattle.std.specs.Io.KnownBytes.{Keeps}
 use Rattle.sfu_main.specs.CommandLine.{bound}
 use Rattle.sfu_main.specs.Lines.{TextLeaves}
-use Rattle.sfu_main.specs.declared.command.Failure.{Failure}
-use Rattle.sfu_main.specs.declared.command.Failure.TheVariants.{NoMemory, Refused, Io}
-use Rattle.sfu_main.specs.declared.command.Status.TheVariants as status
+use Rattle.sfu_main.specs.declared.status.Failure.{Failure}
+use Rattle.sfu_main.specs.declared.status.Failure.TheVariants.{NoMemory, Refused, Io}
+use Rattle.sfu_main.specs.declared.status.Status.TheVariants as status
 use Rattle.sfu_main.specs.Command.{FailsBound, PrintsBound, RefusesBound, ShowsLine, status_of}
 use Rattle.sfu_main.specs.Replay.{PrintsByFile, PrintsReplay, RefusesByFile, RefusesReplay}
 use Rattle.sfu_main.specs.SettingsFaults.{TextGives}

@@ -22,7 +22,7 @@ use Rattle.clap.proofs.WalkLemmas.{both, first_value-rows}
 use Rattle.clap.specs.declared.builder.ValueParser.{ValueParser}
 use Rattle.clap.specs.declared.builder.ValueParser.TheVariants as vp
 use Rattle.std.proofs.lemmas.Fmt.{decimal_is_IsNumeral}
-use Rattle.sfu_main.specs.CommandLine.{IsWritable, Types, words_of, Request, asked_for, asked_in, asked_named, bound, check, replay, sfu, number_of, serve, number_in, option_words}
+use Rattle.sfu_main.specs.CommandLine.{IsWritable, Types, words_of, Request, asked_for, request_found, asked_named, bound, check, replay, sfu, number_of, serve, number_in, option_words}
 
 -- ---- reading a number
 
@@ -93,7 +93,7 @@ bound_found name d ds e = rw (e, no_hyphen d ds e) refl
 pub bound_asked : (name : Text) (d : ℕ) (ds : Text) → (d == 45) ≡ false
     → asked_for (name ∷ codes "bound" ∷ codes "--sender" ∷ (d ∷ ds) ∷ []) ≡ option_map bound (number_of (d ∷ ds))
 bound_asked name d ds e =
-    ap asked_in (bound_found name d ds e) ∙ ap (λ (o : Option Text). option_map bound (number_of (unwrap_or o (d ∷ ds)))) (no_hyphen d ds e)
+    ap request_found (bound_found name d ds e) ∙ ap (λ (o : Option Text). option_map bound (number_of (unwrap_or o (d ∷ ds)))) (no_hyphen d ds e)
 
 pub bound_taken : (name : Text) (d : ℕ) (ds : Text) → (d == 45) ≡ false → accepts false u32_parser (d ∷ ds) ≡ true
     → takes sfu (name ∷ codes "bound" ∷ codes "--sender" ∷ (d ∷ ds) ∷ []) ≡ true
@@ -107,7 +107,7 @@ check_found name d ds e = rw (e, no_hyphen d ds e) refl
 
 check_asked : (name : Text) (d : ℕ) (ds : Text) → (d == 45) ≡ false
     → asked_for (name ∷ codes "check" ∷ (d ∷ ds) ∷ []) ≡ Some (check (d ∷ ds))
-check_asked name d ds e = ap asked_in (check_found name d ds e)
+check_asked name d ds e = ap request_found (check_found name d ds e)
 
 check_taken : (name : Text) (d : ℕ) (ds : Text) → (d == 45) ≡ false → takes sfu (name ∷ codes "check" ∷ (d ∷ ds) ∷ []) ≡ true
 unfolding clap_on_literals
@@ -120,7 +120,7 @@ replay_found name d ds e = rw (e, no_hyphen d ds e) refl
 
 replay_asked : (name : Text) (d : ℕ) (ds : Text) → (d == 45) ≡ false
     → asked_for (name ∷ codes "replay" ∷ (d ∷ ds) ∷ []) ≡ Some (replay (d ∷ ds))
-replay_asked name d ds e = ap asked_in (replay_found name d ds e)
+replay_asked name d ds e = ap request_found (replay_found name d ds e)
 
 replay_taken : (name : Text) (d : ℕ) (ds : Text) → (d == 45) ≡ false → takes sfu (name ∷ codes "replay" ∷ (d ∷ ds) ∷ []) ≡ true
 unfolding clap_on_literals
@@ -133,7 +133,7 @@ serve_found name d ds e = rw (e, no_hyphen d ds e) refl
 
 serve_asked : (name : Text) (d : ℕ) (ds : Text) → (d == 45) ≡ false
     → asked_for (name ∷ codes "serve" ∷ (d ∷ ds) ∷ []) ≡ Some (serve (d ∷ ds) None None)
-serve_asked name d ds e = ap asked_in (serve_found name d ds e)
+serve_asked name d ds e = ap request_found (serve_found name d ds e)
 
 serve_taken : (name : Text) (d : ℕ) (ds : Text) → (d == 45) ≡ false → takes sfu (name ∷ codes "serve" ∷ (d ∷ ds) ∷ []) ≡ true
 unfolding clap_on_literals
@@ -148,7 +148,7 @@ ticks_found name d ds a others e f = rw (e, no_hyphen d ds e, f, no_hyphen a oth
 ticks_asked : (name : Text) (d : ℕ) (ds : Text) (a : ℕ) (others : Text) → (d == 45) ≡ false → (a == 45) ≡ false
     → asked_for (name ∷ codes "serve" ∷ (d ∷ ds) ∷ codes "--ticks" ∷ (a ∷ others) ∷ []) ≡ Some (serve (d ∷ ds) (number_of (a ∷ others)) None)
 ticks_asked name d ds a others e f =
-    ap asked_in (ticks_found name d ds a others e f)
+    ap request_found (ticks_found name d ds a others e f)
     ∙ ap (λ (o : Option Text). Some (serve (d ∷ ds) (number_of (unwrap_or o (a ∷ others))) None)) (no_hyphen a others f)
 
 ticks_taken : (name : Text) (d : ℕ) (ds : Text) (a : ℕ) (others : Text) → (d == 45) ≡ false → (a == 45) ≡ false
@@ -166,7 +166,7 @@ status_found name d ds b others e f = rw (e, no_hyphen d ds e, f, no_hyphen b ot
 status_asked : (name : Text) (d : ℕ) (ds : Text) (b : ℕ) (others : Text) → (d == 45) ≡ false → (b == 45) ≡ false
     → asked_for (name ∷ codes "serve" ∷ (d ∷ ds) ∷ codes "--status" ∷ (b ∷ others) ∷ []) ≡ Some (serve (d ∷ ds) None (number_of (b ∷ others)))
 status_asked name d ds b others e f =
-    ap asked_in (status_found name d ds b others e f)
+    ap request_found (status_found name d ds b others e f)
     ∙ ap (λ (o : Option Text). Some (serve (d ∷ ds) None (number_of (unwrap_or o (b ∷ others))))) (no_hyphen b others f)
 
 status_taken : (name : Text) (d : ℕ) (ds : Text) (b : ℕ) (others : Text) → (d == 45) ≡ false → (b == 45) ≡ false

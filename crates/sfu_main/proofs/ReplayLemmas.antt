@@ -11,8 +11,8 @@ use Rattle.core_steps.specs.declared.output.Out.{Out}
 use Rattle.core_steps.specs.Opening.{IsNewWorld}
 use Rattle.core_steps.specs.Run.{HasRun}
 use Rattle.core_steps.specs.World.{WorldState}
-use Rattle.sfu_main.specs.declared.command.Failure.{Failure}
-use Rattle.sfu_main.specs.declared.command.Failure.TheVariants.{NoMemory, Refused as RefusedLine, Io}
+use Rattle.sfu_main.specs.declared.status.Failure.{Failure}
+use Rattle.sfu_main.specs.declared.status.Failure.TheVariants.{NoMemory, Refused as RefusedLine, Io}
 use Rattle.sfu_main.specs.declared.script.Reading.TheVariants.{Unreadable}
 use Rattle.sfu_main.specs.Lines.{lines_of}
 use Rattle.sfu_main.specs.Replay.{Drains, FailsLine, FailsReplay, IngressDrains, IsOutside, LinePlays, LinesPlay, Prints, PrintsReplay, Settles, StopsReplay, WorkerDrains, WorkersDrain, again, numbers_of, out_line, out_lines, over}

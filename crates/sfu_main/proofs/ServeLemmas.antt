@@ -8,8 +8,8 @@ use Rattle.sfu_main.specs.Command.{EndsSaying, IsUnsaid, SaysWhy}
 use Rattle.sfu_main.specs.ReportText.{PrintsReport}
 use Rattle.sfu_main.specs.Serving.{EndsServe, FailsServe, FailsToStart, SaysFault, SaysWhyServing, serving_line}
 use Rattle.sfu_main.specs.declared.serve_fault.ServeFault.{ServeFault}
-use Rattle.sfu_main.specs.declared.command.Status.{Status}
-use Rattle.sfu_main.specs.declared.command.Status.TheVariants as status
+use Rattle.sfu_main.specs.declared.status.Status.{Status}
+use Rattle.sfu_main.specs.declared.status.Status.TheVariants as status
 
 pub keeps_itself : (known : Option (List ℕ)) → Keeps known known
 keeps_itself None = tt

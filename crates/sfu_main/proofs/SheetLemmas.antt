@@ -19,13 +19,13 @@ use Rattle.sfu_main.specs.declared.entry.Entry.{Entry}
 use Rattle.sfu_main.specs.declared.entry.Entry.TheVariants.{Live, Kept, Implied}
 use Rattle.sfu_main.specs.declared.entry.Reading.TheVariants.{Entry as AnEntry}
 use Rattle.sfu_main.specs.declared.entry.TheConstants.{MAX_LINES}
-use Rattle.sfu_main.specs.CheckFile.{FileSpells, IsAnswer, LineAdds, LinesSpell, claims_from, has_room, implied_by, implied_of, kept_from, kept_of, request_of, requests_of, taken}
+use Rattle.sfu_main.specs.CheckFile.{FileSpells, IsCheckAnswer, LineAdds, LinesSpell, claims_from, has_room, implied_by, implied_of, kept_from, kept_of, entry_request, requests_of, entries_after}
 use Rattle.sfu_main.specs.Sheet.{IsSheetOf, RefusesAt, RefusesSheet}
 use Rattle.sfu_main.proofs.LineLemmas.{at_line}
 
-asked_more : (xs : List Entry) (e : Entry) → requests_of (xs ++ e ∷ []) ≡ requests_of xs ++ request_of e ∷ []
+asked_more : (xs : List Entry) (e : Entry) → requests_of (xs ++ e ∷ []) ≡ requests_of xs ++ entry_request e ∷ []
 asked_more [] e = refl
-asked_more (x ∷ xs) e = ap (λ rs. request_of x ∷ rs) (asked_more xs e)
+asked_more (x ∷ xs) e = ap (λ rs. entry_request x ∷ rs) (asked_more xs e)
 
 kept_more : (n m : ℕ) (xs : List Entry) (e : Entry) → m ≡ n + length xs → kept_from n (xs ++ e ∷ []) ≡ kept_from n xs ++ kept_from m (e ∷ [])
 kept_more n m [] e is =
@@ -56,16 +56,16 @@ claims_more n m (Implied r claim ∷ xs) e is =
     ap (λ (cs : List (ℕ × Claim)). (n, claim) ∷ cs) (claims_more (n + 1) m xs e next)
 
 count : (xs : List Entry) (requests : List Request) → requests ≡ requests_of xs → length requests ≡ length xs
-count xs requests is = ap length is ∙ length-map xs request_of
+count xs requests is = ap length is ∙ length-map xs entry_request
 
 abbrev Left : Option (List Entry) → List Request → List (Ssrc × KeptEntry) → List (ℕ × Claim) → Type 0
 Left next requests kepts claims = (entries : List Entry) × (next ≡ Some entries) × IsSheetOf entries requests kepts claims
 
-room : (xs : List Entry) (e : Entry) → has_room xs e ≡ true → taken xs (AnEntry e) ≡ Some (xs ++ e ∷ [])
+room : (xs : List Entry) (e : Entry) → has_room xs e ≡ true → entries_after xs (AnEntry e) ≡ Some (xs ++ e ∷ [])
 room xs e is = cond-true (has_room xs e) (Some (xs ++ e ∷ [])) None is
 
 pub takes_live : (xs : List Entry) (r : Request) (requests : List Request) (kepts : List (Ssrc × KeptEntry)) (claims : List (ℕ × Claim)) → IsSheetOf xs requests kepts claims
-    → length requests < MAX_LINES → Left (taken xs (AnEntry (Live r))) (requests ++ r ∷ []) kepts claims
+    → length requests < MAX_LINES → Left (entries_after xs (AnEntry (Live r))) (requests ++ r ∷ []) kepts claims
 takes_live xs r requests kepts claims is below =
     let many = count xs requests is.asked in
     let fits : nat_lt (length xs) MAX_LINES ≡ true = rw (sym many) (lt-ltb (length requests) MAX_LINES below) in
@@ -81,7 +81,7 @@ takes_live xs r requests kepts claims is below =
 
 pub takes_kept : (xs : List Entry) (r : Request) (pair : Pair) (requests : List Request) (kepts : List (Ssrc × KeptEntry)) (claims : List (ℕ × Claim))
     → IsSheetOf xs requests kepts claims → length requests < MAX_LINES → length kepts < MAX_REQUESTS
-    → Left (taken xs (AnEntry (Kept r pair))) (requests ++ r ∷ []) (kepts ++ (r.owner, record { place = length requests; pair = pair }) ∷ []) claims
+    → Left (entries_after xs (AnEntry (Kept r pair))) (requests ++ r ∷ []) (kepts ++ (r.owner, record { place = length requests; pair = pair }) ∷ []) claims
 takes_kept xs r pair requests kepts claims is below few =
     let many = count xs requests is.asked in
     let fits : nat_lt (length xs) MAX_LINES ≡ true = rw (sym many) (lt-ltb (length requests) MAX_LINES below) in
@@ -100,7 +100,7 @@ takes_kept xs r pair requests kepts claims is below few =
 
 pub takes_implied : (xs : List Entry) (r : Request) (claim : Claim) (requests : List Request) (kepts : List (Ssrc × KeptEntry)) (claims : List (ℕ × Claim))
     → IsSheetOf xs requests kepts claims → length requests < MAX_LINES → length claims < MAX_REQUESTS
-    → Left (taken xs (AnEntry (Implied r claim))) (requests ++ r ∷ []) kepts (claims ++ (length requests, claim) ∷ [])
+    → Left (entries_after xs (AnEntry (Implied r claim))) (requests ++ r ∷ []) kepts (claims ++ (length requests, claim) ∷ [])
 takes_implied xs r claim requests kepts claims is below few =
     let many = count xs requests is.asked in
     let fits : nat_lt (length xs) MAX_LINES ≡ true = rw (sym many) (lt-ltb (length requests) MAX_LINES below) in
@@ -129,7 +129,7 @@ moved P xs rs ys bs zs cs e f g h =
 pub answered : (entries : List Entry) (requests : List Request) (kepts : List (Ssrc × KeptEntry)) (claims : List (ℕ × Claim)) (kept : List KeptEntry) (implied : List ImpliedEntry) (past : ℕ) (r : Result (Unit {0}) CertFault)
     → IsSheetOf entries requests kepts claims → kept ≡ map (λ k. k.1) kepts → implied ≡ map (implied_by kepts past) claims → past ≡ length requests
     → (IsOk r → MeetsConditions requests kept implied) → IfErr r (FailsFirst requests kept implied) → OnOk r (IsSmallest requests (places_of kept))
-    → IsAnswer entries r
+    → IsCheckAnswer entries r
 answered entries requests kepts claims kept implied past r is k i p meets fails smallest = go r meets fails smallest
   where
     same_kept : kept ≡ kept_of entries
@@ -142,7 +142,7 @@ answered entries requests kepts claims kept implied past r is k i p meets fails 
         ∙ ap (map (implied_by (kept_from 0 entries) (length entries))) is.implied
 
     go : (x : Result (Unit {0}) CertFault) → (IsOk x → MeetsConditions requests kept implied) → IfErr x (FailsFirst requests kept implied)
-        → OnOk x (IsSmallest requests (places_of kept)) → IsAnswer entries x
+        → OnOk x (IsSmallest requests (places_of kept)) → IsCheckAnswer entries x
     go (Ok done) met failed small = (
       moved MeetsConditions requests (requests_of entries) kept (kept_of entries) implied (implied_of entries) is.asked same_kept same_implied (met refl),
       moved (λ rs ks _. IsSmallest rs (places_of ks)) requests (requests_of entries) kept (kept_of entries) implied (implied_of entries) is.asked same_kept same_implied small,

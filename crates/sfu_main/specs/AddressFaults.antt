@@ -7,11 +7,14 @@ use Rattle.sfu_main.specs.declared.addresses.AddressFault.TheVariants.{NoMemory,
 use Rattle.sfu_main.specs.Addresses.{Spell, SpellsNoneAnew}
 
 -- of the text behind these addresses
-abbrev pub FaultsHere : {A : Type 0} → (SocketAddr → SocketAddr → Bool) → List SocketAddr → Option (String A) → AddressFault → Type 0
+abbrev pub FaultsHere : {A : Type 0} → (SocketAddr → SocketAddr → Bool) → List SocketAddr
+    → Option (String A) → AddressFault → Type 0
 FaultsHere same before text NoMemory = Unit {0}
-FaultsHere same before text (Endpoint number) = (number ≡ length before) × SpellsNoneAnew same before text
+FaultsHere same before text (Endpoint number) =
+    (number ≡ length before) × SpellsNoneAnew same before text
 
 -- of all
-abbrev pub Faults : {A : Type 0} → (SocketAddr → SocketAddr → Bool) → List (Option (String A)) → AddressFault → Type 0
+abbrev pub Faults : {A : Type 0} → (SocketAddr → SocketAddr → Bool) → List (Option (String A))
+    → AddressFault → Type 0
 Faults same texts NoMemory = Unit {0}
 Faults same texts (Endpoint number) = Spell same texts (Err number)

@@ -1,8 +1,8 @@
 -- What a datagram asks of one media sender (RFC 3550, sections 6.1 and 6.6; RFC 4585, section 6.1; RFC 5104, section
 -- 4.2.1), by the grammars of RTCP datagrams and of feedback.
 use Rattle.std.specs.Prelude.{◌≡◌, ◌==◌, ◌⊎◌, ◌<◌, ℕ, List, [], ◌∷◌, ◌++◌, length, map, filter, Result, Ok, Err}
-use Rattle.rtcp_compound.specs.Content.{Content, shown, sender_report, receiver_report, description, goodbye, feedback, other}
-use Rattle.rtcp_compound.specs.Grammar.{Packet, ReadsRtcp}
+use Rattle.rtcp_compound.specs.Content.{Content, packet_content, sender_report, receiver_report, description, goodbye, feedback, other}
+use Rattle.rtcp_compound.specs.Grammar.{RtcpPacket, ReadsRtcp}
 use Rattle.rtcp_compound.specs.Fault.{Refuses}
 use Rattle.rtcp_feedback.specs.declared.fault.FbFault.{FbFault}
 use Rattle.rtcp_feedback.specs.declared.fault.FbFault.TheVariants.{Short, OddFci}
@@ -19,7 +19,8 @@ pub data Change : Type 0 where
 
 -- the entries of a TMMBR that ask the media sender, for the sender of the packet
 abbrev pub requests_of : ℕ → ℕ → List TmmbrEntry → List Change
-requests_of media owner entries = map (λ e. asks owner e.word) (filter (λ e. e.ssrc.0 == media) entries)
+requests_of media owner entries =
+    map (λ e. asks owner e.word) (filter (λ e. e.ssrc.0 == media) entries)
 
 -- a TMMBR alone asks for something
 abbrev pub changes_of : ℕ → Message → List Change
@@ -35,14 +36,16 @@ Asks media (sender_report sender ntp rtp packets octets blocks) changes = change
 Asks media (receiver_report sender blocks) changes = changes ≡ []
 Asks media (description count chunks) changes = changes ≡ []
 Asks media (goodbye sources) changes = changes ≡ map leaves sources
-Asks media (feedback fmt kind body) changes = (m : Message) × ReadsFeedback fmt kind body m × (changes ≡ changes_of media m)
+Asks media (feedback fmt kind body) changes =
+    (m : Message) × ReadsFeedback fmt kind body m × (changes ≡ changes_of media m)
 Asks media (other count kind body) changes = changes ≡ []
 
 -- packets ask one behind the other
 abbrev pub AskTogether : ℕ → List Content → List Change → Type 0
 AskTogether media [] changes = changes ≡ []
 AskTogether media (c ∷ cs) changes =
-    (first : List Change) × (others : List Change) × Asks media c first × AskTogether media cs others × (changes ≡ first ++ others)
+    (first : List Change) × (others : List Change) × Asks media c first
+    × AskTogether media cs others × (changes ≡ first ++ others)
 
 -- feedback that says something, or another packet
 abbrev pub IsReadable : Content → Type 0
@@ -58,30 +61,30 @@ abbrev pub IsCause : ℕ → ℕ → List ℕ → FbFault → Type 0
 IsCause fmt kind body Short = length body < 8
 IsCause fmt kind body OddFci = HasOddFci fmt kind body
 
-abbrev pub HasFault : Content → FbFault → Type 0
-HasFault (sender_report sender ntp rtp packets octets blocks) fault = ⊥
-HasFault (receiver_report sender blocks) fault = ⊥
-HasFault (description count chunks) fault = ⊥
-HasFault (goodbye sources) fault = ⊥
-HasFault (feedback fmt kind body) fault = IsCause fmt kind body fault
-HasFault (other count kind body) fault = ⊥
+abbrev pub HasAskFault : Content → FbFault → Type 0
+HasAskFault (sender_report sender ntp rtp packets octets blocks) fault = ⊥
+HasAskFault (receiver_report sender blocks) fault = ⊥
+HasAskFault (description count chunks) fault = ⊥
+HasAskFault (goodbye sources) fault = ⊥
+HasAskFault (feedback fmt kind body) fault = IsCause fmt kind body fault
+HasAskFault (other count kind body) fault = ⊥
 
 -- the first of the packets that can't be read has this fault
 abbrev pub FailsFirst : List Content → FbFault → Type 0
 FailsFirst [] fault = ⊥
-FailsFirst (c ∷ cs) fault = HasFault c fault ⊎ (IsReadable c × FailsFirst cs fault)
+FailsFirst (c ∷ cs) fault = HasAskFault c fault ⊎ (IsReadable c × FailsFirst cs fault)
 
 -- The datagram joins packets that ask for this.
 pub record AsksFor (media : ℕ) (datagram : List ℕ) (changes : List Change) : Type 0 where
-  pub packets : List Packet
+  pub packets : List RtcpPacket
   pub joined : ReadsRtcp datagram packets
-  pub asked : AskTogether media (map shown packets) changes
+  pub asked : AskTogether media (map packet_content packets) changes
 
 -- The datagram joins packets, and the first feedback of them that can't be read has this fault.
 pub record FailsBy (datagram : List ℕ) (fault : FbFault) : Type 0 where
-  pub packets : List Packet
+  pub packets : List RtcpPacket
   pub joined : ReadsRtcp datagram packets
-  pub first : FailsFirst (map shown packets) fault
+  pub first : FailsFirst (map packet_content packets) fault
 
 -- what a datagram asks for, or its first fault: all its feedback is read before the first of it is done
 abbrev pub DatagramAsks : ℕ → List ℕ → Result (List Change) LineFault → Type 0

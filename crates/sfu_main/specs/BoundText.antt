@@ -10,9 +10,9 @@ use Rattle.rate_cert.specs.declared.certificate.Implied.{Implied}
 use Rattle.rate_cert.specs.declared.fault.CertFault.{CertFault}
 use Rattle.rate_cert.specs.declared.fault.CertFault.TheVariants.{Place, PairNotForbidden, TwoPairsForbidden, NotImplied, Missing}
 use Rattle.bounding_set.specs.State.{State, announced_of}
-use Rattle.rtcp_compound.specs.Fault.{number_of as rtcp_number}
+use Rattle.rtcp_compound.specs.Fault.{rtcp_fault_number as rtcp_number}
 use Rattle.rtcp_feedback.specs.declared.tmmb.TmmbrEntry.{TmmbrEntry}
-use Rattle.rtcp_feedback.specs.Fault.{number_of as feedback_number}
+use Rattle.rtcp_feedback.specs.Fault.{feedback_fault_number as feedback_number}
 use Rattle.rtcp_feedback.specs.Writing.{packet_bytes, tmmb_body}
 use Rattle.sfu_main.specs.declared.fault.LineFault.{LineFault}
 use Rattle.sfu_main.specs.declared.fault.LineFault.TheVariants.{Hex, Rtcp, Feedback, Full, Text}
@@ -30,26 +30,35 @@ unfoldable pub owner_at : List Request → ℕ → ℕ
 owner_at rows place = unwrap_or (option_map (λ (r : Request). r.owner.0) (slice_get rows place)) 0
 
 unfoldable pub word_at : List Request → ℕ → ℕ
-word_at rows place = unwrap_or (option_map (λ (r : Request). word_of r.tuple) (slice_get rows place)) 0
+word_at rows place =
+    unwrap_or (option_map (λ (r : Request). word_of r.tuple) (slice_get rows place)) 0
 
 -- a row: its owner in decimal, and its word in eight hexadecimal digits
 unfoldable pub row_text : List Request → ℕ → List ℕ
-row_text rows place = decimal (owner_at rows place) ++ (codes " " ++ encode_lower (big_bytes 4 (word_at rows place)))
+row_text rows place =
+    decimal (owner_at rows place) ++ (codes " " ++ encode_lower (big_bytes 4 (word_at rows place)))
 
 abbrev pub kept_line : List Request → Kept → List ℕ
 kept_line rows k =
-    codes "kept " ++ (row_text rows k.place ++ (codes " pair " ++ (decimal k.pair.packets ++ (codes " " ++ (decimal k.pair.bits
+    codes "kept "
+    ++ (row_text rows k.place
+    ++ (codes " pair " ++ (decimal k.pair.packets ++ (codes " " ++ (decimal k.pair.bits
     ++ (codes " " ++ (decimal k.pair.seconds ++ codes "\n")))))))
 
 abbrev pub implied_line : List Request → Implied → List ℕ
 implied_line rows i =
-    codes "implied " ++ (row_text rows i.place ++ (codes " by " ++ (decimal (owner_at rows i.a) ++ (codes " " ++ (decimal (owner_at rows i.b)
-    ++ (codes " times " ++ (decimal i.p ++ (codes " " ++ (decimal i.q ++ (codes " " ++ (decimal i.r ++ codes "\n")))))))))))
+    codes "implied "
+    ++ (row_text rows i.place ++ (codes " by "
+    ++ (decimal (owner_at rows i.a) ++ (codes " " ++ (decimal (owner_at rows i.b)
+    ++ (codes " times "
+    ++ (decimal i.p
+    ++ (codes " " ++ (decimal i.q ++ (codes " " ++ (decimal i.r ++ codes "\n")))))))))))
 
 -- all that is printed for these live requests: the TMMBN in hexadecimal, then the certificate
 abbrev pub bound_text : ℕ → State → List ℕ
 bound_text sender s =
-    encode_lower (tmmbn_bytes sender (announced_of s)) ++ codes "\n" ++ flat_map (kept_line s.rows) s.cert.kept.items
+    encode_lower (tmmbn_bytes sender (announced_of s)) ++ codes "\n"
+    ++ flat_map (kept_line s.rows) s.cert.kept.items
     ++ flat_map (implied_line s.rows) s.cert.implied.items
 
 -- a fault by its number

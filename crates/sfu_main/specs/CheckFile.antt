@@ -30,7 +30,8 @@ use Rattle.sfu_main.specs.Lines.{Asked, lines_of}
 
 -- the number below the limit that decimal digits spell
 abbrev pub number_under : ℕ → List ℕ → Option ℕ
-number_under limit word = if is_numeral word && nat_lt (digits_value 10 word) limit then Some (digits_value 10 word) else None
+number_under limit word = if is_numeral word && nat_lt (digits_value 10 word) limit
+    then Some (digits_value 10 word) else None
 
 -- such a number, unless it is 0
 abbrev pub positive : ℕ → Option ℕ
@@ -41,9 +42,10 @@ abbrev pub word_in : List ℕ → Option ℕ
 word_in digits = option_map (from_be_bytes w32) (result_ok (decode_sized digits 4))
 
 -- OWNER WORD
-abbrev pub asked_in : List ℕ → List ℕ → Option Asked
-asked_in owner word =
-    option_and_then (λ o. option_map (λ w. record { owner = o; word = w }) (word_in word)) (number_under (2 ^ 32) owner)
+abbrev pub ask_spelled : List ℕ → List ℕ → Option Asked
+ask_spelled owner word =
+    option_and_then (λ o. option_map (λ w. record { owner = o; word = w }) (word_in word))
+    (number_under (2 ^ 32) owner)
 
 -- N M D: packets and bits below 2^100, and seconds from 1 on below 2^14
 abbrev pub pair_in : List ℕ → List ℕ → List ℕ → Option RatePair
@@ -51,7 +53,8 @@ pair_in n m d =
     option_and_then
     (λ packets. option_and_then
     (λ bits. option_and_then
-    (λ time. option_map (λ seconds. record { packets = packets; bits = bits; seconds = seconds }) (positive time))
+    (λ time. option_map (λ seconds. record { packets = packets; bits = bits; seconds = seconds })
+    (positive time))
     (number_under (2 ^ 14) d))
     (number_under (2 ^ 100) m))
     (number_under (2 ^ 100) n)
@@ -61,14 +64,17 @@ abbrev pub times_in : ℕ → ℕ → List ℕ → List ℕ → List ℕ → Opt
 times_in a b p q r =
     option_and_then
     (λ ps. option_and_then
-    (λ qs. option_map (λ rs. record { a = record { 0 = a }; b = record { 0 = b }; p = ps; q = qs; r = rs }) (number_under (2 ^ 16) r))
+    (λ qs. option_map
+    (λ rs. record { a = record { 0 = a }; b = record { 0 = b }; p = ps; q = qs; r = rs })
+    (number_under (2 ^ 16) r))
     (number_under (2 ^ 16) q))
     (number_under (2 ^ 16) p)
 
 -- A B and P Q R
 abbrev pub claim_in : List ℕ → List ℕ → List ℕ → List ℕ → List ℕ → Option Claim
 claim_in a b p q r =
-    option_and_then (λ first. option_and_then (λ second. times_in first second p q r) (number_under (2 ^ 32) b)) (number_under (2 ^ 32) a)
+    option_and_then (λ first. option_and_then (λ second. times_in first second p q r)
+    (number_under (2 ^ 32) b)) (number_under (2 ^ 32) a)
 
 -- ---- a line
 
@@ -82,18 +88,21 @@ pub data Line : Type 0 where
 
 -- the words behind the first
 abbrev pub live_words : List (List ℕ) → Option Line
-live_words (owner ∷ (word ∷ [])) = option_map live (asked_in owner word)
+live_words (owner ∷ (word ∷ [])) = option_map live (ask_spelled owner word)
 live_words words = None
 
 abbrev pub kept_words : List (List ℕ) → Option Line
 kept_words (owner ∷ (word ∷ (pair ∷ (n ∷ (m ∷ (d ∷ [])))))) =
-    if bytes_eq pair (codes "pair") then option_and_then (λ asked. option_map (kept asked) (pair_in n m d)) (asked_in owner word) else None
+    if bytes_eq pair (codes "pair")
+    then option_and_then (λ asked. option_map (kept asked) (pair_in n m d))
+    (ask_spelled owner word) else None
 kept_words words = None
 
 abbrev pub implied_words : List (List ℕ) → Option Line
 implied_words (owner ∷ (word ∷ (by ∷ (a ∷ (b ∷ (times ∷ (p ∷ (q ∷ (r ∷ []))))))))) =
     if bytes_eq by (codes "by") && bytes_eq times (codes "times")
-    then option_and_then (λ asked. option_map (implied asked) (claim_in a b p q r)) (asked_in owner word)
+    then option_and_then (λ asked. option_map (implied asked) (claim_in a b p q r))
+    (ask_spelled owner word)
     else None
 implied_words words = None
 
@@ -131,19 +140,20 @@ said_by (AnEntry e) = said_of e
 -- ---- the certificate that lines spell
 
 -- each line is a request, in the order of the file
-abbrev pub request_of : Entry → Request
-request_of (Live r) = r
-request_of (Kept r pair) = r
-request_of (Implied r claim) = r
+abbrev pub entry_request : Entry → Request
+entry_request (Live r) = r
+entry_request (Kept r pair) = r
+entry_request (Implied r claim) = r
 
 abbrev pub requests_of : List Entry → List Request
-requests_of entries = map request_of entries
+requests_of entries = map entry_request entries
 
 -- the kept entries with their owners, of lines the first of which has this place
 abbrev pub kept_from : ℕ → List Entry → List (Ssrc × KeptEntry)
 kept_from place [] = []
 kept_from place (Live r ∷ entries) = kept_from (place + 1) entries
-kept_from place (Kept r pair ∷ entries) = (r.owner, record { place = place; pair = pair }) ∷ kept_from (place + 1) entries
+kept_from place (Kept r pair ∷ entries) =
+    (r.owner, record { place = place; pair = pair }) ∷ kept_from (place + 1) entries
 kept_from place (Implied r claim ∷ entries) = kept_from (place + 1) entries
 
 -- the places of the implied ones, and what they say
@@ -156,7 +166,8 @@ claims_from place (Implied r claim ∷ entries) = (place, claim) ∷ claims_from
 -- the place of the owner's first kept entry; the one past the last request where it has none
 abbrev pub place_for : List (Ssrc × KeptEntry) → ℕ → Ssrc → ℕ
 place_for [] past owner = past
-place_for (k ∷ kepts) past owner = if k.0.0 == owner.0 then k.1.place else place_for kepts past owner
+place_for (k ∷ kepts) past owner =
+    if k.0.0 == owner.0 then k.1.place else place_for kepts past owner
 
 abbrev pub implied_by : List (Ssrc × KeptEntry) → ℕ → ℕ × Claim → ImpliedEntry
 implied_by kepts past i = record {
@@ -179,25 +190,29 @@ implied_of entries = map (implied_by (kept_from 0 entries) (length entries)) (cl
 -- a certificate holds no more entries of a kind than it may, and a file no more requests
 abbrev pub has_room : List Entry → Entry → Bool
 has_room entries (Live r) = nat_lt (length entries) MAX_LINES
-has_room entries (Kept r pair) = nat_lt (length entries) MAX_LINES && nat_lt (length (kept_from 0 entries)) MAX_REQUESTS
-has_room entries (Implied r claim) = nat_lt (length entries) MAX_LINES && nat_lt (length (claims_from 0 entries)) MAX_REQUESTS
+has_room entries (Kept r pair) =
+    nat_lt (length entries) MAX_LINES && nat_lt (length (kept_from 0 entries)) MAX_REQUESTS
+has_room entries (Implied r claim) =
+    nat_lt (length entries) MAX_LINES && nat_lt (length (claims_from 0 entries)) MAX_REQUESTS
 
 -- the entries behind another line; none where it can't be read, or has no room
-abbrev pub taken : List Entry → Reading → Option (List Entry)
-taken entries Skipped = Some entries
-taken entries Unreadable = None
-taken entries (AnEntry e) = if has_room entries e then Some (entries ++ e ∷ []) else None
+abbrev pub entries_after : List Entry → Reading → Option (List Entry)
+entries_after entries Skipped = Some entries
+entries_after entries Unreadable = None
+entries_after entries (AnEntry e) = if has_room entries e then Some (entries ++ e ∷ []) else None
 
-pub record LineAdds (line : List ℕ) (entries : List Entry) (next : Option (List Entry)) : Type 0 where
+pub record LineAdds (line : List ℕ) (entries : List Entry)
+    (next : Option (List Entry)) : Type 0 where
   pub reading : Reading
   pub spelled : said_by reading ≡ line_of line
-  pub added : next ≡ taken entries reading
+  pub added : next ≡ entries_after entries reading
 
 -- the entries of lines, of which the first has this number, or the number of the first that is refused
 abbrev pub LinesSpell : ℕ → List (List ℕ) → List Entry → Result (List Entry) ℕ → Type 0
 LinesSpell n [] entries spelled = spelled ≡ Ok entries
 LinesSpell n (line ∷ lines) entries spelled =
-    ((next : List Entry) × LineAdds line entries (Some next) × LinesSpell (n + 1) lines next spelled)
+    ((next : List Entry) × LineAdds line entries (Some next)
+    × LinesSpell (n + 1) lines next spelled)
     ⊎ (LineAdds line entries None × (spelled ≡ Err n))
 
 abbrev pub FileSpells : List ℕ → Result (List Entry) ℕ → Type 0
@@ -205,14 +220,15 @@ FileSpells text spelled = LinesSpell 1 (lines_of text) [] spelled
 
 -- What is answered for entries: yes where the certificate holds of the requests, whose kept ones are then a smallest
 -- choice; else the first condition that it fails.
-abbrev pub IsAnswer : List Entry → Result (Unit {0}) CertFault → Type 0
-IsAnswer entries (Ok done) =
+abbrev pub IsCheckAnswer : List Entry → Result (Unit {0}) CertFault → Type 0
+IsCheckAnswer entries (Ok done) =
     MeetsConditions (requests_of entries) (kept_of entries) (implied_of entries)
     × IsSmallest (requests_of entries) (places_of (kept_of entries))
-IsAnswer entries (Err fault) = FailsFirst (requests_of entries) (kept_of entries) (implied_of entries) fault
+IsCheckAnswer entries (Err fault) =
+    FailsFirst (requests_of entries) (kept_of entries) (implied_of entries) fault
 
 -- a text spells a certificate, for which this is answered
 pub record TextAnswers (text : List ℕ) (answer : Result (Unit {0}) CertFault) : Type 0 where
   pub entries : List Entry
   pub spelled : FileSpells text (Ok entries)
-  pub is : IsAnswer entries answer
+  pub is : IsCheckAnswer entries answer

@@ -12,10 +12,10 @@ use Rattle.sfu_main.specs.BoundText.{answer_text, bound_text, refused_text}
 use Rattle.sfu_main.specs.Lines.{Asked, Refused, AreRowsOf, HoldsLastWords, TextLeaves}
 use Rattle.sfu_main.specs.declared.bound.Refusal.{Refusal}
 use Rattle.sfu_main.specs.declared.bound.Refusal.TheVariants.{NoMemory as NoMemoryAtAll, Line}
-use Rattle.sfu_main.specs.declared.command.Status.{Status}
-use Rattle.sfu_main.specs.declared.command.Status.TheVariants as status
-use Rattle.sfu_main.specs.declared.command.Failure.{Failure}
-use Rattle.sfu_main.specs.declared.command.Failure.TheVariants.{NoMemory, Refused as RefusedLine, Io}
+use Rattle.sfu_main.specs.declared.status.Status.{Status}
+use Rattle.sfu_main.specs.declared.status.Status.TheVariants as status
+use Rattle.sfu_main.specs.declared.status.Failure.{Failure}
+use Rattle.sfu_main.specs.declared.status.Failure.TheVariants.{NoMemory, Refused as RefusedLine, Io}
 
 -- What is printed is the text of the set, and of its certificate, that is announced for the requests which the input
 -- leaves, the last word of each owner: the canonical choice of them, which is smallest.
@@ -81,7 +81,8 @@ status_of Io = status.Io
 abbrev pub ShowsLine : Failure → Option (List ℕ) → Option (List ℕ) → Type 0
 ShowsLine NoMemory old new = Appends old new (codes "no memory\n")
 ShowsLine Io old new = Appends old new (codes "io\n")
-ShowsLine (RefusedLine line fault) old new = Appends old new (refused_text (record { line = line; fault = fault }))
+ShowsLine (RefusedLine line fault) old new =
+    Appends old new (refused_text (record { line = line; fault = fault }))
 
 -- a write to the error output failed, of what there was to say
 abbrev pub IsUnsaid : Status → Type 0
@@ -107,11 +108,13 @@ pub record ShowsFailure (failure : Failure) (old new : Option (List ℕ)) (s : S
   pub failed : s ≢ status.Done
   pub understood : s ≢ status.CommandLine
   pub settings : s ≢ status.Settings
-  pub refused : s ≡ status.Refused → (status_of failure ≡ status.Refused) × ShowsLine failure old new
+  pub refused : s ≡ status.Refused
+      → (status_of failure ≡ status.Refused) × ShowsLine failure old new
   pub said : SaysWhy old new s
 
 -- a no of `check` is printed; or nothing is, and the line that can't be read is on the error output
 abbrev pub SaysNo : Option (List ℕ) → Option (List ℕ) → Option (List ℕ) → Option (List ℕ) → Type 0
 SaysNo old new errors_old errors_new =
     ((fault : CertFault) × Appends old new (answer_text (Err fault)))
-    ⊎ ((line : ℕ) × Keeps old new × Appends errors_old errors_new (refused_text (record { line = line; fault = Text })))
+    ⊎ ((line : ℕ) × Keeps old new
+    × Appends errors_old errors_new (refused_text (record { line = line; fault = Text })))

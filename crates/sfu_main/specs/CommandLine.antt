@@ -34,18 +34,27 @@ replay_app = with_rule (new_app (codes "replay")) file_rule
 
 -- an option with a number from 1 to the greatest
 abbrev pub optional_rule : Text → ℤ → Rule
-optional_rule name most = record (new_rule name) { long = Some name; parser = Some (Signed (pos 1) most); action = Some Set }
+optional_rule name most = record (new_rule name) {
+  long = Some name;
+  parser = Some (Signed (pos 1) most);
+  action = Some Set;
+}
 
 abbrev pub serve_app : App
 serve_app =
-    with_rule (with_rule (with_rule (new_app (codes "serve")) file_rule) (optional_rule (codes "ticks") (pos 1000000)))
+    with_rule (with_rule (with_rule (new_app (codes "serve")) file_rule)
+    (optional_rule (codes "ticks") (pos 1000000)))
     (optional_rule (codes "status") (pos 86400))
 
 abbrev pub sfu_top : App
-sfu_top = record (new_app (codes "sfu")) { top = record (new_app (codes "sfu")).top { subcommand_required = true } }
+sfu_top = record (new_app (codes "sfu")) {
+  top = record (new_app (codes "sfu")).top { subcommand_required = true };
+}
 
 abbrev pub sfu : App
-sfu = with_subcommand (with_subcommand (with_subcommand (with_subcommand sfu_top bound_app.top) check_app.top) replay_app.top) serve_app.top
+sfu = with_subcommand
+    (with_subcommand (with_subcommand (with_subcommand sfu_top bound_app.top) check_app.top)
+    replay_app.top) serve_app.top
 
 -- what can be asked for
 pub data Request : Type 0 where
@@ -54,17 +63,18 @@ pub data Request : Type 0 where
   replay : Text → Request
   serve : Text → Option ℕ → Option ℕ → Request
 
-abbrev pub request_of : Action → Request
-request_of (Bound sender) = bound sender
-request_of (Check file) = check file.now
-request_of (Replay file) = replay file.now
-request_of (Serve file ticks status) = serve file.now ticks status
+abbrev pub action_request : Action → Request
+action_request (Bound sender) = bound sender
+action_request (Check file) = check file.now
+action_request (Replay file) = replay file.now
+action_request (Serve file ticks status) = serve file.now ticks status
 
 -- the number that a word spells
 abbrev pub number_of : Text → Option ℕ
 number_of text =
     let digits = without_leading_plus text in
-    if is_numeral digits && nat_lt (digits_value 10 digits) (2 ^ 32) then Some (digits_value 10 digits) else None
+    if is_numeral digits && nat_lt (digits_value 10 digits) (2 ^ 32)
+    then Some (digits_value 10 digits) else None
 
 abbrev pub number_in : Text → List Row → Option ℕ
 number_in id rows = option_and_then number_of (one_of id rows)
@@ -76,15 +86,17 @@ asked_named name rows =
     else if bytes_eq name (codes "check") then option_map check (first_of (codes "FILE") rows)
     else if bytes_eq name (codes "replay") then option_map replay (first_of (codes "FILE") rows)
     else if bytes_eq name (codes "serve")
-    then option_map (λ file. serve file (number_in (codes "ticks") rows) (number_in (codes "status") rows)) (first_of (codes "FILE") rows)
+    then option_map
+    (λ file. serve file (number_in (codes "ticks") rows) (number_in (codes "status") rows))
+    (first_of (codes "FILE") rows)
     else None
 
-abbrev pub asked_in : Option (Text × List Row) → Option Request
-asked_in found = option_and_then (λ p. asked_named p.0 p.1) found
+abbrev pub request_found : Option (Text × List Row) → Option Request
+request_found found = option_and_then (λ p. asked_named p.0 p.1) found
 
 -- what the words ask for, by the subcommand and the values that clap finds in them
 abbrev pub asked_for : List Text → Option Request
-asked_for words = asked_in (subcommand_of sfu words)
+asked_for words = request_found (subcommand_of sfu words)
 
 -- an option's words
 abbrev pub option_words : Text → Option ℕ → List Text
@@ -104,7 +116,8 @@ abbrev pub words_of : Request → List Text
 words_of (bound sender) = codes "bound" ∷ codes "--sender" ∷ decimal sender ∷ []
 words_of (check file) = codes "check" ∷ file ∷ []
 words_of (replay file) = codes "replay" ∷ file ∷ []
-words_of (serve file ticks status) = codes "serve" ∷ file ∷ (option_words (codes "--ticks") ticks ++ option_words (codes "--status") status)
+words_of (serve file ticks status) = codes "serve" ∷ file
+    ∷ (option_words (codes "--ticks") ticks ++ option_words (codes "--status") status)
 
 -- a file's name that has a first byte, which is no hyphen
 abbrev pub IsFileName : Text → Type 0

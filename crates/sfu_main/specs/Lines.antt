@@ -23,7 +23,8 @@ word_for (a ∷ live) owner = if a.owner == owner then Some a.word else word_for
 abbrev pub put_word : List Asked → ℕ → ℕ → List Asked
 put_word [] owner word = record { owner = owner; word = word } ∷ []
 put_word (a ∷ live) owner word =
-    if a.owner == owner then record { owner = owner; word = word } ∷ live else a ∷ put_word live owner word
+    if a.owner == owner then record { owner = owner; word = word } ∷ live
+    else a ∷ put_word live owner word
 
 -- the others, once the owner has left
 abbrev pub without : List Asked → ℕ → List Asked
@@ -33,7 +34,8 @@ without (a ∷ live) owner = if a.owner == owner then live else a ∷ without li
 -- a request is refused where it makes more live ones than may be
 abbrev pub after_change : Change → List Asked → Result (List Asked) LineFault
 after_change (asks owner word) live =
-    if nat_lt (length (put_word live owner word)) (LIVE_LIMIT + 1) then Ok (put_word live owner word) else Err Full
+    if nat_lt (length (put_word live owner word)) (LIVE_LIMIT + 1)
+    then Ok (put_word live owner word) else Err Full
 after_change (leaves owner) live = Ok (without live owner)
 
 infixl 10 ◌>>=◌
@@ -52,13 +54,13 @@ pub data Spelled : Type 0 where
   datagram : List ℕ → Spelled
   no_hex : Spelled
 
-abbrev pub decoded : {E : Type 0} → Result (List ℕ) E → Spelled
-decoded (Ok bytes) = datagram bytes
-decoded (Err e) = no_hex
+abbrev pub spelling_of : {E : Type 0} → Result (List ℕ) E → Spelled
+spelling_of (Ok bytes) = datagram bytes
+spelling_of (Err e) = no_hex
 
 abbrev pub spelled_by : List ℕ → Spelled
 spelled_by [] = skipped
-spelled_by (b ∷ bs) = if b == 35 then skipped else decoded (decode_of (b ∷ bs))
+spelled_by (b ∷ bs) = if b == 35 then skipped else spelling_of (decode_of (b ∷ bs))
 
 abbrev pub Demands : ℕ → Spelled → Result (List Change) LineFault → Type 0
 Demands media skipped asked = asked ≡ Ok []
@@ -66,7 +68,8 @@ Demands media (datagram bytes) asked = DatagramAsks media bytes asked
 Demands media no_hex asked = asked ≡ Err Hex
 
 -- what is live behind a line, or the line's fault
-pub record LineLeaves (media : ℕ) (line : List ℕ) (live : List Asked) (left : Result (List Asked) LineFault) : Type 0 where
+pub record LineLeaves (media : ℕ) (line : List ℕ) (live : List Asked)
+    (left : Result (List Asked) LineFault) : Type 0 where
   pub asked : Result (List Change) LineFault
   pub says : Demands media (spelled_by line) asked
   pub done : left ≡ (asked >>= λ changes. after_changes changes live)
@@ -80,8 +83,10 @@ pub record Refused : Type 0 where
 abbrev pub LinesLeave : ℕ → ℕ → List (List ℕ) → List Asked → Result (List Asked) Refused → Type 0
 LinesLeave media n [] live left = left ≡ Ok live
 LinesLeave media n (line ∷ lines) live left =
-    ((next : List Asked) × LineLeaves media line live (Ok next) × LinesLeave media (n + 1) lines next left)
-    ⊎ ((fault : LineFault) × LineLeaves media line live (Err fault) × (left ≡ Err (record { line = n; fault = fault })))
+    ((next : List Asked) × LineLeaves media line live (Ok next)
+    × LinesLeave media (n + 1) lines next left)
+    ⊎ ((fault : LineFault) × LineLeaves media line live (Err fault)
+    × (left ≡ Err (record { line = n; fault = fault })))
 
 -- A line ends at a newline or at the end of the text.
 abbrev pub lines_of : List ℕ → List (List ℕ)
@@ -95,13 +100,16 @@ TextLeaves media text left = LinesLeave media 1 (lines_of text) [] left
 abbrev pub LinesAsk : ℕ → List (List ℕ) → List Change → Type 0
 LinesAsk media [] changes = changes ≡ []
 LinesAsk media (line ∷ lines) changes =
-    (first : List Change) × (others : List Change) × Demands media (spelled_by line) (Ok first) × LinesAsk media lines others × (changes ≡ first ++ others)
+    (first : List Change) × (others : List Change) × Demands media (spelled_by line) (Ok first)
+    × LinesAsk media lines others × (changes ≡ first ++ others)
 
 -- what an owner asks for behind changes: the word of the last that names it; none behind its leave
 abbrev pub word_after : Option ℕ → List Change → ℕ → Option ℕ
 word_after word [] owner = word
-word_after word (asks o w ∷ changes) owner = word_after (if o == owner then Some w else word) changes owner
-word_after word (leaves o ∷ changes) owner = word_after (if o == owner then None else word) changes owner
+word_after word (asks o w ∷ changes) owner =
+    word_after (if o == owner then Some w else word) changes owner
+word_after word (leaves o ∷ changes) owner =
+    word_after (if o == owner then None else word) changes owner
 
 -- The text asks for these changes, and each owner has a row just where it asks for a word last: for that word.
 pub record HoldsLastWords (media : ℕ) (text : List ℕ) (rows : List Request) : Type 0 where

@@ -5,8 +5,8 @@ use Rattle.std.specs.Io.KnownBytes.{Appends, Keeps}
 use Rattle.hex.specs.Hex.{encode_lower}
 use Rattle.tmmbr_tuple.specs.declared.ssrc.Ssrc.{Ssrc}
 use Rattle.rtp_packet.specs.Fault.{rtp_number}
-use Rattle.rtcp_compound.specs.Fault.{number_of as rtcp_number}
-use Rattle.rtcp_feedback.specs.Fault.{number_of as feedback_number}
+use Rattle.rtcp_compound.specs.Fault.{rtcp_fault_number as rtcp_number}
+use Rattle.rtcp_feedback.specs.Fault.{feedback_fault_number as feedback_number}
 use Rattle.members.specs.Fault.{room_fault_number}
 use Rattle.members.specs.Settings.{Configuration}
 use Rattle.rewrite.specs.Skip.{skip_number}
@@ -25,8 +25,8 @@ use Rattle.core_steps.specs.Opening.{IsNewWorld}
 use Rattle.core_steps.specs.Rule.{is_busy}
 use Rattle.core_steps.specs.Run.{HasRun}
 use Rattle.core_steps.specs.Waits.{has_work}
-use Rattle.sfu_main.specs.declared.command.Failure.{Failure}
-use Rattle.sfu_main.specs.declared.command.Failure.TheVariants.{NoMemory, Refused as RefusedLine, Io}
+use Rattle.sfu_main.specs.declared.status.Failure.{Failure}
+use Rattle.sfu_main.specs.declared.status.Failure.TheVariants.{NoMemory, Refused as RefusedLine, Io}
 use Rattle.sfu_main.specs.declared.fault.LineFault.TheVariants.{Text}
 use Rattle.sfu_main.specs.declared.script.Command.{Command}
 use Rattle.sfu_main.specs.declared.script.Command.TheVariants.{Do, Settle, Show}
@@ -45,18 +45,23 @@ use Rattle.sfu_main.specs.SettingsFaults.{TextGives}
 abbrev pub refusal_line : Refusal → List ℕ
 refusal_line (Rtp fault) = codes "refused rtp " ++ (decimal (rtp_number fault) ++ codes "\n")
 refusal_line (Rtcp fault) = codes "refused rtcp " ++ (decimal (rtcp_number fault) ++ codes "\n")
-refusal_line (Feedback fault) = codes "refused feedback " ++ (decimal (feedback_number fault) ++ codes "\n")
-refusal_line (Room fault) = codes "refused room " ++ (decimal (room_fault_number fault) ++ codes "\n")
+refusal_line (Feedback fault) =
+    codes "refused feedback " ++ (decimal (feedback_number fault) ++ codes "\n")
+refusal_line (Room fault) =
+    codes "refused room " ++ (decimal (room_fault_number fault) ++ codes "\n")
 refusal_line (Desk refusal) = codes "refused desk " ++ (decimal (desk_number refusal) ++ codes "\n")
 
 -- the line for one thing that the machine gives out
 abbrev pub out_line : Out → List ℕ
-out_line (Send endpoint bytes) = codes "send " ++ (decimal endpoint ++ (codes " " ++ (encode_lower bytes ++ codes "\n")))
+out_line (Send endpoint bytes) =
+    codes "send " ++ (decimal endpoint ++ (codes " " ++ (encode_lower bytes ++ codes "\n")))
 out_line (Refused refusal) = refusal_line refusal
 out_line Busy = codes "busy\n"
 out_line (Lost worker) = codes "lost " ++ (decimal worker ++ codes "\n")
-out_line (Skip leg skip) = codes "skip " ++ (decimal leg ++ (codes " " ++ (decimal (skip_number skip) ++ codes "\n")))
-out_line (Miss leg seq) = codes "miss " ++ (decimal leg ++ (codes " " ++ (decimal seq ++ codes "\n")))
+out_line (Skip leg skip) =
+    codes "skip " ++ (decimal leg ++ (codes " " ++ (decimal (skip_number skip) ++ codes "\n")))
+out_line (Miss leg seq) =
+    codes "miss " ++ (decimal leg ++ (codes " " ++ (decimal seq ++ codes "\n")))
 out_line Idle = codes "idle\n"
 
 abbrev pub out_lines : List Out → List ℕ
@@ -78,8 +83,10 @@ PrintsText P old new = (text : List ℕ) × P text × Appends old new text
 
 -- The event is done as long as there is something to do for it, and this is given out until then.
 pub data Drains : (WorldState → Bool) → Event → WorldState → List Out → WorldState → Type 0 where
-  over : {waits : WorldState → Bool} {event : Event} {w : WorldState} → waits w ≡ false → Drains waits event w [] w
-  again : {waits : WorldState → Bool} {event : Event} {w next final : WorldState} {first others : List Out}
+  over : {waits : WorldState → Bool} {event : Event} {w : WorldState} → waits w ≡ false
+      → Drains waits event w [] w
+  again : {waits : WorldState
+      → Bool} {event : Event} {w next final : WorldState} {first others : List Out}
       → waits w ≡ true → HasRun (event ∷ []) w [] next first → Drains waits event next others final
       → Drains waits event w (first ++ others) final
 
@@ -95,11 +102,13 @@ WorkerDrains k w outs final = Drains (λ x. has_work x k) (Work k) w outs final
 abbrev pub WorkersDrain : ℕ → ℕ → WorldState → List Out → WorldState → Type 0
 WorkersDrain zero k w outs final = (outs ≡ []) × (final ≡ w)
 WorkersDrain (suc count) k w outs final =
-    (next : WorldState) × (first others : List Out) × WorkerDrains k w first next × WorkersDrain count (k + 1) next others final
+    (next : WorldState) × (first others : List Out) × WorkerDrains k w first next
+    × WorkersDrain count (k + 1) next others final
     × (outs ≡ first ++ others)
 
 -- The ingress, and then each of so many workers.
-pub record Settles (workers : ℕ) (w : WorldState) (outs : List Out) (final : WorldState) : Type 0 where
+pub record Settles (workers : ℕ) (w : WorldState) (outs : List Out)
+    (final : WorldState) : Type 0 where
   pub next : WorldState
   pub first : List Out
   pub others : List Out
@@ -123,8 +132,10 @@ IsAmong n (Show p) = p < n.endpoints
 
 -- a command leads to this world, and this is printed
 abbrev pub CommandPlays : Configuration → WorldState → Command → WorldState → List ℕ → Type 0
-CommandPlays c w (Do event) next text = (outs : List Out) × HasRun (event ∷ []) w [] next outs × (text ≡ out_lines outs)
-CommandPlays c w Settle next text = (outs : List Out) × Settles c.workers w outs next × (text ≡ out_lines outs)
+CommandPlays c w (Do event) next text =
+    (outs : List Out) × HasRun (event ∷ []) w [] next outs × (text ≡ out_lines outs)
+CommandPlays c w Settle next text =
+    (outs : List Out) × Settles c.workers w outs next × (text ≡ out_lines outs)
 CommandPlays c w (Show p) next text = (next ≡ w) × IsShown c w p text
 
 -- ---- a script
@@ -146,7 +157,8 @@ LinePlays c line w next text = ReadingPlays c w (reading_of (numbers_of c) line)
 abbrev pub LinesPlay : Configuration → ℕ → List (List ℕ) → WorldState → List ℕ → Option ℕ → Type 0
 LinesPlay c n [] w text stopped = (text ≡ []) × (stopped ≡ None)
 LinesPlay c n (line ∷ lines) w text stopped =
-    ((next : WorldState) × (first others : List ℕ) × LinePlays c line w next first × LinesPlay c (n + 1) lines next others stopped
+    ((next : WorldState) × (first others : List ℕ) × LinePlays c line w next first
+    × LinesPlay c (n + 1) lines next others stopped
     × (text ≡ first ++ others))
     ⊎ ((reading_of (numbers_of c) line ≡ Unreadable) × (text ≡ []) × (stopped ≡ Some n))
 
@@ -159,25 +171,30 @@ pub record Plays (c : Configuration) (script text : List ℕ) (stopped : Option 
 -- ---- what the program prints
 
 -- The whole script was played, and what that gives is printed.
-pub record PrintsReplay (c : Configuration) (script : List ℕ) (old new : Option (List ℕ)) : Type 0 where
+pub record PrintsReplay (c : Configuration) (script : List ℕ)
+    (old new : Option (List ℕ)) : Type 0 where
   pub text : List ℕ
   pub plays : Plays c script text None
   pub printed : Appends old new text
 
 -- The script was played up to its first line that can't be read: what that gives is printed.
-pub record StopsReplay (c : Configuration) (script : List ℕ) (line : ℕ) (old new : Option (List ℕ)) : Type 0 where
+pub record StopsReplay (c : Configuration) (script : List ℕ) (line : ℕ)
+    (old new : Option (List ℕ)) : Type 0 where
   pub text : List ℕ
   pub plays : Plays c script text (Some line)
   pub printed : Appends old new text
 
 -- where a script isn't played to its end, one of its lines can't be read, or memory is wanting, or a read or a write failed
-abbrev pub FailsReplay : Configuration → Option (List ℕ) → Option (List ℕ) → Option (List ℕ) → Failure → Type 0
+abbrev pub FailsReplay : Configuration → Option (List ℕ) → Option (List ℕ) → Option (List ℕ)
+    → Failure → Type 0
 FailsReplay c script old new NoMemory = Unit {0}
 FailsReplay c script old new Io = Unit {0}
-FailsReplay c script old new (RefusedLine line fault) = (fault ≡ Text) × IfSome script (λ text. StopsReplay c text line old new)
+FailsReplay c script old new (RefusedLine line fault) =
+    (fault ≡ Text) × IfSome script (λ text. StopsReplay c text line old new)
 
 -- where a line isn't played, it can't be read and prints nothing, or memory is wanting, or a write failed
-abbrev pub FailsLine : Configuration → ℕ → List ℕ → Option (List ℕ) → Option (List ℕ) → Failure → Type 0
+abbrev pub FailsLine : Configuration → ℕ → List ℕ → Option (List ℕ) → Option (List ℕ) → Failure
+    → Type 0
 FailsLine c number line old new NoMemory = Unit {0}
 FailsLine c number line old new Io = Unit {0}
 FailsLine c number line old new (RefusedLine n fault) =
@@ -190,7 +207,8 @@ IsOutside Io = Unit {0}
 IsOutside (RefusedLine line fault) = ⊥
 
 -- The error output has the number of the line that can't be read.
-pub record RefusesReplay (c : Configuration) (script : List ℕ) (old new errors_old errors_new : Option (List ℕ)) : Type 0 where
+pub record RefusesReplay (c : Configuration) (script : List ℕ)
+    (old new errors_old errors_new : Option (List ℕ)) : Type 0 where
   pub line : ℕ
   pub stops : StopsReplay c script line old new
   pub shown : Appends errors_old errors_new (refused_text (record { line = line; fault = Text }))
@@ -202,7 +220,8 @@ pub record PrintsByFile (script : List ℕ) (old new : Option (List ℕ)) : Type
   pub gives : TextGives file (Ok settings)
   pub prints : PrintsReplay settings.settings script old new
 
-pub record RefusesByFile (script : List ℕ) (old new errors_old errors_new : Option (List ℕ)) : Type 0 where
+pub record RefusesByFile (script : List ℕ)
+    (old new errors_old errors_new : Option (List ℕ)) : Type 0 where
   pub file : List ℕ
   pub settings : FileSettings
   pub gives : TextGives file (Ok settings)

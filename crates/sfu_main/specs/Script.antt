@@ -15,7 +15,8 @@ use Rattle.sfu_main.specs.declared.script.Reading.TheVariants.{Skipped, Command 
 
 -- the number that decimal digits spell, below 2 ^ 64
 abbrev pub number_in : List ℕ → Option ℕ
-number_in word = if is_numeral word && nat_lt (digits_value 10 word) (2 ^ 64) then Some (digits_value 10 word) else None
+number_in word = if is_numeral word && nat_lt (digits_value 10 word) (2 ^ 64)
+    then Some (digits_value 10 word) else None
 
 -- such a number, where it is below the limit
 abbrev pub below : ℕ → ℕ → Option ℕ
@@ -25,7 +26,8 @@ abbrev pub number_below : ℕ → List ℕ → Option ℕ
 number_below limit word = option_and_then (below limit) (number_in word)
 
 abbrev pub switch_in : List ℕ → Option Bool
-switch_in word = if bytes_eq word (codes "on") then Some true else if bytes_eq word (codes "off") then Some false else None
+switch_in word = if bytes_eq word (codes "on") then Some true else if bytes_eq word (codes "off")
+    then Some false else None
 
 -- the bytes that hexadecimal digits spell, at least one
 abbrev pub datagram_in : List ℕ → Option (List ℕ)
@@ -37,7 +39,9 @@ datagram_in (d ∷ ds) = result_ok (decode_of (d ∷ ds))
 abbrev pub hear_words : Numbers → List (List ℕ) → Option Command
 hear_words n (moment ∷ (endpoint ∷ (datagram ∷ []))) =
     option_and_then
-    (λ bytes. option_and_then (λ m. option_map (λ e. Do (Hear m e bytes)) (number_below n.endpoints endpoint)) (number_in moment))
+    (λ bytes. option_and_then
+    (λ m. option_map (λ e. Do (Hear m e bytes)) (number_below n.endpoints endpoint))
+    (number_in moment))
     (datagram_in datagram)
 hear_words n words = None
 
@@ -48,7 +52,8 @@ tick_words words = None
 -- a leg may be one that isn't there
 abbrev pub select_words : List (List ℕ) → Option Command
 select_words (moment ∷ (leg ∷ (on ∷ []))) =
-    option_and_then (λ m. option_and_then (λ l. option_map (λ b. Do (Select m l b)) (switch_in on)) (number_below (2 ^ 16) leg))
+    option_and_then (λ m. option_and_then (λ l. option_map (λ b. Do (Select m l b)) (switch_in on))
+    (number_below (2 ^ 16) leg))
     (number_in moment)
 select_words words = None
 
@@ -85,4 +90,5 @@ command_or_not (Some command) = ACommand command
 -- what a line is: its words are parted by single spaces
 abbrev pub reading_of : Numbers → List ℕ → Reading
 reading_of n [] = Skipped
-reading_of n (b ∷ line) = if b == 35 then Skipped else command_or_not (words_command n (slice_split (λ c. c == 32) (b ∷ line)))
+reading_of n (b ∷ line) = if b == 35 then Skipped
+    else command_or_not (words_command n (slice_split (λ c. c == 32) (b ∷ line)))

@@ -8,8 +8,8 @@ use Rattle.sfu_main.specs.Command.{SaysWhy}
 use Rattle.sfu_main.specs.ReportText.{PrintsReport}
 use Rattle.sfu_main.specs.declared.serve_fault.ServeFault.{ServeFault}
 use Rattle.sfu_main.specs.declared.serve_fault.ServeFault.TheVariants.{Socket}
-use Rattle.sfu_main.specs.declared.command.Status.{Status}
-use Rattle.sfu_main.specs.declared.command.Status.TheVariants as status
+use Rattle.sfu_main.specs.declared.status.Status.{Status}
+use Rattle.sfu_main.specs.declared.status.Status.TheVariants as status
 
 -- where the unit isn't served to its end for its socket and its threads, nothing was printed
 abbrev pub FailsServe : Option (List ℕ) → Option (List ℕ) → ServeFault → Type 0
@@ -17,7 +17,8 @@ FailsServe old new fault = fault ≡ Socket → Keeps old new
 
 -- How a unit that was to be served ends: its report is printed; or its socket or its threads failed, and nothing is; or
 -- memory is wanting, or a write failed.
-pub record EndsServe (settings : Configuration) (old new : Option (List ℕ)) (s : Status) : Type 0 where
+pub record EndsServe (settings : Configuration) (old new : Option (List ℕ))
+    (s : Status) : Type 0 where
   pub done : s ≡ status.Done → PrintsReport settings old new
   pub socket : s ≡ status.Socket → Keeps old new
   pub understood : s ≢ status.CommandLine

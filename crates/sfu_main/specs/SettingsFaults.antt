@@ -72,8 +72,10 @@ has_tables value = false
 -- a key that has to be there: its value is missed where it isn't of its kind
 abbrev pub is_required : List ℕ → Bool
 is_required key =
-    bytes_eq key (codes "cname") || bytes_eq key (codes "history") || bytes_eq key (codes "pli_gap_ms") || bytes_eq key (codes "report_ms")
-    || bytes_eq key (codes "ring") || bytes_eq key (codes "timeout_ms") || bytes_eq key (codes "unit_ssrc") || bytes_eq key (codes "workers")
+    bytes_eq key (codes "cname") || bytes_eq key (codes "history")
+    || bytes_eq key (codes "pli_gap_ms") || bytes_eq key (codes "report_ms")
+    || bytes_eq key (codes "ring") || bytes_eq key (codes "timeout_ms")
+    || bytes_eq key (codes "unit_ssrc") || bytes_eq key (codes "workers")
 
 abbrev pub takes_top : List ℕ → Data → Bool
 takes_top key value =
@@ -84,18 +86,21 @@ takes_top key value =
     else is_required key
 
 abbrev pub takes_endpoint : List ℕ → Data → Bool
-takes_endpoint key value = if bytes_eq key (codes "address") then is_some (as_str value) else bytes_eq key (codes "ssrc")
+takes_endpoint key value =
+    if bytes_eq key (codes "address") then is_some (as_str value) else bytes_eq key (codes "ssrc")
 
 abbrev pub takes_leg : List ℕ → Data → Bool
 takes_leg key value =
     if bytes_eq key (codes "first_seq") then is_some (as_integer value)
     else if bytes_eq key (codes "on") then is_some (as_bool value)
-    else bytes_eq key (codes "out_ssrc") || bytes_eq key (codes "publisher") || bytes_eq key (codes "subscriber")
+    else bytes_eq key (codes "out_ssrc") || bytes_eq key (codes "publisher")
+    || bytes_eq key (codes "subscriber")
 
 -- the first key, by its name, that isn't taken with its value
 abbrev pub misfit_in : (List ℕ → Data → Bool) → Members → Option (List ℕ)
 misfit_in takes no_members = None
-misfit_in takes (member key value members) = if takes key value then misfit_in takes members else Some key
+misfit_in takes (member key value members) =
+    if takes key value then misfit_in takes members else Some key
 
 abbrev pub table_misfit : (List ℕ → Data → Bool) → Option Members → Option (List ℕ)
 table_misfit takes None = None
@@ -108,16 +113,20 @@ or_else (Some a) b = Some a
 -- the first of a list of tables, of which the first has this number
 abbrev pub list_misfit : (List ℕ → Data → Bool) → (ℕ → List ℕ → Spot) → ℕ → List Data → Option Spot
 list_misfit takes spot n [] = None
-list_misfit takes spot n (d ∷ ds) = or_else (option_map (spot n) (table_misfit takes (as_table d))) (list_misfit takes spot (n + 1) ds)
+list_misfit takes spot n (d ∷ ds) =
+    or_else (option_map (spot n) (table_misfit takes (as_table d)))
+    (list_misfit takes spot (n + 1) ds)
 
 abbrev pub endpoint_misfit : Members → Option Spot
-endpoint_misfit t = list_misfit takes_endpoint endpoint 0 (items_in (get_member (codes "endpoint") t))
+endpoint_misfit t =
+    list_misfit takes_endpoint endpoint 0 (items_in (get_member (codes "endpoint") t))
 
 abbrev pub leg_misfit : Members → Option Spot
 leg_misfit t = list_misfit takes_leg leg 0 (items_in (get_member (codes "leg") t))
 
 abbrev pub misfit_of : Members → Option Spot
-misfit_of t = or_else (option_map top (misfit_in takes_top t)) (or_else (endpoint_misfit t) (leg_misfit t))
+misfit_of t =
+    or_else (option_map top (misfit_in takes_top t)) (or_else (endpoint_misfit t) (leg_misfit t))
 
 -- ---- what is wrong with a file
 
@@ -141,20 +150,21 @@ problem_spot (Leg number key) = Some (leg number (string_bytes key))
 problem_spot SameSsrc = Some sources
 
 -- The problem stands at the first fault of the table: of a key that doesn't fit, or of the parts.
-pub record IsFirstFault (t : Members) (problem : SettingsProblem) : Type 0 where
+pub record IsFirstSettingsFault (t : Members) (problem : SettingsProblem) : Type 0 where
   pub parts : Parts
   pub found : ArePartsOf t parts
-  pub first : problem_spot problem ≡ earlier (misfit_of t) (checks_spot (first_fault (checks parts)))
+  pub first : problem_spot problem
+      ≡ earlier (misfit_of t) (checks_spot (first_fault (checks parts)))
 
 -- What a table gives: its settings, where no key misfits; else its first fault; or memory is wanting.
 abbrev pub TableGives : Members → Result FileSettings SettingsProblem → Type 0
 TableGives t (Ok f) = (misfit_of t ≡ None) × HoldsSettings t f
 TableGives t (Err NoMemory) = Unit {0}
 TableGives t (Err Toml) = ⊥
-TableGives t (Err (Top key)) = IsFirstFault t (Top key)
-TableGives t (Err (Endpoint number key)) = IsFirstFault t (Endpoint number key)
-TableGives t (Err (Leg number key)) = IsFirstFault t (Leg number key)
-TableGives t (Err SameSsrc) = IsFirstFault t SameSsrc
+TableGives t (Err (Top key)) = IsFirstSettingsFault t (Top key)
+TableGives t (Err (Endpoint number key)) = IsFirstSettingsFault t (Endpoint number key)
+TableGives t (Err (Leg number key)) = IsFirstSettingsFault t (Leg number key)
+TableGives t (Err SameSsrc) = IsFirstSettingsFault t SameSsrc
 
 -- What a text gives: it is no TOML document; or it is one, and this is what its table gives.
 abbrev pub IsNoDocument : List ℕ → Type 0

@@ -66,4 +66,5 @@ pub record HoldsSettings (t : Members) (f : FileSettings) : Type 0 where
   pub passes : first_fault (checks parts) ≡ None
   pub settings : f.settings ≡ configuration_of parts
   pub listen : text_bytes f.listen ≡ text_in (get_member (codes "listen") t)
-  pub addresses : map text_bytes f.addresses.items ≡ map address_in (items_in (get_member (codes "endpoint") t))
+  pub addresses : map text_bytes f.addresses.items
+      ≡ map address_in (items_in (get_member (codes "endpoint") t))

@@ -9,8 +9,10 @@ abbrev pub problem_line : SettingsProblem → List ℕ
 problem_line NoMemory = codes "no memory\n"
 problem_line Toml = codes "settings: toml\n"
 problem_line (Top key) = codes "settings: " ++ (string_bytes key ++ codes "\n")
-problem_line (Endpoint number key) = codes "settings: endpoint " ++ (decimal number ++ (codes " " ++ (string_bytes key ++ codes "\n")))
-problem_line (Leg number key) = codes "settings: leg " ++ (decimal number ++ (codes " " ++ (string_bytes key ++ codes "\n")))
+problem_line (Endpoint number key) = codes "settings: endpoint "
+    ++ (decimal number ++ (codes " " ++ (string_bytes key ++ codes "\n")))
+problem_line (Leg number key) =
+    codes "settings: leg " ++ (decimal number ++ (codes " " ++ (string_bytes key ++ codes "\n")))
 problem_line SameSsrc = codes "settings: ssrc\n"
 
 -- The error output has the line for a fault of the settings.

@@ -22,7 +22,8 @@ pub enum AddressFault {
 
 /// The addresses that the endpoints' texts spell, an IP address of either version and a port each.
 pub fn read_addresses(alloc: Global, texts: &[Option<String>]) -> Result<Addresses, AddressFault>
-    ensures { MatchResult result (λ all. Spell ⟦<SocketAddr as PartialEq>⟧.eq texts.now (Ok all)) (Faults ⟦<SocketAddr as PartialEq>⟧.eq texts.now) }
+    ensures { MatchResult result (λ all. Spell ⟦<SocketAddr as PartialEq>⟧.eq texts.now (Ok all))
+        (Faults ⟦<SocketAddr as PartialEq>⟧.eq texts.now) }
 {
     let mut addresses = Directory::new(alloc);
     for text in texts {
@@ -33,7 +34,8 @@ pub fn read_addresses(alloc: Global, texts: &[Option<String>]) -> Result<Address
 
 /// Puts the address that the text of the next endpoint spells behind the others.
 fn take_address(addresses: &mut Addresses, text: &Option<String>) -> Result<(), AddressFault>
-    ensures ok { OnOk result ((address : _) × Spells text.now address × (place_of ⟦<SocketAddr as PartialEq>⟧.eq addresses.old address ≡ None)
+    ensures ok { OnOk result ((address : _) × Spells text.now address
+        × (place_of ⟦<SocketAddr as PartialEq>⟧.eq addresses.old address ≡ None)
         × (addresses.new ≡ addresses.old ++ address ∷ [])) }
     ensures err { IfErr result (FaultsHere ⟦<SocketAddr as PartialEq>⟧.eq addresses.old text.now) }
 {

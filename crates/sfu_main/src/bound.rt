@@ -4,7 +4,7 @@ ghost use Rattle.std.specs.Prelude.{◌≡◌, List, [], IfOk, map, All, MatchRe
 ghost use Rattle.rtcp_compound.specs.Content.{content_of, sources_left};
 ghost use Rattle.rtcp_compound.specs.Left.{contents_left};
 ghost use Rattle.rtcp_feedback.specs.Reading.{entries_left};
-ghost use Rattle.sfu_main.specs.Asked.{AskTogether, Asks, Change, FailsFirst, HasFault, IsReadable, asks, leaves, requests_of};
+ghost use Rattle.sfu_main.specs.Asked.{AskTogether, Asks, Change, FailsFirst, HasAskFault, IsReadable, asks, leaves, requests_of};
 ghost use Rattle.sfu_main.specs.Lines.{Asked, AreRowsOf, after_change, after_changes, lines_of};
 ghost use Rattle.sfu_main.specs.Outcome.{HasRowsOf, Leaves, LeavesDatagram, LeavesLine, LeavesText, undecoded_at};
 
@@ -109,7 +109,8 @@ fn take_datagram(bounds: &mut Bounds, datagram: &[u8], media: Ssrc) -> Result<()
 
 /// Reads all feedback of these packets, and does nothing of it.
 fn check_feedback(packets: Packets<'_>) -> Result<(), FbFault>
-    ensures { MatchResult result (λ _. All IsReadable (contents_left packets.entry)) (FailsFirst (contents_left packets.entry)) }
+    ensures { MatchResult result (λ _. All IsReadable (contents_left packets.entry))
+        (FailsFirst (contents_left packets.entry)) }
 {
     for packet in packets {
         check_packet(packet)?;
@@ -119,7 +120,8 @@ fn check_feedback(packets: Packets<'_>) -> Result<(), FbFault>
 
 /// Reads the packet where it is feedback.
 fn check_packet(packet: RtcpView<'_>) -> Result<(), FbFault>
-    ensures { MatchResult result (λ _. IsReadable (content_of packet.entry)) (HasFault (content_of packet.entry)) }
+    ensures { MatchResult result (λ _. IsReadable (content_of packet.entry))
+        (HasAskFault (content_of packet.entry)) }
 {
     match packet {
         RtcpView::Feedback { fmt, kind, body } => match read_feedback(fmt, kind, body) {
@@ -132,8 +134,10 @@ fn check_packet(packet: RtcpView<'_>) -> Result<(), FbFault>
 
 /// Does what packets ask for, in order.
 fn take_packets(bounds: &mut Bounds, packets: Packets<'_>, media: Ssrc) -> Result<(), LineFault>
-    ensures { (changes : List Change) (live : List Asked) → AskTogether media.0 (contents_left packets.entry) changes
-        → AreRowsOf live bounds.old.rows → Leaves (after_changes changes live) bounds.new.rows result }
+    ensures { (changes : List Change) (live : List Asked)
+        → AskTogether media.0 (contents_left packets.entry) changes
+        → AreRowsOf live bounds.old.rows
+        → Leaves (after_changes changes live) bounds.new.rows result }
 {
     for packet in packets {
         take_packet(bounds, packet, media)?;
@@ -143,8 +147,10 @@ fn take_packets(bounds: &mut Bounds, packets: Packets<'_>, media: Ssrc) -> Resul
 
 /// Does what a packet asks for.
 fn take_packet(bounds: &mut Bounds, packet: RtcpView<'_>, media: Ssrc) -> Result<(), LineFault>
-    ensures { (changes : List Change) (live : List Asked) → Asks media.0 (content_of packet.entry) changes
-        → AreRowsOf live bounds.old.rows → Leaves (after_changes changes live) bounds.new.rows result }
+    ensures { (changes : List Change) (live : List Asked)
+        → Asks media.0 (content_of packet.entry) changes
+        → AreRowsOf live bounds.old.rows
+        → Leaves (after_changes changes live) bounds.new.rows result }
 {
     match packet {
         RtcpView::Bye { sources } => {
@@ -180,7 +186,8 @@ fn take_entries(
     media: Ssrc,
 ) -> Result<(), LineFault>
     ensures { (live : List Asked) → AreRowsOf live bounds.old.rows
-        → Leaves (after_changes (requests_of media.0 owner.0 (entries_left entries.entry)) live) bounds.new.rows result }
+        → Leaves (after_changes (requests_of media.0 owner.0 (entries_left entries.entry)) live)
+        bounds.new.rows result }
 {
     for entry in entries {
         if entry.ssrc == media {

@@ -3,14 +3,15 @@
 ghost use Rattle.std.specs.Prelude.{◌≡◌, ◌≢◌, ◌≤◌, ◌<◌, ◌++◌, List, [], ◌∷◌, Ok, Err, IfErr, IfOk, OnOk, IfSome, MatchResult, codes, length, map, vec_len};
 ghost use Rattle.std.specs.Io.KnownBytes.{Appends};
 ghost use Rattle.sfu_main.specs.BoundText.{answer_text};
-ghost use Rattle.sfu_main.specs.CheckFile.{FileSpells, IsAnswer, TextAnswers, implied_by, place_for, taken};
+ghost use Rattle.sfu_main.specs.CheckFile.{FileSpells, IsCheckAnswer, TextAnswers, implied_by, place_for, entries_after};
 ghost use Rattle.sfu_main.specs.Command.{SaysNo, SaysWhy};
 ghost use Rattle.sfu_main.specs.Sheet.{AnswersFile, FailsFile, IsSheetOf, RefusesFile, RefusesSheet, Takes, TakesLine};
 
 use crate::bound::{Refusal, lines};
-use crate::command::{Failure, Status, report, unreadable};
 use crate::entry::{Claim, Entry, MAX_LINES, Reading, read_line};
 use crate::fault::LineFault;
+use crate::saying::report;
+use crate::status::{Failure, Status, unreadable};
 use crate::text::answer_text;
 use arrayvec::ArrayVec;
 use rate_cert::{Cert, CertFault, Implied, Kept, MAX_REQUESTS, Request, check};
@@ -39,13 +40,17 @@ pub fn check_lines<I: Read, O: Write, E: Write>(
     writer: &mut O,
     errors: &mut E,
 ) -> Status
-    ensures yes { result ≡ Status.Done → Appends (O.contents writer.old) (O.contents writer.new) (codes "yes\n") }
+    ensures yes { result ≡ Status.Done
+        → Appends (O.contents writer.old) (O.contents writer.new) (codes "yes\n") }
     ensures certified { result ≡ Status.Done
-        → IfSome (I.remaining file.old) (λ text. AnswersFile text (O.contents writer.old) (O.contents writer.new) (Ok tt)) }
+        → IfSome (I.remaining file.old)
+        (λ text. AnswersFile text (O.contents writer.old) (O.contents writer.new) (Ok tt)) }
     ensures no { result ≡ Status.Refused
-        → SaysNo (O.contents writer.old) (O.contents writer.new) (E.contents errors.old) (E.contents errors.new) }
+        → SaysNo (O.contents writer.old) (O.contents writer.new) (E.contents errors.old)
+        (E.contents errors.new) }
     ensures refused { result ≡ Status.Refused
-        → RefusesFile (I.remaining file.old) (O.contents writer.old) (O.contents writer.new) (E.contents errors.old) (E.contents errors.new) }
+        → RefusesFile (I.remaining file.old) (O.contents writer.old) (O.contents writer.new)
+        (E.contents errors.old) (E.contents errors.new) }
     ensures understood { (result ≢ Status.CommandLine) × (result ≢ Status.Settings) }
     ensures said { SaysWhy (E.contents errors.old) (E.contents errors.new) result }
 {
@@ -62,10 +67,12 @@ fn answer_lines<I: Read, O: Write>(
     file: &mut I,
     writer: &mut O,
 ) -> Result<Result<(), CertFault>, Failure>
-    ensures printed { IfOk result (λ answer. Appends (O.contents writer.old) (O.contents writer.new) (answer_text answer)) }
+    ensures printed { IfOk result (λ answer. Appends (O.contents writer.old) (O.contents writer.new)
+        (answer_text answer)) }
     ensures answered { IfOk result (λ answer. IfSome (I.remaining file.old)
         (λ text. AnswersFile text (O.contents writer.old) (O.contents writer.new) answer)) }
-    ensures refused { IfErr result (FailsFile (I.remaining file.old) (O.contents writer.old) (O.contents writer.new)) }
+    ensures refused { IfErr result
+        (FailsFile (I.remaining file.old) (O.contents writer.old) (O.contents writer.new)) }
 {
     let mut text = Vec::new(alloc);
     if let Err(error) = file.read_to_end(&mut text) {
@@ -106,8 +113,10 @@ fn read_sheet(alloc: Global, text: &[u8]) -> Result<Sheet, Refusal>
 
 /// Takes the line with this number in, unless it can't be read or there is no room for it.
 fn take_line(alloc: Global, sheet: &mut Sheet, line: &[u8], number: u64) -> Result<(), Refusal>
-    ensures { (entries : List Entry) → IsSheetOf entries sheet.old.requests.items sheet.old.kept.items sheet.old.claims.items
-        → TakesLine line.now entries number sheet.new.requests.items sheet.new.kept.items sheet.new.claims.items result }
+    ensures { (entries : List Entry)
+        → IsSheetOf entries sheet.old.requests.items sheet.old.kept.items sheet.old.claims.items
+        → TakesLine line.now entries number sheet.new.requests.items sheet.new.kept.items
+        sheet.new.claims.items result }
 {
     match read_line(alloc, line)? {
         Reading::Skipped => Ok(()),
@@ -128,8 +137,10 @@ fn refused(line: u64) -> Refusal
 
 /// Takes an entry in, unless there is no room for it.
 fn take_entry(sheet: &mut Sheet, entry: Entry, number: u64) -> Result<(), Refusal>
-    ensures { (entries : List Entry) → IsSheetOf entries sheet.old.requests.items sheet.old.kept.items sheet.old.claims.items
-        → Takes (taken entries (Reading.Entry entry)) number sheet.new.requests.items sheet.new.kept.items sheet.new.claims.items result }
+    ensures { (entries : List Entry)
+        → IsSheetOf entries sheet.old.requests.items sheet.old.kept.items sheet.old.claims.items
+        → Takes (entries_after entries (Reading.Entry entry)) number sheet.new.requests.items
+        sheet.new.kept.items sheet.new.claims.items result }
 {
     if sheet.requests.len() >= MAX_LINES {
         return Err(refused(number));
@@ -148,7 +159,8 @@ fn take_entry(sheet: &mut Sheet, entry: Entry, number: u64) -> Result<(), Refusa
 fn take_request(sheet: &mut Sheet, request: Request) -> Result<(), AllocError>
     requires { vec_len sheet.old.requests < MAX_LINES }
     ensures asked { OnOk result (sheet.new.requests.items ≡ sheet.old.requests.items ++ request ∷ []) }
-    ensures others { (sheet.new.kept.items ≡ sheet.old.kept.items) × (sheet.new.claims.items ≡ sheet.old.claims.items) }
+    ensures others { (sheet.new.kept.items ≡ sheet.old.kept.items)
+        × (sheet.new.claims.items ≡ sheet.old.claims.items) }
 {
     sheet.requests.push(request)?;
     Ok(())
@@ -157,8 +169,9 @@ fn take_request(sheet: &mut Sheet, request: Request) -> Result<(), AllocError>
 /// Takes in a kept request, unless there is no room for it.
 fn take_kept(sheet: &mut Sheet, request: Request, pair: Pair, number: u64) -> Result<(), Refusal>
     requires { vec_len sheet.old.requests < MAX_LINES }
-    ensures { (entries : List Entry) → IsSheetOf entries sheet.old.requests.items sheet.old.kept.items sheet.old.claims.items
-        → Takes (taken entries (Reading.Entry (Entry.Kept request pair))) number
+    ensures { (entries : List Entry)
+        → IsSheetOf entries sheet.old.requests.items sheet.old.kept.items sheet.old.claims.items
+        → Takes (entries_after entries (Reading.Entry (Entry.Kept request pair))) number
         sheet.new.requests.items sheet.new.kept.items sheet.new.claims.items result }
 {
     let place = sheet.requests.len() as u16;
@@ -179,8 +192,9 @@ fn take_implied(
     number: u64,
 ) -> Result<(), Refusal>
     requires { vec_len sheet.old.requests < MAX_LINES }
-    ensures { (entries : List Entry) → IsSheetOf entries sheet.old.requests.items sheet.old.kept.items sheet.old.claims.items
-        → Takes (taken entries (Reading.Entry (Entry.Implied request claim))) number
+    ensures { (entries : List Entry)
+        → IsSheetOf entries sheet.old.requests.items sheet.old.kept.items sheet.old.claims.items
+        → Takes (entries_after entries (Reading.Entry (Entry.Implied request claim))) number
         sheet.new.requests.items sheet.new.kept.items sheet.new.claims.items result }
 {
     let place = sheet.requests.len() as u16;
@@ -195,8 +209,9 @@ fn take_implied(
 
 /// What `check` answers for the requests, with the certificate that kept lines and claims spell.
 fn check_sheet(sheet: &Sheet) -> Result<(), CertFault>
-    ensures { (entries : List Entry) → IsSheetOf entries sheet.now.requests.items sheet.now.kept.items sheet.now.claims.items
-        → IsAnswer entries result }
+    ensures { (entries : List Entry)
+        → IsSheetOf entries sheet.now.requests.items sheet.now.kept.items sheet.now.claims.items
+        → IsCheckAnswer entries result }
 {
     let kept = sheet.kept.as_slice();
     let past = sheet.requests.len() as u16;

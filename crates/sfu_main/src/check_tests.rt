@@ -1,6 +1,7 @@
 //! The files of `sfu check`, through the public calls.
 use super::check_file::check_lines;
-use super::command::{Status, run_command};
+use super::status::Status;
+use super::test_commands::{Ran, run_words, texts_of};
 use std::alloc::{AllocError, Global};
 use std::io::{self, Read, Write};
 use std::test::Fail;
@@ -8,14 +9,12 @@ use std::{fs, process};
 
 /// Runs `check_lines` on these lines, and shows what it printed, what it said on the error output, and how
 /// it ended.
-fn check(rt: &HostRuntime, lines: &str) -> Result<(String, String, Status), Fail> {
+fn check(rt: &HostRuntime, lines: &str) -> Result<Ran, Fail> {
     let mut file = lines.as_bytes();
     let mut printed = Vec::new(rt.alloc());
     let mut said = Vec::new(rt.alloc());
     let status = check_lines(rt.alloc(), &mut file, &mut printed, &mut said);
-    let printed = String::from_utf8(printed).map_err(|_| Fail::from("text"))?;
-    let said = String::from_utf8(said).map_err(|_| Fail::from("text"))?;
-    Ok((printed, said, status))
+    texts_of(printed, said, status)
 }
 
 /// Files, and what is printed for them.
@@ -189,13 +188,10 @@ fn answers_opened_files(rt: HostRuntime) -> Result<(), Fail> {
     for (lines, text) in [ANSWERED[0], ANSWERED[1], ANSWERED[2]] {
         fs::write(&rt, path.as_str(), lines)?;
         let words = ["sfu", "check", path.as_str()];
-        let mut input = b"".as_slice();
-        let mut printed = Vec::new(rt.alloc());
-        let mut said = Vec::new(rt.alloc());
-        let status = run_command(&rt, words.as_slice(), &mut input, &mut printed, &mut said);
+        let (printed, said, status) = run_words(&rt, words.as_slice(), "")?;
         fs::remove_file(&rt, path.as_str())?;
-        assert_eq!(rt; printed.as_slice(), text.as_bytes());
-        assert_eq!(rt; said.len(), 0);
+        assert_eq!(rt; printed.as_str(), text);
+        assert_eq!(rt; said.as_str(), "");
         let wanted = if text == "yes\n" { 0 } else { 4 };
         assert_eq!(rt; status.code(), wanted);
     }
@@ -207,13 +203,10 @@ fn answers_opened_files(rt: HostRuntime) -> Result<(), Fail> {
 fn refuses_files(rt: HostRuntime) -> Result<(), Fail> {
     for file in ["/there/is/no/such/file", "/"] {
         let words = ["sfu", "check", file];
-        let mut input = b"".as_slice();
-        let mut printed = Vec::new(rt.alloc());
-        let mut said = Vec::new(rt.alloc());
-        let status = run_command(&rt, words.as_slice(), &mut input, &mut printed, &mut said);
+        let (printed, said, status) = run_words(&rt, words.as_slice(), "")?;
         assert_eq!(rt; status.code(), 4);
-        assert_eq!(rt; printed.len(), 0);
-        assert_eq!(rt; said.as_slice(), b"line 0: text\n".as_slice());
+        assert_eq!(rt; printed.as_str(), "");
+        assert_eq!(rt; said.as_str(), "line 0: text\n");
     }
     Ok(())
 }

@@ -2,30 +2,26 @@
 
 ghost use Rattle.std.specs.Prelude.{◌≡◌, ◌≢◌, ℕ, List, Option, map, None, Some, Ok, Err, IfSome, IfOk, IfErr, OnOk, codes};
 ghost use Rattle.std.specs.Io.KnownBytes.{Appends, Keeps};
-ghost use Rattle.clap.specs.Words.{kind_of};
-ghost use Rattle.sfu_main.specs.CommandLine.{AsksToServe, Request, Types, asked_for, bound, check, replay, request_of, serve};
-ghost use Rattle.sfu_main.specs.Command.{EndsSaying, FailsBound, IsOutOfMemory, IsUnsaid, PrintsBound, RefusesBound, SaysNo, SaysWhy, ShowsFailure, unreadable_at};
+ghost use Rattle.sfu_main.specs.CommandLine.{AsksToServe, Request, Types, asked_for, bound, check, replay, serve};
+ghost use Rattle.sfu_main.specs.Command.{FailsBound, PrintsBound, RefusesBound, SaysNo, SaysWhy};
 ghost use Rattle.sfu_main.specs.Replay.{PrintsByFile, RefusesByFile};
 ghost use Rattle.members.specs.Settings.{Configuration};
 ghost use Rattle.sfu_main.specs.ReportText.{PrintsReport};
 ghost use Rattle.sfu_main.specs.Serving.{SaysWhyServing};
 ghost use Rattle.sfu_main.specs.SettingsFaults.{TextGives};
-ghost use Rattle.sfu_main.specs.SettingsText.{SaysProblem, problem_line};
-ghost use Rattle.std.specs.IoError.{error_kind};
+ghost use Rattle.sfu_main.specs.SettingsText.{SaysProblem};
 
-use crate::bound::{Refusal, read_lines};
+use crate::bound::read_lines;
 use crate::check_file::check_lines;
 use crate::command_line::{Action, read_words};
-use crate::fault::LineFault;
-use crate::out_text::problem_line;
 use crate::replay::replay_lines;
+use crate::saying::{refuse_words, report, report_settings};
 use crate::serve::{Term, serve_file};
 use crate::served_file::{ServedSettings, read_served};
 use crate::settings_file::{FileSettings, SettingsProblem, read_settings};
-use crate::text::{bound_text, refused_text};
-use clap::error::ErrorKind;
-use core_steps::RunFault;
-use std::alloc::{AllocError, Global};
+use crate::status::{Failure, Status, unreadable};
+use crate::text::bound_text;
+use std::alloc::Global;
 use std::convert::AsStr;
 use std::io::{self, Read, Write};
 use std::net::Net;
@@ -34,124 +30,6 @@ use std::sync::Wait;
 use std::thread::Threads;
 use std::{fs, time};
 use tmmbr_tuple::Ssrc;
-
-/// How a command ended.
-#[derive(Clone, Copy, Debug, PartialEq, Eq)]
-pub enum Status {
-    /// 0: it did what was asked.
-    Done,
-    /// 1: memory was wanting.
-    NoMemory,
-    /// 2: the words of the command line ask for nothing.
-    CommandLine,
-    /// 3: there are no settings in the file.
-    Settings,
-    /// 4: a line of the input was refused, or what `sfu check` was asked is not so.
-    Refused,
-    /// 5: a read or a write failed.
-    Io,
-    /// 5: the unit's socket or its threads can't be had, or failed.
-    Socket,
-    /// 1: what there was to say couldn't be written to the error output, for want of memory.
-    UnsaidNoMemory,
-    /// 5: what there was to say couldn't be written to the error output.
-    UnsaidIo,
-}
-
-impl Status {
-    ghost use Rattle.std.specs.Prelude.{◌≡◌};
-    ghost use Rattle.sfu_main.specs.Command.{code_of};
-
-    /// The number that the process exits with.
-    pub fn code(self) -> u8
-        ensures { result ≡ code_of self }
-    {
-        match self {
-            Status::Done => 0,
-            Status::NoMemory | Status::UnsaidNoMemory => 1,
-            Status::CommandLine => 2,
-            Status::Settings => 3,
-            Status::Refused => 4,
-            Status::Io | Status::Socket | Status::UnsaidIo => 5,
-        }
-    }
-}
-
-/// Why a command isn't done.
-#[derive(Clone, Copy, Debug, PartialEq, Eq)]
-pub enum Failure {
-    NoMemory,
-    Refused { line: u64, fault: LineFault },
-    Io,
-}
-
-impl From<AllocError> for Failure {
-    ghost use Rattle.std.specs.Prelude.{◌≡◌};
-    ghost use Rattle.sfu_main.specs.declared.command.Failure.TheVariants.{NoMemory};
-
-    ghost from_gives = { λ _ e. e ≡ NoMemory };
-
-    fn from(_e: AllocError) -> Failure {
-        Failure::NoMemory
-    }
-}
-
-impl From<Refusal> for Failure {
-    ghost use Rattle.std.specs.Prelude.{◌≡◌};
-    ghost use Rattle.sfu_main.specs.Command.{failure_of};
-
-    ghost from_gives = { λ r e. e ≡ failure_of r };
-
-    fn from(refusal: Refusal) -> Failure {
-        match refusal {
-            Refusal::NoMemory => Failure::NoMemory,
-            Refusal::Line { line, fault } => Failure::Refused { line, fault },
-        }
-    }
-}
-
-impl From<RunFault> for Failure {
-    ghost use Rattle.std.specs.Prelude.{◌≡◌};
-    ghost use Rattle.sfu_main.specs.declared.command.Failure.TheVariants.{NoMemory};
-
-    ghost from_gives = { λ _ e. e ≡ NoMemory };
-
-    fn from(fault: RunFault) -> Failure {
-        match fault {
-            RunFault::NoMemory { .. } => Failure::NoMemory,
-        }
-    }
-}
-
-impl From<io::Error> for Failure {
-    ghost use Rattle.std.specs.Prelude.{◌≡◌};
-    ghost use Rattle.sfu_main.specs.Command.{failure_at};
-    ghost use Rattle.std.specs.IoError.{error_kind};
-
-    ghost from_gives = { λ error e. e ≡ failure_at (error_kind error) };
-
-    fn from(error: io::Error) -> Failure {
-        if error.kind() == io::ErrorKind::OutOfMemory {
-            Failure::NoMemory
-        } else {
-            Failure::Io
-        }
-    }
-}
-
-/// How a command fails whose file can't be opened or read: as if its line 0 couldn't.
-pub fn unreadable(error: &io::Error) -> Failure
-    ensures { result ≡ unreadable_at (error_kind error.now) }
-{
-    if error.kind() == io::ErrorKind::OutOfMemory {
-        return Failure::NoMemory;
-    }
-    Failure::Refused {
-        line: 0,
-        fault: LineFault::Text,
-    }
-}
-
 /// Runs the command that the words ask for, of which the first is the program's name.
 ///
 /// Nothing is done before the input was read to its end. What is printed goes to the writer, and why
@@ -163,31 +41,48 @@ pub fn run_command<
     O: Write,
     E: Write,
 >(rt: &R, words: &[S], reader: &mut I, writer: &mut O, errors: &mut E) -> Status
-    ensures bound_done { (sender : ℕ) → asked_for (map S.text words.now) ≡ Some (bound sender) → result ≡ Status.Done
-        → IfSome (I.remaining reader.old) (λ input. PrintsBound sender input (O.contents writer.old) (O.contents writer.new)) }
-    ensures bound_refused { (sender : ℕ) → asked_for (map S.text words.now) ≡ Some (bound sender) → result ≡ Status.Refused
-        → IfSome (I.remaining reader.old) (λ input. Keeps (O.contents writer.old) (O.contents writer.new)
+    ensures bound_done { (sender : ℕ) → asked_for (map S.text words.now) ≡ Some (bound sender)
+        → result ≡ Status.Done
+        → IfSome (I.remaining reader.old)
+        (λ input. PrintsBound sender input (O.contents writer.old) (O.contents writer.new)) }
+    ensures bound_refused { (sender : ℕ) → asked_for (map S.text words.now) ≡ Some (bound sender)
+        → result ≡ Status.Refused
+        → IfSome (I.remaining reader.old)
+        (λ input. Keeps (O.contents writer.old) (O.contents writer.new)
         × RefusesBound sender input (E.contents errors.old) (E.contents errors.new)) }
-    ensures check_done { (file : List ℕ) → asked_for (map S.text words.now) ≡ Some (check file) → result ≡ Status.Done
+    ensures check_done { (file : List ℕ) → asked_for (map S.text words.now) ≡ Some (check file)
+        → result ≡ Status.Done
         → Appends (O.contents writer.old) (O.contents writer.new) (codes "yes\n") }
-    ensures check_refused { (file : List ℕ) → asked_for (map S.text words.now) ≡ Some (check file) → result ≡ Status.Refused
-        → SaysNo (O.contents writer.old) (O.contents writer.new) (E.contents errors.old) (E.contents errors.new) }
-    ensures replay_done { (file : List ℕ) → asked_for (map S.text words.now) ≡ Some (replay file) → result ≡ Status.Done
+    ensures check_refused { (file : List ℕ) → asked_for (map S.text words.now) ≡ Some (check file)
+        → result ≡ Status.Refused
+        → SaysNo (O.contents writer.old) (O.contents writer.new) (E.contents errors.old)
+        (E.contents errors.new) }
+    ensures replay_done { (file : List ℕ) → asked_for (map S.text words.now) ≡ Some (replay file)
+        → result ≡ Status.Done
         → IfSome (I.remaining reader.old) (λ script.
         PrintsByFile script (O.contents writer.old) (O.contents writer.new)) }
-    ensures replay_refused { (file : List ℕ) → asked_for (map S.text words.now) ≡ Some (replay file) → result ≡ Status.Refused
+    ensures replay_refused { (file : List ℕ) → asked_for (map S.text words.now) ≡ Some (replay file)
+        → result ≡ Status.Refused
         → IfSome (I.remaining reader.old) (λ script.
-        RefusesByFile script (O.contents writer.old) (O.contents writer.new) (E.contents errors.old) (E.contents errors.new)) }
-    ensures serve_done { (file : List ℕ) (ticks status : Option ℕ) → asked_for (map S.text words.now) ≡ Some (serve file ticks status)
-        → result ≡ Status.Done → (c : Configuration) × PrintsReport c (O.contents writer.old) (O.contents writer.new) }
-    ensures serve_failed { (file : List ℕ) (ticks status : Option ℕ) → asked_for (map S.text words.now) ≡ Some (serve file ticks status)
+        RefusesByFile script (O.contents writer.old) (O.contents writer.new) (E.contents errors.old)
+        (E.contents errors.new)) }
+    ensures serve_done { (file : List ℕ) (ticks status : Option ℕ)
+        → asked_for (map S.text words.now) ≡ Some (serve file ticks status)
+        → result ≡ Status.Done
+        → (c : Configuration) × PrintsReport c (O.contents writer.old) (O.contents writer.new) }
+    ensures serve_failed { (file : List ℕ) (ticks status : Option ℕ)
+        → asked_for (map S.text words.now) ≡ Some (serve file ticks status)
         → result ≡ Status.Socket → Keeps (O.contents writer.old) (O.contents writer.new) }
-    ensures serve_said { (file : List ℕ) (ticks : Option ℕ) → asked_for (map S.text words.now) ≡ Some (serve file ticks None)
+    ensures serve_said { (file : List ℕ) (ticks : Option ℕ)
+        → asked_for (map S.text words.now) ≡ Some (serve file ticks None)
         → SaysWhyServing (E.contents errors.old) (E.contents errors.new) result }
-    ensures settings { result ≡ Status.Settings → Keeps (O.contents writer.old) (O.contents writer.new)
+    ensures settings { result ≡ Status.Settings
+        → Keeps (O.contents writer.old) (O.contents writer.new)
         × SaysProblem (E.contents errors.old) (E.contents errors.new) }
-    ensures understood { (asked : Request) → Types (map S.text words.now) asked → result ≢ Status.CommandLine }
-    ensures said { ¬ (AsksToServe (asked_for (map S.text words.now))) → SaysWhy (E.contents errors.old) (E.contents errors.new) result }
+    ensures understood { (asked : Request) → Types (map S.text words.now) asked
+        → result ≢ Status.CommandLine }
+    ensures said { ¬ (AsksToServe (asked_for (map S.text words.now)))
+        → SaysWhy (E.contents errors.old) (E.contents errors.new) result }
 {
     let alloc = rt.alloc();
     match read_words(alloc, words) {
@@ -215,9 +110,11 @@ fn run_check<R: AllocGlobal + Files, O: Write, E: Write>(
     writer: &mut O,
     errors: &mut E,
 ) -> Status
-    ensures yes { result ≡ Status.Done → Appends (O.contents writer.old) (O.contents writer.new) (codes "yes\n") }
+    ensures yes { result ≡ Status.Done
+        → Appends (O.contents writer.old) (O.contents writer.new) (codes "yes\n") }
     ensures no { result ≡ Status.Refused
-        → SaysNo (O.contents writer.old) (O.contents writer.new) (E.contents errors.old) (E.contents errors.new) }
+        → SaysNo (O.contents writer.old) (O.contents writer.new) (E.contents errors.old)
+        (E.contents errors.new) }
     ensures understood { (result ≢ Status.CommandLine) × (result ≢ Status.Settings) }
     ensures said { SaysWhy (E.contents errors.old) (E.contents errors.new) result }
 {
@@ -238,8 +135,10 @@ fn run_replay<R: AllocGlobal + Files, I: Read, O: Write, E: Write>(
     ensures done { result ≡ Status.Done → IfSome (I.remaining reader.old) (λ script.
         PrintsByFile script (O.contents writer.old) (O.contents writer.new)) }
     ensures refused { result ≡ Status.Refused → IfSome (I.remaining reader.old) (λ script.
-        RefusesByFile script (O.contents writer.old) (O.contents writer.new) (E.contents errors.old) (E.contents errors.new)) }
-    ensures settings { result ≡ Status.Settings → Keeps (O.contents writer.old) (O.contents writer.new)
+        RefusesByFile script (O.contents writer.old) (O.contents writer.new) (E.contents errors.old)
+        (E.contents errors.new)) }
+    ensures settings { result ≡ Status.Settings
+        → Keeps (O.contents writer.old) (O.contents writer.new)
         × SaysProblem (E.contents errors.old) (E.contents errors.new) }
     ensures understood { result ≢ Status.CommandLine }
     ensures said { SaysWhy (E.contents errors.old) (E.contents errors.new) result }
@@ -256,12 +155,16 @@ fn run_serve<
     O: Write,
     E: Write,
 >(rt: &R, file: &str, term: Term, writer: &mut O, errors: &mut E) -> Status
-    ensures done { result ≡ Status.Done → (c : Configuration) × PrintsReport c (O.contents writer.old) (O.contents writer.new) }
-    ensures failed { result ≡ Status.Socket → Keeps (O.contents writer.old) (O.contents writer.new) }
-    ensures settings { result ≡ Status.Settings → Keeps (O.contents writer.old) (O.contents writer.new)
+    ensures done { result ≡ Status.Done
+        → (c : Configuration) × PrintsReport c (O.contents writer.old) (O.contents writer.new) }
+    ensures failed { result ≡ Status.Socket
+        → Keeps (O.contents writer.old) (O.contents writer.new) }
+    ensures settings { result ≡ Status.Settings
+        → Keeps (O.contents writer.old) (O.contents writer.new)
         × SaysProblem (E.contents errors.old) (E.contents errors.new) }
     ensures understood { (result ≢ Status.CommandLine) × (result ≢ Status.Refused) }
-    ensures said { term.status ≡ None → SaysWhyServing (E.contents errors.old) (E.contents errors.new) result }
+    ensures said { term.status ≡ None
+        → SaysWhyServing (E.contents errors.old) (E.contents errors.new) result }
 {
     match served_in(rt, file) {
         Ok(file) => serve_file(rt, &file, term, writer, errors),
@@ -329,7 +232,9 @@ fn run_bound<I: Read, O: Write>(
 ) -> Result<(), Failure>
     ensures done { OnOk result (IfSome (I.remaining reader.old) (λ input.
         PrintsBound sender.0 input (O.contents writer.old) (O.contents writer.new))) }
-    ensures refused { IfErr result (FailsBound sender.0 (I.remaining reader.old) (O.contents writer.old) (O.contents writer.new)) }
+    ensures refused { IfErr result
+        (FailsBound sender.0 (I.remaining reader.old) (O.contents writer.old)
+        (O.contents writer.new)) }
 {
     let mut input = Vec::new(alloc);
     reader.read_to_end(&mut input)?;
@@ -337,93 +242,4 @@ fn run_bound<I: Read, O: Write>(
     let text = bound_text(alloc, sender, &bounds)?;
     writer.write_all(text.as_bytes())?;
     Ok(())
-}
-
-/// Says on the error output why the words of the command line can't be had: memory is wanting, or one
-/// of them is no text. This takes no memory.
-pub fn report_words<E: Write>(errors: &mut E, error: &io::Error) -> Status
-    ensures failed { (result ≢ Status.Done) × (result ≢ Status.Refused) × (result ≢ Status.Settings) }
-    ensures memory { IsOutOfMemory error.now → result ≢ Status.CommandLine }
-    ensures shown { result ≡ Status.CommandLine → Appends (E.contents errors.old) (E.contents errors.new) (codes "a word is no text\n") }
-    ensures said { SaysWhy (E.contents errors.old) (E.contents errors.new) result }
-{
-    if error.kind() == io::ErrorKind::OutOfMemory {
-        return say_no_memory(errors);
-    }
-    say(errors, b"a word is no text\n", Status::CommandLine)
-}
-
-/// Says on the error output why a command isn't done. Where memory is wanting for a line, says that.
-pub fn report<E: Write>(alloc: Global, errors: &mut E, failure: Failure) -> Status
-    ensures { ShowsFailure failure (E.contents errors.old) (E.contents errors.new) result }
-{
-    match failure {
-        Failure::NoMemory => say_no_memory(errors),
-        Failure::Io => say(errors, b"io\n", Status::Io),
-        Failure::Refused { line, fault } => match refused_text(alloc, line, fault) {
-            Ok(text) => say(errors, text.as_bytes(), Status::Refused),
-            Err(_) => say_no_memory(errors),
-        },
-    }
-}
-
-/// Says on the error output why there are no settings in a file. Where memory is wanting for a line, says that.
-pub fn report_settings<E: Write>(alloc: Global, errors: &mut E, problem: &SettingsProblem) -> Status
-    ensures failed { (result ≢ Status.Done) × (result ≢ Status.Refused) × (result ≢ Status.CommandLine) }
-    ensures settings { result ≡ Status.Settings → (problem.now ≢ SettingsProblem.NoMemory)
-        × Appends (E.contents errors.old) (E.contents errors.new) (problem_line problem.now) }
-    ensures said { SaysWhy (E.contents errors.old) (E.contents errors.new) result }
-{
-    match problem {
-        SettingsProblem::NoMemory => say_no_memory(errors),
-        problem => match problem_line(alloc, problem) {
-            Ok(text) => say(errors, text.as_bytes(), Status::Settings),
-            Err(_) => say_no_memory(errors),
-        },
-    }
-}
-
-/// Says on the error output why the words of the command line ask for nothing.
-fn refuse_words<E: Write>(alloc: Global, errors: &mut E, error: &clap::Error) -> Status
-    ensures refused { result ≢ Status.Refused }
-    ensures done { result ≢ Status.Done }
-    ensures settings { result ≢ Status.Settings }
-    ensures memory { kind_of error.now ≡ ErrorKind.OutOfMemory → result ≢ Status.CommandLine }
-    ensures said { SaysWhy (E.contents errors.old) (E.contents errors.new) result }
-{
-    if error.kind() == ErrorKind::OutOfMemory {
-        return report(alloc, errors, Failure::NoMemory);
-    }
-    match format!(in alloc; "{error}") {
-        Ok(text) => say(errors, text.as_bytes(), Status::CommandLine),
-        Err(_) => say_no_memory(errors),
-    }
-}
-
-/// Says that memory is wanting. This takes none.
-pub fn say_no_memory<E: Write>(errors: &mut E) -> Status
-    ensures { EndsSaying Status.NoMemory (codes "no memory\n") (E.contents errors.old) (E.contents errors.new) result }
-{
-    say(errors, b"no memory\n", Status::NoMemory)
-}
-
-/// Ends so, once this stands on the error output.
-pub fn say<E: Write>(errors: &mut E, text: &[u8], status: Status) -> Status
-    ensures { EndsSaying status text.now (E.contents errors.old) (E.contents errors.new) result }
-{
-    match errors.write_all(text) {
-        Ok(()) => status,
-        Err(error) => unsaid(&error),
-    }
-}
-
-/// How a command ends that couldn't say what there was to say.
-pub fn unsaid(error: &io::Error) -> Status
-    ensures { IsUnsaid result }
-{
-    if error.kind() == io::ErrorKind::OutOfMemory {
-        Status::UnsaidNoMemory
-    } else {
-        Status::UnsaidIo
-    }
 }

@@ -2,7 +2,7 @@
 
 ghost use Rattle.std.specs.Prelude.{◌≡◌, ◌∷◌, ◌<◌, ◌^◌, ℕ, List, [], IfErr, IfOk, MatchResult, Some, codes, map, true, option_map, false};
 ghost use Rattle.clap.specs.Words.{app_of, found_of, kind_of, rows_of, rule_of, subcommand_rows_of, takes};
-ghost use Rattle.sfu_main.specs.CommandLine.{Request, Types, asked_for, asked_in, asked_named, file_rule, number_in, number_rule, optional_rule, request_of, sfu};
+ghost use Rattle.sfu_main.specs.CommandLine.{Request, Types, asked_for, request_found, asked_named, file_rule, number_in, number_rule, optional_rule, action_request, sfu};
 
 use clap::builder::ValueParser;
 use clap::error::ErrorKind;
@@ -42,17 +42,21 @@ const MAX_STATUS: i64 = 86_400;
 
 /// The action that the words ask for, of which the first is the program's name.
 pub fn read_words<'a, S: AsStr>(alloc: Global, words: &'a [S]) -> Result<Action<'a>, Error>
-    ensures asked { IfOk result (λ action. asked_for (map S.text words.entry.now) ≡ Some (request_of action)) }
+    ensures asked { IfOk result (λ action. asked_for (map S.text words.entry.now)
+        ≡ Some (action_request action)) }
     ensures typed { (asked : Request) → Types (map S.text words.entry.now) asked
-        → MatchResult result (λ action. request_of action ≡ asked) (λ e. kind_of e ≡ ErrorKind.OutOfMemory) }
+        → MatchResult result (λ action. action_request action ≡ asked)
+        (λ e. kind_of e ≡ ErrorKind.OutOfMemory) }
 {
     action_of(alloc, words)
 }
 
 /// The action that a parse finds in the words.
 fn action_of<'a, S: AsStr>(alloc: Global, words: &'a [S]) -> Result<Action<'a>, Error>
-    ensures asked { IfOk result (λ action. asked_for (map S.text words.entry.now) ≡ Some (request_of action)) }
-    ensures refused { (asked : Request) → asked_for (map S.text words.entry.now) ≡ Some asked → takes sfu (map S.text words.entry.now) ≡ true
+    ensures asked { IfOk result (λ action. asked_for (map S.text words.entry.now)
+        ≡ Some (action_request action)) }
+    ensures refused { (asked : Request) → asked_for (map S.text words.entry.now) ≡ Some asked
+        → takes sfu (map S.text words.entry.now) ≡ true
         → IfErr result (λ e. kind_of e ≡ ErrorKind.OutOfMemory) }
 {
     let mut command = command(alloc)?;
@@ -116,14 +120,15 @@ fn optional_number<'a>(alloc: Global, name: &'a str, most: i64) -> Arg<'a>
 }
 
 fn action_in<'a>(matches: &ArgMatches<'a>) -> Option<Action<'a>>
-    ensures { option_map request_of result ≡ asked_in (subcommand_rows_of matches.now) }
+    ensures { option_map action_request result ≡ request_found (subcommand_rows_of matches.now) }
 {
     let (name, inner) = matches.subcommand()?;
     action_named(name, inner)
 }
 
 fn action_named<'a>(name: &str, matches: &ArgMatches<'a>) -> Option<Action<'a>>
-    ensures { option_map request_of result ≡ asked_named name.now (rows_of (found_of matches.now)) }
+    ensures { option_map action_request result
+        ≡ asked_named name.now (rows_of (found_of matches.now)) }
 {
     match name {
         "bound" => Some(Action::Bound {

@@ -5,7 +5,7 @@ ghost use Rattle.std.specs.Char.{digit_value};
 ghost use Rattle.std.specs.List.{list_all, slice_split};
 ghost use Rattle.std.specs.Str.{bytes_eq};
 ghost use Rattle.tmmbr_tuple.specs.RatePair.{pair_of};
-ghost use Rattle.sfu_main.specs.CheckFile.{asked_in, asked_of, claim_in, implied_words, kept_words, line_of, live_words, number_under, or_unreadable, pair_in, said_by, said_of, word_in, words_line};
+ghost use Rattle.sfu_main.specs.CheckFile.{ask_spelled, asked_of, claim_in, implied_words, kept_words, line_of, live_words, number_under, or_unreadable, pair_in, said_by, said_of, word_in, words_line};
 
 use rate_cert::Request;
 use std::alloc::{AllocError, Global};
@@ -56,7 +56,8 @@ pub fn read_line(alloc: Global, line: &[u8]) -> Result<Reading, AllocError>
 
 /// What stands between the spaces.
 fn words_of(alloc: Global, line: &[u8]) -> Result<Vec<&[u8]>, AllocError>
-    ensures { IfOk result (λ words. map (λ x. x.now) words.items ≡ slice_split (λ c. c == 32) line.now) }
+    ensures { IfOk result
+        (λ words. map (λ x. x.now) words.items ≡ slice_split (λ c. c == 32) line.now) }
 {
     line.split(|b| *b == b' ').collect(alloc)
 }
@@ -141,7 +142,7 @@ fn implied_entry(words: &[&[u8]]) -> Option<Entry>
 
 /// A request by its owner, in decimal, and its word, in eight hexadecimal digits.
 fn request(owner: &[u8], word: &[u8]) -> Option<Request>
-    ensures { option_map asked_of result ≡ asked_in owner.now word.now }
+    ensures { option_map asked_of result ≡ ask_spelled owner.now word.now }
 {
     let owner = Ssrc(number_u32(owner)?);
     let tuple = Tuple::from_word(word_value(word)?);

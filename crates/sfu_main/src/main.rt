@@ -12,6 +12,7 @@ mod fault;
 mod out_text;
 mod replay;
 mod report_text;
+mod saying;
 mod script;
 mod serve;
 mod serve_fault;
@@ -19,10 +20,12 @@ mod served_file;
 mod settings_file;
 mod settings_keys;
 mod socket;
+mod status;
 mod status_lines;
 mod text;
 
-use command::{report_words, run_command};
+use command::run_command;
+use saying::report_words;
 use std::process::ExitCode;
 use std::rt::Env;
 use std::{env, io};
@@ -47,16 +50,28 @@ fn words_of<R: Env + AllocGlobal>(rt: &R) -> io::Result<Vec<String>> {
 }
 
 #[cfg(test)]
+mod bound_tests;
+#[cfg(test)]
 mod check_tests;
 #[cfg(test)]
+mod command_tests;
+#[cfg(test)]
 mod exchange_tests;
+#[cfg(test)]
+mod replay_fault_tests;
 #[cfg(test)]
 mod replay_tests;
 #[cfg(test)]
 mod serve_tests;
 #[cfg(test)]
+mod served_file_tests;
+#[cfg(test)]
+mod settings_read_tests;
+#[cfg(test)]
 mod settings_tests;
 #[cfg(test)]
-mod test_streams;
+mod several_tests;
 #[cfg(test)]
-mod tests;
+mod test_commands;
+#[cfg(test)]
+mod test_streams;

@@ -7,10 +7,11 @@ ghost use Rattle.sfu_main.specs.Command.{SaysWhy};
 ghost use Rattle.sfu_main.specs.Replay.{CommandPlays, FailsLine, FailsReplay, IngressDrains, IsAmong, IsOutside, IsShown, LinePlays, Prints, PrintsReplay, PrintsText, RefusesReplay, Settles, WorkerDrains, WorkersDrain, numbers_of, out_line, out_lines};
 
 use crate::bound::lines;
-use crate::command::{Failure, Status, report};
 use crate::fault::LineFault;
 use crate::out_text::{announced_line, out_line};
+use crate::saying::report;
 use crate::script::{Command, Numbers, Reading, read_line};
+use crate::status::{Failure, Status};
 use core_steps::{Event, Out, World, run};
 use members::Settings;
 use std::alloc::{AllocError, Global};
@@ -50,7 +51,9 @@ fn play<I: Read, O: Write>(
 ) -> Result<(), Failure>
     ensures done { OnOk result (IfSome (I.remaining script.old)
         (λ text. PrintsReplay settings.now text (O.contents writer.old) (O.contents writer.new))) }
-    ensures refused { IfErr result (FailsReplay settings.now (I.remaining script.old) (O.contents writer.old) (O.contents writer.new)) }
+    ensures refused { IfErr result
+        (FailsReplay settings.now (I.remaining script.old) (O.contents writer.old)
+        (O.contents writer.new)) }
 {
     let mut text = Vec::new(alloc);
     script.read_to_end(&mut text)?;
@@ -64,8 +67,10 @@ fn play_lines<O: Write>(
     text: &[u8],
     writer: &mut O,
 ) -> Result<(), Failure>
-    ensures done { OnOk result (PrintsReplay settings.now text.now (O.contents writer.old) (O.contents writer.new)) }
-    ensures refused { IfErr result (FailsReplay settings.now (Some text.now) (O.contents writer.old) (O.contents writer.new)) }
+    ensures done { OnOk result (PrintsReplay settings.now text.now (O.contents writer.old)
+        (O.contents writer.new)) }
+    ensures refused { IfErr result
+        (FailsReplay settings.now (Some text.now) (O.contents writer.old) (O.contents writer.new)) }
 {
     let lines = lines(alloc, text)?;
     let mut world = World::new(alloc, settings)?;
@@ -89,7 +94,8 @@ fn play_line<O: Write>(
     requires { length world.old.desks ≡ length settings.now.endpoints }
     ensures played { OnOk result (PrintsText (LinePlays settings.now line.now world.old world.new)
         (O.contents writer.old) (O.contents writer.new)) }
-    ensures stopped { IfErr result (FailsLine settings.now number line.now (O.contents writer.old) (O.contents writer.new)) }
+    ensures stopped { IfErr result
+        (FailsLine settings.now number line.now (O.contents writer.old) (O.contents writer.new)) }
     ensures desks { OnOk result (length world.new.desks ≡ length world.old.desks) }
 {
     match read_line(alloc, numbers_of(settings), line)? {

@@ -38,7 +38,8 @@ fn push_announced(
     desks: &[Desk],
 ) -> Result<(), AllocError>
     requires { length senders.now ≡ length desks.now }
-    ensures { OnOk result (string_bytes text.new ≡ string_bytes text.old ++ announced_lines senders.now desks.now) }
+    ensures { OnOk result
+        (string_bytes text.new ≡ string_bytes text.old ++ announced_lines senders.now desks.now) }
 {
     for (number, desk) in desks.iter().enumerate() {
         let announced = desk.announced();

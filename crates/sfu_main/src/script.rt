@@ -51,7 +51,8 @@ pub fn read_line(alloc: Global, numbers: Numbers, line: &[u8]) -> Result<Reading
 
 /// What a line is that isn't skipped.
 fn read_text(alloc: Global, numbers: Numbers, line: &[u8]) -> Result<Reading, AllocError>
-    ensures { IfOk result (λ r. r ≡ command_or_not (words_command numbers (slice_split (λ c. c == 32) line.now))) }
+    ensures { IfOk result
+        (λ r. r ≡ command_or_not (words_command numbers (slice_split (λ c. c == 32) line.now))) }
 {
     let words = words_of(alloc, line)?;
     match read_words(alloc, numbers, words.as_slice())? {
@@ -62,7 +63,8 @@ fn read_text(alloc: Global, numbers: Numbers, line: &[u8]) -> Result<Reading, Al
 
 /// What stands between the spaces.
 fn words_of(alloc: Global, line: &[u8]) -> Result<Vec<&[u8]>, AllocError>
-    ensures { IfOk result (λ words. map (λ x. x.now) words.items ≡ slice_split (λ c. c == 32) line.now) }
+    ensures { IfOk result
+        (λ words. map (λ x. x.now) words.items ≡ slice_split (λ c. c == 32) line.now) }
 {
     line.split(|b| *b == b' ').collect(alloc)
 }
@@ -120,7 +122,10 @@ fn heard(alloc: Global, numbers: Numbers, words: &[&[u8]]) -> Result<Option<Comm
 
 /// A datagram that is heard at this moment, of this endpoint.
 fn heard_by(numbers: Numbers, moment: &[u8], endpoint: &[u8], bytes: Bytes) -> Option<Command>
-    ensures { result ≡ option_and_then (λ m. option_map (λ e. Command.Do (Event.Hear m e bytes)) (number_below numbers.endpoints endpoint.now))
+    ensures { result
+        ≡ option_and_then
+        (λ m. option_map (λ e. Command.Do (Event.Hear m e bytes))
+        (number_below numbers.endpoints endpoint.now))
         (number_in moment.now) }
 {
     Some(Command::Do(Event::Hear {

@@ -9,11 +9,12 @@ ghost use Rattle.sfu_main.specs.Command.{SaysWhy};
 ghost use Rattle.sfu_main.specs.Serving.{EndsServe, FailsServe, FailsToStart, SaysFault, SaysWhyServing, serving_line};
 
 use crate::addresses::Addresses;
-use crate::command::{Status, say, say_no_memory, unsaid};
 use crate::report_text::report_text;
+use crate::saying::{say, say_no_memory, unsaid};
 use crate::serve_fault::ServeFault;
 use crate::served_file::ServedSettings;
 use crate::socket::{Gauges, RunClock, SocketSource, socket_sinks};
+use crate::status::Status;
 use crate::status_lines::StatusLines;
 use members::Settings;
 use std::alloc::Global;
@@ -59,7 +60,8 @@ pub fn serve_file<R: AllocGlobal + Net + Threads + Wait + Sync + time::Clock, O:
     errors: &mut E,
 ) -> Status
     ensures ends { EndsServe file.now.settings (O.contents writer.old) (O.contents writer.new) result }
-    ensures said { term.status ≡ None → SaysWhyServing (E.contents errors.old) (E.contents errors.new) result }
+    ensures said { term.status ≡ None
+        → SaysWhyServing (E.contents errors.old) (E.contents errors.new) result }
 {
     match UdpSocket::bind(rt, file.listen) {
         Ok(socket) => match say_serving(rt.alloc(), &socket, errors) {
@@ -72,7 +74,8 @@ pub fn serve_file<R: AllocGlobal + Net + Threads + Wait + Sync + time::Clock, O:
 
 /// Says on the error output where the socket is bound; else how the command ends.
 fn say_serving<E: Write>(alloc: Global, socket: &UdpSocket, errors: &mut E) -> Result<(), Status>
-    ensures ok { OnOk result ((address : SocketAddr) × Appends (E.contents errors.old) (E.contents errors.new) (serving_line address)) }
+    ensures ok { OnOk result ((address : SocketAddr)
+        × Appends (E.contents errors.old) (E.contents errors.new) (serving_line address)) }
     ensures err { IfErr result (FailsToStart (E.contents errors.old) (E.contents errors.new)) }
 {
     match socket.local_addr() {
@@ -83,7 +86,8 @@ fn say_serving<E: Write>(alloc: Global, socket: &UdpSocket, errors: &mut E) -> R
 
 /// Says that the unit listens at this address; else how the command ends.
 fn say_address<E: Write>(alloc: Global, address: SocketAddr, errors: &mut E) -> Result<(), Status>
-    ensures ok { OnOk result (Appends (E.contents errors.old) (E.contents errors.new) (serving_line address)) }
+    ensures ok { OnOk result (Appends (E.contents errors.old) (E.contents errors.new)
+        (serving_line address)) }
     ensures err { IfErr result (FailsToStart (E.contents errors.old) (E.contents errors.new)) }
 {
     match format!(in alloc; "serving {address}\n") {
@@ -105,7 +109,8 @@ fn serve_bound<R: AllocGlobal + Threads + Wait + Sync + time::Clock, O: Write, E
     errors: &mut E,
 ) -> Status
     ensures ends { EndsServe file.now.settings (O.contents writer.old) (O.contents writer.new) result }
-    ensures said { term.status ≡ None → SaysWhy (E.contents errors.old) (E.contents errors.new) result }
+    ensures said { term.status ≡ None
+        → SaysWhy (E.contents errors.old) (E.contents errors.new) result }
 {
     let ServedSettings {
         settings,
@@ -129,7 +134,8 @@ fn serve_bound<R: AllocGlobal + Threads + Wait + Sync + time::Clock, O: Write, E
 
 /// How the command ends where the unit ended so; says on the error output why it failed.
 fn ended<E: Write>(served: Result<(), ServeFault>, errors: &mut E) -> Status
-    ensures ends { MatchResult served (λ _. result ≡ Status.Done) (SaysFault (E.contents errors.old) (E.contents errors.new) result) }
+    ensures ends { MatchResult served (λ _. result
+        ≡ Status.Done) (SaysFault (E.contents errors.old) (E.contents errors.new) result) }
     ensures said { SaysWhy (E.contents errors.old) (E.contents errors.new) result }
 {
     match served {
@@ -198,7 +204,8 @@ fn print_report<O: Write>(
     writer: &mut O,
 ) -> Result<(), ServeFault>
     requires { length settings.now.endpoints ≡ length report.now.desks.items }
-    ensures done { OnOk result (Appends (O.contents writer.old) (O.contents writer.new) (report_text settings.now.endpoints report.now)) }
+    ensures done { OnOk result (Appends (O.contents writer.old) (O.contents writer.new)
+        (report_text settings.now.endpoints report.now)) }
     ensures refused { IfErr result (FailsServe (O.contents writer.old) (O.contents writer.new)) }
 {
     let text = report_text(alloc, settings.endpoints(), report)?;

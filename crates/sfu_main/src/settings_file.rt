@@ -83,7 +83,8 @@ fn settings_of(alloc: Global, table: &Table) -> Result<FileSettings, SettingsPro
 /// What a table says besides these settings of the room.
 fn file_of(alloc: Global, table: &Table, settings: Settings) -> Result<FileSettings, AllocError>
     ensures settings { IfOk result (λ f. f.settings ≡ settings) }
-    ensures listen { IfOk result (λ f. text_bytes f.listen ≡ text_in (get_member (codes "listen") (table_view table.now))) }
+    ensures listen { IfOk result (λ f. text_bytes f.listen
+        ≡ text_in (get_member (codes "listen") (table_view table.now))) }
     ensures addresses { IfOk result (λ f. map text_bytes f.addresses.items
         ≡ map address_in (items_in (get_member (codes "endpoint") (table_view table.now)))) }
 {
@@ -96,7 +97,8 @@ fn file_of(alloc: Global, table: &Table, settings: Settings) -> Result<FileSetti
 
 /// The earlier of the places that are there.
 fn earlier<'a>(a: Option<Place<'a>>, b: Option<Place<'a>>) -> Option<Place<'a>>
-    ensures { option_map spot_of result ≡ earlier (option_map spot_of a.entry) (option_map spot_of b.entry) }
+    ensures { option_map spot_of result
+        ≡ earlier (option_map spot_of a.entry) (option_map spot_of b.entry) }
 {
     match (a, b) {
         (Some(a), Some(b)) => Some(if b < a { b } else { a }),
@@ -120,7 +122,8 @@ fn place_of(fault: SettingsFault) -> Option<Place<'static>>
 
 /// The problem at a place; want of memory, where there is none for its key.
 pub fn problem_at(alloc: Global, place: Place<'_>) -> SettingsProblem
-    ensures { (result ≡ SettingsProblem.NoMemory) ⊎ (problem_spot result ≡ Some (spot_of place.entry)) }
+    ensures { (result ≡ SettingsProblem.NoMemory)
+        ⊎ (problem_spot result ≡ Some (spot_of place.entry)) }
 {
     match place {
         Place::Top(key) => match String::from_str(alloc, key) {
@@ -201,7 +204,8 @@ fn leg_in(leg: &Value) -> LegParts
 
 /// The address of each endpoint.
 fn addresses_of(alloc: Global, endpoints: &[Value]) -> Result<Vec<Option<String>>, AllocError>
-    ensures { IfOk result (λ v. map text_bytes v.items ≡ map (λ x. address_in (view x)) endpoints.now) }
+    ensures { IfOk result
+        (λ v. map text_bytes v.items ≡ map (λ x. address_in (view x)) endpoints.now) }
 {
     let mut addresses = Vec::new(alloc);
     for endpoint in endpoints {
@@ -245,7 +249,8 @@ fn bool_in(value: Option<&Value>) -> Option<bool>
 
 /// A copy of the text, where a value is one.
 fn text_in(alloc: Global, value: Option<&Value>) -> Result<Option<String>, AllocError>
-    ensures { IfOk result (λ text. text_bytes text ≡ text_in (option_map (λ v. view v.now) value.entry)) }
+    ensures { IfOk result
+        (λ text. text_bytes text ≡ text_in (option_map (λ v. view v.now) value.entry)) }
 {
     match value {
         Some(value) => copied(alloc, value.as_str()),

@@ -100,7 +100,8 @@ fn are_tables(items: &[Value]) -> bool
 
 /// The first such key of the endpoints' tables.
 fn endpoint_misfit(endpoints: &[Value]) -> Option<Place<'_>>
-    ensures { option_map spot_of result ≡ list_misfit takes_endpoint endpoint 0 (map view endpoints.now) }
+    ensures { option_map spot_of result
+        ≡ list_misfit takes_endpoint endpoint 0 (map view endpoints.now) }
 {
     for (number, item) in endpoints.iter().enumerate() {
         if let Some(key) = endpoint_key(item) {
@@ -124,7 +125,8 @@ fn leg_misfit(legs: &[Value]) -> Option<Place<'_>>
 
 /// The first such key of an endpoint's table.
 fn endpoint_key(item: &Value) -> Option<&str>
-    ensures { option_map (λ k. k.now) result ≡ table_misfit takes_endpoint (as_table (view item.now)) }
+    ensures { option_map (λ k. k.now) result
+        ≡ table_misfit takes_endpoint (as_table (view item.now)) }
 {
     let table = item.as_table()?;
     for (key, value) in table.iter() {

@@ -59,7 +59,8 @@ fn push_kept(
     kept: &[Kept],
 ) -> Result<(), AllocError>
     requires { All (λ k. k.place < length rows.now) kept.now }
-    ensures { OnOk result (string_bytes text.new ≡ string_bytes text.old ++ flat_map (kept_line rows.now) kept.now) }
+    ensures { OnOk result
+        (string_bytes text.new ≡ string_bytes text.old ++ flat_map (kept_line rows.now) kept.now) }
 {
     for entry in kept {
         push_kept_line(alloc, text, rows, entry)?;
@@ -74,7 +75,8 @@ fn push_kept_line(
     entry: &Kept,
 ) -> Result<(), AllocError>
     requires { entry.now.place < length rows.now }
-    ensures { OnOk result (string_bytes text.new ≡ string_bytes text.old ++ kept_line rows.now entry.now) }
+    ensures { OnOk result
+        (string_bytes text.new ≡ string_bytes text.old ++ kept_line rows.now entry.now) }
 {
     let row = row_text(alloc, rows, usize::from(entry.place))?;
     let pair = &entry.pair;
@@ -93,7 +95,8 @@ fn push_implied(
     implied: &[Implied],
 ) -> Result<(), AllocError>
     requires { All (IsInRange rows.now) implied.now }
-    ensures { OnOk result (string_bytes text.new ≡ string_bytes text.old ++ flat_map (implied_line rows.now) implied.now) }
+    ensures { OnOk result (string_bytes text.new ≡ string_bytes text.old
+        ++ flat_map (implied_line rows.now) implied.now) }
 {
     for entry in implied {
         push_implied_line(alloc, text, rows, entry)?;
@@ -108,7 +111,8 @@ fn push_implied_line(
     entry: &Implied,
 ) -> Result<(), AllocError>
     requires { IsInRange rows.now entry.now }
-    ensures { OnOk result (string_bytes text.new ≡ string_bytes text.old ++ implied_line rows.now entry.now) }
+    ensures { OnOk result
+        (string_bytes text.new ≡ string_bytes text.old ++ implied_line rows.now entry.now) }
 {
     let row = row_text(alloc, rows, usize::from(entry.place))?;
     let a = owner_at(rows, usize::from(entry.a));
@@ -141,7 +145,8 @@ fn row_text(alloc: Global, rows: &[Request], place: usize) -> Result<String, All
 
 /// The line for a refused line of input.
 pub fn refused_text(alloc: Global, line: u64, fault: LineFault) -> Result<String, AllocError>
-    ensures { IfOk result (λ text. string_bytes text ≡ refused_text (record { line = line; fault = fault })) }
+    ensures { IfOk result
+        (λ text. string_bytes text ≡ refused_text (record { line = line; fault = fault })) }
 {
     match fault {
         LineFault::Hex => format!(in alloc; "line {line}: hex\n"),

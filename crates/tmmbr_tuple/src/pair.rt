@@ -21,7 +21,8 @@ pub struct Pair {
 impl Pair {
     /// The pair of these three numbers; `None` exactly where one of them is out of its range.
     pub fn new(packets: u128, bits: u128, seconds: u128) -> Option<Pair>
-        ensures in_range { IsSome result ↔ ((packets < 2 ^ 100) × (bits < 2 ^ 100) × (1 ≤ seconds) × (seconds < 2 ^ 14)) }
+        ensures in_range { IsSome result
+            ↔ ((packets < 2 ^ 100) × (bits < 2 ^ 100) × (1 ≤ seconds) × (seconds < 2 ^ 14)) }
         ensures value { IfSome result (λ p. (p.packets ≡ packets) × (p.bits ≡ bits) × (p.seconds ≡ seconds)) }
     {
         if packets < 1 << 100 && bits < 1 << 100 && 1 <= seconds && seconds < 1 << 14 {

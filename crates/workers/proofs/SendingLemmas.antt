@@ -8,7 +8,7 @@ use Rattle.std.specs.Prelude.{Option, None, Some, filter, flat_map}
 use Rattle.core_steps.specs.declared.leg.LegState.{LegState}
 use Rattle.core_steps.specs.declared.output.Out.{Out}
 use Rattle.core_steps.specs.declared.plan.Planned.{Planned}
-use Rattle.core_steps.specs.Plan.{out_of, outs_of}
+use Rattle.core_steps.specs.Plan.{out_of, plan_outs}
 use Rattle.workers.specs.declared.datagram.Datagram.{Datagram}
 use Rattle.workers.specs.declared.done.Forwarded.{Forwarded}
 use Rattle.workers.specs.Outside.{SinkView, Grows, Adds, Hands, nothing_done, datagram_in, datagrams_of, is_skip, is_miss}
@@ -46,15 +46,15 @@ grows_nothing (Some k) = ap Some (append-nil k)
 -- ---- the next of a list
 
 pub planned_more : (legs : List LegState) (plan : List Planned) (i : ℕ) (p : Planned) (a b c : SinkView) (d e : Forwarded)
-    → i < length plan → Hands (outs_of legs (take i plan)) a b d → p ≡ get_or plan i p → Adds (out_of legs p) b c d e
-    → Hands (outs_of legs (take (i + 1) plan)) a c e
+    → i < length plan → Hands (plan_outs legs (take i plan)) a b d → p ≡ get_or plan i p → Adds (out_of legs p) b c d e
+    → Hands (plan_outs legs (take (i + 1) plan)) a c e
 planned_more legs plan i p a b c d e within before is one =
-    let all : outs_of legs (take (i + 1) plan) ≡ outs_of legs (take i plan) ++ out_of legs p =
-    ap (λ (l : List Planned). outs_of legs l) (take_more plan i p within)
+    let all : plan_outs legs (take (i + 1) plan) ≡ plan_outs legs (take i plan) ++ out_of legs p =
+    ap (λ (l : List Planned). plan_outs legs l) (take_more plan i p within)
     ∙ flat_map-append (out_of legs) (take i plan) (get_or plan i p ∷ [])
-    ∙ ap (λ (l : List Out). outs_of legs (take i plan) ++ l) (append-nil (out_of legs (get_or plan i p)))
-    ∙ ap (λ (q : Planned). outs_of legs (take i plan) ++ out_of legs q) (sym is) in
-    subst (λ (outs : List Out). Hands outs a c e) (sym all) (adds_more (outs_of legs (take i plan)) (out_of legs p) a b c nothing_done d e before one)
+    ∙ ap (λ (l : List Out). plan_outs legs (take i plan) ++ l) (append-nil (out_of legs (get_or plan i p)))
+    ∙ ap (λ (q : Planned). plan_outs legs (take i plan) ++ out_of legs q) (sym is) in
+    subst (λ (outs : List Out). Hands outs a c e) (sym all) (adds_more (plan_outs legs (take i plan)) (out_of legs p) a b c nothing_done d e before one)
 
 pub given_more : (outs : List Out) (i : ℕ) (o : Out) (a b c : SinkView) (d e : Forwarded) → i < length outs
     → Hands (take i outs) a b d → o ≡ get_or outs i o → Adds (o ∷ []) b c d e → Hands (take (i + 1) outs) a c e

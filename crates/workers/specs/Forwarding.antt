@@ -27,7 +27,8 @@ pub record ForwarderState : Type 0 where
   pub legs : List LegState
 
 abbrev pub new_notifier : Configuration → NotifierState
-new_notifier c = record { table = table_of c; unit = record { ssrc = c.unit_ssrc.0; cname = c.cname } }
+new_notifier c =
+    record { table = table_of c; unit = record { ssrc = c.unit_ssrc.0; cname = c.cname } }
 
 -- a worker of these settings that has sent nothing yet
 abbrev pub new_forwarder : Configuration → ℕ → ForwarderState

@@ -133,24 +133,38 @@ impl<J: Naming, D: DeskCalls, C: SeatCalls> Bench<'_, J, D, C> {
     }
 }
 
+/// The worker of this number, in the room of the worked examples.
+fn worker(alloc: Global, number: u16) -> Result<Forwarder, Fail> {
+    let settings = examples(alloc).ok_or("settings")?;
+    Ok(Forwarder::new(alloc, &settings, number)?)
+}
+
+/// Feeds the worker these jobs, each of which sends nothing.
+fn feeds_in_vain<J: Naming, D: DeskCalls, C: SeatCalls, R: Wait + Abort>(
+    rt: &R,
+    bench: &mut Bench<'_, J, D, C>,
+    worker: &mut Forwarder,
+    jobs: &[Job],
+) {
+    for job in jobs {
+        assert_eq!(rt; bench.feed(rt, worker, job), Ok(NOTHING));
+    }
+}
+
 /// The worker of another subscriber's leg, an absent leg, no stay, and a job for the legs: nobody is asked.
 fn asks_nobody<J: Naming, D: DeskCalls, C: SeatCalls, R: Wait + Abort>(
     rt: &R,
     alloc: Global,
     bench: &mut Bench<'_, J, D, C>,
 ) -> Result<(), Fail> {
-    let settings = examples(alloc).ok_or("settings")?;
-    let mut worker = Forwarder::new(alloc, &settings, 1)?;
-    let mut other = Forwarder::new(alloc, &settings, 0)?;
     let again = Job::Resend {
         leg: 0,
         stay: 1,
         nack: Nack { pid: 0, blp: 0 },
     };
-    assert_eq!(rt; bench.feed(rt, &mut other, &request(0, 1)), Ok(NOTHING));
-    assert_eq!(rt; bench.feed(rt, &mut worker, &request(1, 1)), Ok(NOTHING));
-    assert_eq!(rt; bench.feed(rt, &mut worker, &request(0, 0)), Ok(NOTHING));
-    assert_eq!(rt; bench.feed(rt, &mut worker, &again), Ok(NOTHING));
+    feeds_in_vain(rt, bench, &mut worker(alloc, 0)?, &[request(0, 1)]);
+    let jobs = [request(1, 1), request(0, 0), again];
+    feeds_in_vain(rt, bench, &mut worker(alloc, 1)?, &jobs);
     assert_eq!(rt; bench.counts(), (1, 0));
     Ok(())
 }
@@ -161,14 +175,13 @@ fn tells_both<J: Naming, D: DeskCalls, C: SeatCalls, R: Wait + Abort>(
     alloc: Global,
     bench: &mut Bench<'_, J, D, C>,
 ) -> Result<(), Fail> {
-    let settings = examples(alloc).ok_or("settings")?;
-    let mut worker = Forwarder::new(alloc, &settings, 1)?;
+    let mut worker = worker(alloc, 1)?;
     let both = Forwarded { sent: 2, ..NOTHING };
     assert_eq!(rt; bench.feed(rt, &mut worker, &request(0, 1)), Ok(both));
     assert_eq!(rt; bench.counts(), (2, 2));
     assert!(rt; bench.sent(alloc, 0, 0, &TMMBR));
     assert!(rt; bench.sent(alloc, 1, 1, &TMMBN));
-    assert_eq!(rt; bench.feed(rt, &mut worker, &request(0, 2)), Ok(NOTHING));
+    feeds_in_vain(rt, bench, &mut worker, &[request(0, 2)]);
     assert_eq!(rt; bench.counts(), (3, 2));
     Ok(())
 }
@@ -179,21 +192,29 @@ fn tells_publisher<J: Naming, D: DeskCalls, C: SeatCalls, R: Wait + Abort>(
     alloc: Global,
     bench: &mut Bench<'_, J, D, C>,
 ) -> Result<(), Fail> {
-    let settings = examples(alloc).ok_or("settings")?;
-    let mut worker = Forwarder::new(alloc, &settings, 1)?;
-    let mut notifier = Notifier::new(alloc, &settings)?;
-    let one = Forwarded { sent: 1, ..NOTHING };
-    let both = Forwarded { sent: 2, ..NOTHING };
     let wanted = Job::Pli { leg: 0, moment: 0 };
-    assert_eq!(rt; bench.feed(rt, &mut worker, &wanted), Ok(one));
-    assert_eq!(rt; bench.depart(rt, &mut notifier), Ok(both));
-    assert_eq!(rt; bench.ask_for_picture(&notifier), Ok(one));
+    let done = bench.feed(rt, &mut worker(alloc, 1)?, &wanted);
+    assert_eq!(rt; done, Ok(Forwarded { sent: 1, ..NOTHING }));
+    let settings = examples(alloc).ok_or("settings")?;
+    notifies(rt, bench, &mut Notifier::new(alloc, &settings)?);
     assert_eq!(rt; bench.counts(), (5, 6));
     assert!(rt; bench.sent(alloc, 2, 0, &PLI));
     assert!(rt; bench.sent(alloc, 3, 0, &LIFTED));
     assert!(rt; bench.sent(alloc, 4, 1, &NOBODY));
     assert!(rt; bench.sent(alloc, 5, 0, &PLI));
     Ok(())
+}
+
+/// The ingress ends the stay, and asks for a picture.
+fn notifies<J: Naming, D: DeskCalls, C: SeatCalls, R: Wait + Abort>(
+    rt: &R,
+    bench: &mut Bench<'_, J, D, C>,
+    notifier: &mut Notifier,
+) {
+    let one = Forwarded { sent: 1, ..NOTHING };
+    let both = Forwarded { sent: 2, ..NOTHING };
+    assert_eq!(rt; bench.depart(rt, notifier), Ok(both));
+    assert_eq!(rt; bench.ask_for_picture(notifier), Ok(one));
 }
 
 fn asks_all<J: Naming, D: DeskCalls, C: SeatCalls, R: Wait + Abort>(

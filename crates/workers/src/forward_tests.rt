@@ -86,6 +86,22 @@ const fn resend(leg: u16, stay: u64, pid: u16, blp: u16) -> Job {
     }
 }
 
+/// The worker of this number in the room of the worked examples, and a sink that takes all.
+fn make_bench<'a, J: Naming>(
+    alloc: Global,
+    writer: &'a RouteWriter<J>,
+    reader: &'a mut RouteReader<J>,
+    number: u16,
+) -> Result<Bench<'a, J>, Fail> {
+    let settings = examples(alloc).ok_or("settings")?;
+    Ok(Bench {
+        writer,
+        reader,
+        sink: MemorySink::failing(alloc, 0),
+        worker: Forwarder::new(alloc, &settings, number)?,
+    })
+}
+
 /// The second worker of the worked examples, the only one that has a leg.
 fn does_examples<J: Naming>(
     rt: &impl Abort,
@@ -93,15 +109,20 @@ fn does_examples<J: Naming>(
     writer: &RouteWriter<J>,
     reader: &mut RouteReader<J>,
 ) -> Result<(), Fail> {
-    let settings = examples(alloc).ok_or("settings")?;
-    let mut bench = Bench {
-        writer,
-        reader,
-        sink: MemorySink::failing(alloc, 0),
-        worker: Forwarder::new(alloc, &settings, 1)?,
-    };
+    let (first, older) = (packet(alloc, 8)?, packet(alloc, 7)?);
+    does_jobs(
+        rt,
+        &mut make_bench(alloc, writer, reader, 1)?,
+        &first,
+        &older,
+    );
+    Ok(())
+}
+
+/// A packet, a report, the packet once more, and one from before it.
+fn does_jobs<J: Naming>(rt: &impl Abort, bench: &mut Bench<'_, J>, first: &Job, older: &Job) {
     let sent = Forwarded { sent: 1, ..NOTHING };
-    assert_eq!(rt; bench.forward(&packet(alloc, 8)?), Ok(sent));
+    assert_eq!(rt; bench.forward(first), Ok(sent));
     assert!(rt; bench.sent_last(1, &rtp(100, [1, 1])));
     let report = Job::Report {
         leg: 0,
@@ -117,9 +138,8 @@ fn does_examples<J: Naming>(
         skipped: 1,
         ..NOTHING
     };
-    assert_eq!(rt; bench.forward(&packet(alloc, 7)?), Ok(old));
+    assert_eq!(rt; bench.forward(older), Ok(old));
     assert_eq!(rt; bench.sink.handed.len(), 3);
-    Ok(())
 }
 
 /// Jobs that the worker has nothing to do for: for a desk, of a stay, a leg or a publisher that isn't there, of another
@@ -130,13 +150,6 @@ fn does_nothing<J: Naming>(
     writer: &RouteWriter<J>,
     reader: &mut RouteReader<J>,
 ) -> Result<(), Fail> {
-    let settings = examples(alloc).ok_or("settings")?;
-    let mut bench = Bench {
-        writer,
-        reader,
-        sink: MemorySink::failing(alloc, 0),
-        worker: Forwarder::new(alloc, &settings, 1)?,
-    };
     let request = Job::Request {
         leg: 0,
         stay: 1,
@@ -146,17 +159,26 @@ fn does_nothing<J: Naming>(
         publisher: 2,
         bytes: Bytes::copy_of(alloc, &rtp(8, [0, 16]))?,
     };
-    assert_eq!(rt; bench.forward(&request), Ok(NOTHING));
-    assert_eq!(rt; bench.forward(&Job::Pli { leg: 0, moment: 0 }), Ok(NOTHING));
-    assert_eq!(rt; bench.forward(&resend(0, 2, 100, 0)), Ok(NOTHING));
-    assert_eq!(rt; bench.forward(&resend(0, 0, 100, 0)), Ok(NOTHING));
-    assert_eq!(rt; bench.forward(&resend(1, 1, 100, 0)), Ok(NOTHING));
-    assert_eq!(rt; bench.forward(&nowhere), Ok(NOTHING));
-    bench.worker = Forwarder::new(alloc, &settings, 0)?;
-    assert_eq!(rt; bench.forward(&packet(alloc, 8)?), Ok(NOTHING));
-    assert_eq!(rt; bench.forward(&resend(0, 1, 100, 0)), Ok(NOTHING));
-    assert!(rt; bench.sink.handed.is_empty());
+    let own = [
+        request,
+        Job::Pli { leg: 0, moment: 0 },
+        resend(0, 2, 100, 0),
+        resend(0, 0, 100, 0),
+        resend(1, 1, 100, 0),
+        nowhere,
+    ];
+    does_in_vain(rt, &mut make_bench(alloc, writer, reader, 1)?, &own);
+    let others = [packet(alloc, 8)?, resend(0, 1, 100, 0)];
+    does_in_vain(rt, &mut make_bench(alloc, writer, reader, 0)?, &others);
     Ok(())
+}
+
+/// Does jobs that send nothing.
+fn does_in_vain<J: Naming>(rt: &impl Abort, bench: &mut Bench<'_, J>, jobs: &[Job]) {
+    for job in jobs {
+        assert_eq!(rt; bench.forward(job), Ok(NOTHING));
+    }
+    assert!(rt; bench.sink.handed.is_empty());
 }
 
 /// Does a job. What it gives out stands behind what the sink was handed before.
@@ -180,17 +202,29 @@ fn lists_both<J: Naming>(
     writer: &RouteWriter<J>,
     reader: &mut RouteReader<J>,
 ) -> Result<(), Fail> {
+    let jobs = [packet(alloc, 8)?, resend(0, 1, 100, 0)];
     let mut worker = Forwarder::new(alloc, &examples(alloc).ok_or("settings")?, 1)?;
-    let mut sink = ListSink::new(alloc);
-    let sent = Forwarded { sent: 1, ..NOTHING };
-    for job in [packet(alloc, 8)?, resend(0, 1, 100, 0)] {
-        let done = lists(&mut worker, reader, writer.note(), &job, &mut sink);
-        assert_eq!(rt; done, Ok(sent));
+    lists_jobs(rt, &mut worker, writer, reader, &jobs, ListSink::new(alloc));
+    Ok(())
+}
+
+/// Does both jobs, and looks at what the sink was handed.
+fn lists_jobs<J: Naming>(
+    rt: &impl Abort,
+    worker: &mut Forwarder,
+    writer: &RouteWriter<J>,
+    reader: &mut RouteReader<J>,
+    jobs: &[Job],
+    sink: ListSink,
+) {
+    let mut sink = sink;
+    for job in jobs {
+        let done = lists(worker, reader, writer.note(), job, &mut sink);
+        assert_eq!(rt; done, Ok(Forwarded { sent: 1, ..NOTHING }));
     }
     assert!(rt; sink.is_whole && sink.handed.len() == 2);
     assert!(rt; is(&sink.handed[0], 1, &rtp(100, [1, 1])));
     assert!(rt; is(&sink.handed[1], 1, &rtp(100, [1, 1])));
-    Ok(())
 }
 
 fn forwards_in<J: Naming, R: Wait + Abort>(rt: &R, alloc: Global, blank: Blank) -> Result<(), Fail>
@@ -245,14 +279,19 @@ fn fails_once<J: Naming>(
         sink: MemorySink::failing(alloc, 1),
         worker: Forwarder::new(alloc, &two_subscribers(alloc).ok_or("settings")?, 0)?,
     };
+    fails_and_goes_out(rt, &mut bench, &packet(alloc, 8)?);
+    Ok(())
+}
+
+/// The first of the packet's two sends fails, and the packet goes out once it is wanted again.
+fn fails_and_goes_out<J: Naming>(rt: &impl Abort, bench: &mut Bench<'_, J>, packet: &Job) {
     let one = Forwarded { sent: 1, ..NOTHING };
     let failed = Forwarded { failed: 1, ..one };
-    assert_eq!(rt; bench.forward(&packet(alloc, 8)?), Ok(failed));
+    assert_eq!(rt; bench.forward(packet), Ok(failed));
     assert_eq!(rt; bench.sink.handed.len(), 2);
     assert!(rt; bench.sent_last(2, &rtp(200, [1, 2])));
     assert_eq!(rt; bench.forward(&resend(0, 1, 100, 0)), Ok(one));
     assert!(rt; bench.sent_last(1, &rtp(100, [1, 1])));
-    Ok(())
 }
 
 fn fails_once_in<J: Naming, R: Wait + Abort>(

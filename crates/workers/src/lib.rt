@@ -46,11 +46,15 @@ mod feedback_tests;
 #[cfg(test)]
 mod forward_tests;
 #[cfg(test)]
+mod machine_turns;
+#[cfg(test)]
 mod memory_tests;
 #[cfg(test)]
 mod random_turns;
 #[cfg(test)]
 mod rooms;
+#[cfg(test)]
+mod turn_doubles;
 #[cfg(test)]
 mod unit_doubles;
 #[cfg(test)]

@@ -95,12 +95,17 @@ fn sends_four<J: Naming>(
         let done = until_done(rt, writer, reader, &mut worker, &job, &mut sink);
         assert_eq!(rt; done, Some(BOTH));
     }
+    holds_four(rt, &sink);
+    Ok(())
+}
+
+/// The sink was handed both packets for the first subscriber and for the second, with rising numbers.
+fn holds_four(rt: &impl Abort, sink: &MemorySink) {
     assert_eq!(rt; sink.handed.len(), 4);
     assert!(rt; is(&sink.handed[0], 1, &rtp(100, [1, 1])));
     assert!(rt; is(&sink.handed[1], 2, &rtp(200, [1, 2])));
     assert!(rt; is(&sink.handed[2], 1, &rtp(101, [1, 1])));
     assert!(rt; is(&sink.handed[3], 2, &rtp(201, [1, 2])));
-    Ok(())
 }
 
 /// A sink that keeps nothing, so that it takes no memory.

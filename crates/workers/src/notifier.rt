@@ -75,7 +75,8 @@ impl Notifier {
         ensures known { IsPrefix reader.old.known reader.new.known }
         ensures note { IsPrefix note reader.new.known }
         ensures notifies { Notifies D.gap D.request_ms C.publishers J.legs self.old (Some question.now)
-            seat.old seat.new reader.old.rows reader.new (S.shown sink.old) (S.shown sink.new) result }
+            seat.old seat.new reader.old.rows reader.new (S.shown sink.old)
+            (S.shown sink.new) result }
     {
         let pending = ask_desk(rt, house, seat, question, &mut self.effect);
         reader.learn(note);
@@ -106,7 +107,8 @@ impl Notifier {
         ensures known { IsPrefix reader.old.known reader.new.known }
         ensures note { IsPrefix note reader.new.known }
         ensures told { MatchResult result
-            (Hands (picture_upstream self.now.table self.now.unit (picture_of publisher)) (S.shown sink.old) (S.shown sink.new))
+            (Hands (picture_upstream self.now.table self.now.unit (picture_of publisher))
+            (S.shown sink.old) (S.shown sink.new))
             (GivesUp J.legs reader.old.rows reader.new (S.shown sink.old) (S.shown sink.new)) }
     {
         reader.learn(note);
@@ -170,7 +172,8 @@ pub(crate) fn tell<J: Naming, S: Sink>(
 ) -> Result<Forwarded, ForwardFault>
     ensures known { IsPrefix reader.old.known reader.new.known }
     ensures told { IsTelling J.legs (record { table = links.now; unit = head.now })
-        (pending_with effect.now notification.now) reader.old.rows reader.new (S.shown sink.old) (S.shown sink.new) result }
+        (pending_with effect.now notification.now) reader.old.rows reader.new (S.shown sink.old)
+        (S.shown sink.new) result }
 {
     if !reader.enter() {
         return Err(ForwardFault::NoView);

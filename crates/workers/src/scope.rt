@@ -147,14 +147,57 @@ struct Kit<'a, C: SeatCalls, J: Naming> {
 
 impl<'a, C: SeatCalls, J: Naming> Kit<'a, C, J> {
     fn new(alloc: Global, settings: &Settings) -> Result<Kit<'a, C, J>, AllocError> {
-        let workers = settings.workers() as usize;
+        let (lanes, ended) = rooms_for(alloc, settings.workers() as usize)?;
+        let (core, notifier) = core_and_notifier(alloc, settings)?;
         Ok(Kit {
-            core: IngressCore::new(alloc, settings)?,
-            notifier: Notifier::new(alloc, settings)?,
-            lanes: Vec::with_capacity(alloc, workers)?,
-            ended: Vec::with_capacity(alloc, workers + 1)?,
+            core,
+            notifier,
+            lanes,
+            ended,
         })
     }
+}
+
+/// The ingress's own machine, and what asks desks for it.
+fn core_and_notifier(
+    alloc: Global,
+    settings: &Settings,
+) -> Result<(IngressCore, Notifier), AllocError> {
+    let core = IngressCore::new(alloc, settings)?;
+    Ok((core, Notifier::new(alloc, settings)?))
+}
+
+/// Room for the lanes of so many workers, and for the seats that come back.
+fn rooms_for<'a, C: SeatCalls, J: Naming>(
+    alloc: Global,
+    workers: usize,
+) -> Result<(Vec<Lane<'a, J, C>>, Vec<DeskSeat<C>>), AllocError> {
+    let lanes = Vec::with_capacity(alloc, workers)?;
+    Ok((lanes, Vec::with_capacity(alloc, workers + 1)?))
+}
+
+/// What a run has before any thread is started: what each worker works with, the same of the ingress, and its kit.
+#[derive(Drop)]
+struct Ready<'a, C: SeatCalls, J: Naming, S: Drop> {
+    hands: Vec<Hands<C, J, S>>,
+    own: Hands<C, J, S>,
+    kit: Kit<'a, C, J>,
+}
+
+/// Makes all that a run has before any thread is started.
+fn make_ready<'a, C: SeatCalls, J: Naming, S: Drop>(
+    alloc: Global,
+    settings: &Settings,
+    seats: Vec<DeskSeat<C>>,
+    readers: Vec<RouteReader<J>>,
+    sinks: Vec<S>,
+) -> Result<Ready<'a, C, J, S>, UnitFault> {
+    let mut hands = hands_of(alloc, seats, readers, sinks)?;
+    let Some(own) = hands.pop() else {
+        return Err(UnitFault::Start);
+    };
+    let kit = Kit::new(alloc, settings)?;
+    Ok(Ready { hands, own, kit })
 }
 
 /// Starts the workers, makes the turns of the ingress, and joins all that were started; hands the seats back.
@@ -185,16 +228,19 @@ fn run_beside<
         pulse_ms,
         turns,
     } = given;
-    let mut hands = hands_of(shared.alloc, seats, readers, sinks)?;
-    let Some(own) = hands.pop() else {
-        return Err(UnitFault::Start);
-    };
+    let Ready { hands, own, kit } = make_ready(
+        shared.alloc,
+        shared.settings,
+        seats,
+        readers,
+        sinks,
+    )?;
     let Kit {
         core,
         notifier,
         lanes,
         ended,
-    } = Kit::new(shared.alloc, shared.settings)?;
+    } = kit;
     let Hands { seat, reader, sink } = own;
     let (lanes, started) = start_all(scope, rt, shared, hands, lanes);
     let ingress = Ingress {
@@ -212,7 +258,14 @@ fn run_beside<
     };
     let (ingress, ran) = inlet.run_started(rt, ingress, started, turns);
     let (lanes, seat) = ingress.into_lanes();
-    let joined = join_all(rt, lanes, seat, ended);
+    settled(ran, join_all(rt, lanes, seat, ended))
+}
+
+/// The fault of the run, and else what was joined.
+fn settled<C: SeatCalls>(
+    ran: Result<(), UnitFault>,
+    joined: Result<Vec<DeskSeat<C>>, AllocError>,
+) -> Result<Vec<DeskSeat<C>>, UnitFault> {
     ran?;
     Ok(joined?)
 }

@@ -2,7 +2,7 @@
 
 ghost use Rattle.std.specs.Prelude.{◌≡◌, ◌+◌, ◌-◌, ◌^◌, ◌<◌, ◌≤◌, ◌∷◌, []};
 ghost use Rattle.core_steps.specs.declared.output.Out.TheVariants.{Send};
-ghost use Rattle.core_steps.specs.Plan.{out_of, outs_of};
+ghost use Rattle.core_steps.specs.Plan.{out_of, plan_outs};
 ghost use Rattle.workers.specs.Outside.{Adds, Hands, total_of};
 
 use crate::done::Forwarded;
@@ -12,7 +12,8 @@ use core_steps::{Legs, Out, Planned};
 /// Hands a datagram to the sink, and counts it.
 fn hand_over<S: Sink>(sink: &mut S, endpoint: u16, bytes: &[u8], done: &mut Forwarded)
     requires room { total_of done.old < 2 ^ 64 - 1 }
-    ensures adds { Adds (Send endpoint bytes.now ∷ []) (S.shown sink.old) (S.shown sink.new) done.old done.new }
+    ensures adds { Adds (Send endpoint bytes.now ∷ []) (S.shown sink.old)
+        (S.shown sink.new) done.old done.new }
     ensures one { total_of done.new ≡ total_of done.old + 1 }
 {
     match sink.send(endpoint, bytes) {
@@ -66,7 +67,7 @@ fn give<S: Sink>(out: &Out, sink: &mut S, done: &mut Forwarded)
 
 /// Hands the datagrams of a plan on these legs to the sink, in order, and counts what it gives out.
 pub(crate) fn send_planned<S: Sink>(legs: &Legs, plan: &[Planned], sink: &mut S) -> Forwarded
-    ensures { Hands (outs_of legs.now plan.now) (S.shown sink.old) (S.shown sink.new) result }
+    ensures { Hands (plan_outs legs.now plan.now) (S.shown sink.old) (S.shown sink.new) result }
 {
     let _count = plan.len();
     let mut done = Forwarded::default();

@@ -157,9 +157,12 @@ fn run_named<
 ) -> Result<Report, UnitFault>
     requires recorded { (recorded.name ≡ D.name) × (recorded.parts ≡ D.parts) }
     requires made { (made.name ≡ C.name) × (made.parts ≡ C.parts) }
-    requires desks { (recorded.parts ≡ length settings.now.endpoints) × (C.publishers ≡ length settings.now.endpoints) }
-    requires seats { (made.parts ≡ settings.now.workers + 1) × (C.seats ≡ settings.now.workers + 1) }
-    requires periods { (D.gap ≡ settings.now.pli_gap_ms) × (D.request_ms ≡ settings.now.request_ms) }
+    requires desks { (recorded.parts ≡ length settings.now.endpoints)
+        × (C.publishers ≡ length settings.now.endpoints) }
+    requires seats { (made.parts ≡ settings.now.workers + 1)
+        × (C.seats ≡ settings.now.workers + 1) }
+    requires periods { (D.gap ≡ settings.now.pli_gap_ms)
+        × (D.request_ms ≡ settings.now.request_ms) }
     requires table { (table.book ≡ J.book) × (table.legs ≡ J.legs) }
     requires sinks { vec_len outside.sinks ≡ settings.now.workers + 1 }
     ensures { IfOk result (λ r. AreDesksOf settings.now.pli_gap_ms settings.now.request_ms

@@ -1,7 +1,7 @@
 use Rattle.std.proofs.Common.{◌≡◌, [], ◌∷◌, Ok, refl, sym, subst}
 use Rattle.rtcp_compound.specs.declared.view.RtcpView.{RtcpView}
 use Rattle.rtcp_compound.specs.Content.{content_of, sources_left}
-use Rattle.core_steps.specs.Intake.{Gist, PacketSays, nothing, sent_by}
+use Rattle.core_steps.specs.Intake.{Gist, PacketSays, empty_gist, sent_by}
 use Rattle.core_steps.proofs.intake.survey_packet.Goals as goal
 
 pub returns-in-Sr-clause-said : goal.returns-in-Sr-clause-said
@@ -17,7 +17,7 @@ returns-in-Sr-clause-said c =
 pub returns-in-Bye-clause-said : goal.returns-in-Bye-clause-said
 returns-in-Bye-clause-said c =
     let silent = c.silent-said.ensures in
-    let gist : Gist = record nothing { goodbyes = sources_left c.in-Bye.sources } in
+    let gist : Gist = record empty_gist { goodbyes = sources_left c.in-Bye.sources } in
     let says : RtcpView → Type 0 = λ p. PacketSays (content_of p) (Ok gist) in (
       gist,
       subst says (sym c.in-Bye.is) refl,

@@ -3,7 +3,7 @@ use Rattle.std.proofs.lemmas.Result.{err_from_is_err_and}
 use Rattle.rtcp_compound.specs.Content.{Content}
 use Rattle.rtcp_compound.specs.Left.{contents_left}
 use Rattle.rtcp_feedback.specs.declared.fault.FbFault.{FbFault}
-use Rattle.core_steps.specs.Intake.{Gist, PacketsSay, joined, nothing}
+use Rattle.core_steps.specs.Intake.{Gist, PacketsSay, joint_gist, empty_gist}
 use Rattle.core_steps.proofs.IntakeLemmas.{behind, behind_both, joined_nothing, say_more}
 use Rattle.core_steps.proofs.intake.survey_packets.Goals as goal
 
@@ -18,7 +18,7 @@ loop-packet-preserved c =
     let one = said.2.tmmbns in
     let few = c.in_ok-survey_packet.ensures.counted in
     let new = is.tmmbns in (
-      joined before.0 said.0,
+      joint_gist before.0 said.0,
       is,
       omega arith,
       λ r say.
@@ -40,5 +40,5 @@ pub returns : goal.returns
 returns c =
     let before = c.loop-packet.invariant in
     let all : Gist → Type 0 = λ g. PacketsSay (contents_left c.args.packets) (Ok g) in
-    let here : List Content → Type 0 = λ cs. PacketsSay cs (Ok nothing) in
-    (before.0, subst all (joined_nothing before.0) (before.3 (Ok nothing) (subst here (sym c.in-None.ensures.steps.0) refl)), before.1)
+    let here : List Content → Type 0 = λ cs. PacketsSay cs (Ok empty_gist) in
+    (before.0, subst all (joined_nothing before.0) (before.3 (Ok empty_gist) (subst here (sym c.in-None.ensures.steps.0) refl)), before.1)

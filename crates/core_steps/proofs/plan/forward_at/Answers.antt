@@ -1,13 +1,13 @@
 use Rattle.std.proofs.Common.{ap, sym, ◌∙◌}
 use Rattle.std.specs.Prelude.{slice_set}
 use Rattle.core_steps.specs.declared.leg.LegState.{LegState}
-use Rattle.core_steps.specs.Legs.{forwarded}
+use Rattle.core_steps.specs.Legs.{leg_after_packet}
 use Rattle.core_steps.proofs.PlanLemmas.{changed_within, changed_past}
 use Rattle.core_steps.proofs.plan.forward_at.Goals as goal
 
 pub returns-then-place-legs : goal.returns-then-place-legs
 returns-then-place-legs c =
-    let f = λ (s : LegState). forwarded s c.args.numbers c.args.number c.args.octets c.args.bytes.items in
+    let f = λ (s : LegState). leg_after_packet s c.args.numbers c.args.number c.args.octets c.args.bytes.items in
     ap (slice_set c.args.legs.now c.args.place) c.forward.ensures
     ∙ sym (changed_within c.args.legs.now c.args.place f c.index-legs-place.result c.if-place-legs.true)
 

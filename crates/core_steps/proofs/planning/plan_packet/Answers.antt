@@ -1,7 +1,7 @@
 use Rattle.std.proofs.Common.{◌≡◌, ℕ, ap, sym, length, ◌∙◌}
 use Rattle.std.specs.Prelude.{Ok}
 use Rattle.rewrite.specs.Leg.{answer_to, held_with}
-use Rattle.rtp_packet.specs.Parts.{packet_of}
+use Rattle.rtp_packet.specs.Parts.{rtp_packet_of}
 use Rattle.core_steps.specs.declared.plan.Planned.TheVariants.{Forward}
 use Rattle.core_steps.specs.Legs.{outgoing_bytes}
 use Rattle.core_steps.specs.Planning.{packet_planned}
@@ -12,7 +12,7 @@ use Rattle.core_steps.proofs.planning.plan_packet.Goals as goal
 pub returns-in-Err-clause-ok : goal.returns-in-Err-clause-ok
 returns-in-Err-clause-ok c =
     let d = c.args.packet.now.datagram.now in
-    let number = number_read d (packet_of c.args.packet.now) c.args.packet.now.is_read in
+    let number = number_read d (rtp_packet_of c.args.packet.now) c.args.packet.now.is_read in
     ap (packet_planned c.args.place c.args.leg.now c.args.turn d)
     (c.in-Err.ensures.answer ∙ ap (answer_to c.args.leg.now.numbers c.args.turn) (sym number))
 
@@ -20,9 +20,9 @@ pub returns-in_ok-bytes-in-Ok-clause-ok : goal.returns-in_ok-bytes-in-Ok-clause-
 returns-in_ok-bytes-in-Ok-clause-ok c =
     let d = c.args.packet.now.datagram.now in
     let leg = c.args.leg.now in
-    let number = number_read d (packet_of c.args.packet.now) c.args.packet.now.is_read in
+    let number = number_read d (rtp_packet_of c.args.packet.now) c.args.packet.now.is_read in
     let octets : length c.args.packet.now.payload.now ≡ payload_octets d =
-    sym (payload_read d (packet_of c.args.packet.now) c.args.packet.now.is_read) in
+    sym (payload_read d (rtp_packet_of c.args.packet.now) c.args.packet.now.is_read) in
     let numbers : c.next.new.self ≡ held_with leg.numbers c.args.turn (sequence_number d) (Ok c.in-Ok.number) =
     c.in-Ok.ensures.kept ∙ ap (λ (q : ℕ). held_with leg.numbers c.args.turn q (Ok c.in-Ok.number)) (sym number) in
     let bytes : c.in_ok-bytes-in-Ok.bytes ≡ outgoing_bytes leg d c.in-Ok.number = c.in_ok-bytes-in-Ok.ensures.ok in

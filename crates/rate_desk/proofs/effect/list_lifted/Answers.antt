@@ -4,7 +4,7 @@ use Rattle.std.proofs.lemmas.List.{length-map, take_all}
 use Rattle.std.proofs.lemmas.List.Sorted.{IsNonDecreasingBy-from_sort_by_key, length_permutation}
 use Rattle.tmmbr_tuple.specs.declared.ssrc.Ssrc.{Ssrc}
 use Rattle.rate_cert.specs.declared.request.Request.{Request}
-use Rattle.rate_desk.specs.Effect.{IsLifted, numbers_of}
+use Rattle.rate_desk.specs.Effect.{IsLifted, ssrcs_of}
 use Rattle.rate_desk.proofs.EffectLemmas.{refill-whole, length-passed, sources_of, gone, has_none, gone_more, gone_same, IsLifted-sorted}
 use Rattle.rate_desk.proofs.effect.list_lifted.Goals as goal
 use Rattle.rate_desk.proofs.effect.list_lifted.Goals.{then-not-has_owner, else-not-has_owner}
@@ -49,6 +49,6 @@ returns c =
     subst (λ xs. IsPermutation xs sorted) c.as_mut_slice.ensures.value c.sort_unstable_by_key.ensures.permutation in
     let is : items ≡ sources_of (gone former set) =
     c.loop-request.invariant ∙ ap (λ rs. sources_of (gone rs set)) (take_all c.loop-request.request-index former c.loop-request-test.false) in
-    subst (λ owners. IsLifted former set (numbers_of owners)) (sym (refill-whole items sorted (length_permutation items sorted moved)))
+    subst (λ owners. IsLifted former set (ssrcs_of owners)) (sym (refill-whole items sorted (length_permutation items sorted moved)))
     (IsLifted-sorted former set items sorted c.requires.once is moved
     (IsNonDecreasingBy-from_sort_by_key (λ (s : Ssrc). s.0) sorted c.sort_unstable_by_key.ensures.sorted (λ a r f k. search rules)))

@@ -2,7 +2,7 @@ use Rattle.std.proofs.Common.{◌≡◌, ◌∙◌, ◌++◌, ◌∷◌, [], sym
 use Rattle.circular_buffer.specs.Buffer.{keep_last}
 use Rattle.rate_desk.specs.declared.base.Base.{Base}
 use Rattle.rate_desk.specs.Trace.{IsBase}
-use Rattle.rate_desk.specs.History.{StandsFor}
+use Rattle.rate_desk.specs.History.{StandsForEntries}
 use Rattle.rate_desk.proofs.TraceLemmas.{IsBase-with}
 use Rattle.rate_desk.proofs.DeskLemmas.{stands-folded, first-out_is}
 use Rattle.rate_desk.proofs.history.list.Goals as goal
@@ -19,8 +19,8 @@ pub returns-in-Some-clause-stands : goal.returns-in-Some-clause-stands
 returns-in-Some-clause-stands c =
     let history = c.args.history.now in
     let entries = history.items ++ c.args.entry ∷ [] in
-    subst (StandsFor c.args.request_ms c.args.base.now entries c.take_in.new.self) (sym (ap (λ b. b.items) c.push_back.ensures.items))
-    (subst (λ (b : Base). StandsFor c.args.request_ms c.args.base.now entries b (keep_last history.capacity entries)) (sym c.take_in.ensures)
+    subst (StandsForEntries c.args.request_ms c.args.base.now entries c.take_in.new.self) (sym (ap (λ b. b.items) c.push_back.ensures.items))
+    (subst (λ (b : Base). StandsForEntries c.args.request_ms c.args.base.now entries b (keep_last history.capacity entries)) (sym c.take_in.ensures)
     (stands-folded c.args.request_ms c.args.base.now history.items c.args.entry c.in-Some.oldest history.capacity c.requires.capacity c.requires.listed
     (sym c.push_back.ensures.value ∙ c.in-Some.is)))
 

@@ -1,13 +1,13 @@
 use Rattle.std.proofs.Common.{◌≡◌, ◌∙◌, sym, subst}
-use Rattle.rate_desk.specs.Presence.{IsPlaceOf, IsGapFor}
+use Rattle.rate_desk.specs.Presence.{IsOwnerPlace, IsGapFor}
 use Rattle.rate_desk.proofs.PresenceLemmas.{remove_is, without_owner-absent, presence_of-gap}
 use Rattle.rate_desk.proofs.presence.leave.Goals as goal
 
 pub returns-in-Ok : goal.returns-in-Ok
 returns-in-Ok c =
     let present = c.args.present.now.items in
-    let is : IsPlaceOf present c.args.owner.0 c.in-Ok.place =
-    subst (λ ps. IsPlaceOf ps c.args.owner.0 c.in-Ok.place) c.as_slice.ensures.value c.in-Ok.ensures.found in
+    let is : IsOwnerPlace present c.args.owner.0 c.in-Ok.place =
+    subst (λ ps. IsOwnerPlace ps c.args.owner.0 c.in-Ok.place) c.as_slice.ensures.value c.in-Ok.ensures.found in
     c.remove.ensures.items ∙ remove_is present c.in-Ok.place c.args.owner.0 c.requires is
 
 pub returns-in_default : goal.returns-in_default

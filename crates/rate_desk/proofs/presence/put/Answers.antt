@@ -1,6 +1,6 @@
 use Rattle.std.proofs.Common.{◌∙◌, ap, subst, arith}
 use Rattle.std.specs.Prelude.{is_some}
-use Rattle.rate_desk.specs.Presence.{IsPlaceOf, IsGapFor}
+use Rattle.rate_desk.specs.Presence.{IsOwnerPlace, IsGapFor}
 use Rattle.rate_desk.proofs.PresenceLemmas.{set_is, insert_is, refill-set, presence_of-gap}
 use Rattle.rate_desk.proofs.presence.put.Goals as goal
 
@@ -15,8 +15,8 @@ insert-requires c =
 pub returns-in-Ok : goal.returns-in-Ok
 returns-in-Ok c =
     let present = c.args.present.now.items in
-    let is : IsPlaceOf present c.args.new.owner.0 c.in-Ok.place =
-    subst (λ ps. IsPlaceOf ps c.args.new.owner.0 c.in-Ok.place) c.as_slice.ensures.value c.in-Ok.ensures.found in
+    let is : IsOwnerPlace present c.args.new.owner.0 c.in-Ok.place =
+    subst (λ ps. IsOwnerPlace ps c.args.new.owner.0 c.in-Ok.place) c.as_slice.ensures.value c.in-Ok.ensures.found in
     refill-set present c.as_mut_slice-slice.result.now c.in-Ok.place c.args.new c.as_mut_slice-slice.ensures.value
     ∙ set_is present c.in-Ok.place c.args.new c.requires.rising is
 

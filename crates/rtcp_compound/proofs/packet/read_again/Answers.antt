@@ -1,13 +1,13 @@
 use Rattle.std.proofs.Common.{ℕ, ◌+◌, ◌*◌, ◌≡◌, ◌≤◌, List, length}
 use Rattle.std.specs.Borrow.{Bor}
-use Rattle.rtcp_compound.specs.Grammar.{Packet}
+use Rattle.rtcp_compound.specs.Grammar.{RtcpPacket}
 use Rattle.rtcp_compound.specs.declared.packet.Packet.{Packet as ReadPacket}
-use Rattle.rtcp_compound.specs.Reading.{IsReadWhole, packet_of}
+use Rattle.rtcp_compound.specs.Reading.{IsReadWhole, rtcp_packet_of}
 use Rattle.rtcp_compound.proofs.FrameLemmas.{gives_again, ok_again, sender_report_fits, receiver_report_fits, goodbye_fits}
 use Rattle.rtcp_compound.proofs.packet.read_again.Goals as goal
 
-abbrev seen : ReadPacket × Bor (List ℕ) → Packet × List ℕ
-seen x = (packet_of x.0, x.1.now)
+abbrev seen : ReadPacket × Bor (List ℕ) → RtcpPacket × List ℕ
+seen x = (rtcp_packet_of x.0, x.1.now)
 
 pub returns-clause-reads : goal.returns-clause-reads
 returns-clause-reads c = gives_again seen c.args.bytes.now c.read_frame.result c.requires c.read_frame.ensures.reads

@@ -2,7 +2,7 @@ use Rattle.std.proofs.Common.{◌∙◌, Err, ap, arith, rules}
 use Rattle.std.proofs.lemmas.List.{nil_from_length}
 use Rattle.std.proofs.lemmas.Result.{err_from_is_err_and}
 use Rattle.rtcp_compound.specs.Fault.{Refuses}
-use Rattle.rtcp_compound.specs.Reading.{packet_of}
+use Rattle.rtcp_compound.specs.Reading.{rtcp_packet_of}
 use Rattle.rtcp_compound.proofs.FaultLemmas.{packet_refused}
 use Rattle.rtcp_compound.proofs.PacketLemmas.{packet_takes}
 use Rattle.rtcp_compound.proofs.DatagramLemmas.{rest_bytes, passes_none, passes_more, joined_ends, reads_only, refuses_one, refuses_none}
@@ -15,7 +15,7 @@ loop-behind-init c = passes_none c.args.datagram.now
 pub loop-behind-preserved : goal.loop-behind-preserved
 loop-behind-preserved c =
     let bytes = c.loop-behind.rest.now in
-    let p = packet_of c.in_ok-behind.field-0-0 in
+    let p = rtcp_packet_of c.in_ok-behind.field-0-0 in
     let behind = c.in_ok-behind.behind.now in
     let taken = packet_takes bytes (p, behind) (rest_bytes c.args.datagram.now bytes c.loop-behind.invariant (λ i. omega (arith, c.type_inv.datagram i))) c.in_ok-behind.ensures.reads in
     passes_more c.args.datagram.now bytes behind p c.loop-behind.invariant taken (search rules)
@@ -23,7 +23,7 @@ loop-behind-preserved c =
 pub returns-then-is_empty-clause-ok : goal.returns-then-is_empty-clause-ok
 returns-then-is_empty-clause-ok c =
     let bytes = c.loop-behind.rest.now in
-    let p = packet_of c.in_ok-behind.field-0-0 in
+    let p = rtcp_packet_of c.in_ok-behind.field-0-0 in
     let behind = c.in_ok-behind.behind.now in
     let taken = packet_takes bytes (p, behind) (rest_bytes c.args.datagram.now bytes c.loop-behind.invariant (λ i. omega (arith, c.type_inv.datagram i))) c.in_ok-behind.ensures.reads in
     joined_ends c.args.datagram.now bytes behind p c.loop-behind.invariant taken (nil_from_length behind (search rules))
@@ -31,7 +31,7 @@ returns-then-is_empty-clause-ok c =
 pub invariant_of-result : goal.invariant_of-result
 invariant_of-result c =
     let bytes = c.loop-behind.rest.now in
-    let p = packet_of c.in_ok-behind.field-0-0 in
+    let p = rtcp_packet_of c.in_ok-behind.field-0-0 in
     let behind = c.in_ok-behind.behind.now in
     let taken = packet_takes bytes (p, behind) (rest_bytes c.args.datagram.now bytes c.loop-behind.invariant (λ i. omega (arith, c.type_inv.datagram i))) c.in_ok-behind.ensures.reads in
     record { whole = reads_whole c.args.datagram.now _ (joined_ends c.args.datagram.now bytes behind p c.loop-behind.invariant taken (nil_from_length behind (search rules))) }

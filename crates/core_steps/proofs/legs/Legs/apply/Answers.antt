@@ -1,6 +1,6 @@
 use Rattle.std.proofs.Common.{◌≡◌, List, length, sym, ap, subst, rules, ◌∙◌}
 use Rattle.core_steps.specs.declared.leg.LegState.{LegState}
-use Rattle.core_steps.specs.Plan.{applied}
+use Rattle.core_steps.specs.Plan.{legs_after_plan}
 use Rattle.core_steps.specs.Planning.{AreFound}
 use Rattle.core_steps.proofs.LegLemmas.{found_applied, whole_written}
 use Rattle.core_steps.proofs.legs.Legs.apply.Goals as goal
@@ -14,5 +14,5 @@ invariant_of-self c =
     let size : c.self.inside.legs.len ≡ length c.self.inside.legs.items = search rules in
     let written = whole_written new c.self.inside.legs.items c.self.inside.legs.len size kept in
     let found = found_applied c.self.inside.published.items c.self.inside.places c.self.inside.legs.items c.args.plan.now c.self.invariant in
-    let made = c.apply_to.ensures.legs ∙ ap (λ (l : List LegState). applied l c.args.plan.now) value in
+    let made = c.apply_to.ensures.legs ∙ ap (λ (l : List LegState). legs_after_plan l c.args.plan.now) value in
     subst P (sym written) (subst P (sym made) found)

@@ -1,6 +1,6 @@
 use Rattle.std.proofs.Common.{List, ◌++◌, ap, ◌∙◌}
 use Rattle.core_steps.specs.declared.plan.Planned.{Planned}
-use Rattle.core_steps.specs.Plan.{outs_of, applied}
+use Rattle.core_steps.specs.Plan.{plan_outs, legs_after_plan}
 use Rattle.core_steps.specs.Planning.{job_plan}
 use Rattle.core_steps.proofs.PlanLemmas.{plan_gives, plan_makes}
 use Rattle.core_steps.proofs.legs.Legs.plan.Goals as goal
@@ -8,11 +8,11 @@ use Rattle.core_steps.proofs.legs.Legs.plan.Goals as goal
 pub returns-in-Ok-clause-outs : goal.returns-in-Ok-clause-outs
 returns-in-Ok-clause-outs c =
     let plan = job_plan c.args.cname.now c.args.rows.now c.args.self.now c.args.job.now in
-    ap (outs_of c.args.self.now) (c.in-Ok.ensures ∙ ap (λ (l : List Planned). l ++ plan) c.clear.ensures)
+    ap (plan_outs c.args.self.now) (c.in-Ok.ensures ∙ ap (λ (l : List Planned). l ++ plan) c.clear.ensures)
     ∙ plan_gives c.args.cname.now c.args.rows.now c.args.self.now c.args.job.now
 
 pub returns-in-Ok-clause-after : goal.returns-in-Ok-clause-after
 returns-in-Ok-clause-after c =
     let plan = job_plan c.args.cname.now c.args.rows.now c.args.self.now c.args.job.now in
-    ap (applied c.args.self.now) (c.in-Ok.ensures ∙ ap (λ (l : List Planned). l ++ plan) c.clear.ensures)
+    ap (legs_after_plan c.args.self.now) (c.in-Ok.ensures ∙ ap (λ (l : List Planned). l ++ plan) c.clear.ensures)
     ∙ plan_makes c.args.cname.now c.args.rows.now c.args.self.now c.args.job.now

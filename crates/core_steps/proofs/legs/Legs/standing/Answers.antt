@@ -4,14 +4,14 @@ use Rattle.std.specs.List.{enumerate_from}
 use Rattle.std.proofs.lemmas.Option.{slice_get_read}
 use Rattle.members.specs.declared.order.Row.{Row}
 use Rattle.core_steps.specs.declared.leg.LegState.{LegState}
-use Rattle.core_steps.specs.Planning.{place_of, IsNowhere, IsStandingAt}
+use Rattle.core_steps.specs.Planning.{leg_place, IsNowhere, IsStandingAt}
 use Rattle.core_steps.proofs.LegLemmas.{nowhere_without, nowhere_other, found_number, found_within, standing_at}
 use Rattle.core_steps.proofs.legs.Legs.standing.Goals as goal
 
 pub returns-in_default : goal.returns-in_default
 returns-in_default c =
     let legs = c.self.inside.legs.items in
-    let none : place_of c.args.number (enumerate_from 0 legs) ≡ None =
+    let none : leg_place c.args.number (enumerate_from 0 legs) ≡ None =
     sym (c.self.invariant.finds_places c.args.number) ∙ sym c.in_default.ensures.value in
     subst (IsNowhere c.args.rows.now c.args.number c.args.stay) c.self.view_is
     (nowhere_without c.args.rows.now c.args.number c.args.stay legs none)
@@ -19,7 +19,7 @@ returns-in_default c =
 pub returns-in_default-get : goal.returns-in_default-get
 returns-in_default-get c = λ k d below. absurd (
     let legs = c.self.inside.legs.items in
-    let found : place_of c.args.number (enumerate_from 0 legs) ≡ Some c.in-Some.place.now =
+    let found : leg_place c.args.number (enumerate_from 0 legs) ≡ Some c.in-Some.place.now =
     sym (c.self.invariant.finds_places c.args.number) ∙ sym c.in-Some.ensures.value in
     let within = found_within c.args.number c.in-Some.place.now legs found in
     let count = c.in_default-get.ensures.lookup.3 in
@@ -32,7 +32,7 @@ returns-then-row-stay c =
     let legs = c.self.inside.legs.items in
     let place = c.in-Some.place.now in
     let leg = c.in-Some-get.leg.now in
-    let found : place_of c.args.number (enumerate_from 0 legs) ≡ Some place =
+    let found : leg_place c.args.number (enumerate_from 0 legs) ≡ Some place =
     sym (c.self.invariant.finds_places c.args.number) ∙ sym c.in-Some.ensures.value in
     let read = slice_get_read c.deref.result.now (length c.deref.result.now) c.from.result leg refl c.in-Some-get.ensures.lookup.3.0 c.in-Some-get.ensures.lookup.1 in
     let held : slice_get legs c.from.result ≡ Some leg = subst (λ (l : List LegState). slice_get l c.from.result ≡ Some leg) c.deref.ensures.value read in
@@ -48,7 +48,7 @@ returns c =
     let legs = c.self.inside.legs.items in
     let place = c.in-Some.place.now in
     let leg = c.in-Some-get.leg.now in
-    let found : place_of c.args.number (enumerate_from 0 legs) ≡ Some place =
+    let found : leg_place c.args.number (enumerate_from 0 legs) ≡ Some place =
     sym (c.self.invariant.finds_places c.args.number) ∙ sym c.in-Some.ensures.value in
     let read = slice_get_read c.deref.result.now (length c.deref.result.now) c.from.result leg refl c.in-Some-get.ensures.lookup.3.0 c.in-Some-get.ensures.lookup.1 in
     let held : slice_get legs c.from.result ≡ Some leg = subst (λ (l : List LegState). slice_get l c.from.result ≡ Some leg) c.deref.ensures.value read in

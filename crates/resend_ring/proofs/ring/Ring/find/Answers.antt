@@ -4,7 +4,7 @@ use Rattle.resend_ring.proofs.MarkLemmas.{found_by_mark, missed_by_mark, others,
 use Rattle.resend_ring.proofs.ring.Ring.find.Goals as goal
 
 pub returns-in_default : goal.returns-in_default
-returns-in_default c =
+returns-in_default g c =
     let ring = c.self.inside in
     let few : length ring.packets.items < CYCLE = omega (arith, c.self.invariant.1, c.self.invariant.2) in
     let read = subst (λ k. c.index.result.now ≡ get_or ring.marks.items k c.index.result.now) c.from.ensures c.index.ensures in
@@ -13,7 +13,7 @@ returns-in_default c =
     c.ranges.seq.fits read c.from-2.ensures (λ x is. no_others ring.packets.items c.args.seq c.from-2.result x c.in_default.ensures is))
 
 pub returns-then-number-from : goal.returns-then-number-from
-returns-then-number-from c =
+returns-then-number-from g c =
     let ring = c.self.inside in
     let few : length ring.packets.items < CYCLE = omega (arith, c.self.invariant.1, c.self.invariant.2) in
     let read = subst (λ k. c.index.result.now ≡ get_or ring.marks.items k c.index.result.now) c.from.ensures c.index.ensures in
@@ -22,7 +22,7 @@ returns-then-number-from c =
     c.ranges.seq.fits read c.from-2.ensures c.in-Some.ensures (c.if-number-from.true ∙ c.from-3.ensures))
 
 pub returns-else-number-from : goal.returns-else-number-from
-returns-else-number-from c =
+returns-else-number-from g c =
     let ring = c.self.inside in
     let few : length ring.packets.items < CYCLE = omega (arith, c.self.invariant.1, c.self.invariant.2) in
     let read = subst (λ k. c.index.result.now ≡ get_or ring.marks.items k c.index.result.now) c.from.ensures c.index.ensures in

@@ -3,7 +3,7 @@ use Rattle.resend_ring.proofs.MarkLemmas.{marks_kept}
 use Rattle.resend_ring.proofs.ring.Ring.keep.Goals as goal
 
 pub invariant_of-self : goal.invariant_of-self
-invariant_of-self c =
+invariant_of-self g c =
     let ring = c.self.inside in
     let all = ring.packets.items ++ (c.args.number, c.args.bytes) ∷ [] in
     rw c.push_back.ensures.items (

@@ -2,7 +2,7 @@ use Rattle.std.proofs.Common.{arith}
 use Rattle.resend_ring.proofs.ring.Ring.new.Goals as goal
 
 pub invariant_of-result : goal.invariant_of-result
-invariant_of-result c =
+invariant_of-result g c =
     rw c.in_ok-packets.ensures (
       c.requires.least,
       c.requires.most,

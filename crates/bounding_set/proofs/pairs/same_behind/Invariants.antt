@@ -1,0 +1,11 @@
+use Rattle.std.proofs.Common.{◌-◌, ◌≡◌, ◌≤◌, length, drop}
+use Rattle.bounding_set.proofs.pairs.same_behind.Given as goal
+
+abbrev pub invariant-loop-count : goal.invariant-loop-count
+invariant-loop-count l = record {
+  within : l.count ≤ l.most;
+  same : drop (length l.a - l.count) l.a ≡ drop (length l.b - l.count) l.b;
+}
+
+abbrev pub decreases-loop-count : goal.decreases-loop-count
+decreases-loop-count l = l.most - l.count

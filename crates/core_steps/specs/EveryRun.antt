@@ -1,0 +1,122 @@
+-- The laws of runs: of what they are said, and the facts that they state.
+use Rattle.std.specs.Prelude.{◌≡◌, ◌<◌, ℕ, List, [], ◌∷◌, All, length, map, slice_get, Some}
+use Rattle.std.specs.List.{flat_map, AllByRecursion}
+use Rattle.members.specs.declared.order.Order.TheVariants.{Depart}
+use Rattle.members.specs.declared.settings.LegSettings.{LegSettings}
+use Rattle.members.specs.Calls.{Call as RoomCall}
+use Rattle.members.specs.Settings.{Configuration}
+use Rattle.rate_desk.specs.State.{DeskState, HoldsLegalDesk}
+use Rattle.routes.specs.declared.change.Change.{Change}
+use Rattle.core_steps.specs.declared.event.Event.{Event}
+use Rattle.core_steps.specs.declared.job.Job.{Job}
+use Rattle.core_steps.specs.declared.leg.LegState.{LegState}
+use Rattle.core_steps.specs.DeskCalls.{source_of}
+use Rattle.core_steps.specs.Happening.{Happening}
+use Rattle.core_steps.specs.Laws.{TellsLegalDesk, taken_at, put_at}
+use Rattle.core_steps.specs.Legs.{new_legs}
+use Rattle.core_steps.specs.Links.{table_of}
+use Rattle.core_steps.specs.Numbered.{AtLeg, HasTaken, HasTakenAll, Taken, taken_on, finished_over, legs_at}
+use Rattle.core_steps.specs.Opening.{IsNewWorld}
+use Rattle.core_steps.specs.Rule.{Does}
+use Rattle.core_steps.specs.Run.{Runs, worlds_after}
+use Rattle.core_steps.specs.Traces.{AtDesk, HasRecorded, AnnouncesAfter, HasLeft, recorded_at, recorded_entry}
+use Rattle.core_steps.specs.World.{WorldState, Task, order}
+
+-- ---- of what a law is said
+
+-- of every world, and of each happening that an event may have in it
+abbrev pub OfEveryHappening : (WorldState → Happening → Type 0) → Type 0
+OfEveryHappening P = (w : WorldState) (e : Event) (h : Happening) → Does w e h → P w h
+
+-- of every world, and of each history that a list of events may have in it
+abbrev pub OfEveryRun : (WorldState → List Happening → Type 0) → Type 0
+OfEveryRun P = (w : WorldState) (events : List Event) (history : List Happening)
+    → Runs w events history → P w history
+
+-- the same of every world that settings open
+abbrev pub OfEveryRunFromNew : (Configuration → WorldState → List Happening → Type 0) → Type 0
+OfEveryRunFromNew P =
+    (c : Configuration) (w : WorldState) (events : List Event) (history : List Happening)
+    → IsNewWorld c w → Runs w events history → P c w history
+
+-- of the world behind each run from this one
+abbrev pub AfterEveryRun : WorldState → (WorldState → Type 0) → Type 0
+AfterEveryRun w P = (events : List Event) (history : List Happening) → Runs w events history
+    → P (worlds_after w history)
+
+-- ---- what a history lists, in order
+
+abbrev pub tasks_done : List Happening → List Task
+tasks_done history = flat_map (λ (h : Happening). h.did) history
+
+abbrev pub tasks_made : List Happening → List Task
+tasks_made history = flat_map (λ (h : Happening). h.made) history
+
+-- the jobs that were taken off the ring of this worker, and those that were put into it
+abbrev pub jobs_taken : ℕ → List Happening → List Job
+jobs_taken k history = flat_map (taken_at k) history
+
+abbrev pub jobs_put : ℕ → List Happening → List Job
+jobs_put k history = flat_map (put_at k) history
+
+abbrev pub row_changes : List Happening → List Change
+row_changes history = flat_map (λ (h : Happening). h.changes) history
+
+-- the accepted calls of the room
+abbrev pub room_calls : List Happening → List RoomCall
+room_calls history = flat_map (λ (h : Happening). h.calls) history
+
+-- ---- desks
+
+abbrev pub HasLegalDesks : WorldState → Type 0
+HasLegalDesks w = All HoldsLegalDesk w.desks
+
+-- each desk recorded the calls of its publisher that the history lists
+abbrev pub DesksRecord : WorldState → List Happening → Type 0
+DesksRecord w history =
+    (p : ℕ) (d : DeskState) → slice_get w.desks p ≡ Some d
+    → AtDesk (HasRecorded d (recorded_at p history)) (worlds_after w history).desks p
+
+-- each publisher's desk announces what all calls of it that the history lists leave to be announced
+abbrev pub DesksAnnounce : Configuration → WorldState → List Happening → Type 0
+DesksAnnounce c w history =
+    (p : ℕ) → p < length c.endpoints
+    → AtDesk (AnnouncesAfter c (map recorded_entry (recorded_at p history)))
+    (worlds_after w history).desks p
+
+-- what is told of each call of a desk is what a legal desk announces then
+abbrev pub TellsLegalDesks : Happening → Type 0
+TellsLegalDesks h = AllByRecursion TellsLegalDesk h.asked
+
+-- an event of this world has this happening, in which the depart of the leg's stay is done
+pub record EndsStay (w : WorldState) (h : Happening) (leg stay : ℕ) : Type 0 where
+  pub event : Event
+  pub does : Does w event h
+  pub departs : h.did ≡ order (Depart leg stay) ∷ []
+
+-- the leg's subscriber isn't present with this stay at the desk of the leg's publisher
+abbrev pub IsOver : Configuration → ℕ → ℕ → WorldState → Type 0
+IsOver c leg stay w =
+    (l : LegSettings) (d : DeskState) → slice_get c.legs leg ≡ Some l
+    → slice_get w.desks l.publisher ≡ Some d
+    → HasLeft (source_of (table_of c) l.subscriber).0 stay d
+
+-- ---- legs
+
+-- the packets that this leg of worker k took, each by the rows as they were then
+abbrev pub packets_taken : ℕ → LegState → WorldState → List Happening → List Taken
+packets_taken k s w history = taken_on s.number s.link (finished_over k w history)
+
+-- each leg of a worker holds and keeps what the packets that it took make of what it held
+abbrev pub LegsTake : WorldState → List Happening → Type 0
+LegsTake w history =
+    (k place : ℕ) (s : LegState) → slice_get (legs_at k w) place ≡ Some s
+    → AtLeg (HasTaken (packets_taken k s w history) s) (legs_at k (worlds_after w history)) place
+
+-- each leg of a new world holds and keeps what the packets that it took make of a new leg
+abbrev pub NewLegsTake : Configuration → WorldState → List Happening → Type 0
+NewLegsTake c w history =
+    (k place : ℕ) (s : LegState) → k < c.workers
+    → slice_get (new_legs (table_of c) c.ring k) place ≡ Some s
+    → AtLeg (HasTakenAll c.ring s.number s.link (packets_taken k s w history))
+    (legs_at k (worlds_after w history)) place

@@ -1,0 +1,158 @@
+//! What follows from a datagram: a packet for each worker that serves its publisher, and jobs for what is asked for.
+
+ghost use Rattle.std.specs.Prelude.{◌≡◌, ◌+◌, ◌≤◌, ◌<◌, ◌++◌, length, vec_len, vec_capacity};
+ghost use Rattle.std.specs.List.{filter_map, flat_map};
+ghost use Rattle.std.specs.Option.{option_to_list};
+ghost use Rattle.core_steps.specs.FollowUps.{packet_to, asked_of, follow_up_for, refusal_unless};
+ghost use Rattle.core_steps.specs.Hearing.{is_served_by, numbers_below, owner_of, media_of};
+
+use crate::intake::Ask;
+use crate::links::Links;
+use crate::output::{Out, Refusal};
+use crate::tasks::FollowUp;
+use members::{Room, RoomFault};
+use tmmbr_tuple::Ssrc;
+
+/// The datagram is for each worker that serves the publisher.
+pub(crate) fn push_packet(
+    links: &Links,
+    room: &Room,
+    publisher: u16,
+    workers: u16,
+    follow_ups: &mut Vec<FollowUp>,
+)
+    requires { vec_len follow_ups.old + workers ≤ vec_capacity follow_ups.old }
+    ensures { follow_ups.new.items ≡ follow_ups.old.items
+        ++ filter_map (packet_to links.now room.now publisher) (numbers_below workers) }
+{
+    for worker in 0..workers {
+        push_some(packet_to(links, room, publisher, worker), follow_ups);
+    }
+}
+
+/// The datagram for a worker that serves the publisher.
+fn packet_to(links: &Links, room: &Room, publisher: u16, worker: u16) -> Option<FollowUp>
+    ensures { result ≡ packet_to links.now room.now publisher worker }
+{
+    if is_served_by(links, room, publisher, worker) {
+        Some(FollowUp::Packet { worker, publisher })
+    } else {
+        None
+    }
+}
+
+/// Whether the worker owns one of this publisher's legs that has a stay.
+fn is_served_by(links: &Links, room: &Room, publisher: u16, worker: u16) -> bool
+    ensures { result ≡ is_served_by links.now room.now publisher worker }
+{
+    links.of_publisher(publisher).iter().any(|leg| room.stay(*leg) != 0
+        && owner_of(links, *leg) == worker)
+}
+
+/// The worker that owns the leg of this number.
+fn owner_of(links: &Links, leg: u16) -> u16
+    ensures { result ≡ owner_of links.now leg }
+{
+    match links.leg(leg) {
+        Some(link) => links.worker_of(link),
+        None => 0,
+    }
+}
+
+/// What is asked for becomes jobs; an ask about no leg of the endpoint, or one without a stay, is refused by itself.
+pub(crate) fn push_asks(
+    links: &Links,
+    room: &Room,
+    endpoint: u16,
+    asks: &[Ask],
+    follow_ups: &mut Vec<FollowUp>,
+    outs: &mut Vec<Out>,
+)
+    requires follow_ups { vec_len follow_ups.old + length asks.now ≤ vec_capacity follow_ups.old }
+    requires outs { vec_len outs.old + length asks.now ≤ vec_capacity outs.old }
+    ensures follow_ups { follow_ups.new.items ≡ follow_ups.old.items
+        ++ filter_map (follow_up_for links.now room.now endpoint) asks.now }
+    ensures outs { outs.new.items ≡ outs.old.items
+        ++ flat_map (λ a. refusal_unless (follow_up_for links.now room.now endpoint a)) asks.now }
+{
+    for ask in asks {
+        push_or_refuse(follow_up(links, room, endpoint, ask), follow_ups, outs);
+    }
+}
+
+/// Puts a follow-up behind those that wait, or says that there is none; there is room for it.
+fn push_or_refuse(next: Option<FollowUp>, follow_ups: &mut Vec<FollowUp>, outs: &mut Vec<Out>)
+    requires follow_ups { vec_len follow_ups.old < vec_capacity follow_ups.old }
+    requires outs { vec_len outs.old < vec_capacity outs.old }
+    ensures follow_ups { follow_ups.new.items ≡ follow_ups.old.items ++ option_to_list next }
+    ensures outs { outs.new.items ≡ outs.old.items ++ refusal_unless next }
+    ensures len { vec_len follow_ups.new ≤ vec_len follow_ups.old + 1 }
+    ensures outs_len { vec_len outs.new ≤ vec_len outs.old + 1 }
+    ensures capacity { vec_capacity follow_ups.new ≡ vec_capacity follow_ups.old }
+    ensures outs_capacity { vec_capacity outs.new ≡ vec_capacity outs.old }
+{
+    match next {
+        Some(next) => follow_ups.push_reserved(next),
+        None => outs.push_reserved(Out::Refused(Refusal::Room(RoomFault::UnknownLeg))),
+    }
+}
+
+/// The job for an ask.
+fn follow_up(links: &Links, room: &Room, endpoint: u16, ask: &Ask) -> Option<FollowUp>
+    ensures { result ≡ follow_up_for links.now room.now endpoint ask.now }
+{
+    let leg = links.leg_to(endpoint, media_of(ask))?;
+    let stay = room.stay(leg);
+    if stay == 0 {
+        return None;
+    }
+    Some(asked_of(room.moment(), owner_of(links, leg), leg, stay, ask))
+}
+
+/// Whose media an ask is about.
+fn media_of(ask: &Ask) -> Ssrc
+    ensures { result.0 ≡ media_of ask.now }
+{
+    match ask {
+        Ask::Rate { media, .. } => *media,
+        Ask::Resend { media, .. } => *media,
+        Ask::Picture { media } => *media,
+    }
+}
+
+/// The job for an ask about a leg in which this stay stands.
+fn asked_of(moment: u64, worker: u16, leg: u16, stay: u64, ask: &Ask) -> FollowUp
+    ensures { result ≡ asked_of moment worker leg stay ask.now }
+{
+    match ask {
+        Ask::Rate { word, .. } => FollowUp::Request {
+            worker,
+            leg,
+            stay,
+            word: *word,
+        },
+        Ask::Resend { nack, .. } => FollowUp::Resend {
+            worker,
+            leg,
+            stay,
+            nack: *nack,
+        },
+        Ask::Picture { .. } => FollowUp::Pli {
+            worker,
+            leg,
+            moment,
+        },
+    }
+}
+
+/// Puts a follow-up behind those that wait, where there is one; there is room for it.
+pub(crate) fn push_some(next: Option<FollowUp>, follow_ups: &mut Vec<FollowUp>)
+    requires { vec_len follow_ups.old < vec_capacity follow_ups.old }
+    ensures items { follow_ups.new.items ≡ follow_ups.old.items ++ option_to_list next }
+    ensures len { vec_len follow_ups.new ≤ vec_len follow_ups.old + 1 }
+    ensures capacity { vec_capacity follow_ups.new ≡ vec_capacity follow_ups.old }
+{
+    if let Some(next) = next {
+        follow_ups.push_reserved(next);
+    }
+}

@@ -1,0 +1,210 @@
+//! What tests do with the machine step by step, and what it shows: the settings and the first steps of the examples.
+
+ghost use Rattle.std.specs.Prelude.{◌<◌};
+
+use super::*;
+use members::{LegParts, Parts, Settings, SettingsFault};
+use rtcp_feedback::write_tmmbn;
+use std::alloc::{AllocError, Global};
+use std::fmt::{self, Write};
+use std::test::Fail;
+use tmmbr_tuple::Ssrc;
+
+/// What is done with the machine.
+#[derive(Clone, Copy)]
+pub(crate) enum Step<'a> {
+    Hear(u64, u16, &'a str),
+    Tick(u64),
+    Select(u64, u16, bool),
+    Ingress,
+    Work(u16),
+    /// The ingress until nothing waits for it, then each worker until it has nothing to do.
+    Settle,
+    /// The TMMBN of a publisher, under its own source.
+    Show(u16),
+}
+
+pub(crate) use Step::{Hear, Ingress, Select, Settle, Show, Tick, Work};
+
+/// Both endpoints come, and 17 asks 16 for 1000/40.
+pub(crate) const ASKED: [Step<'static>; 6] = [
+    Hear(0, 0, "8060000700000bb800000010aabb"),
+    Settle,
+    Hear(0, 1, "80c9000100000011"),
+    Settle,
+    Hear(10, 1, "83cd00040000001100000000000001010007d028"),
+    Settle,
+];
+
+/// The settings of the examples: endpoints 16 and 17, and a leg of what the first publishes to the second.
+pub(crate) fn settings(
+    alloc: Global,
+    timeout_ms: i64,
+    report_ms: i64,
+    request_ms: i64,
+) -> Result<Settings, SettingsFault> {
+    let mut parts = parts(alloc).map_err(|_| SettingsFault::NoMemory)?;
+    parts.timeout_ms = Some(timeout_ms);
+    parts.report_ms = Some(report_ms);
+    parts.request_ms = Some(request_ms);
+    Settings::new(alloc, &parts)
+}
+
+/// Those settings without their times.
+fn parts(alloc: Global) -> Result<Parts, AllocError> {
+    let leg = LegParts {
+        subscriber: Some(1),
+        publisher: Some(0),
+        out_ssrc: Some(257),
+        first_seq: Some(100),
+        on: None,
+    };
+    Ok(Parts {
+        workers: Some(2),
+        ring: Some(8),
+        history: Some(128),
+        timeout_ms: None,
+        report_ms: None,
+        request_ms: None,
+        pli_gap_ms: Some(500),
+        unit_ssrc: Some(9),
+        cname: Some(String::from_str(alloc, "sfu")?),
+        endpoints: [Some(16), Some(17)].to_vec(alloc)?,
+        legs: [leg].to_vec(alloc)?,
+    })
+}
+
+fn digit(byte: u8) -> u8
+    ensures { result < 16 }
+{
+    match byte {
+        b'0'..=b'9' => byte - b'0',
+        b'a'..=b'f' => byte - b'a' + 10,
+        _ => 0,
+    }
+}
+
+/// The bytes that these hexadecimal digits spell.
+pub(crate) fn bytes_of(alloc: Global, hex: &str) -> Result<Vec<u8>, AllocError> {
+    let mut bytes = Vec::new(alloc);
+    for pair in hex.as_bytes().chunks(2) {
+        if let [high, low] = pair {
+            bytes.push(digit(*high) * 16 + digit(*low))?;
+        }
+    }
+    Ok(bytes)
+}
+
+/// Does the events. It promises nothing, so that who calls it is proved without what `run` says.
+pub(crate) fn do_events(
+    world: &mut World,
+    events: &[Event],
+    outs: &mut Vec<Out>,
+) -> Result<(), RunFault> {
+    run(world, events, outs)
+}
+
+/// The ingress until nothing waits for it, then each worker until it is idle.
+pub(crate) fn settle(world: &mut World, outs: &mut Vec<Out>) -> Result<(), Fail> {
+    for _ in 0..10_000 {
+        if world.waiting().tasks == 0 {
+            break;
+        }
+        do_events(world, &[Event::Ingress], outs)?;
+    }
+    for worker in 0..2 {
+        for _ in 0..10_000 {
+            do_events(world, &[Event::Work(worker)], outs)?;
+            if let Some(Out::Idle) = outs.last() {
+                let _idle = outs.pop();
+                break;
+            }
+        }
+    }
+    Ok(())
+}
+
+/// The event of a step; `None` where it settles or shows.
+pub(crate) fn event_of(alloc: Global, step: &Step<'_>) -> Result<Option<Event>, AllocError> {
+    Ok(match *step {
+        Hear(moment, endpoint, hex) => Some(Event::Hear {
+            moment,
+            endpoint,
+            bytes: Bytes::new(bytes_of(alloc, hex)?),
+        }),
+        Tick(moment) => Some(Event::Tick { moment }),
+        Select(moment, leg, on) => Some(Event::Select { moment, leg, on }),
+        Ingress => Some(Event::Ingress),
+        Work(worker) => Some(Event::Work(worker)),
+        Settle | Show(_) => None,
+    })
+}
+
+/// Does one step; what it gives out stands in `outs`, what it shows in `text`.
+pub(crate) fn do_step(
+    alloc: Global,
+    world: &mut World,
+    step: &Step<'_>,
+    outs: &mut Vec<Out>,
+    text: &mut String,
+) -> Result<(), Fail> {
+    match event_of(alloc, step)? {
+        Some(event) => do_events(world, [event].as_slice(), outs)?,
+        None => match *step {
+            Show(publisher) => show(alloc, world, publisher, text)?,
+            _ => settle(world, outs)?,
+        },
+    }
+    Ok(())
+}
+
+/// Writes the TMMBN of a publisher's announced set.
+fn show(alloc: Global, world: &World, publisher: u16, text: &mut String) -> Result<(), Fail> {
+    if usize::from(publisher) >= world.publishers() {
+        return Ok(());
+    }
+    let entries = entries_of(alloc, world.desk(publisher).announced().as_slice())?;
+    let mut bytes = Vec::new(alloc);
+    if entries.len() <= rtcp_feedback::MAX_ENTRIES {
+        write_tmmbn(
+            &mut bytes,
+            Ssrc(16 + u32::from(publisher)),
+            entries.as_slice(),
+        )?;
+    }
+    for byte in &bytes {
+        write!(text, "{byte:02x}")?;
+    }
+    text.push('\n')?;
+    Ok(())
+}
+
+/// What was given out, a line each.
+pub(crate) fn lines(alloc: Global, outs: &[Out]) -> Result<String, fmt::Error> {
+    let mut text = String::new(alloc);
+    for out in outs {
+        writeln!(text, "{out}")?;
+    }
+    Ok(text)
+}
+
+/// What the world shows: rows, what waits, counts, and the calls, live requests and announced set of each desk.
+pub(crate) fn shown(alloc: Global, world: &World) -> Result<String, fmt::Error> {
+    let mut text = String::new(alloc);
+    write!(text, "{:?} {:?}", world.rows(), world.waiting())?;
+    write!(text, " lost {} heard {}", world.lost(), world.tmmbn_heard())?;
+    for publisher in 0u16..256 {
+        if usize::from(publisher) < world.publishers() {
+            let desk = world.desk(publisher);
+            let announced = desk.announced();
+            write!(
+                text,
+                "; {} {:?} {:?}",
+                desk.calls(),
+                desk.live(),
+                announced.as_slice()
+            )?;
+        }
+    }
+    Ok(text)
+}

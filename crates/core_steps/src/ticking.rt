@@ -1,0 +1,172 @@
+//! What the ingress takes in of a moment, and what is due to those present then.
+
+ghost use Rattle.std.specs.Prelude.{◌≡◌, ◌==◌, ◌+◌, ◌-◌, ◌≤◌, ◌<◌, ◌^◌, false, nat_le, [], ◌++◌, List, length, OnOk, OnErr, if◌then◌else◌, vec_len, vec_capacity};
+ghost use Rattle.std.specs.List.{enumerate_from, filter_map};
+ghost use Rattle.core_steps.specs.declared.output.Out.{Out as Given};
+ghost use Rattle.core_steps.specs.Machine.{state_of};
+ghost use Rattle.core_steps.specs.FollowUps.{due_at, due_to, report_to};
+ghost use Rattle.core_steps.specs.Hearing.{ticking, numbers_below};
+ghost use Rattle.core_steps.specs.Rule.{is_busy};
+ghost use Rattle.core_steps.specs.Run.{Leaves};
+
+use crate::follow_ups::push_some;
+use crate::links::Links;
+use crate::machine::{Machine, Setup};
+use crate::tasks::FollowUp;
+use members::{LegSettings, Room};
+use std::alloc::AllocError;
+
+/// It is this moment, and nothing waits.
+pub(crate) fn tick(m: &mut Machine, moment: u64) -> Result<(), AllocError>
+    requires { is_busy (state_of m.old) ≡ false }
+    ensures ok { (outs : List Given)
+        → OnOk result
+        (Leaves (λ h. h ≡ ticking (state_of m.old) moment) (state_of m.old) outs
+        (state_of m.new) outs) }
+    ensures err { OnErr result (state_of m.new ≡ state_of m.old) }
+{
+    m.knows_counts();
+    let endpoints = m.setup.links.endpoints().len() as u16;
+    let legs = m.setup.links.legs().len();
+    m.tasks.prepare(3 * usize::from(endpoints) + legs)?;
+    m.room.tick(moment, &mut m.tasks.orders)?;
+    push_due(&m.room, endpoints, Due::Pulse, &mut m.tasks.follow_ups);
+    push_expiring(&m.setup, &m.room, endpoints, &mut m.tasks.follow_ups);
+    let is_due = is_report_due(&m.setup, &m.room, m.reported);
+    push_reports(
+        &m.setup.links,
+        &m.room,
+        endpoints,
+        is_due,
+        &mut m.tasks.follow_ups,
+    );
+    m.reported = reported_after(is_due, m.room.moment(), m.reported);
+    Ok(())
+}
+
+/// Whether reports are due, which went out last at this moment.
+fn is_report_due(setup: &Setup, room: &Room, reported: u64) -> bool
+    ensures { result ≡ nat_le setup.now.report_ms (room.now.moment - reported) }
+{
+    room.moment().saturating_sub(reported) >= setup.report_ms
+}
+
+/// The moment of the last reports.
+fn reported_after(is_due: bool, moment: u64, reported: u64) -> u64
+    ensures { result ≡ (if is_due then moment else reported) }
+{
+    if is_due { moment } else { reported }
+}
+
+/// What is due to those present.
+#[derive(Clone, Copy)]
+enum Due {
+    /// Their desks are told the moment.
+    Pulse,
+    /// Their desks take requests away that are too old.
+    Expire,
+    /// They are sent a report.
+    Report,
+}
+
+/// This is due to those present of so many endpoints.
+fn push_due(room: &Room, endpoints: u16, due: Due, follow_ups: &mut Vec<FollowUp>)
+    requires { vec_len follow_ups.old + endpoints ≤ vec_capacity follow_ups.old }
+    ensures items { follow_ups.new.items ≡ follow_ups.old.items
+        ++ filter_map (due_to room.now due) (numbers_below endpoints) }
+    ensures len { vec_len follow_ups.new ≤ vec_len follow_ups.old + endpoints }
+    ensures capacity { vec_capacity follow_ups.new ≡ vec_capacity follow_ups.old }
+{
+    for endpoint in 0..endpoints {
+        push_some(due_to(room, due, endpoint), follow_ups);
+    }
+}
+
+/// This is due to an endpoint, where it is present.
+fn due_to(room: &Room, due: Due, endpoint: u16) -> Option<FollowUp>
+    ensures { result ≡ due_to room.now due endpoint }
+{
+    if room.is_present(endpoint) {
+        Some(due_at(due, endpoint))
+    } else {
+        None
+    }
+}
+
+/// This is due to an endpoint.
+fn due_at(due: Due, endpoint: u16) -> FollowUp
+    ensures { result ≡ due_at due endpoint }
+{
+    match due {
+        Due::Pulse => FollowUp::Pulse(endpoint),
+        Due::Expire => FollowUp::Expire(endpoint),
+        Due::Report => FollowUp::Report(endpoint),
+    }
+}
+
+/// Requests that are too old are taken away, where the settings say so.
+fn push_expiring(setup: &Setup, room: &Room, endpoints: u16, follow_ups: &mut Vec<FollowUp>)
+    requires { vec_len follow_ups.old + endpoints ≤ vec_capacity follow_ups.old }
+    ensures items { follow_ups.new.items ≡ follow_ups.old.items
+        ++ (if setup.now.request_ms == 0 then []
+        else filter_map (due_to room.now Due.Expire) (numbers_below endpoints)) }
+    ensures len { vec_len follow_ups.new ≤ vec_len follow_ups.old + endpoints }
+    ensures capacity { vec_capacity follow_ups.new ≡ vec_capacity follow_ups.old }
+{
+    if setup.request_ms != 0 {
+        push_due(room, endpoints, Due::Expire, follow_ups);
+    }
+}
+
+/// Where reports are due, those present are sent one, and the subscriber of each leg in which a stay stands.
+fn push_reports(
+    links: &Links,
+    room: &Room,
+    endpoints: u16,
+    is_due: bool,
+    follow_ups: &mut Vec<FollowUp>,
+)
+    requires { vec_len follow_ups.old + endpoints + length links.now.legs
+        ≤ vec_capacity follow_ups.old }
+    ensures { follow_ups.new.items ≡ follow_ups.old.items
+        ++ (if is_due then filter_map (due_to room.now Due.Report) (numbers_below endpoints)
+        ++ filter_map (report_to links.now room.now) (enumerate_from 0 links.now.legs) else []) }
+{
+    if is_due {
+        push_due(room, endpoints, Due::Report, follow_ups);
+        push_leg_reports(links, room, links.legs(), follow_ups);
+    }
+}
+
+/// The subscriber of each of these legs in which a stay stands is sent a report.
+fn push_leg_reports(
+    links: &Links,
+    room: &Room,
+    legs: &[LegSettings],
+    follow_ups: &mut Vec<FollowUp>,
+)
+    requires few { length legs.now < 2 ^ 16 }
+    requires room { vec_len follow_ups.old + length legs.now ≤ vec_capacity follow_ups.old }
+    ensures { follow_ups.new.items ≡ follow_ups.old.items
+        ++ filter_map (report_to links.now room.now) (enumerate_from 0 legs.now) }
+{
+    for (number, leg) in legs.iter().enumerate() {
+        push_some(report_to(links, room, number as u16, leg), follow_ups);
+    }
+}
+
+/// The report for the subscriber of a leg.
+fn report_to(links: &Links, room: &Room, leg: u16, settings: &LegSettings) -> Option<FollowUp>
+    ensures { result ≡ report_to links.now room.now (leg, settings.now) }
+{
+    let stay = room.stay(leg);
+    if stay == 0 {
+        return None;
+    }
+    Some(FollowUp::LegReport {
+        worker: links.worker_of(settings),
+        leg,
+        stay,
+        sr: room.last_sr(settings.publisher),
+    })
+}
