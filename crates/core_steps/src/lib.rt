@@ -52,28 +52,3 @@ pub use ring::JOB_LIMIT;
 pub use runner::{RunFault, run};
 pub use working::{Asks, asked_by};
 pub use world::{Waiting, World};
-
-#[cfg(test)]
-mod cut_tests;
-#[cfg(test)]
-mod intake_tests;
-#[cfg(test)]
-mod legs_tests;
-#[cfg(test)]
-mod listener;
-#[cfg(test)]
-mod memory_tests;
-#[cfg(test)]
-mod notification_tests;
-#[cfg(test)]
-mod prefix_tests;
-#[cfg(test)]
-mod quiet_run_tests;
-#[cfg(test)]
-mod quiet_tests;
-#[cfg(test)]
-mod random_room;
-#[cfg(test)]
-mod run_tests;
-#[cfg(test)]
-mod steps;

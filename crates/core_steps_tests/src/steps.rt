@@ -2,7 +2,7 @@
 
 ghost use Rattle.std.specs.Prelude.{◌<◌};
 
-use super::*;
+use core_steps::*;
 use members::{LegParts, Parts, Settings, SettingsFault};
 use rtcp_feedback::write_tmmbn;
 use std::alloc::{AllocError, Global};

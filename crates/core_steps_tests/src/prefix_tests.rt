@@ -1,6 +1,6 @@
 //! Each prefix of the datagrams of docs/EXAMPLES.md.
 
-use super::*;
+use core_steps::*;
 use crate::random_room::hear;
 use crate::steps::{ASKED, bytes_of, do_events, do_step, lines, settings, settle, shown};
 use std::alloc::Global;

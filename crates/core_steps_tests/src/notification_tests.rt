@@ -1,5 +1,5 @@
 //! Calls of a desk in, the datagrams that follow out, as lines of hexadecimal digits.
-use super::*;
+use core_steps::*;
 use members::{Block, LegParts, Parts, Row, Settings, SettingsFault};
 use rate_desk::{Desk, Effect};
 use std::alloc::{AllocError, Global};

@@ -1,6 +1,6 @@
 //! What is live at the end of the examples, where nothing waits.
 
-use super::*;
+use core_steps::*;
 use crate::steps::{ASKED, Hear, Ingress, Settle, Step, Tick, do_step, settings};
 use std::alloc::Global;
 use std::fmt::Write;

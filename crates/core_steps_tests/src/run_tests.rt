@@ -1,6 +1,6 @@
 //! Events in, lines out: the machine's examples, step by step.
 
-use super::*;
+use core_steps::*;
 use crate::steps::{
     ASKED, Hear, Ingress, Select, Settle, Show, Step, Tick, Work, do_step, settings,
 };

@@ -1,6 +1,6 @@
 //! A room for runs by chance, and the packets that its endpoints send.
 
-use super::*;
+use core_steps::*;
 use members::{LegParts, Parts, Settings};
 use std::alloc::{AllocError, Global};
 use std::test::Fail;

@@ -1,5 +1,5 @@
 //! Jobs in; datagrams, skips and misses out.
-use super::*;
+use core_steps::*;
 use members::{LegParts, Parts, Row, Settings};
 use rtcp_feedback::Nack;
 use std::alloc::{AllocError, Global};

@@ -1,6 +1,6 @@
 //! Events by chance in one call and in many.
 
-use super::*;
+use core_steps::*;
 use crate::random_room::{Draws, hear, media, packet, room, source, tmmbr};
 use crate::steps::{do_events, lines};
 use members::Settings;

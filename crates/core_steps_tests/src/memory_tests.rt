@@ -1,6 +1,6 @@
 //! Growths that are refused. Run with `rt try --test --fail-alloc 1.. -- each_growth_refused`, which refuses each in turn.
 
-use super::*;
+use core_steps::*;
 use crate::steps::{Hear, Ingress, Step, Work, do_events, event_of, lines, settings, shown};
 use std::alloc::Global;
 use std::process::Abort;
