@@ -16,6 +16,7 @@ use Rattle.core_steps.specs.declared.output.Out.TheVariants.{Send}
 use Rattle.core_steps.specs.declared.notification.Notification.{Notification}
 use Rattle.core_steps.specs.Head.{Identity, report_head}
 use Rattle.core_steps.specs.Links.{LinkTable, legs_of}
+use Rattle.rtcp_compound.specs.declared.packet.TheConstants.{RTPFB, PSFB}
 
 -- the word of the greatest rate that can be spelled, without overhead: it lifts a bound
 abbrev pub no_limit : ℕ
@@ -49,7 +50,7 @@ pub record IsAmong (table : LinkTable) (n : Notification) : Type 0 where
 -- a TMMBR of this owner that asks the publisher for the rate and the overhead of the word
 abbrev pub tmmbr_bytes : Ssrc → ℕ → Ssrc → List ℕ
 tmmbr_bytes publisher word owner =
-    packet_bytes 3 205 (tmmb_body owner.0 (record { ssrc = publisher; word = word } ∷ []))
+    packet_bytes 3 RTPFB (tmmb_body owner.0 (record { ssrc = publisher; word = word } ∷ []))
 
 -- what the publisher is asked for: no limit by each owner that is lifted, then each fresh request
 abbrev pub lifted_bytes : Ssrc → List Ssrc → List ℕ
@@ -65,11 +66,11 @@ requests_bytes publisher e =
 
 -- a PLI of the unit about this source
 abbrev pub pli_bytes : Identity → Ssrc → List ℕ
-pli_bytes unit source = packet_bytes 1 206 (pli_body unit.ssrc source.0)
+pli_bytes unit source = packet_bytes 1 PSFB (pli_body unit.ssrc source.0)
 
 -- a TMMBN of the source that a leg's subscriber sees
 abbrev pub tmmbn_bytes : Ssrc → List TmmbrEntry → List ℕ
-tmmbn_bytes sender entries = packet_bytes 4 205 (tmmb_body sender.0 entries)
+tmmbn_bytes sender entries = packet_bytes 4 RTPFB (tmmb_body sender.0 entries)
 
 -- the notice with these entries that goes to the subscriber of this leg
 abbrev pub notice_to : LinkTable → Identity → List TmmbrEntry → ℕ → List Out

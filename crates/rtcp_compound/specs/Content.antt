@@ -7,6 +7,7 @@ use Rattle.rtcp_compound.specs.declared.view.RtcpView.TheVariants.{Sr, Rr, Sdes,
 use Rattle.rtcp_compound.specs.Entries.{entries_from}
 use Rattle.rtcp_compound.specs.Grammar.{RtcpPacket}
 use Rattle.rtcp_compound.specs.Report.{ReportBlock, blocks_in, blocks_left}
+use Rattle.rtcp_compound.specs.declared.packet.TheConstants.{SR, RR, SDES, BYE, RTPFB, PSFB}
 
 -- the sources that stand whole in the bytes
 unfoldable pub sources_in : List ℕ → List ℕ
@@ -30,16 +31,16 @@ pub data Content : Type 0 where
 -- body; count, type and body
 unfoldable pub packet_content : RtcpPacket → Content
 packet_content p =
-    if p.kind == 200 then
+    if p.kind == SR then
     sender_report (big_number 4 p.body) (big_number 8 (drop 4 p.body))
     (big_number 4 (drop 12 p.body))
     (big_number 4 (drop 16 p.body)) (big_number 4 (drop 20 p.body))
     (blocks_in (take (24 * p.count) (drop 24 p.body)))
-    else if p.kind == 201
+    else if p.kind == RR
     then receiver_report (big_number 4 p.body) (blocks_in (take (24 * p.count) (drop 4 p.body)))
-    else if p.kind == 202 then description p.count p.body
-    else if p.kind == 203 then goodbye (sources_in (take (4 * p.count) p.body))
-    else if (p.kind == 205) || (p.kind == 206) then feedback p.count p.kind p.body
+    else if p.kind == SDES then description p.count p.body
+    else if p.kind == BYE then goodbye (sources_in (take (4 * p.count) p.body))
+    else if (p.kind == RTPFB) || (p.kind == PSFB) then feedback p.count p.kind p.body
     else other p.count p.kind p.body
 
 -- what a view stands for

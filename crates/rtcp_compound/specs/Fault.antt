@@ -6,6 +6,7 @@ use Rattle.byteorder.specs.Endian.{big_number}
 use Rattle.rtcp_compound.specs.declared.fault.RtcpFault.{RtcpFault}
 use Rattle.rtcp_compound.specs.declared.fault.RtcpFault.TheVariants.{Short, Version, Length, PaddingNotLast, Padding, CountOver, SdesUnended}
 use Rattle.rtcp_compound.specs.Grammar.{RtcpPacket, packet_bytes, last_byte, IsPacket, IsBody}
+use Rattle.rtcp_compound.specs.declared.packet.TheConstants.{SDES}
 
 -- the numbers of the faults, as texts show them
 abbrev pub rtcp_fault_number : RtcpFault → ℕ
@@ -65,9 +66,9 @@ HasRtcpFault bytes PaddingNotLast =
 HasRtcpFault bytes Padding = IsWithin bytes × SaysPadded bytes × (size_of bytes ≡ length bytes)
     × (ends_in_padding (drop 4 bytes) ≡ false)
 HasRtcpFault bytes CountOver =
-    (body : List ℕ) × HasFrame bytes body × (slice_index bytes 1 ≢ 202) × IsNoBody bytes body
+    (body : List ℕ) × HasFrame bytes body × (slice_index bytes 1 ≢ SDES) × IsNoBody bytes body
 HasRtcpFault bytes SdesUnended =
-    (body : List ℕ) × HasFrame bytes body × (slice_index bytes 1 ≡ 202) × IsNoBody bytes body
+    (body : List ℕ) × HasFrame bytes body × (slice_index bytes 1 ≡ SDES) × IsNoBody bytes body
 
 -- whole packets without padding
 abbrev pub AreUnpadded : List RtcpPacket → Type 0

@@ -1,6 +1,7 @@
 -- RTCP datagrams as trees and their bytes (RFC 3550, sections 6.1 and 6.4 to 6.6).
 use Rattle.std.specs.Prelude.{◌≡◌, ℕ, ◌+◌, ◌-◌, ◌*◌, ◌/◌, ◌%◌, ◌^◌, ◌<◌, ◌≤◌, ◌⊎◌, nat_lt, List, [], ◌∷◌, ◌++◌, length, slice_index, if◌then◌else◌}
 use Rattle.std.specs.List.{flat_map}
+use Rattle.rtcp_compound.specs.declared.packet.TheConstants.{SR, RR, SDES, BYE}
 
 -- A packet: the count of its entries (or the FMT of feedback), its type, its body, and its padding, which most have not.
 pub record RtcpPacket : Type 0 where
@@ -68,10 +69,10 @@ HasSources count body =
 -- bytes more) so many blocks of 24 bytes, and behind them an extension, which is ignored (RFC 3550, sections 6.4.1 and
 -- 6.4.2); chunks; sources; and anything at all in packets of other types.
 pub record IsBody (kind count : ℕ) (body : List ℕ) : Type 0 where
-  pub sender_report : kind ≡ 200 → 24 + 24 * count ≤ length body
-  pub receiver_report : kind ≡ 201 → 4 + 24 * count ≤ length body
-  pub description : kind ≡ 202 → HasChunks count body
-  pub goodbye : kind ≡ 203 → HasSources count body
+  pub sender_report : kind ≡ SR → 24 + 24 * count ≤ length body
+  pub receiver_report : kind ≡ RR → 4 + 24 * count ≤ length body
+  pub description : kind ≡ SDES → HasChunks count body
+  pub goodbye : kind ≡ BYE → HasSources count body
 
 abbrev pub last_byte : List ℕ → ℕ
 last_byte bytes = slice_index bytes (length bytes - 1)

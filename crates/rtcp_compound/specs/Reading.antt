@@ -6,6 +6,7 @@ use Rattle.rtcp_compound.specs.declared.fault.RtcpFault.TheVariants.{Short, Vers
 use Rattle.rtcp_compound.specs.declared.packet.Packet.{Packet as ReadPacket}
 use Rattle.rtcp_compound.specs.Fault.{ends_in_padding, size_of}
 use Rattle.rtcp_compound.specs.Grammar.{RtcpPacket, last_byte}
+use Rattle.rtcp_compound.specs.declared.packet.TheConstants.{SR, RR, SDES, BYE}
 
 infixl 10 ◌>>=◌
 abbrev pub ◌>>=◌ : {A B : Type 0} → Result A RtcpFault → (A → Result B RtcpFault)
@@ -63,11 +64,11 @@ fits_bye count body =
 
 unfoldable pub fault_in : ℕ → ℕ → List ℕ → Option RtcpFault
 fault_in kind count body =
-    if kind == 200 then (if nat_lt (length body) (24 + 24 * count) then Some CountOver else None)
-    else if kind == 201
+    if kind == SR then (if nat_lt (length body) (24 + 24 * count) then Some CountOver else None)
+    else if kind == RR
     then (if nat_lt (length body) (4 + 24 * count) then Some CountOver else None)
-    else if kind == 202 then (if is_some (after_chunks count body) then None else Some SdesUnended)
-    else if kind == 203 then (if fits_bye count body then None else Some CountOver)
+    else if kind == SDES then (if is_some (after_chunks count body) then None else Some SdesUnended)
+    else if kind == BYE then (if fits_bye count body then None else Some CountOver)
     else None
 
 abbrev pub unless : Option RtcpFault → RtcpPacket → Result RtcpPacket RtcpFault

@@ -5,6 +5,7 @@ use Rattle.byteorder.specs.Endian.{big_bytes}
 use Rattle.rtcp_compound.specs.Content.{Content, packet_content}
 use Rattle.rtcp_compound.specs.Grammar.{RtcpPacket, packet_bytes, IsPacket, Chunk, chunk_bytes}
 use Rattle.rtcp_compound.specs.Report.{ReportBlock, block_bytes}
+use Rattle.rtcp_compound.specs.declared.packet.TheConstants.{SR, RR, SDES, BYE}
 
 abbrev pub plain_packet : ℕ → ℕ → List ℕ → RtcpPacket
 plain_packet count kind body = record { count = count; kind = kind; body = body; padding = [] }
@@ -12,7 +13,7 @@ plain_packet count kind body = record { count = count; kind = kind; body = body;
 -- a sender report: sender, NTP and RTP timestamps, packets, octets, blocks (RFC 3550, section 6.4.1)
 unfoldable pub sr_packet : ℕ → ℕ → ℕ → ℕ → ℕ → List ReportBlock → RtcpPacket
 sr_packet sender ntp rtp packets octets blocks =
-    plain_packet (length blocks) 200
+    plain_packet (length blocks) SR
     (big_bytes 4 sender
     ++ (big_bytes 8 ntp
     ++ (big_bytes 4 rtp
@@ -21,7 +22,7 @@ sr_packet sender ntp rtp packets octets blocks =
 -- a receiver report (RFC 3550, section 6.4.2)
 unfoldable pub rr_packet : ℕ → List ReportBlock → RtcpPacket
 rr_packet sender blocks =
-    plain_packet (length blocks) 201 (big_bytes 4 sender ++ flat_map block_bytes blocks)
+    plain_packet (length blocks) RR (big_bytes 4 sender ++ flat_map block_bytes blocks)
 
 -- one source with its CNAME, an item of type 1, filled with zeros (RFC 3550, sections 6.5 and 6.5.1)
 unfoldable pub cname_chunk : ℕ → List ℕ → Chunk
@@ -32,11 +33,11 @@ cname_chunk source cname = record {
 }
 
 unfoldable pub cname_packet : ℕ → List ℕ → RtcpPacket
-cname_packet source cname = plain_packet 1 202 (chunk_bytes (cname_chunk source cname))
+cname_packet source cname = plain_packet 1 SDES (chunk_bytes (cname_chunk source cname))
 
 -- a goodbye without a reason (RFC 3550, section 6.6)
 unfoldable pub bye_packet : List ℕ → RtcpPacket
-bye_packet sources = plain_packet (length sources) 203 (flat_map (big_bytes 4) sources)
+bye_packet sources = plain_packet (length sources) BYE (flat_map (big_bytes 4) sources)
 
 -- Behind the old bytes this packet stands now. It is whole and without padding, and what it says is this content.
 pub record Appends (old new : List ℕ) (packet : RtcpPacket) (content : Content) : Type 0 where

@@ -5,6 +5,7 @@ use Rattle.std.specs.List.{flat_map}
 use Rattle.byteorder.specs.Endian.{big_bytes}
 use Rattle.rtcp_feedback.specs.declared.nack.Nack.{Nack}
 use Rattle.rtcp_feedback.specs.declared.tmmb.TmmbrEntry.{TmmbrEntry}
+use Rattle.rtcp_compound.specs.declared.packet.TheConstants.{RTPFB, PSFB}
 
 -- What a packet says, without what nobody looks at: a NACK's sender, source of media and entries; a PLI's sender and
 -- source of media; the sender and the entries of a TMMBR and of a TMMBN; and the sender of any other.
@@ -43,21 +44,21 @@ pub record IsBody (body : List ℕ) (sender media : ℕ) (fci : List ℕ) : Type
 -- payload-specific feedback, 206.
 abbrev pub IsKnown : ℕ → ℕ → Type 0
 IsKnown fmt kind =
-    ((kind ≡ 205) × ((fmt ≡ 1) ⊎ ((fmt ≡ 3) ⊎ (fmt ≡ 4)))) ⊎ ((kind ≡ 206) × (fmt ≡ 1))
+    ((kind ≡ RTPFB) × ((fmt ≡ 1) ⊎ ((fmt ≡ 3) ⊎ (fmt ≡ 4)))) ⊎ ((kind ≡ PSFB) × (fmt ≡ 1))
 
 -- A packet of this FMT, type and body says this. The source of media in a TMMBR and a TMMBN may be any, and so may the
 -- FCI of a PLI, and all behind the sender of an unknown packet.
 abbrev pub ReadsFeedback : ℕ → ℕ → List ℕ → Message → Type 0
 ReadsFeedback fmt kind body (nack sender media entries) =
-    (kind ≡ 205) × (fmt ≡ 1) × All IsNack entries
+    (kind ≡ RTPFB) × (fmt ≡ 1) × All IsNack entries
     × IsBody body sender media (flat_map nack_bytes entries)
 ReadsFeedback fmt kind body (pli sender media) =
-    (kind ≡ 206) × (fmt ≡ 1) × ((fci : List ℕ) × IsBody body sender media fci)
+    (kind ≡ PSFB) × (fmt ≡ 1) × ((fci : List ℕ) × IsBody body sender media fci)
 ReadsFeedback fmt kind body (tmmbr sender entries) =
-    (kind ≡ 205) × (fmt ≡ 3) × All IsEntry entries
+    (kind ≡ RTPFB) × (fmt ≡ 3) × All IsEntry entries
     × ((media : ℕ) × IsBody body sender media (flat_map entry_bytes entries))
 ReadsFeedback fmt kind body (tmmbn sender entries) =
-    (kind ≡ 205) × (fmt ≡ 4) × All IsEntry entries
+    (kind ≡ RTPFB) × (fmt ≡ 4) × All IsEntry entries
     × ((media : ℕ) × IsBody body sender media (flat_map entry_bytes entries))
 ReadsFeedback fmt kind body (unknown sender) =
     ¬ IsKnown fmt kind × ((media : ℕ) × (fci : List ℕ) × IsBody body sender media fci)

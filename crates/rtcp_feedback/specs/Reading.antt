@@ -10,6 +10,7 @@ use Rattle.rtcp_feedback.specs.declared.tmmb.TmmbEntries.{TmmbEntries}
 use Rattle.rtcp_feedback.specs.declared.feedback.Feedback.{Feedback}
 use Rattle.rtcp_feedback.specs.declared.feedback.Feedback.TheVariants.{Nack as Lost, Pli, Tmmbr, Tmmbn, Unknown}
 use Rattle.rtcp_feedback.specs.Grammar.{Message, nack, pli, tmmbr, tmmbn, unknown}
+use Rattle.rtcp_compound.specs.declared.packet.TheConstants.{RTPFB, PSFB}
 
 -- the entries of a NACK, four bytes each; fewer at the end are none
 abbrev pub nacks_in : List ℕ → List Nack
@@ -44,13 +45,13 @@ message_of (Unknown sender) = unknown sender.0
 -- what a packet of this FMT and type says behind its two sources
 unfoldable pub message_at : ℕ → ℕ → ℕ → ℕ → List ℕ → Result Message FbFault
 message_at fmt kind sender media fci =
-    if (kind == 205) && (fmt == 1)
+    if (kind == RTPFB) && (fmt == 1)
     then (if length fci % 4 == 0 then Ok (nack sender media (nacks_in fci)) else Err OddFci)
-    else if (kind == 205) && (fmt == 3)
+    else if (kind == RTPFB) && (fmt == 3)
     then (if length fci % 8 == 0 then Ok (tmmbr sender (entries_in fci)) else Err OddFci)
-    else if (kind == 205) && (fmt == 4)
+    else if (kind == RTPFB) && (fmt == 4)
     then (if length fci % 8 == 0 then Ok (tmmbn sender (entries_in fci)) else Err OddFci)
-    else if (kind == 206) && (fmt == 1) then Ok (pli sender media)
+    else if (kind == PSFB) && (fmt == 1) then Ok (pli sender media)
     else Ok (unknown sender)
 
 -- what a call gives is what reading gives, seen by view

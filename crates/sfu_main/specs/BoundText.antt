@@ -17,13 +17,14 @@ use Rattle.rtcp_feedback.specs.Writing.{packet_bytes, tmmb_body}
 use Rattle.sfu_main.specs.declared.fault.LineFault.{LineFault}
 use Rattle.sfu_main.specs.declared.fault.LineFault.TheVariants.{Hex, Rtcp, Feedback, Full, Text}
 use Rattle.sfu_main.specs.Lines.{Refused}
+use Rattle.rtcp_compound.specs.declared.packet.TheConstants.{RTPFB}
 
 -- the TMMBN that announces a set (RFC 5104, section 4.2.2): an entry for each request, its owner and its tuple
 abbrev pub entry_for : Request → TmmbrEntry
 entry_for r = record { ssrc = r.owner; word = word_of r.tuple }
 
 abbrev pub tmmbn_bytes : ℕ → List Request → List ℕ
-tmmbn_bytes sender announced = packet_bytes 4 205 (tmmb_body sender (map entry_for announced))
+tmmbn_bytes sender announced = packet_bytes 4 RTPFB (tmmb_body sender (map entry_for announced))
 
 -- the owner and the tuple of the row at a place
 unfoldable pub owner_at : List Request → ℕ → ℕ
