@@ -1,8 +1,8 @@
 //! Events by chance in one call and in many.
 
-use core_steps::*;
 use crate::random_room::{Draws, hear, media, packet, room, source, tmmbr};
 use crate::steps::{do_events, lines};
+use core_steps::*;
 use members::Settings;
 use std::alloc::{AllocError, Global};
 use std::fmt::{self, Write};

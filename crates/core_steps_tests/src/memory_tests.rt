@@ -1,7 +1,7 @@
 //! Growths that are refused. Run with `rt try --test --fail-alloc 1.. -- each_growth_refused`, which refuses each in turn.
 
-use core_steps::*;
 use crate::steps::{Hear, Ingress, Step, Work, do_events, event_of, lines, settings, shown};
+use core_steps::*;
 use std::alloc::Global;
 use std::process::Abort;
 use std::test::Fail;

@@ -1,8 +1,8 @@
 //! Each prefix of the datagrams of docs/EXAMPLES.md.
 
-use core_steps::*;
 use crate::random_room::hear;
 use crate::steps::{ASKED, bytes_of, do_events, do_step, lines, settings, settle, shown};
+use core_steps::*;
 use std::alloc::Global;
 use std::process::Abort;
 use std::test::Fail;

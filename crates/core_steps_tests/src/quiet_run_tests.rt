@@ -1,12 +1,12 @@
 //! Runs by chance from fixed seeds, each done until nothing waits: what is live then beside what the events say was heard
 //! last.
 
-use core_steps::*;
 use crate::listener::Listener;
 use crate::random_room::{
     Draws, FIRST_OUT, LEGS, REQUEST_MS, hear, media, packet, room, source, tmmbr,
 };
 use crate::steps::settle;
+use core_steps::*;
 use std::alloc::Global;
 use std::test::Fail;
 

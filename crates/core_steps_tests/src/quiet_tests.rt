@@ -1,7 +1,7 @@
 //! What is live at the end of the examples, where nothing waits.
 
-use core_steps::*;
 use crate::steps::{ASKED, Hear, Ingress, Settle, Step, Tick, do_step, settings};
+use core_steps::*;
 use std::alloc::Global;
 use std::fmt::Write;
 use std::process::Abort;
@@ -46,57 +46,66 @@ const LATER: [Step<'static>; 6] = [
     Settle,
 ];
 
-/// Each of these plays leaves nothing that waits, lost nothing, and leaves these requests live.
+/// A room of the examples with these limits, in milliseconds, before any step.
+fn world_with(alloc: Global, timeout_ms: i64, request_ms: i64) -> Result<World, Fail> {
+    Ok(World::new(alloc, &settings(alloc, timeout_ms, 60_000, request_ms)?)?)
+}
+
+/// These steps leave nothing that waits, lose nothing, and leave these requests live.
 fn leaves_live(
     rt: &impl Abort,
     alloc: Global,
     world: &mut World,
-    plays: &[(&[Step<'_>], &str)],
+    steps: &[Step<'_>],
+    wanted: &str,
 ) -> Result<(), Fail> {
-    for (steps, wanted) in plays {
-        play(alloc, world, *steps)?;
-        assert_eq!(rt; (world.waiting(), world.lost()), (NOTHING, 0));
-        assert_eq!(rt; live(alloc, world)?.as_str(), *wanted);
-    }
+    play(alloc, world, steps)?;
+    assert_eq!(rt; (world.waiting(), world.lost()), (NOTHING, 0));
+    assert_eq!(rt; live(alloc, world)?.as_str(), wanted);
     Ok(())
+}
+
+/// What 17 asks for in the examples, live.
+const ONE_ASKED: &str = "17 0007d028;";
+
+/// Examples 21, 22 and 23, one behind the other.
+fn quiet_after_examples(rt: &impl Abort, alloc: Global) -> Result<(), Fail> {
+    let mut world = world_with(alloc, 1000, 0)?;
+    leaves_live(rt, alloc, &mut world, ASKED.as_slice(), ONE_ASKED)?;
+    leaves_live(rt, alloc, &mut world, &LATER[..4], ONE_ASKED)?;
+    leaves_live(rt, alloc, &mut world, &LATER[4..], "")
+}
+
+/// Of two entries about one leg the second was heard last.
+fn quiet_after_two_entries(rt: &impl Abort, alloc: Global) -> Result<(), Fail> {
+    let mut world = world_with(alloc, 1000, 0)?;
+    leaves_live(rt, alloc, &mut world, &ASKED[..4], "")?;
+    let twice = "83cd00060000001100000000000001010007d028000001010007d00a";
+    let both = [Hear(10, 1, twice), Settle];
+    leaves_live(rt, alloc, &mut world, both.as_slice(), "17 0007d00a;")
+}
+
+/// An expire takes a request that is too old, and not before.
+fn quiet_after_expire(rt: &impl Abort, alloc: Global) -> Result<(), Fail> {
+    let mut world = world_with(alloc, 5000, 1000)?;
+    leaves_live(rt, alloc, &mut world, ASKED.as_slice(), ONE_ASKED)?;
+    let young = [Tick(999), Settle];
+    leaves_live(rt, alloc, &mut world, young.as_slice(), ONE_ASKED)?;
+    let old = [Tick(1000), Settle];
+    leaves_live(rt, alloc, &mut world, old.as_slice(), "")
 }
 
 #[test]
 fn quiet(rt: HostRuntime) -> Result<(), Fail> {
-    let alloc = rt.alloc();
-    let asked = "17 0007d028;";
-
-    // Examples 21, 22 and 23, one behind the other.
-    let mut world = World::new(alloc, &settings(alloc, 1000, 60_000, 0)?)?;
-    let plays = [
-        (ASKED.as_slice(), asked),
-        (&LATER[..4], asked),
-        (&LATER[4..], ""),
-    ];
-    leaves_live(&rt, alloc, &mut world, &plays)?;
-
-    // Of two entries about one leg the second was heard last.
-    let mut world = World::new(alloc, &settings(alloc, 1000, 60_000, 0)?)?;
-    let twice = "83cd00060000001100000000000001010007d028000001010007d00a";
-    let both = [Hear(10, 1, twice), Settle];
-    let plays = [(&ASKED[..4], ""), (both.as_slice(), "17 0007d00a;")];
-    leaves_live(&rt, alloc, &mut world, &plays)?;
-
-    // A request that an expire took.
-    let mut world = World::new(alloc, &settings(alloc, 5000, 60_000, 1000)?)?;
-    let (young, old) = ([Tick(999), Settle], [Tick(1000), Settle]);
-    let plays = [
-        (ASKED.as_slice(), asked),
-        (young.as_slice(), asked),
-        (old.as_slice(), ""),
-    ];
-    leaves_live(&rt, alloc, &mut world, &plays)
+    quiet_after_examples(&rt, rt.alloc())?;
+    quiet_after_two_entries(&rt, rt.alloc())?;
+    quiet_after_expire(&rt, rt.alloc())
 }
 
 #[test]
 fn premise_needed(rt: HostRuntime) -> Result<(), Fail> {
     let alloc = rt.alloc();
-    let mut world = World::new(alloc, &settings(alloc, 1000, 60_000, 0)?)?;
+    let mut world = world_with(alloc, 1000, 0)?;
     play(alloc, &mut world, &ASKED[..4])?;
     for _ in 0..1024 {
         play(

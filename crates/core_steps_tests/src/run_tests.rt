@@ -1,9 +1,9 @@
 //! Events in, lines out: the machine's examples, step by step.
 
-use core_steps::*;
 use crate::steps::{
     ASKED, Hear, Ingress, Select, Settle, Show, Step, Tick, Work, do_step, settings,
 };
+use core_steps::*;
 use std::alloc::Global;
 use std::fmt::{self, Write};
 use std::process::Abort;
