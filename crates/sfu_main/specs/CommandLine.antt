@@ -1,11 +1,13 @@
 -- What the words of a command line ask for. How words name subcommands and values is clap's own statement.
-use Rattle.std.specs.Prelude.{◌≡◌, ◌≢◌, ◌&&◌, [], ◌∷◌, ◌++◌, ◌≤◌, decimal, ℕ, ℤ, List, Option, Some, None, codes, pos, true, ◌<◌, ◌^◌, nat_lt, if◌then◌else◌, option_map, option_and_then}
+use Rattle.std.specs.Prelude.{◌≡◌, ◌≢◌, ◌&&◌, false, [], ◌∷◌, ◌++◌, ◌≤◌, decimal, ℕ, ℤ, List, Option, Some, None, codes, pos, true, ◌<◌, ◌^◌, nat_lt, if◌then◌else◌, option_map, option_and_then}
 use Rattle.std.specs.Str.{bytes_eq}
 use Rattle.std.specs.Str.Parse.{digits_value, without_leading_plus}
 use Rattle.clap.specs.ValueTests.{is_numeral}
 use Rattle.clap.specs.Words.{App, Row, Rule, Text, new_app, first_of, new_rule, one_of, subcommand_of, with_rule, with_subcommand}
 use Rattle.clap.specs.declared.builder.ArgAction.TheVariants.{Set}
 use Rattle.clap.specs.declared.builder.ValueParser.TheVariants.{Signed}
+use Rattle.clap.specs.declared.builder.command.Command.{Command}
+use Rattle.clap.specs.declared.builder.command.Command.TheViews.{out-Command}
 use Rattle.sfu_main.specs.declared.command_line.Action.{Action}
 use Rattle.sfu_main.specs.declared.command_line.Action.TheVariants.{Bound, Check, Replay, Serve}
 
@@ -18,6 +20,10 @@ number_rule name = record (new_rule name) {
   action = Some Set;
 }
 
+-- none of its arguments is one of a subcommand, too
+abbrev pub HasNoGlobals : Command → Type 0
+HasNoGlobals c = (out-Command c).has_globals ≡ false
+
 -- the program's command line
 abbrev pub bound_app : App
 bound_app = with_rule (new_app (codes "bound")) (number_rule (codes "sender"))
@@ -26,11 +32,9 @@ bound_app = with_rule (new_app (codes "bound")) (number_rule (codes "sender"))
 abbrev pub file_rule : Rule
 file_rule = record (new_rule (codes "FILE")) { required = true; action = Some Set }
 
-abbrev pub check_app : App
-check_app = with_rule (new_app (codes "check")) file_rule
-
-abbrev pub replay_app : App
-replay_app = with_rule (new_app (codes "replay")) file_rule
+-- a subcommand with a file
+abbrev pub file_app : Text → App
+file_app name = with_rule (new_app name) file_rule
 
 -- an option with a number from 1 to the greatest
 abbrev pub optional_rule : Text → ℤ → Rule
@@ -42,7 +46,7 @@ optional_rule name most = record (new_rule name) {
 
 abbrev pub serve_app : App
 serve_app =
-    with_rule (with_rule (with_rule (new_app (codes "serve")) file_rule)
+    with_rule (with_rule (file_app (codes "serve"))
     (optional_rule (codes "ticks") (pos 1000000)))
     (optional_rule (codes "status") (pos 86400))
 
@@ -53,8 +57,8 @@ sfu_top = record (new_app (codes "sfu")) {
 
 abbrev pub sfu : App
 sfu = with_subcommand
-    (with_subcommand (with_subcommand (with_subcommand sfu_top bound_app.top) check_app.top)
-    replay_app.top) serve_app.top
+    (with_subcommand (with_subcommand (with_subcommand sfu_top bound_app.top)
+    (file_app (codes "check")).top) (file_app (codes "replay")).top) serve_app.top
 
 -- what can be asked for
 pub data Request : Type 0 where

@@ -2,7 +2,7 @@
 
 ghost use Rattle.std.specs.Prelude.{◌≡◌, ◌∷◌, ◌<◌, ◌^◌, ℕ, List, [], IfErr, IfOk, MatchResult, Some, codes, map, true, option_map, false};
 ghost use Rattle.clap.specs.Words.{app_of, found_of, kind_of, rows_of, rule_of, subcommand_rows_of, takes};
-ghost use Rattle.sfu_main.specs.CommandLine.{Request, Types, asked_for, request_found, asked_named, file_rule, number_in, number_rule, optional_rule, action_request, sfu};
+ghost use Rattle.sfu_main.specs.CommandLine.{HasNoGlobals, Request, Types, asked_for, bound_app, file_app, request_found, asked_named, file_rule, number_in, number_rule, optional_rule, action_request, serve_app, sfu};
 
 use clap::builder::ValueParser;
 use clap::error::ErrorKind;
@@ -40,6 +40,16 @@ const MAX_TICKS: i64 = 1_000_000;
 /// How many seconds `--status` may name: a day.
 const MAX_STATUS: i64 = 86_400;
 
+// What the help says of each subcommand.
+const BOUND_HELP: &str =
+    "Prints the set that is announced for the requests in a list of datagrams, with a certificate";
+
+const CHECK_HELP: &str = "Says whether a certificate holds, or what its first fault is";
+
+const REPLAY_HELP: &str = "Plays a script through the unit, event by event";
+
+const SERVE_HELP: &str = "Runs the unit on a UDP socket";
+
 /// The action that the words ask for, of which the first is the program's name.
 pub fn read_words<'a, S: AsStr>(alloc: Global, words: &'a [S]) -> Result<Action<'a>, Error>
     ensures asked { IfOk result (λ action. asked_for (map S.text words.entry.now)
@@ -71,19 +81,41 @@ fn action_of<'a, S: AsStr>(alloc: Global, words: &'a [S]) -> Result<Action<'a>, 
 fn command<'a>(alloc: Global) -> Result<Command<'a>, AllocError>
     ensures { IfOk result (λ c. app_of c ≡ sfu) }
 {
-    let bound = Command::new(alloc, "bound").arg(number(alloc, "sender"))?;
-    let check = Command::new(alloc, "check").arg(file(alloc))?;
-    let replay = Command::new(alloc, "replay").arg(file(alloc))?;
-    let serve = Command::new(alloc, "serve")
-        .arg(file(alloc))?
-        .arg(optional_number(alloc, "ticks", MAX_TICKS))?
-        .arg(optional_number(alloc, "status", MAX_STATUS))?;
     Command::new(alloc, "sfu")
+        .about("A selective forwarding unit for RTP")
         .subcommand_required(true)
-        .subcommand(bound)?
-        .subcommand(check)?
-        .subcommand(replay)?
-        .subcommand(serve)
+        .subcommand(bound_command(alloc)?)?
+        .subcommand(file_command(alloc, "check", CHECK_HELP)?)?
+        .subcommand(file_command(alloc, "replay", REPLAY_HELP)?)?
+        .subcommand(serve_command(alloc)?)
+}
+
+/// `bound --sender N`.
+fn bound_command<'a>(alloc: Global) -> Result<Command<'a>, AllocError>
+    ensures app { IfOk result (λ c. app_of c ≡ bound_app) }
+    ensures local { IfOk result HasNoGlobals }
+{
+    Command::new(alloc, "bound")
+        .about(BOUND_HELP)
+        .arg(number(alloc, "sender"))
+}
+
+/// A subcommand of this name, with a file; the help says this about it.
+fn file_command<'a>(alloc: Global, name: &'a str, about: &'a str) -> Result<Command<'a>, AllocError>
+    ensures app { IfOk result (λ c. app_of c ≡ file_app name.entry.now) }
+    ensures local { IfOk result HasNoGlobals }
+{
+    Command::new(alloc, name).about(about).arg(file(alloc))
+}
+
+/// `serve FILE`, with how many turns and how many seconds between lines of counts.
+fn serve_command<'a>(alloc: Global) -> Result<Command<'a>, AllocError>
+    ensures app { IfOk result (λ c. app_of c ≡ serve_app) }
+    ensures local { IfOk result HasNoGlobals }
+{
+    file_command(alloc, "serve", SERVE_HELP)?
+        .arg(optional_number(alloc, "ticks", MAX_TICKS))?
+        .arg(optional_number(alloc, "status", MAX_STATUS))
 }
 
 /// A required word that names a file.
