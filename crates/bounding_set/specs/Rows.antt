@@ -1,28 +1,24 @@
 -- The live requests, as a map from owners to tuples.
-use Rattle.std.specs.Prelude.{◌≡◌, ◌≢◌, ◌==◌, ℕ, ◌+◌, ◌<◌, ◌≤◌, length, List, [], ◌∷◌, AllPairs, Option, None, Some, is_some, if◌then◌else◌}
-use Rattle.std.specs.List.{HoldsAt, AllWithin}
+use Rattle.std.specs.Prelude.{◌≡◌, ◌≢◌, ℕ, ◌+◌, length, List, Option, is_some, if◌then◌else◌}
 use Rattle.tmmbr_tuple.specs.declared.tuple.Tuple.{Tuple}
 use Rattle.rate_cert.specs.declared.request.Request.{Request}
+use Rattle.rate_cert.specs.Owners.{OwnersRise, first_of, IsOwnerAt, IsOwnerGap}
 
 -- owners rise, so none stands twice
 abbrev pub HasRisingOwners : List Request → Type 0
-HasRisingOwners rows = AllPairs (λ x y. x.owner.0 < y.owner.0) rows
+HasRisingOwners rows = OwnersRise (λ r. r.owner.0) rows
 
 -- what the owner asks for, where it is live
 abbrev pub tuple_of : List Request → ℕ → Option Tuple
-tuple_of [] owner = None
-tuple_of (r ∷ rows) owner = if r.owner.0 == owner then Some r.tuple else tuple_of rows owner
+tuple_of rows owner = first_of (λ r. r.owner.0) (λ r. r.tuple) rows owner
 
 -- the row at this place is the owner's
-pub record IsRowOf (rows : List Request) (owner place : ℕ) : Type 0 where
-  pub in_range : place < length rows
-  pub is_owner : HoldsAt (λ r. r.owner.0 ≡ owner) rows place
+abbrev pub IsRowOf : List Request → ℕ → ℕ → Type 0
+IsRowOf rows owner place = IsOwnerAt (λ r. r.owner.0) rows owner place
 
--- the owner's row would go to this place: lesser owners stand before it, and greater ones from it on
-pub record IsGapFor (rows : List Request) (owner place : ℕ) : Type 0 where
-  pub in_range : place ≤ length rows
-  pub lesser_before : AllWithin (λ r. r.owner.0 < owner) rows 0 place
-  pub greater_after : AllWithin (λ r. owner < r.owner.0) rows place (length rows)
+-- the owner's row would go to this place: lesser owners stand before it, greater ones from it on
+abbrev pub IsGapFor : List Request → ℕ → ℕ → Type 0
+IsGapFor rows owner place = IsOwnerGap (λ r. r.owner.0) rows owner place
 
 -- the owner asks for this now, and the others for what they did
 pub record Puts (old new : List Request) (owner : ℕ) (tuple : Option Tuple) : Type 0 where

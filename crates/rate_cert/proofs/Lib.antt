@@ -3,3 +3,4 @@ pub mod RequestLemmas
 pub mod ChoiceLemmas
 pub mod Pigeonhole
 pub mod Smallest
+pub mod OwnerLemmas

@@ -2,3 +2,4 @@ pub mod Requests
 pub mod Choice
 pub mod Certificate
 pub mod Fault
+pub mod Owners

@@ -1,9 +1,10 @@
 -- Who is present at a desk, with which stay, and what they ask for.
-use Rattle.std.specs.Prelude.{◌≡◌, ◌==◌, ℕ, ◌+◌, ◌<◌, ◌≤◌, nat_lt, nat_le, not, Bool, ◌&&◌, List, [], ◌∷◌, length, map, filter, All, AllPairs, Option, None, Some, option_map, if◌then◌else◌}
+use Rattle.std.specs.Prelude.{◌≡◌, ◌==◌, ℕ, ◌+◌, ◌<◌, ◌≤◌, nat_lt, nat_le, not, Bool, ◌&&◌, List, [], ◌∷◌, length, map, filter, All, Option, None, Some, option_map, if◌then◌else◌}
 use Rattle.std.specs.Option.{option_map_or}
-use Rattle.std.specs.List.{filter_map, HoldsAt, AllWithin}
+use Rattle.std.specs.List.{filter_map}
 use Rattle.tmmbr_tuple.specs.declared.ssrc.Ssrc.{Ssrc}
 use Rattle.rate_cert.specs.declared.request.Request.{Request}
+use Rattle.rate_cert.specs.Owners.{OwnersRise, first_of, IsOwnerAt, IsOwnerGap}
 use Rattle.rate_desk.specs.declared.presence.Asked.{Asked}
 use Rattle.rate_desk.specs.declared.presence.Present.{Present}
 use Rattle.rate_desk.specs.declared.presence.TheConstants.{PRESENT_LIMIT}
@@ -18,7 +19,7 @@ use Rattle.rate_desk.specs.declared.call.Answer.TheVariants.{NotPresent, Already
 
 -- owners rise, so none is present twice
 abbrev pub HasRisingOwners : List Present → Type 0
-HasRisingOwners present = AllPairs (λ x y. x.owner.0 < y.owner.0) present
+HasRisingOwners present = OwnersRise (λ p. p.owner.0) present
 
 -- stays are numbered from 1
 abbrev pub HasStays : List Present → Type 0
@@ -26,8 +27,7 @@ HasStays present = All (λ p. 1 ≤ p.stay) present
 
 -- what is known of the owner, where it is present
 abbrev pub presence_of : List Present → ℕ → Option Present
-presence_of [] owner = None
-presence_of (p ∷ present) owner = if p.owner.0 == owner then Some p else presence_of present owner
+presence_of present owner = first_of (λ p. p.owner.0) (λ p. p) present owner
 
 -- the stay with which the owner is present, 0 where it isn't
 abbrev pub stay_in : List Present → ℕ → ℕ
@@ -126,12 +126,9 @@ refusal_of present (Time moment signal) = None
 -- ---- places
 
 -- the owner is at this place
-pub record IsOwnerPlace (present : List Present) (owner place : ℕ) : Type 0 where
-  pub in_range : place < length present
-  pub is_owner : HoldsAt (λ p. p.owner.0 ≡ owner) present place
+abbrev pub IsOwnerPlace : List Present → ℕ → ℕ → Type 0
+IsOwnerPlace present owner place = IsOwnerAt (λ p. p.owner.0) present owner place
 
 -- the owner would go to this place: lesser owners stand before it, and greater ones from it on
-pub record IsGapFor (present : List Present) (owner place : ℕ) : Type 0 where
-  pub in_range : place ≤ length present
-  pub lesser_before : AllWithin (λ p. p.owner.0 < owner) present 0 place
-  pub greater_after : AllWithin (λ p. owner < p.owner.0) present place (length present)
+abbrev pub IsGapFor : List Present → ℕ → ℕ → Type 0
+IsGapFor present owner place = IsOwnerGap (λ p. p.owner.0) present owner place
