@@ -12,13 +12,15 @@ use Rattle.rate_cert.specs.Choice.{IsChoice}
 use Rattle.rate_cert.specs.Certificate.{places_of, Implies, MeetsConditions}
 use Rattle.rate_cert.proofs.Smallest.{IsSmallest-from_MeetsConditions}
 use Rattle.rate_cert.proofs.Pigeonhole.{AnyByRecursion, no_more_than_partners}
+use Rattle.rate_cert.proofs.OwnerLemmas.{same_place}
 use Rattle.bounding_set.specs.Rows.{HasRisingOwners}
 use Rattle.bounding_set.specs.Announced.{AnnouncesList, Follows, IsCovered}
 use Rattle.bounding_set.specs.Canonical.{IsAnnounced, IsCanonical}
 use Rattle.bounding_set.specs.Certificate.{kept_pairs, dropped_places, implied_by}
 use Rattle.bounding_set.specs.Kept.{KeepsRequests, pairs_of, listed_of}
 use Rattle.bounding_set.specs.State.{AnnouncesFor}
-use Rattle.bounding_set.proofs.KeptLemmas.{same_place, places_in_range, requests_by_place, as_many_places, as_many_requests, request_at}
+use Rattle.bounding_set.proofs.RowLemmas.{row_owner}
+use Rattle.bounding_set.proofs.KeptLemmas.{places_in_range, requests_by_place, as_many_places, as_many_requests, request_at}
 use Rattle.bounding_set.proofs.ImpliedLemmas.{AllPairs-append, IsEntryFor, entry_by, dropped_in_range, dropped_are_distinct, dropped_isn't_kept, kept_or_dropped}
 
 -- what stands past the end of lists
@@ -113,7 +115,7 @@ module _ (rows announced : List Request) (kept : List Kept) (implied : List Impl
       let there : get_or rows place r ≡ r = get_or_default rows place r a_request below in (
         has.0,
         some,
-        same_place rows here place r rising (in_range has.0 place some) below (ap (λ (q : Request). q.owner.0) (is ∙ sym there)),
+        same_place row_owner rows here place r rising (in_range has.0 place some) below (ap (λ (q : Request). q.owner.0) (is ∙ sym there)),
       )
 
   canonical : IsCanonical rows places

@@ -8,12 +8,12 @@ use Rattle.std.proofs.lemmas.List.Elements.{All-append, All-cons, All-contains, 
 use Rattle.std.proofs.lemmas.List.Sums.{sum_by-cons}
 use Rattle.rate_cert.specs.declared.certificate.TheConstants.{MAX_REQUESTS}
 use Rattle.rate_cert.specs.declared.request.Request.{Request}
+use Rattle.rate_cert.proofs.OwnerLemmas.{one_row, first_of-absent}
 use Rattle.bounding_set.specs.Rows.{HasRisingOwners, tuple_of}
 use Rattle.bounding_set.specs.Envelope.{IsEnvelopeOf}
 use Rattle.bounding_set.specs.Spliced.{IsSpliced}
 use Rattle.bounding_set.specs.State.{dropped_count}
-use Rattle.bounding_set.proofs.RowLemmas.{tuple_of-absent}
-use Rattle.bounding_set.proofs.EssentialLemmas.{same_row}
+use Rattle.bounding_set.proofs.RowLemmas.{row_owner, row_tuple}
 use Rattle.bounding_set.proofs.CertificateLemmas.{no_more_than_rows}
 use Rattle.bounding_set.proofs.MemberLemmas.{absent_owner}
 
@@ -116,7 +116,7 @@ module _ (rows old new : List Request) (x : Request) (rising : HasRisingOwners r
       let l = get_or old i d in
       let m = get_or old j e in
       let at : get_or old j d ≡ m = get_or_default old j d e below in
-      let one : l ≡ m = same_row rows l m rising (envelope.are_rows i d (omega arith)) (envelope.are_rows j e below) same in
+      let one : l ≡ m = one_row row_owner rows rising l m (envelope.are_rows i d (omega arith)) (envelope.are_rows j e below) same in
       let rise = (envelope.hull.crosses i j d before below).overhead in
       omega (arith, rise, ap (λ (r : Request). r.tuple.overhead) (one ∙ sym at))
 
@@ -139,7 +139,7 @@ module _ (rows old new : List Request) (x : Request) (rising : HasRisingOwners r
       let behind : s.high + i < length old = omega (arith, length-drop s.high old, at) in
       subst (λ (r : Request). r.owner.0 ≢ owner) (sym (get_or-drop s.high old i e))
       (λ same. owners_differ k (s.high + i) d e (omega arith) behind (sym same)))) in
-      tuple_of-absent new owner (AllWithin-from_all (λ r. r.owner.0 ≢ owner) new (subst (All (λ r. r.owner.0 ≢ owner)) (sym s.is) differ))
+      first_of-absent row_owner row_tuple new owner (AllWithin-from_all (λ r. r.owner.0 ≢ owner) new (subst (All (λ r. r.owner.0 ≢ owner)) (sym s.is) differ))
 
   pub dropped_between : (tests : ℕ) (s : IsSpliced old x new tests) → s.high - s.low ≤ dropped_count old new
   dropped_between tests s = count_between (λ r. not (is_some (tuple_of new r.owner.0))) old s.low s.high s.in_range (λ k d from upto. grind (arith, nat_tests, dropped_has_none tests s k d from upto))

@@ -11,11 +11,13 @@ use Rattle.tmmbr_tuple.specs.Tuple.{rate_of}
 use Rattle.tmmbr_tuple.specs.RatePair.{RatePair, Permits, Forbids}
 use Rattle.tmmbr_tuple.proofs.RatePairLemmas.{not_both}
 use Rattle.rate_cert.specs.declared.request.Request.{Request}
+use Rattle.rate_cert.proofs.OwnerLemmas.{one_row}
 use Rattle.bounding_set.specs.Rows.{HasRisingOwners}
 use Rattle.bounding_set.specs.Canonical.{HasSameLine, StopsMedia, IsEssentialOwner, IsAnnounced}
 use Rattle.bounding_set.specs.Certificate.{End, start_end, crossing_of, reach_of, right_end, pairs_from, kept_pairs}
 use Rattle.bounding_set.specs.Announced.{IsAboveChord, IsCovered, IsCoveredFrom, HasPairs, AnnouncesList}
 use Rattle.bounding_set.specs.Envelope.{Crosses, IsHull, Covers, IsEnvelope}
+use Rattle.bounding_set.proofs.RowLemmas.{row_owner}
 use Rattle.bounding_set.proofs.EndLemmas.{IsLowestEnd, IsLowestEnd-from_covers, left_of_crossing, right_of_crossing, IsAboveChord-from_end, IsBefore, crossing_before_reach, crossing_before_crossing, IsWitness, IsWitness-between}
 
 -- each line of a hull has its ends among the rows: its crossings with its neighbours, and the reach of the last
@@ -128,25 +130,6 @@ same_among x (y ∷ ys) =
                   | inr other ↦ inr (All-cons (λ l. ¬ HasSameLine x l) y ys (λ s. other s.overhead) none)
                   | inl overheads ↦ inl (0, omega arith, record { rate = rates; overhead = overheads })
                 ]
-          ]
-    ]
-
--- rows with one owner are one row
-owners_apart : (rows : List Request) (j k : ℕ) (d e : Request) → HasRisingOwners rows → j < k → k < length rows
-    → (get_or rows j d).owner.0 < (get_or rows k e).owner.0
-owners_apart rows j k d e rising before below =
-    subst (λ (r : Request). (get_or rows j d).owner.0 < r.owner.0) (get_or_default rows k d e below) (rising j k d before below)
-
-pub same_row : (rows : List Request) (x y : Request) → HasRisingOwners rows → Contains rows x → Contains rows y → x.owner.0 ≡ y.owner.0 → x ≡ y
-same_row rows x y rising at_x at_y same =
-    let owner_x : (get_or rows at_x.0 x).owner.0 ≡ x.owner.0 = ap (λ (r : Request). r.owner.0) at_x.2 in
-    let owner_y : (get_or rows at_y.0 y).owner.0 ≡ y.owner.0 = ap (λ (r : Request). r.owner.0) at_y.2 in
-    elim (cases_eq at_x.0 at_y.0) [
-      | inl one ↦ sym at_x.2 ∙ get_or_default rows at_x.0 x y at_x.1 ∙ ap (λ k. get_or rows k y) one ∙ at_y.2
-      | inr two ↦
-          elim (cases_lt at_x.0 at_y.0) [
-            | inl before ↦ absurd (omega (arith, owner_x, owner_y, same, owners_apart rows at_x.0 at_y.0 x y rising before at_y.1))
-            | inr behind ↦ absurd (omega (arith, owner_x, owner_y, same, owners_apart rows at_y.0 at_x.0 y x rising (omega (arith, two, behind)) at_x.1))
           ]
     ]
 
@@ -305,7 +288,7 @@ module _ (rows lines : List Request) (envelope : IsEnvelope rows lines) (send : 
             let no_earlier = All-contains (λ y. HasSameLine l y → l.owner.0 ≤ y.owner.0) rows x
             (All-from_all_within (λ y. HasSameLine l y → l.owner.0 ≤ y.owner.0) rows (envelope.least_owner found.0 x found.1)) is_row
             record { rate = sym found.2.rate; overhead = sym found.2.overhead } in
-            subst (Contains lines) (same_row rows l x rising l_is_row is_row (omega (arith, no_later, no_earlier)))
+            subst (Contains lines) (one_row row_owner rows rising l x l_is_row is_row (omega (arith, no_later, no_earlier)))
             (Contains-get_or lines found.0 x found.1)
       ]
 

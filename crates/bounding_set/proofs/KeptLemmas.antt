@@ -1,8 +1,7 @@
 -- The places of kept requests among the rows.
-use Rattle.std.proofs.Common.{◌≡◌, ℕ, ◌+◌, ◌-◌, ◌*◌, ◌<◌, ◌≤◌, inl, inr, List, [], ◌∷◌, ◌++◌, length, get_or, map, suc, refl, sym, ap, ◌∙◌, arith}
+use Rattle.std.proofs.Common.{◌≡◌, ℕ, ◌+◌, ◌-◌, ◌*◌, ◌<◌, ◌≤◌, List, [], ◌∷◌, ◌++◌, length, get_or, map, suc, refl, sym, ap, ◌∙◌, arith}
 use Rattle.std.specs.Prelude.{All, AllPairs, Contains, slice_get}
 use Rattle.std.specs.List.{cons_option}
-use Rattle.std.proofs.lemmas.Bool.{cases_lt}
 use Rattle.std.proofs.lemmas.List.{map-append, length-map, get_or-map}
 use Rattle.std.proofs.lemmas.List.Elements.{All-head, All-tail, All-map, All-push, filter_map-append}
 use Rattle.std.proofs.lemmas.Option.{slice_get-get_or}
@@ -12,30 +11,19 @@ use Rattle.rate_cert.specs.declared.certificate.Kept.{Kept}
 use Rattle.rate_cert.specs.Choice.{chosen_requests}
 use Rattle.rate_cert.specs.Certificate.{places_of}
 use Rattle.rate_cert.proofs.CheckerLemmas.{holds_at}
+use Rattle.rate_cert.proofs.OwnerLemmas.{same_place}
 use Rattle.bounding_set.specs.Rows.{HasRisingOwners, IsRowOf}
 use Rattle.bounding_set.specs.Announced.{Follows}
 use Rattle.bounding_set.specs.Certificate.{right_end, crossing_of}
+use Rattle.bounding_set.proofs.RowLemmas.{row_owner}
 use Rattle.bounding_set.specs.Kept.{StandsAt, KeepsRequests, HasLeftEnd, IsEndOf}
-
--- two rows of one owner are one row
-pub same_place : (rows : List Request) (i j : ℕ) (d : Request) → HasRisingOwners rows → i < length rows → j < length rows
-    → (get_or rows i d).owner.0 ≡ (get_or rows j d).owner.0 → i ≡ j
-same_place rows i j d rising in_i in_j same =
-    elim (cases_lt i j) [
-      | inl before ↦ absurd (omega (arith, rising i j d before in_j))
-      | inr not_before ↦
-          elim (cases_lt j i) [
-            | inl after ↦ absurd (omega (arith, rising j i d after in_i))
-            | inr not_after ↦ omega arith
-          ]
-    ]
 
 -- the row of a request's owner is the request
 pub StandsAt-row : (rows : List Request) (request : Request) (place : ℕ) → HasRisingOwners rows → Contains rows request
     → IsRowOf rows request.owner.0 place → StandsAt rows request place
 StandsAt-row rows request place rising live is =
     let same : place ≡ live.0 =
-    same_place rows place live.0 request rising is.in_range live.1
+    same_place row_owner rows place live.0 request rising is.in_range live.1
     (is.is_owner request ∙ sym (ap (λ (r : Request). r.owner.0) live.2)) in
     record {
       in_range = is.in_range;

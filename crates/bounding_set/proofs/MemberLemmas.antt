@@ -10,11 +10,12 @@ use Rattle.tmmbr_tuple.specs.declared.tuple.Tuple.{Tuple}
 use Rattle.tmmbr_tuple.specs.contracts.tuple.TuplePartialEq.TheImpl.{eq-value as tuple_eq}
 use Rattle.tmmbr_tuple.proofs.TupleLemmas.{same_tuple}
 use Rattle.rate_cert.specs.declared.request.Request.{Request}
-use Rattle.rate_cert.proofs.CheckerLemmas.{holds_at, no_of}
-use Rattle.bounding_set.specs.Rows.{HasRisingOwners, IsRowOf, Puts, tuple_of}
+use Rattle.rate_cert.proofs.CheckerLemmas.{no_of}
+use Rattle.rate_cert.proofs.OwnerLemmas.{place_of-row}
+use Rattle.bounding_set.specs.Rows.{HasRisingOwners, Puts, tuple_of}
 use Rattle.bounding_set.specs.Envelope.{IsEnvelopeOf}
 use Rattle.bounding_set.specs.Spliced.{IsSpliced}
-use Rattle.bounding_set.proofs.RowLemmas.{tuple_of-row}
+use Rattle.bounding_set.proofs.RowLemmas.{row_owner, tuple_of-row}
 use Rattle.bounding_set.proofs.SplicedLemmas.{Contains-cons_cases, Contains-head, Contains-tail, IsEnvelopeOf-members}
 
 -- `==` of tuples, and of what was asked for
@@ -31,12 +32,8 @@ asked_is (Some s) t b is = (λ true_is. ap Some ((Decides-tuple_eq s t).0 (sym i
 
 -- a row's owner asks for its tuple
 tuple_of-member : (rows : List Request) (r : Request) → HasRisingOwners rows → Contains rows r → tuple_of rows r.owner.0 ≡ Some r.tuple
-tuple_of-member rows r rising (k, below, is) =
-    let row : IsRowOf rows r.owner.0 k = record {
-      in_range = below;
-      is_owner = holds_at (λ q. q.owner.0 ≡ r.owner.0) rows k r below (ap (λ (q : Request). q.owner.0) is);
-    } in
-    tuple_of-row rows k r.owner.0 r rising row ∙ ap (λ (q : Request). Some q.tuple) is
+tuple_of-member rows r rising is =
+    tuple_of-row rows is.0 r.owner.0 r rising (place_of-row row_owner rows r is) ∙ ap (λ (q : Request). Some q.tuple) is.2
 
 -- who is live has a row
 member_of-live : (rows : List Request) (r : Request) → tuple_of rows r.owner.0 ≡ Some r.tuple → Contains rows r

@@ -7,11 +7,12 @@ use Rattle.std.proofs.lemmas.List.Elements.{All-nil, All-cons, All-contains, Con
 use Rattle.tmmbr_tuple.specs.Tuple.{rate_of}
 use Rattle.tmmbr_tuple.specs.RatePair.{RatePair, Forbids}
 use Rattle.rate_cert.specs.declared.request.Request.{Request}
+use Rattle.rate_cert.proofs.OwnerLemmas.{one_row}
 use Rattle.bounding_set.specs.Rows.{HasRisingOwners}
 use Rattle.bounding_set.specs.Canonical.{StopsMedia, StopsEverything, IsStrictestStop, IsFirstStop, ReachesNoFarther, ReachesAsFar, IsLeastReach, IsAnnounced}
 use Rattle.bounding_set.specs.Certificate.{start_end, reach_of, pair_between, kept_pairs, pairs_from, pairs_with_stop}
 use Rattle.bounding_set.specs.Announced.{Follows, IsCovered, HasPairs, AnnouncesList}
-use Rattle.bounding_set.proofs.StopScans.{one_row}
+use Rattle.bounding_set.proofs.RowLemmas.{row_owner}
 
 -- a row of a list of one, and of a list of two
 only_one : (x r : Request) → Contains (x ∷ []) r → x ≡ r
@@ -59,7 +60,7 @@ module _ (rows : List Request) (rising : HasRisingOwners rows) (x : Request) (at
       let same : x.tuple.overhead ≡ r.tuple.overhead = omega arith in
       let first = All-contains (λ y. StopsEverything y → x.tuple.overhead ≡ y.tuple.overhead → x.owner.0 ≤ y.owner.0) rows r strictest.least_owner at_r is.stops same in
       let last = All-contains (λ y. StopsEverything y → r.tuple.overhead ≡ y.tuple.overhead → r.owner.0 ≤ y.owner.0) rows x is.least_owner at_x strictest.stops (sym same) in
-      one_row rows rising x r at_x at_r (omega arith)
+      one_row row_owner rows rising x r at_x at_r (omega arith)
 
   strictest_only : (r : Request) → Contains rows r → IsAnnounced rows r → x ≡ r
   strictest_only r at_r announced =
@@ -102,7 +103,7 @@ module _ (rows : List Request) (rising : HasRisingOwners rows) (x : Request) (at
   first_one r at_r is =
       let before = All-contains (λ y. StopsMedia y → x.owner.0 ≤ y.owner.0) rows r first.least_owner at_r is.stops in
       let after = All-contains (λ y. StopsMedia y → r.owner.0 ≤ y.owner.0) rows x is.least_owner at_x first.stops in
-      one_row rows rising x r at_x at_r (omega arith)
+      one_row row_owner rows rising x r at_x at_r (omega arith)
 
   -- what is announced then is it, or a request of least reach
   first_or_reach : (r : Request) → Contains rows r → IsAnnounced rows r → (x ≡ r) ⊎ IsLeastReach rows r
@@ -161,7 +162,7 @@ module _ (rows : List Request) (rising : HasRisingOwners rows) (x : Request) (at
         let same : y.tuple.overhead ≡ r.tuple.overhead = omega arith in
         let before = All-contains (λ z. 0 < z.tuple.overhead → ReachesAsFar y z → y.tuple.overhead ≡ z.tuple.overhead → y.owner.0 ≤ z.owner.0) rows r reach.least_owner at_r is.has_overhead as_far same in
         let after = All-contains (λ z. 0 < z.tuple.overhead → ReachesAsFar r z → r.tuple.overhead ≡ z.tuple.overhead → r.owner.0 ≤ z.owner.0) rows y is.least_owner at_y reach.has_overhead (sym as_far) (sym same) in
-        one_row rows rising y r at_y at_r (omega arith)
+        one_row row_owner rows rising y r at_y at_r (omega arith)
 
     abbrev kept : List Request
     kept = x ∷ y ∷ []

@@ -1,47 +1,31 @@
 -- Scans for the best of some rows: what they know after each row, and what they have found in the end.
-use Rattle.std.proofs.Common.{Option, Some, None, ◌≡◌, ℕ, ◌+◌, ◌*◌, ◌<◌, ◌≤◌, ◌⊎◌, inl, inr, List, length, get_or, sym, ap, subst, ◌∙◌, arith}
+use Rattle.std.proofs.Common.{Option, Some, None, ◌≡◌, ℕ, ◌+◌, ◌*◌, ◌<◌, ◌≤◌, ◌⊎◌, inl, inr, List, length, get_or, sym, ap, subst, arith}
 use Rattle.std.specs.Prelude.{All, Any, Contains, IfSome, MatchOption}
 use Rattle.std.specs.List.{AllWithin, HoldsAt}
 use Rattle.std.proofs.Math.Nat.{mul-le-mul_left, mul-lt-mul_of_pos_left}
 use Rattle.std.proofs.lemmas.Bool.{cases_lt}
-use Rattle.std.proofs.lemmas.List.{get_or_default}
 use Rattle.std.proofs.lemmas.List.Elements.{AllWithin-more, AllWithin-upto, All-from_all_within}
 use Rattle.tmmbr_tuple.specs.Tuple.{rate_of}
 use Rattle.rate_cert.specs.declared.request.Request.{Request}
 use Rattle.rate_cert.proofs.CheckerLemmas.{holds_at}
+use Rattle.rate_cert.proofs.OwnerLemmas.{owner_at}
 use Rattle.bounding_set.specs.Rows.{HasRisingOwners}
 use Rattle.bounding_set.specs.Reach.{ReachesSooner}
 use Rattle.bounding_set.specs.Canonical.{StopsMedia, StopsEverything, ReachesNoFarther, ReachesAsFar, IsStrictestStop, IsFirstStop, IsLeastReach}
+use Rattle.bounding_set.proofs.RowLemmas.{row_owner}
 
 -- what is so of a row is so of its place
 pub at_row : (P : Request → Type 0) (rows : List Request) (i : ℕ) (x : Request) → i < length rows → x ≡ get_or rows i x → P x → HoldsAt P rows i
 at_row P rows i x below is here = holds_at P rows i x below (subst P is here)
 
-owner_at : (rows : List Request) (x : Request) (found : Contains rows x) (d : Request) → (get_or rows found.0 d).owner.0 ≡ x.owner.0
-owner_at rows x found d = ap (λ (r : Request). r.owner.0) (get_or_default rows found.0 d x found.1 ∙ found.2)
-
 -- rows from a row's place on have no lesser owner
 pub owners_from : (rows : List Request) → HasRisingOwners rows → (x : Request) (found : Contains rows x) → AllWithin (λ y. x.owner.0 ≤ y.owner.0) rows found.0 (length rows)
 owners_from rows rising x found k d low below =
     elim (cases_lt found.0 k) [
-      | inl before ↦ omega (arith, rising found.0 k d before below, owner_at rows x found d)
+      | inl before ↦ omega (arith, rising found.0 k d before below, owner_at row_owner rows x found d)
       | inr after ↦
           let same : found.0 ≡ k = omega arith in
-          subst (λ i. x.owner.0 ≤ (get_or rows i d).owner.0) same (omega (arith, owner_at rows x found d))
-    ]
-
--- an owner has one row
-pub one_row : (rows : List Request) → HasRisingOwners rows → (x y : Request) → Contains rows x → Contains rows y → x.owner.0 ≡ y.owner.0 → x ≡ y
-one_row rows rising x y at_x at_y same =
-    elim (cases_lt at_x.0 at_y.0) [
-      | inl before ↦ absurd (omega (arith, rising at_x.0 at_y.0 x before at_y.1, owner_at rows x at_x x, owner_at rows y at_y x))
-      | inr after ↦
-          elim (cases_lt at_y.0 at_x.0) [
-            | inl before ↦ absurd (omega (arith, rising at_y.0 at_x.0 x before at_x.1, owner_at rows x at_x x, owner_at rows y at_y x))
-            | inr more ↦
-                let places : at_x.0 ≡ at_y.0 = omega arith in
-                sym at_x.2 ∙ ap (λ k. get_or rows k x) places ∙ get_or_default rows at_y.0 x y at_y.1 ∙ at_y.2
-          ]
+          subst (λ i. x.owner.0 ≤ (get_or rows i d).owner.0) same (omega (arith, owner_at row_owner rows x found d))
     ]
 
 -- Of the first n rows, x is as good as each that is eligible, and better than each of those before it.

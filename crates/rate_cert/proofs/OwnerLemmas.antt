@@ -1,12 +1,13 @@
 -- Rows by rising owner: what a search finds, what is known of an owner, and what an edit does.
-use Rattle.std.proofs.Common.{◌≡◌, ℕ, zero, suc, ◌+◌, ◌-◌, ◌<◌, ◌≤◌, ◌≢◌, eqb, List, [], ◌∷◌, length, get_or, if◌then◌else◌, Some, None, Result, Ok, Err, IfOk, IfErr, refl, sym, ap, inl, inr, subst, arith}
-use Rattle.std.specs.Prelude.{All}
+use Rattle.std.proofs.Common.{◌≡◌, ℕ, zero, suc, ◌+◌, ◌-◌, ◌<◌, ◌≤◌, ◌≢◌, eqb, List, [], ◌∷◌, length, get_or, if◌then◌else◌, Some, None, Result, Ok, Err, IfOk, IfErr, refl, sym, ap, ◌∙◌, inl, inr, subst, arith}
+use Rattle.std.specs.Prelude.{All, Contains}
 use Rattle.std.specs.List.{insert, remove, AllWithin}
 use Rattle.std.specs.List.Sorted.{IsSearchInRange, IsBinarySearchResult, IsNonDecreasingBy}
 use Rattle.std.specs.Ordering.{nat_cmp, ordering_index}
 use Rattle.std.proofs.lemmas.Bool.{cases_lt, cases_eq}
 use Rattle.std.proofs.lemmas.Bool.Decides.{nat_tests}
 use Rattle.std.proofs.lemmas.Cmp.{ranked}
+use Rattle.std.proofs.lemmas.List.{get_or_default}
 use Rattle.std.proofs.lemmas.List.Edits.{length-insert, get_or-insert_below, get_or-insert_at, get_or-insert_above}
 use Rattle.rate_cert.specs.Owners.{OwnersRise, first_of, IsOwnerAt, IsOwnerGap}
 
@@ -81,6 +82,19 @@ module _ {A : Type 0} (owner_of : A → ℕ) where
               | inr not_after ↦ omega arith
             ]
       ]
+
+  pub owner_at : (rows : List A) (x : A) (found : Contains rows x) (d : A) → owner_of (get_or rows found.0 d) ≡ owner_of x
+  owner_at rows x found d = ap owner_of (get_or_default rows found.0 d x found.1 ∙ found.2)
+
+  -- rows with one owner are one row
+  pub one_row : (rows : List A) → OwnersRise owner_of rows → (x y : A) → Contains rows x → Contains rows y → owner_of x ≡ owner_of y → x ≡ y
+  one_row rows rising x y at_x at_y same =
+      let places : at_x.0 ≡ at_y.0 = same_place rows at_x.0 at_y.0 x rising at_x.1 at_y.1 (omega (arith, same, owner_at rows x at_x x, owner_at rows y at_y x)) in
+      sym at_x.2 ∙ ap (λ k. get_or rows k x) places ∙ get_or_default rows at_y.0 x y at_y.1 ∙ at_y.2
+
+  -- a row of the list stands at its owner's place
+  pub place_of-row : (rows : List A) (x : A) (found : Contains rows x) → IsOwnerAt owner_of rows (owner_of x) found.0
+  place_of-row rows x found = record { in_range = found.1; is_owner = λ d. owner_at rows x found d }
 
   -- what a binary search by owner answers
   pub searched : (rows : List A) (owner : ℕ) (r : Result ℕ ℕ) → OwnersRise owner_of rows → IsSearchInRange r (length rows)

@@ -25,12 +25,13 @@ use Rattle.rate_cert.specs.Choice.{IsChoice, chosen_requests}
 use Rattle.rate_cert.specs.Certificate.{places_of, kept_places}
 use Rattle.rate_cert.proofs.ChoiceLemmas.{length-chosen, kept_below}
 use Rattle.rate_cert.proofs.CheckerLemmas.{Contains-map, entry_at}
+use Rattle.rate_cert.proofs.OwnerLemmas.{same_place}
 use Rattle.rate_cert.proofs.Pigeonhole.{pairs_with_first, pairs_of_others}
 use Rattle.bounding_set.specs.Rows.{HasRisingOwners}
 use Rattle.bounding_set.specs.Kept.{KeepsRequests}
 use Rattle.bounding_set.specs.State.{State, AnnouncesSmallest, announced_of}
 use Rattle.bounding_set.specs.declared.rows.TheConstants.{LIVE_LIMIT}
-use Rattle.bounding_set.proofs.KeptLemmas.{same_place, requests_by_place}
+use Rattle.bounding_set.proofs.KeptLemmas.{requests_by_place}
 use Rattle.rate_desk.specs.declared.effect.Effect.{Effect}
 use Rattle.rate_desk.specs.Effect.{IsEffect, IsLifted, owners_of, ssrcs_of, is_same, is_member}
 use Rattle.tmmbr_tuple.specs.Tuple.{word_of}
@@ -181,7 +182,7 @@ chosen_once rows kept rising choice i j d before below =
     subst (AllPairs Differ) (sym (requests_by_place rows (chosen_requests rows places) kept is d))
     (AllPairs-map Differ (λ place. get_or rows place d) places
     (λ a b e earlier inside same. choice.distinct a b e earlier inside
-    (same_place rows _ _ d rising (choice.in_range a e (omega arith)) (choice.in_range b e inside) same)))
+    (same_place (λ (r : Request). r.owner.0) rows _ _ d rising (choice.in_range a e (omega arith)) (choice.in_range b e inside) same)))
     i j d before below
   where
     Differ : Request → Request → Type 0

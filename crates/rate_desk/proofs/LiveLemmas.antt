@@ -1,48 +1,41 @@
 -- The live requests of who is present.
-use Rattle.std.proofs.Common.{◌≡◌, ◌⊎◌, ℕ, zero, suc, ◌+◌, ◌<◌, ◌≤◌, ◌≢◌, List, [], ◌∷◌, length, get_or, Bool, true, false, Option, Some, None, refl, sym, ap, inl, inr, subst, ◌∙◌, arith}
-use Rattle.std.specs.Prelude.{All, option_map}
+use Rattle.std.proofs.Common.{◌≡◌, ◌⊎◌, ℕ, zero, suc, ◌+◌, ◌<◌, ◌≤◌, ◌≢◌, List, [], ◌∷◌, length, get_or, true, false, Option, Some, None, refl, sym, ap, inl, inr, subst, ◌∙◌, arith}
+use Rattle.std.specs.Prelude.{option_map}
 use Rattle.std.specs.List.{cons_option}
 use Rattle.std.proofs.lemmas.Bool.{cases_lt, cases_eq}
-use Rattle.std.proofs.lemmas.Bool.Decides.{nat_tests}
 use Rattle.std.proofs.lemmas.List.Kept.{AllPairs-cons}
 use Rattle.std.proofs.lemmas.List.Elements.{All-cons}
 use Rattle.tmmbr_tuple.specs.declared.tuple.Tuple.{Tuple}
 use Rattle.rate_cert.specs.declared.request.Request.{Request}
+use Rattle.rate_cert.proofs.OwnerLemmas.{OwnersAbove, rising_tail, rising_head, above_tail, first_of-above, first_of-head, first_of-behind}
 use Rattle.bounding_set.specs.Rows.{HasRisingOwners as RowsRise, tuple_of, Puts}
+use Rattle.bounding_set.proofs.RowLemmas.{row_owner, row_tuple}
 use Rattle.rate_desk.specs.declared.presence.Present.{Present}
 use Rattle.rate_desk.specs.declared.presence.Asked.{Asked}
 use Rattle.rate_desk.specs.Presence.{HasRisingOwners, HasStays, presence_of, stay_in, with_presence, without_owner, live_requests, without_old, unless_absent_with_room}
-use Rattle.rate_desk.proofs.PresenceLemmas.{IsBelow, rising_tail, rising_head, below_tail, presence_of-with, presence_of-with_other, presence_of-without, presence_of-without_other, present_with_stay, rising-with, rising-without, rising-aged, absent-arrive, aged, is_aged, presence_of-aged, presence_of-aged_other, without_old-old, aged-young}
+use Rattle.rate_desk.proofs.PresenceLemmas.{IsBelow, present_owner, presence_of-first, presence_of-behind, presence_of-with, presence_of-with_other, presence_of-without, presence_of-without_other, present_with_stay, rising-with, rising-without, rising-aged, absent-arrive, aged, is_aged, presence_of-aged, presence_of-aged_other, without_old-old, aged-young}
 
 -- these requests have greater owners
 abbrev AreAbove : ℕ → List Request → Type 0
-AreAbove owner rows = All (λ (r : Request). owner < r.owner.0) rows
+AreAbove owner rows = OwnersAbove row_owner owner rows
 
 -- ---- rows and what their owners ask for
 
 tuple_of-above : (rows : List Request) (owner : ℕ) → AreAbove owner rows → tuple_of rows owner ≡ None
-tuple_of-above [] owner above = refl
-tuple_of-above (r ∷ rows) owner above =
-    grind (arith, nat_tests, above zero r (omega arith), tuple_of-above rows owner (λ k d within. above (suc k) d (omega arith)))
+tuple_of-above rows owner above = first_of-above row_owner row_tuple rows owner above
 
 tuple_of-first : (r : Request) (rows : List Request) (owner : ℕ) → r.owner.0 ≡ owner → tuple_of (r ∷ rows) owner ≡ Some r.tuple
-tuple_of-first r rows owner same = grind (arith, nat_tests, same)
+tuple_of-first r rows owner same = first_of-head row_owner row_tuple r rows owner same
 
-tuple_of-behind : (r : Request) (rows : List Request) (owner : ℕ) → (r.owner.0 ≡ owner → ⊥) → tuple_of (r ∷ rows) owner ≡ tuple_of rows owner
-tuple_of-behind r rows owner differs = grind (arith, nat_tests, differs)
-
-rows_tail : (r : Request) (rows : List Request) → RowsRise (r ∷ rows) → RowsRise rows
-rows_tail r rows rising = λ i j d before within. rising (suc i) (suc j) d (omega arith) (omega arith)
-
-rows_head : (r : Request) (rows : List Request) → RowsRise (r ∷ rows) → AreAbove r.owner.0 rows
-rows_head r rows rising = λ k d within. rising zero (suc k) d (omega arith) (omega arith)
+tuple_of-behind : (r : Request) (rows : List Request) (owner : ℕ) → r.owner.0 ≢ owner → tuple_of (r ∷ rows) owner ≡ tuple_of rows owner
+tuple_of-behind r rows owner differs = first_of-behind row_owner row_tuple r rows owner differs
 
 -- the first row of such a list isn't above that of one with the same tuples
 not_above : (x : Request) (xs : List Request) (y : Request) (ys : List Request) → RowsRise (y ∷ ys)
     → tuple_of (x ∷ xs) x.owner.0 ≡ tuple_of (y ∷ ys) x.owner.0 → x.owner.0 < y.owner.0 → ⊥
 not_above x xs y ys rising same lt =
     let above : AreAbove x.owner.0 (y ∷ ys) =
-    All-cons (λ (r : Request). x.owner.0 < r.owner.0) y ys lt (λ k d within. omega (arith, lt, rows_head y ys rising k d within)) in
+    All-cons (λ (r : Request). x.owner.0 < r.owner.0) y ys lt (λ k d within. omega (arith, lt, rising_head row_owner y ys rising k d within)) in
     let none = tuple_of-above (y ∷ ys) x.owner.0 above in
     let some = tuple_of-first x xs x.owner.0 refl in
     let no : Some x.tuple ≡ None = sym some ∙ same ∙ none in
@@ -68,11 +61,11 @@ rows_by_tuples (x ∷ xs) (y ∷ ys) rise_x rise_y same =
     let asked : Some x.tuple ≡ Some y.tuple =
     sym (tuple_of-first x xs x.owner.0 refl) ∙ same x.owner.0 ∙ tuple_of-first y ys x.owner.0 (sym owners) in
     let tuples : x.tuple ≡ y.tuple = cc in
-    let rest : xs ≡ ys = rows_by_tuples xs ys (rows_tail x xs rise_x) (rows_tail y ys rise_y) (λ q.
+    let rest : xs ≡ ys = rows_by_tuples xs ys (rising_tail row_owner x xs rise_x) (rising_tail row_owner y ys rise_y) (λ q.
     elim (cases_eq x.owner.0 q) [
       | inl is ↦
-          tuple_of-above xs q (λ k d within. omega (arith, is, rows_head x xs rise_x k d within))
-          ∙ sym (tuple_of-above ys q (λ k d within. omega (arith, is, owners, rows_head y ys rise_y k d within)))
+          tuple_of-above xs q (λ k d within. omega (arith, is, rising_head row_owner x xs rise_x k d within))
+          ∙ sym (tuple_of-above ys q (λ k d within. omega (arith, is, owners, rising_head row_owner y ys rise_y k d within)))
       | inr differs ↦
           sym (tuple_of-behind x xs q differs) ∙ same q ∙ tuple_of-behind y ys q (λ is. differs (owners ∙ is))
     ]) in
@@ -98,7 +91,7 @@ live-some p present a some = ap (λ asked. cons_option (option_map (row_of p) as
 pub live-above : (present : List Present) (owner : ℕ) → IsBelow owner present → AreAbove owner (live_requests present)
 live-above [] owner below = λ k d within. absurd (omega arith)
 live-above (p ∷ present) owner below =
-    let rest = live-above present owner (below_tail owner p present below) in
+    let rest = live-above present owner (above_tail present_owner owner p present below) in
     elim (cases_asked p.asked) [
       | inl none ↦ subst (AreAbove owner) (sym (live-none p present none)) rest
       | inr some ↦
@@ -109,13 +102,13 @@ live-above (p ∷ present) owner below =
 pub live-rising : (present : List Present) → HasRisingOwners present → RowsRise (live_requests present)
 live-rising [] rising = λ i j d before within. absurd (omega arith)
 live-rising (p ∷ present) rising =
-    let rest = live-rising present (rising_tail p present rising) in
+    let rest = live-rising present (rising_tail present_owner p present rising) in
     elim (cases_asked p.asked) [
       | inl none ↦ subst RowsRise (sym (live-none p present none)) rest
       | inr some ↦
           subst RowsRise (sym (live-some p present some.0 some.1))
           (AllPairs-cons (λ (x y : Request). x.owner.0 < y.owner.0) (row_of p some.0) (live_requests present)
-          (live-above present p.owner.0 (rising_head p present rising)) rest)
+          (live-above present p.owner.0 (rising_head present_owner p present rising)) rest)
     ]
 
 pub few_live : (present : List Present) → length (live_requests present) ≤ length present
@@ -134,13 +127,6 @@ tuple_in asked = option_map (λ (a : Asked). a.tuple) asked
 abbrev pub asked_by : Option Present → Option Tuple
 asked_by None = None
 asked_by (Some p) = tuple_in p.asked
-
-presence_of-first : (p : Present) (present : List Present) (owner : ℕ) → p.owner.0 ≡ owner → presence_of (p ∷ present) owner ≡ Some p
-presence_of-first p present owner same = grind (arith, nat_tests, same)
-
-presence_of-behind : (p : Present) (present : List Present) (owner : ℕ) → (p.owner.0 ≡ owner → ⊥)
-    → presence_of (p ∷ present) owner ≡ presence_of present owner
-presence_of-behind p present owner differs = grind (arith, nat_tests, differs)
 
 -- one more that is present changes what the others ask for not at all
 tuple_of-others : (p : Present) (present : List Present) (owner : ℕ) → (p.owner.0 ≡ owner → ⊥)
@@ -161,13 +147,13 @@ tuple_of-live (p ∷ present) owner rising =
     elim (cases_eq p.owner.0 owner) [
       | inr differs ↦
           tuple_of-others p present owner differs
-          ∙ tuple_of-live present owner (rising_tail p present rising)
+          ∙ tuple_of-live present owner (rising_tail present_owner p present rising)
           ∙ sym (ap asked_by (presence_of-behind p present owner differs))
       | inl same ↦
           let its = ap asked_by (presence_of-first p present owner same) in
           elim (cases_asked p.asked) [
             | inl none ↦
-                let below : IsBelow owner present = λ k d within. omega (arith, same, rising_head p present rising k d within) in
+                let below : IsBelow owner present = λ k d within. omega (arith, same, rising_head present_owner p present rising k d within) in
                 ap (λ rows. tuple_of rows owner) (live-none p present none)
                 ∙ tuple_of-above (live_requests present) owner (live-above present owner below)
                 ∙ sym (ap tuple_in none)

@@ -1,17 +1,15 @@
 -- Who is present, by rising owner: what a search finds, and what an edit does.
-use Rattle.std.proofs.Common.{◌≡◌, ℕ, zero, suc, ◌+◌, ◌<◌, ◌≤◌, ◌≢◌, Bool, true, false, cond, Option, map, List, [], ◌∷◌, length, get_or, set, take, drop, ◌++◌, Some, None, Result, Ok, Err, IfOk, IfErr, refl, sym, ap, inl, inr, subst, ◌∙◌, arith}
+use Rattle.std.proofs.Common.{◌≡◌, ℕ, zero, suc, ◌+◌, ◌<◌, ◌≤◌, ◌≢◌, Bool, true, false, cond, Option, map, List, [], ◌∷◌, length, get_or, set, take, drop, ◌++◌, Some, None, refl, sym, ap, inl, inr, subst, ◌∙◌, arith}
 use Rattle.std.specs.Prelude.{All}
 use Rattle.std.specs.List.{insert, remove, refill}
-use Rattle.std.specs.List.Sorted.{IsSearchInRange, IsBinarySearchResult, IsNonDecreasingBy}
 use Rattle.std.specs.Option.{option_map_or}
-use Rattle.std.specs.Ordering.{nat_cmp, ordering_index}
 use Rattle.std.proofs.Math.Seq.{take-append_seam}
 use Rattle.std.proofs.lemmas.Bool.{cases_lt, cases_eq}
 use Rattle.std.proofs.lemmas.Bool.Decides.{nat_tests}
-use Rattle.std.proofs.lemmas.Cmp.{ranked}
 use Rattle.std.proofs.lemmas.List.{length-set, length-map}
 use Rattle.std.proofs.lemmas.List.Kept.{AllPairs-cons, AllPairs-filter}
 use Rattle.std.proofs.lemmas.List.Elements.{All-cons, All-filter, All-map}
+use Rattle.rate_cert.proofs.OwnerLemmas.{OwnersAbove, rising_tail, rising_head, above_tail, above_lesser, place_tail, gap_tail, place_above, first_of-above, first_of-head, first_of-behind, first_of-place, first_of-gap}
 use Rattle.rate_desk.specs.declared.presence.Asked.{Asked}
 use Rattle.rate_desk.specs.declared.presence.Present.{Present}
 use Rattle.rate_desk.specs.declared.presence.TheConstants.{PRESENT_LIMIT}
@@ -23,95 +21,32 @@ use Rattle.rate_desk.specs.Call.{HasStay}
 use Rattle.rate_desk.specs.Presence.{HasRisingOwners, HasStays, IsOwnerPlace, IsGapFor, presence_of, present_by, refusal_of, stay_in, with_presence, without_owner, without_old, unless_old, is_old, unless_absent_with_room, unless_present_with}
 use Rattle.rate_desk.specs.Standing.{count_by, IsDepart}
 
+-- what of one present the lemmas on rows by owner ask for
+abbrev pub present_owner : Present → ℕ
+present_owner p = p.owner.0
+
 -- those present have greater owners than this one
 abbrev pub IsBelow : ℕ → List Present → Type 0
-IsBelow owner present = All (λ (p : Present). owner < p.owner.0) present
-
--- ---- the first one and the others
-
-pub rising_tail : (p : Present) (present : List Present) → HasRisingOwners (p ∷ present) → HasRisingOwners present
-rising_tail p present rising = λ i j d before below. rising (suc i) (suc j) d (omega arith) (omega arith)
-
-pub rising_head : (p : Present) (present : List Present) → HasRisingOwners (p ∷ present) → IsBelow p.owner.0 present
-rising_head p present rising = λ k d below. rising zero (suc k) d (omega arith) (omega arith)
-
-pub below_tail : (owner : ℕ) (p : Present) (present : List Present) → IsBelow owner (p ∷ present) → IsBelow owner present
-below_tail owner p present is = λ k d below. is (suc k) d (omega arith)
-
-pub below_lesser : (owner lesser : ℕ) (present : List Present) → lesser < owner → IsBelow owner present → IsBelow lesser present
-below_lesser owner lesser present lt is = λ k d below. omega (arith, is k d below)
-
-place_tail : (p : Present) (present : List Present) (owner place : ℕ) → IsOwnerPlace (p ∷ present) owner (suc place) → IsOwnerPlace present owner place
-place_tail p present owner place is = record { in_range = omega (arith, is.in_range); is_owner = λ d. is.is_owner d }
-
-gap_tail : (p : Present) (present : List Present) (owner place : ℕ) → IsGapFor (p ∷ present) owner (suc place) → IsGapFor present owner place
-gap_tail p present owner place gap = record {
-  in_range = omega (arith, gap.in_range);
-  lesser_before = λ k d low below. gap.lesser_before (suc k) d (omega arith) (omega arith);
-  greater_after = λ k d low below. gap.greater_after (suc k) d (omega arith) (omega arith);
-}
-
--- the owner at a later place is greater than the first
-place_above : (p : Present) (present : List Present) (owner place : ℕ) → HasRisingOwners (p ∷ present) → IsOwnerPlace (p ∷ present) owner (suc place)
-    → p.owner.0 < owner
-place_above p present owner place rising is = omega (arith, rising zero (suc place) p (omega arith) is.in_range, is.is_owner p)
+IsBelow owner present = OwnersAbove present_owner owner present
 
 -- ---- what is known of an owner
 
 pub presence_of-below : (present : List Present) (owner : ℕ) → IsBelow owner present → presence_of present owner ≡ None
-presence_of-below [] owner is = refl
-presence_of-below (p ∷ present) owner is =
-    grind (arith, nat_tests, is zero p (omega arith), presence_of-below present owner (below_tail owner p present is))
+presence_of-below present owner is = first_of-above present_owner (λ p. p) present owner is
+
+pub presence_of-first : (p : Present) (present : List Present) (owner : ℕ) → p.owner.0 ≡ owner → presence_of (p ∷ present) owner ≡ Some p
+presence_of-first p present owner same = first_of-head present_owner (λ q. q) p present owner same
+
+pub presence_of-behind : (p : Present) (present : List Present) (owner : ℕ) → p.owner.0 ≢ owner
+    → presence_of (p ∷ present) owner ≡ presence_of present owner
+presence_of-behind p present owner differs = first_of-behind present_owner (λ q. q) p present owner differs
 
 pub presence_of-place : (present : List Present) (owner place : ℕ) (d : Present) → HasRisingOwners present → IsOwnerPlace present owner place
     → presence_of present owner ≡ Some (get_or present place d)
-presence_of-place [] owner place d rising is = absurd (omega (arith, is.in_range))
-presence_of-place (p ∷ present) owner zero d rising is = grind (arith, nat_tests, is.is_owner p)
-presence_of-place (p ∷ present) owner (suc place) d rising is =
-    grind (
-      arith,
-      nat_tests,
-      place_above p present owner place rising is,
-      presence_of-place present owner place d (rising_tail p present rising) (place_tail p present owner place is),
-    )
+presence_of-place present owner place d rising is = first_of-place present_owner (λ p. p) present owner place d rising is
 
 pub presence_of-gap : (present : List Present) (owner place : ℕ) → IsGapFor present owner place → presence_of present owner ≡ None
-presence_of-gap [] owner place gap = refl
-presence_of-gap (p ∷ present) owner zero gap = presence_of-below (p ∷ present) owner (λ k d below. gap.greater_after k d (omega arith) below)
-presence_of-gap (p ∷ present) owner (suc place) gap =
-    grind (
-      arith,
-      nat_tests,
-      gap.lesser_before zero p (omega arith) (omega arith),
-      presence_of-gap present owner place (gap_tail p present owner place gap),
-    )
-
--- ---- a search
-
--- what a binary search by owner answers
-pub searched : (present : List Present) (owner : ℕ) (r : Result ℕ ℕ) → HasRisingOwners present → IsSearchInRange r (length present)
-    → IsBinarySearchResult (λ p. nat_cmp p.owner.0 owner) present r
-    → record { found : IfOk r (IsOwnerPlace present owner); absent : IfErr r (IsGapFor present owner) }
-searched present owner (Ok at) rising in_range equal = record {
-  found = record { in_range = in_range; is_owner = λ d. ranked _ owner _ (sym (equal d)) };
-  absent = tt;
-}
-searched present owner (Err at) rising in_range parted =
-    let comparisons_rise : IsNonDecreasingBy (λ (p : Present). ordering_index (nat_cmp p.owner.0 owner)) present = λ i j d le below.
-    elim (cases_lt i j) [
-      | inl before ↦ let rise = rising i j d before below in grind (arith, nat_tests)
-      | inr after ↦
-          let same : i ≡ j = omega arith in
-          subst (λ k. ordering_index (nat_cmp (get_or present i d).owner.0 owner) ≤ ordering_index (nat_cmp (get_or present k d).owner.0 owner)) same (omega arith)
-    ] in
-    let parts = parted comparisons_rise in record {
-      found = tt;
-      absent = record {
-        in_range = in_range;
-        lesser_before = λ k d low below. ranked _ owner _ (sym (parts.0 k d low below));
-        greater_after = λ k d low below. ranked _ owner _ (sym (parts.1 k d low below));
-      };
-    }
+presence_of-gap present owner place gap = first_of-gap present_owner (λ p. p) present owner place gap
 
 -- ---- edits
 
@@ -124,8 +59,8 @@ set_is (p ∷ present) (suc place) new rising is =
     grind (
       arith,
       nat_tests,
-      place_above p present new.owner.0 place rising is,
-      set_is present place new (rising_tail p present rising) (place_tail p present new.owner.0 place is),
+      place_above present_owner p present new.owner.0 place rising is,
+      set_is present place new (rising_tail present_owner p present rising) (place_tail present_owner p present new.owner.0 place is),
     )
 
 -- what an `ArrayVec` has after a write through its slice
@@ -148,7 +83,7 @@ insert_is (p ∷ present) (suc place) new gap =
       arith,
       nat_tests,
       gap.lesser_before zero p (omega arith) (omega arith),
-      insert_is present place new (gap_tail p present new.owner.0 place gap),
+      insert_is present place new (gap_tail present_owner p present new.owner.0 place gap),
     )
 
 pub without_owner-absent : (present : List Present) (owner : ℕ) → presence_of present owner ≡ None → without_owner present owner ≡ present
@@ -167,14 +102,14 @@ pub remove_is : (present : List Present) (place owner : ℕ) → HasRisingOwners
 remove_is [] place owner rising is = absurd (omega (arith, is.in_range))
 remove_is (p ∷ present) zero owner rising is =
     let same : p.owner.0 ≡ owner = is.is_owner p in
-    let below : IsBelow owner present = λ k d within. omega (arith, same, rising_head p present rising k d within) in
+    let below : IsBelow owner present = λ k d within. omega (arith, same, rising_head present_owner p present rising k d within) in
     grind (arith, nat_tests, same, without_owner-absent present owner (presence_of-below present owner below))
 remove_is (p ∷ present) (suc place) owner rising is =
     grind (
       arith,
       nat_tests,
-      place_above p present owner place rising is,
-      remove_is present place owner (rising_tail p present rising) (place_tail p present owner place is),
+      place_above present_owner p present owner place rising is,
+      remove_is present place owner (rising_tail present_owner p present rising) (place_tail present_owner p present owner place is),
     )
 
 -- the three ways in which a list goes on that has this one put among it
@@ -244,7 +179,7 @@ absent_without_stay (p ∷ present) owner stays is =
           let its : stay_in (p ∷ present) owner ≡ p.stay = grind (arith, nat_tests, same) in
           absurd (omega (arith, stays zero p (omega arith), its, is))
       | inr differs ↦
-          let its : presence_of (p ∷ present) owner ≡ presence_of present owner = grind (arith, nat_tests, differs) in
+          let its = presence_of-behind p present owner differs in
           let rest : stay_in present owner ≡ 0 = sym (ap (λ known. option_map_or (λ (p : Present). p.stay) known 0) its) ∙ is in
           its ∙ absent_without_stay present owner (λ k d below. stays (suc k) d (omega arith)) rest
     ]
@@ -270,13 +205,13 @@ length-with_present (p ∷ present) new rising is =
       | inl before ↦
           absurd (is (presence_of-below (p ∷ present) new.owner.0
           (All-cons (λ (q : Present). new.owner.0 < q.owner.0) p present before
-          (below_lesser p.owner.0 new.owner.0 present before (rising_head p present rising)))))
+          (above_lesser present_owner p.owner.0 new.owner.0 present before (rising_head present_owner p present rising)))))
       | inr from ↦
           elim (cases_eq p.owner.0 new.owner.0) [
             | inl same ↦ grind (arith, nat_tests, same)
             | inr differs ↦
-                let its : presence_of (p ∷ present) new.owner.0 ≡ presence_of present new.owner.0 = grind (arith, nat_tests, differs) in
-                grind (arith, nat_tests, from, differs, length-with_present present new (rising_tail p present rising) (λ none. is (its ∙ none)))
+                let its = presence_of-behind p present new.owner.0 differs in
+                grind (arith, nat_tests, from, differs, length-with_present present new (rising_tail present_owner p present rising) (λ none. is (its ∙ none)))
           ]
     ]
 
@@ -286,11 +221,11 @@ length-without [] owner rising is = absurd (is refl)
 length-without (p ∷ present) owner rising is =
     elim (cases_eq p.owner.0 owner) [
       | inl same ↦
-          let below : IsBelow owner present = λ k d within. omega (arith, same, rising_head p present rising k d within) in
+          let below : IsBelow owner present = λ k d within. omega (arith, same, rising_head present_owner p present rising k d within) in
           grind (arith, nat_tests, same, ap length (without_owner-absent present owner (presence_of-below present owner below)))
       | inr differs ↦
-          let its : presence_of (p ∷ present) owner ≡ presence_of present owner = grind (arith, nat_tests, differs) in
-          grind (arith, nat_tests, differs, length-without present owner (rising_tail p present rising) (λ none. is (its ∙ none)))
+          let its = presence_of-behind p present owner differs in
+          grind (arith, nat_tests, differs, length-without present owner (rising_tail present_owner p present rising) (λ none. is (its ∙ none)))
     ]
 
 -- ---- order
@@ -299,12 +234,12 @@ pub rising-with : (present : List Present) (new : Present) → HasRisingOwners p
 rising-with [] new rising = λ i j d before within. absurd (omega arith)
 rising-with (p ∷ present) new rising =
     let R : Present → Present → Type 0 = λ x y. x.owner.0 < y.owner.0 in
-    let head : IsBelow p.owner.0 present = rising_head p present rising in
+    let head : IsBelow p.owner.0 present = rising_head present_owner p present rising in
     with_cases HasRisingOwners p present new
-    (λ before. AllPairs-cons R new (p ∷ present) (All-cons (R new) p present before (below_lesser p.owner.0 new.owner.0 present before head)) rising)
-    (λ same. AllPairs-cons R new present (λ k d within. omega (arith, same, head k d within)) (rising_tail p present rising))
+    (λ before. AllPairs-cons R new (p ∷ present) (All-cons (R new) p present before (above_lesser present_owner p.owner.0 new.owner.0 present before head)) rising)
+    (λ same. AllPairs-cons R new present (λ k d within. omega (arith, same, head k d within)) (rising_tail present_owner p present rising))
     (λ after. AllPairs-cons R p (with_presence present new) (all-with (R p) present new after head)
-    (rising-with present new (rising_tail p present rising)))
+    (rising-with present new (rising_tail present_owner p present rising)))
 
 pub rising-without : (present : List Present) (owner : ℕ) → HasRisingOwners present → HasRisingOwners (without_owner present owner)
 rising-without present owner rising = AllPairs-filter (λ (x y : Present). x.owner.0 < y.owner.0) _ present rising
@@ -347,15 +282,15 @@ below-aged request_ms now zero owner present below = below
 below-aged request_ms now (suc n) owner [] below = λ k d within. absurd (omega arith)
 below-aged request_ms now (suc n) owner (p ∷ present) below =
     All-cons (λ (q : Present). owner < q.owner.0) (without_old request_ms now p) (aged request_ms now n present) (below zero p (omega arith))
-    (below-aged request_ms now n owner present (below_tail owner p present below))
+    (below-aged request_ms now n owner present (above_tail present_owner owner p present below))
 
 pub rising-aged : (request_ms now n : ℕ) (present : List Present) → HasRisingOwners present → HasRisingOwners (aged request_ms now n present)
 rising-aged request_ms now zero present rising = rising
 rising-aged request_ms now (suc n) [] rising = λ i j d before within. absurd (omega arith)
 rising-aged request_ms now (suc n) (p ∷ present) rising =
     AllPairs-cons (λ (x y : Present). x.owner.0 < y.owner.0) (without_old request_ms now p) (aged request_ms now n present)
-    (below-aged request_ms now n p.owner.0 present (rising_head p present rising))
-    (rising-aged request_ms now n present (rising_tail p present rising))
+    (below-aged request_ms now n p.owner.0 present (rising_head present_owner p present rising))
+    (rising-aged request_ms now n present (rising_tail present_owner p present rising))
 
 -- the next one that ages is known by its owner, and the others are as they were
 pub presence_of-aged : (request_ms now n : ℕ) (present : List Present) (d : Present) → HasRisingOwners present → n < length present
@@ -363,8 +298,8 @@ pub presence_of-aged : (request_ms now n : ℕ) (present : List Present) (d : Pr
 presence_of-aged request_ms now n [] d rising below = absurd (omega (arith, below))
 presence_of-aged request_ms now zero (p ∷ present) d rising below = grind (arith, nat_tests)
 presence_of-aged request_ms now (suc n) (p ∷ present) d rising below =
-    let less : p.owner.0 < (get_or present n d).owner.0 = rising_head p present rising n d (omega (arith, below)) in
-    let rest = presence_of-aged request_ms now n present d (rising_tail p present rising) (omega (arith, below)) in
+    let less : p.owner.0 < (get_or present n d).owner.0 = rising_head present_owner p present rising n d (omega (arith, below)) in
+    let rest = presence_of-aged request_ms now n present d (rising_tail present_owner p present rising) (omega (arith, below)) in
     grind (arith, nat_tests, less, rest)
 
 pub presence_of-aged_other : (request_ms now n : ℕ) (present : List Present) (d : Present) (other : ℕ) → n < length present

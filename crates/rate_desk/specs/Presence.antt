@@ -1,5 +1,5 @@
 -- Who is present at a desk, with which stay, and what they ask for.
-use Rattle.std.specs.Prelude.{◌≡◌, ◌==◌, ℕ, ◌+◌, ◌<◌, ◌≤◌, nat_lt, nat_le, not, Bool, ◌&&◌, List, [], ◌∷◌, length, map, filter, All, Option, None, Some, option_map, if◌then◌else◌}
+use Rattle.std.specs.Prelude.{◌==◌, ℕ, ◌+◌, ◌≤◌, nat_lt, nat_le, not, Bool, ◌&&◌, List, [], ◌∷◌, length, map, filter, All, Option, None, Some, option_map, if◌then◌else◌}
 use Rattle.std.specs.Option.{option_map_or}
 use Rattle.std.specs.List.{filter_map}
 use Rattle.tmmbr_tuple.specs.declared.ssrc.Ssrc.{Ssrc}

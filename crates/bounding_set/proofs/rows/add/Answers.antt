@@ -1,7 +1,8 @@
 use Rattle.std.proofs.Common.{refl, sym, subst, Some}
 use Rattle.std.specs.Prelude.{IsNone}
+use Rattle.rate_cert.proofs.OwnerLemmas.{rising-insert}
 use Rattle.bounding_set.specs.Rows.{HasRisingOwners, IsRowOf, IsGapFor, Puts}
-use Rattle.bounding_set.proofs.RowLemmas.{Puts-insert, HasRisingOwners-insert, live_at_row}
+use Rattle.bounding_set.proofs.RowLemmas.{row_owner, Puts-insert, live_at_row}
 use Rattle.bounding_set.proofs.rows.add.Goals as goal
 
 gap : (c : goal.After-insert) → IsGapFor c.args.rows.now.items c.args.request.owner.0 c.in-Err.place
@@ -15,7 +16,7 @@ returns-in-Err-clause-put c =
 pub returns-in-Err-clause-rising : goal.returns-in-Err-clause-rising
 returns-in-Err-clause-rising c =
     subst HasRisingOwners (sym c.insert.ensures.items)
-    (HasRisingOwners-insert c.args.rows.now.items c.in-Err.place c.args.request (gap c) c.requires.rising)
+    (rising-insert row_owner c.args.rows.now.items c.in-Err.place c.args.request (gap c) c.requires.rising)
 
 -- the owner isn't live
 no_row : (c : goal.In_default) → ⊥
