@@ -8,7 +8,7 @@ use Rattle.std.proofs.lemmas.List.Elements.{All-append, All-cons, All-contains, 
 use Rattle.std.proofs.lemmas.List.Sums.{sum_by-cons}
 use Rattle.rate_cert.specs.declared.certificate.TheConstants.{MAX_REQUESTS}
 use Rattle.rate_cert.specs.declared.request.Request.{Request}
-use Rattle.rate_cert.proofs.OwnerLemmas.{one_row, first_of-absent}
+use Rattle.rate_cert.proofs.OwnerLemmas.{one_row, value_for-absent}
 use Rattle.bounding_set.specs.Rows.{HasRisingOwners, tuple_of}
 use Rattle.bounding_set.specs.Envelope.{IsEnvelopeOf}
 use Rattle.bounding_set.specs.Spliced.{IsSpliced}
@@ -139,7 +139,7 @@ module _ (rows old new : List Request) (x : Request) (rising : HasRisingOwners r
       let behind : s.high + i < length old = omega (arith, length-drop s.high old, at) in
       subst (λ (r : Request). r.owner.0 ≢ owner) (sym (get_or-drop s.high old i e))
       (λ same. owners_differ k (s.high + i) d e (omega arith) behind (sym same)))) in
-      first_of-absent row_owner row_tuple new owner (AllWithin-from_all (λ r. r.owner.0 ≢ owner) new (subst (All (λ r. r.owner.0 ≢ owner)) (sym s.is) differ))
+      value_for-absent row_owner row_tuple new owner (AllWithin-from_all (λ r. r.owner.0 ≢ owner) new (subst (All (λ r. r.owner.0 ≢ owner)) (sym s.is) differ))
 
   pub dropped_between : (tests : ℕ) (s : IsSpliced old x new tests) → s.high - s.low ≤ dropped_count old new
   dropped_between tests s = count_between (λ r. not (is_some (tuple_of new r.owner.0))) old s.low s.high s.in_range (λ k d from upto. grind (arith, nat_tests, dropped_has_none tests s k d from upto))

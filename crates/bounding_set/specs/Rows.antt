@@ -2,7 +2,7 @@
 use Rattle.std.specs.Prelude.{◌≡◌, ◌≢◌, ℕ, ◌+◌, length, List, Option, is_some, if◌then◌else◌}
 use Rattle.tmmbr_tuple.specs.declared.tuple.Tuple.{Tuple}
 use Rattle.rate_cert.specs.declared.request.Request.{Request}
-use Rattle.rate_cert.specs.Owners.{OwnersRise, first_of, IsOwnerAt, IsOwnerGap}
+use Rattle.rate_cert.specs.Owners.{OwnersRise, value_for, IsOwnerAt, IsOwnerGap}
 
 -- owners rise, so none stands twice
 abbrev pub HasRisingOwners : List Request → Type 0
@@ -10,7 +10,7 @@ HasRisingOwners rows = OwnersRise (λ r. r.owner.0) rows
 
 -- what the owner asks for, where it is live
 abbrev pub tuple_of : List Request → ℕ → Option Tuple
-tuple_of rows owner = first_of (λ r. r.owner.0) (λ r. r.tuple) rows owner
+tuple_of rows owner = value_for (λ r. r.owner.0) (λ r. r.tuple) rows owner
 
 -- the row at this place is the owner's
 abbrev pub IsRowOf : List Request → ℕ → ℕ → Type 0

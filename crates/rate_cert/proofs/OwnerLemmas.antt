@@ -1,5 +1,5 @@
 -- Rows by rising owner: what a search finds, what is known of an owner, and what an edit does.
-use Rattle.std.proofs.Common.{◌≡◌, ℕ, zero, suc, ◌+◌, ◌-◌, ◌<◌, ◌≤◌, ◌≢◌, eqb, List, [], ◌∷◌, length, get_or, if◌then◌else◌, Some, None, Result, Ok, Err, IfOk, IfErr, refl, sym, ap, ◌∙◌, inl, inr, subst, arith}
+use Rattle.std.proofs.Common.{◌≡◌, ℕ, zero, suc, ◌<◌, ◌≤◌, ◌≢◌, List, [], ◌∷◌, length, get_or, set, Some, None, Result, Ok, Err, IfOk, IfErr, refl, sym, ap, ◌∙◌, inl, inr, subst, arith}
 use Rattle.std.specs.Prelude.{All, Contains}
 use Rattle.std.specs.List.{insert, remove, AllWithin}
 use Rattle.std.specs.List.Sorted.{IsSearchInRange, IsBinarySearchResult, IsNonDecreasingBy}
@@ -8,8 +8,9 @@ use Rattle.std.proofs.lemmas.Bool.{cases_lt, cases_eq}
 use Rattle.std.proofs.lemmas.Bool.Decides.{nat_tests}
 use Rattle.std.proofs.lemmas.Cmp.{ranked}
 use Rattle.std.proofs.lemmas.List.{get_or_default}
-use Rattle.std.proofs.lemmas.List.Edits.{length-insert, get_or-insert_below, get_or-insert_at, get_or-insert_above}
-use Rattle.rate_cert.specs.Owners.{OwnersRise, first_of, IsOwnerAt, IsOwnerGap}
+use Rattle.std.proofs.lemmas.List.Kept.{AllPairs-cons, AllPairs-filter}
+use Rattle.std.proofs.lemmas.List.Elements.{All-cons}
+use Rattle.rate_cert.specs.Owners.{OwnersRise, value_for, with_row, without_row, IsOwnerAt, IsOwnerGap}
 
 module _ {A : Type 0} (owner_of : A → ℕ) where
   -- the owners of all rows are greater than this one
@@ -37,10 +38,10 @@ module _ {A : Type 0} (owner_of : A → ℕ) where
   not_before_tail : (r : A) (rows : List A) (owner place : ℕ) → NoOwnerBefore (r ∷ rows) owner (suc place) → NoOwnerBefore rows owner place
   not_before_tail r rows owner place before = λ k d low below. before (suc k) d (omega arith) (omega arith)
 
-  pub place_tail : (r : A) (rows : List A) (owner place : ℕ) → IsOwnerAt owner_of (r ∷ rows) owner (suc place) → IsOwnerAt owner_of rows owner place
+  place_tail : (r : A) (rows : List A) (owner place : ℕ) → IsOwnerAt owner_of (r ∷ rows) owner (suc place) → IsOwnerAt owner_of rows owner place
   place_tail r rows owner place is = record { in_range = omega (arith, is.in_range); is_owner = λ d. is.is_owner d }
 
-  pub gap_tail : (r : A) (rows : List A) (owner place : ℕ) → IsOwnerGap owner_of (r ∷ rows) owner (suc place) → IsOwnerGap owner_of rows owner place
+  gap_tail : (r : A) (rows : List A) (owner place : ℕ) → IsOwnerGap owner_of (r ∷ rows) owner (suc place) → IsOwnerGap owner_of rows owner place
   gap_tail r rows owner place gap = record {
     in_range = omega (arith, gap.in_range);
     lesser_before = λ k d low below. gap.lesser_before (suc k) d (omega arith) (omega arith);
@@ -48,19 +49,11 @@ module _ {A : Type 0} (owner_of : A → ℕ) where
   }
 
   -- the owner at a later place is greater than the first
-  pub place_above : (r : A) (rows : List A) (owner place : ℕ) → OwnersRise owner_of (r ∷ rows) → IsOwnerAt owner_of (r ∷ rows) owner (suc place)
+  place_above : (r : A) (rows : List A) (owner place : ℕ) → OwnersRise owner_of (r ∷ rows) → IsOwnerAt owner_of (r ∷ rows) owner (suc place)
       → owner_of r < owner
   place_above r rows owner place rising is = omega (arith, rising zero (suc place) r (omega arith) is.in_range, is.is_owner r)
 
   -- ---- places and gaps
-
-  -- no row before an owner's is its own, and none before its gap
-  pub not_before_place : (rows : List A) (owner place : ℕ) → OwnersRise owner_of rows → IsOwnerAt owner_of rows owner place
-      → NoOwnerBefore rows owner place
-  not_before_place rows owner place rising is = λ k d low below same. omega (arith, rising k place d below is.in_range, is.is_owner d)
-
-  pub not_before_gap : (rows : List A) (owner place : ℕ) → IsOwnerGap owner_of rows owner place → NoOwnerBefore rows owner place
-  not_before_gap rows owner place gap = λ k d low below same. omega (arith, gap.lesser_before k d low below)
 
   -- where there is a gap for an owner, it has no row
   pub none_with_gap : (rows : List A) (owner place : ℕ) → IsOwnerGap owner_of rows owner place → NoOwnerBefore rows owner (length rows)
@@ -83,6 +76,7 @@ module _ {A : Type 0} (owner_of : A → ℕ) where
             ]
       ]
 
+  -- where a row of the list stands, its owner is
   pub owner_at : (rows : List A) (x : A) (found : Contains rows x) (d : A) → owner_of (get_or rows found.0 d) ≡ owner_of x
   owner_at rows x found d = ap owner_of (get_or_default rows found.0 d x found.1 ∙ found.2)
 
@@ -125,93 +119,148 @@ module _ {A : Type 0} (owner_of : A → ℕ) where
 
   module _ {B : Type 0} (value_of : A → B) where
     -- nothing, where no row is the owner's
-    pub first_of-absent : (rows : List A) (owner : ℕ) → NoOwnerBefore rows owner (length rows) → first_of owner_of value_of rows owner ≡ None
-    first_of-absent [] owner before = refl
-    first_of-absent (r ∷ rows) owner before =
-        grind (arith, nat_tests, before 0 r (omega arith) (omega arith), first_of-absent rows owner (not_before_tail r rows owner _ before))
+    pub value_for-absent : (rows : List A) (owner : ℕ) → NoOwnerBefore rows owner (length rows) → value_for owner_of value_of rows owner ≡ None
+    value_for-absent [] owner before = refl
+    value_for-absent (r ∷ rows) owner before =
+        grind (arith, nat_tests, before 0 r (omega arith) (omega arith), value_for-absent rows owner (not_before_tail r rows owner _ before))
 
-    pub first_of-above : (rows : List A) (owner : ℕ) → OwnersAbove owner rows → first_of owner_of value_of rows owner ≡ None
-    first_of-above rows owner above = first_of-absent rows owner (λ k d low below same. omega (arith, above k d below))
+    pub value_for-above : (rows : List A) (owner : ℕ) → OwnersAbove owner rows → value_for owner_of value_of rows owner ≡ None
+    value_for-above rows owner above = value_for-absent rows owner (λ k d low below same. omega (arith, above k d below))
 
-    pub first_of-gap : (rows : List A) (owner place : ℕ) → IsOwnerGap owner_of rows owner place → first_of owner_of value_of rows owner ≡ None
-    first_of-gap rows owner place gap = first_of-absent rows owner (none_with_gap rows owner place gap)
+    pub value_for-gap : (rows : List A) (owner place : ℕ) → IsOwnerGap owner_of rows owner place → value_for owner_of value_of rows owner ≡ None
+    value_for-gap rows owner place gap = value_for-absent rows owner (none_with_gap rows owner place gap)
 
     -- the first row is the owner's, or the others say it
-    pub first_of-head : (r : A) (rows : List A) (owner : ℕ) → owner_of r ≡ owner → first_of owner_of value_of (r ∷ rows) owner ≡ Some (value_of r)
-    first_of-head r rows owner same = grind (arith, nat_tests, same)
+    pub value_for-head : (r : A) (rows : List A) (owner : ℕ) → owner_of r ≡ owner → value_for owner_of value_of (r ∷ rows) owner ≡ Some (value_of r)
+    value_for-head r rows owner same = grind (arith, nat_tests, same)
 
-    pub first_of-behind : (r : A) (rows : List A) (owner : ℕ) → owner_of r ≢ owner
-        → first_of owner_of value_of (r ∷ rows) owner ≡ first_of owner_of value_of rows owner
-    first_of-behind r rows owner differs = grind (arith, nat_tests, differs)
+    pub value_for-behind : (r : A) (rows : List A) (owner : ℕ) → owner_of r ≢ owner
+        → value_for owner_of value_of (r ∷ rows) owner ≡ value_for owner_of value_of rows owner
+    value_for-behind r rows owner differs = grind (arith, nat_tests, differs)
 
     -- what the row at the owner's place says
-    pub first_of-place : (rows : List A) (owner place : ℕ) (d : A) → OwnersRise owner_of rows → IsOwnerAt owner_of rows owner place
-        → first_of owner_of value_of rows owner ≡ Some (value_of (get_or rows place d))
-    first_of-place [] owner place d rising is = absurd (omega (arith, is.in_range))
-    first_of-place (r ∷ rows) owner zero d rising is = grind (arith, nat_tests, is.is_owner r)
-    first_of-place (r ∷ rows) owner (suc place) d rising is =
+    pub value_for-place : (rows : List A) (owner place : ℕ) (d : A) → OwnersRise owner_of rows → IsOwnerAt owner_of rows owner place
+        → value_for owner_of value_of rows owner ≡ Some (value_of (get_or rows place d))
+    value_for-place [] owner place d rising is = absurd (omega (arith, is.in_range))
+    value_for-place (r ∷ rows) owner zero d rising is = grind (arith, nat_tests, is.is_owner r)
+    value_for-place (r ∷ rows) owner (suc place) d rising is =
         grind (
           arith,
           nat_tests,
           place_above r rows owner place rising is,
-          first_of-place rows owner place d (rising_tail r rows rising) (place_tail r rows owner place is),
+          value_for-place rows owner place d (rising_tail r rows rising) (place_tail r rows owner place is),
         )
 
-    -- ---- edits
+    -- once a row was put in, or its owner's was taken out
+    pub value_for-with : (rows : List A) (new : A) → value_for owner_of value_of (with_row owner_of rows new) (owner_of new) ≡ Some (value_of new)
+    value_for-with [] new = grind (arith, nat_tests)
+    value_for-with (r ∷ rows) new = grind (arith, nat_tests, value_for-with rows new)
 
-    -- a new row before any row of its owner
-    first_of-insert_before : (rows : List A) (place : ℕ) (new : A) (q : ℕ) → NoOwnerBefore rows (owner_of new) place
-        → first_of owner_of value_of (insert rows place new) q ≡ (if eqb (owner_of new) q then Some (value_of new) else first_of owner_of value_of rows q)
-    first_of-insert_before rows zero new q before = refl
-    first_of-insert_before [] (suc place) new q before = refl
-    first_of-insert_before (r ∷ rows) (suc place) new q before =
-        grind (arith, nat_tests, before 0 r (omega arith) (omega arith), first_of-insert_before rows place new q (not_before_tail r rows _ place before))
+    pub value_for-with_other : (rows : List A) (new : A) (other : ℕ) → other ≢ owner_of new
+        → value_for owner_of value_of (with_row owner_of rows new) other ≡ value_for owner_of value_of rows other
+    value_for-with_other [] new other differs = grind (arith, nat_tests, differs)
+    value_for-with_other (r ∷ rows) new other differs = grind (arith, nat_tests, differs, value_for-with_other rows new other differs)
 
-    pub first_of-insert : (rows : List A) (place : ℕ) (new : A) (q : ℕ) → IsOwnerGap owner_of rows (owner_of new) place
-        → first_of owner_of value_of (insert rows place new) q ≡ (if eqb (owner_of new) q then Some (value_of new) else first_of owner_of value_of rows q)
-    first_of-insert rows place new q gap = first_of-insert_before rows place new q (not_before_gap rows (owner_of new) place gap)
+    pub value_for-without : (rows : List A) (owner : ℕ) → value_for owner_of value_of (without_row owner_of rows owner) owner ≡ None
+    value_for-without [] owner = refl
+    value_for-without (r ∷ rows) owner = grind (arith, nat_tests, value_for-without rows owner)
 
-    -- rows without the owner's
-    pub first_of-remove : (rows : List A) (place owner q : ℕ) → OwnersRise owner_of rows → IsOwnerAt owner_of rows owner place
-        → first_of owner_of value_of (remove rows place) q ≡ (if eqb owner q then None else first_of owner_of value_of rows q)
-    first_of-remove [] place owner q rising is = absurd (omega (arith, is.in_range))
-    first_of-remove (r ∷ rows) zero owner q rising is =
-        let above : OwnersAbove owner rows = λ k d below. omega (arith, is.is_owner r, rising_head r rows rising k d below) in
-        let gone : first_of owner_of value_of rows owner ≡ None = first_of-above rows owner above in
-        elim (cases_eq owner q) [
-          | inl same ↦ grind (arith, nat_tests, is.is_owner r, ap (first_of owner_of value_of rows) same)
-          | inr differs ↦ grind (arith, nat_tests, is.is_owner r)
-        ]
-    first_of-remove (r ∷ rows) (suc place) owner q rising is =
-        grind (
-          arith,
-          nat_tests,
-          place_above r rows owner place rising is,
-          first_of-remove rows place owner q (rising_tail r rows rising) (place_tail r rows owner place is),
-        )
+    pub value_for-without_other : (rows : List A) (owner other : ℕ) → other ≢ owner
+        → value_for owner_of value_of (without_row owner_of rows owner) other ≡ value_for owner_of value_of rows other
+    value_for-without_other [] owner other differs = refl
+    value_for-without_other (r ∷ rows) owner other differs = grind (arith, nat_tests, differs, value_for-without_other rows owner other differs)
 
-  pub rising-insert : (rows : List A) (place : ℕ) (new : A) → IsOwnerGap owner_of rows (owner_of new) place → OwnersRise owner_of rows
-      → OwnersRise owner_of (insert rows place new)
-  rising-insert rows place new gap rising i j d before below =
-      let longer = length-insert rows place new gap.in_range in
-      let new_rows = insert rows place new in
-      let owner : List A → ℕ → ℕ = λ rs k. owner_of (get_or rs k d) in
-      let at_below : (k : ℕ) → k < place → owner new_rows k ≡ owner rows k = λ k lt. ap owner_of (get_or-insert_below rows place new d k lt gap.in_range) in
-      let at_place : (k : ℕ) → k ≡ place → owner new_rows k ≡ owner_of new = λ k here. rw here (ap owner_of (get_or-insert_at rows place new d gap.in_range)) in
-      let at_above : (k : ℕ) → place < k → owner new_rows k ≡ owner rows (k - 1) = λ k above.
-      subst (λ q. owner new_rows q ≡ owner rows (k - 1)) {x = k - 1 + 1} (omega arith)
-      (ap owner_of (get_or-insert_above rows place new d (k - 1) (omega arith) gap.in_range)) in
+  -- ---- edits by place
+
+  -- a write over the owner's row
+  pub set_is : (rows : List A) (place : ℕ) (new : A) → OwnersRise owner_of rows → IsOwnerAt owner_of rows (owner_of new) place
+      → set rows place new ≡ with_row owner_of rows new
+  set_is [] place new rising is = absurd (omega (arith, is.in_range))
+  set_is (r ∷ rows) zero new rising is = grind (arith, nat_tests, is.is_owner r)
+  set_is (r ∷ rows) (suc place) new rising is =
       grind (
         arith,
-        at_below i,
-        at_place i,
-        at_above i,
-        at_below j,
-        at_place j,
-        at_above j,
-        rising i j d,
-        rising i (j - 1) d,
-        rising (i - 1) (j - 1) d,
-        gap.lesser_before i d,
-        gap.greater_after (j - 1) d,
+        nat_tests,
+        place_above r rows (owner_of new) place rising is,
+        set_is rows place new (rising_tail r rows rising) (place_tail r rows (owner_of new) place is),
       )
+
+  -- a new row at the place where it goes
+  pub insert_is : (rows : List A) (place : ℕ) (new : A) → IsOwnerGap owner_of rows (owner_of new) place → insert rows place new ≡ with_row owner_of rows new
+  insert_is [] zero new gap = refl
+  insert_is [] (suc place) new gap = absurd (omega (arith, gap.in_range))
+  insert_is (r ∷ rows) zero new gap = grind (arith, nat_tests, gap.greater_after zero r (omega arith) (omega arith))
+  insert_is (r ∷ rows) (suc place) new gap =
+      grind (
+        arith,
+        nat_tests,
+        gap.lesser_before zero r (omega arith) (omega arith),
+        insert_is rows place new (gap_tail r rows (owner_of new) place gap),
+      )
+
+  -- nothing is taken out where no row is the owner's
+  pub without-absent : (rows : List A) (owner : ℕ) → NoOwnerBefore rows owner (length rows) → without_row owner_of rows owner ≡ rows
+  without-absent [] owner before = refl
+  without-absent (r ∷ rows) owner before =
+      grind (arith, nat_tests, before 0 r (omega arith) (omega arith), without-absent rows owner (not_before_tail r rows owner _ before))
+
+  -- taking the row at the owner's place out
+  pub remove_is : (rows : List A) (place owner : ℕ) → OwnersRise owner_of rows → IsOwnerAt owner_of rows owner place
+      → remove rows place ≡ without_row owner_of rows owner
+  remove_is [] place owner rising is = absurd (omega (arith, is.in_range))
+  remove_is (r ∷ rows) zero owner rising is =
+      let none : NoOwnerBefore rows owner (length rows) = λ k d low below same.
+      omega (arith, is.is_owner r, rising_head r rows rising k d below) in
+      grind (arith, nat_tests, is.is_owner r, without-absent rows owner none)
+  remove_is (r ∷ rows) (suc place) owner rising is =
+      grind (
+        arith,
+        nat_tests,
+        place_above r rows owner place rising is,
+        remove_is rows place owner (rising_tail r rows rising) (place_tail r rows owner place is),
+      )
+
+  -- ---- what edits keep
+
+  -- the three ways in which rows go on that have this one put among them
+  with_cases : (P : List A → Type 0) (r : A) (rows : List A) (new : A)
+      → (owner_of new < owner_of r → P (new ∷ r ∷ rows)) → (owner_of r ≡ owner_of new → P (new ∷ rows))
+      → (owner_of r < owner_of new → P (r ∷ with_row owner_of rows new)) → P (with_row owner_of (r ∷ rows) new)
+  with_cases P r rows new before same after =
+      elim (cases_lt (owner_of new) (owner_of r)) [
+        | inl lt ↦
+            let e : new ∷ r ∷ rows ≡ with_row owner_of (r ∷ rows) new = grind (arith, nat_tests, lt) in
+            subst P e (before lt)
+        | inr from ↦
+            elim (cases_eq (owner_of r) (owner_of new)) [
+              | inl is ↦
+                  let e : new ∷ rows ≡ with_row owner_of (r ∷ rows) new = grind (arith, nat_tests, is) in
+                  subst P e (same is)
+              | inr differs ↦
+                  let e : r ∷ with_row owner_of rows new ≡ with_row owner_of (r ∷ rows) new = grind (arith, nat_tests, from, differs) in
+                  subst P e (after (omega (arith, from, differs)))
+            ]
+      ]
+
+  pub all-with : (Q : A → Type 0) (rows : List A) (new : A) → Q new → All Q rows → All Q (with_row owner_of rows new)
+  all-with Q [] new holds all = All-cons Q new [] holds all
+  all-with Q (r ∷ rows) new holds all =
+      let rest : All Q rows = λ k d within. all (suc k) d (omega arith) in
+      with_cases (All Q) r rows new
+      (λ before. All-cons Q new (r ∷ rows) holds all)
+      (λ same. All-cons Q new rows holds rest)
+      (λ after. All-cons Q r (with_row owner_of rows new) (all zero r (omega arith)) (all-with Q rows new holds rest))
+
+  pub rising-with : (rows : List A) (new : A) → OwnersRise owner_of rows → OwnersRise owner_of (with_row owner_of rows new)
+  rising-with [] new rising = λ i j d before within. absurd (omega arith)
+  rising-with (r ∷ rows) new rising =
+      let R : A → A → Type 0 = λ x y. owner_of x < owner_of y in
+      let head : OwnersAbove (owner_of r) rows = rising_head r rows rising in
+      with_cases (OwnersRise owner_of) r rows new
+      (λ before. AllPairs-cons R new (r ∷ rows) (All-cons (R new) r rows before (above_lesser (owner_of r) (owner_of new) rows before head)) rising)
+      (λ same. AllPairs-cons R new rows (λ k d within. omega (arith, same, head k d within)) (rising_tail r rows rising))
+      (λ after. AllPairs-cons R r (with_row owner_of rows new) (all-with (R r) rows new after head)
+      (rising-with rows new (rising_tail r rows rising)))
+
+  pub rising-without : (rows : List A) (owner : ℕ) → OwnersRise owner_of rows → OwnersRise owner_of (without_row owner_of rows owner)
+  rising-without rows owner rising = AllPairs-filter (λ (x y : A). owner_of x < owner_of y) _ rows rising

@@ -7,13 +7,13 @@ use Rattle.std.proofs.lemmas.List.Kept.{AllPairs-cons}
 use Rattle.std.proofs.lemmas.List.Elements.{All-cons}
 use Rattle.tmmbr_tuple.specs.declared.tuple.Tuple.{Tuple}
 use Rattle.rate_cert.specs.declared.request.Request.{Request}
-use Rattle.rate_cert.proofs.OwnerLemmas.{OwnersAbove, rising_tail, rising_head, above_tail, first_of-above, first_of-head, first_of-behind}
+use Rattle.rate_cert.proofs.OwnerLemmas.{OwnersAbove, rising_tail, rising_head, above_tail, rising-with, rising-without, value_for-above, value_for-head, value_for-behind}
 use Rattle.bounding_set.specs.Rows.{HasRisingOwners as RowsRise, tuple_of, Puts}
 use Rattle.bounding_set.proofs.RowLemmas.{row_owner, row_tuple}
 use Rattle.rate_desk.specs.declared.presence.Present.{Present}
 use Rattle.rate_desk.specs.declared.presence.Asked.{Asked}
 use Rattle.rate_desk.specs.Presence.{HasRisingOwners, HasStays, presence_of, stay_in, with_presence, without_owner, live_requests, without_old, unless_absent_with_room}
-use Rattle.rate_desk.proofs.PresenceLemmas.{IsBelow, present_owner, presence_of-first, presence_of-behind, presence_of-with, presence_of-with_other, presence_of-without, presence_of-without_other, present_with_stay, rising-with, rising-without, rising-aged, absent-arrive, aged, is_aged, presence_of-aged, presence_of-aged_other, without_old-old, aged-young}
+use Rattle.rate_desk.proofs.PresenceLemmas.{IsBelow, present_owner, presence_of-first, presence_of-behind, presence_of-with, presence_of-with_other, presence_of-without, presence_of-without_other, present_with_stay, rising-aged, absent-arrive, aged, is_aged, presence_of-aged, presence_of-aged_other, without_old-old, aged-young}
 
 -- these requests have greater owners
 abbrev AreAbove : ℕ → List Request → Type 0
@@ -22,13 +22,13 @@ AreAbove owner rows = OwnersAbove row_owner owner rows
 -- ---- rows and what their owners ask for
 
 tuple_of-above : (rows : List Request) (owner : ℕ) → AreAbove owner rows → tuple_of rows owner ≡ None
-tuple_of-above rows owner above = first_of-above row_owner row_tuple rows owner above
+tuple_of-above rows owner above = value_for-above row_owner row_tuple rows owner above
 
 tuple_of-first : (r : Request) (rows : List Request) (owner : ℕ) → r.owner.0 ≡ owner → tuple_of (r ∷ rows) owner ≡ Some r.tuple
-tuple_of-first r rows owner same = first_of-head row_owner row_tuple r rows owner same
+tuple_of-first r rows owner same = value_for-head row_owner row_tuple r rows owner same
 
 tuple_of-behind : (r : Request) (rows : List Request) (owner : ℕ) → r.owner.0 ≢ owner → tuple_of (r ∷ rows) owner ≡ tuple_of rows owner
-tuple_of-behind r rows owner differs = first_of-behind row_owner row_tuple r rows owner differs
+tuple_of-behind r rows owner differs = value_for-behind row_owner row_tuple r rows owner differs
 
 -- the first row of such a list isn't above that of one with the same tuples
 not_above : (x : Request) (xs : List Request) (y : Request) (ys : List Request) → RowsRise (y ∷ ys)
@@ -193,13 +193,13 @@ pub live-requested : (present : List Present) (new : Present) (asked : Asked) (r
     → RowsRise rows → new.asked ≡ Some asked → Puts (live_requests present) rows new.owner.0 (Some asked.tuple)
     → rows ≡ live_requests (with_presence present new)
 live-requested present new asked rows rising rows_rise asks puts =
-    live-put present (with_presence present new) rows new.owner.0 (Some asked.tuple) rising (rising-with present new rising)
+    live-put present (with_presence present new) rows new.owner.0 (Some asked.tuple) rising (rising-with present_owner present new rising)
     (ap asked_by (presence_of-with present new) ∙ ap tuple_in asks) (presence_of-with_other present new) rows_rise puts
 
 pub live-departed : (present : List Present) (rows : List Request) (owner : ℕ) → HasRisingOwners present
     → RowsRise rows → Puts (live_requests present) rows owner None → rows ≡ live_requests (without_owner present owner)
 live-departed present rows owner rising rows_rise puts =
-    live-put present (without_owner present owner) rows owner None rising (rising-without present owner rising)
+    live-put present (without_owner present owner) rows owner None rising (rising-without present_owner present owner rising)
     (ap asked_by (presence_of-without present owner)) (presence_of-without_other present owner) rows_rise puts
 
 pub live-arrived : (present : List Present) (new : Present) → HasRisingOwners present → HasStays present
@@ -207,7 +207,7 @@ pub live-arrived : (present : List Present) (new : Present) → HasRisingOwners 
 live-arrived present new rising stays quiet accepted =
     let nothing : tuple_of (live_requests present) new.owner.0 ≡ None =
     tuple_of-live present new.owner.0 rising ∙ ap asked_by (absent-arrive present new.owner.0 stays accepted) in
-    live-put present (with_presence present new) (live_requests present) new.owner.0 None rising (rising-with present new rising)
+    live-put present (with_presence present new) (live_requests present) new.owner.0 None rising (rising-with present_owner present new rising)
     (ap asked_by (presence_of-with present new) ∙ ap tuple_in quiet) (presence_of-with_other present new) (live-rising present rising)
     (record { changed = nothing; others = λ other differs. refl })
 

@@ -1,15 +1,14 @@
 -- Who is present, by rising owner: what a search finds, and what an edit does.
 use Rattle.std.proofs.Common.{◌≡◌, ℕ, zero, suc, ◌+◌, ◌<◌, ◌≤◌, ◌≢◌, Bool, true, false, cond, Option, map, List, [], ◌∷◌, length, get_or, set, take, drop, ◌++◌, Some, None, refl, sym, ap, inl, inr, subst, ◌∙◌, arith}
-use Rattle.std.specs.Prelude.{All}
-use Rattle.std.specs.List.{insert, remove, refill}
+use Rattle.std.specs.List.{refill}
 use Rattle.std.specs.Option.{option_map_or}
 use Rattle.std.proofs.Math.Seq.{take-append_seam}
 use Rattle.std.proofs.lemmas.Bool.{cases_lt, cases_eq}
 use Rattle.std.proofs.lemmas.Bool.Decides.{nat_tests}
 use Rattle.std.proofs.lemmas.List.{length-set, length-map}
-use Rattle.std.proofs.lemmas.List.Kept.{AllPairs-cons, AllPairs-filter}
+use Rattle.std.proofs.lemmas.List.Kept.{AllPairs-cons}
 use Rattle.std.proofs.lemmas.List.Elements.{All-cons, All-filter, All-map}
-use Rattle.rate_cert.proofs.OwnerLemmas.{OwnersAbove, rising_tail, rising_head, above_tail, above_lesser, place_tail, gap_tail, place_above, first_of-above, first_of-head, first_of-behind, first_of-place, first_of-gap}
+use Rattle.rate_cert.proofs.OwnerLemmas.{OwnersAbove, NoOwnerBefore, rising_tail, rising_head, above_tail, above_lesser, value_for-above, value_for-head, value_for-behind, value_for-place, value_for-gap, value_for-with, value_for-with_other, value_for-without, value_for-without_other, without-absent, all-with, rising-with, rising-without}
 use Rattle.rate_desk.specs.declared.presence.Asked.{Asked}
 use Rattle.rate_desk.specs.declared.presence.Present.{Present}
 use Rattle.rate_desk.specs.declared.presence.TheConstants.{PRESENT_LIMIT}
@@ -32,36 +31,23 @@ IsBelow owner present = OwnersAbove present_owner owner present
 -- ---- what is known of an owner
 
 pub presence_of-below : (present : List Present) (owner : ℕ) → IsBelow owner present → presence_of present owner ≡ None
-presence_of-below present owner is = first_of-above present_owner (λ p. p) present owner is
+presence_of-below present owner is = value_for-above present_owner (λ p. p) present owner is
 
 pub presence_of-first : (p : Present) (present : List Present) (owner : ℕ) → p.owner.0 ≡ owner → presence_of (p ∷ present) owner ≡ Some p
-presence_of-first p present owner same = first_of-head present_owner (λ q. q) p present owner same
+presence_of-first p present owner same = value_for-head present_owner (λ q. q) p present owner same
 
 pub presence_of-behind : (p : Present) (present : List Present) (owner : ℕ) → p.owner.0 ≢ owner
     → presence_of (p ∷ present) owner ≡ presence_of present owner
-presence_of-behind p present owner differs = first_of-behind present_owner (λ q. q) p present owner differs
+presence_of-behind p present owner differs = value_for-behind present_owner (λ q. q) p present owner differs
 
 pub presence_of-place : (present : List Present) (owner place : ℕ) (d : Present) → HasRisingOwners present → IsOwnerPlace present owner place
     → presence_of present owner ≡ Some (get_or present place d)
-presence_of-place present owner place d rising is = first_of-place present_owner (λ p. p) present owner place d rising is
+presence_of-place present owner place d rising is = value_for-place present_owner (λ p. p) present owner place d rising is
 
 pub presence_of-gap : (present : List Present) (owner place : ℕ) → IsGapFor present owner place → presence_of present owner ≡ None
-presence_of-gap present owner place gap = first_of-gap present_owner (λ p. p) present owner place gap
+presence_of-gap present owner place gap = value_for-gap present_owner (λ p. p) present owner place gap
 
 -- ---- edits
-
--- a write over what was known of the owner
-pub set_is : (present : List Present) (place : ℕ) (new : Present) → HasRisingOwners present → IsOwnerPlace present new.owner.0 place
-    → set present place new ≡ with_presence present new
-set_is [] place new rising is = absurd (omega (arith, is.in_range))
-set_is (p ∷ present) zero new rising is = grind (arith, nat_tests, is.is_owner p)
-set_is (p ∷ present) (suc place) new rising is =
-    grind (
-      arith,
-      nat_tests,
-      place_above present_owner p present new.owner.0 place rising is,
-      set_is present place new (rising_tail present_owner p present rising) (place_tail present_owner p present new.owner.0 place is),
-    )
 
 -- what an `ArrayVec` has after a write through its slice
 pub refill-set : (present slice : List Present) (place : ℕ) (new : Present) → slice ≡ present
@@ -72,95 +58,19 @@ refill-set present slice place new is =
     ∙ ap (λ n. take n (written ++ drop (length written) present)) (sym (length-set present place new))
     ∙ take-append_seam written (drop (length written) present)
 
--- a new one at the place where it goes
-pub insert_is : (present : List Present) (place : ℕ) (new : Present) → IsGapFor present new.owner.0 place
-    → insert present place new ≡ with_presence present new
-insert_is [] zero new gap = refl
-insert_is [] (suc place) new gap = absurd (omega (arith, gap.in_range))
-insert_is (p ∷ present) zero new gap = grind (arith, nat_tests, gap.greater_after zero p (omega arith) (omega arith))
-insert_is (p ∷ present) (suc place) new gap =
-    grind (
-      arith,
-      nat_tests,
-      gap.lesser_before zero p (omega arith) (omega arith),
-      insert_is present place new (gap_tail present_owner p present new.owner.0 place gap),
-    )
-
-pub without_owner-absent : (present : List Present) (owner : ℕ) → presence_of present owner ≡ None → without_owner present owner ≡ present
-without_owner-absent [] owner none = refl
-without_owner-absent (p ∷ present) owner none =
-    elim (cases_eq p.owner.0 owner) [
-      | inl same ↦ grind (arith, nat_tests, same, none)
-      | inr differs ↦
-          let rest : presence_of present owner ≡ None = grind (arith, nat_tests, differs, none) in
-          grind (arith, nat_tests, differs, without_owner-absent present owner rest)
-    ]
-
--- taking the one at its place out
-pub remove_is : (present : List Present) (place owner : ℕ) → HasRisingOwners present → IsOwnerPlace present owner place
-    → remove present place ≡ without_owner present owner
-remove_is [] place owner rising is = absurd (omega (arith, is.in_range))
-remove_is (p ∷ present) zero owner rising is =
-    let same : p.owner.0 ≡ owner = is.is_owner p in
-    let below : IsBelow owner present = λ k d within. omega (arith, same, rising_head present_owner p present rising k d within) in
-    grind (arith, nat_tests, same, without_owner-absent present owner (presence_of-below present owner below))
-remove_is (p ∷ present) (suc place) owner rising is =
-    grind (
-      arith,
-      nat_tests,
-      place_above present_owner p present owner place rising is,
-      remove_is present place owner (rising_tail present_owner p present rising) (place_tail present_owner p present owner place is),
-    )
-
--- the three ways in which a list goes on that has this one put among it
-pub with_cases : (P : List Present → Type 0) (p : Present) (present : List Present) (new : Present)
-    → (new.owner.0 < p.owner.0 → P (new ∷ p ∷ present)) → (p.owner.0 ≡ new.owner.0 → P (new ∷ present))
-    → (p.owner.0 < new.owner.0 → P (p ∷ with_presence present new)) → P (with_presence (p ∷ present) new)
-with_cases P p present new before same after =
-    elim (cases_lt new.owner.0 p.owner.0) [
-      | inl lt ↦
-          let e : new ∷ p ∷ present ≡ with_presence (p ∷ present) new = grind (arith, nat_tests, lt) in
-          subst P e (before lt)
-      | inr from ↦
-          elim (cases_eq p.owner.0 new.owner.0) [
-            | inl is ↦
-                let e : new ∷ present ≡ with_presence (p ∷ present) new = grind (arith, nat_tests, is) in
-                subst P e (same is)
-            | inr differs ↦
-                let e : p ∷ with_presence present new ≡ with_presence (p ∷ present) new = grind (arith, nat_tests, from, differs) in
-                subst P e (after (omega (arith, from, differs)))
-          ]
-    ]
-
-pub all-with : (Q : Present → Type 0) (present : List Present) (new : Present) → Q new → All Q present → All Q (with_presence present new)
-all-with Q [] new holds all = All-cons Q new [] holds all
-all-with Q (p ∷ present) new holds all =
-    let rest : All Q present = λ k d within. all (suc k) d (omega arith) in
-    with_cases (All Q) p present new
-    (λ before. All-cons Q new (p ∷ present) holds all)
-    (λ same. All-cons Q new present holds rest)
-    (λ after. All-cons Q p (with_presence present new) (all zero p (omega arith)) (all-with Q present new holds rest))
-
--- ---- what is known of owners after an edit
-
 pub presence_of-with : (present : List Present) (new : Present) → presence_of (with_presence present new) new.owner.0 ≡ Some new
-presence_of-with [] new = grind (arith, nat_tests)
-presence_of-with (p ∷ present) new = grind (arith, nat_tests, presence_of-with present new)
+presence_of-with present new = value_for-with present_owner (λ p. p) present new
 
 pub presence_of-with_other : (present : List Present) (new : Present) (other : ℕ) → other ≢ new.owner.0
     → presence_of (with_presence present new) other ≡ presence_of present other
-presence_of-with_other [] new other differs = grind (arith, nat_tests, differs)
-presence_of-with_other (p ∷ present) new other differs = grind (arith, nat_tests, differs, presence_of-with_other present new other differs)
+presence_of-with_other present new other differs = value_for-with_other present_owner (λ p. p) present new other differs
 
 pub presence_of-without : (present : List Present) (owner : ℕ) → presence_of (without_owner present owner) owner ≡ None
-presence_of-without [] owner = refl
-presence_of-without (p ∷ present) owner = grind (arith, nat_tests, presence_of-without present owner)
+presence_of-without present owner = value_for-without present_owner (λ p. p) present owner
 
 pub presence_of-without_other : (present : List Present) (owner other : ℕ) → other ≢ owner
     → presence_of (without_owner present owner) other ≡ presence_of present other
-presence_of-without_other [] owner other differs = refl
-presence_of-without_other (p ∷ present) owner other differs =
-    grind (arith, nat_tests, differs, presence_of-without_other present owner other differs)
+presence_of-without_other present owner other differs = value_for-without_other present_owner (λ p. p) present owner other differs
 
 -- ---- stays
 
@@ -221,28 +131,13 @@ length-without [] owner rising is = absurd (is refl)
 length-without (p ∷ present) owner rising is =
     elim (cases_eq p.owner.0 owner) [
       | inl same ↦
-          let below : IsBelow owner present = λ k d within. omega (arith, same, rising_head present_owner p present rising k d within) in
-          grind (arith, nat_tests, same, ap length (without_owner-absent present owner (presence_of-below present owner below)))
+          let none : NoOwnerBefore present_owner present owner (length present) = λ k d low within is.
+          omega (arith, same, is, rising_head present_owner p present rising k d within) in
+          grind (arith, nat_tests, same, ap length (without-absent present_owner present owner none))
       | inr differs ↦
           let its = presence_of-behind p present owner differs in
           grind (arith, nat_tests, differs, length-without present owner (rising_tail present_owner p present rising) (λ none. is (its ∙ none)))
     ]
-
--- ---- order
-
-pub rising-with : (present : List Present) (new : Present) → HasRisingOwners present → HasRisingOwners (with_presence present new)
-rising-with [] new rising = λ i j d before within. absurd (omega arith)
-rising-with (p ∷ present) new rising =
-    let R : Present → Present → Type 0 = λ x y. x.owner.0 < y.owner.0 in
-    let head : IsBelow p.owner.0 present = rising_head present_owner p present rising in
-    with_cases HasRisingOwners p present new
-    (λ before. AllPairs-cons R new (p ∷ present) (All-cons (R new) p present before (above_lesser present_owner p.owner.0 new.owner.0 present before head)) rising)
-    (λ same. AllPairs-cons R new present (λ k d within. omega (arith, same, head k d within)) (rising_tail present_owner p present rising))
-    (λ after. AllPairs-cons R p (with_presence present new) (all-with (R p) present new after head)
-    (rising-with present new (rising_tail present_owner p present rising)))
-
-pub rising-without : (present : List Present) (owner : ℕ) → HasRisingOwners present → HasRisingOwners (without_owner present owner)
-rising-without present owner rising = AllPairs-filter (λ (x y : Present). x.owner.0 < y.owner.0) _ present rising
 
 -- ---- age
 
@@ -373,17 +268,17 @@ stays-expired : (request_ms now : ℕ) (present : List Present) → HasStays pre
 stays-expired request_ms now present stays = All-map (λ (p : Present). 1 ≤ p.stay) (without_old request_ms now) present stays
 
 pub rising-by : (request_ms now : ℕ) (present : List Present) (call : Call) → HasRisingOwners present → HasRisingOwners (present_by request_ms now present call)
-rising-by request_ms now present (Stay owner stay Arrive) rising = rising-with present _ rising
-rising-by request_ms now present (Stay owner stay (Ask tuple)) rising = rising-with present _ rising
-rising-by request_ms now present (Stay owner stay Depart) rising = rising-without present owner.0 rising
+rising-by request_ms now present (Stay owner stay Arrive) rising = rising-with present_owner present _ rising
+rising-by request_ms now present (Stay owner stay (Ask tuple)) rising = rising-with present_owner present _ rising
+rising-by request_ms now present (Stay owner stay Depart) rising = rising-without present_owner present owner.0 rising
 rising-by request_ms now present (Time moment Pli) rising = rising
 rising-by request_ms now present (Time moment Tick) rising = rising
 rising-by request_ms now present (Time moment Expire) rising = rising-expired request_ms now present rising
 
 pub stays-by : (request_ms now : ℕ) (present : List Present) (call : Call) → HasStay call → HasStays present
     → HasStays (present_by request_ms now present call)
-stays-by request_ms now present (Stay owner stay Arrive) from stays = all-with (λ (p : Present). 1 ≤ p.stay) present _ from stays
-stays-by request_ms now present (Stay owner stay (Ask tuple)) from stays = all-with (λ (p : Present). 1 ≤ p.stay) present _ from stays
+stays-by request_ms now present (Stay owner stay Arrive) from stays = all-with present_owner (λ (p : Present). 1 ≤ p.stay) present _ from stays
+stays-by request_ms now present (Stay owner stay (Ask tuple)) from stays = all-with present_owner (λ (p : Present). 1 ≤ p.stay) present _ from stays
 stays-by request_ms now present (Stay owner stay Depart) from stays = All-filter _ (λ (p : Present). 1 ≤ p.stay) present stays
 stays-by request_ms now present (Time moment Pli) from stays = stays
 stays-by request_ms now present (Time moment Tick) from stays = stays

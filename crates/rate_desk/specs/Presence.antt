@@ -1,10 +1,10 @@
 -- Who is present at a desk, with which stay, and what they ask for.
-use Rattle.std.specs.Prelude.{◌==◌, ℕ, ◌+◌, ◌≤◌, nat_lt, nat_le, not, Bool, ◌&&◌, List, [], ◌∷◌, length, map, filter, All, Option, None, Some, option_map, if◌then◌else◌}
+use Rattle.std.specs.Prelude.{◌==◌, ℕ, ◌+◌, ◌≤◌, nat_lt, nat_le, not, Bool, ◌&&◌, List, length, map, All, Option, None, Some, option_map, if◌then◌else◌}
 use Rattle.std.specs.Option.{option_map_or}
 use Rattle.std.specs.List.{filter_map}
 use Rattle.tmmbr_tuple.specs.declared.ssrc.Ssrc.{Ssrc}
 use Rattle.rate_cert.specs.declared.request.Request.{Request}
-use Rattle.rate_cert.specs.Owners.{OwnersRise, first_of, IsOwnerAt, IsOwnerGap}
+use Rattle.rate_cert.specs.Owners.{OwnersRise, value_for, with_row, without_row, IsOwnerAt, IsOwnerGap}
 use Rattle.rate_desk.specs.declared.presence.Asked.{Asked}
 use Rattle.rate_desk.specs.declared.presence.Present.{Present}
 use Rattle.rate_desk.specs.declared.presence.TheConstants.{PRESENT_LIMIT}
@@ -27,7 +27,7 @@ HasStays present = All (λ p. 1 ≤ p.stay) present
 
 -- what is known of the owner, where it is present
 abbrev pub presence_of : List Present → ℕ → Option Present
-presence_of present owner = first_of (λ p. p.owner.0) (λ p. p) present owner
+presence_of present owner = value_for (λ p. p.owner.0) (λ p. p) present owner
 
 -- the stay with which the owner is present, 0 where it isn't
 abbrev pub stay_in : List Present → ℕ → ℕ
@@ -39,14 +39,10 @@ asked_in present owner = option_map_or (λ (p : Present). p.asked) (presence_of 
 
 -- by rising owner, with this in the place of what was known of the owner
 abbrev pub with_presence : List Present → Present → List Present
-with_presence [] new = new ∷ []
-with_presence (p ∷ present) new =
-    if nat_lt new.owner.0 p.owner.0 then new ∷ p ∷ present
-    else if p.owner.0 == new.owner.0 then new ∷ present
-    else p ∷ with_presence present new
+with_presence present new = with_row (λ p. p.owner.0) present new
 
 abbrev pub without_owner : List Present → ℕ → List Present
-without_owner present owner = filter (λ (p : Present). not (p.owner.0 == owner)) present
+without_owner present owner = without_row (λ p. p.owner.0) present owner
 
 -- the live requests, by rising owner
 abbrev pub request_of : Present → Option Request

@@ -1,6 +1,6 @@
-use Rattle.std.proofs.Common.{refl, sym, subst, Some}
+use Rattle.std.proofs.Common.{◌∙◌, refl, sym, subst, Some}
 use Rattle.std.specs.Prelude.{IsNone}
-use Rattle.rate_cert.proofs.OwnerLemmas.{rising-insert}
+use Rattle.rate_cert.proofs.OwnerLemmas.{insert_is, rising-with}
 use Rattle.bounding_set.specs.Rows.{HasRisingOwners, IsRowOf, IsGapFor, Puts}
 use Rattle.bounding_set.proofs.RowLemmas.{row_owner, Puts-insert, live_at_row}
 use Rattle.bounding_set.proofs.rows.add.Goals as goal
@@ -15,8 +15,8 @@ returns-in-Err-clause-put c =
 
 pub returns-in-Err-clause-rising : goal.returns-in-Err-clause-rising
 returns-in-Err-clause-rising c =
-    subst HasRisingOwners (sym c.insert.ensures.items)
-    (rising-insert row_owner c.args.rows.now.items c.in-Err.place c.args.request (gap c) c.requires.rising)
+    subst HasRisingOwners (sym (c.insert.ensures.items ∙ insert_is row_owner c.args.rows.now.items c.in-Err.place c.args.request (gap c)))
+    (rising-with row_owner c.args.rows.now.items c.args.request c.requires.rising)
 
 -- the owner isn't live
 no_row : (c : goal.In_default) → ⊥

@@ -1,6 +1,7 @@
-use Rattle.std.proofs.Common.{◌≡◌, ◌∙◌, sym, subst}
+use Rattle.std.proofs.Common.{◌∙◌, sym, subst}
+use Rattle.rate_cert.proofs.OwnerLemmas.{remove_is, without-absent, none_with_gap}
 use Rattle.rate_desk.specs.Presence.{IsOwnerPlace, IsGapFor}
-use Rattle.rate_desk.proofs.PresenceLemmas.{remove_is, without_owner-absent, presence_of-gap}
+use Rattle.rate_desk.proofs.PresenceLemmas.{present_owner}
 use Rattle.rate_desk.proofs.presence.leave.Goals as goal
 
 pub returns-in-Ok : goal.returns-in-Ok
@@ -8,11 +9,11 @@ returns-in-Ok c =
     let present = c.args.present.now.items in
     let is : IsOwnerPlace present c.args.owner.0 c.in-Ok.place =
     subst (λ ps. IsOwnerPlace ps c.args.owner.0 c.in-Ok.place) c.as_slice.ensures.value c.in-Ok.ensures.found in
-    c.remove.ensures.items ∙ remove_is present c.in-Ok.place c.args.owner.0 c.requires is
+    c.remove.ensures.items ∙ remove_is present_owner present c.in-Ok.place c.args.owner.0 c.requires is
 
 pub returns-in_default : goal.returns-in_default
 returns-in_default c =
     let present = c.args.present.now.items in
     let gap : IsGapFor present c.args.owner.0 c.in_default.field-0 =
     subst (λ ps. IsGapFor ps c.args.owner.0 c.in_default.field-0) c.as_slice.ensures.value c.in_default.ensures.absent in
-    sym (without_owner-absent present c.args.owner.0 (presence_of-gap present c.args.owner.0 c.in_default.field-0 gap))
+    sym (without-absent present_owner present c.args.owner.0 (none_with_gap present_owner present c.args.owner.0 c.in_default.field-0 gap))

@@ -1,7 +1,8 @@
 use Rattle.std.proofs.Common.{◌∙◌, ap, subst, arith}
 use Rattle.std.specs.Prelude.{is_some}
+use Rattle.rate_cert.proofs.OwnerLemmas.{set_is, insert_is}
 use Rattle.rate_desk.specs.Presence.{IsOwnerPlace, IsGapFor}
-use Rattle.rate_desk.proofs.PresenceLemmas.{set_is, insert_is, refill-set, presence_of-gap}
+use Rattle.rate_desk.proofs.PresenceLemmas.{present_owner, refill-set, presence_of-gap}
 use Rattle.rate_desk.proofs.presence.put.Goals as goal
 
 pub insert-requires : goal.insert-requires
@@ -18,11 +19,11 @@ returns-in-Ok c =
     let is : IsOwnerPlace present c.args.new.owner.0 c.in-Ok.place =
     subst (λ ps. IsOwnerPlace ps c.args.new.owner.0 c.in-Ok.place) c.as_slice.ensures.value c.in-Ok.ensures.found in
     refill-set present c.as_mut_slice-slice.result.now c.in-Ok.place c.args.new c.as_mut_slice-slice.ensures.value
-    ∙ set_is present c.in-Ok.place c.args.new c.requires.rising is
+    ∙ set_is present_owner present c.in-Ok.place c.args.new c.requires.rising is
 
 pub returns-in-Err : goal.returns-in-Err
 returns-in-Err c =
     let present = c.args.present.now.items in
     let gap : IsGapFor present c.args.new.owner.0 c.in-Err.place =
     subst (λ ps. IsGapFor ps c.args.new.owner.0 c.in-Err.place) c.as_slice.ensures.value c.in-Err.ensures.absent in
-    c.insert.ensures.items ∙ insert_is present c.in-Err.place c.args.new gap
+    c.insert.ensures.items ∙ insert_is present_owner present c.in-Err.place c.args.new gap
