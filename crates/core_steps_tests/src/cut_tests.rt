@@ -124,28 +124,39 @@ fn text_of(alloc: Global, world: &World, outs: &[Out]) -> Result<String, fmt::Er
     Ok(text)
 }
 
-/// What the events give out in one call, and the world behind them.
-fn in_one_call(alloc: Global, settings: &Settings, events: &[Event]) -> Result<String, Fail> {
-    let mut world = World::new(alloc, settings)?;
+/// A new world of these settings, of which nothing is said.
+fn new_world(alloc: Global, settings: &Settings) -> Result<World, AllocError> {
+    World::new(alloc, settings)
+}
+
+/// What the events give out in one call or in many, and the world behind them.
+fn given(
+    alloc: Global,
+    settings: &Settings,
+    events: &[Event],
+    in_many: bool,
+) -> Result<String, Fail> {
+    let mut world = new_world(alloc, settings)?;
     let mut outs = Vec::new(alloc);
-    do_events(&mut world, events, &mut outs)?;
+    if in_many {
+        run_cut(&mut world, events, &mut Draws(5), &mut outs)?;
+    } else {
+        do_events(&mut world, events, &mut outs)?;
+    }
     Ok(text_of(alloc, &world, outs.as_slice())?)
 }
 
-/// What they give out in many calls.
-fn in_many_calls(alloc: Global, settings: &Settings, events: &[Event]) -> Result<String, Fail> {
-    let mut world = World::new(alloc, settings)?;
-    let mut outs = Vec::new(alloc);
-    run_cut(&mut world, events, &mut Draws(5), &mut outs)?;
-    Ok(text_of(alloc, &world, outs.as_slice())?)
+/// What they give out in one call, and in many.
+fn given_both_ways(alloc: Global) -> Result<(String, String), Fail> {
+    let events = events(alloc, 15)?;
+    let settings = room(alloc, 900)?;
+    let whole = given(alloc, &settings, events.as_slice(), false)?;
+    Ok((whole, given(alloc, &settings, events.as_slice(), true)?))
 }
 
 #[test]
 fn random_events_cut_at_random(rt: HostRuntime) -> Result<(), Fail> {
-    let events = events(rt.alloc(), 15)?;
-    let settings = room(rt.alloc(), 900)?;
-    let whole = in_one_call(rt.alloc(), &settings, events.as_slice())?;
-    let cut = in_many_calls(rt.alloc(), &settings, events.as_slice())?;
+    let (whole, cut) = given_both_ways(rt.alloc())?;
     assert!(rt; whole == cut, "other outs, or another world");
     for kind in KINDS {
         assert!(rt; whole.as_str().contains(kind), "{kind}");

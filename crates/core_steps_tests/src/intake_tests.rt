@@ -1,5 +1,6 @@
 //! Datagrams of docs/EXAMPLES.md and others by hand from RFC 3550, sections 5.1, 6.4 and 6.6, RFC 4585,
 //! sections 6.2.1 and 6.3.1, and RFC 5104, sections 4.2.1 and 4.2.2.
+
 use core_steps::*;
 use rtcp_compound::RtcpFault;
 use rtcp_feedback::{FbFault, Nack};

@@ -1,4 +1,5 @@
 //! Jobs in; datagrams, skips and misses out.
+
 use core_steps::*;
 use members::{LegParts, Parts, Row, Settings};
 use rtcp_feedback::Nack;
@@ -75,207 +76,241 @@ fn send(text: &mut String, endpoint: u16, bytes: &[u8]) -> Result<(), Fail> {
     Ok(())
 }
 
-/// Does a job, and answers what it gives out, a line each.
-fn done(
-    alloc: Global,
-    legs: &mut Legs,
-    rows: &[Row],
-    job: &Job,
-    plan: &mut Plan,
-) -> Result<String, Fail> {
-    let mut text = String::new(alloc);
-    legs.plan(alloc, CNAME, rows, job, plan)?;
-    for planned in plan.as_slice() {
-        match planned {
-            Planned::Forward {
-                endpoint,
-                bytes,
-                ..
-            }
-            | Planned::Report { endpoint, bytes } => send(&mut text, *endpoint, bytes.as_slice())?,
-            Planned::Resend {
-                place,
-                endpoint,
-                seq,
-                ..
-            } => send(&mut text, *endpoint, legs.kept(*place, *seq).ok_or("kept")?)?,
-            Planned::Skip { leg, skip } => writeln!(text, "skip {leg} {}", skip.number())?,
-            Planned::Miss { leg, seq } => writeln!(text, "miss {leg} {seq}")?,
+/// What is planned, a line each.
+fn write_planned(text: &mut String, legs: &Legs, planned: &Planned) -> Result<(), Fail> {
+    match planned {
+        Planned::Forward {
+            endpoint,
+            bytes,
+            ..
         }
+        | Planned::Report { endpoint, bytes } => send(text, *endpoint, bytes.as_slice())?,
+        Planned::Resend {
+            place,
+            endpoint,
+            seq,
+            ..
+        } => send(text, *endpoint, legs.kept(*place, *seq).ok_or("kept")?)?,
+        Planned::Skip { leg, skip } => writeln!(text, "skip {leg} {}", skip.number())?,
+        Planned::Miss { leg, seq } => writeln!(text, "miss {leg} {seq}")?,
     }
-    legs.apply(plan);
+    Ok(())
+}
+
+/// The legs of a worker, and the plan that its jobs are written into.
+#[derive(Drop)]
+struct Bench {
+    legs: Legs,
+    plan: Plan,
+}
+
+/// The bench of this worker.
+fn new_bench(alloc: Global, links: &Links, worker: u16) -> Result<Bench, Fail> {
+    let legs = Legs::new(alloc, links, 8, worker)?;
+    let plan = Plan::new(alloc);
+    Ok(Bench { legs, plan })
+}
+
+/// Does a job, and answers what it gives out, a line each.
+fn done(alloc: Global, bench: &mut Bench, rows: &[Row], job: &Job) -> Result<String, Fail> {
+    let mut text = String::new(alloc);
+    bench.legs.plan(alloc, CNAME, rows, job, &mut bench.plan)?;
+    for planned in bench.plan.as_slice() {
+        write_planned(&mut text, &bench.legs, planned)?;
+    }
+    bench.legs.apply(&mut bench.plan);
     Ok(text)
 }
 
-#[test]
-fn jobs_of_example_22(rt: HostRuntime) -> Result<(), Fail> {
-    let alloc = rt.alloc();
-    let links = links_of(alloc, 2, &[leg(1, 0, 257, 100)])?;
-    let mut legs = Legs::new(alloc, &links, 8, 1)?;
-    let mut plan = Plan::new(alloc);
-    let packet = Job::Packet {
-        publisher: 0,
-        bytes: rtp(alloc, 8)?,
-    };
-    let sent = "send 1 8060006400000bb800000101aabb\n";
-    assert_eq!(rt;
-        done(alloc, &mut legs, &[on(1, 1)], &packet, &mut plan)?.as_str(),
-        sent
-    );
-    let wanted = Job::Resend {
-        leg: 0,
-        stay: 1,
-        nack: Nack { pid: 100, blp: 1 },
-    };
-    let again = done(alloc, &mut legs, &[on(1, 1)], &wanted, &mut plan)?;
-    assert_eq!(rt;
-        again.as_str(),
-        "send 1 8060006400000bb800000101aabb\nmiss 0 101\n"
-    );
-    // Two datagrams of two octets were handed out.
-    let report = Job::Report {
-        leg: 0,
-        stay: 1,
-        sr: Some((0x0102_0304_0506_0708, 3000)),
-    };
-    assert_eq!(rt;
-        done(alloc, &mut legs, &[on(1, 1)], &report, &mut plan)?.as_str(),
-        "send 1 80c800060000010101020304050607080000\
-        0bb8000000020000000481ca0003000001010103736675000000\n"
-    );
-    let bare = Job::Report {
-        leg: 0,
-        stay: 1,
-        sr: None,
-    };
-    assert_eq!(rt;
-        done(alloc, &mut legs, &[on(1, 1)], &bare, &mut plan)?.as_str(),
-        "send 1 80c900010000010181ca0003000001010103736675000000\n"
-    );
+/// A job of publisher 0.
+#[derive(Clone, Copy)]
+enum Work {
+    /// A packet with this sequence number.
+    Packet(u16),
+    /// The first three bytes of a packet.
+    Short,
+    /// Of this leg and stay, the packet with this sequence number, and those behind it with these bits.
+    Resend(u16, u64, u16, u16),
+    /// A report on this leg and stay, with this clock of the publisher's.
+    Report(u16, u64, Option<(u64, u32)>),
+}
+
+use Work::{Packet, Report, Resend, Short};
+
+fn job_of(alloc: Global, work: Work) -> Result<Job, AllocError> {
+    Ok(match work {
+        Packet(seq) => Job::Packet {
+            publisher: 0,
+            bytes: rtp(alloc, seq)?,
+        },
+        Short => Job::Packet {
+            publisher: 0,
+            bytes: Bytes::copy_of(alloc, &[0x80, 0x60, 0])?,
+        },
+        Resend(leg, stay, pid, blp) => Job::Resend {
+            leg,
+            stay,
+            nack: Nack { pid, blp },
+        },
+        Report(leg, stay, sr) => Job::Report { leg, stay, sr },
+    })
+}
+
+/// With these rows the job gives out these lines.
+fn gives(
+    rt: &impl Abort,
+    alloc: Global,
+    bench: &mut Bench,
+    rows: &[Row],
+    work: Work,
+    lines: &str,
+) -> Result<(), Fail> {
+    let job = job_of(alloc, work)?;
+    let text = done(alloc, bench, rows, &job)?;
+    assert_eq!(rt; text.as_str(), lines);
+    Ok(())
+}
+
+/// One job behind the other, each with these rows, gives out these lines.
+fn give(
+    rt: &impl Abort,
+    alloc: Global,
+    bench: &mut Bench,
+    steps: &[(&[Row], Work, &str)],
+) -> Result<(), Fail> {
+    for (rows, work, lines) in steps {
+        gives(rt, alloc, bench, *rows, *work, *lines)?;
+    }
     Ok(())
 }
 
 #[test]
+fn jobs_of_example_22(rt: HostRuntime) -> Result<(), Fail> {
+    let rows = [on(1, 1)];
+    let steps = [
+        (
+            rows.as_slice(),
+            Packet(8),
+            "send 1 8060006400000bb800000101aabb\n",
+        ),
+        (
+            &rows,
+            Resend(0, 1, 100, 1),
+            "send 1 8060006400000bb800000101aabb\nmiss 0 101\n",
+        ),
+        // Two datagrams of two octets were handed out.
+        (
+            &rows,
+            Report(0, 1, Some((0x0102_0304_0506_0708, 3000))),
+            "send 1 80c800060000010101020304050607080000\
+            0bb8000000020000000481ca0003000001010103736675000000\n",
+        ),
+        (
+            &rows,
+            Report(0, 1, None),
+            "send 1 80c900010000010181ca0003000001010103736675000000\n",
+        ),
+    ];
+    let links = links_of(rt.alloc(), 2, &[leg(1, 0, 257, 100)])?;
+    let mut bench = new_bench(rt.alloc(), &links, 1)?;
+    give(&rt, rt.alloc(), &mut bench, &steps)
+}
+
+/// The counts of packets and octets of the last leg.
+fn counts(legs: &[LegState]) -> Option<(u32, u32)> {
+    match legs {
+        [.., leg] => Some((leg.packets, leg.octets)),
+        [] => None,
+    }
+}
+
+#[test]
 fn numbers_and_packets_outlive_stays(rt: HostRuntime) -> Result<(), Fail> {
-    let alloc = rt.alloc();
-    let links = links_of(alloc, 2, &[leg(1, 0, 257, 100)])?;
-    let mut legs = Legs::new(alloc, &links, 8, 1)?;
-    let mut plan = Plan::new(alloc);
-    let packet = Job::Packet {
-        publisher: 0,
-        bytes: rtp(alloc, 8)?,
-    };
-    done(alloc, &mut legs, &[on(1, 1)], &packet, &mut plan)?;
-    // The stay ended: nothing goes out.
-    assert_eq!(rt;
-        done(alloc, &mut legs, &[OFF], &packet, &mut plan)?.as_str(),
-        ""
-    );
-    // In the next stay the numbers go on, and the first packet is found.
-    assert_eq!(rt;
-        done(alloc, &mut legs, &[on(2, 2)], &packet, &mut plan)?.as_str(),
-        "send 1 8060006500000bb800000101aabb\n"
-    );
-    let nack = Nack { pid: 100, blp: 0 };
-    let stale = Job::Resend {
-        leg: 0,
-        stay: 1,
-        nack,
-    };
-    assert_eq!(rt;
-        done(alloc, &mut legs, &[on(2, 2)], &stale, &mut plan)?.as_str(),
-        ""
-    );
-    let wanted = Job::Resend {
-        leg: 0,
-        stay: 2,
-        nack,
-    };
-    assert_eq!(rt;
-        done(alloc, &mut legs, &[on(2, 2)], &wanted, &mut plan)?.as_str(),
-        "send 1 8060006400000bb800000101aabb\n"
-    );
-    let counts = legs.as_slice().iter().map(|leg| (leg.packets, leg.octets));
-    assert_eq!(rt; counts.last(), Some((3, 6)));
+    let (first, next) = ([on(1, 1)], [on(2, 2)]);
+    let steps = [
+        (
+            first.as_slice(),
+            Packet(8),
+            "send 1 8060006400000bb800000101aabb\n",
+        ),
+        // The stay ended: nothing goes out.
+        (&[OFF], Packet(8), ""),
+        // In the next stay the numbers go on, and the first packet is found.
+        (&next, Packet(8), "send 1 8060006500000bb800000101aabb\n"),
+        (&next, Resend(0, 1, 100, 0), ""),
+        (
+            &next,
+            Resend(0, 2, 100, 0),
+            "send 1 8060006400000bb800000101aabb\n",
+        ),
+    ];
+    let links = links_of(rt.alloc(), 2, &[leg(1, 0, 257, 100)])?;
+    let mut bench = new_bench(rt.alloc(), &links, 1)?;
+    give(&rt, rt.alloc(), &mut bench, &steps)?;
+    assert_eq!(rt; counts(bench.legs.as_slice()), Some((3, 6)));
     Ok(())
 }
 
 #[test]
 fn numbers_of_example_14_on_one_of_three_legs(rt: HostRuntime) -> Result<(), Fail> {
-    let alloc = rt.alloc();
-    let legs = [leg(1, 0, 257, 100), leg(2, 0, 258, 7), leg(0, 1, 259, 0)];
-    let links = links_of(alloc, 1, &legs)?;
-    let mut legs = Legs::new(alloc, &links, 8, 0)?;
-    let mut plan = Plan::new(alloc);
+    let turn = |turn| [on(1, turn), OFF, on(1, turn)];
+    let (first, second, third) = (turn(1), turn(2), turn(3));
     let steps = [
-        (1, 65534, "send 1 8060006400000bb800000101aabb\n"),
-        (1, 65535, "send 1 8060006500000bb800000101aabb\n"),
-        (2, 3, "send 1 8060006600000bb800000101aabb\n"),
-        (2, 65534, "skip 0 1\n"),
-        (2, 5, "send 1 8060006800000bb800000101aabb\n"),
-        (2, 4, "send 1 8060006700000bb800000101aabb\n"),
-        (1, 65535, "skip 0 1\n"),
-        (3, 9, "send 1 8060006900000bb800000101aabb\n"),
+        (
+            first.as_slice(),
+            Packet(65534),
+            "send 1 8060006400000bb800000101aabb\n",
+        ),
+        (
+            &first,
+            Packet(65535),
+            "send 1 8060006500000bb800000101aabb\n",
+        ),
+        (&second, Packet(3), "send 1 8060006600000bb800000101aabb\n"),
+        (&second, Packet(65534), "skip 0 1\n"),
+        (&second, Packet(5), "send 1 8060006800000bb800000101aabb\n"),
+        (&second, Packet(4), "send 1 8060006700000bb800000101aabb\n"),
+        (&first, Packet(65535), "skip 0 1\n"),
+        (&third, Packet(9), "send 1 8060006900000bb800000101aabb\n"),
+        // Each leg of the publisher, by rising number, under its own source and number.
+        (
+            &[on(1, 3), on(1, 1), on(1, 1)],
+            Packet(10),
+            "send 1 8060006a00000bb800000101aabb\nsend 2 8060000700000bb800000102aabb\n",
+        ),
     ];
-    for (turn, seq, line) in steps {
-        let packet = Job::Packet {
-            publisher: 0,
-            bytes: rtp(alloc, seq)?,
-        };
-        let rows = [on(1, turn), OFF, on(1, turn)];
-        assert_eq!(rt;
-            done(alloc, &mut legs, &rows, &packet, &mut plan)?.as_str(),
-            line
-        );
-    }
-    // Each leg of the publisher, by rising number, under its own source and number.
-    let packet = Job::Packet {
-        publisher: 0,
-        bytes: rtp(alloc, 10)?,
-    };
-    let rows = [on(1, 3), on(1, 1), on(1, 1)];
-    assert_eq!(rt;
-        done(alloc, &mut legs, &rows, &packet, &mut plan)?.as_str(),
-        "send 1 8060006a00000bb800000101aabb\nsend 2 8060000700000bb800000102aabb\n"
-    );
-    Ok(())
+    let legs = [leg(1, 0, 257, 100), leg(2, 0, 258, 7), leg(0, 1, 259, 0)];
+    let links = links_of(rt.alloc(), 1, &legs)?;
+    let mut bench = new_bench(rt.alloc(), &links, 0)?;
+    give(&rt, rt.alloc(), &mut bench, &steps)
 }
 
-#[test]
-fn nothing_of_others(rt: HostRuntime) -> Result<(), Fail> {
-    let alloc = rt.alloc();
-    let links = links_of(alloc, 2, &[leg(1, 0, 257, 100), leg(2, 0, 258, 7)])?;
+/// The legs of publisher 0, and the one on which endpoint 2 is sent source 258.
+fn have_legs(rt: &impl Abort, links: &Links) {
     assert_eq!(rt; links.of_publisher(0), [0, 1].as_slice());
     assert_eq!(rt; links.of_publisher(9), [].as_slice());
     assert_eq!(rt; links.leg_to(2, tmmbr_tuple::Ssrc(258)), Some(1));
     assert_eq!(rt; links.leg_to(1, tmmbr_tuple::Ssrc(258)), None);
-    // Worker 0 owns the second leg alone.
-    let mut legs = Legs::new(alloc, &links, 8, 0)?;
-    let mut plan = Plan::new(alloc);
+}
+
+#[test]
+fn nothing_of_others(rt: HostRuntime) -> Result<(), Fail> {
     let rows = [on(1, 1), on(1, 1)];
-    let packet = Job::Packet {
-        publisher: 0,
-        bytes: rtp(alloc, 8)?,
-    };
-    assert_eq!(rt;
-        done(alloc, &mut legs, &rows, &packet, &mut plan)?.as_str(),
-        "send 2 8060000700000bb800000102aabb\n"
-    );
-    let report = |leg, stay| Job::Report {
-        leg,
-        stay,
-        sr: None,
-    };
-    for job in [report(0, 1), report(1, 0), report(1, 2), report(9, 1)].iter() {
-        assert_eq!(rt; done(alloc, &mut legs, &rows, job, &mut plan)?.as_str(), "");
-    }
-    let short = Job::Packet {
-        publisher: 0,
-        bytes: Bytes::copy_of(alloc, &[0x80, 0x60, 0])?,
-    };
-    assert_eq!(rt;
-        done(alloc, &mut legs, &rows, &short, &mut plan)?.as_str(),
-        ""
-    );
-    Ok(())
+    // Worker 0 owns the second leg alone.
+    let steps = [
+        (
+            rows.as_slice(),
+            Packet(8),
+            "send 2 8060000700000bb800000102aabb\n",
+        ),
+        (&rows, Report(0, 1, None), ""),
+        (&rows, Report(1, 0, None), ""),
+        (&rows, Report(1, 2, None), ""),
+        (&rows, Report(9, 1, None), ""),
+        (&rows, Short, ""),
+    ];
+    let links = links_of(rt.alloc(), 2, &[leg(1, 0, 257, 100), leg(2, 0, 258, 7)])?;
+    have_legs(&rt, &links);
+    let mut bench = new_bench(rt.alloc(), &links, 0)?;
+    give(&rt, rt.alloc(), &mut bench, &steps)
 }

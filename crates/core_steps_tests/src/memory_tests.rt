@@ -62,9 +62,17 @@ fn after(alloc: Global, events: &[Event]) -> Option<String> {
     text_of(alloc, &world, outs.as_slice())
 }
 
+/// The events of the examples, a world, and what it gave out.
+#[derive(Drop)]
+struct Trial {
+    events: Vec<Event>,
+    world: World,
+    outs: Vec<Out>,
+}
+
 /// The events and a new world, made again where memory was refused for them.
-fn begin(alloc: Global) -> Option<(Vec<Event>, World)> {
-    let made = match events(alloc) {
+fn begin(alloc: Global) -> Option<Trial> {
+    let events = match events(alloc) {
         Some(made) => made,
         None => events(alloc)?,
     };
@@ -72,7 +80,12 @@ fn begin(alloc: Global) -> Option<(Vec<Event>, World)> {
         Some(world) => world,
         None => new_world(alloc)?,
     };
-    Some((made, world))
+    let outs = Vec::new(alloc);
+    Some(Trial {
+        events,
+        world,
+        outs,
+    })
 }
 
 /// Does the events. Where a growth is refused, outs and world are those of the events before, and the others are done again.
@@ -109,15 +122,26 @@ fn wanted_of(alloc: Global, events: &[Event]) -> Option<String> {
     }
 }
 
-/// Whichever growth is refused, the events of the examples end in what they end in without a refusal.
-#[test]
-fn each_growth_refused(rt: HostRuntime) -> Result<(), Fail> {
-    let (events, mut world) = begin(rt.alloc()).ok_or("no memory")?;
-    let mut outs = Vec::new(rt.alloc());
-    go_through(&rt, rt.alloc(), &mut world, events.as_slice(), &mut outs)?;
-    let left = left_by(rt.alloc(), &world, outs.as_slice()).ok_or("no memory")?;
-    let wanted = wanted_of(rt.alloc(), events.as_slice()).ok_or("no memory")?;
+/// They left what they have to leave.
+fn is_left(
+    rt: &impl Abort,
+    alloc: Global,
+    world: &World,
+    events: &[Event],
+    outs: &[Out],
+) -> Result<(), Fail> {
+    let left = left_by(alloc, world, outs).ok_or("no memory")?;
+    let wanted = wanted_of(alloc, events).ok_or("no memory")?;
     assert_eq!(rt; left.as_str(), wanted.as_str());
     assert!(rt; left.as_str().starts_with("send 0 80c9"));
     Ok(())
+}
+
+/// Whichever growth is refused, the events of the examples end in what they end in without a refusal.
+#[test]
+fn each_growth_refused(rt: HostRuntime) -> Result<(), Fail> {
+    let mut trial = begin(rt.alloc()).ok_or("no memory")?;
+    let events = trial.events.as_slice();
+    go_through(&rt, rt.alloc(), &mut trial.world, events, &mut trial.outs)?;
+    is_left(&rt, rt.alloc(), &trial.world, events, trial.outs.as_slice())
 }

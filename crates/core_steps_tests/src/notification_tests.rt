@@ -1,8 +1,10 @@
 //! Calls of a desk in, the datagrams that follow out, as lines of hexadecimal digits.
+
 use core_steps::*;
 use members::{Block, LegParts, Parts, Row, Settings, SettingsFault};
-use rate_desk::{Desk, Effect};
+use rate_desk::{Desk, Effect, HistoryFull, Reply};
 use std::alloc::{AllocError, Global};
+use std::fmt::{self, Write};
 use std::process::Abort;
 use std::test::Fail;
 use tmmbr_tuple::{Ssrc, Tuple};
@@ -59,19 +61,39 @@ const fn row(stay: u64) -> Row {
     }
 }
 
-/// What is printed of these outs.
+/// Bytes as hexadecimal digits.
+fn hex_of(alloc: Global, bytes: &[u8]) -> Result<String, fmt::Error> {
+    let mut text = String::new(alloc);
+    for byte in bytes {
+        write!(text, "{byte:02x}")?;
+    }
+    Ok(text)
+}
+
+/// What is printed of these outs; `HEAD` stands for what most of them begin with.
 fn lines(alloc: Global, outs: &[Out]) -> Result<String, Fail> {
     let mut text = String::new(alloc);
     for out in outs {
         if let Out::Send { endpoint, bytes } = out {
-            write!(text, "send {endpoint} ")?;
-            for byte in bytes.as_slice() {
-                write!(text, "{byte:02x}")?;
-            }
-            text.push('\n')?;
+            write_line(alloc, &mut text, *endpoint, bytes.as_slice())?;
         }
     }
     Ok(text)
+}
+
+/// What is printed of a datagram.
+fn write_line(
+    alloc: Global,
+    text: &mut String,
+    endpoint: u16,
+    bytes: &[u8],
+) -> Result<(), fmt::Error> {
+    let hex = hex_of(alloc, bytes)?;
+    match hex.as_str().strip_prefix(HEAD) {
+        Some(behind) => writeln!(text, "send {endpoint} HEAD {behind}")?,
+        None => writeln!(text, "send {endpoint} {hex}")?,
+    }
+    Ok(())
 }
 
 /// What is printed of what follows from a call with this effect.
@@ -89,7 +111,7 @@ fn told(
 }
 
 /// A call for publisher 0.
-const fn call(asked_by: Option<u16>, pli: bool) -> Notification {
+const fn of_call(asked_by: Option<u16>, pli: bool) -> Notification {
     Notification {
         publisher: 0,
         asked_by,
@@ -97,62 +119,142 @@ const fn call(asked_by: Option<u16>, pli: bool) -> Notification {
     }
 }
 
+/// What a desk is called for: an owner, by its source and stay, comes, asks for a word, or leaves; or a picture is wanted at
+/// a moment.
+#[derive(Clone, Copy)]
+enum Call {
+    Arrive(u32, u64),
+    Request(u32, u64, u32),
+    Depart(u32, u64),
+    Pli(u64),
+}
+
+use Call::{Arrive, Depart, Pli, Request};
+
+/// Makes the call; no stay has the number 0.
+fn reply_to(desk: &mut Desk, call: Call) -> Result<Reply, HistoryFull> {
+    match call {
+        Arrive(owner, stay) => desk.arrive(Ssrc(owner), stay.max(1)),
+        Request(owner, stay, word) => {
+            desk.request(Ssrc(owner), stay.max(1), Tuple::from_word(word))
+        }
+        Depart(owner, stay) => desk.depart(Ssrc(owner), stay.max(1)),
+        Pli(moment) => desk.pli(moment),
+    }
+}
+
+/// A call, the notification of it, and what is told then, a line each; where that is nothing there is nothing to tell.
+type Step<'a> = (Call, Notification, &'a str);
+
+/// With these rows the effect is told so.
+fn tells(
+    rt: &impl Abort,
+    alloc: Global,
+    links: &Links,
+    rows: &[Row],
+    notification: Notification,
+    effect: &Effect,
+    wanted: &str,
+) -> Result<(), Fail> {
+    assert_eq!(rt; notification.tells(effect), !wanted.is_empty());
+    let printed = told(alloc, links, rows, notification, effect)?;
+    assert_eq!(rt; printed.as_str(), wanted);
+    Ok(())
+}
+
+/// These calls of a new desk, one behind the other, are told so with these rows.
+fn plays(
+    rt: &impl Abort,
+    alloc: Global,
+    links: &Links,
+    rows: &[Row],
+    steps: &[Step<'_>],
+) -> Result<(), Fail> {
+    let mut desk = Desk::new(alloc, 500, 0)?;
+    for (call, notification, wanted) in steps {
+        let reply = reply_to(&mut desk, *call)?;
+        tells(
+            rt,
+            alloc,
+            links,
+            rows,
+            *notification,
+            &reply.effect,
+            *wanted,
+        )?;
+    }
+    Ok(())
+}
+
 #[test]
 fn request_of_example_21(rt: HostRuntime) -> Result<(), Fail> {
-    let alloc = rt.alloc();
-    let links = small_links(alloc)?;
-    let mut desk = Desk::new(alloc, 500, 0)?;
-    let _arrived = desk.arrive(Ssrc(17), 1)?;
-    let reply = desk.request(Ssrc(17), 1, Tuple::from_word(0x0007_d028))?;
-    let notification = call(Some(0), false);
-    assert!(rt; notification.tells(&reply.effect));
-    let printed = told(alloc, &links, &[row(1)], notification, &reply.effect)?;
-    let wanted = format!(in alloc;
-        "send 0 {HEAD}83cd00040000001100000000000000100007d028\nsend 1 {HEAD}84cd00040000010100000000000000110007d028\n"
-    )?;
-    assert_eq!(rt; printed.as_str(), wanted.as_str());
-
-    // Another request of the same owner takes the place of the first.
-    let reply = desk.request(Ssrc(17), 1, Tuple::from_word(0x0007_d00a))?;
-    let printed = told(alloc, &links, &[row(1)], notification, &reply.effect)?;
-    let wanted = format!(in alloc;
-        "send 0 {HEAD}83cd00040000001100000000000000100007d00a\nsend 1 {HEAD}84cd00040000010100000000000000110007d00a\n"
-    )?;
-    assert_eq!(rt; printed.as_str(), wanted.as_str());
-
-    // The same request again changes nothing: its owner alone is notified.
-    let reply = desk.request(Ssrc(17), 1, Tuple::from_word(0x0007_d00a))?;
-    let printed = told(alloc, &links, &[row(1)], notification, &reply.effect)?;
-    let wanted = format!(in alloc; "send 1 {HEAD}84cd00040000010100000000000000110007d00a\n")?;
-    assert_eq!(rt; printed.as_str(), wanted.as_str());
-    Ok(())
+    let asked = of_call(Some(0), false);
+    let steps = [
+        (Arrive(17, 1), of_call(None, false), ""),
+        (
+            Request(17, 1, 0x0007_d028),
+            asked,
+            "send 0 HEAD 83cd00040000001100000000000000100007d028\n\
+            send 1 HEAD 84cd00040000010100000000000000110007d028\n",
+        ),
+        // Another request of the same owner takes the place of the first.
+        (
+            Request(17, 1, 0x0007_d00a),
+            asked,
+            "send 0 HEAD 83cd00040000001100000000000000100007d00a\n\
+            send 1 HEAD 84cd00040000010100000000000000110007d00a\n",
+        ),
+        // The same request again changes nothing: its owner alone is notified.
+        (
+            Request(17, 1, 0x0007_d00a),
+            asked,
+            "send 1 HEAD 84cd00040000010100000000000000110007d00a\n",
+        ),
+    ];
+    let links = small_links(rt.alloc())?;
+    plays(&rt, rt.alloc(), &links, &[row(1)], &steps)
 }
 
 #[test]
 fn lifted_as_in_example_23(rt: HostRuntime) -> Result<(), Fail> {
-    let alloc = rt.alloc();
-    let links = small_links(alloc)?;
-    let mut desk = Desk::new(alloc, 500, 0)?;
-    let _arrived = desk.arrive(Ssrc(17), 1)?;
-    let _requested = desk.request(Ssrc(17), 1, Tuple::from_word(0x0007_d028))?;
-    let reply = desk.depart(Ssrc(17), 1)?;
+    let silent = of_call(None, false);
     // No stay stands in the leg any more.
-    let printed = told(alloc, &links, &[row(0)], call(None, false), &reply.effect)?;
-    let wanted = format!(in alloc; "send 0 {HEAD}83cd0004000000110000000000000010fffffe00\n")?;
-    assert_eq!(rt; printed.as_str(), wanted.as_str());
-
+    let gone = [
+        (Arrive(17, 1), silent, ""),
+        (
+            Request(17, 1, 0x0007_d028),
+            silent,
+            "send 0 HEAD 83cd00040000001100000000000000100007d028\n",
+        ),
+        (
+            Depart(17, 1),
+            silent,
+            "send 0 HEAD 83cd0004000000110000000000000010fffffe00\n",
+        ),
+    ];
     // The bound is lifted while the stay stands: its subscriber is notified of the empty set.
-    let printed = told(alloc, &links, &[row(1)], call(None, false), &reply.effect)?;
-    let wanted = format!(in alloc;
-        "send 0 {HEAD}83cd0004000000110000000000000010fffffe00\nsend 1 {HEAD}84cd00020000010100000000\n"
-    )?;
-    assert_eq!(rt; printed.as_str(), wanted.as_str());
-    Ok(())
+    let stays = [
+        (Arrive(17, 1), silent, ""),
+        (
+            Request(17, 1, 0x0007_d028),
+            silent,
+            "send 0 HEAD 83cd00040000001100000000000000100007d028\n\
+            send 1 HEAD 84cd00040000010100000000000000110007d028\n",
+        ),
+        (
+            Depart(17, 1),
+            silent,
+            "send 0 HEAD 83cd0004000000110000000000000010fffffe00\n\
+            send 1 HEAD 84cd00020000010100000000\n",
+        ),
+    ];
+    let links = small_links(rt.alloc())?;
+    plays(&rt, rt.alloc(), &links, &[row(0)], &gone)?;
+    plays(&rt, rt.alloc(), &links, &[row(1)], &stays)
 }
 
-#[test]
-fn who_asked_comes_before_the_others(rt: HostRuntime) -> Result<(), Fail> {
-    let alloc = rt.alloc();
+/// The links of a room where endpoint 0 publishes to three others, and one of them to it.
+fn large_links(alloc: Global) -> Result<Links, Fail> {
     let endpoints = vec![in alloc; Some(16), Some(17), Some(18), Some(19)]?;
     let legs = vec![in alloc;
         leg(1, 0, 257),
@@ -160,42 +262,53 @@ fn who_asked_comes_before_the_others(rt: HostRuntime) -> Result<(), Fail> {
         leg(0, 1, 259),
         leg(3, 0, 260),
     ]?;
-    let links = links_of(alloc, endpoints, legs)?;
-    let mut desk = Desk::new(alloc, 500, 0)?;
-    let _arrived = desk.arrive(Ssrc(19), 4)?;
-    let reply = desk.request(Ssrc(19), 4, Tuple::from_word(0x0007_d028))?;
+    Ok(links_of(alloc, endpoints, legs)?)
+}
+
+#[test]
+fn who_asked_comes_before_the_others(rt: HostRuntime) -> Result<(), Fail> {
     // Leg 0 has a stay, leg 1 has none, leg 2 is of another publisher; leg 3 asked, and its stay ended since.
     let rows = [row(1), row(0), row(3), row(0)];
-    let printed = told(alloc, &links, &rows, call(Some(3), false), &reply.effect)?;
-    let wanted = format!(in alloc;
-        "send 0 {HEAD}83cd00040000001300000000000000100007d028\nsend 3 {HEAD}84cd00040000010400000000000000130007d028\nsend 1 {HEAD}84cd00040000010100000000000000130007d028\n"
-    )?;
-    assert_eq!(rt; printed.as_str(), wanted.as_str());
-    Ok(())
+    let steps = [
+        (Arrive(19, 4), of_call(None, false), ""),
+        (
+            Request(19, 4, 0x0007_d028),
+            of_call(Some(3), false),
+            "send 0 HEAD 83cd00040000001300000000000000100007d028\n\
+            send 3 HEAD 84cd00040000010400000000000000130007d028\n\
+            send 1 HEAD 84cd00040000010100000000000000130007d028\n",
+        ),
+    ];
+    let links = large_links(rt.alloc())?;
+    plays(&rt, rt.alloc(), &links, &rows, &steps)
 }
 
 #[test]
 fn picture_loss_to_the_publisher(rt: HostRuntime) -> Result<(), Fail> {
-    let alloc = rt.alloc();
-    let links = small_links(alloc)?;
-    let mut desk = Desk::new(alloc, 500, 0)?;
-    let reply = desk.pli(0)?;
-    let printed = told(alloc, &links, &[row(1)], call(None, true), &reply.effect)?;
-    let wanted = format!(in alloc; "send 0 {HEAD}81ce00020000000900000010\n")?;
-    assert_eq!(rt; printed.as_str(), wanted.as_str());
+    let steps = [
+        (
+            Pli(0),
+            of_call(None, true),
+            "send 0 HEAD 81ce00020000000900000010\n",
+        ),
+        // Where none is due nothing follows.
+        (Pli(1), of_call(None, false), ""),
+    ];
+    let links = small_links(rt.alloc())?;
+    plays(&rt, rt.alloc(), &links, &[row(1)], &steps)
+}
 
-    // Where none is due nothing follows.
-    let reply = desk.pli(1)?;
-    assert!(rt; !call(None, false).tells(&reply.effect));
-    let printed = told(alloc, &links, &[row(1)], call(None, false), &reply.effect)?;
-    assert_eq!(rt; printed.as_str(), "");
-    Ok(())
+/// What the unit reports upstream: of a source that was received, and of none.
+fn reported(alloc: Global, block: Block) -> Result<String, Fail> {
+    let head = Head::new(alloc, Ssrc(9), b"sfu")?;
+    let mut outs = Vec::new(alloc);
+    upstream_report(alloc, &head, 0, Some(block), &mut outs)?;
+    upstream_report(alloc, &head, 1, None, &mut outs)?;
+    lines(alloc, outs.as_slice())
 }
 
 #[test]
 fn reports_upstream(rt: HostRuntime) -> Result<(), Fail> {
-    let alloc = rt.alloc();
-    let head = Head::new(alloc, Ssrc(9), b"sfu")?;
     let block = Block {
         source: Ssrc(16),
         fraction: 0,
@@ -205,13 +318,11 @@ fn reports_upstream(rt: HostRuntime) -> Result<(), Fail> {
         last_sr: 0x000a_8000,
         delay: 0x147a,
     };
-    let mut outs = Vec::new(alloc);
-    upstream_report(alloc, &head, 0, Some(block), &mut outs)?;
-    upstream_report(alloc, &head, 1, None, &mut outs)?;
-    let printed = lines(alloc, outs.as_slice())?;
-    let wanted = format!(in alloc;
-        "send 0 81c9000700000009000000100000000000000008000000a8000a80000000147a81ca0003000000090103736675000000\nsend 1 {HEAD}\n"
-    )?;
-    assert_eq!(rt; printed.as_str(), wanted.as_str());
+    let printed = reported(rt.alloc(), block)?;
+    assert_eq!(rt;
+        printed.as_str(),
+        "send 0 81c9000700000009000000100000000000000008000000a8000a80000000147a\
+        81ca0003000000090103736675000000\nsend 1 HEAD \n"
+    );
     Ok(())
 }

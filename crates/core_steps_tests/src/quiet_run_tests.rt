@@ -1,4 +1,5 @@
 //! Runs by chance from fixed seeds, each done until nothing waits: what is live then beside what the events say was heard
+
 //! last.
 
 use crate::listener::Listener;
@@ -179,23 +180,59 @@ fn compare(
     Ok(())
 }
 
+/// A room, the numbers that draw its events, who listens to them, and the moment of the last.
+#[derive(Drop)]
+struct Scene {
+    world: World,
+    draws: Draws,
+    listener: Listener,
+    moment: u64,
+}
+
+/// A new room, and numbers from this seed.
+fn new_scene(alloc: Global, seed: u64, request_ms: u64) -> Result<Scene, Fail> {
+    let settings = room(alloc, request_ms)?;
+    Ok(Scene {
+        world: World::new(alloc, &settings)?,
+        draws: Draws(seed),
+        listener: Listener::new(),
+        moment: 0,
+    })
+}
+
+/// The events that come to a run before it is settled.
+fn go_on(alloc: Global, scene: &mut Scene) -> Result<(), Fail> {
+    for _ in 0..EVENTS {
+        let later = u64::from(scene.draws.next() % 4);
+        scene.moment = scene.moment.wrapping_add(later);
+        play(
+            alloc,
+            &mut scene.draws,
+            &mut scene.world,
+            &mut scene.listener,
+            scene.moment,
+        )?;
+    }
+    Ok(())
+}
+
+/// Nothing waits any more, and nothing was lost.
+fn settled(alloc: Global, world: &mut World) -> Result<(), Fail> {
+    settle(world, &mut Vec::new(alloc))?;
+    let waiting = world.waiting();
+    let idle = waiting.tasks == 0 && waiting.jobs == 0 && waiting.hands == 0;
+    want(idle && world.lost() == 0, "something waits, or was lost")?;
+    Ok(())
+}
+
 /// The runs in one room.
 fn runs_of(alloc: Global, seed: u64, request_ms: u64, seen: &mut Seen) -> Result<(), Fail> {
-    let mut world = World::new(alloc, &room(alloc, request_ms)?)?;
-    let mut draws = Draws(seed);
-    let mut listener = Listener::new();
-    let mut moment = 0u64;
+    let mut scene = new_scene(alloc, seed, request_ms)?;
     for _ in 0..RUNS {
-        for _ in 0..EVENTS {
-            moment = moment.wrapping_add(u64::from(draws.next() % 4));
-            play(alloc, &mut draws, &mut world, &mut listener, moment)?;
-        }
-        settle(&mut world, &mut Vec::new(alloc))?;
-        let waiting = world.waiting();
-        let idle = waiting.tasks == 0 && waiting.jobs == 0 && waiting.hands == 0;
-        want(idle && world.lost() == 0, "something waits, or was lost")?;
-        listener.settle();
-        compare(&world, &listener, seen, request_ms > 0)?;
+        go_on(alloc, &mut scene)?;
+        settled(alloc, &mut scene.world)?;
+        scene.listener.settle();
+        compare(&scene.world, &scene.listener, seen, request_ms > 0)?;
     }
     Ok(())
 }

@@ -102,32 +102,45 @@ fn quiet(rt: HostRuntime) -> Result<(), Fail> {
     quiet_after_expire(&rt, rt.alloc())
 }
 
-#[test]
-fn premise_needed(rt: HostRuntime) -> Result<(), Fail> {
-    let alloc = rt.alloc();
+/// A world whose ring of jobs is full of packets.
+fn full(alloc: Global) -> Result<World, Fail> {
     let mut world = world_with(alloc, 1000, 0)?;
     play(alloc, &mut world, &ASKED[..4])?;
     for _ in 0..1024 {
-        play(
-            alloc,
-            &mut world,
-            &[Hear(0, 0, "8060000700000bb800000010aabb"), Ingress],
-        )?;
+        let packet = [Hear(0, 0, "8060000700000bb800000010aabb"), Ingress];
+        play(alloc, &mut world, packet.as_slice())?;
     }
-    assert_eq!(rt; world.lost(), 0);
+    Ok(world)
+}
 
-    // The ring is full: the request that is heard now is given up, and nothing is live though its word was heard last.
-    play(
-        alloc,
-        &mut world,
-        &[
-            Hear(0, 1, "83cd00040000001100000000000001010007d028"),
-            Ingress,
-        ],
-    )?;
-    assert_eq!(rt; world.lost(), 1);
-    play(alloc, &mut world, &[Settle])?;
-    assert_eq!(rt; world.waiting(), NOTHING);
-    assert_eq!(rt; live(alloc, &world)?.as_str(), "");
+/// So many jobs were lost once these steps are done.
+fn loses(
+    rt: &impl Abort,
+    alloc: Global,
+    world: &mut World,
+    steps: &[Step<'_>],
+    lost: u64,
+) -> Result<(), Fail> {
+    play(alloc, world, steps)?;
+    assert_eq!(rt; world.lost(), lost);
     Ok(())
+}
+
+/// Nothing waits, and nothing is live.
+fn is_quiet(rt: &impl Abort, alloc: Global, world: &World) -> Result<(), Fail> {
+    assert_eq!(rt; world.waiting(), NOTHING);
+    assert_eq!(rt; live(alloc, world)?.as_str(), "");
+    Ok(())
+}
+
+#[test]
+fn premise_needed(rt: HostRuntime) -> Result<(), Fail> {
+    let mut world = full(rt.alloc())?;
+    // The ring is full: the request that is heard now is given up, and nothing is live though its word was heard last.
+    let request = Hear(0, 1, "83cd00040000001100000000000001010007d028");
+    let plays = [([].as_slice(), 0), (&[request, Ingress], 1), (&[Settle], 1)];
+    for (steps, lost) in &plays {
+        loses(&rt, rt.alloc(), &mut world, *steps, *lost)?;
+    }
+    is_quiet(&rt, rt.alloc(), &world)
 }

@@ -1,7 +1,8 @@
 //! Events in, lines out: the machine's examples, step by step.
 
 use crate::steps::{
-    ASKED, Hear, Ingress, Select, Settle, Show, Step, Tick, Work, do_step, settings,
+    ASKED, Hear, Ingress, Select, Settle, Show, Stage, Step, TIMES, Tick, Work, lines, new_stage,
+    play,
 };
 use core_steps::*;
 use std::alloc::Global;
@@ -34,25 +35,25 @@ const LIFTS: Line<'static> = Compound(0, "83cd0004000000110000000000000010fffffe
 /// A packet of 16 as 17 gets it first (example 22).
 const PACKET: Line<'static> = Other("send 1 8060006400000bb800000101aabb");
 
-/// The settings of most examples: an endpoint is silent for 1 s before it has left, reports are 60 s apart, and requests never
-/// grow too old.
-const TIMES: [i64; 3] = [1000, 60_000, 0];
+/// Does a step; what it gives out is printed behind what it shows.
+fn print_step(alloc: Global, stage: &mut Stage, step: &Step<'_>) -> Result<(), Fail> {
+    play(alloc, stage, &[*step])?;
+    for out in &stage.outs {
+        writeln!(stage.text, "{out}")?;
+    }
+    stage.outs.clear();
+    Ok(())
+}
 
 /// What these steps print in a new world of settings with these times.
 fn played(alloc: Global, times: [i64; 3], plays: &[&[Step<'_>]]) -> Result<String, Fail> {
-    let [timeout_ms, report_ms, request_ms] = times;
-    let settings = settings(alloc, timeout_ms, report_ms, request_ms)?;
-    let mut world = World::new(alloc, &settings)?;
-    let mut text = String::new(alloc);
+    let mut stage = new_stage(alloc, times)?;
     for steps in plays {
         for step in *steps {
-            let mut outs = Vec::new(alloc);
-            do_step(alloc, &mut world, step, &mut outs, &mut text)?;
-            for out in &outs {
-                writeln!(text, "{out}")?;
-            }
+            print_step(alloc, &mut stage, step)?;
         }
     }
+    let Stage { text, .. } = stage;
     Ok(text)
 }
 
@@ -225,31 +226,35 @@ fn requests_grow_too_old(rt: HostRuntime) -> Result<(), Fail> {
     )
 }
 
+/// A world that came to as many packets as its ring of jobs has room for, and one more.
+fn flooded(alloc: Global) -> Result<Stage, Fail> {
+    let mut stage = new_stage(alloc, TIMES)?;
+    play(alloc, &mut stage, &ASKED[..4])?;
+    for _ in 0..1025 {
+        let packet = [Hear(0, 0, "8060000700000bb800000010aabb"), Ingress];
+        play(alloc, &mut stage, &packet)?;
+    }
+    Ok(stage)
+}
+
+/// What the workers send until nothing waits.
+fn sent(alloc: Global, stage: &mut Stage) -> Result<String, Fail> {
+    stage.outs.clear();
+    play(alloc, stage, &[Settle])?;
+    Ok(lines(alloc, stage.outs.as_slice())?)
+}
+
 #[test]
 fn a_flood_loses_what_the_ring_has_no_room_for(rt: HostRuntime) -> Result<(), Fail> {
-    let alloc = rt.alloc();
-    let settings = settings(alloc, 1000, 60_000, 0)?;
-    let mut world = World::new(alloc, &settings)?;
-    let mut outs = Vec::new(alloc);
-    let mut text = String::new(alloc);
-    for step in &ASKED[..4] {
-        do_step(alloc, &mut world, step, &mut outs, &mut text)?;
-    }
-    for _ in 0..1025 {
-        let step = Hear(0, 0, "8060000700000bb800000010aabb");
-        do_step(alloc, &mut world, &step, &mut outs, &mut text)?;
-        do_step(alloc, &mut world, &Ingress, &mut outs, &mut text)?;
-    }
-    assert_eq!(rt; outs.len(), 1);
-    assert!(rt; matches!(outs.last(), Some(Out::Lost(1))));
-    assert_eq!(rt; world.lost(), 1);
-    assert_eq!(rt; world.waiting().jobs, 1024);
-    let mut sent = Vec::new(alloc);
-    do_step(alloc, &mut world, &Settle, &mut sent, &mut text)?;
-    assert_eq!(rt; sent.len(), 1024);
-    for out in &sent {
-        let line = format!(in alloc; "{out}")?;
-        assert_eq!(rt; line.as_str(), "send 1 8060006400000bb800000101aabb");
+    let mut stage = flooded(rt.alloc())?;
+    assert_eq!(rt; stage.outs.len(), 1);
+    assert!(rt; matches!(stage.outs.last(), Some(Out::Lost(1))));
+    assert_eq!(rt; stage.world.lost(), 1);
+    assert_eq!(rt; stage.world.waiting().jobs, 1024);
+    let sent = sent(rt.alloc(), &mut stage)?;
+    assert_eq!(rt; stage.outs.len(), 1024);
+    for line in sent.as_str().lines() {
+        assert_eq!(rt; line, "send 1 8060006400000bb800000101aabb");
     }
     Ok(())
 }

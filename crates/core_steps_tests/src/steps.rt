@@ -36,6 +36,10 @@ pub(crate) const ASKED: [Step<'static>; 6] = [
     Settle,
 ];
 
+/// The times of most examples: an endpoint is silent for 1 s before it has left, reports are 60 s apart, and requests never grow
+/// too old.
+pub(crate) const TIMES: [i64; 3] = [1000, 60_000, 0];
+
 /// The settings of the examples: endpoints 16 and 17, and a leg of what the first publishes to the second.
 pub(crate) fn settings(
     alloc: Global,
@@ -138,6 +142,40 @@ pub(crate) fn event_of(alloc: Global, step: &Step<'_>) -> Result<Option<Event>, 
         Work(worker) => Some(Event::Work(worker)),
         Settle | Show(_) => None,
     })
+}
+
+/// A world, and what it gave out and showed so far.
+#[derive(Drop)]
+pub(crate) struct Stage {
+    pub(crate) world: World,
+    pub(crate) outs: Vec<Out>,
+    pub(crate) text: String,
+}
+
+/// A new world of the examples' room with these times: of silence until an endpoint has left, from report to report, and until
+/// a request is too old.
+pub(crate) fn new_stage(alloc: Global, times: [i64; 3]) -> Result<Stage, Fail> {
+    let [timeout_ms, report_ms, request_ms] = times;
+    let settings = settings(alloc, timeout_ms, report_ms, request_ms)?;
+    Ok(Stage {
+        world: World::new(alloc, &settings)?,
+        outs: Vec::new(alloc),
+        text: String::new(alloc),
+    })
+}
+
+/// Does these steps; what they give out stands in `outs`, what they show in `text`.
+pub(crate) fn play(alloc: Global, stage: &mut Stage, steps: &[Step<'_>]) -> Result<(), Fail> {
+    for step in steps {
+        do_step(
+            alloc,
+            &mut stage.world,
+            step,
+            &mut stage.outs,
+            &mut stage.text,
+        )?;
+    }
+    Ok(())
 }
 
 /// Does one step; what it gives out stands in `outs`, what it shows in `text`.
