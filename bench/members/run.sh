@@ -12,11 +12,11 @@ calls=${1:-20000}
 work=$(mktemp -d /tmp/bench_members.XXXXXX)
 trap 'rm -rf "$work"' EXIT
 mkdir -p "$work/crates/members_bench/src"
-cp -r "$top/crates/tmmbr_tuple" "$top/crates/rtcp_compound" "$top/crates/members" "$work/crates/"
+cp -r "$top/crates/tmmbr_tuple" "$top/crates/rtp_packet" "$top/crates/rtcp_compound" "$top/crates/members" "$work/crates/"
 cp "$here/main.rattle" "$work/crates/members_bench/src/main.rt"
 cp "$top/HANDLES" "$work/"
 {
-    grep -E '^(tmmbr_tuple|rtcp_compound|members):' "$top/crates.txt"
+    grep -E '^(tmmbr_tuple|rtp_packet|rtcp_compound|members):' "$top/crates.txt"
     echo 'members_bench: members tmmbr_tuple thiserror'
 } > "$work/crates.txt"
 

@@ -12,11 +12,13 @@ nacks=${1:-10}
 work=$(mktemp -d /tmp/bench_resend_ring.XXXXXX)
 trap 'rm -rf "$work"' EXIT
 mkdir -p "$work/crates/ring_bench/src"
-cp -r "$top/crates/tmmbr_tuple" "$top/crates/rtcp_compound" "$top/crates/rtcp_feedback" "$top/crates/resend_ring" "$work/crates/"
+for crate in tmmbr_tuple rtp_packet rtcp_compound rtcp_feedback resend_ring; do
+    cp -r "$top/crates/$crate" "$work/crates/"
+done
 cp "$here/main.rattle" "$work/crates/ring_bench/src/main.rt"
 cp "$top/HANDLES" "$work/"
 {
-    grep -E '^(tmmbr_tuple|rtcp_compound|rtcp_feedback|resend_ring):' "$top/crates.txt"
+    grep -E '^(tmmbr_tuple|rtp_packet|rtcp_compound|rtcp_feedback|resend_ring):' "$top/crates.txt"
     echo 'ring_bench: resend_ring rtcp_feedback rtcp_compound tmmbr_tuple bumpalo byteorder arrayvec circular_buffer thiserror'
 } > "$work/crates.txt"
 

@@ -18,6 +18,7 @@ use Rattle.core_steps.specs.declared.output.Out.{Out}
 use Rattle.core_steps.specs.declared.output.Out.TheVariants.{Send, Skip, Miss}
 use Rattle.core_steps.specs.Links.{LinkTable, numbered_legs, worker_of}
 use Rattle.core_steps.specs.Rtp.{is_rtp, sequence_number, payload_octets, readdressed_bytes}
+use Rattle.rtp_packet.specs.declared.header.TheConstants.{SEQ_CYCLE}
 
 -- ---- new legs
 
@@ -76,7 +77,7 @@ answer_on rows bytes s = answer_to s.numbers (row_of rows s).turn (sequence_numb
 
 -- the packet as it goes out: under the leg's source, with the number's low 16 bits
 abbrev pub outgoing_bytes : LegState → List ℕ → ℕ → List ℕ
-outgoing_bytes s bytes number = readdressed_bytes s.link.out_ssrc.0 (number % 2 ^ 16) bytes
+outgoing_bytes s bytes number = readdressed_bytes s.link.out_ssrc.0 (number % SEQ_CYCLE) bytes
 
 abbrev pub packet_outs : LegState → List ℕ → Result ℕ Cause → List Out
 packet_outs s bytes (Ok number) = Send s.link.subscriber (outgoing_bytes s bytes number) ∷ []

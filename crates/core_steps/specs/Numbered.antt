@@ -15,6 +15,7 @@ use Rattle.core_steps.specs.declared.leg.LegState.{LegState}
 use Rattle.core_steps.specs.Happening.{Happening, Worked, no_worker, world_after}
 use Rattle.core_steps.specs.Rtp.{is_rtp, sequence_number, readdressed_bytes}
 use Rattle.core_steps.specs.World.{WorldState}
+use Rattle.rtp_packet.specs.declared.header.TheConstants.{SEQ_CYCLE}
 
 -- ---- the jobs that a worker finished, in order, with the rows by which it did
 
@@ -73,7 +74,7 @@ answers_to held taken = history_of held (map incoming_packet taken)
 -- a packet that got a number as it goes out: under the leg's source, with the number's low 16 bits
 abbrev pub sent_as : LegSettings → Taken → Result ℕ Cause → List Sent
 sent_as l t (Ok number) =
-    record { number = number; bytes = readdressed_bytes l.out_ssrc.0 (number % 2 ^ 16) t.bytes }
+    record { number = number; bytes = readdressed_bytes l.out_ssrc.0 (number % SEQ_CYCLE) t.bytes }
     ∷ []
 sent_as l t (Err cause) = []
 

@@ -11,12 +11,9 @@ use crate::bytes::Bytes;
 use crate::leg::LegState;
 use crate::plan::{Plan, Planned};
 use rtcp_compound::{CNAME_LIMIT, write_rr, write_sdes_cname, write_sr};
-use rtp_packet::RtpView;
+use rtp_packet::{RtpView, SEQ_CYCLE};
 use std::alloc::{AllocError, Global};
 use tmmbr_tuple::Ssrc;
-
-/// How many sequence numbers there are (RFC 3550, section 5.1).
-const SEQS: u64 = 1 << 16;
 
 /// The octets of the payload of a packet; 0 where the bytes are none.
 pub fn payload_octets(bytes: &[u8]) -> u64
@@ -70,7 +67,7 @@ pub fn plan_packet(
     let mut numbers = leg.numbers;
     match numbers.next(turn, packet.sequence_number) {
         Ok(number) => {
-            let seq = (number % SEQS) as u16;
+            let seq = (number % SEQ_CYCLE) as u16;
             let bytes = readdressed(packet, alloc, leg.link.out_ssrc, seq, plan)?;
             Ok(Planned::Forward {
                 place,

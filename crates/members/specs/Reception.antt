@@ -6,7 +6,8 @@ use Rattle.tmmbr_tuple.specs.declared.ssrc.Ssrc.{Ssrc}
 pub use Rattle.rtcp_compound.specs.declared.report.Block.{Block}
 use Rattle.members.specs.declared.reception.SenderReport.{SenderReport}
 use Rattle.members.specs.declared.stream.Stream.{Stream}
-use Rattle.members.specs.declared.stream.TheConstants.{COUNTED_PACKETS, SEQ_CYCLE, SEQ_REACH, WORD_VALUES}
+use Rattle.members.specs.declared.stream.TheConstants.{COUNTED_PACKETS, SEQ_REACH, WORD_VALUES}
+use Rattle.rtp_packet.specs.declared.header.TheConstants.{SEQ_CYCLE}
 
 -- a packet: when it came, in milliseconds, its sequence number and its timestamp
 pub record Arrival : Type 0 where

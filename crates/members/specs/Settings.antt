@@ -9,7 +9,7 @@ use Rattle.members.specs.declared.parts.LegParts.{LegParts}
 use Rattle.members.specs.declared.settings.LegSettings.{LegSettings}
 use Rattle.members.specs.declared.checks.Numbers.{Numbers}
 use Rattle.members.specs.declared.settings.TheConstants.{MAX_ENDPOINTS, MAX_LEGS, MAX_WORKERS, MAX_RING, LEAST_HISTORY, MAX_HISTORY, MAX_PERIOD_MS, SSRCS}
-use Rattle.members.specs.declared.stream.TheConstants.{SEQ_CYCLE}
+use Rattle.rtp_packet.specs.declared.header.TheConstants.{SEQ_CYCLE}
 use Rattle.members.specs.declared.fault.SettingsFault.{SettingsFault}
 use Rattle.members.specs.declared.fault.SettingsFault.TheVariants.{Top, Endpoint, Leg, SameSsrc}
 use Rattle.members.specs.declared.fault.Key.TheVariants as key

@@ -3,7 +3,8 @@ use Rattle.std.specs.Prelude.{◌≡◌, ℕ, ◌+◌, ◌-◌, ◌*◌, ◌/◌
 use Rattle.tmmbr_tuple.specs.declared.ssrc.Ssrc.{Ssrc}
 use Rattle.members.specs.declared.reception.SenderReport.{SenderReport}
 use Rattle.members.specs.declared.stream.Stream.{Stream}
-use Rattle.members.specs.declared.stream.TheConstants.{COUNTED_PACKETS, SEQ_CYCLE, SEQ_REACH, WORD_VALUES}
+use Rattle.members.specs.declared.stream.TheConstants.{COUNTED_PACKETS, SEQ_REACH, WORD_VALUES}
+use Rattle.rtp_packet.specs.declared.header.TheConstants.{SEQ_CYCLE}
 use Rattle.members.specs.Reception.{Block, Heard, ReceptionCall, Received, SenderReported, BlockMade, middle_in, delay_in, extended_number, expected_in, lost_of, fraction_of, apart, jitter_after, transit_at}
 
 -- what always holds of a stream

@@ -10,8 +10,8 @@ use crate::settings::{
     LEAST_HISTORY, MAX_ENDPOINTS, MAX_HISTORY, MAX_LEGS, MAX_PERIOD_MS, MAX_RING, MAX_WORKERS,
     SSRCS,
 };
-use crate::stream::SEQ_CYCLE;
 use rtcp_compound::CNAME_LIMIT;
+use rtp_packet::SEQ_CYCLE;
 
 /// The plain numbers of settings.
 #[derive(Clone, Copy, Debug)]

@@ -4,6 +4,7 @@ ghost use Rattle.std.specs.Prelude.{◌≡◌, ◌↔◌, IfNone, IsNone};
 
 use crate::stream::{self, Stream, WORD_VALUES};
 use rtcp_compound::Block;
+use rtp_packet::SEQ_CYCLE;
 use std::marker::Model;
 use tmmbr_tuple::Ssrc;
 
@@ -93,7 +94,7 @@ impl Reception {
             source,
             fraction: stream.fraction_lost(),
             lost: stream::lost(stream.expected(), stream.received),
-            highest: ((stream.max_seq - stream::SEQ_CYCLE) % WORD_VALUES) as u32,
+            highest: ((stream.max_seq - SEQ_CYCLE) % WORD_VALUES) as u32,
             jitter: (stream.jitter / 16) as u32,
             last_sr,
             delay,

@@ -6,7 +6,7 @@ ghost use Rattle.members.specs.Settings.{name_of, first_fault, ssrc_of, leg_of, 
 use crate::checks::{Numbers, checked, number_or_none};
 use crate::fault::SettingsFault;
 use crate::parts::{LegParts, Parts};
-use crate::stream::SEQ_CYCLE;
+use rtp_packet::SEQ_CYCLE;
 use std::alloc::{AllocError, Global};
 use std::marker::Model;
 use tmmbr_tuple::Ssrc;

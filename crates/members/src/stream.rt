@@ -4,12 +4,11 @@ ghost use Rattle.std.specs.Prelude.{◌≡◌, ◌+◌, ◌-◌, ◌^◌, ◌<�
 ghost use Rattle.members.specs.Reception.{transit_at, expected_in, lost_of, fraction_of, jitter_after, extended_number};
 ghost use Rattle.members.specs.Stream.{IsCounted, new_stream, counted_with, stream_after_block};
 
+use rtp_packet::SEQ_CYCLE;
+
 /// How many packets of a stream count. Each raises the highest number by less than 2^15, so that numbers
 /// stay below 2^63.
 pub const COUNTED_PACKETS: u64 = 1 << 47;
-
-/// How many sequence numbers there are (RFC 3550, section 5.1).
-pub const SEQ_CYCLE: u64 = 1 << 16;
 
 /// How far below the highest packet a packet may stand; above it one less.
 pub const SEQ_REACH: u64 = 1 << 15;

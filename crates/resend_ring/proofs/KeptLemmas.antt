@@ -6,7 +6,7 @@ use Rattle.std.proofs.lemmas.Bool.Decides.{nat_tests}
 use Rattle.std.proofs.lemmas.Option.{get_or_from_slice_get}
 use Rattle.std.proofs.lemmas.List.{drop-append-le, drop-drop, append-nil, length-map, get_or-map}
 use Rattle.circular_buffer.specs.Buffer.{keep_last}
-use Rattle.resend_ring.specs.declared.ring.TheConstants.{CYCLE}
+use Rattle.rtp_packet.specs.declared.header.TheConstants.{SEQ_CYCLE}
 use Rattle.resend_ring.specs.Kept.{SentPacket, sent_packet, kept_in_turn}
 
 -- what left before makes no difference to what is kept of the last ones
@@ -39,7 +39,7 @@ kept_from_none capacity packets =
     ap (λ items. kept_in_turn capacity items packets) (sym (drop_none (0 - capacity))) ∙ kept_in_turn-is capacity [] packets
 
 abbrev pub has_seq : ℕ → SentPacket → Bool
-has_seq seq p = p.number % CYCLE == seq
+has_seq seq p = p.number % SEQ_CYCLE == seq
 
 -- ---- the packet so many places from the newest
 

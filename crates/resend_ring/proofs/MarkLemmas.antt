@@ -10,7 +10,7 @@ use Rattle.std.proofs.lemmas.List.{length-reverse, length-map, length-drop, get_
 use Rattle.std.proofs.lemmas.List.Folds.{find_at}
 use Rattle.std.proofs.lemmas.List.Sums.{position_or_len_is, fails_before_first, passes_at_first}
 use Rattle.circular_buffer.specs.Buffer.{keep_last}
-use Rattle.resend_ring.specs.declared.ring.TheConstants.{CYCLE}
+use Rattle.rtp_packet.specs.declared.header.TheConstants.{SEQ_CYCLE}
 use Rattle.resend_ring.specs.Kept.{SentPacket, sent_packet, last_kept_with, places_back, AreMarks}
 use Rattle.resend_ring.proofs.KeptLemmas.{has_seq, nth_from_back, slice_get_back, packet_at}
 
@@ -38,45 +38,45 @@ marks_dropped clock marks k items h = record {
       let same : places_back seq items ≡ places_back seq (drop k items) =
       ap (position_or_len (has_seq seq)) joined ∙ first_place (has_seq seq) (reverse (drop k items)) (reverse (take k items)) nothing within in
       let all : places_back seq items < length items = omega (arith, same, inside, length-drop k items) in
-      h.latest seq all ∙ ap (λ back. (clock + CYCLE - back) % CYCLE) same;
+      h.latest seq all ∙ ap (λ back. (clock + SEQ_CYCLE - back) % SEQ_CYCLE) same;
 }
 
-has_own : (p : SentPacket) (seq : ℕ) → p.number % CYCLE ≡ seq → has_seq seq p ≡ true
+has_own : (p : SentPacket) (seq : ℕ) → p.number % SEQ_CYCLE ≡ seq → has_seq seq p ≡ true
 has_own p seq same = grind (arith, nat_tests)
 
-has_other : (p : SentPacket) (seq : ℕ) → p.number % CYCLE ≢ seq → has_seq seq p ≡ false
+has_other : (p : SentPacket) (seq : ℕ) → p.number % SEQ_CYCLE ≢ seq → has_seq seq p ≡ false
 has_other p seq other = grind (arith, nat_tests)
 
-marks_pushed : (clock : ℕ) (marks : List ℕ) (items : List SentPacket) (p : SentPacket) → AreMarks clock marks items → length items < CYCLE
-    → AreMarks ((clock + 1) % CYCLE) (set marks (p.number % CYCLE) ((clock + 1) % CYCLE)) (items ++ p ∷ [])
+marks_pushed : (clock : ℕ) (marks : List ℕ) (items : List SentPacket) (p : SentPacket) → AreMarks clock marks items → length items < SEQ_CYCLE
+    → AreMarks ((clock + 1) % SEQ_CYCLE) (set marks (p.number % SEQ_CYCLE) ((clock + 1) % SEQ_CYCLE)) (items ++ p ∷ [])
 marks_pushed clock marks items p h few = record {
-  every_number = length-set marks (p.number % CYCLE) ((clock + 1) % CYCLE) ∙ h.every_number;
+  every_number = length-set marks (p.number % SEQ_CYCLE) ((clock + 1) % SEQ_CYCLE) ∙ h.every_number;
   latest = λ seq inside.
-      let next = (clock + 1) % CYCLE in
+      let next = (clock + 1) % SEQ_CYCLE in
       let turned : reverse (items ++ p ∷ []) ≡ p ∷ reverse items = reverse-append items (p ∷ []) in
-      let Leads : ℕ → Type 0 = λ back. get_or (set marks (p.number % CYCLE) next) seq 0 ≡ (next + CYCLE - back) % CYCLE in
-      elim (cases_order (p.number % CYCLE) seq) [
+      let Leads : ℕ → Type 0 = λ back. get_or (set marks (p.number % SEQ_CYCLE) next) seq 0 ≡ (next + SEQ_CYCLE - back) % SEQ_CYCLE in
+      elim (cases_order (p.number % SEQ_CYCLE) seq) [
         | inl same ↦
             let here : places_back seq (items ++ p ∷ []) ≡ 0 = rw (turned, has_own p seq same) refl in
-            let room : p.number % CYCLE < length marks = rw (h.every_number) (omega arith) in
+            let room : p.number % SEQ_CYCLE < length marks = rw (h.every_number) (omega arith) in
             subst Leads (sym here)
-            (ap (λ k. get_or (set marks (p.number % CYCLE) next) k 0) (sym same) ∙ (get_or-set_same marks (p.number % CYCLE) next 0 room ∙ omega arith))
+            (ap (λ k. get_or (set marks (p.number % SEQ_CYCLE) next) k 0) (sym same) ∙ (get_or-set_same marks (p.number % SEQ_CYCLE) next 0 room ∙ omega arith))
         | inr other ↦
-            let apart : p.number % CYCLE ≢ seq = elim other [ inl less ↦ λ e. omega arith | inr less ↦ λ e. omega arith ] in
+            let apart : p.number % SEQ_CYCLE ≢ seq = elim other [ inl less ↦ λ e. omega arith | inr less ↦ λ e. omega arith ] in
             let behind : places_back seq (items ++ p ∷ []) ≡ 1 + places_back seq items = rw (turned, has_other p seq apart) refl in
             let before : places_back seq items < length items = omega (arith, inside, behind, length-append items (p ∷ [])) in
             subst Leads (sym behind)
-            (get_or-set_other marks (p.number % CYCLE) seq next 0 (λ e. apart (sym e)) ∙ (h.latest seq before ∙ omega arith))
+            (get_or-set_other marks (p.number % SEQ_CYCLE) seq next 0 (λ e. apart (sym e)) ∙ (h.latest seq before ∙ omega arith))
       ];
 }
 
 pub marks_kept : (clock capacity : ℕ) (marks : List ℕ) (xs : List (ℕ × Vec ℕ)) (x : ℕ × Vec ℕ) → AreMarks clock marks (map sent_packet xs)
-    → length xs < CYCLE
-    → AreMarks ((clock + 1) % CYCLE) (set marks (x.0 % CYCLE) ((clock + 1) % CYCLE)) (map sent_packet (keep_last capacity (xs ++ x ∷ [])))
+    → length xs < SEQ_CYCLE
+    → AreMarks ((clock + 1) % SEQ_CYCLE) (set marks (x.0 % SEQ_CYCLE) ((clock + 1) % SEQ_CYCLE)) (map sent_packet (keep_last capacity (xs ++ x ∷ [])))
 marks_kept clock capacity marks xs x h few =
     let all = xs ++ x ∷ [] in
     let pushed = marks_pushed clock marks (map sent_packet xs) (sent_packet x) h (rw (length-map xs sent_packet) few) in
-    rw (← drop-map, map-append) (marks_dropped ((clock + 1) % CYCLE) (set marks (x.0 % CYCLE) ((clock + 1) % CYCLE)) (length all - capacity) (map sent_packet xs ++ sent_packet x ∷ []) pushed)
+    rw (← drop-map, map-append) (marks_dropped ((clock + 1) % SEQ_CYCLE) (set marks (x.0 % SEQ_CYCLE) ((clock + 1) % SEQ_CYCLE)) (length all - capacity) (map sent_packet xs ++ sent_packet x ∷ []) pushed)
 
 -- ---- finding
 
@@ -95,22 +95,22 @@ newest_at xs back x inside is =
     ∙ (ap (λ k. get_or (map sent_packet xs) k (sent_packet x)) places ∙ packet_at xs back x inside is)
 
 -- the place that a mark leads to, once it is known to be right
-led_to : (clock back pos seq mark : ℕ) (marks : List ℕ) → pos < CYCLE → length marks ≡ CYCLE → seq < CYCLE → get_or marks seq 0 ≡ (clock + CYCLE - pos) % CYCLE
-    → mark ≡ get_or marks seq mark → back ≡ (clock + (CYCLE - mark)) % CYCLE → pos ≡ back
+led_to : (clock back pos seq mark : ℕ) (marks : List ℕ) → pos < SEQ_CYCLE → length marks ≡ SEQ_CYCLE → seq < SEQ_CYCLE → get_or marks seq 0 ≡ (clock + SEQ_CYCLE - pos) % SEQ_CYCLE
+    → mark ≡ get_or marks seq mark → back ≡ (clock + (SEQ_CYCLE - mark)) % SEQ_CYCLE → pos ≡ back
 led_to clock back pos seq mark marks small every fits is read back_is =
-    let mark_is : mark ≡ (clock + CYCLE - pos) % CYCLE = read ∙ (get_or_default marks seq mark 0 (omega arith) ∙ is) in
+    let mark_is : mark ≡ (clock + SEQ_CYCLE - pos) % SEQ_CYCLE = read ∙ (get_or_default marks seq mark 0 (omega arith) ∙ is) in
     omega arith
 
 -- two packets at one place are one
-pub others : (xs : List (ℕ × Vec ℕ)) (seq back : ℕ) (x y : ℕ × Vec ℕ) → Some y ≡ nth_from_back xs back → y.0 % CYCLE ≢ seq
-    → Some x ≡ nth_from_back xs back → x.0 % CYCLE ≢ seq
-others xs seq back x y there other is = let both : Some x ≡ Some y = is ∙ sym there in let same : x ≡ y = cc in subst (λ (z : ℕ × Vec ℕ). z.0 % CYCLE ≢ seq) (sym same) other
+pub others : (xs : List (ℕ × Vec ℕ)) (seq back : ℕ) (x y : ℕ × Vec ℕ) → Some y ≡ nth_from_back xs back → y.0 % SEQ_CYCLE ≢ seq
+    → Some x ≡ nth_from_back xs back → x.0 % SEQ_CYCLE ≢ seq
+others xs seq back x y there other is = let both : Some x ≡ Some y = is ∙ sym there in let same : x ≡ y = cc in subst (λ (z : ℕ × Vec ℕ). z.0 % SEQ_CYCLE ≢ seq) (sym same) other
 
-pub no_others : (xs : List (ℕ × Vec ℕ)) (seq back : ℕ) (x : ℕ × Vec ℕ) → None ≡ nth_from_back xs back → Some x ≡ nth_from_back xs back → x.0 % CYCLE ≢ seq
+pub no_others : (xs : List (ℕ × Vec ℕ)) (seq back : ℕ) (x : ℕ × Vec ℕ) → None ≡ nth_from_back xs back → Some x ≡ nth_from_back xs back → x.0 % SEQ_CYCLE ≢ seq
 no_others xs seq back x none is = let e : Some x ≡ None = is ∙ sym none in absurd cc
 
 pub found_by_mark : (clock : ℕ) (marks : List ℕ) (seq mark back : ℕ) (xs : List (ℕ × Vec ℕ)) (x : ℕ × Vec ℕ) → AreMarks clock marks (map sent_packet xs)
-    → length xs < CYCLE → seq < CYCLE → mark ≡ get_or marks seq mark → back ≡ (clock + (CYCLE - mark)) % CYCLE → Some x ≡ nth_from_back xs back → x.0 % CYCLE ≡ seq
+    → length xs < SEQ_CYCLE → seq < SEQ_CYCLE → mark ≡ get_or marks seq mark → back ≡ (clock + (SEQ_CYCLE - mark)) % SEQ_CYCLE → Some x ≡ nth_from_back xs back → x.0 % SEQ_CYCLE ≡ seq
     → Some x.1.items ≡ last_kept_with (map sent_packet xs) seq
 found_by_mark clock marks seq mark back xs x h few fits read back_is is same =
     let items = map sent_packet xs in
@@ -132,8 +132,8 @@ found_by_mark clock marks seq mark back xs x h few fits read back_is is same =
     sym (ap (option_map (λ (q : SentPacket). q.bytes)) found)
 
 pub missed_by_mark : (clock : ℕ) (marks : List ℕ) (seq mark back : ℕ) (xs : List (ℕ × Vec ℕ)) → AreMarks clock marks (map sent_packet xs)
-    → length xs < CYCLE → seq < CYCLE → mark ≡ get_or marks seq mark → back ≡ (clock + (CYCLE - mark)) % CYCLE
-    → ((x : ℕ × Vec ℕ) → Some x ≡ nth_from_back xs back → x.0 % CYCLE ≢ seq)
+    → length xs < SEQ_CYCLE → seq < SEQ_CYCLE → mark ≡ get_or marks seq mark → back ≡ (clock + (SEQ_CYCLE - mark)) % SEQ_CYCLE
+    → ((x : ℕ × Vec ℕ) → Some x ≡ nth_from_back xs back → x.0 % SEQ_CYCLE ≢ seq)
     → None ≡ last_kept_with (map sent_packet xs) seq
 missed_by_mark clock marks seq mark back xs h few fits read back_is other =
     let items = map sent_packet xs in
@@ -158,5 +158,5 @@ missed_by_mark clock marks seq mark back xs h few fits read back_is other =
       | inr more ↦ sym (ap (option_map (λ (q : SentPacket). q.bytes)) (find_at p newest ∙ slice_get_past newest (position_or_len p newest) more))
     ]
   where
-    is_own : (x : ℕ × Vec ℕ) (seq : ℕ) → has_seq seq (sent_packet x) ≡ true → x.0 % CYCLE ≡ seq
+    is_own : (x : ℕ × Vec ℕ) (seq : ℕ) → has_seq seq (sent_packet x) ≡ true → x.0 % SEQ_CYCLE ≡ seq
     is_own x seq own = grind (arith, nat_tests)

@@ -3,7 +3,7 @@ use Rattle.std.specs.Prelude.{◌≡◌, ◌==◌, ◌<◌, ◌+◌, ◌-◌, �
 use Rattle.std.specs.List.{position_or_len}
 use Rattle.std.specs.Global.{Vec}
 use Rattle.circular_buffer.specs.Buffer.{keep_last}
-use Rattle.resend_ring.specs.declared.ring.TheConstants.{CYCLE}
+use Rattle.rtp_packet.specs.declared.header.TheConstants.{SEQ_CYCLE}
 
 -- a packet as it was sent: its outgoing number, and its bytes
 pub record SentPacket : Type 0 where
@@ -21,7 +21,7 @@ sent_packet p = record { number = p.0; bytes = p.1.items }
 -- the bytes of the latest packet whose number is congruent to seq modulo 65536
 abbrev pub last_kept_with : List SentPacket → ℕ → Option (List ℕ)
 last_kept_with items seq =
-    option_map (λ (p : SentPacket). p.bytes) (find (λ p. p.number % CYCLE == seq) (reverse items))
+    option_map (λ (p : SentPacket). p.bytes) (find (λ p. p.number % SEQ_CYCLE == seq) (reverse items))
 
 -- what is kept of these once more packets came in turn
 abbrev pub kept_in_turn : ℕ → List SentPacket → List SentPacket → List SentPacket
@@ -32,11 +32,11 @@ kept_in_turn capacity items (p ∷ packets) =
 -- how many places behind the newest the latest packet with this sequence number stands; where there is none, as many
 -- as there are packets
 abbrev pub places_back : ℕ → List SentPacket → ℕ
-places_back seq items = position_or_len (λ p. p.number % CYCLE == seq) (reverse items)
+places_back seq items = position_or_len (λ p. p.number % SEQ_CYCLE == seq) (reverse items)
 
 -- The clock counts the packets that were kept, modulo 65536. For each sequence number of a packet that is kept, its mark is
 -- what the clock was when the latest such packet came.
 pub record AreMarks (clock : ℕ) (marks : List ℕ) (items : List SentPacket) : Type 0 where
-  pub every_number : length marks ≡ CYCLE
+  pub every_number : length marks ≡ SEQ_CYCLE
   pub latest : (seq : ℕ) → places_back seq items < length items
-      → slice_index marks seq ≡ (clock + CYCLE - places_back seq items) % CYCLE
+      → slice_index marks seq ≡ (clock + SEQ_CYCLE - places_back seq items) % SEQ_CYCLE

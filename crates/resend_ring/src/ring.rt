@@ -5,14 +5,12 @@ ghost use Rattle.std.specs.Option.{option_to_list};
 ghost use Rattle.circular_buffer.specs.Buffer.{keep_last};
 
 use circular_buffer::HeapCircularBuffer;
+use rtp_packet::SEQ_CYCLE;
 use std::alloc::{AllocError, Allocator, Global};
 use std::marker::Model;
 
 /// The most packets that a ring may keep.
 pub const MAX_CAPACITY: usize = 512;
-
-/// How many sequence numbers there are (RFC 3550, section 5.1).
-const CYCLE: u64 = 1 << 16;
 
 /// The last packets of a leg, each with its outgoing number and its bytes.
 #[derive(Debug, Drop)]
@@ -53,7 +51,7 @@ impl<A: Allocator> Ring<A> {
         ensures { IfOk result (λ ring. ring ≡ record { capacity = capacity; items = [] }) }
     {
         let packets = HeapCircularBuffer::with_capacity(alloc.clone()?, capacity)?;
-        let marks = vec![in alloc; 0; CYCLE as usize]?;
+        let marks = vec![in alloc; 0; SEQ_CYCLE as usize]?;
         Ok(Ring {
             packets,
             clock: 0,
@@ -71,7 +69,7 @@ impl<A: Allocator> Ring<A> {
             ≡ option_to_list (option_map sent_packet result) ++ self.new.items }
     {
         self.clock = self.clock.wrapping_add(1);
-        self.marks[(number % CYCLE) as usize] = self.clock;
+        self.marks[(number % SEQ_CYCLE) as usize] = self.clock;
         self.packets.push_back((number, bytes))
     }
 
@@ -84,7 +82,7 @@ impl<A: Allocator> Ring<A> {
         let Some((number, bytes)) = self.packets.nth_back(usize::from(back)) else {
             return None;
         };
-        if number % CYCLE == u64::from(seq) {
+        if number % SEQ_CYCLE == u64::from(seq) {
             Some(bytes.as_slice())
         } else {
             None

@@ -8,14 +8,15 @@ use Rattle.std.proofs.lemmas.List.Quantifiers.{Any-push}
 use Rattle.std.proofs.lemmas.List.{get_or_append_left, append-nil, append_assoc}
 use Rattle.std.proofs.lemmas.List.Folds.{find-append}
 use Rattle.rewrite.specs.declared.segment.Segment.{Segment}
-use Rattle.rewrite.specs.declared.segment.TheConstants.{NUMBER_LIMIT, CYCLE}
+use Rattle.rewrite.specs.declared.segment.TheConstants.{NUMBER_LIMIT}
+use Rattle.rtp_packet.specs.declared.header.TheConstants.{SEQ_CYCLE}
 use Rattle.rewrite.specs.declared.skip.Skip.{Skip}
 use Rattle.rewrite.specs.declared.skip.Skip.TheVariants.{Old, Spent}
 use Rattle.rewrite.specs.Leg.{Held, IsWithinLimit, first_segment, last_number, extended_number, answer_at, answer_in, with_number, answer_to, answer_by, held_with, segment_with, history_of, held_after, LeavesOpen, IsHeldBy}
 use Rattle.rewrite.specs.Numbering.{IncomingPacket, Entry, Numbered, entry_numbers, numbered_as, within_limit, IsNextNumber, extended_of, IsExtendedNumber, IsHighest, Begins, Continues, IsNumberAnswer, RenumbersAfter, AreApart}
 
 -- the extended number is the near one
-pub extended_number-is : (highest seq : ℕ) → CYCLE ≤ highest → seq < CYCLE → IsExtendedNumber highest seq (extended_number highest seq)
+pub extended_number-is : (highest seq : ℕ) → SEQ_CYCLE ≤ highest → seq < SEQ_CYCLE → IsExtendedNumber highest seq (extended_number highest seq)
 extended_number-is highest seq cycled fits = record {
   congruent = omega arith;
   at_least = omega arith;
@@ -35,7 +36,7 @@ pub record Holds (s : Segment) (past : List Numbered) : Type 0 where
   base : Numbered
   is_base : find (λ p. p.turn == s.turn) past ≡ Some base
   base_turn : base.turn ≡ s.turn
-  base_at : CYCLE + base.seq ≡ s.base
+  base_at : SEQ_CYCLE + base.seq ≡ s.base
   start_at : base.number ≡ s.start
   each : All (Fits s) past
   highest : Any (λ p. (p.turn ≡ s.turn) × (p.number ≡ last_number s)) past
@@ -92,7 +93,7 @@ apart_push past y above apart =
 
 -- a packet that begins a segment
 holds_opened : (past : List Numbered) (turn seq number : ℕ) → All (λ p. (p.turn < turn) × (p.number < number)) past
-    → seq < CYCLE → number < NUMBER_LIMIT → Holds (first_segment turn seq number) (past ++ made turn seq number ∷ [])
+    → seq < SEQ_CYCLE → number < NUMBER_LIMIT → Holds (first_segment turn seq number) (past ++ made turn seq number ∷ [])
 holds_opened past turn seq number fresh fits limit = record {
   within = record { cycled = omega arith; first_cycle = omega arith; risen = omega arith; limit = omega arith };
   base = made turn seq number;
@@ -187,7 +188,7 @@ highest_of s past h = record {
       (λ p f same. omega (arith, f.number, f.own (same ∙ h.base_turn), h.base_at, h.start_at, h.within.risen)) past h.each;
 }
 
-continues : (s : Segment) (past : List Numbered) (seq : ℕ) (answer : Result ℕ Skip) → Holds s past → seq < CYCLE
+continues : (s : Segment) (past : List Numbered) (seq : ℕ) (answer : Result ℕ Skip) → Holds s past → seq < SEQ_CYCLE
     → answer ≡ answer_in s seq → Continues past s.turn seq answer
 continues s past seq answer h fits is = record {
   latest = All-weaker (Fits s) (λ p. p.turn ≤ s.turn) (λ p f. f.turn) past h.each;
@@ -209,14 +210,14 @@ unanswered first s past turn seq skip h is = record {
   apart = λ a. rw append-nil a;
 }
 
-steps_none : (first turn seq : ℕ) → first < CYCLE → seq < CYCLE → Steps first None [] turn seq (Ok first)
+steps_none : (first turn seq : ℕ) → first < SEQ_CYCLE → seq < SEQ_CYCLE → Steps first None [] turn seq (Ok first)
 steps_none first turn seq fits seq_fits = record {
   answered = inl (record { fresh = All-nil (λ p. p.turn < turn); number = first; next = refl; answered = sym (within_is first (omega arith)) });
   holds = holds_opened [] turn seq first (All-nil (λ p. (p.turn < turn) × (p.number < first))) seq_fits (omega arith);
   apart = λ a. apart_push [] (made turn seq first) (All-nil (IsAbove (made turn seq first))) a;
 }
 
-steps_fresh : (first : ℕ) (s : Segment) (past : List Numbered) (turn seq : ℕ) → Holds s past → seq < CYCLE → s.turn < turn
+steps_fresh : (first : ℕ) (s : Segment) (past : List Numbered) (turn seq : ℕ) → Holds s past → seq < SEQ_CYCLE → s.turn < turn
     → Steps first (Some s) past turn seq (within_limit (last_number s + 1))
 steps_fresh first s past turn seq h fits less =
     let n = last_number s + 1 in
@@ -251,7 +252,7 @@ old_is s extended less = grind (arith, nat_tests)
 answer_from : (s : Segment) (extended : ℕ) → s.base ≤ extended → answer_at s extended ≡ within_limit (s.start + (extended - s.base))
 answer_from s extended more = grind (arith, nat_tests)
 
-steps_numbered : (first : ℕ) (s : Segment) (past : List Numbered) (seq number : ℕ) → Holds s past → seq < CYCLE → s.start ≤ number
+steps_numbered : (first : ℕ) (s : Segment) (past : List Numbered) (seq number : ℕ) → Holds s past → seq < SEQ_CYCLE → s.start ≤ number
     → number < NUMBER_LIMIT → Ok number ≡ answer_in s seq → Steps first (Some s) past s.turn seq (Ok number)
 steps_numbered first s past seq number h fits above within is = record {
   answered = inr (inl (continues s past seq (Ok number) h fits is));
@@ -260,7 +261,7 @@ steps_numbered first s past seq number h fits above within is = record {
       (All-weaker (Fits s) (IsAbove (made s.turn seq number)) (λ p f. (f.turn, λ less. let e = f.lesser less in omega arith)) past h.each);
 }
 
-steps_same : (first : ℕ) (s : Segment) (past : List Numbered) (seq : ℕ) → Holds s past → seq < CYCLE
+steps_same : (first : ℕ) (s : Segment) (past : List Numbered) (seq : ℕ) → Holds s past → seq < SEQ_CYCLE
     → Steps first (Some s) past s.turn seq (answer_in s seq)
 steps_same first s past seq h fits =
     let extended = extended_number s.highest seq in
@@ -277,7 +278,7 @@ steps_same first s past seq h fits =
       ]
     ]
 
-steps_some : (first : ℕ) (s : Segment) (past : List Numbered) (turn seq : ℕ) → Holds s past → seq < CYCLE
+steps_some : (first : ℕ) (s : Segment) (past : List Numbered) (turn seq : ℕ) → Holds s past → seq < SEQ_CYCLE
     → Steps first (Some s) past turn seq (answer_by first (Some s) turn seq)
 steps_some first s past turn seq h fits = elim (cases_order turn s.turn) [
   | inl same ↦ subst (λ t. Steps first (Some s) past t seq (answer_by first (Some s) t seq)) (sym same)
@@ -288,7 +289,7 @@ steps_some first s past turn seq h fits = elim (cases_order turn s.turn) [
   ]
 ]
 
-steps : (first : ℕ) (segment : Option Segment) (past : List Numbered) (turn seq : ℕ) → HoldsFor segment past → first < CYCLE → seq < CYCLE
+steps : (first : ℕ) (segment : Option Segment) (past : List Numbered) (turn seq : ℕ) → HoldsFor segment past → first < SEQ_CYCLE → seq < SEQ_CYCLE
     → Steps first segment past turn seq (answer_by first segment turn seq)
 steps first None past turn seq h fits seq_fits = subst (λ q. Steps first None q turn seq (Ok first)) (sym h) (steps_none first turn seq fits seq_fits)
 steps first (Some s) past turn seq h fits seq_fits = steps_some first s past turn seq h seq_fits
@@ -299,30 +300,30 @@ same_first : (held : Held) (turn seq : ℕ) (answer : Result ℕ Skip) → (held
 same_first held turn seq (Ok number) = refl
 same_first held turn seq (Err skip) = refl
 
-pub renumbers_after : (first : ℕ) (held : Held) (past : List Numbered) (packets : List IncomingPacket) → held.first ≡ first → first < CYCLE
-    → All (λ p. p.seq < CYCLE) packets → HoldsFor held.segment past → RenumbersAfter first past (history_of held packets)
+pub renumbers_after : (first : ℕ) (held : Held) (past : List Numbered) (packets : List IncomingPacket) → held.first ≡ first → first < SEQ_CYCLE
+    → All (λ p. p.seq < SEQ_CYCLE) packets → HoldsFor held.segment past → RenumbersAfter first past (history_of held packets)
 renumbers_after first held past [] same fits seqs h = tt
 renumbers_after first held past (p ∷ packets) same fits seqs h =
     let answer = answer_to held p.turn p.seq in
-    let seq_fits : p.seq < CYCLE = seqs 0 p (omega arith) in
+    let seq_fits : p.seq < SEQ_CYCLE = seqs 0 p (omega arith) in
     let step = steps held.first held.segment past p.turn p.seq h (omega arith) seq_fits in
     let turned : IsNumberAnswer first past (entry p.turn p.seq answer) = subst (λ f. IsNumberAnswer f past (entry p.turn p.seq answer)) same step.answered in (
       turned,
       renumbers_after first (held_with held p.turn p.seq answer) (past ++ numbered_as p.turn p.seq answer) packets
-          (same_first held p.turn p.seq answer ∙ same) fits (All-tail (λ (q : IncomingPacket). q.seq < CYCLE) p packets seqs) step.holds,
+          (same_first held p.turn p.seq answer ∙ same) fits (All-tail (λ (q : IncomingPacket). q.seq < SEQ_CYCLE) p packets seqs) step.holds,
     )
 
-pub apart_after : (held : Held) (past : List Numbered) (packets : List IncomingPacket) → held.first < CYCLE
-    → All (λ p. p.seq < CYCLE) packets → HoldsFor held.segment past → AreApart past
+pub apart_after : (held : Held) (past : List Numbered) (packets : List IncomingPacket) → held.first < SEQ_CYCLE
+    → All (λ p. p.seq < SEQ_CYCLE) packets → HoldsFor held.segment past → AreApart past
     → AreApart (past ++ flat_map entry_numbers (history_of held packets))
 apart_after held past [] fits seqs h apart = rw append-nil apart
 apart_after held past (p ∷ packets) fits seqs h apart =
     let answer = answer_to held p.turn p.seq in
-    let seq_fits : p.seq < CYCLE = seqs 0 p (omega arith) in
+    let seq_fits : p.seq < SEQ_CYCLE = seqs 0 p (omega arith) in
     let step = steps held.first held.segment past p.turn p.seq h fits seq_fits in
-    let first_fits : (held_with held p.turn p.seq answer).first < CYCLE = rw (same_first held p.turn p.seq answer) fits in
+    let first_fits : (held_with held p.turn p.seq answer).first < SEQ_CYCLE = rw (same_first held p.turn p.seq answer) fits in
     let rest = apart_after (held_with held p.turn p.seq answer) (past ++ numbered_as p.turn p.seq answer) packets
-    first_fits (All-tail (λ (q : IncomingPacket). q.seq < CYCLE) p packets seqs) step.holds (step.apart apart) in
+    first_fits (All-tail (λ (q : IncomingPacket). q.seq < SEQ_CYCLE) p packets seqs) step.holds (step.apart apart) in
     rw append_assoc at rest
 
 -- ---- what is held
@@ -338,15 +339,15 @@ leaves_open (Some s) past h = record {
   is_highest = highest_of s past h;
 }
 
-pub held_after-is : (first : ℕ) (held : Held) (past : List Numbered) (packets : List IncomingPacket) → held.first ≡ first → first < CYCLE
-    → All (λ p. p.seq < CYCLE) packets → HoldsFor held.segment past
+pub held_after-is : (first : ℕ) (held : Held) (past : List Numbered) (packets : List IncomingPacket) → held.first ≡ first → first < SEQ_CYCLE
+    → All (λ p. p.seq < SEQ_CYCLE) packets → HoldsFor held.segment past
     → IsHeldBy first (past ++ flat_map entry_numbers (history_of held packets)) (held_after held packets)
 held_after-is first held past [] same fits seqs h =
     rw append-nil (record { same_first = same; open_segment = leaves_open held.segment past h })
 held_after-is first held past (p ∷ packets) same fits seqs h =
     let answer = answer_to held p.turn p.seq in
-    let seq_fits : p.seq < CYCLE = seqs 0 p (omega arith) in
+    let seq_fits : p.seq < SEQ_CYCLE = seqs 0 p (omega arith) in
     let step = steps held.first held.segment past p.turn p.seq h (omega arith) seq_fits in
     let rest = held_after-is first (held_with held p.turn p.seq answer) (past ++ numbered_as p.turn p.seq answer) packets
-    (same_first held p.turn p.seq answer ∙ same) fits (All-tail (λ (q : IncomingPacket). q.seq < CYCLE) p packets seqs) step.holds in
+    (same_first held p.turn p.seq answer ∙ same) fits (All-tail (λ (q : IncomingPacket). q.seq < SEQ_CYCLE) p packets seqs) step.holds in
     rw append_assoc at rest

@@ -3,7 +3,8 @@ use Rattle.std.specs.Prelude.{◌≡◌, ℕ, ◌+◌, ◌-◌, ◌*◌, ◌%◌
 use Rattle.rewrite.specs.declared.skip.Skip.{Skip}
 use Rattle.rewrite.specs.declared.skip.Skip.TheVariants.{Old}
 use Rattle.rewrite.specs.declared.segment.Segment.{Segment}
-use Rattle.rewrite.specs.declared.segment.TheConstants.{NUMBER_LIMIT, CYCLE, REACH}
+use Rattle.rewrite.specs.declared.segment.TheConstants.{NUMBER_LIMIT, REACH}
+use Rattle.rtp_packet.specs.declared.header.TheConstants.{SEQ_CYCLE}
 use Rattle.rewrite.specs.Numbering.{IncomingPacket, Entry, Numbered, IsBase, IsHighest, base_place, within_limit}
 
 -- the first number, and the packets of the latest turn
@@ -14,7 +15,7 @@ pub record Held : Type 0 where
 -- a segment begins with this packet; extended numbers begin one cycle up
 abbrev pub first_segment : ℕ → ℕ → ℕ → Segment
 first_segment turn seq start =
-    record { turn = turn; base = CYCLE + seq; start = start; highest = CYCLE + seq }
+    record { turn = turn; base = SEQ_CYCLE + seq; start = start; highest = SEQ_CYCLE + seq }
 
 -- the outgoing number of the highest packet
 abbrev pub last_number : Segment → ℕ
@@ -22,15 +23,15 @@ last_number s = s.start + (s.highest - s.base)
 
 -- what always holds of a segment
 pub record IsWithinLimit (s : Segment) : Type 0 where
-  pub cycled : CYCLE ≤ s.base
-  pub first_cycle : s.base < 2 * CYCLE
+  pub cycled : SEQ_CYCLE ≤ s.base
+  pub first_cycle : s.base < 2 * SEQ_CYCLE
   pub risen : s.base ≤ s.highest
   pub limit : last_number s < NUMBER_LIMIT
 
 -- the number with this sequence number that stands from REACH below the highest to less than REACH above it
 abbrev pub extended_number : ℕ → ℕ → ℕ
 extended_number highest seq =
-    let lowest = highest - REACH in lowest + (seq + CYCLE - lowest % CYCLE) % CYCLE
+    let lowest = highest - REACH in lowest + (seq + SEQ_CYCLE - lowest % SEQ_CYCLE) % SEQ_CYCLE
 
 -- the answer at an extended number: as far above the start as that is above the base
 abbrev pub answer_at : Segment → ℕ → Result ℕ Skip

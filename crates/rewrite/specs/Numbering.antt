@@ -2,7 +2,8 @@
 use Rattle.std.specs.Prelude.{◌≡◌, ◌⊎◌, ◌==◌, ℕ, ◌+◌, ◌-◌, ◌%◌, ◌<◌, ◌≤◌, nat_lt, List, [], ◌∷◌, ◌++◌, All, Any, find, Some, Result, Ok, Err, if◌then◌else◌}
 use Rattle.rewrite.specs.declared.skip.Skip.{Skip}
 use Rattle.rewrite.specs.declared.skip.Skip.TheVariants.{Old, Spent}
-use Rattle.rewrite.specs.declared.segment.TheConstants.{NUMBER_LIMIT, CYCLE, REACH}
+use Rattle.rewrite.specs.declared.segment.TheConstants.{NUMBER_LIMIT, REACH}
+use Rattle.rtp_packet.specs.declared.header.TheConstants.{SEQ_CYCLE}
 
 -- a packet that comes in
 pub record IncomingPacket : Type 0 where
@@ -45,7 +46,7 @@ IsBase past turn base = find (λ p. p.turn == turn) past ≡ Some base
 -- Extended numbers begin one cycle up, so that those below a base are whole numbers too. A packet of the segment stands
 -- as far above the base as its number is above the base's.
 abbrev pub base_place : Numbered → ℕ
-base_place base = CYCLE + base.seq
+base_place base = SEQ_CYCLE + base.seq
 
 abbrev pub extended_of : Numbered → Numbered → ℕ
 extended_of base p = base_place base + (p.number - base.number)
@@ -57,7 +58,7 @@ pub record IsHighest (past : List Numbered) (base : Numbered) (highest : ℕ) : 
 
 -- the number congruent to seq whose distance from the highest lies from -32768 to 32767
 pub record IsExtendedNumber (highest seq extended : ℕ) : Type 0 where
-  pub congruent : extended % CYCLE ≡ seq
+  pub congruent : extended % SEQ_CYCLE ≡ seq
   pub at_least : highest ≤ extended + REACH
   pub below : extended < highest + REACH
 

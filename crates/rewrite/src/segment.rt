@@ -4,12 +4,10 @@ ghost use Rattle.std.specs.Prelude.{◌≡◌, ◌<◌, MatchResult};
 ghost use Rattle.rewrite.specs.Leg.{IsWithinLimit, first_segment, last_number, extended_number, answer_in, with_number};
 
 use crate::skip::Skip;
+use rtp_packet::SEQ_CYCLE;
 
 /// Outgoing numbers are below this.
 pub const NUMBER_LIMIT: u64 = 1 << 62;
-
-/// How many sequence numbers there are (RFC 3550, section 5.1).
-pub const CYCLE: u64 = 1 << 16;
 
 /// How far below the highest packet of its segment a packet may stand; above it one less.
 const REACH: u64 = 1 << 15;
@@ -33,7 +31,7 @@ impl Segment {
     pub fn open(turn: u64, seq: u16, start: u64) -> Segment
         ensures { result ≡ first_segment turn seq start }
     {
-        let base = CYCLE + u64::from(seq);
+        let base = SEQ_CYCLE + u64::from(seq);
         Segment {
             turn,
             base,
@@ -58,7 +56,7 @@ impl Segment {
         ensures { result ≡ extended_number self.now.highest seq }
     {
         let lowest = self.highest - REACH;
-        lowest + u64::from(seq.wrapping_sub((lowest % CYCLE) as u16))
+        lowest + u64::from(seq.wrapping_sub((lowest % SEQ_CYCLE) as u16))
     }
 
     /// The number of a packet of this turn, which may be the highest from now on. A `Skip` changes

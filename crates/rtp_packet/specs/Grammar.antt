@@ -2,6 +2,7 @@
 use Rattle.std.specs.Prelude.{◌≡◌, ℕ, ◌+◌, ◌-◌, ◌*◌, ◌/◌, ◌%◌, ◌^◌, ◌<◌, Bool, true, false, nat_lt, if◌then◌else◌, List, [], ◌∷◌, ◌++◌, length, slice_index, Option, None, Some}
 use Rattle.std.specs.Option.{ForSome}
 use Rattle.byteorder.specs.Endian.{big_bytes}
+use Rattle.rtp_packet.specs.declared.header.TheConstants.{SEQ_CYCLE}
 
 -- a header extension: the sixteen bits that the profile defines, and the bytes of its words
 pub record ExtensionTree : Type 0 where
@@ -66,7 +67,7 @@ IsPadding padding = slice_index padding (length padding - 1) ≡ length padding
 -- each number fits its bits, and the parts are whole words
 pub record IsPacket (p : RtpPacket) : Type 0 where
   pub payload_type : p.payload_type < 128
-  pub sequence_number : p.sequence_number < 2 ^ 16
+  pub sequence_number : p.sequence_number < SEQ_CYCLE
   pub timestamp : p.timestamp < 2 ^ 32
   pub ssrc : p.ssrc < 2 ^ 32
   pub csrcs_whole : length p.csrcs % 4 ≡ 0

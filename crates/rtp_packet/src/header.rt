@@ -15,6 +15,9 @@ use tmmbr_tuple::Ssrc;
 /// The length of the fixed header in bytes (RFC 3550, section 5.1).
 pub const HEADER: usize = 12;
 
+/// How many sequence numbers there are (RFC 3550, section 5.1).
+pub const SEQ_CYCLE: u64 = 1 << 16;
+
 /// The length of a word, which CSRCs and extensions are made of, and of an extension's own header.
 const WORD_BYTES: usize = 4;
 

@@ -12,6 +12,7 @@ mod view;
 
 pub use extension::Extension;
 pub use fault::RtpFault;
+pub use header::SEQ_CYCLE;
 pub use view::RtpView;
 
 #[cfg(test)]
