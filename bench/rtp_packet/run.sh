@@ -3,35 +3,19 @@
 # Wants rt and rustc on the path. An argument, if any, is how many rounds a run has (two datagrams each).
 set -euo pipefail
 
-here=$(cd "$(dirname "$0")" && pwd)
-top=$(cd "$here/../.." && pwd)
+. "$(dirname "$0")/../program.sh"
+
 rounds=${1:-1000000}
 size=1200
 runs=15
 
-# A repository of its own, so that the program is no crate of this one. What earlier checks kept in out/
-# comes with the copies.
-work=$(mktemp -d /tmp/bench_rtp_packet.XXXXXX)
-trap 'rm -rf "$work"' EXIT
-mkdir -p "$work/crates/rtp_bench/src"
-cp -r "$top/crates/tmmbr_tuple" "$top/crates/rtp_packet" "$work/crates/"
-cp "$here/main.rattle" "$work/crates/rtp_bench/src/main.rt"
-cp "$top/HANDLES" "$work/"
-{
-    grep -E '^(tmmbr_tuple|rtp_packet):' "$top/crates.txt"
-    echo 'rtp_bench: rtp_packet tmmbr_tuple byteorder thiserror'
-} > "$work/crates.txt"
-
-# rt run proves the program and builds it with LLVM, as the file out/rtp_bench.
-if ! (cd "$work/crates/rtp_bench" && rt run -- 1 "$size") > "$work/log" 2>&1; then
-    cat "$work/log" >&2
-    exit 1
-fi
+begin rtp_bench rtp_packet tmmbr_tuple byteorder thiserror
+build 1 "$size"
 rustc -O -o "$work/plain" "$here/plain.rs"
 
 # The two take turns, so that what else the machine does falls on both; the least time of each counts.
 for _ in $(seq "$runs"); do
-    "$work/crates/rtp_bench/out/rtp_bench" "$rounds" "$size" | sed 's/^/rattle /'
+    "$program" "$rounds" "$size" | sed 's/^/rattle /'
     "$work/plain" "$rounds" "$size" | sed 's/^/plain /'
 done | awk -v rounds="$rounds" '
     NF != 3 || (NR > 1 && $3 != sum) { print "unlike results: " $0; bad = 1; exit 1 }

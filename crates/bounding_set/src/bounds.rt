@@ -183,8 +183,8 @@ impl Bounds {
         chosen(self.rows.as_slice(), &self.cert)
     }
 
-    /// How many tests whether two lines imply a third the last `set` or `remove` that wasn't refused
-    /// took; 0 before. A `remove` of an owner that isn't live counts as refused.
+    /// How often the last `set` or `remove` asked whether two lines imply a third, of those that weren't
+    /// refused; 0 before. A `remove` of an owner that isn't live counts as refused.
     pub fn steps(&self) -> u32
         ensures value { result ≡ self.now.steps }
     {

@@ -5,7 +5,7 @@ ghost use Rattle.bounding_set.specs.Spliced.{ImplyTogether, ImpliesAlone, Stands
 
 use tmmbr_tuple::Tuple;
 
-/// Whether `x` permits each pair of packet rate and net media rate that `a` and `b` both permit. Adds
+/// Whether `x` permits each pair that `a` and `b` both permit, of packet rate and net media rate. Adds
 /// one to `count`, which the caller keeps below `u32::MAX`.
 pub fn implies(a: &Tuple, x: &Tuple, b: &Tuple, count: &mut u32) -> bool
     requires { count.old + 1 < 2 ^ 32 }

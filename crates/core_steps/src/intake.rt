@@ -54,8 +54,7 @@ pub enum Heard {
 pub struct Control {
     /// The first sender of a report or of feedback that isn't the endpoint's own source, else that.
     pub speaker: Ssrc,
-    /// The NTP and RTP timestamps of the last sender report, where there is one (RFC 3550, section
-    /// 6.4.1).
+    /// The last sender report's NTP and RTP timestamps, where there is one (RFC 3550, section 6.4.1).
     pub report: Option<(u64, u32)>,
     /// How many TMMBNs there are (RFC 5104, section 4.2.2).
     pub tmmbns: u64,

@@ -11,8 +11,10 @@ use Rattle.tmmbr_tuple.specs.declared.ssrc.Ssrc.{Ssrc}
 use Rattle.members.specs.declared.reception.SenderReport.{SenderReport}
 use Rattle.members.specs.declared.stream.Stream.{Stream}
 use Rattle.members.specs.declared.stream.TheConstants.{COUNTED_PACKETS}
+use Rattle.rtp_packet.proofs.SequenceLemmas.{extended_number-is}
+use Rattle.rtp_packet.specs.Sequence.{extended_number}
 use Rattle.rtp_packet.specs.declared.header.TheConstants.{SEQ_CYCLE}
-use Rattle.members.specs.Reception.{Block, Arrival, ReceptionCall, Received, SenderReported, BlockMade, packet_in, report_in, is_block, counted_packets, last_report, extended_number, first_number, greatest_number, expected_of, transit_of, apart, differences, jitter_after, jitter_of, last_of, Heard, stream_of, packets_before_block, reception_of, AnswersBlock, IsBlockAfter, IsNearest, IsGreatest, AllStandFor, IsHighest}
+use Rattle.members.specs.Reception.{Block, Arrival, ReceptionCall, Received, SenderReported, BlockMade, packet_in, report_in, is_block, counted_packets, last_report, first_number, greatest_number, expected_of, transit_of, apart, differences, jitter_after, jitter_of, last_of, Heard, stream_of, packets_before_block, reception_of, AnswersBlock, IsBlockAfter, IsGreatest, AllStandFor, IsHighest}
 use Rattle.members.specs.Stream.{counted_with, with_packet, stream_with, stream_after_block, heard_call, heard_after, IsBlockAnswer, IsAnswerBy}
 
 -- ---- lists
@@ -233,9 +235,6 @@ answers_by calls moment source answer h =
 
 -- ---- the greatest extended number
 
-nearest : (highest seq : ℕ) → SEQ_CYCLE ≤ highest → seq < SEQ_CYCLE → IsNearest highest seq (extended_number highest seq)
-nearest highest seq cycled fits = record { congruent = omega arith; at_least = omega arith; below = omega arith }
-
 greatest-push : (past : List ℕ) (highest number : ℕ) → IsGreatest past highest → IsGreatest (past ++ number ∷ []) (max highest number)
 greatest-push past highest number g = record {
   reached = elim (cases_lt highest number) [
@@ -262,7 +261,7 @@ extends m past (p ∷ packets) highest g cycled fits =
     (All-tail (λ (q : Arrival). q.seq < SEQ_CYCLE) p packets fits) in
     record {
       numbers = number ∷ more.numbers;
-      stand_for = ((highest, (g, nearest highest p.seq cycled (All-head (λ (q : Arrival). q.seq < SEQ_CYCLE) p packets fits))), more.stand_for);
+      stand_for = ((highest, (g, extended_number-is highest p.seq (omega arith) (All-head (λ (q : Arrival). q.seq < SEQ_CYCLE) p packets fits))), more.stand_for);
       greatest = rw append_assoc at more.greatest;
     }
 

@@ -1,12 +1,13 @@
 -- What was received, over the whole list of calls (RFC 3550, section 6.4.1; appendices A.3 and A.8).
-use Rattle.std.specs.Prelude.{◌≡◌, ℕ, ◌+◌, ◌-◌, ◌*◌, ◌/◌, ◌%◌, ◌<◌, ◌≤◌, min, max, nat_le, Bool, true, false, List, [], ◌∷◌, ◌++◌, length, map, fold, take, All, Contains, filter_map, slice_get, Option, None, Some, IsSomeAnd, if◌then◌else◌, ℤ, pos, negsuc, ◌-ℤ◌, unsigned_abs}
+use Rattle.std.specs.Prelude.{◌≡◌, ℕ, ◌+◌, ◌-◌, ◌*◌, ◌/◌, ◌%◌, ◌≤◌, min, max, nat_le, Bool, true, false, List, [], ◌∷◌, ◌++◌, length, map, fold, take, All, Contains, filter_map, slice_get, Option, None, Some, IsSomeAnd, if◌then◌else◌, ℤ, pos, negsuc, ◌-ℤ◌, unsigned_abs}
 use Rattle.std.specs.Int.{int_min, int_max, cast_signed, w32}
 use Rattle.std.specs.List.{before_last}
 use Rattle.tmmbr_tuple.specs.declared.ssrc.Ssrc.{Ssrc}
 pub use Rattle.rtcp_compound.specs.declared.report.Block.{Block}
 use Rattle.members.specs.declared.reception.SenderReport.{SenderReport}
 use Rattle.members.specs.declared.stream.Stream.{Stream}
-use Rattle.members.specs.declared.stream.TheConstants.{COUNTED_PACKETS, SEQ_REACH, WORD_VALUES}
+use Rattle.members.specs.declared.stream.TheConstants.{COUNTED_PACKETS, WORD_VALUES}
+use Rattle.rtp_packet.specs.Sequence.{IsExtendedNumber, extended_number}
 use Rattle.rtp_packet.specs.declared.header.TheConstants.{SEQ_CYCLE}
 
 -- a packet: when it came, in milliseconds, its sequence number and its timestamp
@@ -47,11 +48,6 @@ last_report calls =
     slice_get reports (length reports - 1)
 
 -- ---- what was lost
-
--- the number with this sequence number that stands from SEQ_REACH below the highest to less than SEQ_REACH above it
-abbrev pub extended_number : ℕ → ℕ → ℕ
-extended_number highest seq =
-    let lowest = highest - SEQ_REACH in lowest + (seq + SEQ_CYCLE - lowest % SEQ_CYCLE) % SEQ_CYCLE
 
 -- extended numbers begin one cycle up, so that those below the first packet's are whole numbers too
 abbrev pub first_number : Arrival → ℕ
@@ -192,12 +188,6 @@ IsBlockAfter calls moment source answer =
 
 -- ---- the greatest extended number, as a property
 
--- the number congruent to seq whose distance from the highest lies from -32768 to 32767
-pub record IsNearest (highest seq number : ℕ) : Type 0 where
-  pub congruent : number % SEQ_CYCLE ≡ seq
-  pub at_least : highest ≤ number + SEQ_REACH
-  pub below : number < highest + SEQ_REACH
-
 pub record IsGreatest (numbers : List ℕ) (n : ℕ) : Type 0 where
   pub reached : Contains numbers n
   pub bound : All (λ m. m ≤ n) numbers
@@ -206,7 +196,7 @@ pub record IsGreatest (numbers : List ℕ) (n : ℕ) : Type 0 where
 abbrev pub ExtendsTo : List ℕ → Arrival → ℕ → Type 0
 ExtendsTo [] p number = number ≡ first_number p
 ExtendsTo (m ∷ past) p number =
-    (highest : ℕ) × (IsGreatest (m ∷ past) highest × IsNearest highest p.seq number)
+    (highest : ℕ) × (IsGreatest (m ∷ past) highest × IsExtendedNumber highest p.seq number)
 
 abbrev pub AllStandFor : List ℕ → List Arrival → List ℕ → Type 0
 AllStandFor past [] [] = Unit {0}

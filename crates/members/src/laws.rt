@@ -40,7 +40,7 @@ pub fn numbers_run()
         (drawn_numbers (orders_after (new_room s) calls)) (room_after (new_room s) calls).next }
 {}
 
-/// A stay's number is that of one presence of its leg's subscriber together with one of its publisher: where
+/// A stay's number is that of one presence of its leg's subscriber and of one of its publisher: where
 /// a stay stands after some calls, it is the same after more of them exactly where each is in the presence
 /// that it was in.
 pub fn stays_number_presences()

@@ -104,7 +104,7 @@ impl Reception {
         Some(block)
     }
 
-    /// The NTP and RTP timestamps of the last sender report; `None` where none came.
+    /// The last sender report's NTP and RTP timestamps; `None` where none came.
     pub fn last_sr(&self) -> Option<(u64, u32)>
         ensures { result ≡ timestamps_of self.now.report }
     {

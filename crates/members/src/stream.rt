@@ -1,17 +1,14 @@
 //! The packets received of one stream, as a few numbers under the names of RFC 3550, appendix A.1.
 
 ghost use Rattle.std.specs.Prelude.{◌≡◌, ◌+◌, ◌-◌, ◌^◌, ◌<◌, ◌≤◌};
-ghost use Rattle.members.specs.Reception.{transit_at, expected_in, lost_of, fraction_of, jitter_after, extended_number};
+ghost use Rattle.members.specs.Reception.{transit_at, expected_in, lost_of, fraction_of, jitter_after};
 ghost use Rattle.members.specs.Stream.{IsCounted, new_stream, counted_with, stream_after_block};
 
-use rtp_packet::SEQ_CYCLE;
+use rtp_packet::{SEQ_CYCLE, extended_number};
 
 /// How many packets of a stream count. Each raises the highest number by less than 2^15, so that numbers
 /// stay below 2^63.
 pub const COUNTED_PACKETS: u64 = 1 << 47;
-
-/// How far below the highest packet a packet may stand; above it one less.
-pub const SEQ_REACH: u64 = 1 << 15;
 
 /// How many numbers 32 bits hold.
 pub const WORD_VALUES: u64 = 1 << 32;
@@ -80,7 +77,7 @@ impl Stream {
         if self.received == COUNTED_PACKETS {
             return;
         }
-        self.max_seq = self.max_seq.max(self.extended(seq));
+        self.max_seq = self.max_seq.max(extended_number(self.max_seq, seq));
         self.received += 1;
         let jump = transit
             .wrapping_sub(self.transit)
@@ -88,16 +85,6 @@ impl Stream {
             .unsigned_abs();
         self.jitter = self.jitter + u64::from(jump) - (self.jitter + 8) / 16;
         self.transit = transit;
-    }
-
-    /// The extended number of a packet: the one with its sequence number that stands from 32,768 below
-    /// the highest to 32,767 above it.
-    fn extended(&self, seq: u16) -> u64
-        requires { IsCounted self.now }
-        ensures { result ≡ extended_number self.now.max_seq seq }
-    {
-        let lowest = self.max_seq - SEQ_REACH;
-        lowest + u64::from(seq.wrapping_sub((lowest % SEQ_CYCLE) as u16))
     }
 
     /// How many packets were sent, from the first to the highest (RFC 3550, appendix A.3).

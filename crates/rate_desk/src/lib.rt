@@ -40,6 +40,8 @@ mod gather_tests;
 #[cfg(test)]
 mod house_tests;
 #[cfg(test)]
+mod random_calls;
+#[cfg(test)]
 mod tests;
 #[cfg(test)]
 mod thread_tests;

@@ -157,7 +157,7 @@ fn place_of(receipts: &[Receipt], publisher: usize, number: u64) -> Option<usize
         .position(|r| r.publisher == publisher && r.number == number)
 }
 
-/// Each effect is the one that a new desk gives for the same calls.
+/// Each effect is what a new desk answers to the same calls.
 fn assert_told(
     rt: &impl Abort,
     alloc: Global,

@@ -9,19 +9,13 @@ use Rattle.std.proofs.lemmas.List.{get_or_append_left, append-nil, append_assoc}
 use Rattle.std.proofs.lemmas.List.Folds.{find-append}
 use Rattle.rewrite.specs.declared.segment.Segment.{Segment}
 use Rattle.rewrite.specs.declared.segment.TheConstants.{NUMBER_LIMIT}
+use Rattle.rtp_packet.proofs.SequenceLemmas.{extended_number-is}
+use Rattle.rtp_packet.specs.Sequence.{extended_number}
 use Rattle.rtp_packet.specs.declared.header.TheConstants.{SEQ_CYCLE}
 use Rattle.rewrite.specs.declared.skip.Skip.{Skip}
 use Rattle.rewrite.specs.declared.skip.Skip.TheVariants.{Old, Spent}
-use Rattle.rewrite.specs.Leg.{Held, IsWithinLimit, first_segment, last_number, extended_number, answer_at, answer_in, with_number, answer_to, answer_by, held_with, segment_with, history_of, held_after, LeavesOpen, IsHeldBy}
-use Rattle.rewrite.specs.Numbering.{IncomingPacket, Entry, Numbered, entry_numbers, numbered_as, within_limit, IsNextNumber, extended_of, IsExtendedNumber, IsHighest, Begins, Continues, IsNumberAnswer, RenumbersAfter, AreApart}
-
--- the extended number is the near one
-pub extended_number-is : (highest seq : ℕ) → SEQ_CYCLE ≤ highest → seq < SEQ_CYCLE → IsExtendedNumber highest seq (extended_number highest seq)
-extended_number-is highest seq cycled fits = record {
-  congruent = omega arith;
-  at_least = omega arith;
-  below = omega arith;
-}
+use Rattle.rewrite.specs.Leg.{Held, IsWithinLimit, first_segment, last_number, answer_at, answer_in, with_number, answer_to, answer_by, held_with, segment_with, history_of, held_after, LeavesOpen, IsHeldBy}
+use Rattle.rewrite.specs.Numbering.{IncomingPacket, Entry, Numbered, entry_numbers, numbered_as, within_limit, IsNextNumber, extended_of, IsHighest, Begins, Continues, IsNumberAnswer, RenumbersAfter, AreApart}
 
 -- what a numbered packet is to the segment that is open
 pub record Fits (s : Segment) (p : Numbered) : Type 0 where

@@ -1,9 +1,10 @@
 -- What a leg holds, and what it answers by that.
-use Rattle.std.specs.Prelude.{◌≡◌, ℕ, ◌+◌, ◌-◌, ◌*◌, ◌%◌, ◌<◌, ◌≤◌, max, nat_lt, List, [], ◌∷◌, All, Option, None, Some, Result, Ok, Err, if◌then◌else◌}
+use Rattle.std.specs.Prelude.{◌≡◌, ℕ, ◌+◌, ◌-◌, ◌*◌, ◌<◌, ◌≤◌, max, nat_lt, List, [], ◌∷◌, All, Option, None, Some, Result, Ok, Err, if◌then◌else◌}
 use Rattle.rewrite.specs.declared.skip.Skip.{Skip}
 use Rattle.rewrite.specs.declared.skip.Skip.TheVariants.{Old}
 use Rattle.rewrite.specs.declared.segment.Segment.{Segment}
-use Rattle.rewrite.specs.declared.segment.TheConstants.{NUMBER_LIMIT, REACH}
+use Rattle.rewrite.specs.declared.segment.TheConstants.{NUMBER_LIMIT}
+use Rattle.rtp_packet.specs.Sequence.{extended_number}
 use Rattle.rtp_packet.specs.declared.header.TheConstants.{SEQ_CYCLE}
 use Rattle.rewrite.specs.Numbering.{IncomingPacket, Entry, Numbered, IsBase, IsHighest, base_place, within_limit}
 
@@ -27,11 +28,6 @@ pub record IsWithinLimit (s : Segment) : Type 0 where
   pub first_cycle : s.base < 2 * SEQ_CYCLE
   pub risen : s.base ≤ s.highest
   pub limit : last_number s < NUMBER_LIMIT
-
--- the number with this sequence number that stands from REACH below the highest to less than REACH above it
-abbrev pub extended_number : ℕ → ℕ → ℕ
-extended_number highest seq =
-    let lowest = highest - REACH in lowest + (seq + SEQ_CYCLE - lowest % SEQ_CYCLE) % SEQ_CYCLE
 
 -- the answer at an extended number: as far above the start as that is above the base
 abbrev pub answer_at : Segment → ℕ → Result ℕ Skip

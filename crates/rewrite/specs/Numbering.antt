@@ -1,8 +1,9 @@
 -- Outgoing numbers, over whole lists of packets (RFC 3550, appendix A.1, of extended sequence numbers).
-use Rattle.std.specs.Prelude.{◌≡◌, ◌⊎◌, ◌==◌, ℕ, ◌+◌, ◌-◌, ◌%◌, ◌<◌, ◌≤◌, nat_lt, List, [], ◌∷◌, ◌++◌, All, Any, find, Some, Result, Ok, Err, if◌then◌else◌}
+use Rattle.std.specs.Prelude.{◌≡◌, ◌⊎◌, ◌==◌, ℕ, ◌+◌, ◌-◌, ◌<◌, ◌≤◌, nat_lt, List, [], ◌∷◌, ◌++◌, All, Any, find, Some, Result, Ok, Err, if◌then◌else◌}
 use Rattle.rewrite.specs.declared.skip.Skip.{Skip}
 use Rattle.rewrite.specs.declared.skip.Skip.TheVariants.{Old, Spent}
-use Rattle.rewrite.specs.declared.segment.TheConstants.{NUMBER_LIMIT, REACH}
+use Rattle.rewrite.specs.declared.segment.TheConstants.{NUMBER_LIMIT}
+use Rattle.rtp_packet.specs.Sequence.{IsExtendedNumber}
 use Rattle.rtp_packet.specs.declared.header.TheConstants.{SEQ_CYCLE}
 
 -- a packet that comes in
@@ -55,12 +56,6 @@ extended_of base p = base_place base + (p.number - base.number)
 pub record IsHighest (past : List Numbered) (base : Numbered) (highest : ℕ) : Type 0 where
   pub reached : Any (λ p. (p.turn ≡ base.turn) × (extended_of base p ≡ highest)) past
   pub greatest : All (λ p. p.turn ≡ base.turn → extended_of base p ≤ highest) past
-
--- the number congruent to seq whose distance from the highest lies from -32768 to 32767
-pub record IsExtendedNumber (highest seq extended : ℕ) : Type 0 where
-  pub congruent : extended % SEQ_CYCLE ≡ seq
-  pub at_least : highest ≤ extended + REACH
-  pub below : extended < highest + REACH
 
 -- the packet's turn is greater than all before, or nothing came before: it begins a segment
 pub record Begins (first : ℕ) (past : List Numbered) (turn : ℕ)

@@ -1,16 +1,13 @@
 //! Packets of one turn, numbered from the first of them.
 
 ghost use Rattle.std.specs.Prelude.{◌≡◌, ◌<◌, MatchResult};
-ghost use Rattle.rewrite.specs.Leg.{IsWithinLimit, first_segment, last_number, extended_number, answer_in, with_number};
+ghost use Rattle.rewrite.specs.Leg.{IsWithinLimit, first_segment, last_number, answer_in, with_number};
 
 use crate::skip::Skip;
-use rtp_packet::SEQ_CYCLE;
+use rtp_packet::{SEQ_CYCLE, extended_number};
 
 /// Outgoing numbers are below this.
 pub const NUMBER_LIMIT: u64 = 1 << 62;
-
-/// How far below the highest packet of its segment a packet may stand; above it one less.
-const REACH: u64 = 1 << 15;
 
 /// The packets of one turn. Their extended numbers count on where sequence numbers wrap (RFC 3550,
 /// appendix A.1), and begin one cycle up, so that those before the first are whole numbers too.
@@ -49,16 +46,6 @@ impl Segment {
         self.start + (self.highest - self.base)
     }
 
-    /// The extended number of a packet: the one with its sequence number that stands from 32,768 below
-    /// the highest to 32,767 above it.
-    fn extended(&self, seq: u16) -> u64
-        requires { IsWithinLimit self.now }
-        ensures { result ≡ extended_number self.now.highest seq }
-    {
-        let lowest = self.highest - REACH;
-        lowest + u64::from(seq.wrapping_sub((lowest % SEQ_CYCLE) as u16))
-    }
-
     /// The number of a packet of this turn, which may be the highest from now on. A `Skip` changes
     /// nothing.
     pub fn take(&mut self, seq: u16) -> Result<u64, Skip>
@@ -68,7 +55,7 @@ impl Segment {
             ≡ with_number self.old number) (λ _. self.new ≡ self.old) }
         ensures within { IsWithinLimit self.new }
     {
-        let extended = self.extended(seq);
+        let extended = extended_number(self.highest, seq);
         if extended < self.base {
             return Err(Skip::Old);
         }

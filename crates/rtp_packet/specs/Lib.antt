@@ -3,3 +3,4 @@ pub mod Trees
 pub mod Parts
 pub mod Header
 pub mod Fault
+pub mod Sequence

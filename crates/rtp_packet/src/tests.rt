@@ -208,3 +208,19 @@ fn every_cut_of_the_examples(rt: HostRuntime) {
         assert_eq!(rt; fault_of(&counted[..end]), Some(fault));
     }
 }
+
+/// The highest packet, a packet's sequence number, and its extended number: after a wrap, before it, and as far as a packet may
+/// stand on either side.
+#[test]
+fn extended_numbers(rt: HostRuntime) {
+    let rows = [
+        (131_071, 0, 131_072),
+        (131_072, 65_535, 131_071),
+        (65_636, 100, 65_636),
+        (196_608, 32_767, 229_375),
+        (196_608, 32_768, 163_840),
+    ];
+    for (highest, seq, extended) in rows {
+        assert_eq!(rt; extended_number(highest, seq), extended);
+    }
+}

@@ -1,4 +1,4 @@
--- Pairs of packet rate and net media rate (RFC 5104, sections 2.2 and 3.5.4).
+-- A packet rate and a net media rate: a pair (RFC 5104, sections 2.2 and 3.5.4).
 use Rattle.std.specs.Prelude.{ℕ, ◌+◌, ◌*◌, ◌<◌, ◌≤◌}
 use Rattle.tmmbr_tuple.specs.declared.tuple.Tuple.{Tuple}
 use Rattle.tmmbr_tuple.specs.declared.pair.Pair.{Pair}

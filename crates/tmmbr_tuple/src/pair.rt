@@ -1,4 +1,4 @@
-//! Pairs of packet rate and net media rate.
+//! A packet rate and a net media rate, which make a pair.
 
 ghost use Rattle.std.specs.Prelude.{◌≡◌, ◌^◌, ◌<◌, ◌≤◌, ◌↔◌, IsSome, IfSome};
 

@@ -14,7 +14,7 @@ pub enum UnitFault {
     /// 2: as many receives in a row failed as may not.
     #[error("receives fail")]
     Receive,
-    /// 3: a thread couldn't be started, or a reader of the routes found no place.
+    /// 3: no thread could be started, or a reader of the routes found no place.
     #[error("a worker can't start")]
     Start,
     /// 4: the desks of the house and the counts of its seats don't agree.

@@ -57,7 +57,7 @@ impl Notifier {
     }
 
     /// Asks the publisher's desk, then learns the note, and where there is anything to tell enters and tells it. A call
-    /// that the desk refuses or doesn't record tells nothing and is Ok. After a fault the call stands, and the note is
+    /// that the desk refuses or doesn't record is Ok and tells nothing. After a fault the call stands, and the note is
     /// learnt; nothing was sent.
     #[tactic(auto, using(crate::proofs::AskingLemmas::notified_all, crate::proofs::AskingLemmas::notified_nobody))]
     pub fn ask<J: Naming, D: DeskCalls, C: SeatCalls, R: Wait, S: Sink>(

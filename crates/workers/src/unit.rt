@@ -61,8 +61,8 @@ const PULSE_MS: u64 = 1;
 /// a thread of its own, and calls the gate before and after each job. Behind the turns each worker does the jobs that wait,
 /// all threads end, and the desks are gathered.
 ///
-/// Refused with the first fault that comes: `Receive` where 100 receives in a row failed; `Start` where a thread couldn't
-/// be started or a reader of the routes found no place; `Gather` where the desks don't agree with what was counted;
+/// Refused with the first fault that comes: `Receive` where 100 receives in a row failed; `Start` where no thread could be
+/// started, or a reader of the routes found no place; `Gather` where the desks don't agree with what was counted;
 /// `NoMemory` where memory was wanting, but in a worker. All threads end then, too.
 pub fn run_unit<
     R: Threads + Wait + Sync,

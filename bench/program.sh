@@ -1,0 +1,46 @@
+# Sourced by the benchmarks that are programs in Rattle. Each has a repository of its own, under /tmp, so that the program is no
+# crate of this one; what earlier checks kept in out/ comes with the copies. Wants rt on the path.
+#
+#     begin NAME DEP..    the repository: the program NAME, which is main.rattle beside the script, uses DEP..
+#     build ARGUMENT..    proves it and builds it with LLVM, as the file $program; it runs once, with these arguments
+#
+# Between the two, $work is the repository and $bench the program's crate.
+
+here=$(cd "$(dirname "$0")" && pwd)
+top=$(cd "$here/../.." && pwd)
+
+# The crates of this repository that DEP.. are or use, lowest first, as crates.txt has them.
+needed() {
+    awk -F': *' -v deps="$*" '
+        /^[a-z_]+:/ { crate[++n] = $1; uses[n] = $2 }
+        END {
+            for (i = split(deps, dep, " "); i > 0; i--) want[dep[i]]
+            for (k = n; k > 0; k--)
+                if (crate[k] in want)
+                    for (i = split(uses[k], dep, " "); i > 0; i--) want[dep[i]]
+            for (k = 1; k <= n; k++) if (crate[k] in want) print crate[k]
+        }' "$top/crates.txt"
+}
+
+begin() {
+    local name=$1 crate
+    shift
+    work=$(mktemp -d "/tmp/$name.XXXXXX")
+    trap 'rm -rf "$work"' EXIT
+    bench=$work/crates/$name
+    program=$bench/out/$name
+    mkdir -p "$bench/src"
+    cp "$here/main.rattle" "$bench/src/main.rt"
+    cp "$top/HANDLES" "$work/"
+    for crate in $(needed "$@"); do
+        cp -a "$top/crates/$crate" "$work/crates/"
+        grep "^$crate:" "$top/crates.txt"
+    done > "$work/crates.txt"
+    echo "$name: $*" >> "$work/crates.txt"
+}
+
+build() {
+    (cd "$bench" && rt run -- "$@") > "$work/log" 2>&1 && return
+    cat "$work/log" >&2
+    exit 1
+}

@@ -1,0 +1,245 @@
+//! The commands of the program, over a reader and writers.
+
+ghost use Rattle.std.specs.Prelude.{◌≡◌, ◌≢◌, ℕ, List, Option, map, None, Some, Ok, Err, IfSome, IfOk, IfErr, OnOk, codes};
+ghost use Rattle.std.specs.Io.KnownBytes.{Appends, Keeps};
+ghost use Rattle.commands.specs.CommandLine.{AsksToServe, Request, Types, asked_for, bound, check, replay, serve};
+ghost use Rattle.commands.specs.Command.{FailsBound, PrintsBound, RefusesBound, SaysNo, SaysWhy};
+ghost use Rattle.commands.specs.Replay.{PrintsByFile, RefusesByFile};
+ghost use Rattle.members.specs.Settings.{Configuration};
+ghost use Rattle.commands.specs.ReportText.{PrintsReport};
+ghost use Rattle.commands.specs.Serving.{SaysWhyServing};
+ghost use Rattle.commands.specs.SettingsFaults.{TextGives};
+ghost use Rattle.commands.specs.SettingsText.{SaysProblem};
+
+use crate::bound::read_lines;
+use crate::check_file::check_lines;
+use crate::command_line::{Action, read_words};
+use crate::replay::replay_lines;
+use crate::saying::{refuse_words, report, report_settings};
+use crate::serve::{Term, serve_file};
+use crate::served_file::{ServedSettings, read_served};
+use crate::settings_file::{FileSettings, SettingsProblem, read_settings};
+use crate::status::{Failure, Status, unreadable};
+use crate::text::bound_text;
+use std::alloc::Global;
+use std::convert::AsStr;
+use std::io::{self, Read, Write};
+use std::net::Net;
+use std::rt::Files;
+use std::sync::Wait;
+use std::thread::Threads;
+use std::{fs, time};
+use tmmbr_tuple::Ssrc;
+/// Runs the command that the words ask for, of which the first is the program's name.
+///
+/// Nothing is done before the input was read to its end. What is printed goes to the writer, and why
+/// a command isn't done to the error output.
+pub fn run_command<
+    R: AllocGlobal + Files + Net + Threads + Wait + Sync + time::Clock,
+    S: AsStr,
+    I: Read,
+    O: Write,
+    E: Write,
+>(rt: &R, words: &[S], reader: &mut I, writer: &mut O, errors: &mut E) -> Status
+    ensures bound_done { (media : ℕ) → asked_for (map S.text words.now) ≡ Some (bound media)
+        → result ≡ Status.Done
+        → IfSome (I.remaining reader.old)
+        (λ input. PrintsBound media input (O.contents writer.old) (O.contents writer.new)) }
+    ensures bound_refused { (media : ℕ) → asked_for (map S.text words.now) ≡ Some (bound media)
+        → result ≡ Status.Refused
+        → IfSome (I.remaining reader.old)
+        (λ input. Keeps (O.contents writer.old) (O.contents writer.new)
+        × RefusesBound media input (E.contents errors.old) (E.contents errors.new)) }
+    ensures check_done { (file : List ℕ) → asked_for (map S.text words.now) ≡ Some (check file)
+        → result ≡ Status.Done
+        → Appends (O.contents writer.old) (O.contents writer.new) (codes "yes\n") }
+    ensures check_refused { (file : List ℕ) → asked_for (map S.text words.now) ≡ Some (check file)
+        → result ≡ Status.Refused
+        → SaysNo (O.contents writer.old) (O.contents writer.new) (E.contents errors.old)
+        (E.contents errors.new) }
+    ensures replay_done { (file : List ℕ) → asked_for (map S.text words.now) ≡ Some (replay file)
+        → result ≡ Status.Done
+        → IfSome (I.remaining reader.old) (λ script.
+        PrintsByFile script (O.contents writer.old) (O.contents writer.new)) }
+    ensures replay_refused { (file : List ℕ) → asked_for (map S.text words.now) ≡ Some (replay file)
+        → result ≡ Status.Refused
+        → IfSome (I.remaining reader.old) (λ script.
+        RefusesByFile script (O.contents writer.old) (O.contents writer.new) (E.contents errors.old)
+        (E.contents errors.new)) }
+    ensures serve_done { (file : List ℕ) (ticks status : Option ℕ)
+        → asked_for (map S.text words.now) ≡ Some (serve file ticks status)
+        → result ≡ Status.Done
+        → (c : Configuration) × PrintsReport c (O.contents writer.old) (O.contents writer.new) }
+    ensures serve_failed { (file : List ℕ) (ticks status : Option ℕ)
+        → asked_for (map S.text words.now) ≡ Some (serve file ticks status)
+        → result ≡ Status.Socket → Keeps (O.contents writer.old) (O.contents writer.new) }
+    ensures serve_said { (file : List ℕ) (ticks : Option ℕ)
+        → asked_for (map S.text words.now) ≡ Some (serve file ticks None)
+        → SaysWhyServing (E.contents errors.old) (E.contents errors.new) result }
+    ensures settings { result ≡ Status.Settings
+        → Keeps (O.contents writer.old) (O.contents writer.new)
+        × SaysProblem (E.contents errors.old) (E.contents errors.new) }
+    ensures understood { (asked : Request) → Types (map S.text words.now) asked
+        → result ≢ Status.CommandLine }
+    ensures said { ¬ (AsksToServe (asked_for (map S.text words.now)))
+        → SaysWhy (E.contents errors.old) (E.contents errors.new) result }
+{
+    let alloc = rt.alloc();
+    match read_words(alloc, words) {
+        Ok(Action::Bound { media }) => match run_bound(alloc, Ssrc(media), reader, writer) {
+            Ok(()) => Status::Done,
+            Err(failure) => report(alloc, errors, failure),
+        },
+        Ok(Action::Check { file }) => run_check(rt, file, writer, errors),
+        Ok(Action::Replay { file }) => run_replay(rt, file, reader, writer, errors),
+        Ok(
+            Action::Serve {
+                file,
+                ticks,
+                status,
+            },
+        ) => run_serve(rt, file, Term { ticks, status }, writer, errors),
+        Err(error) => refuse_words(alloc, errors, &error),
+    }
+}
+
+/// `sfu check`: prints whether the file's lines certify a smallest choice.
+fn run_check<R: AllocGlobal + Files, O: Write, E: Write>(
+    rt: &R,
+    file: &str,
+    writer: &mut O,
+    errors: &mut E,
+) -> Status
+    ensures yes { result ≡ Status.Done
+        → Appends (O.contents writer.old) (O.contents writer.new) (codes "yes\n") }
+    ensures no { result ≡ Status.Refused
+        → SaysNo (O.contents writer.old) (O.contents writer.new) (E.contents errors.old)
+        (E.contents errors.new) }
+    ensures understood { (result ≢ Status.CommandLine) × (result ≢ Status.Settings) }
+    ensures said { SaysWhy (E.contents errors.old) (E.contents errors.new) result }
+{
+    match fs::open(rt, file) {
+        Ok(mut file) => check_lines(rt.alloc(), &mut file, writer, errors),
+        Err(error) => report(rt.alloc(), errors, unreadable(&error)),
+    }
+}
+
+/// `sfu replay`: plays the script of the input by the settings of the file.
+fn run_replay<R: AllocGlobal + Files, I: Read, O: Write, E: Write>(
+    rt: &R,
+    file: &str,
+    reader: &mut I,
+    writer: &mut O,
+    errors: &mut E,
+) -> Status
+    ensures done { result ≡ Status.Done → IfSome (I.remaining reader.old) (λ script.
+        PrintsByFile script (O.contents writer.old) (O.contents writer.new)) }
+    ensures refused { result ≡ Status.Refused → IfSome (I.remaining reader.old) (λ script.
+        RefusesByFile script (O.contents writer.old) (O.contents writer.new) (E.contents errors.old)
+        (E.contents errors.new)) }
+    ensures settings { result ≡ Status.Settings
+        → Keeps (O.contents writer.old) (O.contents writer.new)
+        × SaysProblem (E.contents errors.old) (E.contents errors.new) }
+    ensures understood { result ≢ Status.CommandLine }
+    ensures said { SaysWhy (E.contents errors.old) (E.contents errors.new) result }
+{
+    match settings_in(rt, file) {
+        Ok(file) => replay_lines(rt.alloc(), &file.settings, reader, writer, errors),
+        Err(problem) => report_settings(rt.alloc(), errors, &problem),
+    }
+}
+
+/// `sfu serve`: serves the endpoints that the settings of the file name.
+fn run_serve<
+    R: AllocGlobal + Files + Net + Threads + Wait + Sync + time::Clock,
+    O: Write,
+    E: Write,
+>(rt: &R, file: &str, term: Term, writer: &mut O, errors: &mut E) -> Status
+    ensures done { result ≡ Status.Done
+        → (c : Configuration) × PrintsReport c (O.contents writer.old) (O.contents writer.new) }
+    ensures failed { result ≡ Status.Socket
+        → Keeps (O.contents writer.old) (O.contents writer.new) }
+    ensures settings { result ≡ Status.Settings
+        → Keeps (O.contents writer.old) (O.contents writer.new)
+        × SaysProblem (E.contents errors.old) (E.contents errors.new) }
+    ensures understood { (result ≢ Status.CommandLine) × (result ≢ Status.Refused) }
+    ensures said { term.status ≡ None
+        → SaysWhyServing (E.contents errors.old) (E.contents errors.new) result }
+{
+    match served_in(rt, file) {
+        Ok(file) => serve_file(rt, &file, term, writer, errors),
+        Err(problem) => report_settings(rt.alloc(), errors, &problem),
+    }
+}
+
+/// The settings that a file holds, with all addresses. One that can't be opened or read holds no TOML document.
+fn served_in<R: AllocGlobal + Files>(
+    rt: &R,
+    file: &str,
+) -> Result<ServedSettings, SettingsProblem> {
+    match fs::open(rt, file) {
+        Ok(mut file) => served_from(rt.alloc(), &mut file),
+        Err(error) => Err(unreadable_settings(&error)),
+    }
+}
+
+/// The settings that a reader holds, with all addresses.
+fn served_from<I: Read>(alloc: Global, file: &mut I) -> Result<ServedSettings, SettingsProblem> {
+    let mut text = Vec::new(alloc);
+    match file.read_to_end(&mut text) {
+        Ok(_) => read_served(alloc, text.as_slice()),
+        Err(error) => Err(unreadable_settings(&error)),
+    }
+}
+
+/// The settings that a file holds. One that can't be opened or read holds no TOML document.
+fn settings_in<R: AllocGlobal + Files>(rt: &R, file: &str) -> Result<FileSettings, SettingsProblem>
+    ensures { IfOk result (λ f. (text : List ℕ) × TextGives text (Ok f)) }
+{
+    match fs::open(rt, file) {
+        Ok(mut file) => settings_from(rt.alloc(), &mut file),
+        Err(error) => Err(unreadable_settings(&error)),
+    }
+}
+
+/// The settings that a reader holds.
+fn settings_from<I: Read>(alloc: Global, file: &mut I) -> Result<FileSettings, SettingsProblem>
+    ensures some { IfOk result (λ f. (text : List ℕ) × TextGives text (Ok f)) }
+    ensures whole { IfOk result (λ f. IfSome (I.remaining file.old) (λ text. TextGives text (Ok f))) }
+{
+    let mut text = Vec::new(alloc);
+    match file.read_to_end(&mut text) {
+        Ok(_) => read_settings(alloc, text.as_slice()),
+        Err(error) => Err(unreadable_settings(&error)),
+    }
+}
+
+/// Why there are no settings in a file that can't be opened or read.
+fn unreadable_settings(error: &io::Error) -> SettingsProblem {
+    if error.kind() == io::ErrorKind::OutOfMemory {
+        SettingsProblem::NoMemory
+    } else {
+        SettingsProblem::Toml
+    }
+}
+
+/// `sfu bound`: prints the set that is announced for the requests of the input's lines.
+fn run_bound<I: Read, O: Write>(
+    alloc: Global,
+    media: Ssrc,
+    reader: &mut I,
+    writer: &mut O,
+) -> Result<(), Failure>
+    ensures done { OnOk result (IfSome (I.remaining reader.old) (λ input.
+        PrintsBound media.0 input (O.contents writer.old) (O.contents writer.new))) }
+    ensures refused { IfErr result
+        (FailsBound media.0 (I.remaining reader.old) (O.contents writer.old)
+        (O.contents writer.new)) }
+{
+    let mut input = Vec::new(alloc);
+    reader.read_to_end(&mut input)?;
+    let bounds = read_lines(alloc, input.as_slice(), media)?;
+    let text = bound_text(alloc, media, &bounds)?;
+    writer.write_all(text.as_bytes())?;
+    Ok(())
+}
