@@ -44,7 +44,8 @@ pub fn announce(
     requires holds { HoldsStops rows.now stops.now }
     requires had { 0 < length before.now → pairs_of cert.old.kept.items ≡ kept_pairs before.now }
     ensures announced { AnnouncesFor rows.now cert.new }
-    ensures chosen { chosen_requests rows.now (kept_places cert.new) ≡ announced_among stops.now lines.now }
+    ensures chosen { chosen_requests rows.now (kept_places cert.new)
+        ≡ announced_among stops.now lines.now }
 {
     if stops.is_empty() {
         certify(rows, before, lines, cert);

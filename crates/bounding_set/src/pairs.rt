@@ -94,7 +94,8 @@ fn resize(kept: &mut ArrayVec<Kept, MAX_REQUESTS>, low: usize, behind: usize, le
     requires few { len ≤ MAX_REQUESTS }
     ensures len { length kept.new.items ≡ len }
     ensures beginning { take low kept.new.items ≡ take low kept.old.items }
-    ensures end { drop (len - behind) kept.new.items ≡ drop (length kept.old.items - behind) kept.old.items }
+    ensures end { drop (len - behind) kept.new.items
+        ≡ drop (length kept.old.items - behind) kept.old.items }
 {
     if len <= kept.len() {
         cut(kept, low, low + (kept.len() - len));
@@ -119,7 +120,8 @@ fn grow(kept: &mut ArrayVec<Kept, MAX_REQUESTS>, low: usize, behind: usize, len:
     requires few { len ≤ MAX_REQUESTS }
     ensures len { length kept.new.items ≡ len }
     ensures beginning { take low kept.new.items ≡ take low kept.old.items }
-    ensures end { drop (len - behind) kept.new.items ≡ drop (length kept.old.items - behind) kept.old.items }
+    ensures end { drop (len - behind) kept.new.items
+        ≡ drop (length kept.old.items - behind) kept.old.items }
 {
     for count in kept.len()..len {
         kept.insert(count - behind, Kept::default());
@@ -132,7 +134,8 @@ fn make_pairs(announced: &[Request], low: usize, high: usize, kept: &mut [Kept])
     requires in_range { high ≤ length announced.now }
     requires as_many { length kept.old ≡ length announced.now }
     requires in_order { AllPairs Follows announced.now }
-    requires beginning { take low (pairs_of kept.old) ≡ take low (pairs_from start_end announced.now) }
+    requires beginning { take low (pairs_of kept.old)
+        ≡ take low (pairs_from start_end announced.now) }
     requires end { drop high (pairs_of kept.old) ≡ drop high (pairs_from start_end announced.now) }
     ensures as_many { length kept.new ≡ length announced.now }
     ensures pairs { pairs_of kept.new ≡ pairs_from start_end announced.now }

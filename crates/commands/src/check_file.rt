@@ -158,7 +158,8 @@ fn take_entry(sheet: &mut Sheet, entry: Entry, number: u64) -> Result<(), Refusa
 /// Takes in a request of which nothing else is said.
 fn take_request(sheet: &mut Sheet, request: Request) -> Result<(), AllocError>
     requires { vec_len sheet.old.requests < MAX_LINES }
-    ensures asked { OnOk result (sheet.new.requests.items ≡ sheet.old.requests.items ++ request ∷ []) }
+    ensures asked { OnOk result (sheet.new.requests.items
+        ≡ sheet.old.requests.items ++ request ∷ []) }
     ensures others { (sheet.new.kept.items ≡ sheet.old.kept.items)
         × (sheet.new.claims.items ≡ sheet.old.claims.items) }
 {

@@ -205,7 +205,8 @@ fn settings_in<R: AllocGlobal + Files>(rt: &R, file: &str) -> Result<FileSetting
 /// The settings that a reader holds.
 fn settings_from<I: Read>(alloc: Global, file: &mut I) -> Result<FileSettings, SettingsProblem>
     ensures some { IfOk result (λ f. (text : List ℕ) × TextGives text (Ok f)) }
-    ensures whole { IfOk result (λ f. IfSome (I.remaining file.old) (λ text. TextGives text (Ok f))) }
+    ensures whole { IfOk result (λ f.
+        IfSome (I.remaining file.old) (λ text. TextGives text (Ok f))) }
 {
     let mut text = Vec::new(alloc);
     match file.read_to_end(&mut text) {

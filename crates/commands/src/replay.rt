@@ -147,7 +147,8 @@ fn settle<O: Write>(
     world: &mut World,
     writer: &mut O,
 ) -> Result<(), Failure>
-    ensures settled { OnOk result (Prints (λ outs. Settles settings.now.workers world.old outs world.new)
+    ensures settled { OnOk result (Prints
+        (λ outs. Settles settings.now.workers world.old outs world.new)
         (O.contents writer.old) (O.contents writer.new)) }
     ensures outside { IfErr result IsOutside }
     ensures desks { OnOk result (length world.new.desks ≡ length world.old.desks) }
@@ -225,7 +226,8 @@ fn step<O: Write>(
 
 /// A line for each of these.
 fn print_outs<O: Write>(alloc: Global, outs: &[Out], writer: &mut O) -> Result<(), Failure>
-    ensures printed { OnOk result (Appends (O.contents writer.old) (O.contents writer.new) (out_lines outs.now)) }
+    ensures printed { OnOk result (Appends (O.contents writer.old) (O.contents writer.new)
+        (out_lines outs.now)) }
     ensures outside { IfErr result IsOutside }
 {
     for out in outs {
@@ -236,7 +238,8 @@ fn print_outs<O: Write>(alloc: Global, outs: &[Out], writer: &mut O) -> Result<(
 
 /// The line for one of these.
 fn print_out<O: Write>(alloc: Global, out: &Out, writer: &mut O) -> Result<(), Failure>
-    ensures printed { OnOk result (Appends (O.contents writer.old) (O.contents writer.new) (out_line out.now)) }
+    ensures printed { OnOk result (Appends (O.contents writer.old) (O.contents writer.new)
+        (out_line out.now)) }
     ensures outside { IfErr result IsOutside }
 {
     let line = out_line(alloc, out)?;

@@ -59,7 +59,8 @@ pub fn serve_file<R: AllocGlobal + Net + Threads + Wait + Sync + time::Clock, O:
     writer: &mut O,
     errors: &mut E,
 ) -> Status
-    ensures ends { EndsServe file.now.settings (O.contents writer.old) (O.contents writer.new) result }
+    ensures ends { EndsServe file.now.settings (O.contents writer.old)
+        (O.contents writer.new) result }
     ensures said { term.status ≡ None
         → SaysWhyServing (E.contents errors.old) (E.contents errors.new) result }
 {
@@ -108,7 +109,8 @@ fn serve_bound<R: AllocGlobal + Threads + Wait + Sync + time::Clock, O: Write, E
     writer: &mut O,
     errors: &mut E,
 ) -> Status
-    ensures ends { EndsServe file.now.settings (O.contents writer.old) (O.contents writer.new) result }
+    ensures ends { EndsServe file.now.settings (O.contents writer.old)
+        (O.contents writer.new) result }
     ensures said { term.status ≡ None
         → SaysWhy (E.contents errors.old) (E.contents errors.new) result }
 {
@@ -168,7 +170,8 @@ pub fn serve_socket<R: AllocGlobal + Threads + Wait + Sync + time::Clock, O: Wri
     ticks: u64,
     writer: &mut O,
 ) -> Result<(), ServeFault>
-    ensures done { OnOk result (PrintsReport settings.now (O.contents writer.old) (O.contents writer.new)) }
+    ensures done { OnOk result (PrintsReport settings.now
+        (O.contents writer.old) (O.contents writer.new)) }
     ensures refused { IfErr result (FailsServe (O.contents writer.old) (O.contents writer.new)) }
 {
     let gauges = Gauges::new();
@@ -187,7 +190,8 @@ pub fn serve_watched<R: AllocGlobal + Threads + Wait + Sync + time::Clock, O: Wr
     writer: &mut O,
     errors: &mut E,
 ) -> Result<(), ServeFault>
-    ensures done { OnOk result (PrintsReport settings.now (O.contents writer.old) (O.contents writer.new)) }
+    ensures done { OnOk result (PrintsReport settings.now
+        (O.contents writer.old) (O.contents writer.new)) }
     ensures refused { IfErr result (FailsServe (O.contents writer.old) (O.contents writer.new)) }
 {
     let gauges = Gauges::new();

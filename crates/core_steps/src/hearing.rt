@@ -32,7 +32,8 @@ pub(crate) fn hear(
     requires { is_busy (state_of m.old) ≡ false }
     ensures ok { OnOk result (Leaves (IsHearing (state_of m.old) moment endpoint bytes.now)
         (state_of m.old) outs.old.items (state_of m.new) outs.new.items) }
-    ensures err { OnErr result (Stays (state_of m.old) outs.old.items (state_of m.new) outs.new.items) }
+    ensures err { OnErr result (Stays (state_of m.old) outs.old.items
+        (state_of m.new) outs.new.items) }
 {
     m.knows_counts();
     let own = own_source(&m.setup.links, endpoint);
@@ -76,7 +77,8 @@ fn hear_media(
         (λ h. h ≡ hearing (state_of m.old) moment endpoint bytes.now
         (Ok (Packet packet.0.0 packet.1 packet.2)))
         (state_of m.old) outs.old.items (state_of m.new) outs.new.items) }
-    ensures err { OnErr result (Stays (state_of m.old) outs.old.items (state_of m.new) outs.new.items) }
+    ensures err { OnErr result (Stays (state_of m.old) outs.old.items
+        (state_of m.new) outs.new.items) }
 {
     m.knows_counts();
     let (ssrc, seq, timestamp) = packet;
@@ -111,7 +113,8 @@ fn hear_goodbye(
     ensures ok { (bytes : List ℕ)
         → OnOk result (Leaves (λ h. h ≡ hearing (state_of m.old) moment endpoint bytes (Ok Leaving))
         (state_of m.old) outs.old.items (state_of m.new) outs.new.items) }
-    ensures err { OnErr result (Stays (state_of m.old) outs.old.items (state_of m.new) outs.new.items) }
+    ensures err { OnErr result (Stays (state_of m.old) outs.old.items
+        (state_of m.new) outs.new.items) }
 {
     m.knows_counts();
     outs.reserve(1)?;
@@ -136,7 +139,8 @@ fn hear_control(
         → OnOk result (Leaves (λ h. h ≡ hearing (state_of m.old) moment endpoint bytes
         (Ok (Controls control.now.speaker.0 reports control.now.tmmbns m.old.asks.items)))
         (state_of m.old) outs.old.items (state_of m.new) outs.new.items) }
-    ensures err { OnErr result (Stays (state_of m.old) outs.old.items (state_of m.new) outs.new.items) }
+    ensures err { OnErr result (Stays (state_of m.old) outs.old.items
+        (state_of m.new) outs.new.items) }
 {
     m.knows_counts();
     outs.reserve(m.asks.len().max(1))?;
@@ -182,7 +186,8 @@ pub(crate) fn select(
     requires { is_busy (state_of m.old) ≡ false }
     ensures ok { OnOk result (Leaves (λ h. h ≡ selecting (state_of m.old) moment leg on)
         (state_of m.old) outs.old.items (state_of m.new) outs.new.items) }
-    ensures err { OnErr result (Stays (state_of m.old) outs.old.items (state_of m.new) outs.new.items) }
+    ensures err { OnErr result (Stays (state_of m.old) outs.old.items
+        (state_of m.new) outs.new.items) }
 {
     m.knows_counts();
     outs.reserve(1)?;

@@ -24,7 +24,8 @@ impl Model for JobRing {
 
     ghost view = { λ r. r.jobs.items };
 
-    ghost invariant = { λ r. (JOB_LIMIT ≤ deque_capacity r.jobs) × (length r.jobs.items ≤ JOB_LIMIT) };
+    ghost invariant = { λ r. (JOB_LIMIT ≤ deque_capacity r.jobs)
+        × (length r.jobs.items ≤ JOB_LIMIT) };
 }
 
 impl JobRing {

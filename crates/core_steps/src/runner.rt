@@ -60,7 +60,8 @@ fn run_machine(m: &mut Machine, events: &[Event], outs: &mut Vec<Out>) -> Result
 fn step(m: &mut Machine, event: &Event, outs: &mut Vec<Out>) -> Result<(), AllocError>
     ensures ok { OnOk result (Leaves (Does (state_of m.old) event.now)
         (state_of m.old) outs.old.items (state_of m.new) outs.new.items) }
-    ensures err { OnErr result (Stays (state_of m.old) outs.old.items (state_of m.new) outs.new.items) }
+    ensures err { OnErr result (Stays (state_of m.old) outs.old.items
+        (state_of m.new) outs.new.items) }
 {
     match event {
         Event::Ingress => do_next(m, outs),

@@ -30,7 +30,8 @@ pub(crate) fn work(m: &mut Machine, worker: u16, outs: &mut Vec<Out>) -> Result<
     ensures ok { OnOk result (Leaves
         (Works (state_of m.old) worker (slice_get (state_of m.old).workers worker))
         (state_of m.old) outs.old.items (state_of m.new) outs.new.items) }
-    ensures err { OnErr result (Stays (state_of m.old) outs.old.items (state_of m.new) outs.new.items) }
+    ensures err { OnErr result (Stays (state_of m.old) outs.old.items
+        (state_of m.new) outs.new.items) }
 {
     let _counts = (m.lost, m.tmmbns);
     outs.reserve(1)?;

@@ -43,7 +43,8 @@ pub fn live_since_request()
         → IsBase base → All (λ e. HasStay e.call) entries → IsLegalHistory gap ms base entries
         → stay_in (base_after ms base entries).present.items owner ≡ 0
         → tuple_of (live_after ms base entries) owner ≡ None }
-    ensures live { (gap ms : ℕ) (base : Base) (entries : List Entry) (owner stay from : ℕ) (tuple : Tuple)
+    ensures live { (gap ms : ℕ) (base : Base) (entries : List Entry)
+        (owner stay from : ℕ) (tuple : Tuple)
         → IsBase base → All (λ e. HasStay e.call) entries → IsLegalHistory gap ms base entries
         → 1 ≤ stay → IsPresentFrom base entries owner stay from
         → tuple_of (live_after ms base entries) owner ≡ Some tuple

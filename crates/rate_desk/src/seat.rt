@@ -28,9 +28,14 @@ impl<S: SeatCalls> Model for DeskSeat<S> {
 
     ghost Value = { SeatState };
 
-    ghost view = { λ s. record { calls = s.calls.items; words = s.words.items; share = s.share.amount } };
+    ghost view = { λ s. record {
+      calls = s.calls.items;
+      words = s.words.items;
+      share = s.share.amount;
+    } };
 
-    ghost invariant = { λ s. (length s.calls.items ≡ S.publishers) × (length s.words.items ≡ S.publishers)
+    ghost invariant = { λ s. (length s.calls.items ≡ S.publishers)
+        × (length s.words.items ≡ S.publishers)
         × (s.share.parts ≡ 1) × HasSmallWords s.calls.items s.words.items };
 }
 

@@ -21,7 +21,8 @@ sent_packet p = record { number = p.0; bytes = p.1.items }
 -- the bytes of the latest packet whose number is congruent to seq modulo 65536
 abbrev pub last_kept_with : List SentPacket → ℕ → Option (List ℕ)
 last_kept_with items seq =
-    option_map (λ (p : SentPacket). p.bytes) (find (λ p. p.number % SEQ_CYCLE == seq) (reverse items))
+    option_map (λ (p : SentPacket). p.bytes)
+    (find (λ p. p.number % SEQ_CYCLE == seq) (reverse items))
 
 -- what is kept of these once more packets came in turn
 abbrev pub kept_in_turn : ℕ → List SentPacket → List SentPacket → List SentPacket

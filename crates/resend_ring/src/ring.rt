@@ -31,7 +31,10 @@ impl<A: Allocator> Model for Ring<A> {
 
     ghost Value = { Kept };
 
-    ghost view = { λ r. record { capacity = r.packets.capacity; items = map sent_packet r.packets.items } };
+    ghost view = { λ r. record {
+      capacity = r.packets.capacity;
+      items = map sent_packet r.packets.items;
+    } };
 
     ghost invariant = { λ r. (1 ≤ r.packets.capacity)
         × (r.packets.capacity ≤ MAX_CAPACITY)

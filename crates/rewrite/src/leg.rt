@@ -80,7 +80,8 @@ impl Leg {
     fn begin(&mut self, turn: u64, seq: u16, start: u64) -> u64
         requires { start < NUMBER_LIMIT }
         ensures value { result ≡ start }
-        ensures kept { self.new ≡ record self.old { segment = Some (first_segment turn seq start) } }
+        ensures kept { self.new
+            ≡ record self.old { segment = Some (first_segment turn seq start) } }
     {
         self.segment = Some(Segment::open(turn, seq, start));
         start

@@ -45,8 +45,8 @@ impl<J: Naming> Model for RouteWriter<J> {
 
     ghost view = { λ w. record { published = changes_of w.mark.seen.log; noted = w.noted.items } };
 
-    ghost invariant = { λ w. (w.legs ≡ J.legs) × (w.head ≡ head_of J.book) × (w.mark.seen.book ≡ J.book)
-        × IsAhead J.book J.legs w.mark.seen.log
+    ghost invariant = { λ w. (w.legs ≡ J.legs) × (w.head ≡ head_of J.book)
+        × (w.mark.seen.book ≡ J.book) × IsAhead J.book J.legs w.mark.seen.log
         (drop w.writer.behind w.writer.log.items) w.writer.desk.shown.value };
 }
 

@@ -56,8 +56,10 @@ pub fn read_again(bytes: &[u8]) -> Result<(Packet<'_>, &[u8]), RtcpFault>
     ensures reads { Gives (λ x. (rtcp_packet_of x.0, x.1.now)) result (packet_at bytes.now) }
     ensures rest { IfOk result (λ x. IsReadWhole x.1.now) }
     ensures counted { IfOk result (λ x. x.0.count < 32) }
-    ensures sender_report { IfOk result (λ x. x.0.kind ≡ 200 → 24 + 24 * x.0.count ≤ length x.0.body.now) }
-    ensures receiver_report { IfOk result (λ x. x.0.kind ≡ 201 → 4 + 24 * x.0.count ≤ length x.0.body.now) }
+    ensures sender_report { IfOk result (λ x. x.0.kind ≡ 200
+        → 24 + 24 * x.0.count ≤ length x.0.body.now) }
+    ensures receiver_report { IfOk result (λ x. x.0.kind ≡ 201
+        → 4 + 24 * x.0.count ≤ length x.0.body.now) }
     ensures goodbye { IfOk result (λ x. x.0.kind ≡ 203 → 4 * x.0.count ≤ length x.0.body.now) }
 {
     read_frame(bytes)

@@ -142,7 +142,8 @@ fn put_header<A: Allocator>(out: &mut Vec<u8, A>, count: usize, kind: u8, words:
 /// Appends these blocks.
 fn put_blocks<A: Allocator>(out: &mut Vec<u8, A>, blocks: &[Block])
     requires room { vec_len out.old + 24 * length blocks.now ≤ vec_capacity out.old }
-    ensures items { out.new.items ≡ out.old.items ++ flat_map block_bytes (map block_of blocks.now) }
+    ensures items { out.new.items ≡ out.old.items
+        ++ flat_map block_bytes (map block_of blocks.now) }
     ensures each { All IsReportBlock (map block_of blocks.now) }
 {
     for block in blocks {

@@ -75,11 +75,12 @@ impl Header {
 
     /// The extension at the front of what follows the CSRCs, if there is one, and what follows it.
     pub fn split_extension(self, rest: &[u8]) -> Result<(Option<Extension<'_>>, &[u8]), RtpFault>
-        ensures parts { IfOk result (λ parts. rest.now ≡ extension_bytes (tree_of parts.0) ++ parts.1.now) }
+        ensures parts { IfOk result (λ parts.
+            rest.now ≡ extension_bytes (tree_of parts.0) ++ parts.1.now) }
         ensures valid { IfOk result (λ parts. IsExtension (tree_of parts.0)) }
         ensures there { IfOk result (λ parts. is_there (tree_of parts.0) ≡ self.extension) }
-        ensures short { IfErr result (λ fault. (fault ≡ RtpFault.ExtensionShort) × (self.extension ≡ true)
-            × (length rest.now < 4 + 4 * big_number 2 (drop 2 rest.now))) }
+        ensures short { IfErr result (λ fault. (fault ≡ RtpFault.ExtensionShort)
+            × (self.extension ≡ true) × (length rest.now < 4 + 4 * big_number 2 (drop 2 rest.now))) }
     {
         if !self.extension {
             return Ok((None, rest));

@@ -23,7 +23,8 @@ impl Pair {
     pub fn new(packets: u128, bits: u128, seconds: u128) -> Option<Pair>
         ensures in_range { IsSome result
             ↔ ((packets < 2 ^ 100) × (bits < 2 ^ 100) × (1 ≤ seconds) × (seconds < 2 ^ 14)) }
-        ensures value { IfSome result (λ p. (p.packets ≡ packets) × (p.bits ≡ bits) × (p.seconds ≡ seconds)) }
+        ensures value { IfSome result (λ p. (p.packets ≡ packets) × (p.bits ≡ bits)
+            × (p.seconds ≡ seconds)) }
     {
         if packets < 1 << 100 && bits < 1 << 100 && 1 <= seconds && seconds < 1 << 14 {
             Some(Pair {

@@ -26,7 +26,8 @@ impl Tuple {
     /// The tuple of these three numbers; `None` exactly where one of them is out of its range.
     pub fn new(exp: u8, mantissa: u32, overhead: u16) -> Option<Tuple>
         ensures in_range { IsSome result ↔ ((exp < 64) × (mantissa < 131072) × (overhead < 512)) }
-        ensures value { IfSome result (λ t. (t.exp ≡ exp) × (t.mantissa ≡ mantissa) × (t.overhead ≡ overhead)) }
+        ensures value { IfSome result (λ t. (t.exp ≡ exp) × (t.mantissa ≡ mantissa)
+            × (t.overhead ≡ overhead)) }
     {
         if exp < 64 && mantissa < 131_072 && overhead < 512 {
             Some(Tuple {

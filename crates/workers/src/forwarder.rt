@@ -113,8 +113,9 @@ impl Forwarder {
         ensures worker { self.new ≡ self.old }
         ensures known { IsPrefix reader.old.known reader.new.known }
         ensures note { IsPrefix note reader.new.known }
-        ensures feeds { Feeds D.gap D.request_ms C.publishers J.legs self.old job.now seat.old seat.new
-            reader.old.rows reader.new (S.shown sink.old) (S.shown sink.new) result }
+        ensures feeds { Feeds D.gap D.request_ms C.publishers J.legs self.old job.now
+            seat.old seat.new reader.old.rows reader.new (S.shown sink.old) (S.shown sink.new)
+            result }
     {
         match self.question(job) {
             Some(question) => self

@@ -74,9 +74,9 @@ impl Notifier {
         ensures setup { self.new ≡ self.old }
         ensures known { IsPrefix reader.old.known reader.new.known }
         ensures note { IsPrefix note reader.new.known }
-        ensures notifies { Notifies D.gap D.request_ms C.publishers J.legs self.old (Some question.now)
-            seat.old seat.new reader.old.rows reader.new (S.shown sink.old)
-            (S.shown sink.new) result }
+        ensures notifies { Notifies D.gap D.request_ms C.publishers J.legs self.old
+            (Some question.now) seat.old seat.new reader.old.rows reader.new
+            (S.shown sink.old) (S.shown sink.new) result }
     {
         let pending = ask_desk(rt, house, seat, question, &mut self.effect);
         reader.learn(note);

@@ -26,7 +26,8 @@ fn hand_over<S: Sink>(sink: &mut S, endpoint: u16, bytes: &[u8], done: &mut Forw
 #[tactic(auto, using(crate::proofs::SendingLemmas::grows_nothing))]
 fn give_planned<S: Sink>(legs: &Legs, planned: &Planned, sink: &mut S, done: &mut Forwarded)
     requires room { total_of done.old < 2 ^ 64 - 1 }
-    ensures adds { Adds (out_of legs.now planned.now) (S.shown sink.old) (S.shown sink.new) done.old done.new }
+    ensures adds { Adds (out_of legs.now planned.now)
+        (S.shown sink.old) (S.shown sink.new) done.old done.new }
     ensures few { total_of done.new ≤ total_of done.old + 1 }
 {
     match planned {
