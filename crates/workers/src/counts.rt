@@ -1,5 +1,8 @@
 //! What the unit did so far, for whoever watches it while it runs.
 
+ghost use Rattle.std.specs.Prelude.{◌≡◌};
+ghost use Rattle.core_steps.specs.Happening.{capped_count};
+
 use crate::done::Forwarded;
 use crossbeam_utils::CachePadded;
 use std::alloc::{AllocError, Global};
@@ -123,20 +126,22 @@ impl Tally {
     }
 
     fn add_to(&self, status: &mut Status) {
-        status.sent = status.sent.saturating_add(self.sent.load(Ordering::SeqCst));
-        status.failed = status
-            .failed
-            .saturating_add(self.failed.load(Ordering::SeqCst));
-        status.dropped = status
-            .dropped
-            .saturating_add(self.dropped.load(Ordering::SeqCst));
+        status.sent = raised(status.sent, self.sent.load(Ordering::SeqCst));
+        status.failed = raised(status.failed, self.failed.load(Ordering::SeqCst));
+        status.dropped = raised(status.dropped, self.dropped.load(Ordering::SeqCst));
     }
 }
 
 /// Raises a count that one thread alone raises.
 fn raise(count: &AtomicU64, more: u64) {
     if more > 0 {
-        let before = count.load(Ordering::SeqCst);
-        count.store(before.saturating_add(more), Ordering::SeqCst);
+        count.store(raised(count.load(Ordering::SeqCst), more), Ordering::SeqCst);
     }
+}
+
+/// A count that is so many more; it stays at its greatest once there.
+fn raised(count: u64, more: u64) -> u64
+    ensures { result ≡ capped_count count more }
+{
+    count.saturating_add(more)
 }

@@ -36,26 +36,3 @@ pub use question::Question;
 pub use turns::{MAX_DATAGRAM, MAX_FAULTS};
 pub use unit::{Outside, Pace, Report, run_unit, run_watched};
 pub use watch::{Open, Unwatched, Watch};
-
-#[cfg(test)]
-mod beside_tests;
-#[cfg(test)]
-mod doubles;
-#[cfg(test)]
-mod feedback_tests;
-#[cfg(test)]
-mod forward_tests;
-#[cfg(test)]
-mod machine_turns;
-#[cfg(test)]
-mod memory_tests;
-#[cfg(test)]
-mod random_turns;
-#[cfg(test)]
-mod rooms;
-#[cfg(test)]
-mod turn_doubles;
-#[cfg(test)]
-mod unit_doubles;
-#[cfg(test)]
-mod unit_tests;

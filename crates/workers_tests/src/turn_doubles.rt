@@ -3,13 +3,13 @@
 
 ghost use Rattle.std.specs.Prelude.{◌≡◌, ◌+◌, vec_len, None};
 
-use super::*;
 use crate::random_turns::{Turn, WORKERS};
 use core_steps::Bytes;
 use rtrb::{Consumer, Producer, RingBuffer};
 use std::alloc::{AllocError, Global};
 use std::sync::atomic::{AtomicU64, Ordering};
 use std::thread;
+use workers::*;
 
 /// So many datagrams a sink has room for.
 const ROOM: usize = 1 << 15;

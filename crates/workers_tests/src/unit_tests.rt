@@ -2,7 +2,6 @@
 
 ghost use Rattle.std.specs.Prelude.{◌≡◌, ◌+◌, vec_len};
 
-use super::*;
 use crate::doubles::{OpenGate, StoppedClock};
 use crate::unit_doubles::{
     Arrival, Link, Pairing, Script, Until, media_packet, receiver_report, settings_of, sinks_of,
@@ -13,6 +12,7 @@ use std::sync::Wait;
 use std::sync::atomic::AtomicBool;
 use std::test::Fail;
 use std::thread::Threads;
+use workers::*;
 
 /// Runs these arrivals for so many turns, at moment 0.
 fn run_script<R: Threads + Wait + Sync, G: Gate + Sync>(
@@ -134,22 +134,5 @@ fn receive_faults(rt: HostRuntime) -> Result<(), Fail> {
     let fault = run_faults(&rt, rt.alloc(), 100)?.err();
     assert_eq!(rt; fault, Some(UnitFault::Receive));
     assert_eq!(rt; UnitFault::Receive.number(), 2);
-    Ok(())
-}
-
-#[test]
-fn counts_stay_at_their_greatest(rt: HostRuntime) -> Result<(), Fail> {
-    let counts = Counts::new(rt.alloc(), 1)?;
-    let greatest = Forwarded {
-        sent: u64::MAX,
-        failed: u64::MAX,
-        ..Forwarded::default()
-    };
-    counts.of_ingress().add(&greatest);
-    counts.of_ingress().add(&greatest);
-    counts.of_worker(0).ok_or("a worker")?.add(&greatest);
-    let status = counts.status();
-    assert_eq!(rt; (status.sent, status.failed), (u64::MAX, u64::MAX));
-    assert_eq!(rt; (status.heard, status.lost, status.dropped), (0, 0, 0));
     Ok(())
 }

@@ -2,7 +2,6 @@
 
 ghost use Rattle.std.specs.Prelude.{◌≡◌, ◌+◌, vec_len, None};
 
-use super::*;
 use crate::machine_turns::{Sent, nothing_sent, play};
 use crate::random_turns::{TURNS, Turn, make_turns, room};
 use crate::turn_doubles::{Counting, Moved, RingSink, Turned, sinks_and_ends};
@@ -14,6 +13,7 @@ use std::sync::Wait;
 use std::sync::atomic::AtomicU64;
 use std::test::Fail;
 use std::thread::Threads;
+use workers::*;
 
 /// Runs the unit over the turns.
 fn run_turns<R: Threads + Wait + Sync>(

@@ -4,7 +4,6 @@ ghost use Rattle.std.specs.Prelude.{◌≡◌, ◌++◌, IsTrue, IfOk};
 ghost use Rattle.workers.specs.Forwarding.{given_by};
 ghost use Rattle.workers.specs.Outside.{datagrams_of};
 
-use super::*;
 use crate::doubles::{ListSink, MemorySink, MemorySource, OpenGate, StoppedClock};
 use crate::rooms::{examples, is, on, packet, rtp, two_subscribers};
 use core_steps::{Bytes, Job};
@@ -15,6 +14,7 @@ use std::marker::Brand;
 use std::process::Abort;
 use std::sync::Wait;
 use std::test::Fail;
+use workers::*;
 
 const NOTHING: Forwarded = Forwarded {
     sent: 0,

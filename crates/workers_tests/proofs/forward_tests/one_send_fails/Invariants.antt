@@ -1,4 +1,4 @@
-use Rattle.workers.proofs.forward_tests.one_send_fails.Given as goal
+use Rattle.workers_tests.proofs.forward_tests.one_send_fails.Given as goal
 
 -- the table that was just opened
 abbrev pub ghosts-fails_once_in : goal.ghosts-fails_once_in

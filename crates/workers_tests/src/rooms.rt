@@ -1,9 +1,9 @@
 //! Rooms for tests: the settings of the worked examples, and one with two subscribers.
 
-use super::*;
 use core_steps::{Bytes, Job};
 use members::{LegParts, Order, Parts, Settings};
 use std::alloc::{AllocError, Global};
+use workers::*;
 
 /// The head of each compound of the unit: a receiver report of the source 9, and its CNAME `sfu`.
 pub(super) const HEAD: [u8; 24] = [

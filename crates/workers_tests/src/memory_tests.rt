@@ -2,7 +2,6 @@
 
 ghost use Rattle.std.specs.Prelude.{◌≡◌};
 
-use super::*;
 use crate::doubles::MemorySink;
 use crate::rooms::{is, on, packet, rtp, two_subscribers};
 use core_steps::{Bytes, Job};
@@ -12,6 +11,7 @@ use std::marker::Brand;
 use std::process::Abort;
 use std::sync::Wait;
 use std::test::Fail;
+use workers::*;
 
 /// A packet went to two subscribers.
 const BOTH: Forwarded = Forwarded {

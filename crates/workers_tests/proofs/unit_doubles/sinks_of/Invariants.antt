@@ -1,5 +1,5 @@
 use Rattle.std.proofs.Common.{◌≡◌, vec_len}
-use Rattle.workers.proofs.unit_doubles.sinks_of.Given as goal
+use Rattle.workers_tests.proofs.unit_doubles.sinks_of.Given as goal
 
 -- so many sinks as it went round
 abbrev pub invariant-loop-sink : goal.invariant-loop-sink

@@ -1,4 +1,4 @@
-use Rattle.workers.proofs.forward_tests.lists_as_in_the_examples.Given as goal
+use Rattle.workers_tests.proofs.forward_tests.lists_as_in_the_examples.Given as goal
 
 -- the table that was just opened
 abbrev pub ghosts-lists_in : goal.ghosts-lists_in

@@ -2,13 +2,13 @@
 
 ghost use Rattle.std.specs.Prelude.{◌≡◌, ◌<◌, vec_len, IfOk};
 
-use super::*;
 use crate::doubles::MemorySink;
 use members::{LegParts, Parts, Settings};
 use std::alloc::{AllocError, Global};
 use std::sync::atomic::{AtomicBool, Ordering};
 use std::test::Fail;
 use std::thread;
+use workers::*;
 
 /// So often a gate looks before it gives up.
 const PATIENCE: u32 = 10_000_000;

@@ -1,4 +1,4 @@
-use Rattle.workers.proofs.memory_tests.forward_with_each_growth_refused.Given as goal
+use Rattle.workers_tests.proofs.memory_tests.forward_with_each_growth_refused.Given as goal
 
 -- the table that was just opened
 abbrev pub ghosts-sends_in : goal.ghosts-sends_in

@@ -1,8 +1,8 @@
 //! What stands for the outside in tests: lists in memory, a clock that stands still, and a gate that is open.
 
-use super::*;
 use core_steps::Bytes;
 use std::alloc::{AllocError, Global};
+use workers::*;
 
 /// A sink in memory, which promises nothing of its list: tests read that. Its first sends fail, so many as it was made with.
 #[derive(Debug, Drop)]

@@ -2,7 +2,6 @@
 
 ghost use Rattle.std.specs.Prelude.{◌≡◌};
 
-use super::*;
 use crate::doubles::MemorySink;
 use crate::rooms::{HEAD, examples, is, on};
 use core_steps::Job;
@@ -16,6 +15,7 @@ use std::sync::Wait;
 use std::sync::ledger::Blank;
 use std::test::Fail;
 use tmmbr_tuple::Ssrc;
+use workers::*;
 
 /// A TMMBR of 17 that asks 16 for 64,000 bits per second with an overhead of 40 bytes.
 const TMMBR: [u8; 20] = [

@@ -1,0 +1,28 @@
+//! The tests of `workers`, in a crate of their own so that the unit isn't proved a second time with them.
+//!
+//! `doubles`, `unit_doubles` and `turn_doubles` stand for what is outside the unit; `rooms` has settings; `random_turns` draws
+//! what endpoints send, and `machine_turns` is the one-thread machine on the same.
+#![tactic(auto)]
+
+#[cfg(test)]
+mod beside_tests;
+#[cfg(test)]
+mod doubles;
+#[cfg(test)]
+mod feedback_tests;
+#[cfg(test)]
+mod forward_tests;
+#[cfg(test)]
+mod machine_turns;
+#[cfg(test)]
+mod memory_tests;
+#[cfg(test)]
+mod random_turns;
+#[cfg(test)]
+mod rooms;
+#[cfg(test)]
+mod turn_doubles;
+#[cfg(test)]
+mod unit_doubles;
+#[cfg(test)]
+mod unit_tests;
