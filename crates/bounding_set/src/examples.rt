@@ -8,6 +8,23 @@ pub struct Example {
     pub printed: &'static [&'static str],
 }
 
+/// Example 2.
+pub const NO_REQUEST: Example = Example {
+    requests: &[],
+    announced: &[],
+    printed: &[],
+};
+
+pub const EXAMPLE_4: Example = Example {
+    requests: &[(17, 0x01f4_0028), (18, 0x01d4_c014), (19, 0x01e4_601e)],
+    announced: &[18, 17],
+    printed: &[
+        "kept 18 01d4c014 pair 4000 9020001 161",
+        "kept 17 01f40028 pair 68000 8960001 480",
+        "implied 19 01e4601e by 18 17 times 10 10 20",
+    ],
+};
+
 /// Examples 1 to 11.
 pub const EXAMPLES: [Example; 11] = [
     Example {
@@ -15,11 +32,7 @@ pub const EXAMPLES: [Example; 11] = [
         announced: &[17],
         printed: &["kept 17 0007d028 pair 1000 1001 321"],
     },
-    Example {
-        requests: &[],
-        announced: &[],
-        printed: &[],
-    },
+    NO_REQUEST,
     Example {
         requests: &[(17, 0x01f4_0028), (18, 0x01d4_c014)],
         announced: &[18, 17],
@@ -28,15 +41,7 @@ pub const EXAMPLES: [Example; 11] = [
             "kept 17 01f40028 pair 68000 8960001 480",
         ],
     },
-    Example {
-        requests: &[(17, 0x01f4_0028), (18, 0x01d4_c014), (19, 0x01e4_601e)],
-        announced: &[18, 17],
-        printed: &[
-            "kept 18 01d4c014 pair 4000 9020001 161",
-            "kept 17 01f40028 pair 68000 8960001 480",
-            "implied 19 01e4601e by 18 17 times 10 10 20",
-        ],
-    },
+    EXAMPLE_4,
     Example {
         requests: &[(17, 0x01f4_0028), (18, 0x01d4_c014), (19, 0x01e4_5e1e)],
         announced: &[18, 19, 17],

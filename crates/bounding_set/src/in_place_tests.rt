@@ -3,7 +3,7 @@ use super::*;
 use crate::laws::walk;
 use crate::lists::{Generator, KINDS, Kind};
 use crate::slow_certificate::certificate;
-use crate::tests::{assert_as_defined, printed, tuple_of_64};
+use crate::tests::{Step, assert_as_defined, play, printed, tuple_of_64};
 use crate::zero_rates::announce_stops;
 use arrayvec::ArrayVec;
 use rate_cert::Request;
@@ -113,6 +113,28 @@ fn in_place_equals_plain(rt: HostRuntime) -> Result<(), Fail> {
     Ok(())
 }
 
+/// How the certificate of 64 owners begins where owner 64 hides all but the farthest of the others.
+const HIDDEN: [&str; 3] = [
+    "kept 64 00000200 pair 8968 506 505",
+    "kept 63 0046123f pair 17937 505 1008",
+    "implied 1 00271201 by 64 63 times 62 1 63",
+];
+
+/// The certificate has 64 lines, of which these are the first.
+fn assert_begins(
+    rt: &impl Abort,
+    alloc: Global,
+    bounds: &Bounds,
+    first: &[&str],
+) -> Result<(), Fail> {
+    let lines = printed(alloc, bounds)?;
+    assert_eq!(rt; lines.len(), 64);
+    for (line, text) in lines.iter().zip(first) {
+        assert_eq!(rt; line.as_str(), *text);
+    }
+    Ok(())
+}
+
 #[test]
 fn steps_of_sixty_four_owners(rt: HostRuntime) -> Result<(), Fail> {
     let mut bounds = Bounds::new();
@@ -126,38 +148,37 @@ fn steps_of_sixty_four_owners(rt: HostRuntime) -> Result<(), Fail> {
     let walk_steps = assert_as_walked(&rt, rt.alloc(), &bounds)?;
     assert!(rt; walk_steps.is_some_and(|steps| steps >= 62));
     let before = printed(rt.alloc(), &bounds)?;
-    // One bit per second without overhead: only the farthest of the others still bounds.
+    // One bit per second without overhead: only the farthest of the others still bounds. It goes from
+    // behind all others, which hides nothing. Then one test of it, 62 of lines that it hides, and one of
+    // the line that it doesn't.
     let one_bit = Tuple::from_word(0x0000_0200);
-    assert_eq!(rt; bounds.set(Ssrc(64), one_bit), Ok(true));
-    // It goes from behind all others, which hides nothing. Then one test of it, 62 of lines that it
-    // hides, and one of the line that it doesn't.
-    assert_eq!(rt; bounds.steps(), 64);
-    let lines = printed(rt.alloc(), &bounds)?;
-    assert_eq!(rt; lines.len(), 64);
-    assert_eq!(rt; lines[0].as_str(), "kept 64 00000200 pair 8968 506 505");
-    assert_eq!(rt; lines[1].as_str(), "kept 63 0046123f pair 17937 505 1008");
-    assert_eq!(rt;
-        lines[2].as_str(),
-        "implied 1 00271201 by 64 63 times 62 1 63"
-    );
+    let steps = [Step::Set(64, one_bit, Ok(true)), Step::Steps(64)];
+    play(&rt, &mut bounds, &steps);
+    assert_begins(&rt, rt.alloc(), &bounds, &HIDDEN)?;
     assert_as_defined(&rt, rt.alloc(), &bounds)?;
-    // Nothing is left of that once it asks for what it did before.
-    assert_eq!(rt; bounds.set(Ssrc(64), tuple_of_64(64)), Ok(true));
+    // Nothing is left of that once it asks for what it did before. The 62 that were hidden came back from
+    // the least overhead on: two tests of the first, which has no line before it, and three of each other
+    // one. Then two of owner 64.
+    let steps = [
+        Step::Set(64, tuple_of_64(64), Ok(true)),
+        Step::Steps(2 + 61 * 3 + 2),
+        // Nobody to be removed leaves that.
+        Step::Remove(65, None),
+        Step::Steps(187),
+    ];
+    play(&rt, &mut bounds, &steps);
     let after = printed(rt.alloc(), &bounds)?;
     assert_eq!(rt; after.as_slice(), before.as_slice());
-    // The 62 that were hidden came back from the least overhead on: two tests of the first, which
-    // has no line before it, and three of each other one. Then two of owner 64.
-    assert_eq!(rt; bounds.steps(), 2 + 61 * 3 + 2);
-    // Nobody to be removed leaves that.
-    assert_eq!(rt; bounds.remove(Ssrc(65)), None);
-    assert_eq!(rt; bounds.steps(), 187);
-    // Asking for the same again takes no test, nor does a removal from behind all others.
-    assert_eq!(rt; bounds.set(Ssrc(64), tuple_of_64(64)), Ok(false));
-    assert_eq!(rt; bounds.steps(), 0);
-    assert_eq!(rt; bounds.remove(Ssrc(64)), Some(tuple_of_64(64)));
-    assert_eq!(rt; bounds.steps(), 0);
-    // One from among them hides nothing either, and no row is looked at between its neighbours.
-    assert_eq!(rt; bounds.remove(Ssrc(32)), Some(tuple_of_64(32)));
-    assert_eq!(rt; bounds.steps(), 0);
+    let steps = [
+        // Asking for the same again takes no test, nor does a removal from behind all others.
+        Step::Set(64, tuple_of_64(64), Ok(false)),
+        Step::Steps(0),
+        Step::Remove(64, Some(tuple_of_64(64))),
+        Step::Steps(0),
+        // One from among them hides nothing either, and no row is looked at between its neighbours.
+        Step::Remove(32, Some(tuple_of_64(32))),
+        Step::Steps(0),
+    ];
+    play(&rt, &mut bounds, &steps);
     Ok(())
 }

@@ -1,6 +1,8 @@
 //! The worked examples, the greatest number of live requests, and the definition on many lists.
 use super::*;
-use crate::examples::{EXAMPLES, Example, LEFT_OF_EXAMPLE_4, SAME_LINE_TWICE, STOPS};
+use crate::examples::{
+    EXAMPLE_4, EXAMPLES, Example, LEFT_OF_EXAMPLE_4, NO_REQUEST, SAME_LINE_TWICE, STOPS,
+};
 use crate::lists::{Generator, KINDS};
 use crate::slow::canonical_places;
 use crate::slow_certificate::certificate;
@@ -54,6 +56,40 @@ pub fn printed(alloc: Global, bounds: &Bounds) -> Result<Vec<String>, Fail> {
         lines.push(format!(in alloc; "implied {row} by {a} {b} times {p} {q} {r}")?)?;
     }
     Ok(lines)
+}
+
+/// A call with what it answers, or what is then seen.
+#[derive(Clone, Copy, Debug)]
+pub enum Step<'a> {
+    /// An owner asks for this: whether the announced set changes.
+    Set(u32, Tuple, Result<bool, Full>),
+    /// An owner's request goes: what it was.
+    Remove(u32, Option<Tuple>),
+    /// So many requests are live.
+    Live(usize),
+    /// These are announced.
+    Announced(&'a [Request]),
+    /// So many tests were made.
+    Steps(u32),
+}
+
+/// Takes the steps.
+pub fn play(rt: &impl Abort, bounds: &mut Bounds, steps: &[Step<'_>]) {
+    for step in steps {
+        match *step {
+            Step::Set(owner, tuple, answer) => {
+                assert_eq!(rt; bounds.set(Ssrc(owner), tuple), answer, "{step:?}");
+            }
+            Step::Remove(owner, gone) => {
+                assert_eq!(rt; bounds.remove(Ssrc(owner)), gone, "{step:?}");
+            }
+            Step::Live(count) => assert_eq!(rt; bounds.rows().len(), count),
+            Step::Announced(requests) => {
+                assert_eq!(rt; bounds.announced().as_slice(), requests, "{step:?}");
+            }
+            Step::Steps(count) => assert_eq!(rt; bounds.steps(), count),
+        }
+    }
 }
 
 fn set_in_order(example: &Example) -> Result<Bounds, Full> {
@@ -126,47 +162,40 @@ fn examples_as_printed(rt: HostRuntime) -> Result<(), Fail> {
 
 #[test]
 fn removed_as_in_example_12(rt: HostRuntime) -> Result<(), Fail> {
-    let mut bounds = set_in_order(&EXAMPLES[3])?;
-    assert_eq!(rt;
-        bounds.remove(Ssrc(18)),
-        Some(Tuple::from_word(0x01d4_c014))
-    );
-    assert_shows(&rt, rt.alloc(), &bounds, &LEFT_OF_EXAMPLE_4)?;
+    let mut bounds = set_in_order(&EXAMPLE_4)?;
     // Who asks for nothing has nothing removed.
-    assert_eq!(rt; bounds.remove(Ssrc(18)), None);
-    assert_shows(&rt, rt.alloc(), &bounds, &LEFT_OF_EXAMPLE_4)?;
-    assert_eq!(rt;
-        bounds.remove(Ssrc(17)),
-        Some(Tuple::from_word(0x01f4_0028))
-    );
-    assert_eq!(rt;
-        bounds.remove(Ssrc(19)),
-        Some(Tuple::from_word(0x01e4_601e))
-    );
-    assert_eq!(rt; bounds.rows().len(), 0);
-    assert_shows(&rt, rt.alloc(), &bounds, &EXAMPLES[1])?;
-    Ok(())
+    for gone in [Some(Tuple::from_word(0x01d4_c014)), None] {
+        play(&rt, &mut bounds, &[Step::Remove(18, gone)]);
+        assert_shows(&rt, rt.alloc(), &bounds, &LEFT_OF_EXAMPLE_4)?;
+    }
+    let steps = [
+        Step::Remove(17, Some(Tuple::from_word(0x01f4_0028))),
+        Step::Remove(19, Some(Tuple::from_word(0x01e4_601e))),
+        Step::Live(0),
+    ];
+    play(&rt, &mut bounds, &steps);
+    assert_shows(&rt, rt.alloc(), &bounds, &NO_REQUEST)
 }
 
 #[test]
-fn one_live_request(rt: HostRuntime) -> Result<(), Fail> {
+fn one_live_request(rt: HostRuntime) {
     let word = Tuple::from_word(0x0007_d028);
     let mut bounds = Bounds::new();
-    assert_eq!(rt; bounds.announced().len(), 0);
-    assert_eq!(rt; bounds.set(Ssrc(17), word), Ok(true));
-    assert_eq!(rt; bounds.rows(), [request(17, 0x0007_d028)].as_slice());
-    // The same again changes nothing, nor does another owner who asks for the same; another word does,
-    // also one that spells the same rate: 500 * 2^1.
-    assert_eq!(rt; bounds.set(Ssrc(17), word), Ok(false));
-    assert_eq!(rt; bounds.set(Ssrc(18), word), Ok(false));
-    assert_eq!(rt; bounds.remove(Ssrc(18)), Some(word));
-    assert_eq!(rt;
-        bounds.set(Ssrc(17), Tuple::from_word(0x0403_e828)),
-        Ok(true)
-    );
-    assert_eq!(rt; bounds.set(Ssrc(17), Tuple::from_word(0)), Ok(true));
-    assert_eq!(rt; bounds.announced().as_slice(), [request(17, 0)].as_slice());
-    Ok(())
+    let steps = [
+        Step::Announced(&[]),
+        Step::Set(17, word, Ok(true)),
+        Step::Live(1),
+        Step::Announced(&[request(17, 0x0007_d028)]),
+        // The same again changes nothing, nor does another owner who asks for the same; another word does,
+        // also one that spells the same rate: 500 * 2^1.
+        Step::Set(17, word, Ok(false)),
+        Step::Set(18, word, Ok(false)),
+        Step::Remove(18, Some(word)),
+        Step::Set(17, Tuple::from_word(0x0403_e828), Ok(true)),
+        Step::Set(17, Tuple::from_word(0), Ok(true)),
+        Step::Announced(&[request(17, 0)]),
+    ];
+    play(&rt, &mut bounds, &steps);
 }
 
 /// What owner i of 64 asks for: 5,000 + i * i bits per second, with i bytes per packet.
@@ -202,12 +231,18 @@ fn tuple_of_256(i: u16) -> Tuple {
     Tuple::new(0, number.wrapping_mul(number).wrapping_add(65_500), i).unwrap_or_default()
 }
 
-#[test]
-fn as_many_as_may_be_live(rt: HostRuntime) -> Result<(), Fail> {
+/// As many owners as may be live.
+fn all_live() -> Result<Bounds, Full> {
     let mut bounds = Bounds::new();
     for i in 1..=256_u16 {
-        assert_eq!(rt; bounds.set(Ssrc(u32::from(i)), tuple_of_256(i)), Ok(true));
+        let _changed = bounds.set(Ssrc(u32::from(i)), tuple_of_256(i))?;
     }
+    Ok(bounds)
+}
+
+#[test]
+fn as_many_as_may_be_live(rt: HostRuntime) -> Result<(), Fail> {
+    let bounds = all_live()?;
     // All are kept in the order of their numbers.
     let owners = announced_owners(rt.alloc(), &bounds)?;
     let all: Vec<u32> = (1..=256_u32).collect(rt.alloc())?;
@@ -220,22 +255,31 @@ fn as_many_as_may_be_live(rt: HostRuntime) -> Result<(), Fail> {
         "kept 256 03ffb900 pair 131547 1761 2056"
     );
     assert_eq!(rt; check(bounds.rows(), bounds.cert()), Ok(()));
-    // One more is refused, whatever it asks for, and changes nothing.
-    let steps = bounds.steps();
-    assert_eq!(rt; bounds.set(Ssrc(257), Tuple::from_word(0)), Err(Full));
-    assert_eq!(rt; bounds.set(Ssrc(0), tuple_of_256(257)), Err(Full));
-    assert_eq!(rt; bounds.rows().len(), 256);
-    assert_eq!(rt; bounds.steps(), steps);
+    Ok(())
+}
+
+/// One more than may be live is refused, whatever it asks for, and changes nothing.
+#[test]
+fn one_more_is_refused(rt: HostRuntime) -> Result<(), Fail> {
+    let mut bounds = all_live()?;
+    let before = printed(rt.alloc(), &bounds)?;
+    let steps = [
+        Step::Set(257, Tuple::from_word(0), Err(Full)),
+        Step::Set(0, tuple_of_256(257), Err(Full)),
+        Step::Live(256),
+        Step::Steps(bounds.steps()),
+    ];
+    play(&rt, &mut bounds, &steps);
     let after = printed(rt.alloc(), &bounds)?;
-    assert_eq!(rt; after.as_slice(), lines.as_slice());
+    assert_eq!(rt; after.as_slice(), before.as_slice());
     // An owner that is live may ask for something else: owner 256 now hides the others.
-    assert_eq!(rt;
-        bounds.set(Ssrc(256), Tuple::from_word(0x0000_0300)),
-        Ok(true)
-    );
-    assert_eq!(rt; bounds.rows().len(), 256);
-    let owners = announced_owners(rt.alloc(), &bounds)?;
-    assert_eq!(rt; owners.as_slice(), [256_u32].as_slice());
+    let steps = [
+        Step::Set(256, Tuple::from_word(0x0000_0300), Ok(true)),
+        Step::Live(256),
+    ];
+    play(&rt, &mut bounds, &steps);
+    let alone = request(256, 0x0000_0300);
+    assert_eq!(rt; bounds.announced().as_slice(), [alone].as_slice());
     assert_as_defined(&rt, rt.alloc(), &bounds)
 }
 

@@ -1,5 +1,6 @@
 //! What comes back where a line goes, worked out by hand.
 use super::*;
+use crate::tests::{Step, play};
 use rate_cert::Request;
 use std::test::Fail;
 use tmmbr_tuple::{Ssrc, Tuple};
@@ -25,14 +26,14 @@ fn looks_between_the_neighbours(rt: HostRuntime) -> Result<(), Fail> {
     for request in [first, middle, last, beyond] {
         let _changed = bounds.set(request.owner, request.tuple)?;
     }
-    assert_eq!(rt;
-        bounds.announced().as_slice(),
-        [first, middle, last].as_slice()
-    );
-    // No row lies between its neighbours, so none is looked at.
-    assert_eq!(rt; bounds.remove(Ssrc(2)), Some(middle.tuple));
-    assert_eq!(rt; bounds.steps(), 0);
-    assert_eq!(rt; bounds.announced().as_slice(), [first, last].as_slice());
+    let steps = [
+        Step::Announced(&[first, middle, last]),
+        // No row lies between its neighbours, so none is looked at.
+        Step::Remove(2, Some(middle.tuple)),
+        Step::Steps(0),
+        Step::Announced(&[first, last]),
+    ];
+    play(&rt, &mut bounds, &steps);
     Ok(())
 }
 
@@ -49,26 +50,17 @@ fn brings_back_what_it_hid(rt: HostRuntime) -> Result<(), Fail> {
     for request in [first, middle, last, hidden, low] {
         let _changed = bounds.set(request.owner, request.tuple)?;
     }
-    assert_eq!(rt;
-        bounds.announced().as_slice(),
-        [first, middle, last].as_slice()
-    );
-    assert_eq!(rt; bounds.remove(Ssrc(2)), Some(middle.tuple));
-    assert_eq!(rt;
-        bounds.announced().as_slice(),
-        [first, hidden, last].as_slice()
-    );
-    // At an end, first on the right and then on the left, a neighbour is missing.
-    assert_eq!(rt; bounds.set(Ssrc(2), middle.tuple), Ok(true));
-    assert_eq!(rt; bounds.remove(Ssrc(3)), Some(last.tuple));
-    assert_eq!(rt;
-        bounds.announced().as_slice(),
-        [first, middle, hidden].as_slice()
-    );
-    assert_eq!(rt; bounds.remove(Ssrc(1)), Some(first.tuple));
-    assert_eq!(rt;
-        bounds.announced().as_slice(),
-        [low, middle, hidden].as_slice()
-    );
+    let steps = [
+        Step::Announced(&[first, middle, last]),
+        Step::Remove(2, Some(middle.tuple)),
+        Step::Announced(&[first, hidden, last]),
+        // At an end, first on the right and then on the left, a neighbour is missing.
+        Step::Set(2, middle.tuple, Ok(true)),
+        Step::Remove(3, Some(last.tuple)),
+        Step::Announced(&[first, middle, hidden]),
+        Step::Remove(1, Some(first.tuple)),
+        Step::Announced(&[low, middle, hidden]),
+    ];
+    play(&rt, &mut bounds, &steps);
     Ok(())
 }

@@ -1,7 +1,7 @@
 //! Each limit at both edges: the last value that is accepted and the first that is refused.
 use super::*;
 use crate::room_tests::{arrive, depart, route};
-use crate::settings_tests::{fault_of, found_parts, leg};
+use crate::settings_tests::{fault_of, found_parts, leg, put};
 use crate::stream::COUNTED_PACKETS;
 use std::alloc::{AllocError, Global};
 use std::process::Abort;
@@ -19,21 +19,6 @@ const RANGES: [(Key, i64, i64); 8] = [
     (Key::UnitSsrc, 0, 4_294_967_295),
     (Key::Workers, 1, 8),
 ];
-
-/// Gives the key of the table this number, or none.
-fn put(parts: &mut Parts, key: Key, number: Option<i64>) {
-    match key {
-        Key::History => parts.history = number,
-        Key::PliGapMs => parts.pli_gap_ms = number,
-        Key::ReportMs => parts.report_ms = number,
-        Key::RequestMs => parts.request_ms = number,
-        Key::Ring => parts.ring = number,
-        Key::TimeoutMs => parts.timeout_ms = number,
-        Key::UnitSsrc => parts.unit_ssrc = number,
-        Key::Workers => parts.workers = number,
-        _ => {}
-    }
-}
 
 #[test]
 fn numbers_of_the_table(rt: HostRuntime) -> Result<(), Fail> {

@@ -161,17 +161,26 @@ fn jitter_with(moment: u64, timestamp: u32) -> Result<u32, Fail> {
 
 #[test]
 fn transits_wrap(rt: HostRuntime) -> Result<(), Fail> {
-    // A difference of -1 or 1 is no jitter yet, and one of -16 or 16 is 1.
-    assert_eq!(rt; jitter_with(0, 1)?, 0);
-    assert_eq!(rt; jitter_with(0, 0xffff_ffff)?, 0);
-    assert_eq!(rt; jitter_with(0, 16)?, 1);
-    assert_eq!(rt; jitter_with(0, 0xffff_fff0)?, 1);
-    // The greatest difference is 2^31.
-    assert_eq!(rt; jitter_with(0, 0x7fff_ffff)?, 0x07ff_ffff);
-    assert_eq!(rt; jitter_with(0, 0x8000_0000)?, 0x0800_0000);
-    assert_eq!(rt; jitter_with(0, 0x8000_0001)?, 0x07ff_ffff);
-    // (2^64 - 1) * 90 is -90 modulo 2^32.
-    assert_eq!(rt; jitter_with(u64::MAX, 0xffff_ffa6)?, 0);
+    let rows = [
+        // A difference of -1 or 1 is no jitter yet, and one of -16 or 16 is 1.
+        (0, 1, 0),
+        (0, 0xffff_ffff, 0),
+        (0, 16, 1),
+        (0, 0xffff_fff0, 1),
+        // The greatest difference is 2^31.
+        (0, 0x7fff_ffff, 0x07ff_ffff),
+        (0, 0x8000_0000, 0x0800_0000),
+        (0, 0x8000_0001, 0x07ff_ffff),
+        // (2^64 - 1) * 90 is -90 modulo 2^32.
+        (u64::MAX, 0xffff_ffa6, 0),
+    ];
+    for (moment, timestamp, jitter) in rows {
+        assert_eq!(rt;
+            jitter_with(moment, timestamp)?,
+            jitter,
+            "{timestamp} at {moment}"
+        );
+    }
     Ok(())
 }
 

@@ -228,10 +228,12 @@ fn endpoint_by_endpoint_and_leg_by_leg(rt: HostRuntime) -> Result<(), Fail> {
     gives(&rt, &mut room, &rows)
 }
 
-/// The block about an endpoint, as its fields in order.
-fn fields(room: &mut Room, endpoint: u16) -> Result<(u32, u8, i32, u32, u32, u32, u32), Fail> {
-    let block = room.block(endpoint).ok_or("no block")?;
-    Ok((
+/// The fields of a report block in order.
+type Fields = (u32, u8, i32, u32, u32, u32, u32);
+
+/// The fields of a block.
+fn fields(block: Block) -> Fields {
+    (
         block.source.0,
         block.fraction,
         block.lost,
@@ -239,7 +241,41 @@ fn fields(room: &mut Room, endpoint: u16) -> Result<(u32, u8, i32, u32, u32, u32
         block.jitter,
         block.last_sr,
         block.delay,
-    ))
+    )
+}
+
+/// What happens to a room, and what is asked of it.
+#[derive(Clone, Copy, Debug)]
+enum Step {
+    /// A call at a moment.
+    At(u64, Call),
+    /// A packet of an endpoint, with its number and its timestamp.
+    Packet(u16, u16, u32),
+    /// A sender report of an endpoint, with its two timestamps.
+    Report(u16, u64, u32),
+    /// The last sender report of an endpoint is this.
+    LastReport(u16, Option<(u64, u32)>),
+    /// The block about an endpoint is this.
+    About(u16, Option<Fields>),
+}
+
+/// Takes the steps.
+fn play(rt: &(impl Abort + AllocGlobal), room: &mut Room, steps: &[Step]) -> Result<(), Fail> {
+    let mut orders = Vec::new(rt.alloc());
+    for step in steps {
+        match *step {
+            Step::At(moment, call) => call.make(room, moment, &mut orders)?,
+            Step::Packet(endpoint, seq, timestamp) => room.received(endpoint, seq, timestamp),
+            Step::Report(endpoint, ntp, rtp) => room.sender_report(endpoint, ntp, rtp),
+            Step::LastReport(endpoint, report) => {
+                assert_eq!(rt; room.last_sr(endpoint), report, "{step:?}");
+            }
+            Step::About(endpoint, block) => {
+                assert_eq!(rt; room.block(endpoint).map(fields), block, "{step:?}");
+            }
+        }
+    }
+    Ok(())
 }
 
 #[test]
@@ -269,72 +305,74 @@ fn bytes_of_example_19(rt: HostRuntime) -> Result<(), Fail> {
 
 #[test]
 fn block_of_a_room(rt: HostRuntime) -> Result<(), Fail> {
-    let mut room = small_room(rt.alloc())?;
-    let mut orders = Vec::new(rt.alloc());
-    room.hear(0, 0, Ssrc(16), &mut orders)?;
-    room.received(0, 7, 3000);
-    assert_eq!(rt; room.last_sr(0), None);
-    room.hear(20, 0, Ssrc(16), &mut orders)?;
-    room.sender_report(0, 0x0000_000a_8000_0000, 3000);
-    room.hear(30, 0, Ssrc(16), &mut orders)?;
-    room.received(0, 8, 3000);
-    room.hear(40, 1, Ssrc(17), &mut orders)?;
-    room.received(1, 40, 0);
-    room.tick(100, &mut orders)?;
-    assert_eq!(rt; room.last_sr(0), Some((0x0000_000a_8000_0000, 3000)));
-    // Transits are -3000 and -300, which is 2700 apart; 80 ms are 5242.88 units of 1/65536 s.
-    assert_eq!(rt;
-        fields(&mut room, 0)?,
-        (16, 0, 0, 8, 0xa8, 0x000a_8000, 0x147a)
-    );
-    // The other endpoint's own: it sent no report.
-    assert_eq!(rt; room.last_sr(1), None);
-    assert_eq!(rt; fields(&mut room, 1)?, (17, 0, 0, 40, 0, 0, 0));
-    // The next interval: one of two packets was lost.
-    room.received(1, 42, 0);
-    assert_eq!(rt; fields(&mut room, 1)?.1, 128);
-    assert_eq!(rt; fields(&mut room, 1)?.1, 0);
-    Ok(())
+    let ntp = 0x0000_000a_8000_0000;
+    let steps = [
+        Step::At(0, Call::Hear(0, 16)),
+        Step::Packet(0, 7, 3000),
+        Step::LastReport(0, None),
+        Step::At(20, Call::Hear(0, 16)),
+        Step::Report(0, ntp, 3000),
+        Step::At(30, Call::Hear(0, 16)),
+        Step::Packet(0, 8, 3000),
+        Step::At(40, Call::Hear(1, 17)),
+        Step::Packet(1, 40, 0),
+        Step::At(100, Call::Tick),
+        Step::LastReport(0, Some((ntp, 3000))),
+        // Transits are -3000 and -300, which is 2700 apart; 80 ms are 5242.88 units of 1/65536 s.
+        Step::About(0, Some((16, 0, 0, 8, 0xa8, 0x000a_8000, 0x147a))),
+        // The other endpoint's own: it sent no report.
+        Step::LastReport(1, None),
+        Step::About(1, Some((17, 0, 0, 40, 0, 0, 0))),
+        // The next interval: one of two packets was lost, and 60 ms are 5,400 units of 1/90000 s.
+        Step::Packet(1, 42, 5400),
+        Step::About(1, Some((17, 128, 1, 42, 0, 0, 0))),
+        Step::About(1, Some((17, 0, 1, 42, 0, 0, 0))),
+    ];
+    play(&rt, &mut small_room(rt.alloc())?, &steps)
 }
 
 #[test]
 fn reception_begins_anew(rt: HostRuntime) -> Result<(), Fail> {
-    let mut room = small_room(rt.alloc())?;
-    let mut orders = Vec::new(rt.alloc());
-    room.hear(0, 0, Ssrc(16), &mut orders)?;
-    room.received(0, 7, 3000);
-    room.sender_report(0, 1, 2);
-    // It says goodbye and comes again.
-    room.bye(10, 0, &mut orders)?;
-    assert_eq!(rt; room.last_sr(0), None);
-    assert!(rt; room.block(0).is_none());
-    room.received(0, 8, 3000);
-    room.sender_report(0, 3, 4);
-    room.hear(20, 0, Ssrc(16), &mut orders)?;
-    assert_eq!(rt; room.last_sr(0), None);
-    assert!(rt; room.block(0).is_none());
-    room.received(0, 500, 0);
-    room.sender_report(0, 5, 6);
-    // Heard in time it goes on.
-    room.hear(1019, 0, Ssrc(16), &mut orders)?;
-    assert_eq!(rt; room.last_sr(0), Some((5, 6)));
-    assert_eq!(rt; fields(&mut room, 0)?.3, 500);
-    // Heard too late it leaves and comes anew.
-    room.hear(2019, 0, Ssrc(16), &mut orders)?;
-    assert_eq!(rt; room.last_sr(0), None);
-    assert!(rt; room.block(0).is_none());
-    Ok(())
+    let steps = [
+        Step::At(0, Call::Hear(0, 16)),
+        Step::Packet(0, 7, 3000),
+        Step::Report(0, 1, 2),
+        // It says goodbye and comes again.
+        Step::At(10, Call::Bye(0)),
+        Step::LastReport(0, None),
+        Step::About(0, None),
+        Step::Packet(0, 8, 3000),
+        Step::Report(0, 3, 4),
+        Step::At(20, Call::Hear(0, 16)),
+        Step::LastReport(0, None),
+        Step::About(0, None),
+        Step::Packet(0, 500, 0),
+        Step::Report(0, 0x0005_0000, 6),
+        // Heard in time it goes on.
+        Step::At(1019, Call::Hear(0, 16)),
+        Step::LastReport(0, Some((0x0005_0000, 6))),
+        // 999 ms are 65,470.464 units of 1/65536 s.
+        Step::About(0, Some((16, 0, 0, 500, 0, 5, 65_470))),
+        // Heard too late it leaves and comes anew.
+        Step::At(2019, Call::Hear(0, 16)),
+        Step::LastReport(0, None),
+        Step::About(0, None),
+    ];
+    play(&rt, &mut small_room(rt.alloc())?, &steps)
 }
 
+/// Nothing is kept of one that never came, and of two numbers that no endpoint has.
 #[test]
 fn nothing_of_the_absent(rt: HostRuntime) -> Result<(), Fail> {
     let mut room = small_room(rt.alloc())?;
-    // One that never came, and two numbers that no endpoint has.
     for endpoint in [1, 2, 65535] {
-        room.received(endpoint, 7, 3000);
-        room.sender_report(endpoint, 1, 2);
-        assert_eq!(rt; room.last_sr(endpoint), None);
-        assert!(rt; room.block(endpoint).is_none());
+        let steps = [
+            Step::Packet(endpoint, 7, 3000),
+            Step::Report(endpoint, 1, 2),
+            Step::LastReport(endpoint, None),
+            Step::About(endpoint, None),
+        ];
+        play(&rt, &mut room, &steps)?;
     }
     Ok(())
 }

@@ -44,16 +44,34 @@ pub fn fault_of(alloc: Global, parts: &Parts) -> Option<SettingsFault> {
     }
 }
 
+/// Gives the key of the table this number, or none.
+pub fn put(parts: &mut Parts, key: Key, number: Option<i64>) {
+    match key {
+        Key::History => parts.history = number,
+        Key::PliGapMs => parts.pli_gap_ms = number,
+        Key::ReportMs => parts.report_ms = number,
+        Key::RequestMs => parts.request_ms = number,
+        Key::Ring => parts.ring = number,
+        Key::TimeoutMs => parts.timeout_ms = number,
+        Key::UnitSsrc => parts.unit_ssrc = number,
+        Key::Workers => parts.workers = number,
+        _ => {}
+    }
+}
+
 #[test]
 fn settings_of_the_examples(rt: HostRuntime) -> Result<(), Fail> {
     let settings = Settings::new(rt.alloc(), &found_parts(rt.alloc())?)?;
-    assert_eq!(rt; settings.workers(), 2);
-    assert_eq!(rt; settings.ring(), 8);
-    assert_eq!(rt; settings.history(), 128);
-    assert_eq!(rt; settings.timeout_ms(), 1000);
-    assert_eq!(rt; settings.report_ms(), 60000);
-    assert_eq!(rt; settings.request_ms(), 0);
-    assert_eq!(rt; settings.pli_gap_ms(), 500);
+    let numbers = [
+        settings.workers(),
+        settings.ring(),
+        settings.history(),
+        settings.timeout_ms(),
+        settings.report_ms(),
+        settings.request_ms(),
+        settings.pli_gap_ms(),
+    ];
+    assert_eq!(rt; numbers, [2, 8, 128, 1000, 60000, 0, 500]);
     assert_eq!(rt; settings.unit_ssrc(), Ssrc(9));
     assert_eq!(rt; settings.cname(), b"sfu".as_slice());
     assert_eq!(rt; settings.endpoints(), [Ssrc(16), Ssrc(17)].as_slice());
@@ -68,68 +86,65 @@ fn settings_of_the_examples(rt: HostRuntime) -> Result<(), Fail> {
     Ok(())
 }
 
+/// The keys of numbers in the order of their names, each with a number that is out of its range, and one within.
+const NUMBERS: [(Key, Option<i64>, i64); 8] = [
+    (Key::History, Some(127), 65_536),
+    (Key::PliGapMs, Some(-1), 0),
+    (Key::ReportMs, Some(0), 1),
+    (Key::RequestMs, Some(-1), 86_400_000),
+    (Key::Ring, Some(513), 512),
+    (Key::TimeoutMs, Some(86_400_001), 86_400_000),
+    (Key::UnitSsrc, Some(4_294_967_296), 4_294_967_295),
+    (Key::Workers, None, 8),
+];
+
+/// Everything is wrong; each key in turn is put right.
 #[test]
 fn top_keys_in_order_of_their_names(rt: HostRuntime) -> Result<(), Fail> {
     let alloc = rt.alloc();
     let mut p = found_parts(alloc)?;
-    // Everything is wrong; each key in turn is put right.
-    p.cname = Some(String::new(alloc));
     p.endpoints = Vec::new(alloc);
-    p.history = Some(127);
-    p.pli_gap_ms = Some(-1);
-    p.report_ms = Some(0);
-    p.request_ms = Some(-1);
-    p.ring = Some(513);
-    p.timeout_ms = Some(86_400_001);
-    p.unit_ssrc = Some(4_294_967_296);
-    p.workers = None;
-    assert_eq!(rt; fault_of(alloc, &p), Some(SettingsFault::Top(Key::Cname)));
-    p.cname = Some(String::from_str(alloc, "\u{e9}")?);
-    assert_eq!(rt; fault_of(alloc, &p), Some(SettingsFault::Top(Key::Cname)));
-    p.cname = Some(String::from_str(alloc, "\u{1}")?);
-    assert_eq!(rt;
-        fault_of(alloc, &p),
-        Some(SettingsFault::Top(Key::Endpoint))
-    );
+    for (key, wrong, _) in NUMBERS {
+        put(&mut p, key, wrong);
+    }
+    for (name, key) in [
+        ("", Key::Cname),
+        ("\u{e9}", Key::Cname),
+        ("\u{1}", Key::Endpoint),
+    ] {
+        p.cname = Some(String::from_str(alloc, name)?);
+        assert_eq!(rt; fault_of(alloc, &p), Some(SettingsFault::Top(key)));
+    }
     p.endpoints.push(Some(17))?;
-    assert_eq!(rt; fault_of(alloc, &p), Some(SettingsFault::Top(Key::History)));
-    p.history = Some(65536);
-    assert_eq!(rt;
-        fault_of(alloc, &p),
-        Some(SettingsFault::Top(Key::PliGapMs))
-    );
-    p.pli_gap_ms = Some(0);
-    assert_eq!(rt;
-        fault_of(alloc, &p),
-        Some(SettingsFault::Top(Key::ReportMs))
-    );
-    p.report_ms = Some(1);
-    assert_eq!(rt;
-        fault_of(alloc, &p),
-        Some(SettingsFault::Top(Key::RequestMs))
-    );
-    p.request_ms = Some(86_400_000);
-    assert_eq!(rt; fault_of(alloc, &p), Some(SettingsFault::Top(Key::Ring)));
-    p.ring = Some(512);
-    assert_eq!(rt;
-        fault_of(alloc, &p),
-        Some(SettingsFault::Top(Key::TimeoutMs))
-    );
-    p.timeout_ms = Some(86_400_000);
-    assert_eq!(rt;
-        fault_of(alloc, &p),
-        Some(SettingsFault::Top(Key::UnitSsrc))
-    );
-    p.unit_ssrc = Some(4_294_967_295);
-    assert_eq!(rt; fault_of(alloc, &p), Some(SettingsFault::Top(Key::Workers)));
-    p.workers = Some(8);
+    for (key, _, right) in NUMBERS {
+        assert_eq!(rt; fault_of(alloc, &p), Some(SettingsFault::Top(key)));
+        put(&mut p, key, Some(right));
+    }
     // One endpoint is left, so the leg's subscriber isn't there.
-    assert_eq!(rt;
-        fault_of(alloc, &p),
-        Some(SettingsFault::Leg(0, Key::Subscriber))
-    );
+    let fault = SettingsFault::Leg(0, Key::Subscriber);
+    assert_eq!(rt; fault_of(alloc, &p), Some(fault));
     Ok(())
 }
+
+/// A leg behind that of the examples, by its subscriber, publisher, source and first sequence number, and the fault
+/// that is found.
+const SECOND_LEGS: [(i64, i64, i64, Option<i64>, Option<SettingsFault>); 7] = [
+    // Of an endpoint that isn't there, then of one with itself, then a second one of a pair.
+    (2, 2, 9, None, Some(SettingsFault::Leg(1, Key::Publisher))),
+    (1, 1, 9, None, Some(SettingsFault::Leg(1, Key::Publisher))),
+    (1, 0, 9, None, Some(SettingsFault::Leg(1, Key::Publisher))),
+    (
+        0,
+        1,
+        -1,
+        Some(65536),
+        Some(SettingsFault::Leg(1, Key::FirstSeq)),
+    ),
+    (0, 1, -1, None, Some(SettingsFault::Leg(1, Key::OutSsrc))),
+    // The unit's own source again.
+    (0, 1, 9, None, Some(SettingsFault::SameSsrc)),
+    (0, 1, 258, None, None),
+];
 
 #[test]
 fn endpoints_then_legs_then_sources(rt: HostRuntime) -> Result<(), Fail> {
@@ -137,49 +152,16 @@ fn endpoints_then_legs_then_sources(rt: HostRuntime) -> Result<(), Fail> {
     let mut p = found_parts(alloc)?;
     p.endpoints.push(Some(-1))?;
     p.legs.push(leg(2, 2, 9))?;
-    assert_eq!(rt;
-        fault_of(alloc, &p),
-        Some(SettingsFault::Endpoint(2, Key::Ssrc))
-    );
+    let fault = SettingsFault::Endpoint(2, Key::Ssrc);
+    assert_eq!(rt; fault_of(alloc, &p), Some(fault));
     let _ = p.endpoints.pop();
-    // A leg of an endpoint that isn't there, then of one with itself, then a second leg of a pair.
-    assert_eq!(rt;
-        fault_of(alloc, &p),
-        Some(SettingsFault::Leg(1, Key::Publisher))
-    );
-    let _ = p.legs.pop();
-    p.legs.push(leg(1, 1, 9))?;
-    assert_eq!(rt;
-        fault_of(alloc, &p),
-        Some(SettingsFault::Leg(1, Key::Publisher))
-    );
-    let _ = p.legs.pop();
-    p.legs.push(leg(1, 0, 9))?;
-    assert_eq!(rt;
-        fault_of(alloc, &p),
-        Some(SettingsFault::Leg(1, Key::Publisher))
-    );
-    let _ = p.legs.pop();
-    let mut odd = leg(0, 1, -1);
-    odd.first_seq = Some(65536);
-    p.legs.push(odd)?;
-    assert_eq!(rt;
-        fault_of(alloc, &p),
-        Some(SettingsFault::Leg(1, Key::FirstSeq))
-    );
-    let _ = p.legs.pop();
-    p.legs.push(leg(0, 1, -1))?;
-    assert_eq!(rt;
-        fault_of(alloc, &p),
-        Some(SettingsFault::Leg(1, Key::OutSsrc))
-    );
-    let _ = p.legs.pop();
-    // The unit's own source again.
-    p.legs.push(leg(0, 1, 9))?;
-    assert_eq!(rt; fault_of(alloc, &p), Some(SettingsFault::SameSsrc));
-    let _ = p.legs.pop();
-    p.legs.push(leg(0, 1, 258))?;
-    assert_eq!(rt; fault_of(alloc, &p), None);
+    for (subscriber, publisher, out_ssrc, first_seq, fault) in SECOND_LEGS {
+        let _ = p.legs.pop();
+        let mut second = leg(subscriber, publisher, out_ssrc);
+        second.first_seq = first_seq;
+        p.legs.push(second)?;
+        assert_eq!(rt; fault_of(alloc, &p), fault, "{second:?}");
+    }
     Ok(())
 }
 
@@ -197,10 +179,15 @@ fn texts_and_numbers_of_faults(rt: HostRuntime) -> Result<(), Fail> {
         assert_eq!(rt; printed.as_str(), text);
         assert_eq!(rt; fault.number(), number);
     }
-    assert_eq!(rt; RoomFault::UnknownEndpoint.number(), 1);
-    assert_eq!(rt; RoomFault::WrongSsrc.number(), 2);
-    assert_eq!(rt; RoomFault::UnknownLeg.number(), 3);
-    assert_eq!(rt; RoomFault::StaysSpent.number(), 4);
-    assert_eq!(rt; RoomFault::NoMemory.number(), 5);
+    let faults = [
+        (RoomFault::UnknownEndpoint, 1),
+        (RoomFault::WrongSsrc, 2),
+        (RoomFault::UnknownLeg, 3),
+        (RoomFault::StaysSpent, 4),
+        (RoomFault::NoMemory, 5),
+    ];
+    for (fault, number) in faults {
+        assert_eq!(rt; fault.number(), number);
+    }
     Ok(())
 }
