@@ -3,14 +3,15 @@ use Rattle.std.proofs.Common.{◌≡◌, ℕ, List, Option, None, Some, Ok, Err,
 use Rattle.std.specs.Prelude.{IfSome}
 use Rattle.std.specs.Io.KnownBytes.{Keeps}
 use Rattle.commands.specs.CommandLine.{bound}
-use Rattle.commands.specs.Lines.{TextLeaves}
-use Rattle.commands.specs.declared.status.Failure.{Failure}
-use Rattle.commands.specs.declared.status.Failure.TheVariants.{NoMemory, Refused, Io}
-use Rattle.commands.specs.declared.status.Status.TheVariants as status
-use Rattle.commands.specs.Command.{FailsBound, PrintsBound, RefusesBound, ShowsLine, status_of}
-use Rattle.commands.specs.Replay.{PrintsByFile, PrintsReplay, RefusesByFile, RefusesReplay}
-use Rattle.commands.specs.SettingsFaults.{TextGives}
-use Rattle.commands.specs.declared.settings_file.FileSettings.{FileSettings}
+use Rattle.request_text.specs.Lines.{TextLeaves}
+use Rattle.endings.specs.declared.status.Failure.{Failure}
+use Rattle.endings.specs.declared.status.Failure.TheVariants.{NoMemory, Refused, Io}
+use Rattle.endings.specs.declared.status.Status.TheVariants as status
+use Rattle.commands.specs.Command.{FailsBound, PrintsBound, RefusesBound}
+use Rattle.endings.specs.Endings.{ShowsLine, status_of}
+use Rattle.scripts.specs.Replay.{PrintsByFile, PrintsReplay, RefusesByFile, RefusesReplay}
+use Rattle.settings_text.specs.SettingsFaults.{TextGives}
+use Rattle.settings_text.specs.declared.settings_file.FileSettings.{FileSettings}
 
 pub shown_refusal : (asked media : ℕ) (input old new errors_old errors_new : Option (List ℕ)) (failure : Failure) → asked ≡ media
     → status_of failure ≡ status.Refused → FailsBound asked input old new failure → ShowsLine failure errors_old errors_new

@@ -22,17 +22,10 @@ use Rattle.clap.proofs.WalkLemmas.{both, first_value-rows}
 use Rattle.clap.specs.declared.builder.ValueParser.{ValueParser}
 use Rattle.clap.specs.declared.builder.ValueParser.TheVariants as vp
 use Rattle.std.proofs.lemmas.Fmt.{decimal_is_IsNumeral}
+use Rattle.request_text.proofs.DigitLemmas.{digits_back, digits_from}
 use Rattle.commands.specs.CommandLine.{IsWritable, Types, words_of, Request, asked_for, request_found, asked_named, bound, check, replay, sfu, number_of, serve, number_in, option_words}
 
 -- ---- reading a number
-
-pub digits_back : (ds : List ℕ) → AllDigits 10 ds → list_all (λ d. nat_lt (digit_value d) 10) ds ≡ true
-digits_back [] h = refl
-digits_back (d ∷ ds) h = rw (lt-ltb (digit_value d) 10 h.0) (digits_back ds h.1)
-
-pub digits_from : (ds : List ℕ) → list_all (λ d. nat_lt (digit_value d) 10) ds ≡ true → AllDigits 10 ds
-digits_from [] e = tt
-digits_from (d ∷ ds) e = let parts = both _ _ e in (ltb-true _ _ parts.0, digits_from ds parts.1)
 
 abbrev fits_u32 : List ℕ → Bool
 fits_u32 ds = is_numeral ds && nat_lt (digits_value 10 ds) (2 ^ 32)

@@ -12,16 +12,16 @@ use Rattle.rate_cert.specs.declared.fault.CertFault.{CertFault}
 use Rattle.rate_cert.specs.Certificate.{MeetsConditions, places_of}
 use Rattle.rate_cert.specs.Choice.{IsSmallest}
 use Rattle.rate_cert.specs.Fault.{FailsFirst}
-use Rattle.commands.specs.declared.bound.Refusal.{Refusal}
-use Rattle.commands.specs.declared.bound.Refusal.TheVariants.{NoMemory, Line}
-use Rattle.commands.specs.declared.entry.Claim.{Claim}
-use Rattle.commands.specs.declared.entry.Entry.{Entry}
-use Rattle.commands.specs.declared.entry.Entry.TheVariants.{Live, Kept, Implied}
-use Rattle.commands.specs.declared.entry.Reading.TheVariants.{Entry as AnEntry}
-use Rattle.commands.specs.declared.entry.TheConstants.{MAX_LINES}
-use Rattle.commands.specs.CheckFile.{FileSpells, IsCheckAnswer, LineAdds, LinesSpell, claims_from, has_room, implied_by, implied_of, kept_from, kept_of, entry_request, requests_of, entries_after}
+use Rattle.request_text.specs.declared.bound.Refusal.{Refusal}
+use Rattle.request_text.specs.declared.bound.Refusal.TheVariants.{NoMemory, Line}
+use Rattle.request_text.specs.declared.entry.Claim.{Claim}
+use Rattle.request_text.specs.declared.entry.Entry.{Entry}
+use Rattle.request_text.specs.declared.entry.Entry.TheVariants.{Live, Kept, Implied}
+use Rattle.request_text.specs.declared.entry.Reading.TheVariants.{Entry as AnEntry}
+use Rattle.request_text.specs.declared.entry.TheConstants.{MAX_LINES}
+use Rattle.request_text.specs.CheckFile.{FileSpells, IsCheckAnswer, LineAdds, LinesSpell, claims_from, has_room, implied_by, implied_of, kept_from, kept_of, entry_request, requests_of, entries_after}
 use Rattle.commands.specs.Sheet.{IsSheetOf, RefusesAt, RefusesSheet}
-use Rattle.commands.proofs.LineLemmas.{at_line}
+use Rattle.request_text.proofs.LineLemmas.{at_line}
 
 asked_more : (xs : List Entry) (e : Entry) → requests_of (xs ++ e ∷ []) ≡ requests_of xs ++ entry_request e ∷ []
 asked_more [] e = refl

@@ -7,7 +7,7 @@ use Rattle.clap.specs.declared.builder.ArgAction.TheVariants.{Set}
 use Rattle.clap.specs.declared.builder.ValueParser.TheVariants.{Signed}
 use Rattle.clap.specs.declared.builder.command.Command.{Command}
 use Rattle.clap.specs.declared.builder.command.Command.TheViews.{out-Command}
-use Rattle.commands.specs.Words.{number_under}
+use Rattle.request_text.specs.Words.{number_under}
 use Rattle.commands.specs.declared.command_line.Action.{Action}
 use Rattle.commands.specs.declared.command_line.Action.TheVariants.{Bound, Check, Replay, Serve}
 

@@ -5,16 +5,16 @@ use Rattle.tmmbr_tuple.specs.declared.ssrc.Ssrc.{Ssrc}
 use Rattle.rate_cert.specs.declared.request.Request.{Request}
 use Rattle.rate_cert.specs.declared.certificate.Kept.{Kept}
 use Rattle.rate_cert.specs.declared.fault.CertFault.{CertFault}
-use Rattle.commands.specs.declared.bound.Refusal.{Refusal}
-use Rattle.commands.specs.declared.bound.Refusal.TheVariants.{NoMemory, Line}
-use Rattle.commands.specs.declared.status.Failure.{Failure}
-use Rattle.commands.specs.declared.status.Failure.TheVariants as failure
-use Rattle.commands.specs.declared.entry.Claim.{Claim}
-use Rattle.commands.specs.declared.entry.Entry.{Entry}
-use Rattle.commands.specs.declared.fault.LineFault.{LineFault}
-use Rattle.commands.specs.declared.fault.LineFault.TheVariants.{Text}
-use Rattle.commands.specs.BoundText.{answer_text, refused_text}
-use Rattle.commands.specs.CheckFile.{FileSpells, LineAdds, TextAnswers, claims_from, kept_from, requests_of}
+use Rattle.request_text.specs.declared.bound.Refusal.{Refusal}
+use Rattle.request_text.specs.declared.bound.Refusal.TheVariants.{NoMemory, Line}
+use Rattle.endings.specs.declared.status.Failure.{Failure}
+use Rattle.endings.specs.declared.status.Failure.TheVariants as failure
+use Rattle.request_text.specs.declared.entry.Claim.{Claim}
+use Rattle.request_text.specs.declared.entry.Entry.{Entry}
+use Rattle.request_text.specs.declared.fault.LineFault.{LineFault}
+use Rattle.request_text.specs.declared.fault.LineFault.TheVariants.{Text}
+use Rattle.request_text.specs.BoundText.{answer_text, refused_text}
+use Rattle.request_text.specs.CheckFile.{FileSpells, LineAdds, TextAnswers, claims_from, kept_from, requests_of}
 
 -- these lists are what the entries say
 pub record IsSheetOf (entries : List Entry) (requests : List Request) (kepts : List (Ssrc × Kept))

@@ -2,19 +2,18 @@
 
 ghost use Rattle.std.specs.Prelude.{◌≡◌, ◌≢◌, ◌≤◌, ◌<◌, ◌++◌, List, [], ◌∷◌, Ok, Err, IfErr, IfOk, OnOk, IfSome, MatchResult, codes, length, map, vec_len};
 ghost use Rattle.std.specs.Io.KnownBytes.{Appends};
-ghost use Rattle.commands.specs.BoundText.{answer_text};
-ghost use Rattle.commands.specs.CheckFile.{FileSpells, IsCheckAnswer, TextAnswers, implied_by, place_for, entries_after};
-ghost use Rattle.commands.specs.Command.{SaysNo, SaysWhy};
+ghost use Rattle.request_text.specs.BoundText.{answer_text};
+ghost use Rattle.request_text.specs.CheckFile.{FileSpells, IsCheckAnswer, TextAnswers, implied_by, place_for, entries_after};
+ghost use Rattle.commands.specs.Command.{SaysNo};
+ghost use Rattle.endings.specs.Endings.{SaysWhy};
 ghost use Rattle.commands.specs.Sheet.{AnswersFile, FailsFile, IsSheetOf, RefusesFile, RefusesSheet, Takes, TakesLine};
 
-use crate::bound::{Refusal, lines};
-use crate::entry::{Claim, Entry, MAX_LINES, Reading, read_line};
-use crate::fault::LineFault;
-use crate::saying::report;
-use crate::status::{Failure, Status, unreadable};
-use crate::text::answer_text;
 use arrayvec::ArrayVec;
+use endings::{Failure, Status, report, unreadable};
 use rate_cert::{Cert, CertFault, Implied, Kept, MAX_REQUESTS, Request, check};
+use request_text::{
+    Claim, Entry, LineFault, MAX_LINES, Reading, Refusal, answer_text, lines, read_line,
+};
 use std::alloc::{AllocError, Global};
 use std::io::{Read, Write};
 use tmmbr_tuple::{Pair, Ssrc};

@@ -1,6 +1,6 @@
 //! Two sockets that exchange packets through the unit, and ask for every tenth again.
 use commands::{Addresses, Directory, Gauges, read_settings, run_on};
-use members::Settings;
+use settings::Settings;
 use std::alloc::Global;
 use std::net::{SocketAddr, UdpSocket};
 use std::process::Abort;

@@ -1,7 +1,7 @@
 //! Scripts of `sfu replay`, through the public calls.
 use super::settings_tests::{ENDPOINTS, LEG, TOP};
 use commands::{FileSettings, Status, read_settings, replay_lines};
-use members::Settings;
+use settings::Settings;
 use std::alloc::{AllocError, Global};
 use std::test::Fail;
 

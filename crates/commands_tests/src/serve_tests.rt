@@ -4,7 +4,7 @@ use super::test_streams::Broken;
 use commands::{
     Addresses, Directory, Gauges, ServeFault, read_settings, run_on, serve_socket, serve_watched,
 };
-use members::Settings;
+use settings::Settings;
 use std::alloc::Global;
 use std::net::{Net, SocketAddr, UdpSocket};
 use std::process::Abort;

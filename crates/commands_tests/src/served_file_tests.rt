@@ -5,7 +5,7 @@ use super::test_commands::{Ran, run_words};
 use commands::{
     AddressFault, Directory, Refused, Status, problem_line, read_addresses, read_served,
 };
-use members::Settings;
+use settings::Settings;
 use std::alloc::Global;
 use std::net::{Net, SocketAddr, UdpSocket};
 use std::rt::Files;

@@ -1,27 +1,20 @@
 -- The reply of a desk, from what the code did.
 use Rattle.std.proofs.Common.{◌≡◌, ℕ, ◌<◌, ◌≤◌, List, ◌++◌, length, get_or, refl, sym, subst}
-use Rattle.std.specs.Prelude.{Option, None, Some, slice_get, slice_set, unwrap_or, if◌then◌else◌}
+use Rattle.std.specs.Prelude.{Option, None, Some, slice_get, slice_set, if◌then◌else◌}
 use Rattle.std.proofs.lemmas.List.{set-get_or}
-use Rattle.std.proofs.lemmas.Option.{get_or_from_slice_get, slice_get-get_or, slice_get_past, unwrap_or-slice_get}
-use Rattle.tmmbr_tuple.specs.declared.ssrc.Ssrc.{Ssrc}
+use Rattle.std.proofs.lemmas.Option.{get_or_from_slice_get, slice_get-get_or, slice_get_past}
 use Rattle.bounding_set.specs.State.{announced_of}
-use Rattle.rate_desk.specs.declared.call.Call.{Call as DeskCall}
-use Rattle.rate_desk.specs.declared.call.Answer.{Answer}
-use Rattle.rate_desk.specs.declared.effect.Effect.{Effect}
-use Rattle.rate_desk.specs.Effect.{IsEffect}
-use Rattle.rate_desk.specs.State.{DeskState, HoldsLegalDesk, Records, IsOverLimit}
-use Rattle.core_steps.specs.declared.notification.Notification.{Notification}
-use Rattle.core_steps.specs.declared.output.Out.{Out}
-use Rattle.core_steps.specs.Asking.{told_of, desk_after, desks_after, Replied, HasReply, IsNobody, Asked}
+use Rattle.desk.specs.declared.call.Call.{Call as DeskCall}
+use Rattle.desk.specs.declared.call.Answer.{Answer}
+use Rattle.desk.specs.declared.effect.Effect.{Effect}
+use Rattle.desk.specs.Effect.{IsEffect}
+use Rattle.desk.specs.State.{DeskState, HoldsLegalDesk, Records, IsOverLimit}
+use Rattle.notices.specs.declared.notification.Notification.{Notification}
+use Rattle.events.specs.declared.output.Out.{Out}
+use Rattle.core_steps.specs.Asking.{desk_after, desks_after, Replied, HasReply, IsNobody, Asked}
+use Rattle.notices.specs.Notification.{told_of, pending_with, tells, Pending}
 use Rattle.core_steps.specs.Happening.{RecordedCall}
-use Rattle.core_steps.specs.Links.{LinkTable}
-use Rattle.core_steps.specs.Machine.{pending_with}
-use Rattle.core_steps.specs.Notification.{tells}
 use Rattle.core_steps.specs.Rule.{Replies, refusals, unrecorded_out}
-use Rattle.core_steps.specs.World.{Pending}
-
-pub source_read : (t : LinkTable) (endpoint : ℕ) (d : Ssrc) → unwrap_or (slice_get t.endpoints endpoint) d ≡ get_or t.endpoints endpoint d
-source_read t endpoint d = unwrap_or-slice_get t.endpoints endpoint d
 
 -- the recorded call with these parts
 abbrev pub recorded_call : ℕ → DeskCall → ℕ → Answer → Effect → DeskState → RecordedCall

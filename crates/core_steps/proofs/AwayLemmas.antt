@@ -4,23 +4,23 @@ use Rattle.std.specs.Prelude.{All, map}
 use Rattle.std.specs.Option.{option_map_or}
 use Rattle.std.proofs.lemmas.Bool.Decides.{nat_tests}
 use Rattle.tmmbr_tuple.specs.declared.ssrc.Ssrc.{Ssrc}
-use Rattle.rate_desk.specs.declared.base.Base.{Base}
-use Rattle.rate_desk.specs.declared.base.TheConstants.{CALL_LIMIT}
-use Rattle.rate_desk.specs.declared.call.Answer.{Answer}
-use Rattle.rate_desk.specs.declared.call.Call.{Call as DeskCall}
-use Rattle.rate_desk.specs.declared.call.Call.TheVariants.{Stay, Time}
-use Rattle.rate_desk.specs.declared.call.Change.TheVariants as change
-use Rattle.rate_desk.specs.declared.call.Entry.{Entry}
-use Rattle.rate_desk.specs.declared.presence.Present.{Present}
-use Rattle.rate_desk.specs.Call.{HasStay, is_done, moment_after}
-use Rattle.rate_desk.specs.History.{IsLegalHistory}
-use Rattle.rate_desk.specs.Places.{IsArriveOf}
-use Rattle.rate_desk.specs.Presence.{stay_in, unless_present_with}
-use Rattle.rate_desk.specs.State.{DeskState, HoldsLegalDesk, IsOverLimit, call_count, now_of}
-use Rattle.rate_desk.specs.Trace.{IsBase, base_with, base_after, present_unless, present_with}
-use Rattle.rate_desk.proofs.PresenceLemmas.{length-without, presence_of-without, present-named}
-use Rattle.rate_desk.proofs.SinceLemmas.{known_in, first_step, stay_back}
-use Rattle.rate_desk.proofs.TraceLemmas.{IsBase-with, answer_follows, base_after-append, legal-first, legal-rest, legal-folded, present-answered}
+use Rattle.desk.specs.declared.base.Base.{Base}
+use Rattle.desk.specs.declared.base.TheConstants.{CALL_LIMIT}
+use Rattle.desk.specs.declared.call.Answer.{Answer}
+use Rattle.desk.specs.declared.call.Call.{Call as DeskCall}
+use Rattle.desk.specs.declared.call.Call.TheVariants.{Stay, Time}
+use Rattle.desk.specs.declared.call.Change.TheVariants as change
+use Rattle.desk.specs.declared.call.Entry.{Entry}
+use Rattle.desk.specs.declared.presence.Present.{Present}
+use Rattle.desk.specs.Call.{HasStay, is_done, moment_after}
+use Rattle.desk.specs.History.{IsLegalHistory}
+use Rattle.desk.specs.Places.{IsArriveOf}
+use Rattle.desk.specs.Presence.{stay_in, unless_present_with}
+use Rattle.desk.specs.State.{DeskState, HoldsLegalDesk, IsOverLimit, call_count, now_of}
+use Rattle.desk.specs.Trace.{IsBase, base_with, base_after, present_unless, present_with}
+use Rattle.desk.proofs.PresenceLemmas.{length-without, presence_of-without, present-named}
+use Rattle.desk.proofs.SinceLemmas.{known_in, first_step, stay_back}
+use Rattle.desk.proofs.TraceLemmas.{IsBase-with, answer_follows, base_after-append, legal-first, legal-rest, legal-folded, present-answered}
 use Rattle.core_steps.specs.Happening.{RecordedCall}
 use Rattle.core_steps.specs.Rule.{IsRecordedCall}
 use Rattle.core_steps.specs.Traces.{HasRecorded, HasLeft, recorded_entry}

@@ -7,25 +7,25 @@ use Rattle.std.specs.Option.{option_map_or}
 use Rattle.std.proofs.lemmas.Grind.{flat_map-append}
 use Rattle.members.specs.declared.order.Order.{Order}
 use Rattle.members.specs.declared.order.Order.TheVariants.{Arrive, Depart, Route}
-use Rattle.members.specs.declared.settings.LegSettings.{LegSettings}
+use Rattle.settings.specs.declared.settings.LegSettings.{LegSettings}
 use Rattle.members.specs.Room.{RoomState, reception_at}
 use Rattle.members.specs.Stream.{timestamps_of}
 use Rattle.members.specs.Calls.{Report as SenderReport, orders_after}
 use Rattle.tmmbr_tuple.specs.declared.tuple.Tuple.{Tuple}
 use Rattle.tmmbr_tuple.specs.Tuple.{word_of}
-use Rattle.rate_desk.specs.declared.call.Call.{Call as DeskCall}
-use Rattle.rate_desk.specs.declared.call.Call.TheVariants.{Time}
-use Rattle.rate_desk.specs.declared.call.Change.TheVariants as change
-use Rattle.rate_desk.specs.declared.call.Signal.TheVariants as signal
-use Rattle.rate_desk.specs.State.{DeskState}
-use Rattle.core_steps.specs.declared.intake.Ask.{Ask}
-use Rattle.core_steps.specs.declared.job.Job.{Job}
-use Rattle.core_steps.specs.declared.job.Job.TheVariants.{Packet, Request, Resend, Pli, Report}
-use Rattle.core_steps.specs.DeskCalls.{stay_call, picture_call}
+use Rattle.desk.specs.declared.call.Call.{Call as DeskCall}
+use Rattle.desk.specs.declared.call.Call.TheVariants.{Time}
+use Rattle.desk.specs.declared.call.Change.TheVariants as change
+use Rattle.desk.specs.declared.call.Signal.TheVariants as signal
+use Rattle.desk.specs.State.{DeskState}
+use Rattle.intake.specs.declared.intake.Ask.{Ask}
+use Rattle.events.specs.declared.job.Job.{Job}
+use Rattle.events.specs.declared.job.Job.TheVariants.{Packet, Request, Resend, Pli, Report}
+use Rattle.notices.specs.DeskCalls.{stay_call, picture_call}
 use Rattle.core_steps.specs.Happening.{Happening, RecordedCall, Worked}
 use Rattle.core_steps.specs.Hearing.{receptions, jobs_of, task_on, task_for, owner_of, job_by, leg_stay, media_of, serving, expires, reports, is_report_due, leg_report, present_endpoints}
-use Rattle.core_steps.specs.Intake.{Said, media, leaves, control}
-use Rattle.core_steps.specs.Links.{LinkTable, leg_to, worker_of}
+use Rattle.intake.specs.Intake.{Said, media, leaves, control}
+use Rattle.settings.specs.Links.{LinkTable, leg_to, worker_of}
 use Rattle.core_steps.specs.Rule.{Replies}
 use Rattle.core_steps.specs.World.{Setup, WorldState, Task, order, push, pulse, expire, report, Hand, free, doing, telling}
 

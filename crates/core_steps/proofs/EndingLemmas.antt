@@ -10,22 +10,22 @@ use Rattle.circular_buffer.proofs.Places.{slice_get-some, slice_get-set_same}
 use Rattle.tmmbr_tuple.specs.declared.ssrc.Ssrc.{Ssrc}
 use Rattle.members.specs.declared.order.Order.{Order}
 use Rattle.members.specs.declared.order.Order.TheVariants.{Arrive, Depart, Route}
-use Rattle.members.specs.declared.settings.LegSettings.{LegSettings}
+use Rattle.settings.specs.declared.settings.LegSettings.{LegSettings}
 use Rattle.members.specs.Calls.{Call as RoomCall, orders_after, arrival_of, arrivals}
 use Rattle.members.specs.Room.{RoomState, new_room}
-use Rattle.members.specs.Settings.{Configuration}
-use Rattle.rate_desk.specs.declared.call.Call.{Call as DeskCall}
-use Rattle.rate_desk.specs.declared.call.Call.TheVariants.{Stay, Time}
-use Rattle.rate_desk.specs.declared.call.Change.{Change}
-use Rattle.rate_desk.specs.declared.call.Change.TheVariants as change
-use Rattle.rate_desk.specs.declared.call.Signal.TheVariants as signal
-use Rattle.rate_desk.specs.State.{DeskState, HoldsLegalDesk}
-use Rattle.core_steps.specs.declared.event.Event.{Event}
-use Rattle.core_steps.specs.declared.job.Job.{Job}
-use Rattle.core_steps.specs.declared.job.Job.TheVariants.{Packet, Request, Resend, Pli, Report}
-use Rattle.core_steps.specs.DeskCalls.{source_of, stay_call, picture_call}
+use Rattle.settings.specs.Settings.{Configuration}
+use Rattle.desk.specs.declared.call.Call.{Call as DeskCall}
+use Rattle.desk.specs.declared.call.Call.TheVariants.{Stay, Time}
+use Rattle.desk.specs.declared.call.Change.{Change}
+use Rattle.desk.specs.declared.call.Change.TheVariants as change
+use Rattle.desk.specs.declared.call.Signal.TheVariants as signal
+use Rattle.desk.specs.State.{DeskState, HoldsLegalDesk}
+use Rattle.events.specs.declared.event.Event.{Event}
+use Rattle.events.specs.declared.job.Job.{Job}
+use Rattle.events.specs.declared.job.Job.TheVariants.{Packet, Request, Resend, Pli, Report}
+use Rattle.notices.specs.DeskCalls.{source_of, stay_call, picture_call}
 use Rattle.core_steps.specs.Happening.{Happening, RecordedCall, world_after, desks_by}
-use Rattle.core_steps.specs.Links.{LinkTable, table_of}
+use Rattle.settings.specs.Links.{LinkTable, table_of}
 use Rattle.core_steps.specs.Opening.{IsNewWorld, setup_by}
 use Rattle.core_steps.specs.Rule.{Does, Replies}
 use Rattle.core_steps.specs.Run.{Runs, worlds_after}

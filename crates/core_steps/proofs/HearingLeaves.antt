@@ -4,28 +4,28 @@ use Rattle.std.proofs.lemmas.List.{append-nil, map-append, append_assoc}
 use Rattle.std.specs.Prelude.{Option, None, Some, OnOk, if◌then◌else◌}
 use Rattle.std.specs.List.{last_or, enumerate_from, filter_map, flat_map}
 use Rattle.std.specs.Option.{option_map_or}
-use Rattle.members.specs.declared.fault.RoomFault.{RoomFault}
+use Rattle.settings.specs.declared.fault.RoomFault.{RoomFault}
 use Rattle.members.specs.declared.order.Order.{Order}
 use Rattle.members.specs.Room.{RoomState, Step, Answers, hear_step, tick_step, after_packet}
 use Rattle.members.specs.Calls.{Call as RoomCall, Hear, Receive, Report as SenderReport, room_after, room_of}
 use Rattle.tmmbr_tuple.specs.declared.ssrc.Ssrc.{Ssrc}
 use Rattle.core_steps.specs.declared.ticking.Due.TheVariants as due
-use Rattle.core_steps.specs.declared.intake.Ask.{Ask}
-use Rattle.core_steps.specs.declared.intake.Control.{Control as ControlParts}
-use Rattle.core_steps.specs.declared.intake.Heard.{Heard}
-use Rattle.core_steps.specs.declared.intake.Heard.TheVariants.{Media, Goodbye, Control}
-use Rattle.core_steps.specs.declared.intake.Unheard.{Unheard}
-use Rattle.core_steps.specs.declared.intake.Unheard.TheVariants.{Refused as RefusedBy}
-use Rattle.core_steps.specs.declared.output.Out.{Out}
-use Rattle.core_steps.specs.declared.output.Out.TheVariants.{Refused}
-use Rattle.core_steps.specs.declared.output.Refusal.{Refusal}
+use Rattle.intake.specs.declared.intake.Ask.{Ask}
+use Rattle.intake.specs.declared.intake.Control.{Control as ControlParts}
+use Rattle.intake.specs.declared.intake.Heard.{Heard}
+use Rattle.intake.specs.declared.intake.Heard.TheVariants.{Media, Goodbye, Control}
+use Rattle.intake.specs.declared.intake.Unheard.{Unheard}
+use Rattle.intake.specs.declared.intake.Unheard.TheVariants.{Refused as RefusedBy}
+use Rattle.events.specs.declared.output.Out.{Out}
+use Rattle.events.specs.declared.output.Out.TheVariants.{Refused}
+use Rattle.events.specs.declared.output.Refusal.{Refusal}
 use Rattle.core_steps.specs.declared.tasks.FollowUp.{FollowUp}
-use Rattle.core_steps.specs.DeskCalls.{source_of}
+use Rattle.notices.specs.DeskCalls.{source_of}
 use Rattle.core_steps.specs.FollowUps.{due_to, packet_to, report_to, follow_up_for, refusal_unless, room_with_report}
 use Rattle.core_steps.specs.Happening.{giving, capped_count}
-use Rattle.core_steps.specs.Heard.{HearsBy, heard_of, asks_of}
+use Rattle.intake.specs.Heard.{HearsBy, heard_of, asks_of}
 use Rattle.core_steps.specs.Hearing.{IsHearing, hearing, hearing_by, ticking, numbers_below, leg_report, reports, expires, present_endpoints, is_report_due, refusals_of, jobs_of, receptions}
-use Rattle.core_steps.specs.Intake.{Said, media, leaves, control, Says}
+use Rattle.intake.specs.Intake.{Said, media, leaves, control, Says}
 use Rattle.core_steps.specs.Machine.{task_of}
 use Rattle.core_steps.specs.Rule.{is_busy}
 use Rattle.core_steps.specs.Run.{Leaves}

@@ -6,28 +6,29 @@ use Rattle.std.proofs.lemmas.Grind.{replicate_next, flat_map-append}
 use Rattle.std.specs.Prelude.{not, ◌||◌, filter, replicate, Option, None, Some, option_map, is_some, if◌then◌else◌}
 use Rattle.std.specs.List.{enumerate_from, filter_map, flat_map, cons_option}
 use Rattle.std.specs.Option.{option_to_list}
-use Rattle.members.specs.declared.fault.RoomFault.{RoomFault}
+use Rattle.settings.specs.declared.fault.RoomFault.{RoomFault}
 use Rattle.members.specs.declared.order.Order.{Order}
-use Rattle.members.specs.declared.settings.LegSettings.{LegSettings}
+use Rattle.settings.specs.declared.settings.LegSettings.{LegSettings}
 use Rattle.members.specs.Presence.{is_present_at}
 use Rattle.members.specs.Room.{RoomState, Step, Answers, tick_step, reception_at}
 use Rattle.members.specs.Stream.{timestamps_of}
 use Rattle.members.specs.Calls.{Call as RoomCall, Tick, room_after}
 use Rattle.core_steps.specs.declared.ticking.Due.TheVariants as due
-use Rattle.core_steps.specs.declared.intake.Ask.{Ask}
-use Rattle.core_steps.specs.declared.intake.Ask.TheVariants.{Rate, Resend as Again, Picture}
-use Rattle.core_steps.specs.declared.job.Job.TheVariants as job
-use Rattle.core_steps.specs.declared.output.Out.{Out}
+use Rattle.intake.specs.declared.intake.Ask.{Ask}
+use Rattle.intake.specs.declared.intake.Ask.TheVariants.{Rate, Resend as Again, Picture}
+use Rattle.events.specs.declared.job.Job.TheVariants as job
+use Rattle.events.specs.declared.output.Out.{Out}
 use Rattle.core_steps.specs.declared.tasks.FollowUp.{FollowUp}
 use Rattle.core_steps.specs.declared.tasks.FollowUp.TheVariants.{Packet, LegReport}
 use Rattle.core_steps.specs.FollowUps.{due_at, due_to, packet_to, report_to, asked_of, follow_up_on, follow_up_for, refusal_unless}
 use Rattle.core_steps.specs.Happening.{Happening, giving, capped_count, world_after}
 use Rattle.core_steps.specs.Hearing.{ticking, numbers_below, leg_stay, owner_of, is_served_by, media_of, leg_report, task_for, task_on, refusal_for, job_by}
-use Rattle.core_steps.specs.Links.{LinkTable, leg_to, worker_of}
+use Rattle.settings.specs.Links.{LinkTable, leg_to, worker_of}
 use Rattle.core_steps.specs.Machine.{task_of}
 use Rattle.core_steps.specs.Rule.{is_busy, is_empty}
 use Rattle.core_steps.specs.Run.{Leaves}
-use Rattle.core_steps.specs.World.{WorldState, Pending, Task, order, push, pulse, expire, report}
+use Rattle.core_steps.specs.World.{WorldState, Task, order, push, pulse, expire, report}
+use Rattle.notices.specs.Notification.{Pending}
 
 -- ---- the room
 

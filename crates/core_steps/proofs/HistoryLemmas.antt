@@ -10,10 +10,10 @@ use Rattle.std.proofs.lemmas.Option.{get_or_from_slice_get, slice_get_cases}
 use Rattle.std.proofs.Math.ListN.{set}
 use Rattle.members.specs.Calls.{Call as RoomCall, room_after, room_of, step_of}
 use Rattle.members.specs.Room.{RoomState}
-use Rattle.rate_desk.specs.State.{DeskState, HoldsLegalDesk}
+use Rattle.desk.specs.State.{DeskState, HoldsLegalDesk}
 use Rattle.routes.specs.Rows.{row_changed}
-use Rattle.core_steps.specs.declared.event.Event.{Event}
-use Rattle.core_steps.specs.declared.job.Job.{Job}
+use Rattle.events.specs.declared.event.Event.{Event}
+use Rattle.events.specs.declared.job.Job.{Job}
 use Rattle.core_steps.specs.Happening.{Happening, RecordedCall, Worked, world_after, worker_after, workers_by, no_worker, desks_by}
 use Rattle.core_steps.specs.Rule.{Does}
 use Rattle.core_steps.specs.Run.{Runs, worlds_after}

@@ -14,19 +14,20 @@ use Rattle.members.specs.Reception.{Block}
 use Rattle.members.specs.Calls.{MakeBlock}
 use Rattle.members.specs.Room.{RoomState, reception_at, after_block}
 use Rattle.members.specs.Stream.{IsBlockAnswer}
-use Rattle.rate_desk.specs.declared.call.Call.{Call as DeskCall}
-use Rattle.rate_desk.specs.State.{DeskState}
+use Rattle.desk.specs.declared.call.Call.{Call as DeskCall}
+use Rattle.desk.specs.State.{DeskState}
 use Rattle.routes.specs.Rows.{changes_by, row_changed}
-use Rattle.core_steps.specs.declared.job.Job.{Job}
-use Rattle.core_steps.specs.declared.output.Out.{Out}
-use Rattle.core_steps.specs.declared.output.Out.TheVariants.{Send, Idle, Lost}
+use Rattle.events.specs.declared.job.Job.{Job}
+use Rattle.events.specs.declared.output.Out.{Out}
+use Rattle.events.specs.declared.output.Out.TheVariants.{Send, Idle, Lost}
 use Rattle.core_steps.specs.declared.ring.TheConstants.{JOB_LIMIT}
 use Rattle.core_steps.specs.declared.machine.Worker.{Worker}
 use Rattle.core_steps.specs.Machine.{worker_state}
 use Rattle.core_steps.specs.Asking.{desks_after, pending_after, refusals_after, Asked}
 use Rattle.core_steps.specs.Duties.{Reports}
-use Rattle.core_steps.specs.Head.{upstream_report}
-use Rattle.core_steps.specs.World.{WorldState, WorkerState, Task, order, push, report, Pending}
+use Rattle.notices.specs.Head.{upstream_report}
+use Rattle.core_steps.specs.World.{WorldState, WorkerState, Task, order, push, report}
+use Rattle.notices.specs.Notification.{Pending}
 use Rattle.core_steps.specs.Happening.{RecordedCall, no_worker, giving, capped_count, world_after, workers_by}
 use Rattle.core_steps.specs.Pushing.{Pushed}
 use Rattle.core_steps.specs.Rule.{Replies, IngressAsks, AsksDesk, OrderAsks, DoesTask, DoesNext, IsReporting, done_task, ingress_asked, pushing, putting, pending_datagrams}

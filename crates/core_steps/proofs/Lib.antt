@@ -1,12 +1,4 @@
-pub mod LegLemmas
-pub mod LinkLemmas
-pub mod PlanLemmas
-pub mod RtpLemmas
-pub mod IntakeLemmas
-pub mod OneSaidLemmas
 pub mod ReportLemmas
-pub mod ChangeLemmas
-pub mod NotificationLemmas
 pub mod CauseLemmas
 pub mod KindLemmas
 pub mod HistoryLemmas

@@ -10,23 +10,23 @@ use Rattle.std.proofs.lemmas.Option.{get_or_from_slice_get, slice_get_within, sl
 use Rattle.circular_buffer.proofs.Places.{slice_get-some}
 use Rattle.circular_buffer.specs.Buffer.{keep_last}
 use Rattle.members.specs.declared.order.Row.{Row}
-use Rattle.members.specs.declared.settings.LegSettings.{LegSettings}
-use Rattle.members.specs.Settings.{Configuration}
+use Rattle.settings.specs.declared.settings.LegSettings.{LegSettings}
+use Rattle.settings.specs.Settings.{Configuration}
 use Rattle.resend_ring.specs.Kept.{Kept, SentPacket as Sent, kept_in_turn, last_kept_with}
 use Rattle.resend_ring.proofs.KeptLemmas.{kept_from_none}
 use Rattle.rewrite.specs.declared.skip.Skip.{Skip as Cause}
 use Rattle.rewrite.specs.Leg.{Held, new_leg, held_with, held_after}
 use Rattle.rtcp_feedback.specs.Nack.{lost_numbers}
-use Rattle.core_steps.specs.declared.event.Event.{Event}
-use Rattle.core_steps.specs.declared.job.Job.{Job}
-use Rattle.core_steps.specs.declared.job.Job.TheVariants.{Packet, Request, Resend, Pli, Report}
-use Rattle.core_steps.specs.declared.leg.LegState.{LegState}
+use Rattle.events.specs.declared.event.Event.{Event}
+use Rattle.events.specs.declared.job.Job.{Job}
+use Rattle.events.specs.declared.job.Job.TheVariants.{Packet, Request, Resend, Pli, Report}
+use Rattle.legs.specs.declared.leg.LegState.{LegState}
 use Rattle.core_steps.specs.Happening.{Happening, Worked, no_worker, worker_after, workers_by, world_after}
-use Rattle.core_steps.specs.Legs.{new_state, owned_by, new_legs, takes, row_of, stands, answer_on, packet_after, resent, leg_after, legs_after}
-use Rattle.core_steps.specs.Links.{LinkTable, table_of, numbered_legs, worker_of}
+use Rattle.legs.specs.Legs.{new_state, owned_by, new_legs, takes, row_of, stands, answer_on, packet_after, resent, leg_after, legs_after}
+use Rattle.settings.specs.Links.{LinkTable, table_of, numbered_legs, worker_of}
 use Rattle.core_steps.specs.Numbered.{Finished, finished_by, jobs_of_worker, finished_at, finished_over, Taken, packets_taken_by, taken_on, incoming_packet, sent_as, sent_on, AtLeg, HasTaken, HasTakenAll, legs_at}
 use Rattle.core_steps.specs.Opening.{IsNewWorld}
-use Rattle.core_steps.specs.Rtp.{sequence_number}
+use Rattle.legs.specs.Rtp.{sequence_number}
 use Rattle.core_steps.specs.Run.{Runs, worlds_after}
 use Rattle.core_steps.specs.World.{WorldState, WorkerState}
 use Rattle.core_steps.proofs.KindLemmas.{IsAt, IsAtOne, kind_of}

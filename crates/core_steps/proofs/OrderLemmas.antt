@@ -3,7 +3,7 @@ use Rattle.std.proofs.Common.{◌≡◌, ◌≢◌, ◌<◌, ◌≤◌, ◌+◌,
 use Rattle.std.specs.Prelude.{map, max, not, ◌&&◌, ◌==◌, nat_le, nat_lt, if◌then◌else◌}
 use Rattle.std.specs.List.{flat_map, enumerate_from}
 use Rattle.std.proofs.lemmas.Grind.{flat_map-append}
-use Rattle.members.specs.declared.fault.RoomFault.{RoomFault}
+use Rattle.settings.specs.declared.fault.RoomFault.{RoomFault}
 use Rattle.members.specs.declared.order.Order.{Order}
 use Rattle.members.specs.declared.order.Order.TheVariants.{Arrive, Depart, Route}
 use Rattle.members.specs.declared.presence.Endpoint.{Endpoint}
@@ -12,7 +12,7 @@ use Rattle.members.specs.declared.stays.TheConstants.{MAX_STAY}
 use Rattle.members.specs.Calls.{Call, Hear, Bye, Tick, Select, Receive, Report, MakeBlock, step_of, room_of, orders_of, room_after, orders_after, arrivals, departure_of, departures, drawn_of, drawn_numbers, RunsFrom}
 use Rattle.members.specs.Presence.{is_overdue_at, is_present_at, source_at}
 use Rattle.members.specs.Room.{RoomState, Step, new_room, after_leaving, after_bye, leg_at, is_selected, takes_turn, row_order, switched_leg}
-use Rattle.members.specs.Settings.{Configuration}
+use Rattle.settings.specs.Settings.{Configuration}
 use Rattle.members.specs.Stays.{Told, without_orders, leave, after_overdue, leaving, is_of, ending, ending_of, endings, leg_without, begins_with, beginning, beginnings, coming_orders, coming_count}
 use Rattle.members.proofs.DrawnLemmas.{runs_law}
 use Rattle.members.proofs.EndedLemmas.{once_new, once_after, once_below}

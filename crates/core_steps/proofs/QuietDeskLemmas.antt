@@ -8,21 +8,21 @@ use Rattle.std.proofs.lemmas.List.Sums.{fold-append}
 use Rattle.std.proofs.Math.Seq.{take-append_seam, take-append-add}
 use Rattle.tmmbr_tuple.specs.declared.tuple.Tuple.{Tuple}
 use Rattle.tmmbr_tuple.specs.Tuple.{word_of}
-use Rattle.rate_desk.specs.declared.call.Call.{Call}
-use Rattle.rate_desk.specs.declared.call.Call.TheVariants.{Stay, Time}
-use Rattle.rate_desk.specs.declared.call.Answer.{Answer}
-use Rattle.rate_desk.specs.declared.call.Entry.{Entry}
-use Rattle.rate_desk.specs.declared.presence.Asked.{Asked}
-use Rattle.rate_desk.specs.declared.base.Base.{Base}
-use Rattle.rate_desk.specs.Answer.{IsAnswerTo, IsAnswerOr}
-use Rattle.rate_desk.specs.Call.{HasStay, moment_after, is_done}
-use Rattle.rate_desk.specs.Presence.{unless_old, is_old, refusal_of}
-use Rattle.rate_desk.specs.Trace.{empty_base, base_with, base_after}
-use Rattle.rate_desk.specs.Places.{HasEntryAt, WasDone, IsArriveOf, IsRequestOf, IsDepartOf, IsExpire, greatest_until}
-use Rattle.rate_desk.specs.State.{DeskState, HoldsLegalDesk, Records, now_of}
-use Rattle.rate_desk.proofs.PlaceLemmas.{not_in_nil, at_head, head_is, at_tail, from_tail, within}
-use Rattle.rate_desk.proofs.SinceLemmas.{Known, known_in, asked_as, Was, Step, arrives, asks, departs, expires, rests, step_at}
-use Rattle.rate_desk.proofs.TraceLemmas.{done_accepted, refusal-not_done, base_after-append, base_after-push}
+use Rattle.desk.specs.declared.call.Call.{Call}
+use Rattle.desk.specs.declared.call.Call.TheVariants.{Stay, Time}
+use Rattle.desk.specs.declared.call.Answer.{Answer}
+use Rattle.desk.specs.declared.call.Entry.{Entry}
+use Rattle.desk.specs.declared.presence.Asked.{Asked}
+use Rattle.desk.specs.declared.base.Base.{Base}
+use Rattle.desk.specs.Answer.{IsAnswerTo, IsAnswerOr}
+use Rattle.desk.specs.Call.{HasStay, moment_after, is_done}
+use Rattle.desk.specs.Presence.{unless_old, is_old, refusal_of}
+use Rattle.desk.specs.Trace.{empty_base, base_with, base_after}
+use Rattle.desk.specs.Places.{HasEntryAt, WasDone, IsArriveOf, IsRequestOf, IsDepartOf, IsExpire, greatest_until}
+use Rattle.desk.specs.State.{DeskState, HoldsLegalDesk, Records, now_of}
+use Rattle.desk.proofs.PlaceLemmas.{not_in_nil, at_head, head_is, at_tail, from_tail, within}
+use Rattle.desk.proofs.SinceLemmas.{Known, known_in, asked_as, Was, Step, arrives, asks, departs, expires, rests, step_at}
+use Rattle.desk.proofs.TraceLemmas.{done_accepted, refusal-not_done, base_after-append, base_after-push}
 use Rattle.core_steps.specs.Quiet.{ExpireTook}
 
 -- ---- a call behind others

@@ -9,31 +9,31 @@ use Rattle.tmmbr_tuple.specs.declared.ssrc.Ssrc.{Ssrc}
 use Rattle.tmmbr_tuple.specs.declared.tuple.Tuple.{Tuple}
 use Rattle.tmmbr_tuple.specs.Tuple.{word_of}
 use Rattle.members.specs.declared.presence.Endpoint.{Endpoint}
-use Rattle.members.specs.declared.settings.LegSettings.{LegSettings}
+use Rattle.settings.specs.declared.settings.LegSettings.{LegSettings}
 use Rattle.members.specs.declared.stays.LegStay.{LegStay}
 use Rattle.members.specs.Room.{leg_at}
-use Rattle.members.specs.Settings.{Configuration, IsInRange, IsLegAmong}
+use Rattle.settings.specs.Settings.{Configuration, IsInRange, IsLegAmong}
 use Rattle.members.proofs.EndedLemmas.{Once}
 use Rattle.members.proofs.StandLemmas.{Stand}
-use Rattle.rate_desk.specs.declared.call.Call.{Call as DeskCall}
-use Rattle.rate_desk.specs.declared.call.Call.TheVariants.{Stay}
-use Rattle.rate_desk.specs.declared.call.Change.{Change}
-use Rattle.rate_desk.specs.declared.call.Change.TheVariants as change
-use Rattle.rate_desk.specs.declared.call.Entry.{Entry}
-use Rattle.rate_desk.specs.declared.presence.Present.{Present}
-use Rattle.rate_desk.specs.declared.presence.TheConstants.{PRESENT_LIMIT}
-use Rattle.rate_desk.specs.declared.call.Answer.TheVariants.{NotPresent}
-use Rattle.rate_desk.specs.Call.{is_done}
-use Rattle.rate_desk.specs.Presence.{stay_in, asked_in, refusal_of, unless_absent_with_room, unless_present_with}
-use Rattle.rate_desk.specs.Places.{IsArriveOf, IsRequestOf, IsDepartOf, IsExpire}
-use Rattle.rate_desk.specs.State.{DeskState, now_of}
-use Rattle.rate_desk.specs.Trace.{base_after, empty_base}
-use Rattle.core_steps.specs.declared.job.Job.{Job}
-use Rattle.core_steps.specs.declared.job.Job.TheVariants.{Packet, Request, Resend, Pli, Report}
-use Rattle.core_steps.specs.DeskCalls.{source_of, stay_call}
+use Rattle.desk.specs.declared.call.Call.{Call as DeskCall}
+use Rattle.desk.specs.declared.call.Call.TheVariants.{Stay}
+use Rattle.desk.specs.declared.call.Change.{Change}
+use Rattle.desk.specs.declared.call.Change.TheVariants as change
+use Rattle.desk.specs.declared.call.Entry.{Entry}
+use Rattle.desk.specs.declared.presence.Present.{Present}
+use Rattle.desk.specs.declared.presence.TheConstants.{PRESENT_LIMIT}
+use Rattle.desk.specs.declared.call.Answer.TheVariants.{NotPresent}
+use Rattle.desk.specs.Call.{is_done}
+use Rattle.desk.specs.Presence.{stay_in, asked_in, refusal_of, unless_absent_with_room, unless_present_with}
+use Rattle.desk.specs.Places.{IsArriveOf, IsRequestOf, IsDepartOf, IsExpire}
+use Rattle.desk.specs.State.{DeskState, now_of}
+use Rattle.desk.specs.Trace.{base_after, empty_base}
+use Rattle.events.specs.declared.job.Job.{Job}
+use Rattle.events.specs.declared.job.Job.TheVariants.{Packet, Request, Resend, Pli, Report}
+use Rattle.notices.specs.DeskCalls.{source_of, stay_call}
 use Rattle.core_steps.specs.Happening.{RecordedCall, Worked, desks_by, workers_by, worker_after, no_worker}
 use Rattle.core_steps.specs.Hearing.{owner_of}
-use Rattle.core_steps.specs.Links.{table_of, worker_of}
+use Rattle.settings.specs.Links.{table_of, worker_of}
 use Rattle.core_steps.specs.Quiet.{HeardRate}
 use Rattle.core_steps.specs.Rule.{IsRecordedCall}
 use Rattle.core_steps.specs.World.{WorkerState, Task, order, push, pulse, expire, report, Hand, free, doing, telling}

@@ -16,26 +16,26 @@ use Rattle.std.proofs.lemmas.Option.{none-some, same_Some, slice_get_within, get
 use Rattle.tmmbr_tuple.specs.declared.ssrc.Ssrc.{Ssrc}
 use Rattle.tmmbr_tuple.specs.declared.tuple.Tuple.{Tuple}
 use Rattle.tmmbr_tuple.specs.Tuple.{word_of}
-use Rattle.members.specs.declared.settings.LegSettings.{LegSettings}
-use Rattle.members.specs.Settings.{Configuration, IsInRange, IsLegAmong}
-use Rattle.rate_desk.specs.declared.call.Call.{Call as DeskCall}
-use Rattle.rate_desk.specs.declared.call.Call.TheVariants.{Stay, Time}
-use Rattle.rate_desk.specs.declared.call.Answer.{Answer}
-use Rattle.rate_desk.specs.declared.call.Entry.{Entry}
-use Rattle.rate_desk.specs.declared.presence.Present.{Present}
-use Rattle.rate_desk.specs.declared.presence.TheConstants.{PRESENT_LIMIT}
-use Rattle.rate_desk.specs.declared.base.Base.{Base}
-use Rattle.rate_desk.specs.Call.{moment_after, is_done}
-use Rattle.rate_desk.specs.Presence.{HasRisingOwners, HasStays, presence_of, stay_in, asked_in, refusal_of}
-use Rattle.rate_desk.specs.Trace.{IsBase, empty_base, base_with, base_after}
-use Rattle.rate_desk.specs.Places.{IsArriveOf, IsRequestOf, IsDepartOf, IsExpire}
-use Rattle.rate_desk.specs.State.{DeskState, HoldsLegalDesk, Records, now_of}
-use Rattle.rate_desk.proofs.PresenceLemmas.{presence_of-place}
-use Rattle.rate_desk.proofs.SinceLemmas.{known_in, Was, Step, arrives, asks, departs, expires, rests, arrived, requested, stay_on}
-use Rattle.rate_desk.proofs.TraceLemmas.{IsBase-with, answer_follows, base_after-push}
-use Rattle.core_steps.specs.DeskCalls.{source_of}
+use Rattle.settings.specs.declared.settings.LegSettings.{LegSettings}
+use Rattle.settings.specs.Settings.{Configuration, IsInRange, IsLegAmong}
+use Rattle.desk.specs.declared.call.Call.{Call as DeskCall}
+use Rattle.desk.specs.declared.call.Call.TheVariants.{Stay, Time}
+use Rattle.desk.specs.declared.call.Answer.{Answer}
+use Rattle.desk.specs.declared.call.Entry.{Entry}
+use Rattle.desk.specs.declared.presence.Present.{Present}
+use Rattle.desk.specs.declared.presence.TheConstants.{PRESENT_LIMIT}
+use Rattle.desk.specs.declared.base.Base.{Base}
+use Rattle.desk.specs.Call.{moment_after, is_done}
+use Rattle.desk.specs.Presence.{HasRisingOwners, HasStays, presence_of, stay_in, asked_in, refusal_of}
+use Rattle.desk.specs.Trace.{IsBase, empty_base, base_with, base_after}
+use Rattle.desk.specs.Places.{IsArriveOf, IsRequestOf, IsDepartOf, IsExpire}
+use Rattle.desk.specs.State.{DeskState, HoldsLegalDesk, Records, now_of}
+use Rattle.desk.proofs.PresenceLemmas.{presence_of-place}
+use Rattle.desk.proofs.SinceLemmas.{known_in, Was, Step, arrives, asks, departs, expires, rests, arrived, requested, stay_on}
+use Rattle.desk.proofs.TraceLemmas.{IsBase-with, answer_follows, base_after-push}
+use Rattle.notices.specs.DeskCalls.{source_of}
 use Rattle.core_steps.specs.Happening.{RecordedCall}
-use Rattle.core_steps.specs.Links.{table_of}
+use Rattle.settings.specs.Links.{table_of}
 use Rattle.core_steps.specs.Rule.{IsRecordedCall}
 use Rattle.core_steps.specs.Quiet.{entry_at, entries_at}
 use Rattle.core_steps.proofs.QuietDeskLemmas.{entry_of, now_with, answered, has_stay, owner_step, done_where, refused_where, Holding, silent, holding_asked, IsOther, other_stays, other_holds}

@@ -9,29 +9,29 @@ use Rattle.std.proofs.lemmas.Option.{none-some, same_Some, slice_get_within, get
 use Rattle.tmmbr_tuple.specs.declared.tuple.Tuple.{Tuple}
 use Rattle.tmmbr_tuple.specs.Tuple.{word_of}
 use Rattle.bounding_set.specs.Rows.{tuple_of}
-use Rattle.members.specs.declared.settings.LegSettings.{LegSettings}
+use Rattle.settings.specs.declared.settings.LegSettings.{LegSettings}
 use Rattle.members.specs.Room.{RoomState, leg_at, idle_leg, new_room}
-use Rattle.members.specs.Settings.{Configuration, IsInRange}
+use Rattle.settings.specs.Settings.{Configuration, IsInRange}
 use Rattle.members.proofs.EndedLemmas.{once_new}
 use Rattle.members.proofs.StandLemmas.{stands_new}
 use Rattle.rate_cert.specs.declared.request.Request.{Request}
-use Rattle.rate_desk.specs.declared.call.Entry.{Entry}
-use Rattle.rate_desk.specs.declared.presence.Asked.{Asked}
-use Rattle.rate_desk.specs.declared.presence.Present.{Present}
-use Rattle.rate_desk.specs.declared.base.Base.{Base}
-use Rattle.rate_desk.specs.Presence.{presence_of, asked_in, stay_in}
-use Rattle.rate_desk.specs.State.{DeskState, now_of}
-use Rattle.rate_desk.specs.Trace.{IsBase, base_after, empty_base}
-use Rattle.rate_desk.proofs.LiveLemmas.{asked_by, tuple_in, tuple_of-live}
-use Rattle.rate_desk.proofs.PresenceLemmas.{absent_without_stay}
-use Rattle.core_steps.specs.declared.event.Event.{Event}
-use Rattle.core_steps.specs.declared.event.Event.TheVariants.{Hear, Tick, Select, Ingress, Work}
-use Rattle.core_steps.specs.declared.job.Job.{Job}
-use Rattle.core_steps.specs.declared.output.Out.{Out}
-use Rattle.core_steps.specs.declared.output.Out.TheVariants.{Busy}
+use Rattle.desk.specs.declared.call.Entry.{Entry}
+use Rattle.desk.specs.declared.presence.Asked.{Asked}
+use Rattle.desk.specs.declared.presence.Present.{Present}
+use Rattle.desk.specs.declared.base.Base.{Base}
+use Rattle.desk.specs.Presence.{presence_of, asked_in, stay_in}
+use Rattle.desk.specs.State.{DeskState, now_of}
+use Rattle.desk.specs.Trace.{IsBase, base_after, empty_base}
+use Rattle.desk.proofs.LiveLemmas.{asked_by, tuple_in, tuple_of-live}
+use Rattle.desk.proofs.PresenceLemmas.{absent_without_stay}
+use Rattle.events.specs.declared.event.Event.{Event}
+use Rattle.events.specs.declared.event.Event.TheVariants.{Hear, Tick, Select, Ingress, Work}
+use Rattle.events.specs.declared.job.Job.{Job}
+use Rattle.events.specs.declared.output.Out.{Out}
+use Rattle.events.specs.declared.output.Out.TheVariants.{Busy}
 use Rattle.core_steps.specs.Happening.{Happening, GivenUp, RecordedCall, giving, world_after}
 use Rattle.core_steps.specs.Hearing.{IsHearing}
-use Rattle.core_steps.specs.Links.{table_of, worker_of}
+use Rattle.settings.specs.Links.{table_of, worker_of}
 use Rattle.core_steps.specs.Opening.{setup_by, IsNewDesk, IsNewWorker, IsNewWorld}
 use Rattle.core_steps.specs.Quiet.{HeardRate, HeardIn, HearsRates, IsHeardOf, rates_said, IsQuiet, LastHeardIsLive, ObeysQuietLaw, IsLastHeard, IsLiveOrTaken, ExpireTook, last_heard_word, entries_at, calls_of}
 use Rattle.core_steps.specs.Rule.{Does, is_busy}

@@ -6,37 +6,38 @@ use Rattle.std.proofs.lemmas.Bool.{eqb-true}
 use Rattle.std.proofs.lemmas.Option.{none-some}
 use Rattle.tmmbr_tuple.specs.declared.tuple.Tuple.{Tuple}
 use Rattle.tmmbr_tuple.specs.Tuple.{word_of}
-use Rattle.members.specs.declared.fault.RoomFault.{RoomFault}
+use Rattle.settings.specs.declared.fault.RoomFault.{RoomFault}
 use Rattle.members.specs.declared.order.Order.TheVariants.{Arrive, Depart, Route}
-use Rattle.members.specs.declared.settings.LegSettings.{LegSettings}
+use Rattle.settings.specs.declared.settings.LegSettings.{LegSettings}
 use Rattle.members.specs.Calls.{Tick as RoomTick, Select as RoomSelect, step_of, room_of, room_after}
 use Rattle.members.specs.Room.{RoomState, Step, tick_step, select_step}
-use Rattle.members.specs.Settings.{Configuration, IsInRange}
-use Rattle.rate_desk.specs.declared.call.Call.{Call as DeskCall}
-use Rattle.rate_desk.specs.declared.call.Call.TheVariants.{Time}
-use Rattle.rate_desk.specs.declared.call.Change.{Change}
-use Rattle.rate_desk.specs.declared.call.Change.TheVariants as change
-use Rattle.rate_desk.specs.declared.call.Signal.TheVariants as signal
-use Rattle.rate_desk.specs.State.{DeskState}
-use Rattle.core_steps.specs.declared.event.Event.{Event}
-use Rattle.core_steps.specs.declared.event.Event.TheVariants.{Hear, Tick, Select, Ingress, Work}
-use Rattle.core_steps.specs.declared.job.Job.{Job}
-use Rattle.core_steps.specs.declared.job.Job.TheVariants.{Packet, Request, Resend, Pli, Report}
-use Rattle.core_steps.specs.declared.output.Out.TheVariants.{Busy}
-use Rattle.core_steps.specs.declared.output.Refusal.{Refusal}
+use Rattle.settings.specs.Settings.{Configuration, IsInRange}
+use Rattle.desk.specs.declared.call.Call.{Call as DeskCall}
+use Rattle.desk.specs.declared.call.Call.TheVariants.{Time}
+use Rattle.desk.specs.declared.call.Change.{Change}
+use Rattle.desk.specs.declared.call.Change.TheVariants as change
+use Rattle.desk.specs.declared.call.Signal.TheVariants as signal
+use Rattle.desk.specs.State.{DeskState}
+use Rattle.events.specs.declared.event.Event.{Event}
+use Rattle.events.specs.declared.event.Event.TheVariants.{Hear, Tick, Select, Ingress, Work}
+use Rattle.events.specs.declared.job.Job.{Job}
+use Rattle.events.specs.declared.job.Job.TheVariants.{Packet, Request, Resend, Pli, Report}
+use Rattle.events.specs.declared.output.Out.TheVariants.{Busy}
+use Rattle.events.specs.declared.output.Refusal.{Refusal}
 use Rattle.core_steps.specs.declared.ring.TheConstants.{JOB_LIMIT}
-use Rattle.core_steps.specs.DeskCalls.{stay_call}
+use Rattle.notices.specs.DeskCalls.{stay_call}
 use Rattle.core_steps.specs.Happening.{Happening, RecordedCall, Worked, giving, world_after, worker_after, workers_by, desks_by}
-use Rattle.core_steps.specs.Heard.{asks_of}
+use Rattle.intake.specs.Heard.{asks_of}
 use Rattle.core_steps.specs.Hearing.{IsHearing, hearing, hearing_by, room_call, receptions, jobs_of, ticking, selecting_by, present_endpoints, expires, reports}
-use Rattle.core_steps.specs.Intake.{Said}
-use Rattle.core_steps.specs.Legs.{legs_after}
-use Rattle.core_steps.specs.Links.{LinkTable, table_of}
+use Rattle.intake.specs.Intake.{Said}
+use Rattle.legs.specs.Legs.{legs_after}
+use Rattle.settings.specs.Links.{LinkTable, table_of}
 use Rattle.core_steps.specs.Opening.{setup_by}
 use Rattle.core_steps.specs.Quiet.{HeardRate, HearsRates, IsHeardOf, rates_said, rates_in, rate_of}
 use Rattle.core_steps.specs.Rule.{Does, DoesNext, DoesTask, DoesJob, Works, WorksOn, is_busy, is_empty, Replies, IngressAsks, OrderAsks, JobAsks, WorkerAsks, ingress_asked, worker_asked, pushing, putting, done_task, taking, working, with_hand, hand_of, pending_of, forwarding}
-use Rattle.core_steps.specs.World.{Setup, WorldState, WorkerState, Task, order, push, pulse, expire, report, Pending, Hand, free, doing, telling}
-use Rattle.core_steps.proofs.OneSaidLemmas.{says_one}
+use Rattle.core_steps.specs.World.{Setup, WorldState, WorkerState, Task, order, push, pulse, expire, report, Hand, free, doing, telling}
+use Rattle.notices.specs.Notification.{Pending}
+use Rattle.intake.proofs.OneSaidLemmas.{says_one}
 use Rattle.core_steps.proofs.QuietDeskLemmas.{NotBy}
 use Rattle.core_steps.proofs.QuietLegLemmas.{asker, IsByLeg}
 use Rattle.core_steps.proofs.QuietQueueLemmas.{hand_asks, jobs_asks, job_asks, task_asks, Tracks, IsWaiting, waiting_taken}

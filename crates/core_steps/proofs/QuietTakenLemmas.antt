@@ -3,28 +3,28 @@ use Rattle.std.proofs.Common.{◌≡◌, ℕ, ◌<◌, List, [], ◌∷◌, ◌+
 use Rattle.std.specs.Prelude.{◌==◌, flat_map, filter_map}
 use Rattle.std.specs.List.{AllByRecursion, enumerate_from, last_or, cons_option}
 use Rattle.std.specs.Option.{option_map_or}
-use Rattle.members.specs.declared.fault.RoomFault.{RoomFault}
+use Rattle.settings.specs.declared.fault.RoomFault.{RoomFault}
 use Rattle.members.specs.declared.order.Order.{Order}
 use Rattle.members.specs.declared.presence.Endpoint.{Endpoint}
-use Rattle.members.specs.declared.settings.LegSettings.{LegSettings}
+use Rattle.settings.specs.declared.settings.LegSettings.{LegSettings}
 use Rattle.members.specs.declared.stays.LegStay.{LegStay}
 use Rattle.members.specs.Calls.{Call as RoomCall, Report as SenderReport, step_of, room_after, departures}
 use Rattle.members.specs.Room.{RoomState, Step, reception_at}
 use Rattle.members.specs.Stream.{timestamps_of}
-use Rattle.members.specs.Settings.{Configuration}
+use Rattle.settings.specs.Settings.{Configuration}
 use Rattle.members.proofs.EndedLemmas.{Once, IfOnce, once_call, once_past, once_below}
 use Rattle.members.proofs.StandLemmas.{StandsIn, IfStands, stands}
-use Rattle.core_steps.specs.declared.intake.Ask.{Ask}
-use Rattle.core_steps.specs.declared.intake.Ask.TheVariants.{Rate, Resend as Again, Picture}
-use Rattle.core_steps.specs.declared.job.Job.TheVariants.{Packet, Report as LegReport}
+use Rattle.intake.specs.declared.intake.Ask.{Ask}
+use Rattle.intake.specs.declared.intake.Ask.TheVariants.{Rate, Resend as Again, Picture}
+use Rattle.events.specs.declared.job.Job.TheVariants.{Packet, Report as LegReport}
 use Rattle.core_steps.specs.Happening.{RecordedCall}
-use Rattle.core_steps.specs.Heard.{asks_of}
+use Rattle.intake.specs.Heard.{asks_of}
 use Rattle.core_steps.specs.Hearing.{leg_stay, owner_of, receptions, serving, jobs_of, task_on, task_for, job_by, present_endpoints, expires, reports, is_report_due, leg_report}
-use Rattle.core_steps.specs.Intake.{Said, media, leaves, control}
-use Rattle.core_steps.specs.Links.{LinkTable, leg_to, table_of, worker_of}
+use Rattle.intake.specs.Intake.{Said, media, leaves, control}
+use Rattle.settings.specs.Links.{LinkTable, leg_to, table_of, worker_of}
 use Rattle.core_steps.specs.Quiet.{HeardRate, rate_of, rate_on}
 use Rattle.core_steps.specs.World.{WorldState, WorkerState, Task, order, push, pulse, expire, report}
-use Rattle.rate_desk.specs.State.{DeskState}
+use Rattle.desk.specs.State.{DeskState}
 use Rattle.core_steps.proofs.QuietRoomLemmas.{Passes, IfPasses, passes}
 use Rattle.core_steps.proofs.QuietQueueLemmas.{tasks_asks, rates_asks, tasks_asks-append, asks_if, hand_asks, jobs_asks, AllBelow, NoOrders, no_orders-append, orders_first, waiting_more}
 use Rattle.core_steps.proofs.QuietKeptLemmas.{IsPlacedTask, stay_at, IsKeptLeg, IsKept}

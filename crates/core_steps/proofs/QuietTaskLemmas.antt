@@ -8,21 +8,21 @@ use Rattle.std.proofs.lemmas.Bool.Decides.{nat_tests}
 use Rattle.std.proofs.lemmas.Option.{none-some, same_Some}
 use Rattle.members.specs.declared.order.Order.TheVariants.{Arrive, Depart}
 use Rattle.members.specs.declared.presence.Endpoint.{Endpoint}
-use Rattle.members.specs.declared.settings.LegSettings.{LegSettings}
+use Rattle.settings.specs.declared.settings.LegSettings.{LegSettings}
 use Rattle.members.specs.declared.stays.LegStay.{LegStay}
-use Rattle.members.specs.Settings.{Configuration, IsInRange}
-use Rattle.rate_desk.specs.declared.call.Call.{Call as DeskCall}
-use Rattle.rate_desk.specs.declared.call.Call.TheVariants.{Stay}
-use Rattle.rate_desk.specs.declared.call.Change.{Change}
-use Rattle.rate_desk.specs.declared.call.Change.TheVariants as change
-use Rattle.rate_desk.specs.Call.{is_done}
-use Rattle.rate_desk.specs.State.{DeskState}
-use Rattle.core_steps.specs.declared.job.Job.{Job}
-use Rattle.core_steps.specs.declared.job.Job.TheVariants.{Packet, Request, Resend, Pli, Report}
-use Rattle.core_steps.specs.DeskCalls.{source_of}
+use Rattle.settings.specs.Settings.{Configuration, IsInRange}
+use Rattle.desk.specs.declared.call.Call.{Call as DeskCall}
+use Rattle.desk.specs.declared.call.Call.TheVariants.{Stay}
+use Rattle.desk.specs.declared.call.Change.{Change}
+use Rattle.desk.specs.declared.call.Change.TheVariants as change
+use Rattle.desk.specs.Call.{is_done}
+use Rattle.desk.specs.State.{DeskState}
+use Rattle.events.specs.declared.job.Job.{Job}
+use Rattle.events.specs.declared.job.Job.TheVariants.{Packet, Request, Resend, Pli, Report}
+use Rattle.notices.specs.DeskCalls.{source_of}
 use Rattle.core_steps.specs.Happening.{RecordedCall, desks_by, workers_by}
 use Rattle.core_steps.specs.Hearing.{owner_of}
-use Rattle.core_steps.specs.Links.{table_of, worker_of}
+use Rattle.settings.specs.Links.{table_of, worker_of}
 use Rattle.core_steps.specs.Quiet.{HeardRate}
 use Rattle.core_steps.specs.Rule.{IsRecordedCall, putting}
 use Rattle.core_steps.specs.World.{WorkerState, Task, order, push, pulse, expire, report}

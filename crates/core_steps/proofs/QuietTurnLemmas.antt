@@ -8,21 +8,21 @@ use Rattle.std.proofs.lemmas.Option.{none-some}
 use Rattle.tmmbr_tuple.specs.declared.tuple.Tuple.{Tuple}
 use Rattle.tmmbr_tuple.specs.Tuple.{word_of}
 use Rattle.members.specs.declared.presence.Endpoint.{Endpoint}
-use Rattle.members.specs.declared.settings.LegSettings.{LegSettings}
+use Rattle.settings.specs.declared.settings.LegSettings.{LegSettings}
 use Rattle.members.specs.declared.stays.LegStay.{LegStay}
-use Rattle.members.specs.Settings.{Configuration, IsInRange}
-use Rattle.rate_desk.specs.declared.call.Call.{Call as DeskCall}
-use Rattle.rate_desk.specs.declared.call.Call.TheVariants.{Stay}
-use Rattle.rate_desk.specs.declared.call.Change.TheVariants as change
-use Rattle.rate_desk.specs.Call.{is_done}
-use Rattle.rate_desk.specs.Presence.{asked_in}
-use Rattle.rate_desk.specs.State.{DeskState, now_of}
-use Rattle.core_steps.specs.declared.job.Job.{Job}
-use Rattle.core_steps.specs.declared.job.Job.TheVariants.{Request}
-use Rattle.core_steps.specs.DeskCalls.{source_of}
+use Rattle.settings.specs.Settings.{Configuration, IsInRange}
+use Rattle.desk.specs.declared.call.Call.{Call as DeskCall}
+use Rattle.desk.specs.declared.call.Call.TheVariants.{Stay}
+use Rattle.desk.specs.declared.call.Change.TheVariants as change
+use Rattle.desk.specs.Call.{is_done}
+use Rattle.desk.specs.Presence.{asked_in}
+use Rattle.desk.specs.State.{DeskState, now_of}
+use Rattle.events.specs.declared.job.Job.{Job}
+use Rattle.events.specs.declared.job.Job.TheVariants.{Request}
+use Rattle.notices.specs.DeskCalls.{source_of}
 use Rattle.core_steps.specs.Happening.{RecordedCall, Worked, desks_by, workers_by, worker_after}
 use Rattle.core_steps.specs.Hearing.{owner_of}
-use Rattle.core_steps.specs.Links.{table_of, worker_of}
+use Rattle.settings.specs.Links.{table_of, worker_of}
 use Rattle.core_steps.specs.Quiet.{HeardRate, entries_at}
 use Rattle.core_steps.specs.Rule.{IsRecordedCall}
 use Rattle.core_steps.specs.World.{WorkerState, Task, Hand, doing}

@@ -4,9 +4,9 @@ use Rattle.std.proofs.lemmas.List.{append-nil, flat_map_more, take_more}
 use Rattle.std.proofs.lemmas.List.Sums.{fold-append}
 use Rattle.std.specs.Prelude.{min, drop, take, get_or, MatchBool, Result, Ok, Err, OnOk, is_err}
 use Rattle.std.specs.declared.alloc.AllocError.{AllocError}
-use Rattle.core_steps.specs.declared.event.Event.{Event}
-use Rattle.core_steps.specs.declared.output.Out.{Out}
-use Rattle.core_steps.specs.declared.output.Out.TheVariants.{Busy}
+use Rattle.events.specs.declared.event.Event.{Event}
+use Rattle.events.specs.declared.output.Out.{Out}
+use Rattle.events.specs.declared.output.Out.TheVariants.{Busy}
 use Rattle.core_steps.specs.World.{WorldState, Task}
 use Rattle.core_steps.specs.Happening.{Happening, giving, capped_count, world_after}
 use Rattle.core_steps.specs.Rule.{Does, UnlessBusy, is_busy}

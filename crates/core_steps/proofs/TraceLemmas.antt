@@ -7,18 +7,18 @@ use Rattle.std.proofs.lemmas.List.{length-append, map-append}
 use Rattle.std.proofs.lemmas.Option.{get_or_from_slice_get, slice_get_within, same_Some}
 use Rattle.std.proofs.Math.Dec.{lit≤}
 use Rattle.circular_buffer.proofs.Places.{slice_get-some, slice_get-set_same, slice_get-set_other}
-use Rattle.members.specs.Settings.{Configuration}
-use Rattle.rate_desk.specs.declared.call.Call.{Call as DeskCall}
-use Rattle.rate_desk.specs.declared.call.Entry.{Entry}
-use Rattle.rate_desk.specs.declared.base.Base.{Base}
-use Rattle.rate_desk.specs.declared.desk.TheConstants.{HISTORY_LIMIT}
-use Rattle.rate_desk.specs.Presence.{live_requests}
-use Rattle.rate_desk.specs.Trace.{empty_base, base_with, base_after, live_after}
-use Rattle.rate_desk.specs.Answer.{IsAnswerTo}
-use Rattle.rate_desk.specs.History.{IsLegalHistory, StandsForEntries}
-use Rattle.rate_desk.specs.State.{DeskState, HoldsLegalDesk, call_count, now_of}
-use Rattle.rate_desk.proofs.TraceLemmas.{base_after-append, calls-after, legal-first, legal-rest, legal-folded, legal-push}
-use Rattle.core_steps.specs.declared.event.Event.{Event}
+use Rattle.settings.specs.Settings.{Configuration}
+use Rattle.desk.specs.declared.call.Call.{Call as DeskCall}
+use Rattle.desk.specs.declared.call.Entry.{Entry}
+use Rattle.desk.specs.declared.base.Base.{Base}
+use Rattle.desk.specs.declared.desk.TheConstants.{HISTORY_LIMIT}
+use Rattle.desk.specs.Presence.{live_requests}
+use Rattle.desk.specs.Trace.{empty_base, base_with, base_after, live_after}
+use Rattle.desk.specs.Answer.{IsAnswerTo}
+use Rattle.desk.specs.History.{IsLegalHistory, StandsForEntries}
+use Rattle.desk.specs.State.{DeskState, HoldsLegalDesk, call_count, now_of}
+use Rattle.desk.proofs.TraceLemmas.{base_after-append, calls-after, legal-first, legal-rest, legal-folded, legal-push}
+use Rattle.events.specs.declared.event.Event.{Event}
 use Rattle.core_steps.specs.Happening.{Happening, RecordedCall, world_after, desks_by}
 use Rattle.core_steps.specs.Laws.{TellsLegalDesk}
 use Rattle.core_steps.specs.Opening.{IsNewDesk, IsNewWorld}

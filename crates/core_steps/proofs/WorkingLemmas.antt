@@ -7,26 +7,26 @@ use Rattle.std.specs.declared.alloc.AllocError.{AllocError}
 use Rattle.members.specs.declared.order.Row.{Row}
 use Rattle.tmmbr_tuple.specs.declared.tuple.Tuple.{Tuple}
 use Rattle.tmmbr_tuple.specs.Tuple.{word_of}
-use Rattle.rate_desk.specs.declared.call.Call.{Call as DeskCall}
-use Rattle.rate_desk.specs.declared.call.Change.TheVariants as change
-use Rattle.rate_desk.specs.State.{DeskState}
-use Rattle.core_steps.specs.declared.job.Job.{Job}
-use Rattle.core_steps.specs.declared.job.Job.TheVariants.{Packet, Request, Resend, Pli, Report}
+use Rattle.desk.specs.declared.call.Call.{Call as DeskCall}
+use Rattle.desk.specs.declared.call.Change.TheVariants as change
+use Rattle.desk.specs.State.{DeskState}
+use Rattle.events.specs.declared.job.Job.{Job}
+use Rattle.events.specs.declared.job.Job.TheVariants.{Packet, Request, Resend, Pli, Report}
 use Rattle.core_steps.specs.declared.machine.Worker.{Worker}
-use Rattle.core_steps.specs.declared.output.Out.{Out}
-use Rattle.core_steps.specs.declared.output.Out.TheVariants.{Idle}
-use Rattle.core_steps.specs.declared.working.Asks.{Asks}
-use Rattle.core_steps.specs.declared.working.Asks.TheVariants.{Desk, Nobody, Legs}
+use Rattle.events.specs.declared.output.Out.{Out}
+use Rattle.events.specs.declared.output.Out.TheVariants.{Idle}
+use Rattle.notices.specs.declared.calls.Asks.{Asks}
+use Rattle.notices.specs.declared.calls.Asks.TheVariants.{Desk, Nobody, Legs}
 use Rattle.core_steps.specs.Asking.{Asked, HasReply, IsNobody, desks_after, pending_after, refusals_after}
-use Rattle.core_steps.specs.DeskCalls.{stay_call, picture_call}
+use Rattle.notices.specs.DeskCalls.{stay_call, picture_call, asks_by, AsksOf}
 use Rattle.core_steps.specs.Happening.{RecordedCall, Worked, Happening, giving, no_worker, worker_after, workers_by, desks_by, world_after}
-use Rattle.core_steps.specs.Legs.{job_datagrams, legs_after}
+use Rattle.legs.specs.Legs.{job_datagrams, legs_after}
 use Rattle.core_steps.specs.Machine.{worker_state}
-use Rattle.core_steps.specs.Notification.{notification_datagrams}
+use Rattle.notices.specs.Notification.{notification_datagrams, Pending}
 use Rattle.core_steps.specs.Rule.{WorksOn, Works, DoesJob, JobAsks, WorkerAsks, Replies, pending_datagrams, working, with_hand, taking, hand_of, forwarding, worker_asked}
 use Rattle.core_steps.specs.Run.{Leaves, Stays}
-use Rattle.core_steps.specs.Turns.{asks_by, AsksOf, with_new_hand, IsDeskTold, world_with, world_after_turn, Turns}
-use Rattle.core_steps.specs.World.{Setup, Pending, Hand, free, doing, telling, WorkerState, WorldState}
+use Rattle.core_steps.specs.Turns.{with_new_hand, IsDeskTold, world_with, world_after_turn, Turns}
+use Rattle.core_steps.specs.World.{Setup, Hand, free, doing, telling, WorkerState, WorldState}
 use Rattle.core_steps.proofs.RunLemmas.{settled, settled-same, giving-leads}
 
 -- ---- the world behind a turn

@@ -7,8 +7,8 @@ use Rattle.std.proofs.lemmas.List.Sums.{sum_by-append, sum_by-cons}
 use Rattle.std.proofs.lemmas.Option.{slice_get_within}
 use Rattle.circular_buffer.proofs.Places.{slice_get-append_left, slice_get-append_right}
 use Rattle.std.specs.Prelude.{All, fold, slice_get, slice_index_or, Option, None, Some, sum_by}
-use Rattle.members.specs.Settings.{Configuration}
-use Rattle.rate_desk.specs.State.{DeskState}
+use Rattle.settings.specs.Settings.{Configuration}
+use Rattle.desk.specs.State.{DeskState}
 use Rattle.core_steps.specs.declared.machine.Worker.{Worker}
 use Rattle.core_steps.specs.Happening.{Worked, Happening, no_worker, worker_after, workers_by, world_after}
 use Rattle.core_steps.specs.Machine.{worker_state}

@@ -1,22 +1,14 @@
 -- What is left of the reply of a desk.
 use Rattle.std.specs.Prelude.{◌≡◌, ℕ, List, ◌++◌, Option, None, Some, if◌then◌else◌}
-use Rattle.rate_desk.specs.declared.call.Call.{Call as DeskCall}
-use Rattle.rate_desk.specs.declared.call.Answer.{Answer}
-use Rattle.rate_desk.specs.Call.{is_done, is_answered_up}
-use Rattle.rate_desk.specs.State.{DeskState}
-use Rattle.core_steps.specs.declared.notification.Notification.{Notification}
-use Rattle.core_steps.specs.declared.output.Out.{Out}
-use Rattle.core_steps.specs.World.{Pending}
+use Rattle.desk.specs.declared.call.Call.{Call as DeskCall}
+use Rattle.desk.specs.declared.call.Answer.{Answer}
+use Rattle.desk.specs.Call.{is_done, is_answered_up}
+use Rattle.desk.specs.State.{DeskState}
+use Rattle.notices.specs.declared.notification.Notification.{Notification}
+use Rattle.events.specs.declared.output.Out.{Out}
+use Rattle.notices.specs.Notification.{Pending}
 use Rattle.core_steps.specs.Happening.{RecordedCall, desks_by}
 use Rattle.core_steps.specs.Rule.{Replies, refusals, unrecorded_out, pending_of}
-
--- what is to be told of a call of this publisher's desk that is answered so
-abbrev pub told_of : ℕ → Option ℕ → Answer → Notification
-told_of p leg answer = record {
-  publisher = p;
-  asked_by = if is_done answer then leg else None;
-  pli = is_answered_up answer;
-}
 
 abbrev pub desk_after : DeskState → Option RecordedCall → DeskState
 desk_after d None = d

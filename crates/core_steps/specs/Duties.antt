@@ -3,11 +3,11 @@ use Rattle.std.specs.Prelude.{◌≡◌, ℕ, List, [], ◌∷◌, Option, None,
 use Rattle.members.specs.Presence.{source_at}
 use Rattle.members.specs.Reception.{Block}
 use Rattle.members.specs.Room.{new_room, reception_at, after_block}
-use Rattle.members.specs.Settings.{Configuration}
+use Rattle.settings.specs.Settings.{Configuration}
 use Rattle.members.specs.Stream.{IsBlockAnswer}
 use Rattle.core_steps.specs.declared.duties.Duty.{Duty}
 use Rattle.core_steps.specs.declared.duties.Duty.TheVariants.{Order, Push, Pulse, Expire, Report}
-use Rattle.core_steps.specs.Head.{blocks_of, report_bytes}
+use Rattle.notices.specs.Head.{blocks_of, report_bytes}
 use Rattle.core_steps.specs.Opening.{setup_by}
 use Rattle.core_steps.specs.World.{Task, order, push, pulse, expire, report, WorldState}
 

@@ -2,19 +2,19 @@
 use Rattle.std.specs.Prelude.{◌≡◌, ◌<◌, ℕ, List, [], ◌∷◌, All, length, map, slice_get, Some}
 use Rattle.std.specs.List.{flat_map, AllByRecursion}
 use Rattle.members.specs.declared.order.Order.TheVariants.{Depart}
-use Rattle.members.specs.declared.settings.LegSettings.{LegSettings}
+use Rattle.settings.specs.declared.settings.LegSettings.{LegSettings}
 use Rattle.members.specs.Calls.{Call as RoomCall}
-use Rattle.members.specs.Settings.{Configuration}
-use Rattle.rate_desk.specs.State.{DeskState, HoldsLegalDesk}
+use Rattle.settings.specs.Settings.{Configuration}
+use Rattle.desk.specs.State.{DeskState, HoldsLegalDesk}
 use Rattle.routes.specs.declared.change.Change.{Change}
-use Rattle.core_steps.specs.declared.event.Event.{Event}
-use Rattle.core_steps.specs.declared.job.Job.{Job}
-use Rattle.core_steps.specs.declared.leg.LegState.{LegState}
-use Rattle.core_steps.specs.DeskCalls.{source_of}
+use Rattle.events.specs.declared.event.Event.{Event}
+use Rattle.events.specs.declared.job.Job.{Job}
+use Rattle.legs.specs.declared.leg.LegState.{LegState}
+use Rattle.notices.specs.DeskCalls.{source_of}
 use Rattle.core_steps.specs.Happening.{Happening}
 use Rattle.core_steps.specs.Laws.{TellsLegalDesk, taken_at, put_at}
-use Rattle.core_steps.specs.Legs.{new_legs}
-use Rattle.core_steps.specs.Links.{table_of}
+use Rattle.legs.specs.Legs.{new_legs}
+use Rattle.settings.specs.Links.{table_of}
 use Rattle.core_steps.specs.Numbered.{AtLeg, HasTaken, HasTakenAll, Taken, taken_on, finished_over, legs_at}
 use Rattle.core_steps.specs.Opening.{IsNewWorld}
 use Rattle.core_steps.specs.Rule.{Does}

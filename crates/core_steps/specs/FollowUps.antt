@@ -1,20 +1,20 @@
 -- What follows from a datagram or a moment, as the ingress keeps it.
 use Rattle.std.specs.Prelude.{◌==◌, ℕ, List, [], ◌∷◌, Option, None, Some, if◌then◌else◌}
-use Rattle.members.specs.declared.fault.RoomFault.TheVariants.{UnknownLeg}
-use Rattle.members.specs.declared.settings.LegSettings.{LegSettings}
+use Rattle.settings.specs.declared.fault.RoomFault.TheVariants.{UnknownLeg}
+use Rattle.settings.specs.declared.settings.LegSettings.{LegSettings}
 use Rattle.members.specs.Presence.{is_present_at}
 use Rattle.members.specs.Room.{RoomState, reception_at, after_report}
 use Rattle.members.specs.Stream.{timestamps_of}
 use Rattle.core_steps.specs.declared.ticking.Due.{Due}
 use Rattle.core_steps.specs.declared.ticking.Due.TheVariants as due
-use Rattle.core_steps.specs.declared.intake.Ask.{Ask}
-use Rattle.core_steps.specs.declared.intake.Ask.TheVariants.{Rate, Resend as Again, Picture}
-use Rattle.core_steps.specs.declared.output.Out.{Out}
-use Rattle.core_steps.specs.declared.output.Out.TheVariants.{Refused}
-use Rattle.core_steps.specs.declared.output.Refusal.TheVariants.{Room}
+use Rattle.intake.specs.declared.intake.Ask.{Ask}
+use Rattle.intake.specs.declared.intake.Ask.TheVariants.{Rate, Resend as Again, Picture}
+use Rattle.events.specs.declared.output.Out.{Out}
+use Rattle.events.specs.declared.output.Out.TheVariants.{Refused}
+use Rattle.events.specs.declared.output.Refusal.TheVariants.{Room}
 use Rattle.core_steps.specs.declared.tasks.FollowUp.{FollowUp}
 use Rattle.core_steps.specs.declared.tasks.FollowUp.TheVariants.{Packet, Request, Resend, Pli, LegReport, Pulse, Expire, Report}
-use Rattle.core_steps.specs.Links.{LinkTable, leg_to, worker_of}
+use Rattle.settings.specs.Links.{LinkTable, leg_to, worker_of}
 use Rattle.core_steps.specs.Hearing.{leg_stay, owner_of, is_served_by, media_of}
 
 abbrev pub due_at : Due → ℕ → FollowUp

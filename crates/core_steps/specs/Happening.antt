@@ -1,16 +1,17 @@
 -- What one event did, by lists, and the world behind it.
 use Rattle.std.specs.Prelude.{ℕ, ◌+◌, ◌-◌, ◌^◌, min, List, [], ◌∷◌, ◌++◌, length, drop, fold, slice_index_or, slice_set, Option, None, Some}
 use Rattle.members.specs.Calls.{Call as RoomCall, room_after}
-use Rattle.rate_desk.specs.declared.call.Call.{Call as DeskCall}
-use Rattle.rate_desk.specs.declared.call.Answer.{Answer}
-use Rattle.rate_desk.specs.declared.effect.Effect.{Effect}
-use Rattle.rate_desk.specs.State.{DeskState}
+use Rattle.desk.specs.declared.call.Call.{Call as DeskCall}
+use Rattle.desk.specs.declared.call.Answer.{Answer}
+use Rattle.desk.specs.declared.effect.Effect.{Effect}
+use Rattle.desk.specs.State.{DeskState}
 use Rattle.routes.specs.declared.change.Change.{Change}
 use Rattle.routes.specs.Rows.{row_changed}
-use Rattle.core_steps.specs.declared.job.Job.{Job}
-use Rattle.core_steps.specs.declared.output.Out.{Out}
-use Rattle.core_steps.specs.declared.leg.LegState.{LegState}
-use Rattle.core_steps.specs.World.{WorldState, WorkerState, Task, Pending, Hand, free}
+use Rattle.events.specs.declared.job.Job.{Job}
+use Rattle.events.specs.declared.output.Out.{Out}
+use Rattle.legs.specs.declared.leg.LegState.{LegState}
+use Rattle.core_steps.specs.World.{WorldState, WorkerState, Task, Hand, free}
+use Rattle.notices.specs.Notification.{Pending}
 
 -- a recorded call of a publisher's desk with its number, its answer and its effect, and the desk from then on
 pub record RecordedCall : Type 0 where

@@ -2,26 +2,26 @@
 use Rattle.std.specs.Prelude.{◌==◌, ◌≡◌, ℕ, ◌-◌, nat_le, not, Bool, true, false, ◌&&◌, List, [], ◌∷◌, ◌++◌, length, map, filter, replicate, slice_get, Option, None, Some, Result, Ok, Err, if◌then◌else◌}
 use Rattle.std.specs.Option.{option_map_or}
 use Rattle.std.specs.List.{last_or, list_any, enumerate_from, filter_map, flat_map}
-use Rattle.members.specs.declared.fault.RoomFault.{RoomFault}
-use Rattle.members.specs.declared.fault.RoomFault.TheVariants.{UnknownLeg}
+use Rattle.settings.specs.declared.fault.RoomFault.{RoomFault}
+use Rattle.settings.specs.declared.fault.RoomFault.TheVariants.{UnknownLeg}
 use Rattle.members.specs.declared.order.Order.{Order}
-use Rattle.members.specs.declared.settings.LegSettings.{LegSettings}
+use Rattle.settings.specs.declared.settings.LegSettings.{LegSettings}
 use Rattle.members.specs.Presence.{is_present_at}
 use Rattle.members.specs.Room.{RoomState, Step, leg_at, tick_step, select_step, reception_at}
 use Rattle.members.specs.Calls.{Call as RoomCall, Hear, Bye, Tick, Select, Receive, Report as SenderReport, step_of}
 use Rattle.members.specs.Stream.{timestamps_of}
-use Rattle.core_steps.specs.declared.job.Job.{Job}
-use Rattle.core_steps.specs.declared.job.Job.TheVariants.{Packet, Request, Resend, Pli, Report}
-use Rattle.core_steps.specs.declared.intake.Ask.{Ask}
-use Rattle.core_steps.specs.declared.intake.Ask.TheVariants.{Rate, Resend as Again, Picture}
-use Rattle.core_steps.specs.declared.output.Out.{Out}
-use Rattle.core_steps.specs.declared.output.Out.TheVariants.{Refused}
-use Rattle.core_steps.specs.declared.output.Refusal.{Refusal}
-use Rattle.core_steps.specs.declared.output.Refusal.TheVariants.{Room}
-use Rattle.core_steps.specs.Links.{LinkTable, legs_of, leg_to, worker_of}
-use Rattle.core_steps.specs.DeskCalls.{source_of}
-use Rattle.core_steps.specs.Heard.{asks_of}
-use Rattle.core_steps.specs.Intake.{Said, media, leaves, control, Says}
+use Rattle.events.specs.declared.job.Job.{Job}
+use Rattle.events.specs.declared.job.Job.TheVariants.{Packet, Request, Resend, Pli, Report}
+use Rattle.intake.specs.declared.intake.Ask.{Ask}
+use Rattle.intake.specs.declared.intake.Ask.TheVariants.{Rate, Resend as Again, Picture}
+use Rattle.events.specs.declared.output.Out.{Out}
+use Rattle.events.specs.declared.output.Out.TheVariants.{Refused}
+use Rattle.events.specs.declared.output.Refusal.{Refusal}
+use Rattle.events.specs.declared.output.Refusal.TheVariants.{Room}
+use Rattle.settings.specs.Links.{LinkTable, legs_of, leg_to, worker_of}
+use Rattle.notices.specs.DeskCalls.{source_of}
+use Rattle.intake.specs.Heard.{asks_of}
+use Rattle.intake.specs.Intake.{Said, media, leaves, control, Says}
 use Rattle.core_steps.specs.World.{Setup, Task, order, push, pulse, expire, report, WorldState}
 use Rattle.core_steps.specs.Happening.{Happening, giving}
 

@@ -2,8 +2,8 @@
 use Rattle.std.specs.Prelude.{◌≡◌, ◌==◌, ℕ, ◌≤◌, List, [], length, slice_get, slice_index_or, Some, if◌then◌else◌}
 use Rattle.std.specs.List.{flat_map}
 use Rattle.bounding_set.specs.State.{announced_of}
-use Rattle.rate_desk.specs.State.{HoldsLegalDesk}
-use Rattle.core_steps.specs.declared.job.Job.{Job}
+use Rattle.desk.specs.State.{HoldsLegalDesk}
+use Rattle.events.specs.declared.job.Job.{Job}
 use Rattle.core_steps.specs.declared.ring.TheConstants.{JOB_LIMIT}
 use Rattle.core_steps.specs.Happening.{Happening, GivenUp, RecordedCall, Worked, no_worker}
 use Rattle.core_steps.specs.World.{WorldState, WorkerState}

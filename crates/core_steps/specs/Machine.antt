@@ -1,19 +1,20 @@
 -- The world that the machine's parts stand for.
 use Rattle.std.specs.Prelude.{ℕ, List, ◌++◌, map, drop, Option, option_map}
-use Rattle.rate_desk.specs.declared.effect.Effect.{Effect}
-use Rattle.core_steps.specs.declared.job.Job.TheVariants as job
+use Rattle.desk.specs.declared.effect.Effect.{Effect}
+use Rattle.events.specs.declared.job.Job.TheVariants as job
 use Rattle.core_steps.specs.declared.machine.Machine.{Machine}
 use Rattle.core_steps.specs.declared.machine.Setup.{Setup as SetupParts}
 use Rattle.core_steps.specs.declared.machine.Worker.{Worker}
 use Rattle.core_steps.specs.declared.machine.Hand.{Hand as HandParts}
 use Rattle.core_steps.specs.declared.machine.Hand.TheVariants.{Free, Doing, Telling}
-use Rattle.core_steps.specs.declared.notification.Notification.{Notification}
+use Rattle.notices.specs.declared.notification.Notification.{Notification}
 use Rattle.core_steps.specs.declared.tasks.Tasks.{Tasks}
 use Rattle.core_steps.specs.declared.tasks.FollowUp.{FollowUp}
 use Rattle.core_steps.specs.declared.tasks.NextTask.{NextTask}
 use Rattle.core_steps.specs.declared.tasks.NextTask.TheVariants.{Order as AnOrder, FollowUp as Follows}
 use Rattle.core_steps.specs.declared.tasks.FollowUp.TheVariants.{Packet, Request, Resend, Pli, LegReport, Pulse, Expire, Report}
-use Rattle.core_steps.specs.World.{Setup, Task, order, push, pulse, expire, report, Pending, Hand, free, doing, telling, WorkerState, WorldState}
+use Rattle.core_steps.specs.World.{Setup, Task, order, push, pulse, expire, report, Hand, free, doing, telling, WorkerState, WorldState}
+use Rattle.notices.specs.Notification.{Pending, pending_with}
 
 -- the task that follows, where the datagram has these bytes
 abbrev pub task_of : List ℕ → FollowUp → Task
@@ -34,9 +35,6 @@ task_in bytes (Follows next) = task_of bytes next
 abbrev pub tasks_of : Tasks → List Task
 tasks_of t = map order (drop t.orders_done t.orders.items)
     ++ map (task_of t.datagram.items) (drop t.follow_ups_done t.follow_ups.items)
-
-abbrev pub pending_with : Effect → Notification → Pending
-pending_with effect n = record { notification = n; effect = effect }
 
 abbrev pub hand_in : Effect → HandParts → Hand
 hand_in effect Free = free

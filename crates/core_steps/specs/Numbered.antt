@@ -3,17 +3,17 @@ use Rattle.std.specs.Prelude.{◌≡◌, ◌==◌, ◌&&◌, ℕ, ◌%◌, ◌^�
 use Rattle.std.specs.List.{flat_map}
 use Rattle.circular_buffer.specs.Buffer.{keep_last}
 use Rattle.members.specs.declared.order.Row.{Row}
-use Rattle.members.specs.declared.settings.LegSettings.{LegSettings}
+use Rattle.settings.specs.declared.settings.LegSettings.{LegSettings}
 use Rattle.resend_ring.specs.Kept.{SentPacket as Sent, kept_in_turn}
 use Rattle.rewrite.specs.declared.skip.Skip.{Skip as Cause}
 use Rattle.rewrite.specs.Leg.{Held, new_leg, held_after, history_of}
 use Rattle.rewrite.specs.Numbering.{IncomingPacket as Incoming, Entry as Numbered}
-use Rattle.routes.specs.Rows.{opening_row}
-use Rattle.core_steps.specs.declared.job.Job.{Job}
-use Rattle.core_steps.specs.declared.job.Job.TheVariants.{Packet, Request, Resend, Pli, Report}
-use Rattle.core_steps.specs.declared.leg.LegState.{LegState}
+use Rattle.members.specs.Stays.{opening_row}
+use Rattle.events.specs.declared.job.Job.{Job}
+use Rattle.events.specs.declared.job.Job.TheVariants.{Packet, Request, Resend, Pli, Report}
+use Rattle.legs.specs.declared.leg.LegState.{LegState}
 use Rattle.core_steps.specs.Happening.{Happening, Worked, no_worker, world_after}
-use Rattle.core_steps.specs.Rtp.{is_rtp, sequence_number, readdressed_bytes}
+use Rattle.legs.specs.Rtp.{is_rtp, sequence_number, readdressed_bytes}
 use Rattle.core_steps.specs.World.{WorldState}
 use Rattle.rtp_packet.specs.declared.header.TheConstants.{SEQ_CYCLE}
 

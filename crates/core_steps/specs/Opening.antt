@@ -1,12 +1,12 @@
 -- The world that settings open.
 use Rattle.std.specs.Prelude.{◌≡◌, ℕ, List, [], length, All, None, slice_get, Some}
-use Rattle.members.specs.Settings.{Configuration}
+use Rattle.settings.specs.Settings.{Configuration}
 use Rattle.members.specs.Room.{new_room}
-use Rattle.rate_desk.specs.State.{DeskState, HoldsLegalDesk}
-use Rattle.rate_desk.specs.Trace.{empty_base}
+use Rattle.desk.specs.State.{DeskState, HoldsLegalDesk}
+use Rattle.desk.specs.Trace.{empty_base}
 use Rattle.routes.specs.Rows.{opening_rows}
-use Rattle.core_steps.specs.Links.{table_of}
-use Rattle.core_steps.specs.Legs.{new_legs}
+use Rattle.settings.specs.Links.{table_of}
+use Rattle.legs.specs.Legs.{new_legs}
 use Rattle.core_steps.specs.World.{Setup, WorkerState, WorldState, free}
 
 abbrev pub setup_by : Configuration → Setup

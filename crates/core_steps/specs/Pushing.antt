@@ -1,6 +1,6 @@
 -- A job behind those in a worker's ring.
 use Rattle.std.specs.Prelude.{◌≡◌, ℕ, nat_le, Bool, false, List, length, Option, None, Some, if◌then◌else◌}
-use Rattle.core_steps.specs.declared.job.Job.{Job}
+use Rattle.events.specs.declared.job.Job.{Job}
 use Rattle.core_steps.specs.declared.ring.TheConstants.{JOB_LIMIT}
 use Rattle.core_steps.specs.World.{WorkerState}
 use Rattle.core_steps.specs.Happening.{workers_by}

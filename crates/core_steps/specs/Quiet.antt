@@ -4,26 +4,26 @@ use Rattle.std.specs.List.{last_or, flat_map}
 use Rattle.tmmbr_tuple.specs.declared.tuple.Tuple.{Tuple}
 use Rattle.tmmbr_tuple.specs.Tuple.{word_of}
 use Rattle.bounding_set.specs.Rows.{tuple_of}
-use Rattle.members.specs.declared.fault.RoomFault.{RoomFault}
-use Rattle.members.specs.declared.settings.LegSettings.{LegSettings}
-use Rattle.members.specs.Settings.{Configuration, IsInRange}
+use Rattle.settings.specs.declared.fault.RoomFault.{RoomFault}
+use Rattle.settings.specs.declared.settings.LegSettings.{LegSettings}
+use Rattle.settings.specs.Settings.{Configuration, IsInRange}
 use Rattle.members.specs.Room.{RoomState, Step}
 use Rattle.members.specs.Calls.{step_of}
-use Rattle.rate_desk.specs.declared.call.Entry.{Entry}
-use Rattle.rate_desk.specs.Places.{HasEntryAt, WasDone, IsRequestOf, TakesAt, greatest_until}
-use Rattle.rate_desk.specs.State.{DeskState}
-use Rattle.rate_desk.specs.Trace.{empty_base}
-use Rattle.core_steps.specs.declared.event.Event.{Event}
-use Rattle.core_steps.specs.declared.event.Event.TheVariants.{Hear, Tick, Select, Ingress, Work}
-use Rattle.core_steps.specs.declared.intake.Ask.{Ask}
-use Rattle.core_steps.specs.declared.intake.Ask.TheVariants.{Rate, Resend as Again, Picture}
-use Rattle.core_steps.specs.declared.output.Refusal.{Refusal}
-use Rattle.core_steps.specs.DeskCalls.{source_of}
+use Rattle.desk.specs.declared.call.Entry.{Entry}
+use Rattle.desk.specs.Places.{HasEntryAt, WasDone, IsRequestOf, TakesAt, greatest_until}
+use Rattle.desk.specs.State.{DeskState}
+use Rattle.desk.specs.Trace.{empty_base}
+use Rattle.events.specs.declared.event.Event.{Event}
+use Rattle.events.specs.declared.event.Event.TheVariants.{Hear, Tick, Select, Ingress, Work}
+use Rattle.intake.specs.declared.intake.Ask.{Ask}
+use Rattle.intake.specs.declared.intake.Ask.TheVariants.{Rate, Resend as Again, Picture}
+use Rattle.events.specs.declared.output.Refusal.{Refusal}
+use Rattle.notices.specs.DeskCalls.{source_of}
 use Rattle.core_steps.specs.Happening.{Happening, RecordedCall, world_after}
-use Rattle.core_steps.specs.Heard.{asks_of}
+use Rattle.intake.specs.Heard.{asks_of}
 use Rattle.core_steps.specs.Hearing.{room_call, leg_stay}
-use Rattle.core_steps.specs.Intake.{Said, Says}
-use Rattle.core_steps.specs.Links.{LinkTable, leg_to, table_of}
+use Rattle.intake.specs.Intake.{Said, Says}
+use Rattle.settings.specs.Links.{LinkTable, leg_to, table_of}
 use Rattle.core_steps.specs.Opening.{IsNewWorld}
 use Rattle.core_steps.specs.Rule.{is_busy}
 use Rattle.core_steps.specs.Run.{Runs, worlds_after}

@@ -2,7 +2,7 @@
 use Rattle.std.specs.Prelude.{◌==◌, ◌≡◌, ℕ, nat_le, not, Bool, true, false, ◌||◌, List, [], ◌∷◌, length, slice_get, Option, None, Some, is_some, MatchBool, if◌then◌else◌}
 use Rattle.members.specs.declared.order.Order.{Order}
 use Rattle.members.specs.declared.order.Order.TheVariants.{Arrive, Depart, Route}
-use Rattle.members.specs.declared.settings.LegSettings.{LegSettings}
+use Rattle.settings.specs.declared.settings.LegSettings.{LegSettings}
 use Rattle.members.specs.Presence.{source_at}
 use Rattle.members.specs.Room.{reception_at}
 use Rattle.members.specs.Calls.{MakeBlock}
@@ -11,31 +11,31 @@ use Rattle.members.specs.Stream.{IsBlockAnswer}
 use Rattle.bounding_set.specs.State.{announced_of}
 use Rattle.tmmbr_tuple.specs.declared.tuple.Tuple.{Tuple}
 use Rattle.tmmbr_tuple.specs.Tuple.{word_of}
-use Rattle.rate_desk.specs.declared.call.Call.{Call as DeskCall}
-use Rattle.rate_desk.specs.declared.call.Call.TheVariants.{Time}
-use Rattle.rate_desk.specs.declared.call.Change.TheVariants as change
-use Rattle.rate_desk.specs.declared.call.Signal.TheVariants as signal
-use Rattle.rate_desk.specs.declared.call.Answer.{Answer}
-use Rattle.rate_desk.specs.declared.call.Answer.TheVariants.{Done, NotPresent, AlreadyPresent, Full}
-use Rattle.rate_desk.specs.State.{DeskState, HoldsLegalDesk, Records, IsOverLimit}
-use Rattle.rate_desk.specs.Call.{is_done, is_answered_up}
-use Rattle.rate_desk.specs.Effect.{IsEffect}
+use Rattle.desk.specs.declared.call.Call.{Call as DeskCall}
+use Rattle.desk.specs.declared.call.Call.TheVariants.{Time}
+use Rattle.desk.specs.declared.call.Change.TheVariants as change
+use Rattle.desk.specs.declared.call.Signal.TheVariants as signal
+use Rattle.desk.specs.declared.call.Answer.{Answer}
+use Rattle.desk.specs.declared.call.Answer.TheVariants.{Done, NotPresent, AlreadyPresent, Full}
+use Rattle.desk.specs.State.{DeskState, HoldsLegalDesk, Records, IsOverLimit}
+use Rattle.desk.specs.Call.{is_done, is_answered_up}
+use Rattle.desk.specs.Effect.{IsEffect}
 use Rattle.routes.specs.Rows.{changes_by}
-use Rattle.core_steps.specs.declared.event.Event.{Event}
-use Rattle.core_steps.specs.declared.event.Event.TheVariants.{Hear, Tick, Select, Ingress, Work}
-use Rattle.core_steps.specs.declared.job.Job.{Job}
-use Rattle.core_steps.specs.declared.job.Job.TheVariants.{Packet, Request, Resend, Pli, Report}
-use Rattle.core_steps.specs.declared.notification.Notification.{Notification}
-use Rattle.core_steps.specs.declared.output.Out.{Out}
-use Rattle.core_steps.specs.declared.output.Out.TheVariants.{Refused, Busy, Idle, Lost}
-use Rattle.core_steps.specs.declared.output.Refusal.TheVariants.{Desk}
-use Rattle.core_steps.specs.declared.output.DeskRefusal.TheVariants as desk
+use Rattle.events.specs.declared.event.Event.{Event}
+use Rattle.events.specs.declared.event.Event.TheVariants.{Hear, Tick, Select, Ingress, Work}
+use Rattle.events.specs.declared.job.Job.{Job}
+use Rattle.events.specs.declared.job.Job.TheVariants.{Packet, Request, Resend, Pli, Report}
+use Rattle.notices.specs.declared.notification.Notification.{Notification}
+use Rattle.events.specs.declared.output.Out.{Out}
+use Rattle.events.specs.declared.output.Out.TheVariants.{Refused, Busy, Idle, Lost}
+use Rattle.events.specs.declared.output.Refusal.TheVariants.{Desk}
+use Rattle.events.specs.declared.output.DeskRefusal.TheVariants as desk
 use Rattle.core_steps.specs.declared.ring.TheConstants.{JOB_LIMIT}
-use Rattle.core_steps.specs.DeskCalls.{stay_call, picture_call}
-use Rattle.core_steps.specs.Legs.{job_datagrams, legs_after}
-use Rattle.core_steps.specs.Head.{upstream_report}
-use Rattle.core_steps.specs.Notification.{notification_datagrams, tells}
-use Rattle.core_steps.specs.World.{WorldState, WorkerState, Task, order, push, pulse, expire, report, Pending, Hand, free, doing, telling}
+use Rattle.notices.specs.DeskCalls.{stay_call, picture_call}
+use Rattle.legs.specs.Legs.{job_datagrams, legs_after}
+use Rattle.notices.specs.Head.{upstream_report}
+use Rattle.notices.specs.Notification.{notification_datagrams, tells, Pending}
+use Rattle.core_steps.specs.World.{WorldState, WorkerState, Task, order, push, pulse, expire, report, Hand, free, doing, telling}
 use Rattle.core_steps.specs.Happening.{RecordedCall, GivenUp, Happening, Worked, giving}
 use Rattle.core_steps.specs.Hearing.{IsHearing, ticking, selecting}
 

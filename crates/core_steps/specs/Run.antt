@@ -1,8 +1,8 @@
 -- Runs: events one after the other, and what they did.
 use Rattle.std.specs.Prelude.{◌≡◌, ℕ, List, [], ◌∷◌, ◌++◌, fold}
 use Rattle.std.specs.List.{flat_map}
-use Rattle.core_steps.specs.declared.event.Event.{Event}
-use Rattle.core_steps.specs.declared.output.Out.{Out}
+use Rattle.events.specs.declared.event.Event.{Event}
+use Rattle.events.specs.declared.output.Out.{Out}
 use Rattle.core_steps.specs.World.{WorldState}
 use Rattle.core_steps.specs.Happening.{Happening, world_after}
 use Rattle.core_steps.specs.Rule.{Does}

@@ -1,13 +1,13 @@
 -- The calls of each desk over a run.
 use Rattle.std.specs.Prelude.{◌≡◌, ◌≢◌, ◌==◌, ℕ, ◌+◌, List, [], ◌∷◌, ◌++◌, map, slice_get, Some, if◌then◌else◌}
 use Rattle.std.specs.List.{flat_map}
-use Rattle.members.specs.Settings.{Configuration}
+use Rattle.settings.specs.Settings.{Configuration}
 use Rattle.bounding_set.specs.State.{AnnouncesSmallest}
-use Rattle.rate_desk.specs.declared.call.Entry.{Entry}
-use Rattle.rate_desk.specs.Presence.{stay_in}
-use Rattle.rate_desk.specs.Trace.{empty_base, live_after}
-use Rattle.rate_desk.specs.History.{IsLegalHistory, StandsForEntries}
-use Rattle.rate_desk.specs.State.{DeskState, call_count, now_of}
+use Rattle.desk.specs.declared.call.Entry.{Entry}
+use Rattle.desk.specs.Presence.{stay_in}
+use Rattle.desk.specs.Trace.{empty_base, live_after}
+use Rattle.desk.specs.History.{IsLegalHistory, StandsForEntries}
+use Rattle.desk.specs.State.{DeskState, call_count, now_of}
 use Rattle.core_steps.specs.Happening.{RecordedCall, Happening}
 
 -- this holds of the publisher's desk, which is there

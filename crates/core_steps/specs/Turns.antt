@@ -1,47 +1,14 @@
 -- A worker's turn, on the parts of the world that it sees.
 use Rattle.std.specs.Prelude.{◌≡◌, ℕ, ◌^◌, ◌<◌, List, ◌∷◌, slice_get, slice_set, Option, None, Some}
 use Rattle.members.specs.declared.order.Row.{Row}
-use Rattle.tmmbr_tuple.specs.declared.tuple.Tuple.{Tuple}
-use Rattle.tmmbr_tuple.specs.Tuple.{word_of}
-use Rattle.rate_desk.specs.declared.call.Call.{Call as DeskCall}
-use Rattle.rate_desk.specs.declared.call.Change.TheVariants as change
-use Rattle.rate_desk.specs.Call.{HasStay}
-use Rattle.rate_desk.specs.State.{DeskState}
-use Rattle.core_steps.specs.declared.job.Job.{Job}
-use Rattle.core_steps.specs.declared.job.Job.TheVariants.{Packet, Request, Resend, Pli, Report}
-use Rattle.core_steps.specs.declared.output.Out.{Out}
-use Rattle.core_steps.specs.declared.working.Asks.{Asks}
-use Rattle.core_steps.specs.declared.working.Asks.TheVariants.{Desk, Nobody, Legs}
+use Rattle.desk.specs.declared.call.Call.{Call as DeskCall}
+use Rattle.desk.specs.State.{DeskState}
+use Rattle.events.specs.declared.output.Out.{Out}
 use Rattle.core_steps.specs.Asking.{Asked}
-use Rattle.core_steps.specs.DeskCalls.{stay_call, picture_call}
-use Rattle.core_steps.specs.Links.{LinkTable}
 use Rattle.core_steps.specs.Rule.{WorksOn, hand_of}
 use Rattle.core_steps.specs.Run.{Leaves}
-use Rattle.core_steps.specs.World.{Setup, Pending, Hand, WorkerState, WorldState}
-
--- ---- whom a job asks
-
-abbrev pub asks_by : Option ℕ → Option (ℕ × DeskCall) → Asks
-asks_by leg None = Nobody
-asks_by leg (Some (p, call)) = Desk p leg call
-
--- a job asks the desk of a leg's publisher, or nobody where there is no such leg or stay, or the worker's legs
-abbrev pub AsksOf : LinkTable → Job → Asks → Type 0
-AsksOf t (Packet publisher bytes) asks = asks ≡ Legs
-AsksOf t (Resend leg stay nack) asks = asks ≡ Legs
-AsksOf t (Report leg stay sr) asks = asks ≡ Legs
-AsksOf t (Request leg stay word) asks =
-    (tuple : Tuple) × (word_of tuple ≡ word)
-    × (asks ≡ asks_by (Some leg) (stay_call t leg stay (change.Request tuple)))
-AsksOf t (Pli leg moment) asks = asks ≡ asks_by None (picture_call t leg moment)
-
--- a call of a desk is in a stay
-abbrev pub IsCallable : Asks → Type 0
-IsCallable (Desk p leg call) = HasStay call
-IsCallable Nobody = Unit {0}
-IsCallable Legs = Unit {0}
-
--- ---- what a turn leaves
+use Rattle.core_steps.specs.World.{Setup, Hand, WorkerState, WorldState}
+use Rattle.notices.specs.Notification.{Pending}
 
 abbrev pub with_new_hand : WorkerState → Hand → WorkerState
 with_new_hand s hand = record s { hand = hand }

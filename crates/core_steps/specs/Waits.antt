@@ -1,8 +1,9 @@
 -- What waits in a world.
 use Rattle.std.specs.Prelude.{ℕ, ◌+◌, ◌-◌, ◌^◌, min, Bool, true, false, List, [], ◌∷◌, length, slice_get, sum_by, Option, None, Some}
-use Rattle.core_steps.specs.declared.job.Job.{Job}
+use Rattle.events.specs.declared.job.Job.{Job}
 use Rattle.core_steps.specs.declared.world.Waiting.{Waiting}
-use Rattle.core_steps.specs.World.{WorldState, WorkerState, Pending, Hand, free, doing, telling}
+use Rattle.core_steps.specs.World.{WorldState, WorkerState, Hand, free, doing, telling}
+use Rattle.notices.specs.Notification.{Pending}
 
 abbrev pub pending_count : Option Pending → ℕ
 pending_count None = 0

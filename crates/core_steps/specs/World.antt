@@ -3,13 +3,14 @@ use Rattle.std.specs.Prelude.{ℕ, List, Option}
 use Rattle.members.specs.declared.order.Order.{Order}
 use Rattle.members.specs.declared.order.Row.{Row}
 use Rattle.members.specs.Room.{RoomState}
-use Rattle.rate_desk.specs.declared.effect.Effect.{Effect}
-use Rattle.rate_desk.specs.State.{DeskState}
-use Rattle.core_steps.specs.declared.job.Job.{Job}
-use Rattle.core_steps.specs.declared.notification.Notification.{Notification}
-use Rattle.core_steps.specs.Head.{Identity}
-use Rattle.core_steps.specs.Links.{LinkTable}
-use Rattle.core_steps.specs.declared.leg.LegState.{LegState}
+use Rattle.desk.specs.declared.effect.Effect.{Effect}
+use Rattle.desk.specs.State.{DeskState}
+use Rattle.events.specs.declared.job.Job.{Job}
+use Rattle.notices.specs.declared.notification.Notification.{Notification}
+use Rattle.notices.specs.Head.{Identity}
+use Rattle.settings.specs.Links.{LinkTable}
+use Rattle.legs.specs.declared.leg.LegState.{LegState}
+use Rattle.notices.specs.Notification.{Pending}
 
 -- what the settings say once and for all: the legs, the unit's own source and name, and the times in milliseconds
 pub record Setup : Type 0 where
@@ -26,11 +27,6 @@ pub data Task : Type 0 where
   pulse : ℕ → Task
   expire : ℕ → Task
   report : ℕ → Task
-
--- a notification that waits, and the effect that it tells
-pub record Pending : Type 0 where
-  pub notification : Notification
-  pub effect : Effect
 
 -- what a worker has in hand
 pub data Hand : Type 0 where

@@ -2,27 +2,25 @@
 
 ghost use Rattle.std.specs.Prelude.{◌≡◌, IfOk, OnOk, OnErr};
 ghost use Rattle.core_steps.specs.declared.duties.Duty.TheVariants.{Push};
-ghost use Rattle.core_steps.specs.declared.event.Event.TheVariants.{Tick};
+ghost use Rattle.events.specs.declared.event.Event.TheVariants.{Tick};
 ghost use Rattle.core_steps.specs.declared.tasks.NextTask.TheVariants.{FollowUp as AFollowUp};
 ghost use Rattle.core_steps.specs.Duties.{task_by};
 ghost use Rattle.core_steps.specs.Machine.{state_of, task_in};
 ghost use Rattle.core_steps.specs.Rule.{Does};
 ghost use Rattle.core_steps.specs.Run.{Leaves, Stays};
 
-use crate::bytes::Bytes;
-use crate::head::Head;
 use crate::hearing::{hear, select};
 use crate::ingress::report_on;
-use crate::job::Job;
-use crate::links::Links;
 use crate::machine::{Machine, Setup};
-use crate::output::Out;
-use crate::plan::Plan;
 use crate::runner::busy;
 use crate::tasks::{FollowUp, NextTask, Tasks};
 use crate::ticking::tick;
-use members::{Order, Room, Settings};
-use rate_desk::Effect;
+use desk::Effect;
+use events::{Bytes, Job, Out};
+use legs::Plan;
+use members::{Order, Room};
+use notices::Head;
+use settings::{Links, Settings};
 use std::alloc::{AllocError, Global};
 use std::marker::Model;
 
@@ -60,7 +58,7 @@ impl Model for IngressCore {
 impl IngressCore {
     ghost use Rattle.std.specs.Prelude.{◌≡◌, IfOk, OnOk, OnErr};
     ghost use Rattle.members.specs.Presence.{is_present_at};
-    ghost use Rattle.core_steps.specs.declared.event.Event.TheVariants.{Hear, Tick, Select};
+    ghost use Rattle.events.specs.declared.event.Event.TheVariants.{Hear, Tick, Select};
     ghost use Rattle.core_steps.specs.Duties.{new_ingress, HandsOut, Reports};
     ghost use Rattle.core_steps.specs.Rule.{Does};
     ghost use Rattle.core_steps.specs.Run.{Leaves, Stays};

@@ -6,11 +6,11 @@ ghost use Rattle.std.specs.Option.{option_to_list};
 ghost use Rattle.core_steps.specs.FollowUps.{packet_to, asked_of, follow_up_for, refusal_unless};
 ghost use Rattle.core_steps.specs.Hearing.{is_served_by, numbers_below, owner_of, media_of};
 
-use crate::intake::Ask;
-use crate::links::Links;
-use crate::output::{Out, Refusal};
 use crate::tasks::FollowUp;
-use members::{Room, RoomFault};
+use events::{Out, Refusal};
+use intake::Ask;
+use members::Room;
+use settings::{Links, RoomFault};
 use tmmbr_tuple::Ssrc;
 
 /// The datagram is for each worker that serves the publisher.

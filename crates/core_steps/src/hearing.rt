@@ -2,22 +2,22 @@
 
 ghost use Rattle.std.specs.Prelude.{◌≡◌, ◌≢◌, ◌<◌, ℕ, false, [], ◌∷◌, ◌++◌, List, OnOk, OnErr, vec_len, vec_capacity};
 ghost use Rattle.std.specs.List.{last_or};
-ghost use Rattle.core_steps.specs.declared.output.Out.TheVariants.{Refused};
-ghost use Rattle.core_steps.specs.declared.output.Refusal.TheVariants.{Room as ByRoom};
+ghost use Rattle.events.specs.declared.output.Out.TheVariants.{Refused};
+ghost use Rattle.events.specs.declared.output.Refusal.TheVariants.{Room as ByRoom};
 ghost use Rattle.core_steps.specs.Machine.{state_of};
-ghost use Rattle.core_steps.specs.DeskCalls.{source_of};
+ghost use Rattle.notices.specs.DeskCalls.{source_of};
 ghost use Rattle.core_steps.specs.FollowUps.{room_with_report};
 ghost use Rattle.core_steps.specs.Hearing.{IsHearing, hearing, selecting};
-ghost use Rattle.core_steps.specs.Intake.{media as Packet, leaves as Leaving, control as Controls};
+ghost use Rattle.intake.specs.Intake.{media as Packet, leaves as Leaving, control as Controls};
 ghost use Rattle.core_steps.specs.Rule.{is_busy};
 ghost use Rattle.core_steps.specs.Run.{Leaves, Stays};
 
 use crate::follow_ups::{push_asks, push_packet};
-use crate::intake::{Control, Heard, Unheard, hear_datagram};
-use crate::links::Links;
 use crate::machine::Machine;
-use crate::output::{Out, Refusal};
-use members::{Room, RoomFault};
+use events::{Out, Refusal};
+use intake::{Control, Heard, Unheard, hear_datagram};
+use members::Room;
+use settings::{Links, RoomFault};
 use std::alloc::AllocError;
 use tmmbr_tuple::Ssrc;
 

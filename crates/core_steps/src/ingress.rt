@@ -1,27 +1,26 @@
 //! What the ingress does: the notification that waits, or the oldest task.
 
 ghost use Rattle.std.specs.Prelude.{◌≡◌, ◌<◌, ◌++◌, ◌∷◌, [], None, Some, nat_le, length, if◌then◌else◌, map, slice_get, slice_set, vec_len, vec_capacity, IfOk, OnOk, OnErr};
-ghost use Rattle.rate_desk.specs.Call.{HasStay};
-ghost use Rattle.rate_desk.specs.declared.call.Call.TheVariants.{Time};
-ghost use Rattle.core_steps.specs.declared.job.Job.TheVariants.{Packet};
-ghost use Rattle.core_steps.specs.DeskCalls.{stay_call};
+ghost use Rattle.desk.specs.Call.{HasStay};
+ghost use Rattle.desk.specs.declared.call.Call.TheVariants.{Time};
+ghost use Rattle.events.specs.declared.job.Job.TheVariants.{Packet};
+ghost use Rattle.notices.specs.DeskCalls.{stay_call};
 ghost use Rattle.core_steps.specs.Duties.{Reports};
-ghost use Rattle.core_steps.specs.Machine.{state_of, task_of, task_in, worker_state, pending_with};
+ghost use Rattle.core_steps.specs.Machine.{state_of, task_of, task_in, worker_state};
+ghost use Rattle.notices.specs.Notification.{pending_with};
 ghost use Rattle.core_steps.specs.Pushing.{Pushed};
 ghost use Rattle.core_steps.specs.Rule.{AsksDesk, OrderAsks, DoesTask, DoesNext, IsReporting, pushing};
 ghost use Rattle.core_steps.specs.Run.{Leaves, Stays};
 ghost use Rattle.core_steps.specs.World.{Task, order as ordering};
 
-use crate::asking::{ask, stay_call};
-use crate::bytes::Bytes;
-use crate::job::Job;
+use crate::asking::ask;
 use crate::machine::{Machine, Worker};
-use crate::notification::{Notification, notify};
-use crate::output::Out;
 use crate::ring::{JOB_LIMIT, JobRing};
 use crate::tasks::{FollowUp, NextTask};
+use desk::{Call, Change, Signal};
+use events::{Bytes, Job, Out};
 use members::{Order, Row};
-use rate_desk::{Call, Change, Signal};
+use notices::{Notification, notify, stay_call};
 use std::alloc::AllocError;
 
 /// One step of the ingress.

@@ -4,7 +4,7 @@ ghost use Rattle.std.specs.Prelude.{◌≡◌, ◌++◌, ℕ, ◌≤◌, List, f
 ghost use Rattle.std.specs.List.{AllByRecursion};
 ghost use Rattle.members.specs.Calls.{room_after};
 ghost use Rattle.routes.specs.Rows.{row_changed};
-ghost use Rattle.core_steps.specs.declared.event.Event.{Event};
+ghost use Rattle.events.specs.declared.event.Event.{Event};
 ghost use Rattle.core_steps.specs.EveryRun.{OfEveryHappening, OfEveryRun, OfEveryRunFromNew, AfterEveryRun};
 ghost use Rattle.core_steps.specs.EveryRun.{tasks_done, tasks_made, jobs_taken, jobs_put, row_changes, room_calls};
 ghost use Rattle.core_steps.specs.EveryRun.{HasLegalDesks, DesksRecord, DesksAnnounce, TellsLegalDesks, EndsStay, IsOver, LegsTake, NewLegsTake};

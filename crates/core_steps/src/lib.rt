@@ -8,47 +8,29 @@
 #![tactic(auto)]
 
 mod asking;
-mod bytes;
 mod duties;
-mod event;
 mod follow_ups;
-mod head;
 mod hearing;
 mod ingress;
-mod intake;
-mod job;
 pub mod laws;
-mod leg;
-mod legs;
-mod links;
 mod machine;
-mod notification;
-mod output;
-mod plan;
-mod planning;
 pub mod quiet;
 mod ring;
-pub mod rtp_laws;
 mod runner;
 mod tasks;
 mod ticking;
 mod working;
 mod world;
 
-pub use asking::{notification_of, picture_call, stay_call, waiting};
-pub use bytes::Bytes;
 pub use duties::{Duty, IngressCore};
-pub use event::Event;
-pub use head::{Head, upstream_report};
+pub use events::{Bytes, DeskRefusal, Event, Job, Out, Refusal, RunFault};
 pub use intake::{Ask, Control, Heard, Unheard, hear_datagram, says_one_thing};
-pub use job::Job;
-pub use leg::LegState;
-pub use legs::Legs;
-pub use links::Links;
-pub use notification::{Notification, entries_of, notify, tells_each_change};
-pub use output::{DeskRefusal, Out, Refusal};
-pub use plan::{Plan, Planned};
+pub use legs::{LegState, Legs, Plan, Planned};
+pub use notices::{
+    Asks, Head, Notification, asked_by, entries_of, notification_of, notify, picture_call,
+    stay_call, tells_each_change, upstream_report, waiting,
+};
 pub use ring::JOB_LIMIT;
-pub use runner::{RunFault, run};
-pub use working::{Asks, asked_by};
+pub use runner::run;
+pub use settings::Links;
 pub use world::{Waiting, World};

@@ -2,17 +2,15 @@
 
 ghost use Rattle.std.specs.Prelude.{◌≡◌, ◌<◌, ◌^◌};
 
-use crate::head::Head;
-use crate::intake::Ask;
-use crate::job::Job;
-use crate::legs::Legs;
-use crate::links::Links;
-use crate::notification::Notification;
-use crate::plan::Plan;
 use crate::ring::JobRing;
 use crate::tasks::Tasks;
+use desk::{Desk, Effect};
+use events::Job;
+use intake::Ask;
+use legs::{Legs, Plan};
 use members::{Room, Row};
-use rate_desk::{Desk, Effect};
+use notices::{Head, Notification};
+use settings::Links;
 use std::alloc::Global;
 
 /// The machine's parts. Contracts see them as `state_of` says.

@@ -1,8 +1,8 @@
 //! What is live once nothing waits. This function does nothing: its contract is the law.
 
 ghost use Rattle.std.specs.Prelude.{List};
-ghost use Rattle.members.specs.Settings.{Configuration, IsInRange};
-ghost use Rattle.core_steps.specs.declared.event.Event.{Event};
+ghost use Rattle.settings.specs.Settings.{Configuration, IsInRange};
+ghost use Rattle.events.specs.declared.event.Event.{Event};
 ghost use Rattle.core_steps.specs.Happening.{Happening};
 ghost use Rattle.core_steps.specs.Opening.{IsNewWorld};
 ghost use Rattle.core_steps.specs.Quiet.{HeardRate, HeardIn, IsQuiet, LastHeardIsLive};

@@ -1,6 +1,6 @@
 //! The ring of a worker's jobs.
 
-use crate::job::Job;
+use events::Job;
 use std::alloc::{AllocError, Global};
 use std::collections::VecDeque;
 use std::marker::Model;
@@ -17,7 +17,7 @@ pub(crate) struct JobRing {
 impl Model for JobRing {
     ghost use Rattle.std.specs.Prelude.{List, ◌≤◌, length};
     ghost use Rattle.std.specs.VecDeque.{deque_capacity};
-    ghost use Rattle.core_steps.specs.declared.job.Job.{Job};
+    ghost use Rattle.events.specs.declared.job.Job.{Job};
     ghost use Rattle.core_steps.specs.declared.ring.TheConstants.{JOB_LIMIT};
 
     ghost Value = { List Job };

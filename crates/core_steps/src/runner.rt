@@ -2,31 +2,21 @@
 
 ghost use Rattle.std.specs.Prelude.{◌≡◌, ◌≤◌, ◌∷◌, [], length, take, OnOk, OnErr, IfErr};
 ghost use Rattle.core_steps.specs.Machine.{state_of};
-ghost use Rattle.core_steps.specs.declared.output.Out.TheVariants.{Busy};
+ghost use Rattle.events.specs.declared.output.Out.TheVariants.{Busy};
 ghost use Rattle.core_steps.specs.Happening.{giving};
 ghost use Rattle.core_steps.specs.Quiet.{ObeysQuietLaw};
 ghost use Rattle.core_steps.specs.Rule.{Does};
 ghost use Rattle.core_steps.specs.Run.{HasRun, Leaves, Stays};
-ghost use Rattle.core_steps.specs.RunFaults.{done_of};
+ghost use Rattle.events.specs.RunFaults.{done_of};
 
-use crate::event::Event;
 use crate::hearing::{hear, select};
 use crate::ingress::do_next;
 use crate::machine::Machine;
-use crate::output::Out;
 use crate::ticking::tick;
 use crate::working::work;
 use crate::world::World;
+use events::{Event, Out, RunFault};
 use std::alloc::AllocError;
-use thiserror::Error;
-
-/// Why a run stopped.
-#[derive(Clone, Copy, Debug, PartialEq, Eq, Error)]
-pub enum RunFault {
-    /// There was no memory for an event: the world and the outs are those of the `done` events before it.
-    #[error("no memory behind {done} events")]
-    NoMemory { done: usize },
-}
 
 /// Does the events in order, and appends what goes out. Where a run from a new world, in one call or several, leaves nothing to
 /// do, gave up no job and met no full history, each live request is the word that was heard last in the stay that stands.

@@ -2,7 +2,7 @@
 
 ghost use Rattle.std.specs.Prelude.{◌≡◌, ◌==◌, ◌+◌, ◌-◌, ◌≤◌, ◌<◌, ◌^◌, false, nat_le, [], ◌++◌, List, length, OnOk, OnErr, if◌then◌else◌, vec_len, vec_capacity};
 ghost use Rattle.std.specs.List.{enumerate_from, filter_map};
-ghost use Rattle.core_steps.specs.declared.output.Out.{Out as Given};
+ghost use Rattle.events.specs.declared.output.Out.{Out as Given};
 ghost use Rattle.core_steps.specs.Machine.{state_of};
 ghost use Rattle.core_steps.specs.FollowUps.{due_at, due_to, report_to};
 ghost use Rattle.core_steps.specs.Hearing.{ticking, numbers_below};
@@ -10,10 +10,10 @@ ghost use Rattle.core_steps.specs.Rule.{is_busy};
 ghost use Rattle.core_steps.specs.Run.{Leaves};
 
 use crate::follow_ups::push_some;
-use crate::links::Links;
 use crate::machine::{Machine, Setup};
 use crate::tasks::FollowUp;
-use members::{LegSettings, Room};
+use members::Room;
+use settings::{LegSettings, Links};
 use std::alloc::AllocError;
 
 /// It is this moment, and nothing waits.

@@ -1,29 +1,24 @@
 //! What a worker does: it takes a job, does the job in its hand, or sends a notification.
 
-ghost use Rattle.std.specs.Prelude.{◌≡◌, ◌≤◌, ◌<◌, ◌++◌, ◌∷◌, [], length, slice_get, vec_len, vec_capacity, IfOk, IfSome, OnOk, OnErr};
+ghost use Rattle.std.specs.Prelude.{◌≡◌, ◌≤◌, ◌<◌, ◌++◌, ◌∷◌, [], length, slice_get, vec_len, vec_capacity, IfOk, OnOk, OnErr};
 ghost use Rattle.rtcp_compound.specs.declared.writer.TheConstants.{CNAME_LIMIT};
-ghost use Rattle.rate_desk.specs.Call.{HasStay};
-ghost use Rattle.core_steps.specs.declared.output.Out.TheVariants.{Send};
-ghost use Rattle.core_steps.specs.Legs.{job_datagrams, legs_after};
+ghost use Rattle.desk.specs.Call.{HasStay};
+ghost use Rattle.events.specs.declared.output.Out.TheVariants.{Send};
+ghost use Rattle.legs.specs.Legs.{job_datagrams, legs_after};
 ghost use Rattle.core_steps.specs.Machine.{state_of, setup_of, worker_state};
-ghost use Rattle.core_steps.specs.Plan.{out_of, plan_outs};
+ghost use Rattle.legs.specs.Plan.{out_of, plan_outs};
 ghost use Rattle.core_steps.specs.Rule.{Works};
 ghost use Rattle.core_steps.specs.Run.{Leaves, Stays};
-ghost use Rattle.core_steps.specs.Turns.{asks_by, AsksOf, IsCallable, IsDeskTold, Turns};
+ghost use Rattle.core_steps.specs.Turns.{IsDeskTold, Turns};
 
-use crate::asking::{ask, picture_call, stay_call};
-use crate::bytes::Bytes;
-use crate::job::Job;
-use crate::legs::Legs;
-use crate::links::Links;
+use crate::asking::ask;
 use crate::machine::{Hand, Machine, Setup, Worker};
-use crate::notification::notify;
-use crate::output::Out;
-use crate::plan::{Plan, Planned};
+use desk::{Call, Desk};
+use events::{Bytes, Job, Out};
+use legs::{Legs, Plan, Planned};
 use members::Row;
-use rate_desk::{Call, Change, Desk};
+use notices::{Asks, asked_by, notify};
 use std::alloc::{AllocError, Global};
-use tmmbr_tuple::Tuple;
 
 /// One step of the worker of this number.
 pub(crate) fn work(m: &mut Machine, worker: u16, outs: &mut Vec<Out>) -> Result<(), AllocError>
@@ -110,45 +105,6 @@ fn turn(
                 Ok(())
             }
         },
-    }
-}
-
-/// Whom a job asks.
-pub enum Asks {
-    /// A publisher's desk, by this leg where a rate is asked for.
-    Desk(u16, Option<u16>, Call),
-    /// A leg or a stay that isn't there.
-    Nobody,
-    /// The worker's legs.
-    Legs,
-}
-
-/// Whom the job asks.
-pub fn asked_by(links: &Links, job: &Job) -> Asks
-    ensures value { AsksOf links.now job.now result }
-    ensures stay { IsCallable result }
-{
-    match job {
-        Job::Request { leg, stay, word } => {
-            let change = Change::Request(Tuple::from_word(*word));
-            asks_by(Some(*leg), stay_call(links, *leg, *stay, change))
-        }
-        Job::Pli { leg, moment } => asks_by(None, picture_call(links, *leg, *moment)),
-        Job::Packet { .. } => Asks::Legs,
-        Job::Resend { .. } => Asks::Legs,
-        Job::Report { .. } => Asks::Legs,
-    }
-}
-
-/// The call of a desk, where there is one, by this leg where a rate is asked for.
-fn asks_by(leg: Option<u16>, called: Option<(u16, Call)>) -> Asks
-    requires { IfSome called (λ c. HasStay c.1) }
-    ensures value { result ≡ asks_by leg called }
-    ensures stay { IsCallable result }
-{
-    match called {
-        Some((publisher, call)) => Asks::Desk(publisher, leg, call),
-        None => Asks::Nobody,
     }
 }
 

@@ -2,22 +2,21 @@
 
 ghost use Rattle.std.specs.Prelude.{◌≡◌, ◌≤◌, ◌<◌, All, length, map, sum_by, IfOk, slice_get, Some};
 ghost use Rattle.routes.specs.Rows.{opening_rows};
-ghost use Rattle.rate_desk.specs.declared.effect.Effect.{Effect as EffectValue};
-ghost use Rattle.members.specs.declared.settings.TheConstants.{MAX_WORKERS};
-ghost use Rattle.core_steps.specs.Links.{table_of};
+ghost use Rattle.desk.specs.declared.effect.Effect.{Effect as EffectValue};
+ghost use Rattle.settings.specs.declared.settings.TheConstants.{MAX_WORKERS};
+ghost use Rattle.settings.specs.Links.{table_of};
 ghost use Rattle.core_steps.specs.Machine.{state_of, setup_of, worker_state, hand_in};
 ghost use Rattle.core_steps.specs.Waits.{as_counted, hand_count};
 ghost use Rattle.core_steps.specs.Opening.{setup_by, IsNewDesk, IsNewWorker, AreNewWorkers, IsNewWorld};
 
-use crate::head::Head;
-use crate::legs::Legs;
-use crate::links::Links;
 use crate::machine::{Hand, Machine, Setup, Worker};
-use crate::plan::Plan;
 use crate::ring::JobRing;
 use crate::tasks::Tasks;
-use members::{Room, Row, Settings};
-use rate_desk::{Desk, Effect};
+use desk::{Desk, Effect};
+use legs::{Legs, Plan};
+use members::{Room, Row};
+use notices::Head;
+use settings::{Links, Settings};
 use std::alloc::{AllocError, Global};
 use std::marker::Model;
 

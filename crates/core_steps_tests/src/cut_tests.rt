@@ -3,7 +3,7 @@
 use crate::random_room::{Draws, hear, media, packet, room, source, tmmbr};
 use crate::steps::{do_events, lines};
 use core_steps::*;
-use members::Settings;
+use settings::Settings;
 use std::alloc::{AllocError, Global};
 use std::fmt::{self, Write};
 use std::test::Fail;

@@ -1,8 +1,9 @@
 //! Jobs in; datagrams, skips and misses out.
 
 use core_steps::*;
-use members::{LegParts, Parts, Row, Settings};
+use members::Row;
 use rtcp_feedback::Nack;
+use settings::{LegParts, Parts, Settings};
 use std::alloc::{AllocError, Global};
 use std::fmt::Write;
 use std::process::Abort;

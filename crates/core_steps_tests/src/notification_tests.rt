@@ -1,8 +1,9 @@
 //! Calls of a desk in, the datagrams that follow out, as lines of hexadecimal digits.
 
 use core_steps::*;
-use members::{Block, LegParts, Parts, Row, Settings, SettingsFault};
-use rate_desk::{Desk, Effect, HistoryFull, Reply};
+use desk::{Desk, Effect, HistoryFull, Reply};
+use members::{Block, Row};
+use settings::{LegParts, Parts, Settings, SettingsFault};
 use std::alloc::{AllocError, Global};
 use std::fmt::{self, Write};
 use std::process::Abort;

@@ -1,7 +1,7 @@
 //! A room for runs by chance, and the packets that its endpoints send.
 
 use core_steps::*;
-use members::{LegParts, Parts, Settings};
+use settings::{LegParts, Parts, Settings};
 use std::alloc::{AllocError, Global};
 use std::test::Fail;
 

@@ -3,8 +3,8 @@
 ghost use Rattle.std.specs.Prelude.{◌<◌};
 
 use core_steps::*;
-use members::{LegParts, Parts, Settings, SettingsFault};
 use rtcp_feedback::write_tmmbn;
+use settings::{LegParts, Parts, Settings, SettingsFault};
 use std::alloc::{AllocError, Global};
 use std::fmt::{self, Write};
 use std::test::Fail;

@@ -5,13 +5,13 @@ use Rattle.std.specs.Option.{option_map_or}
 use Rattle.std.proofs.lemmas.Bool.Decides.{nat_tests}
 use Rattle.std.proofs.lemmas.Bool.{cases_lt}
 use Rattle.std.proofs.lemmas.List.{length-map}
-use Rattle.members.specs.declared.fault.RoomFault.{RoomFault}
+use Rattle.settings.specs.declared.fault.RoomFault.{RoomFault}
 use Rattle.members.specs.declared.presence.Endpoint.{Endpoint}
 use Rattle.members.specs.declared.stays.TheConstants.{MAX_STAY}
 use Rattle.members.specs.Presence.{is_overdue_at, is_present_at, source_at, with_heard}
 use Rattle.members.specs.Stays.{Told, without_orders, leave, after_overdue, leaving, coming_count}
 use Rattle.tmmbr_tuple.specs.declared.ssrc.Ssrc.{Ssrc}
-use Rattle.members.specs.Settings.{Configuration}
+use Rattle.settings.specs.Settings.{Configuration}
 use Rattle.members.specs.Room.{RoomState, Step, step_with, after_leaving, leg_at, is_selected, takes_turn, absent, new_room}
 use Rattle.members.specs.Calls.{Call, Hear, Bye, Tick, Select, Receive, Report, MakeBlock, step_of, room_of, if_accepted, room_after, accepted_calls, moment_of, greatest_moment, heard_by, last_heard, is_recent, is_present_after}
 

@@ -5,13 +5,13 @@ use Rattle.std.proofs.lemmas.Bool.Decides.{nat_tests}
 use Rattle.std.proofs.lemmas.Bool.{cases_lt}
 use Rattle.std.proofs.lemmas.List.{length-map, length-set, get_or-map}
 use Rattle.std.proofs.lemmas.List.Elements.{All-tail}
-use Rattle.members.specs.declared.fault.RoomFault.{RoomFault}
+use Rattle.settings.specs.declared.fault.RoomFault.{RoomFault}
 use Rattle.members.specs.declared.presence.Endpoint.{Endpoint}
 use Rattle.members.specs.declared.stays.LegStay.{LegStay}
 use Rattle.members.specs.declared.stays.TheConstants.{MAX_STAY}
-use Rattle.members.specs.declared.settings.LegSettings.{LegSettings}
+use Rattle.settings.specs.declared.settings.LegSettings.{LegSettings}
 use Rattle.members.specs.Presence.{is_overdue_at, is_present_at, source_at}
-use Rattle.members.specs.Settings.{Configuration, IsInRange, IsLegAmong}
+use Rattle.settings.specs.Settings.{Configuration, IsInRange, IsLegAmong}
 use Rattle.members.specs.Stays.{Told, without_orders, leave, after_overdue, leaving, is_of, leg_without, begins_with, started_legs, turn_from, coming_count, coming_legs}
 use Rattle.members.specs.Room.{RoomState, Step, after_leaving, after_bye, leg_at, no_leg, is_selected, takes_turn, switched_leg, idle_leg, new_room}
 use Rattle.members.specs.Calls.{Call, Hear, Bye, Tick, Select, Receive, Report, MakeBlock, step_of, room_of, if_accepted, room_after, orders_after, accepted_calls, moment_of, heard_by, is_recent, is_present_after, comes_by, comings_from, stay_after, IsOnePresence}

@@ -5,6 +5,5 @@ pub mod LastLemmas
 pub mod NumberLemmas
 pub mod ReceivedLemmas
 pub mod ReceptionLemmas
-pub mod SettingsLemmas
 pub mod StandLemmas
 pub mod StayLemmas

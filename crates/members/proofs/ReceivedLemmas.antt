@@ -4,11 +4,11 @@ use Rattle.std.specs.Prelude.{◌==◌, not, Option, ◌&&◌, nat_le, nat_lt, m
 use Rattle.std.proofs.lemmas.Bool.Decides.{nat_tests}
 use Rattle.std.proofs.lemmas.List.{append-nil, length-map}
 use Rattle.tmmbr_tuple.specs.declared.ssrc.Ssrc.{Ssrc}
-use Rattle.members.specs.declared.fault.RoomFault.{RoomFault}
+use Rattle.settings.specs.declared.fault.RoomFault.{RoomFault}
 use Rattle.members.specs.declared.presence.Endpoint.{Endpoint}
 use Rattle.members.specs.declared.stays.TheConstants.{MAX_STAY}
 use Rattle.members.specs.Presence.{is_present_at, source_at, with_heard}
-use Rattle.members.specs.Settings.{Configuration}
+use Rattle.settings.specs.Settings.{Configuration}
 use Rattle.members.specs.Stays.{Told, leave, coming_count}
 use Rattle.members.specs.Stream.{nothing_heard, heard_packet, heard_report, heard_block, IsBlockAnswer}
 use Rattle.members.specs.Reception.{Block, Heard, ReceptionCall, Received, SenderReported, BlockMade, reception_of, IsBlockAfter}

@@ -4,15 +4,15 @@ use Rattle.std.specs.Prelude.{◌==◌, ◌≢◌, not, ◌&&◌, ◌||◌, nat_
 use Rattle.std.proofs.lemmas.Bool.Decides.{nat_tests}
 use Rattle.std.proofs.lemmas.List.{length-map}
 use Rattle.std.proofs.lemmas.List.Elements.{All-nil, All-cons, All-tail, All-map, All-set, All-weaker}
-use Rattle.members.specs.declared.fault.RoomFault.{RoomFault}
+use Rattle.settings.specs.declared.fault.RoomFault.{RoomFault}
 use Rattle.members.specs.declared.presence.Endpoint.{Endpoint}
 use Rattle.members.specs.declared.stays.LegStay.{LegStay}
 use Rattle.members.specs.declared.stays.TheConstants.{MAX_STAY}
 use Rattle.members.specs.Presence.{is_overdue_at, is_present_at, source_at, with_heard}
 use Rattle.members.specs.Stays.{Told, without_orders, leave, after_overdue, leaving, is_of, leg_without, begins_with, started_legs, turn_from, coming_count, coming_legs}
-use Rattle.members.specs.declared.settings.LegSettings.{LegSettings}
+use Rattle.settings.specs.declared.settings.LegSettings.{LegSettings}
 use Rattle.tmmbr_tuple.specs.declared.ssrc.Ssrc.{Ssrc}
-use Rattle.members.specs.Settings.{Configuration}
+use Rattle.settings.specs.Settings.{Configuration}
 use Rattle.members.specs.Room.{RoomState, Step, after_leaving, after_bye, leg_at, no_leg, is_selected, takes_turn, switched_leg, absent, idle_leg, new_room}
 use Rattle.members.specs.Calls.{Call, Hear, Bye, Tick, Select, Receive, Report, MakeBlock, step_of, room_of, room_after}
 use Rattle.members.proofs.CallLemmas.{leaving_count}

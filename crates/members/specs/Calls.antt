@@ -3,11 +3,11 @@ use Rattle.std.specs.Prelude.{◌≡◌, ◌≢◌, ◌==◌, not, All, ◌&&◌
 use Rattle.std.specs.Option.{option_map_or}
 use Rattle.members.specs.declared.order.Order.{Order}
 use Rattle.members.specs.declared.order.Order.TheVariants.{Arrive, Depart, Route}
-use Rattle.members.specs.declared.fault.RoomFault.{RoomFault}
+use Rattle.settings.specs.declared.fault.RoomFault.{RoomFault}
 use Rattle.members.specs.declared.presence.Endpoint.{Endpoint}
 use Rattle.members.specs.declared.stays.LegStay.{LegStay}
 use Rattle.members.specs.Presence.{is_present_at}
-use Rattle.members.specs.Settings.{Configuration}
+use Rattle.settings.specs.Settings.{Configuration}
 use Rattle.members.specs.Room.{RoomState, Step, new_room, leg_at, tick_step, bye_step, hear_step, select_step, after_packet, after_report, after_block}
 use Rattle.members.specs.Reception.{ReceptionCall, Received, SenderReported, BlockMade}
 

@@ -1,9 +1,7 @@
 pub mod Calls
-pub mod Fault
 pub mod Held
 pub mod Presence
 pub mod Reception
 pub mod Room
-pub mod Settings
 pub mod Stays
 pub mod Stream

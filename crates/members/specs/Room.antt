@@ -3,14 +3,14 @@ use Rattle.std.specs.Prelude.{◌≡◌, IfOk, IfErr, OnOk, OnErr, ◌==◌, ℕ
 use Rattle.tmmbr_tuple.specs.declared.ssrc.Ssrc.{Ssrc}
 use Rattle.members.specs.declared.order.Order.{Order}
 use Rattle.members.specs.declared.order.Order.TheVariants.{Route}
-use Rattle.members.specs.declared.fault.RoomFault.{RoomFault}
-use Rattle.members.specs.declared.fault.RoomFault.TheVariants.{UnknownEndpoint, WrongSsrc, UnknownLeg, StaysSpent, NoMemory}
+use Rattle.settings.specs.declared.fault.RoomFault.{RoomFault}
+use Rattle.settings.specs.declared.fault.RoomFault.TheVariants.{UnknownEndpoint, WrongSsrc, UnknownLeg, StaysSpent, NoMemory}
 use Rattle.members.specs.declared.presence.Endpoint.{Endpoint}
 use Rattle.members.specs.declared.presence.TheConstants.{LAST_MOMENT}
 use Rattle.members.specs.declared.stays.LegStay.{LegStay}
 use Rattle.members.specs.declared.stays.TheConstants.{MAX_STAY}
-use Rattle.members.specs.declared.settings.LegSettings.{LegSettings}
-use Rattle.members.specs.Settings.{Configuration}
+use Rattle.settings.specs.declared.settings.LegSettings.{LegSettings}
+use Rattle.settings.specs.Settings.{Configuration}
 use Rattle.members.specs.Presence.{NobodyOverdue, is_present_at, source_at, with_heard}
 use Rattle.members.specs.Stays.{Told, leave, leaving, coming_count, come}
 use Rattle.members.specs.Reception.{Heard}

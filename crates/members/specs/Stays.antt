@@ -6,6 +6,7 @@ use Rattle.members.specs.declared.order.Order.TheVariants.{Arrive, Depart, Route
 use Rattle.members.specs.declared.presence.Endpoint.{Endpoint}
 use Rattle.members.specs.declared.stays.LegStay.{LegStay}
 use Rattle.members.specs.Presence.{is_overdue_at, is_present_at, with_heard}
+use Rattle.members.specs.declared.order.Row.{Row}
 
 -- the endpoints and legs, and the orders so far
 pub record Told : Type 0 where
@@ -110,3 +111,7 @@ told_more (Some orders) more = Some (orders ++ more)
 pub record Tells (old : Option (List Order)) (more : List Order)
     (new : Option (List Order)) : Type 0 where
   pub ends : (orders : List Order) → new ≡ Some orders → told_more old more ≡ Some orders
+
+-- nothing stands on the leg, and nothing is forwarded
+abbrev pub opening_row : Row
+opening_row = record { stay = 0; turn = 0; on = false }

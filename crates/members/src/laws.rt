@@ -3,7 +3,7 @@
 
 ghost use Rattle.std.specs.Prelude.{◌≡◌, ◌≢◌, All, ℕ, ◌<◌, List, length};
 ghost use Rattle.members.specs.Presence.{is_present_at};
-ghost use Rattle.members.specs.Settings.{Configuration, IsInRange};
+ghost use Rattle.settings.specs.Settings.{Configuration, IsInRange};
 ghost use Rattle.members.specs.Room.{new_room, leg_at, reception_at};
 ghost use Rattle.members.specs.Calls.{Call, room_after, orders_after, accepted_calls, greatest_moment, is_present_after, arrivals, departures, received_in_presence, RiseWithin, StandsByPresence, StandsNowhere};
 ghost use Rattle.members.specs.Calls.{drawn_numbers, RunsFrom, stay_after, IsOnePresence};

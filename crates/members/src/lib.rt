@@ -5,25 +5,21 @@
 //! their moment.
 #![tactic(auto)]
 
-mod checks;
-mod fault;
 pub mod laws;
 mod order;
-mod parts;
 mod presence;
 mod reception;
 mod room;
-mod settings;
 mod stays;
 mod stream;
 mod table;
 
-pub use fault::{Key, RoomFault, SettingsFault};
 pub use order::{Order, Row};
-pub use parts::{LegParts, Parts};
 pub use room::Room;
 pub use rtcp_compound::Block;
-pub use settings::{LegSettings, MAX_ENDPOINTS, MAX_LEGS, Settings};
+pub use settings::{
+    Key, LegParts, LegSettings, MAX_ENDPOINTS, MAX_LEGS, Parts, RoomFault, Settings, SettingsFault,
+};
 pub use stays::MAX_STAY;
 pub use stream::COUNTED_PACKETS;
 

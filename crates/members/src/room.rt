@@ -4,14 +4,13 @@ ghost use Rattle.std.specs.Prelude.{◌≡◌, map, IfOk};
 ghost use Rattle.members.specs.Stays.{without_orders, leaving};
 ghost use Rattle.members.specs.Stream.{nothing_heard};
 
-use crate::fault::RoomFault;
 use crate::order::{Draft, Order};
 use crate::presence::{LAST_MOMENT, first_overdue, is_present_at, mark, source_at};
 use crate::reception::Reception;
-use crate::settings::Settings;
 use crate::stays::{arrive, leave_present, select_leg};
 use crate::table::Table;
 use rtcp_compound::Block;
+use settings::{RoomFault, Settings};
 use std::alloc::{AllocError, Global};
 use std::marker::Model;
 use std::mem;

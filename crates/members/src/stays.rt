@@ -6,10 +6,9 @@ ghost use Rattle.members.specs.Presence.{is_present_at, is_overdue_at, with_hear
 ghost use Rattle.members.specs.Room.{is_selected, leg_at, takes_turn, switched_leg, next_after, row_order};
 ghost use Rattle.members.specs.Stays.{is_of, ending, ending_of, endings, leg_without, leaving, begins_with, turn_from, beginning, coming_count, coming_orders, coming_legs, Tells};
 
-use crate::fault::RoomFault;
 use crate::order::{Draft, Order};
 use crate::presence::{Endpoint, is_overdue_at, is_present_at, mark};
-use crate::settings::MAX_LEGS;
+use settings::{MAX_LEGS, RoomFault};
 
 /// Stays and turns are numbered from 1 to below this.
 pub const MAX_STAY: u64 = 1 << 62;

@@ -6,8 +6,8 @@ ghost use Rattle.members.specs.Room.{absent, idle_leg};
 
 use crate::order::Draft;
 use crate::presence::Endpoint;
-use crate::settings::{LegSettings, MAX_LEGS, Settings};
 use crate::stays::{LegStay, leave_overdue};
+use settings::{LegSettings, MAX_LEGS, Settings};
 use std::alloc::{AllocError, Global};
 use tmmbr_tuple::Ssrc;
 

@@ -1,13 +1,1 @@
-pub mod PresenceLemmas
-pub mod LiveLemmas
-pub mod TraceLemmas
-pub mod KeptLemmas
-pub mod EffectLemmas
 pub mod ShareLemmas
-pub mod StandingLemmas
-pub mod DeskLemmas
-pub mod PlaceLemmas
-pub mod ScheduleLemmas
-pub mod SinceLemmas
-pub mod RequestLemmas
-pub mod OneScheduleLemmas

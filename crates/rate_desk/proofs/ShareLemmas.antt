@@ -5,17 +5,17 @@ use Rattle.std.proofs.lemmas.Bool.{eqb-true, eq-eqb}
 use Rattle.std.proofs.lemmas.List.Sums.{sum_by-cons}
 use Rattle.tmmbr_tuple.specs.declared.tuple.Tuple.{Tuple}
 use Rattle.tmmbr_tuple.specs.Tuple.{word_of}
-use Rattle.rate_desk.specs.declared.base.Base.{Base}
-use Rattle.rate_desk.specs.declared.base.TheConstants.{CALL_LIMIT}
-use Rattle.rate_desk.specs.declared.call.Answer.{Answer}
-use Rattle.rate_desk.specs.declared.call.Call.{Call}
-use Rattle.rate_desk.specs.declared.call.Call.TheVariants.{Stay, Time}
-use Rattle.rate_desk.specs.declared.call.Change.TheVariants.{Arrive, Request as Ask, Depart}
-use Rattle.rate_desk.specs.declared.call.Entry.{Entry}
-use Rattle.rate_desk.specs.Call.{requested_word}
-use Rattle.rate_desk.specs.Trace.{words_of}
-use Rattle.rate_desk.specs.State.{DeskState, HoldsLegalDesk, Records, call_count}
-use Rattle.rate_desk.proofs.TraceLemmas.{calls-after}
+use Rattle.desk.specs.declared.base.Base.{Base}
+use Rattle.desk.specs.declared.base.TheConstants.{CALL_LIMIT}
+use Rattle.desk.specs.declared.call.Answer.{Answer}
+use Rattle.desk.specs.declared.call.Call.{Call}
+use Rattle.desk.specs.declared.call.Call.TheVariants.{Stay, Time}
+use Rattle.desk.specs.declared.call.Change.TheVariants.{Arrive, Request as Ask, Depart}
+use Rattle.desk.specs.declared.call.Entry.{Entry}
+use Rattle.desk.specs.Call.{requested_word}
+use Rattle.desk.specs.Trace.{words_of}
+use Rattle.desk.specs.State.{DeskState, HoldsLegalDesk, Records, call_count}
+use Rattle.desk.proofs.TraceLemmas.{calls-after}
 
 word_of-small : (t : Tuple) → word_of t ≤ 2 ^ 32
 word_of-small t = omega (arith, t.exp_in_range, t.mantissa_in_range, t.overhead_in_range)

@@ -1,11 +1,11 @@
 -- What is compared when a house is gathered, and which fault is found first.
 use Rattle.std.specs.Prelude.{◌≡◌, ◌≢◌, ℕ, ◌+◌, ◌-◌, ◌<◌, ◌≤◌, ◌⊎◌, List, length, sum_by, slice_get, slice_index_or, Some, All, AllPairs}
-use Rattle.rate_desk.specs.declared.call.Entry.{Entry}
+use Rattle.desk.specs.declared.call.Entry.{Entry}
 use Rattle.rate_desk.specs.declared.receipt.Receipt.{Receipt}
 use Rattle.rate_desk.specs.declared.receipt.GatherFault.{GatherFault}
 use Rattle.rate_desk.specs.declared.receipt.GatherFault.TheVariants.{Differs, Twice, Folded, Seats, Totals, NoMemory}
-use Rattle.rate_desk.specs.Trace.{words_of}
-use Rattle.rate_desk.specs.State.{DeskState, call_count}
+use Rattle.desk.specs.Trace.{words_of}
+use Rattle.desk.specs.State.{DeskState, call_count}
 use Rattle.rate_desk.specs.Shares.{SeatState, IsDeskOf, calls_to, words_to}
 
 -- the call and the answer of a receipt

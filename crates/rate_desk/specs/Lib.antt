@@ -1,14 +1,2 @@
-pub mod Call
-pub mod Presence
-pub mod Trace
-pub mod Places
-pub mod Schedule
-pub mod Kept
-pub mod Answer
-pub mod History
-pub mod Effect
-pub mod Standing
-pub mod State
-pub mod Held
 pub mod Shares
 pub mod Gathered

@@ -1,14 +1,14 @@
 -- What a contract sees of a `DeskSeat`, and what a house's calls give.
 use Rattle.std.specs.Prelude.{◌≡◌, ℕ, ◌+◌, ◌*◌, ◌^◌, ◌<◌, ◌≤◌, List, length, get_or, set, replicate}
 use Rattle.bounding_set.specs.State.{announced_of}
-use Rattle.rate_desk.specs.declared.call.Call.{Call}
-use Rattle.rate_desk.specs.declared.effect.Effect.{Effect}
+use Rattle.desk.specs.declared.call.Call.{Call}
+use Rattle.desk.specs.declared.effect.Effect.{Effect}
 use Rattle.rate_desk.specs.declared.receipt.Receipt.{Receipt}
 use Rattle.rate_desk.specs.declared.receipt.HouseFault.{HouseFault}
 use Rattle.rate_desk.specs.declared.receipt.HouseFault.TheVariants.{HistoryFull, Behind}
-use Rattle.rate_desk.specs.Call.{requested_word}
-use Rattle.rate_desk.specs.Effect.{IsEffect}
-use Rattle.rate_desk.specs.State.{DeskState, HoldsLegalDesk, IsOverLimit, Records, call_count}
+use Rattle.desk.specs.Call.{requested_word}
+use Rattle.desk.specs.Effect.{IsEffect}
+use Rattle.desk.specs.State.{DeskState, HoldsLegalDesk, IsOverLimit, Records, call_count}
 
 -- the recorded calls to each publisher, the sums of the words that they requested, and the calls that the share stands for
 pub record SeatState : Type 0 where

@@ -5,13 +5,12 @@ ghost use Rattle.std.specs.Prelude.{◌≡◌, ◌≢◌, ◌<◌, ◌≤◌, �
 ghost use Rattle.rate_desk.specs.Shares.{calls_to, words_to};
 ghost use Rattle.rate_desk.specs.Gathered.{AddsUp, AddUpBelow, Agrees, AreDesksOf, AtItsDesk, FailsToGather, Fits, GathersAll, IsApart, IsFirst, IsFirstGatherFault, IsFirstOff, IsFirstTwice, IsFoldedAt, IsFoldedIn, StandsIn, receipt_entry};
 
-use crate::call::{Answer, Call, Change, Signal};
-use crate::desk::Desk;
 use crate::held::HeldDesk;
 use crate::house::House;
 use crate::ledger::{DeskCalls, SeatCalls};
 use crate::receipt::{GatherFault, Receipt};
 use crate::seat::DeskSeat;
+use desk::{Answer, Call, Change, Desk, Signal};
 use std::sync::Mutex;
 use tmmbr_tuple::Tuple;
 

@@ -1,11 +1,10 @@
 //! What lies under a publisher's lock.
 
 ghost use Rattle.std.specs.Prelude.{◌≡◌};
-ghost use Rattle.rate_desk.specs.State.{call_count};
+ghost use Rattle.desk.specs.State.{call_count};
 
-use crate::base::CALL_LIMIT;
-use crate::desk::Desk;
 use crate::ledger::DeskCalls;
+use desk::{CALL_LIMIT, Desk};
 use std::sync::ledger::Share;
 
 /// A desk, whose type keeps that its history is legal and its announced set the smallest; and its share of

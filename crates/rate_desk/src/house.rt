@@ -3,13 +3,11 @@
 ghost use Rattle.std.specs.Prelude.{◌≡◌, ◌≤◌, replicate, vec_len, vec_capacity, IfOk, []};
 ghost use Rattle.rate_desk.specs.Shares.{new_seat};
 
-use crate::call::{Call, Change, Signal};
-use crate::desk::Desk;
-use crate::effect::Effect;
 use crate::held::HeldDesk;
 use crate::ledger::{DeskCalls, SeatCalls, Tally};
 use crate::receipt::{HouseFault, Receipt};
 use crate::seat::DeskSeat;
+use desk::{Call, Change, Desk, Effect, Signal};
 use std::alloc::{AllocError, Global};
 use std::sync::ledger::{Blank, Share};
 use std::sync::{Mutex, Wait};
@@ -37,10 +35,10 @@ pub struct House<D: DeskCalls, S: SeatCalls> {
 
 impl<D: DeskCalls, S: SeatCalls> House<D, S> {
     ghost use Rattle.std.specs.Prelude.{◌≡◌, ◌<◌, ◌≤◌, replicate, IfOk, IfErr, OnOk, OnErr};
-    ghost use Rattle.rate_desk.specs.declared.call.Call.TheVariants as call;
-    ghost use Rattle.rate_desk.specs.declared.call.Change.TheVariants as change;
-    ghost use Rattle.rate_desk.specs.declared.call.Signal.TheVariants as signal;
-    ghost use Rattle.rate_desk.specs.Call.{HasStay};
+    ghost use Rattle.desk.specs.declared.call.Call.TheVariants as call;
+    ghost use Rattle.desk.specs.declared.call.Change.TheVariants as change;
+    ghost use Rattle.desk.specs.declared.call.Signal.TheVariants as signal;
+    ghost use Rattle.desk.specs.Call.{HasStay};
     ghost use Rattle.rate_desk.specs.Shares.{new_seat, Counts, IsReceiptOf, IsFaultOf, IsTold, IsPulsed};
 
     /// A house of so many publishers and seats. Each desk sends PLIs upstream at least `gap` milliseconds

@@ -7,29 +7,19 @@
 //! are handed in. No call of a made desk allocates.
 #![tactic(auto)]
 
-mod base;
-mod call;
-mod desk;
-mod effect;
 mod gathering;
 mod held;
-mod history;
 mod house;
-mod kept;
-pub mod laws;
 mod ledger;
-mod presence;
 mod receipt;
 mod seat;
-mod standing;
 
-pub use base::{Base, CALL_LIMIT};
-pub use call::{Answer, Call, Change, Entry, KEPT_WORDS, Signal};
-pub use desk::{Desk, HISTORY_LIMIT, HistoryFull, Recorded, Reply};
-pub use effect::Effect;
+pub use desk::{
+    Answer, Asked, Base, CALL_LIMIT, Call, Change, Desk, Effect, Entry, HISTORY_LIMIT, HistoryFull,
+    KEPT_WORDS, PRESENT_LIMIT, Present, Recorded, Reply, Signal,
+};
 pub use house::House;
 pub use ledger::{DeskCalls, SeatCalls};
-pub use presence::{Asked, PRESENT_LIMIT, Present};
 pub use receipt::{GatherFault, HouseFault, Receipt};
 pub use seat::DeskSeat;
 

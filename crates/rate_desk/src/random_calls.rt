@@ -1,7 +1,7 @@
 //! Random calls of desks, from fixed seeds: a few owners, some, and more than may be present.
 
 ghost use Rattle.std.specs.Prelude.{IsTrue};
-ghost use Rattle.rate_desk.specs.Call.{HasStay};
+ghost use Rattle.desk.specs.Call.{HasStay};
 
 use super::*;
 use tmmbr_tuple::{Ssrc, Tuple};

@@ -1,6 +1,6 @@
 //! What a house hands out for a call that it recorded, and when it records none.
 
-use crate::call::{Answer, Call};
+use desk::{Answer, Call};
 use thiserror::Error;
 
 /// Where a call stands in its desk's history, and what was answered.

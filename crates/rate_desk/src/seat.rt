@@ -1,12 +1,9 @@
 //! A seat: who may call the desks of a house, and how often it did.
 
-use crate::base::CALL_LIMIT;
-use crate::call::{Call, Signal};
-use crate::desk::Recorded;
-use crate::effect::Effect;
 use crate::held::HeldDesk;
 use crate::ledger::{DeskCalls, SeatCalls, Tally};
 use crate::receipt::{HouseFault, Receipt};
+use desk::{CALL_LIMIT, Call, Effect, Recorded, Signal};
 use std::alloc::{AllocError, Global};
 use std::marker::Model;
 use std::sync::ledger::Share;
@@ -42,11 +39,11 @@ impl<S: SeatCalls> Model for DeskSeat<S> {
 impl<S: SeatCalls> DeskSeat<S> {
     ghost use Rattle.std.specs.Prelude.{◌≡◌, ◌<◌, ◌≤◌, ◌+◌, ◌↔◌, ◌⊎◌, length, IfOk, IfErr, IsErr, OnOk, OnErr};
     ghost use Rattle.bounding_set.specs.State.{announced_of};
-    ghost use Rattle.rate_desk.specs.declared.call.Call.TheVariants as call;
-    ghost use Rattle.rate_desk.specs.declared.call.Signal.TheVariants as signal;
-    ghost use Rattle.rate_desk.specs.Call.{HasStay};
-    ghost use Rattle.rate_desk.specs.Effect.{IsEffect};
-    ghost use Rattle.rate_desk.specs.State.{IsOverLimit, Records, call_count};
+    ghost use Rattle.desk.specs.declared.call.Call.TheVariants as call;
+    ghost use Rattle.desk.specs.declared.call.Signal.TheVariants as signal;
+    ghost use Rattle.desk.specs.Call.{HasStay};
+    ghost use Rattle.desk.specs.Effect.{IsEffect};
+    ghost use Rattle.desk.specs.State.{IsOverLimit, Records, call_count};
     ghost use Rattle.rate_desk.specs.Shares.{calls_to, words_to, new_seat, Counts, IsReceiptOf, IsFaultAt, IsFaultOf, IsTold, IsPulsed};
 
     /// A seat that made no calls, with its part of the ledger.

@@ -6,7 +6,8 @@ use Rattle.std.proofs.lemmas.Grind.{flat_map-append}
 use mathlib.Core.List.{IsPrefix}
 use Rattle.members.specs.declared.order.Row.{Row}
 use Rattle.routes.specs.declared.change.Change.{Change}
-use Rattle.routes.specs.Rows.{row_changed, opening_rows, opening_row, rows_after}
+use Rattle.routes.specs.Rows.{row_changed, opening_rows, rows_after}
+use Rattle.members.specs.Stays.{opening_row}
 use Rattle.routes.specs.Publications.{Publication, changes_of}
 
 -- changes keep the number of rows

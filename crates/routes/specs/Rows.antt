@@ -4,10 +4,7 @@ use Rattle.members.specs.declared.order.Order.{Order}
 use Rattle.members.specs.declared.order.Order.TheVariants.{Arrive, Depart, Route}
 use Rattle.members.specs.declared.order.Row.{Row}
 use Rattle.routes.specs.declared.change.Change.{Change}
-
--- nothing stands on the leg, and nothing is forwarded
-abbrev pub opening_row : Row
-opening_row = record { stay = 0; turn = 0; on = false }
+use Rattle.members.specs.Stays.{opening_row}
 
 abbrev pub opening_rows : ℕ → List Row
 opening_rows legs = replicate legs opening_row

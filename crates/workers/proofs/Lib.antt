@@ -1,3 +1,0 @@
-pub mod AskingLemmas
-pub mod PrefixLemmas
-pub mod SendingLemmas

@@ -1,5 +1,1 @@
-pub mod Outside
-pub mod Forwarding
-pub mod Asking
-pub mod Faults
 pub mod UnitFaults

@@ -3,8 +3,8 @@
 ghost use Rattle.std.specs.Prelude.{◌≡◌};
 ghost use Rattle.core_steps.specs.Happening.{capped_count};
 
-use crate::done::Forwarded;
 use crossbeam_utils::CachePadded;
+use forwarding::Forwarded;
 use std::alloc::{AllocError, Global};
 use std::sync::atomic::{AtomicU64, Ordering};
 

@@ -1,20 +1,19 @@
 //! The ingress: it takes in what comes, and does what follows, in the thread that runs the unit.
 
 ghost use Rattle.std.specs.Prelude.{◌<◌, ◌≤◌, IfOk};
-ghost use Rattle.rate_desk.specs.Call.{HasStay};
+ghost use Rattle.desk.specs.Call.{HasStay};
 
 use crate::counts::Counts;
-use crate::done::{ForwardFault, Forwarded};
 use crate::item::Item;
 use crate::lane::Lane;
-use crate::notifier::Notifier;
-use crate::outside::Sink;
 use crate::pulses::Pulses;
-use crate::question::Question;
-use crate::sending::send_all;
-use core_steps::{Duty, IngressCore, Job, Out, stay_call};
+use core_steps::{Duty, IngressCore};
+use desk::{Answer, Call, Change, Signal};
+use events::{Job, Out};
+use forwarding::{ForwardFault, Forwarded, Notifier, Question, Sink, send_all};
 use members::Order;
-use rate_desk::{Answer, Call, Change, DeskCalls, DeskSeat, House, SeatCalls, Signal};
+use notices::stay_call;
+use rate_desk::{DeskCalls, DeskSeat, House, SeatCalls};
 use routes::{Naming, RouteReader, RouteWriter};
 use std::alloc::AllocError;
 use std::sync::Wait;

@@ -1,6 +1,6 @@
 //! What travels through a worker's ring.
 
-use core_steps::Job;
+use events::Job;
 use routes::{Naming, RouteNote};
 
 /// How many items a ring holds.

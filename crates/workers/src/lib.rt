@@ -7,32 +7,23 @@
 #![tactic(auto)]
 
 mod counts;
-mod datagram;
-mod done;
 mod fault;
-mod forwarder;
 mod ingress;
 mod item;
 mod lane;
-mod notifier;
-mod outside;
 mod pulses;
-mod question;
 mod scope;
-mod sending;
 mod turns;
 mod unit;
 mod watch;
 mod worker;
 
 pub use counts::{Counts, Status};
-pub use datagram::Datagram;
-pub use done::{ForwardFault, Forwarded};
 pub use fault::UnitFault;
-pub use forwarder::Forwarder;
-pub use notifier::Notifier;
-pub use outside::{Clock, Gate, ReceiveFault, SendFault, Sink, Source};
-pub use question::Question;
+pub use forwarding::{
+    Clock, Datagram, ForwardFault, Forwarded, Forwarder, Gate, Notifier, Question, ReceiveFault,
+    SendFault, Sink, Source,
+};
 pub use turns::{MAX_DATAGRAM, MAX_FAULTS};
 pub use unit::{Outside, Pace, Report, run_unit, run_watched};
 pub use watch::{Open, Unwatched, Watch};

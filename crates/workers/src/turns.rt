@@ -4,8 +4,8 @@ ghost use Rattle.std.specs.Prelude.{◌<◌, IfOk};
 
 use crate::fault::UnitFault;
 use crate::ingress::Ingress;
-use crate::outside::{Clock, Sink, Source};
 use crate::watch::Watch;
+use forwarding::{Clock, Sink, Source};
 use rate_desk::{DeskCalls, SeatCalls};
 use routes::Naming;
 use std::alloc::{AllocError, Global};

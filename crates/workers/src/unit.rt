@@ -5,13 +5,14 @@ ghost use Rattle.rate_desk.specs.Gathered.{AreDesksOf};
 
 use crate::counts::{Counts, Status};
 use crate::fault::UnitFault;
-use crate::outside::{Clock, Gate, Sink, Source};
 use crate::scope::{Given, Shared, run_scoped};
 use crate::turns::Inlet;
 use crate::watch::{Unwatched, Watch};
-use members::Settings;
-use rate_desk::{Desk, DeskCalls, House, SeatCalls};
+use desk::Desk;
+use forwarding::{Clock, Gate, Sink, Source};
+use rate_desk::{DeskCalls, House, SeatCalls};
 use routes::Naming;
+use settings::Settings;
 use std::alloc::{AllocError, Global};
 use std::marker::Brand;
 use std::sync::Wait;

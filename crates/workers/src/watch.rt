@@ -1,7 +1,7 @@
 //! Who looks at the unit while it runs, and what nobody does.
 
 use crate::counts::Counts;
-use crate::outside::Gate;
+use forwarding::Gate;
 
 /// Who looks at the counts while the unit runs.
 pub trait Watch {

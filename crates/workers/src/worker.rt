@@ -1,11 +1,9 @@
 //! A worker: it does the jobs of its ring, one after the other, until it is stopped.
 
 use crate::counts::Tally;
-use crate::done::{ForwardFault, Forwarded};
-use crate::forwarder::Forwarder;
 use crate::item::Item;
-use crate::outside::{Gate, Sink};
-use core_steps::Job;
+use events::Job;
+use forwarding::{ForwardFault, Forwarded, Forwarder, Gate, Sink};
 use rate_desk::{DeskCalls, DeskSeat, House, SeatCalls};
 use routes::{Naming, RouteNote, RouteReader};
 use rtrb::Consumer;

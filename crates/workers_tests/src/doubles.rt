@@ -1,6 +1,6 @@
 //! What stands for the outside in tests: lists in memory, a clock that stands still, and a gate that is open.
 
-use core_steps::Bytes;
+use events::Bytes;
 use std::alloc::{AllocError, Global};
 use workers::*;
 

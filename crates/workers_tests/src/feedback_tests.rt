@@ -4,8 +4,9 @@ ghost use Rattle.std.specs.Prelude.{◌≡◌};
 
 use crate::doubles::MemorySink;
 use crate::rooms::{HEAD, examples, is, on};
-use core_steps::Job;
-use rate_desk::{Call, Change, DeskCalls, DeskSeat, House, SeatCalls};
+use desk::{Call, Change};
+use events::Job;
+use rate_desk::{DeskCalls, DeskSeat, House, SeatCalls};
 use routes::{Naming, RouteReader, RouteWriter, routes};
 use rtcp_feedback::Nack;
 use std::alloc::{AllocError, Global};

@@ -1,12 +1,12 @@
 //! Jobs on a worker's legs.
 
 ghost use Rattle.std.specs.Prelude.{◌≡◌, ◌++◌, IsTrue, IfOk};
-ghost use Rattle.workers.specs.Forwarding.{given_by};
-ghost use Rattle.workers.specs.Outside.{datagrams_of};
+ghost use Rattle.forwarding.specs.Forwarding.{given_by};
+ghost use Rattle.forwarding.specs.Outside.{datagrams_of};
 
 use crate::doubles::{ListSink, MemorySink, MemorySource, OpenGate, StoppedClock};
 use crate::rooms::{examples, is, on, packet, rtp, two_subscribers};
-use core_steps::{Bytes, Job};
+use events::{Bytes, Job};
 use routes::{Blank, Naming, RouteNote, RouteReader, RouteWriter, routes};
 use rtcp_feedback::Nack;
 use std::alloc::Global;

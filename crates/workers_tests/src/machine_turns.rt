@@ -1,8 +1,9 @@
 //! The machine on the turns of a test: what it gives out, by who sends it.
 
 use crate::random_turns::{Turn, WORKERS};
-use core_steps::{Bytes, Event, Out, World, run};
-use members::Settings;
+use core_steps::{World, run};
+use events::{Bytes, Event, Out};
+use settings::Settings;
 use std::alloc::{AllocError, Global};
 use std::test::Fail;
 

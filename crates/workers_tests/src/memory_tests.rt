@@ -4,7 +4,7 @@ ghost use Rattle.std.specs.Prelude.{◌≡◌};
 
 use crate::doubles::MemorySink;
 use crate::rooms::{is, on, packet, rtp, two_subscribers};
-use core_steps::{Bytes, Job};
+use events::{Bytes, Job};
 use routes::{Blank, Naming, Order, RouteReader, RouteWriter, RoutesFault, routes};
 use std::alloc::{AllocError, Global};
 use std::marker::Brand;

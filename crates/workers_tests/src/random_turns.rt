@@ -3,7 +3,7 @@
 ghost use Rattle.std.specs.Prelude.{◌≡◌, ◌+◌, ◌<◌, ◌≤◌};
 
 use crate::unit_doubles::{Link, Times, settings_with};
-use members::Settings;
+use settings::Settings;
 use std::alloc::{AllocError, Global};
 use std::test::Fail;
 

@@ -1,7 +1,8 @@
 //! Rooms for tests: the settings of the worked examples, and one with two subscribers.
 
-use core_steps::{Bytes, Job};
-use members::{LegParts, Order, Parts, Settings};
+use events::{Bytes, Job};
+use members::Order;
+use settings::{LegParts, Parts, Settings};
 use std::alloc::{AllocError, Global};
 use workers::*;
 

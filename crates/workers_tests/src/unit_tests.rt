@@ -6,7 +6,7 @@ use crate::doubles::{OpenGate, StoppedClock};
 use crate::unit_doubles::{
     Arrival, Link, Pairing, Script, Until, media_packet, receiver_report, settings_of, sinks_of,
 };
-use members::Settings;
+use settings::Settings;
 use std::alloc::Global;
 use std::sync::Wait;
 use std::sync::atomic::AtomicBool;

@@ -1,5 +1,5 @@
 use Rattle.std.proofs.Common.{◌≡◌, map, take}
-use Rattle.commands.specs.CheckFile.{implied_by}
+use Rattle.request_text.specs.CheckFile.{implied_by}
 use Rattle.commands.proofs.check_file.implied_entries.Given as goal
 
 abbrev pub invariant-loop-place : goal.invariant-loop-place

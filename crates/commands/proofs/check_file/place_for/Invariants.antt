@@ -1,5 +1,5 @@
 use Rattle.std.proofs.Common.{◌≡◌, drop}
-use Rattle.commands.specs.CheckFile.{place_for}
+use Rattle.request_text.specs.CheckFile.{place_for}
 use Rattle.commands.proofs.check_file.place_for.Given as goal
 
 abbrev pub invariant-loop-asker : goal.invariant-loop-asker

@@ -1,7 +1,7 @@
 use Rattle.std.proofs.Common.{arith}
 use Rattle.std.proofs.lemmas.Result.{err_from_is_err_and}
 use Rattle.commands.proofs.SheetLemmas.{goes_on, stops}
-use Rattle.commands.proofs.WordLemmas.{nothing}
+use Rattle.request_text.proofs.WordLemmas.{nothing}
 use Rattle.commands.proofs.check_file.read_sheet.Goals as goal
 
 pub returns-in_err-take_line : goal.returns-in_err-take_line

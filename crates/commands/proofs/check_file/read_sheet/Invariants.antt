@@ -1,6 +1,6 @@
 use Rattle.std.proofs.Common.{◌≡◌, ◌+◌, ℕ, List, Result, drop, map}
-use Rattle.commands.specs.declared.entry.Entry.{Entry}
-use Rattle.commands.specs.CheckFile.{FileSpells, LinesSpell}
+use Rattle.request_text.specs.declared.entry.Entry.{Entry}
+use Rattle.request_text.specs.CheckFile.{FileSpells, LinesSpell}
 use Rattle.commands.specs.Sheet.{IsSheetOf}
 use Rattle.commands.proofs.check_file.read_sheet.Given as goal
 

@@ -1,6 +1,6 @@
 use Rattle.std.proofs.Common.{◌≡◌, ◌∙◌, sym}
 use Rattle.commands.proofs.CommandLemmas.{shown_refusal, shown_set, same_media}
-use Rattle.commands.proofs.ServeLemmas.{says_alone}
+use Rattle.serving.proofs.ServeLemmas.{says_alone}
 use Rattle.commands.proofs.command.run_command.Goals as goal
 
 pub returns-in-Err-clause-understood : goal.returns-in-Err-clause-understood

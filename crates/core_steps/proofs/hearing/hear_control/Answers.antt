@@ -1,7 +1,7 @@
 use Rattle.std.proofs.Common.{◌∙◌, ◌++◌, List, ap}
 use Rattle.std.specs.List.{flat_map}
-use Rattle.core_steps.specs.declared.intake.Ask.{Ask}
-use Rattle.core_steps.specs.declared.output.Out.{Out}
+use Rattle.intake.specs.declared.intake.Ask.{Ask}
+use Rattle.events.specs.declared.output.Out.{Out}
 use Rattle.core_steps.specs.FollowUps.{follow_up_for, refusal_unless}
 use Rattle.core_steps.specs.Machine.{state_of}
 use Rattle.core_steps.proofs.HearingLeaves.{controls}

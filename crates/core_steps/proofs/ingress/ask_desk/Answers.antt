@@ -2,10 +2,11 @@ use Rattle.std.proofs.Common.{◌≡◌, List, sym, ap, subst, arith}
 use Rattle.std.proofs.lemmas.List.{with_items_is}
 use Rattle.std.specs.Vec.{with_items}
 use Rattle.std.specs.Prelude.{Option, None, slice_get, option_map}
-use Rattle.rate_desk.specs.State.{DeskState}
-use Rattle.core_steps.specs.declared.notification.Notification.{Notification}
+use Rattle.desk.specs.State.{DeskState}
+use Rattle.notices.specs.declared.notification.Notification.{Notification}
 use Rattle.core_steps.specs.Asking.{Asked}
-use Rattle.core_steps.specs.Machine.{state_of, tasks_of, pending_with}
+use Rattle.core_steps.specs.Machine.{state_of, tasks_of}
+use Rattle.notices.specs.Notification.{pending_with}
 use Rattle.core_steps.proofs.IngressLemmas.{desk_asked}
 use Rattle.core_steps.proofs.ingress.ask_desk.Goals as goal
 

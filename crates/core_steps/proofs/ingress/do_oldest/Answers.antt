@@ -1,8 +1,8 @@
 use Rattle.std.proofs.Common.{◌∷◌, ◌++◌, [], List, ap, subst, ◌∙◌}
 use Rattle.std.specs.Result.{OnOk}
 use Rattle.std.specs.Prelude.{drop, None}
-use Rattle.core_steps.specs.declared.output.Out.{Out}
-use Rattle.core_steps.specs.declared.output.Out.TheVariants.{Idle}
+use Rattle.events.specs.declared.output.Out.{Out}
+use Rattle.events.specs.declared.output.Out.TheVariants.{Idle}
 use Rattle.core_steps.specs.Machine.{state_of, tasks_of, task_in}
 use Rattle.core_steps.specs.Rule.{DoesNext, DoesTask}
 use Rattle.core_steps.specs.Run.{Leaves}

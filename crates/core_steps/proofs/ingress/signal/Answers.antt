@@ -1,5 +1,5 @@
 use Rattle.std.proofs.Common.{ℕ, subst}
-use Rattle.rate_desk.specs.declared.call.Call.TheVariants.{Time}
+use Rattle.desk.specs.declared.call.Call.TheVariants.{Time}
 use Rattle.core_steps.specs.Machine.{state_of}
 use Rattle.core_steps.specs.Rule.{AsksDesk}
 use Rattle.core_steps.specs.Run.{Leaves}

@@ -1,5 +1,5 @@
 use Rattle.std.proofs.Common.{[], ◌∷◌, ◌<◌, ◌^◌, arith}
-use Rattle.core_steps.specs.declared.output.Out.TheVariants.{Busy}
+use Rattle.events.specs.declared.output.Out.TheVariants.{Busy}
 use Rattle.core_steps.specs.Machine.{state_of}
 use Rattle.core_steps.proofs.RunLemmas.{Leaves-giving}
 use Rattle.core_steps.proofs.runner.busy.Goals as goal

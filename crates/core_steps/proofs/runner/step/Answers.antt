@@ -1,6 +1,6 @@
 use Rattle.std.proofs.Common.{◌≡◌, ℕ, List, sym, refl, subst, ◌∙◌}
 use Rattle.std.specs.Result.{OnOk}
-use Rattle.core_steps.specs.declared.event.Event.TheVariants.{Hear, Tick, Select, Ingress, Work}
+use Rattle.events.specs.declared.event.Event.TheVariants.{Hear, Tick, Select, Ingress, Work}
 use Rattle.core_steps.specs.Happening.{Happening}
 use Rattle.core_steps.specs.Hearing.{IsHearing, ticking, selecting}
 use Rattle.core_steps.specs.Machine.{state_of}

@@ -1,5 +1,5 @@
 use Rattle.std.proofs.Common.{◌≡◌, take}
-use Rattle.core_steps.specs.Plan.{plan_outs}
+use Rattle.legs.specs.Plan.{plan_outs}
 use Rattle.core_steps.proofs.working.planned_outs.Given as goal
 
 abbrev pub invariant-loop-planned : goal.invariant-loop-planned

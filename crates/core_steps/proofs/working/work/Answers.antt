@@ -1,8 +1,8 @@
 use Rattle.std.proofs.Common.{◌≡◌, ◌<◌, ◌^◌, List, [], ◌∷◌, ◌++◌, get_or, length, set, map, arith, rules, sym, ap, ◌∙◌}
 use Rattle.std.proofs.lemmas.List.{with_items_is, length-set}
 use Rattle.std.specs.Vec.{with_items}
-use Rattle.core_steps.specs.declared.output.Out.{Out}
-use Rattle.core_steps.specs.declared.output.Out.TheVariants.{Idle}
+use Rattle.events.specs.declared.output.Out.{Out}
+use Rattle.events.specs.declared.output.Out.TheVariants.{Idle}
 use Rattle.core_steps.specs.Machine.{state_of, worker_state}
 use Rattle.core_steps.proofs.WorkingLemmas.{work-done, work-stays, work-idle, worker-there, worker-nowhere, worker-set}
 use Rattle.core_steps.proofs.working.work.Goals as goal

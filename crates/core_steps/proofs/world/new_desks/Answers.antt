@@ -1,7 +1,7 @@
 use Rattle.std.proofs.Common.{List, [], ◌∷◌, ◌++◌, arith, sym, subst, length-append, length, ap}
 use Rattle.std.specs.Prelude.{All}
 use Rattle.std.proofs.lemmas.List.Elements.{All-append, All-from_recursion}
-use Rattle.rate_desk.specs.State.{DeskState}
+use Rattle.desk.specs.State.{DeskState}
 use Rattle.core_steps.specs.Opening.{IsNewDesk}
 use Rattle.core_steps.proofs.world.new_desks.Goals as goal
 

@@ -1,7 +1,7 @@
 use Rattle.std.specs.Prelude.{◌≢◌}
 use Rattle.std.proofs.lemmas.List.Elements.{All-weaker}
-use Rattle.members.specs.declared.settings.LegSettings.{LegSettings}
-use Rattle.members.specs.Settings.{IsLegAmong}
+use Rattle.settings.specs.declared.settings.LegSettings.{LegSettings}
+use Rattle.settings.specs.Settings.{IsLegAmong}
 use Rattle.std.proofs.Common.{length}
 use Rattle.members.proofs.StandLemmas.{stand_law}
 use Rattle.members.proofs.laws.stand_by_presence.Goals as goal

@@ -1,7 +1,7 @@
 use Rattle.std.proofs.Common.{◌∷◌, [], List, sym, subst, arith, length-append}
 use Rattle.std.specs.Prelude.{All}
 use Rattle.std.proofs.lemmas.List.Elements.{All-push}
-use Rattle.rate_desk.specs.State.{DeskState}
+use Rattle.desk.specs.State.{DeskState}
 use Rattle.rate_desk.specs.Shares.{IsDeskOf}
 use Rattle.rate_desk.proofs.gathering.unlock.Goals as goal
 

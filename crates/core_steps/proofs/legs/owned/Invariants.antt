@@ -1,8 +1,0 @@
-use Rattle.std.proofs.Common.{◌≡◌, ◌++◌, drop}
-use Rattle.std.specs.List.{enumerate_from}
-use Rattle.core_steps.specs.Legs.{owned_by, new_legs}
-use Rattle.core_steps.proofs.legs.owned.Given as goal
-
-abbrev pub invariant-loop-number : goal.invariant-loop-number
-invariant-loop-number l =
-    l.legs.items ++ owned_by l.links l.ring l.worker (enumerate_from l.number (drop l.number l.links.legs)) ≡ new_legs l.links l.ring l.worker

@@ -1,5 +1,0 @@
-use Rattle.core_steps.specs.Planning.{ListsPlaces}
-use Rattle.core_steps.proofs.legs.published.Given as goal
-
-abbrev pub invariant-loop-publisher : goal.invariant-loop-publisher
-invariant-loop-publisher l = ListsPlaces l.lists.items l.publisher l.legs

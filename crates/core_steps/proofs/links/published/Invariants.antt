@@ -1,5 +1,0 @@
-use Rattle.core_steps.specs.Places.{ListsLegs}
-use Rattle.core_steps.proofs.links.published.Given as goal
-
-abbrev pub invariant-loop-publisher : goal.invariant-loop-publisher
-invariant-loop-publisher l = ListsLegs l.lists.items l.publisher l.legs

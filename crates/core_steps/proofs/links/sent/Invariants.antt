@@ -1,5 +1,0 @@
-use Rattle.core_steps.specs.Places.{FindsLegs}
-use Rattle.core_steps.proofs.links.sent.Given as goal
-
-abbrev pub invariant-loop-subscriber : goal.invariant-loop-subscriber
-invariant-loop-subscriber l = FindsLegs l.maps.items l.subscriber l.legs

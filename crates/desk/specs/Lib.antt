@@ -1,0 +1,12 @@
+pub mod Call
+pub mod Presence
+pub mod Trace
+pub mod Places
+pub mod Schedule
+pub mod Kept
+pub mod Answer
+pub mod History
+pub mod Effect
+pub mod Standing
+pub mod State
+pub mod Held

@@ -1,0 +1,64 @@
+-- What is handed over in two goes, and counted.
+use Rattle.std.proofs.Common.{◌≡◌, ℕ, ◌+◌, ◌<◌, List, [], ◌∷◌, ◌++◌, length, get_or, take, append_assoc, sym, ap, subst, ◌∙◌, arith}
+use Rattle.std.proofs.lemmas.Grind.{flat_map-append}
+use Rattle.std.proofs.lemmas.List.{length-append, append-nil, take_more}
+use Rattle.std.proofs.lemmas.List.Elements.{filter-append}
+use Rattle.std.proofs.lemmas.Option.{same_Some}
+use Rattle.std.specs.Prelude.{Option, None, Some, filter, flat_map}
+use Rattle.legs.specs.declared.leg.LegState.{LegState}
+use Rattle.events.specs.declared.output.Out.{Out}
+use Rattle.legs.specs.declared.plan.Planned.{Planned}
+use Rattle.legs.specs.Plan.{out_of, plan_outs}
+use Rattle.forwarding.specs.declared.datagram.Datagram.{Datagram}
+use Rattle.forwarding.specs.declared.done.Forwarded.{Forwarded}
+use Rattle.forwarding.specs.Outside.{SinkView, Grows, Adds, Hands, nothing_done, datagram_in, datagrams_of, is_skip, is_miss}
+
+pub grows_more : (a : Option (List Datagram)) (xs ys : List Datagram) (b c : Option (List Datagram))
+    → Grows a xs b → Grows b ys c → Grows a (xs ++ ys) c
+grows_more a xs ys b None first last = tt
+grows_more None xs ys None (Some all) first last = absurd (cc)
+grows_more None xs ys (Some m) (Some all) first last = absurd (cc)
+grows_more (Some k) xs ys None (Some all) first last = absurd (cc)
+grows_more (Some k) xs ys (Some m) (Some all) first last =
+    ap Some (sym (append_assoc k xs ys)) ∙ ap (λ (l : List Datagram). Some (l ++ ys)) (same_Some _ _ first) ∙ last
+
+pub adds_more : (xs ys : List Out) (a b c : SinkView) (d e f : Forwarded) → Adds xs a b d e → Adds ys b c e f
+    → Adds (xs ++ ys) a c d f
+adds_more xs ys a b c d e f first last =
+    let sent : datagrams_of (xs ++ ys) ≡ datagrams_of xs ++ datagrams_of ys = flat_map-append datagram_in xs ys in
+    let skips : filter is_skip (xs ++ ys) ≡ filter is_skip xs ++ filter is_skip ys = filter-append is_skip xs ys in
+    let misses : filter is_miss (xs ++ ys) ≡ filter is_miss xs ++ filter is_miss ys = filter-append is_miss xs ys in
+    let n = ap length sent ∙ length-append (datagrams_of xs) (datagrams_of ys) in
+    let s = ap length skips ∙ length-append (filter is_skip xs) (filter is_skip ys) in
+    let m = ap length misses ∙ length-append (filter is_miss xs) (filter is_miss ys) in
+    record {
+      handed = subst (λ l. Grows a.handed l c.handed) (sym sent) (grows_more a.handed (datagrams_of xs) (datagrams_of ys) b.handed c.handed first.handed last.handed);
+      tried = omega (arith, first.tried, last.tried, n);
+      failures = omega (arith, first.failures, last.failures);
+      skipped = omega (arith, first.skipped, last.skipped, s);
+      missed = omega (arith, first.missed, last.missed, m);
+    }
+
+pub grows_nothing : (a : Option (List Datagram)) → Grows a [] a
+grows_nothing None = tt
+grows_nothing (Some k) = ap Some (append-nil k)
+
+-- ---- the next of a list
+
+pub planned_more : (legs : List LegState) (plan : List Planned) (i : ℕ) (p : Planned) (a b c : SinkView) (d e : Forwarded)
+    → i < length plan → Hands (plan_outs legs (take i plan)) a b d → p ≡ get_or plan i p → Adds (out_of legs p) b c d e
+    → Hands (plan_outs legs (take (i + 1) plan)) a c e
+planned_more legs plan i p a b c d e within before is one =
+    let all : plan_outs legs (take (i + 1) plan) ≡ plan_outs legs (take i plan) ++ out_of legs p =
+    ap (λ (l : List Planned). plan_outs legs l) (take_more plan i p within)
+    ∙ flat_map-append (out_of legs) (take i plan) (get_or plan i p ∷ [])
+    ∙ ap (λ (l : List Out). plan_outs legs (take i plan) ++ l) (append-nil (out_of legs (get_or plan i p)))
+    ∙ ap (λ (q : Planned). plan_outs legs (take i plan) ++ out_of legs q) (sym is) in
+    subst (λ (outs : List Out). Hands outs a c e) (sym all) (adds_more (plan_outs legs (take i plan)) (out_of legs p) a b c nothing_done d e before one)
+
+pub given_more : (outs : List Out) (i : ℕ) (o : Out) (a b c : SinkView) (d e : Forwarded) → i < length outs
+    → Hands (take i outs) a b d → o ≡ get_or outs i o → Adds (o ∷ []) b c d e → Hands (take (i + 1) outs) a c e
+given_more outs i o a b c d e within before is one =
+    let all : take (i + 1) outs ≡ take i outs ++ o ∷ [] =
+    take_more outs i o within ∙ ap (λ (q : Out). take i outs ++ q ∷ []) (sym is) in
+    subst (λ (l : List Out). Hands l a c e) (sym all) (adds_more (take i outs) (o ∷ []) a b c nothing_done d e before one)

@@ -1,0 +1,147 @@
+-- How a desk of a house is asked, and what is told then.
+use Rattle.std.specs.Prelude.{◌≡◌, ◌==◌, ◌≤◌, ℕ, Bool, true, false, Option, None, Some, List, Result, Ok, MatchOption, MatchBool, MatchResult, slice_get, if◌then◌else◌}
+use Rattle.std.specs.Option.{option_map_or}
+use Rattle.members.specs.declared.order.Row.{Row}
+use Rattle.settings.specs.declared.settings.LegSettings.{LegSettings}
+use Rattle.desk.specs.declared.effect.Effect.{Effect}
+use Rattle.rate_desk.specs.declared.receipt.Receipt.{Receipt}
+use Rattle.rate_desk.specs.declared.receipt.HouseFault.{HouseFault}
+use Rattle.rate_desk.specs.Shares.{SeatState, Counts, IsReceiptOf, IsFaultOf, IsTold}
+use Rattle.routes.specs.Views.{ReaderView}
+use Rattle.events.specs.declared.job.Job.{Job}
+use Rattle.events.specs.declared.job.Job.TheVariants.{Packet, Request, Resend, Pli, Report}
+use Rattle.notices.specs.declared.notification.Notification.{Notification}
+use Rattle.notices.specs.declared.calls.Asks.{Asks}
+use Rattle.notices.specs.declared.calls.Asks.TheVariants.{Desk, Nobody}
+use Rattle.notices.specs.Notification.{told_of, notification_datagrams, tells, Pending}
+use Rattle.settings.specs.Links.{worker_of}
+use Rattle.notices.specs.DeskCalls.{AsksOf}
+use Rattle.forwarding.specs.declared.done.Forwarded.{Forwarded}
+use Rattle.forwarding.specs.declared.done.ForwardFault.{ForwardFault}
+use Rattle.forwarding.specs.declared.question.Question.{Question}
+use Rattle.forwarding.specs.Outside.{SinkView, Hands, nothing_done}
+use Rattle.forwarding.specs.Forwarding.{NotifierState, ForwarderState, IsView, LeavesRows}
+
+-- ---- what a desk answers
+
+-- the receipt of a recorded call, and what the call changed
+pub record Reply : Type 0 where
+  pub receipt : Receipt
+  pub effect : Effect
+
+-- a desk of the house recorded the call of the seat, gave the receipt's answer, and changed this
+pub record IsReply (gap request_ms : ℕ) (q : Question) (seat : SeatState) (r : Reply) : Type 0 where
+  pub receipt : IsReceiptOf q.publisher q.call seat r.receipt
+  pub told : IsTold gap request_ms r.receipt r.effect
+
+-- the house has no such publisher, or its desk doesn't record the call
+pub data IsUnanswered (gap request_ms publishers : ℕ) (q : Question)
+    (seat : SeatState) : Type 0 where
+  nowhere : publishers ≤ q.publisher → IsUnanswered gap request_ms publishers q seat
+  unrecorded : (fault : HouseFault) → IsFaultOf gap request_ms q.publisher q.call seat fault
+      → IsUnanswered gap request_ms publishers q seat
+
+-- where a desk recorded the call the seat made one call more, and this one; else it is as before
+abbrev pub Counted : Question → Option Reply → SeatState → SeatState → Type 0
+Counted q None seat later = later ≡ seat
+Counted q (Some r) seat later = Counts q.publisher q.call seat later
+
+-- what is to be told of the reply, where there is anything to tell
+abbrev pub pending_by : Question → Option Reply → Option Pending
+pending_by q None = None
+pending_by q (Some r) =
+    if tells (told_of q.publisher q.asked_by r.receipt.answer) r.effect
+    then Some (record {
+      notification = told_of q.publisher q.asked_by r.receipt.answer;
+      effect = r.effect;
+    })
+    else None
+
+-- a seat asked this of the house, and this is to be told then
+pub record IsAsked (gap request_ms publishers : ℕ) (q : Question) (seat later : SeatState)
+    (pending : Option Pending) : Type 0 where
+  pub reply : Option Reply
+  pub is : MatchOption reply (IsUnanswered gap request_ms publishers q seat)
+      (IsReply gap request_ms q seat)
+  pub counted : Counted q reply seat later
+  pub waits : pending ≡ pending_by q reply
+
+-- the same, where there was anything to ask
+abbrev pub MayBeAsked : ℕ → ℕ → ℕ → Option Question → SeatState → SeatState → Option Pending
+    → Type 0
+MayBeAsked gap request_ms publishers None seat later pending = (later ≡ seat) × (pending ≡ None)
+MayBeAsked gap request_ms publishers (Some q) seat later pending =
+    IsAsked gap request_ms publishers q seat later pending
+
+-- ---- what is told then
+
+-- a picture of the publisher is wanted
+abbrev pub picture_of : ℕ → Notification
+picture_of publisher = record { publisher = publisher; asked_by = None; pli = true }
+
+-- what waits wasn't told, since there was no view or no memory; the reader had these rows before
+pub record GivesUp (legs : ℕ) (former : List Row) (next : ReaderView) (before after : SinkView)
+    (fault : ForwardFault) : Type 0 where
+  pub handed : after ≡ before
+  pub rows : LeavesRows legs former next fault
+
+-- what waits was told by a view, or given up
+abbrev pub IsTelling : ℕ → NotifierState → Pending → List Row → ReaderView → SinkView → SinkView
+    → Result Forwarded ForwardFault → Type 0
+IsTelling legs n p former next before after result =
+    MatchResult result
+    (λ done. IsView legs next
+    × Hands (notification_datagrams n.table n.unit next.rows p.notification p.effect) before
+    after done)
+    (GivesUp legs former next before after)
+
+-- the same; where nothing waits nobody is told anything
+abbrev pub Tells : ℕ → NotifierState → Option Pending → List Row → ReaderView → SinkView → SinkView
+    → Result Forwarded ForwardFault → Type 0
+Tells legs n None former next before after result =
+    (result ≡ Ok nothing_done) × (next.rows ≡ former) × (after ≡ before)
+Tells legs n (Some p) former next before after result =
+    IsTelling legs n p former next before after result
+
+-- a desk was asked, where there was anything to ask, and then what followed was told
+pub record Notifies (gap request_ms publishers legs : ℕ) (n : NotifierState)
+    (question : Option Question) (seat later : SeatState) (former : List Row) (next : ReaderView)
+    (before after : SinkView) (result : Result Forwarded ForwardFault) : Type 0 where
+  pub pending : Option Pending
+  pub asked : MayBeAsked gap request_ms publishers question seat later pending
+  pub told : Tells legs n pending former next before after result
+
+-- ---- a job that asks a desk
+
+-- the leg is one of the worker's
+abbrev pub is_owned : ForwarderState → ℕ → Bool
+is_owned f leg =
+    option_map_or (λ (l : LegSettings). worker_of f.notifier.table l == f.worker)
+    (slice_get f.notifier.table.legs leg) false
+
+-- the job is one for a desk, and its leg is one of the worker's
+abbrev pub is_asking : ForwarderState → Job → Bool
+is_asking f (Packet publisher bytes) = false
+is_asking f (Request leg stay word) = is_owned f leg
+is_asking f (Resend leg stay nack) = false
+is_asking f (Pli leg moment) = is_owned f leg
+is_asking f (Report leg stay sr) = false
+
+abbrev pub asks_of : Option Question → Asks
+asks_of None = Nobody
+asks_of (Some q) = Desk q.publisher q.asked_by q.call
+
+-- what the job asks of a desk: nothing where it is no job for one, where its leg isn't there or is another worker's, or
+-- where its stay is 0
+abbrev pub QuestionOf : ForwarderState → Job → Option Question → Type 0
+QuestionOf f job question =
+    MatchBool (is_asking f job) (AsksOf f.notifier.table job (asks_of question)) (question ≡ None)
+
+-- what the job asks was asked, and what followed was told
+pub record Feeds (gap request_ms publishers legs : ℕ) (f : ForwarderState) (job : Job)
+    (seat later : SeatState) (former : List Row) (next : ReaderView) (before after : SinkView)
+    (result : Result Forwarded ForwardFault) : Type 0 where
+  pub question : Option Question
+  pub names : QuestionOf f job question
+  pub notifies : Notifies gap request_ms publishers legs f.notifier question seat later former next
+      before after result

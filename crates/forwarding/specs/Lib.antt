@@ -1,0 +1,4 @@
+pub mod Outside
+pub mod Forwarding
+pub mod Asking
+pub mod Faults

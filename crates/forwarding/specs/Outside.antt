@@ -1,0 +1,70 @@
+-- What contracts see of a sink, and how datagrams come to it.
+use Rattle.std.specs.Prelude.{◌≡◌, ◌+◌, ℕ, Bool, true, false, List, [], ◌∷◌, ◌++◌, length, filter, flat_map, Option, None, Some, option_map}
+use Rattle.events.specs.declared.output.Out.{Out}
+use Rattle.events.specs.declared.output.Out.TheVariants.{Send, Refused, Busy, Lost, Skip, Miss, Idle}
+use Rattle.forwarding.specs.declared.datagram.Datagram.{Datagram}
+use Rattle.forwarding.specs.declared.done.Forwarded.{Forwarded}
+
+-- the datagrams that were handed over, failed ones too, where that is known; and how many sends failed
+pub record SinkView : Type 0 where
+  pub handed : Option (List Datagram)
+  pub failures : ℕ
+
+-- These datagrams came behind those that were handed over before; or what was handed over isn't known any more.
+abbrev pub Grows : Option (List Datagram) → List Datagram → Option (List Datagram) → Type 0
+Grows before more None = Unit {0}
+Grows before more (Some all) = option_map (λ known. known ++ more) before ≡ Some all
+
+-- ---- what is given out
+
+abbrev pub datagram_in : Out → List Datagram
+datagram_in (Send endpoint bytes) = record { endpoint = endpoint; bytes = bytes } ∷ []
+datagram_in (Refused refusal) = []
+datagram_in Busy = []
+datagram_in (Lost worker) = []
+datagram_in (Skip leg skip) = []
+datagram_in (Miss leg seq) = []
+datagram_in Idle = []
+
+-- the datagrams among what is given out, in order
+abbrev pub datagrams_of : List Out → List Datagram
+datagrams_of outs = flat_map datagram_in outs
+
+abbrev pub is_skip : Out → Bool
+is_skip (Send endpoint bytes) = false
+is_skip (Refused refusal) = false
+is_skip Busy = false
+is_skip (Lost worker) = false
+is_skip (Skip leg skip) = true
+is_skip (Miss leg seq) = false
+is_skip Idle = false
+
+abbrev pub is_miss : Out → Bool
+is_miss (Send endpoint bytes) = false
+is_miss (Refused refusal) = false
+is_miss Busy = false
+is_miss (Lost worker) = false
+is_miss (Skip leg skip) = false
+is_miss (Miss leg seq) = true
+is_miss Idle = false
+
+-- ---- what is given out is handed to a sink
+
+-- the datagrams came to the sink, each was sent or couldn't be, and with all else they came to these counts
+pub record Adds (outs : List Out) (before after : SinkView) (former done : Forwarded) : Type 0 where
+  pub handed : Grows before.handed (datagrams_of outs) after.handed
+  pub tried : done.sent + done.failed ≡ former.sent + former.failed + length (datagrams_of outs)
+  pub failures : after.failures + former.failed ≡ before.failures + done.failed
+  pub skipped : done.skipped ≡ former.skipped + length (filter is_skip outs)
+  pub missed : done.missed ≡ former.missed + length (filter is_miss outs)
+
+abbrev pub nothing_done : Forwarded
+nothing_done = record { sent = 0; failed = 0; skipped = 0; missed = 0 }
+
+-- the same, where nothing was counted before
+abbrev pub Hands : List Out → SinkView → SinkView → Forwarded → Type 0
+Hands outs before after done = Adds outs before after nothing_done done
+
+-- all that was counted
+abbrev pub total_of : Forwarded → ℕ
+total_of done = done.sent + done.failed + (done.skipped + done.missed)

@@ -1,0 +1,171 @@
+//! What one worker does with its jobs.
+
+ghost use Rattle.std.specs.Prelude.{◌≡◌, IfSome};
+ghost use Rattle.desk.specs.Call.{HasStay};
+ghost use Rattle.forwarding.specs.Asking.{is_owned, is_asking, QuestionOf};
+
+use crate::done::{ForwardFault, Forwarded};
+use crate::notifier::Notifier;
+use crate::outside::Sink;
+use crate::question::Question;
+use crate::sending::send_planned;
+use events::Job;
+use legs::{Legs, Plan};
+use notices::{Asks, asked_by};
+use rate_desk::{DeskCalls, DeskSeat, House, SeatCalls};
+use routes::{Naming, RouteNote, RouteReader};
+use settings::Settings;
+use std::alloc::{AllocError, Global};
+use std::marker::Model;
+use std::sync::Wait;
+
+/// A worker: the legs to the subscribers whose number, modulo the number of workers, is its own.
+#[derive(Debug, Drop)]
+pub struct Forwarder {
+    notifier: Notifier,
+    worker: u16,
+    legs: Legs,
+    /// Where a job is planned; empty between jobs.
+    plan: Plan,
+}
+
+impl Model for Forwarder {
+    ghost use Rattle.forwarding.specs.Forwarding.{ForwarderState};
+
+    ghost Value = { ForwarderState };
+
+    ghost view = { λ f. record { notifier = f.notifier; worker = f.worker; legs = f.legs } };
+}
+
+impl Forwarder {
+    ghost use Rattle.std.specs.Prelude.{◌≡◌, IfOk, IfErr, OnOk, OnErr};
+    ghost use mathlib.Core.List.{IsPrefix};
+    ghost use Rattle.forwarding.specs.Outside.{Hands};
+    ghost use Rattle.forwarding.specs.Forwarding.{new_forwarder, given_by, after_job, IsView, LeavesRows};
+    ghost use Rattle.forwarding.specs.Asking.{Feeds};
+
+    /// The worker of these settings with this number, which has sent nothing yet.
+    pub fn new(alloc: Global, settings: &Settings, worker: u16) -> Result<Forwarder, AllocError>
+        ensures { IfOk result (λ f. f ≡ new_forwarder settings.now worker) }
+    {
+        let notifier = Notifier::new(alloc, settings)?;
+        let ring = settings.ring() as usize;
+        let legs = Legs::new(alloc, &notifier.links, ring, worker)?;
+        Ok(Forwarder {
+            notifier,
+            worker,
+            legs,
+            plan: Plan::new(alloc),
+        })
+    }
+
+    /// Does a job on the worker's legs: it learns the note, enters, and sends. A datagram that couldn't be sent counts as
+    /// handed out; it keeps its number, and may be asked for again. A job for a desk does nothing, nor does one of a leg, a
+    /// publisher or a stay that isn't there, or of another worker's leg.
+    ///
+    /// A fault comes before anything is sent or any leg changes; the note is learnt, and the view entered if there was one.
+    pub fn forward<J: Naming, S: Sink>(
+        &mut self,
+        reader: &mut RouteReader<J>,
+        note: RouteNote<J>,
+        job: &Job,
+        sink: &mut S,
+    ) -> Result<Forwarded, ForwardFault>
+        ensures known { IsPrefix reader.old.known reader.new.known }
+        ensures note { IsPrefix note reader.new.known }
+        ensures view { OnOk result (IsView J.legs reader.new) }
+        ensures handed { IfOk result (Hands (given_by self.old reader.new.rows job.now)
+            (S.shown sink.old) (S.shown sink.new)) }
+        ensures legs { OnOk result (self.new ≡ after_job self.old reader.new.rows job.now) }
+        ensures fault { IfErr result (LeavesRows J.legs reader.old.rows reader.new) }
+        ensures unchanged { OnErr result ((self.new ≡ self.old) × (sink.new ≡ sink.old)) }
+    {
+        reader.learn(note);
+        if !reader.enter() {
+            return Err(ForwardFault::NoView);
+        }
+        let Notifier { alloc, head, .. } = &self.notifier;
+        let Ok(()) = self
+            .legs
+            .plan(*alloc, head.cname(), reader.rows(), job, &mut self.plan)
+        else {
+            return Err(ForwardFault::NoMemory);
+        };
+        let done = send_planned(&self.legs, self.plan.as_slice(), sink);
+        self.legs.apply(&mut self.plan);
+        Ok(done)
+    }
+
+    /// Asks a publisher's desk for a subscriber, as the job says, then learns the note, and where there is anything to
+    /// tell enters and tells it. A call that the desk refuses or doesn't record sends nothing and is Ok. A job for the legs
+    /// asks nothing, nor does one of a leg or a publisher that isn't there, of another worker's leg, or of the stay 0.
+    ///
+    /// After a fault the desk's call stands, nothing was sent, and the note is learnt.
+    #[tactic(auto, using(crate::proofs::AskingLemmas::nothing_asked, crate::proofs::AskingLemmas::something_asked))]
+    pub fn feedback<J: Naming, D: DeskCalls, C: SeatCalls, R: Wait, S: Sink>(
+        &mut self,
+        rt: &R,
+        house: &House<D, C>,
+        seat: &mut DeskSeat<C>,
+        reader: &mut RouteReader<J>,
+        note: RouteNote<J>,
+        job: &Job,
+        sink: &mut S,
+    ) -> Result<Forwarded, ForwardFault>
+        ensures worker { self.new ≡ self.old }
+        ensures known { IsPrefix reader.old.known reader.new.known }
+        ensures note { IsPrefix note reader.new.known }
+        ensures feeds { Feeds D.gap D.request_ms C.publishers J.legs self.old job.now
+            seat.old seat.new reader.old.rows reader.new (S.shown sink.old) (S.shown sink.new)
+            result }
+    {
+        match self.question(job) {
+            Some(question) => self
+                .notifier
+                .ask(rt, house, seat, reader, note, &question, sink),
+            None => {
+                reader.learn(note);
+                Ok(Forwarded::default())
+            }
+        }
+    }
+
+    /// What the job asks of a desk.
+    fn question(&self, job: &Job) -> Option<Question>
+        ensures names { QuestionOf self.now job.now result }
+        ensures stay { IfSome result (λ q. HasStay q.call) }
+    {
+        if !self.is_asking(job) {
+            return None;
+        }
+        match asked_by(&self.notifier.links, job) {
+            Asks::Desk(publisher, asked_by, call) => Some(Question {
+                publisher,
+                asked_by,
+                call,
+            }),
+            Asks::Nobody | Asks::Legs => None,
+        }
+    }
+
+    /// Whether the job is one for a desk, of a leg that is the worker's.
+    fn is_asking(&self, job: &Job) -> bool
+        ensures { result ≡ is_asking self.now job.now }
+    {
+        match job {
+            Job::Request { leg, .. } | Job::Pli { leg, .. } => self.owns(*leg),
+            Job::Packet { .. } | Job::Resend { .. } | Job::Report { .. } => false,
+        }
+    }
+
+    /// Whether the leg is the worker's.
+    fn owns(&self, leg: u16) -> bool
+        ensures { result ≡ is_owned self.now leg }
+    {
+        let links = &self.notifier.links;
+        match links.leg(leg) {
+            Some(leg) => links.worker_of(leg) == self.worker,
+            None => false,
+        }
+    }
+}

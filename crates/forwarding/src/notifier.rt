@@ -1,0 +1,195 @@
+//! A desk of the house is asked, and what follows is sent.
+
+ghost use Rattle.std.specs.Prelude.{◌≡◌, option_map};
+ghost use Rattle.desk.specs.Call.{HasStay};
+ghost use Rattle.notices.specs.Notification.{pending_with};
+ghost use Rattle.forwarding.specs.Asking.{IsAsked, IsTelling};
+ghost use mathlib.Core.List.{IsPrefix};
+
+use crate::done::{ForwardFault, Forwarded};
+use crate::outside::Sink;
+use crate::question::Question;
+use crate::sending::send_all;
+use desk::Effect;
+use notices::{Head, Notification, notification_of, notify, waiting};
+use rate_desk::{DeskCalls, DeskSeat, House, SeatCalls};
+use routes::{Naming, RouteNote, RouteReader};
+use settings::{Links, Settings};
+use std::alloc::{AllocError, Global};
+use std::marker::Model;
+use std::sync::Wait;
+
+/// Asks the desks of a house, and tells the publisher and its subscribers what follows.
+#[derive(Debug, Drop)]
+pub struct Notifier {
+    pub(crate) alloc: Global,
+    pub(crate) links: Links,
+    pub(crate) head: Head,
+    /// Where a desk says what a call changed.
+    effect: Effect,
+}
+
+impl Model for Notifier {
+    ghost use Rattle.forwarding.specs.Forwarding.{NotifierState};
+
+    ghost Value = { NotifierState };
+
+    ghost view = { λ n. record { table = n.links; unit = n.head } };
+}
+
+impl Notifier {
+    ghost use Rattle.std.specs.Prelude.{◌≡◌, Some, IfOk, MatchResult};
+    ghost use mathlib.Core.List.{IsPrefix};
+    ghost use Rattle.notices.specs.Notification.{picture_upstream};
+    ghost use Rattle.forwarding.specs.Outside.{Hands};
+    ghost use Rattle.forwarding.specs.Asking.{Notifies, GivesUp, picture_of};
+    ghost use Rattle.forwarding.specs.Forwarding.{new_notifier};
+
+    /// A notifier of a unit with these settings.
+    pub fn new(alloc: Global, settings: &Settings) -> Result<Notifier, AllocError>
+        ensures { IfOk result (λ n. n ≡ new_notifier settings.now) }
+    {
+        Ok(Notifier {
+            alloc,
+            links: Links::new(alloc, settings)?,
+            head: Head::new(alloc, settings.unit_ssrc(), settings.cname())?,
+            effect: Effect::new(),
+        })
+    }
+
+    /// Asks the publisher's desk, then learns the note, and where there is anything to tell enters and tells it. A call
+    /// that the desk refuses or doesn't record is Ok and tells nothing. After a fault the call stands, and the note is
+    /// learnt; nothing was sent.
+    #[tactic(auto, using(crate::proofs::AskingLemmas::notified_all, crate::proofs::AskingLemmas::notified_nobody))]
+    pub fn ask<J: Naming, D: DeskCalls, C: SeatCalls, R: Wait, S: Sink>(
+        &mut self,
+        rt: &R,
+        house: &House<D, C>,
+        seat: &mut DeskSeat<C>,
+        reader: &mut RouteReader<J>,
+        note: RouteNote<J>,
+        question: &Question,
+        sink: &mut S,
+    ) -> Result<Forwarded, ForwardFault>
+        requires stay { HasStay question.now.call }
+        ensures setup { self.new ≡ self.old }
+        ensures known { IsPrefix reader.old.known reader.new.known }
+        ensures note { IsPrefix note reader.new.known }
+        ensures notifies { Notifies D.gap D.request_ms C.publishers J.legs self.old
+            (Some question.now) seat.old seat.new reader.old.rows reader.new
+            (S.shown sink.old) (S.shown sink.new) result }
+    {
+        let pending = ask_desk(rt, house, seat, question, &mut self.effect);
+        reader.learn(note);
+        match pending {
+            Some(notification) => tell(
+                self.alloc,
+                &self.links,
+                &self.head,
+                reader,
+                &notification,
+                &self.effect,
+                sink,
+            ),
+            None => Ok(Forwarded::default()),
+        }
+    }
+
+    /// Tells the publisher that a picture of it is wanted (RFC 4585, section 6.3.1): what follows from a pulse whose answer
+    /// says so. A fault comes before anything is sent; the note is learnt.
+    #[tactic(auto, using(crate::proofs::AskingLemmas::picture_told))]
+    pub fn ask_for_picture<J: Naming, S: Sink>(
+        &self,
+        reader: &mut RouteReader<J>,
+        note: RouteNote<J>,
+        publisher: u16,
+        sink: &mut S,
+    ) -> Result<Forwarded, ForwardFault>
+        ensures known { IsPrefix reader.old.known reader.new.known }
+        ensures note { IsPrefix note reader.new.known }
+        ensures told { MatchResult result
+            (Hands (picture_upstream self.now.table self.now.unit (picture_of publisher))
+            (S.shown sink.old) (S.shown sink.new))
+            (GivesUp J.legs reader.old.rows reader.new (S.shown sink.old) (S.shown sink.new)) }
+    {
+        reader.learn(note);
+        let notification = Notification {
+            publisher,
+            asked_by: None,
+            pli: true,
+        };
+        let nothing = Effect::new();
+        tell(
+            self.alloc,
+            &self.links,
+            &self.head,
+            reader,
+            &notification,
+            &nothing,
+            sink,
+        )
+    }
+}
+
+/// Asks the publisher's desk, where the house has one, and says in `effect` what changed; answers what is to be told.
+#[tactic(auto, using(crate::proofs::AskingLemmas::asked_nowhere, crate::proofs::AskingLemmas::asked_unrecorded, crate::proofs::AskingLemmas::asked_recorded))]
+fn ask_desk<D: DeskCalls, C: SeatCalls, R: Wait>(
+    rt: &R,
+    house: &House<D, C>,
+    seat: &mut DeskSeat<C>,
+    question: &Question,
+    effect: &mut Effect,
+) -> Option<Notification>
+    requires stay { HasStay question.now.call }
+    ensures { IsAsked D.gap D.request_ms C.publishers question.now seat.old seat.new
+        (option_map (pending_with effect.new) result) }
+{
+    let Question {
+        publisher,
+        asked_by,
+        call,
+    } = *question;
+    let at = usize::from(publisher);
+    if at >= house.publishers() {
+        return None;
+    }
+    let Ok(receipt) = house.call(rt, seat, at, call, effect) else {
+        return None;
+    };
+    let notification = notification_of(publisher, asked_by, &receipt.answer);
+    waiting(notification, effect)
+}
+
+/// Tells what follows from a call with this effect, by the rows that are published. Where the table gives no view, or
+/// no memory is left, nothing is sent.
+pub(crate) fn tell<J: Naming, S: Sink>(
+    alloc: Global,
+    links: &Links,
+    head: &Head,
+    reader: &mut RouteReader<J>,
+    notification: &Notification,
+    effect: &Effect,
+    sink: &mut S,
+) -> Result<Forwarded, ForwardFault>
+    ensures known { IsPrefix reader.old.known reader.new.known }
+    ensures told { IsTelling J.legs (record { table = links.now; unit = head.now })
+        (pending_with effect.now notification.now) reader.old.rows reader.new (S.shown sink.old)
+        (S.shown sink.new) result }
+{
+    if !reader.enter() {
+        return Err(ForwardFault::NoView);
+    }
+    let mut outs = Vec::new(alloc);
+    let Ok(()) = notify(
+        alloc,
+        links,
+        head,
+        reader.rows(),
+        notification,
+        effect,
+        &mut outs,
+    ) else {
+        return Err(ForwardFault::NoMemory);
+    };
+    Ok(send_all(outs.as_slice(), sink))
+}

@@ -1,0 +1,2 @@
+pub mod IntakeLemmas
+pub mod OneSaidLemmas

@@ -1,0 +1,7 @@
+//! What a datagram of an endpoint says: a packet of media, a goodbye, or what its other RTCP packets ask for (RFC 3550, section 6; RFC
+//! 4585, section 6; RFC 5104, section 4.2); or the first fault in it.
+#![tactic(auto)]
+
+mod intake;
+
+pub use intake::{Ask, Control, Heard, Unheard, hear_datagram, says_one_thing};

@@ -1,0 +1,3 @@
+pub mod LegLemmas
+pub mod PlanLemmas
+pub mod RtpLemmas

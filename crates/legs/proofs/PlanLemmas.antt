@@ -1,0 +1,191 @@
+-- What a plan gives out, and what the legs are once it is done.
+use Rattle.std.proofs.Common.{◌≡◌, ℕ, ◌+◌, ◌<◌, ◌≤◌, Bool, true, false, List, [], ◌∷◌, ◌++◌, length, get_or, set, zero, suc, refl, sym, ap, subst, ◌∙◌, arith, length-append, append_assoc}
+use Rattle.std.proofs.lemmas.Grind.{flat_map-append}
+use Rattle.std.proofs.lemmas.List.Sums.{fold-append}
+use Rattle.std.proofs.lemmas.Option.{slice_get-get_or}
+use Rattle.circular_buffer.proofs.Places.{slice_get-append_right}
+use Rattle.std.specs.Prelude.{Option, None, Some, Result, Ok, Err, slice_get, option_and_then, map, fold, if◌then◌else◌}
+use Rattle.std.specs.List.{flat_map, enumerate_from}
+use Rattle.members.specs.declared.order.Row.{Row}
+use Rattle.resend_ring.specs.Kept.{Kept, last_kept_with}
+use Rattle.rewrite.specs.declared.skip.Skip.{Skip as Cause}
+use Rattle.rtcp_feedback.specs.Nack.{lost_numbers}
+use Rattle.events.specs.declared.job.Job.{Job}
+use Rattle.events.specs.declared.job.Job.TheVariants as job
+use Rattle.legs.specs.declared.leg.LegState.{LegState}
+use Rattle.events.specs.declared.output.Out.{Out}
+use Rattle.events.specs.declared.output.Out.TheVariants as out
+use Rattle.legs.specs.declared.plan.Planned.{Planned}
+use Rattle.legs.specs.declared.plan.Planned.TheVariants.{Report}
+use Rattle.legs.specs.Legs.{takes, stands, row_of, answer_on, leg_report_bytes, packet_outs, packet_after, resend_outs, resent, leg_datagrams, leg_after, job_datagrams, legs_after, leg_after_packet, handed_out}
+use Rattle.legs.specs.Plan.{kept_at, sent_out, out_of, plan_outs, changed_at, applied_one, legs_after_plan}
+use Rattle.legs.specs.Planning.{packet_planned, resend_planned, resends, leg_plan, job_plan}
+
+-- ---- a leg at a place
+
+pub changed_behind : (front : List LegState) (n : ℕ) (s : LegState) (rest : List LegState) (change : LegState → LegState)
+    → n ≡ length front → changed_at (front ++ s ∷ rest) n change ≡ front ++ change s ∷ rest
+changed_behind [] n s rest change e = ap (λ (k : ℕ). changed_at (s ∷ rest) k change) e
+changed_behind (t ∷ front) n s rest change e =
+    ap (λ (k : ℕ). changed_at (t ∷ (front ++ s ∷ rest)) k change) e
+    ∙ ap (λ (l : List LegState). t ∷ l) (changed_behind front (length front) s rest change refl)
+
+pub changed_within : (legs : List LegState) (i : ℕ) (change : LegState → LegState) (d : LegState) → i < length legs
+    → changed_at legs i change ≡ set legs i (change (get_or legs i d))
+changed_within [] i change d h = absurd (omega arith)
+changed_within (s ∷ legs) zero change d h = refl
+changed_within (s ∷ legs) (suc i) change d h = ap (λ (l : List LegState). s ∷ l) (changed_within legs i change d (omega arith))
+
+pub changed_past : (legs : List LegState) (i : ℕ) (change : LegState → LegState) → length legs ≤ i → changed_at legs i change ≡ legs
+changed_past [] i change h = refl
+changed_past (s ∷ legs) zero change h = absurd (omega arith)
+changed_past (s ∷ legs) (suc i) change h = ap (λ (l : List LegState). s ∷ l) (changed_past legs i change (omega arith))
+
+pub at_behind : (whole front : List LegState) (n : ℕ) (s : LegState) (rest : List LegState) → n ≡ length front
+    → whole ≡ front ++ s ∷ rest → slice_get whole n ≡ Some s
+at_behind whole front n s rest e is =
+    ap (λ (l : List LegState). slice_get l n) is ∙ slice_get-append_right front (s ∷ rest) n 0 (omega arith)
+
+-- one more leg stands before the place
+one_before : (whole front : List LegState) (s : LegState) (rest : List LegState) → whole ≡ front ++ s ∷ rest
+    → whole ≡ (front ++ s ∷ []) ++ rest
+one_before whole front s rest is = is ∙ sym (append_assoc front (s ∷ []) rest)
+
+count_before : (front : List LegState) (s : LegState) (n : ℕ) → n ≡ length front → n + 1 ≡ length (front ++ s ∷ [])
+count_before front s n e = omega (arith, length-append front (s ∷ []))
+
+-- ---- what it gives out
+
+packet_out : (whole : List LegState) (n turn : ℕ) (s : LegState) (bytes : List ℕ) (r : Result ℕ Cause) (b : Bool)
+    → flat_map (out_of whole) (if b then packet_planned n s turn bytes r ∷ [] else []) ≡ (if b then packet_outs s bytes r else [])
+packet_out whole n turn s bytes (Ok number) true = refl
+packet_out whole n turn s bytes (Err cause) true = refl
+packet_out whole n turn s bytes (Ok number) false = refl
+packet_out whole n turn s bytes (Err cause) false = refl
+
+again_out : (whole : List LegState) (n seq : ℕ) (s : LegState) (r : Option (List ℕ)) → slice_get whole n ≡ Some s
+    → r ≡ last_kept_with s.kept.items seq → out_of whole (resend_planned n s seq r) ≡ resend_outs s seq r
+again_out whole n seq s None at e = refl
+again_out whole n seq s (Some bytes) at e =
+    let kept : kept_at whole n seq ≡ Some bytes =
+    ap (option_and_then (λ (t : LegState). last_kept_with t.kept.items seq)) at ∙ sym e in
+    ap (sent_out s.link.subscriber) kept
+
+resends_out : (whole : List LegState) (n : ℕ) (s : LegState) (numbers : List ℕ) → slice_get whole n ≡ Some s
+    → flat_map (out_of whole) (resends n s numbers) ≡ flat_map (λ seq. resend_outs s seq (last_kept_with s.kept.items seq)) numbers
+resends_out whole n s [] at = refl
+resends_out whole n s (seq ∷ numbers) at =
+    let here = again_out whole n seq s (last_kept_with s.kept.items seq) at refl in
+    let rest = resends_out whole n s numbers at in
+    cc
+
+resend_out : (whole : List LegState) (n : ℕ) (s : LegState) (numbers : List ℕ) (b : Bool) → slice_get whole n ≡ Some s
+    → flat_map (out_of whole) (if b then resends n s numbers else [])
+    ≡ (if b then flat_map (λ seq. resend_outs s seq (last_kept_with s.kept.items seq)) numbers else [])
+resend_out whole n s numbers true at = resends_out whole n s numbers at
+resend_out whole n s numbers false at = refl
+
+report_out : (whole : List LegState) (endpoint : ℕ) (bytes : List ℕ) (b : Bool)
+    → flat_map (out_of whole) (if b then Report endpoint bytes ∷ [] else []) ≡ (if b then out.Send endpoint bytes ∷ [] else [])
+report_out whole endpoint bytes true = refl
+report_out whole endpoint bytes false = refl
+
+outs_here : (cname : List ℕ) (rows : List Row) (work : Job) (whole : List LegState) (n : ℕ) (s : LegState)
+    → slice_get whole n ≡ Some s → flat_map (out_of whole) (leg_plan cname rows work (n, s)) ≡ leg_datagrams cname rows work s
+outs_here cname rows (job.Packet publisher bytes) whole n s at =
+    packet_out whole n (row_of rows s).turn s bytes (answer_on rows bytes s) (takes rows publisher bytes s)
+outs_here cname rows (job.Resend leg stay nack) whole n s at = resend_out whole n s (lost_numbers nack) (stands rows leg stay s) at
+outs_here cname rows (job.Report leg stay sr) whole n s at =
+    report_out whole s.link.subscriber (leg_report_bytes cname s sr) (stands rows leg stay s)
+outs_here cname rows (job.Request leg stay word) whole n s at = refl
+outs_here cname rows (job.Pli leg moment) whole n s at = refl
+
+outs_from : (cname : List ℕ) (rows : List Row) (work : Job) (whole front : List LegState) (n : ℕ) (rest : List LegState)
+    → n ≡ length front → whole ≡ front ++ rest
+    → plan_outs whole (flat_map (leg_plan cname rows work) (enumerate_from n rest)) ≡ flat_map (leg_datagrams cname rows work) rest
+outs_from cname rows work whole front n [] e is = refl
+outs_from cname rows work whole front n (s ∷ rest) e is =
+    let here = outs_here cname rows work whole n s (at_behind whole front n s rest e is) in
+    let more = outs_from cname rows work whole (front ++ s ∷ []) (n + 1) rest (count_before front s n e) (one_before whole front s rest is) in
+    flat_map-append (out_of whole) (leg_plan cname rows work (n, s)) (flat_map (leg_plan cname rows work) (enumerate_from (n + 1) rest))
+    ∙ ap (λ (l : List Out). l ++ plan_outs whole (flat_map (leg_plan cname rows work) (enumerate_from (n + 1) rest))) here
+    ∙ ap (λ (l : List Out). leg_datagrams cname rows work s ++ l) more
+
+-- the plan of a job gives out what the job does
+pub plan_gives : (cname : List ℕ) (rows : List Row) (legs : List LegState) (work : Job)
+    → plan_outs legs (job_plan cname rows legs work) ≡ job_datagrams cname rows legs work
+plan_gives cname rows legs work = outs_from cname rows work legs [] 0 legs refl refl
+
+-- ---- what the legs are then
+
+packet_applied : (rows : List Row) (front : List LegState) (n : ℕ) (s : LegState) (rest : List LegState) (bytes : List ℕ)
+    (r : Result ℕ Cause) (b : Bool) → n ≡ length front
+    → legs_after_plan (front ++ s ∷ rest) (if b then packet_planned n s (row_of rows s).turn bytes r ∷ [] else [])
+    ≡ front ++ (if b then packet_after rows bytes s r else s) ∷ rest
+packet_applied rows front n s rest bytes (Ok number) true e = changed_behind front n s rest _ e
+packet_applied rows front n s rest bytes (Err cause) true e = refl
+packet_applied rows front n s rest bytes (Ok number) false e = refl
+packet_applied rows front n s rest bytes (Err cause) false e = refl
+
+again_applied : (front : List LegState) (n seq : ℕ) (s t : LegState) (rest : List LegState) (r : Option (List ℕ)) → n ≡ length front
+    → applied_one (front ++ t ∷ rest) (resend_planned n s seq r) ≡ front ++ resent t r ∷ rest
+again_applied front n seq s t rest None e = refl
+again_applied front n seq s t rest (Some bytes) e = changed_behind front n t rest _ e
+
+kept_same : (t : LegState) (r : Option (List ℕ)) → (resent t r).kept ≡ t.kept
+kept_same t None = refl
+kept_same t (Some bytes) = refl
+
+resends_applied : (front : List LegState) (n : ℕ) (s t : LegState) (rest : List LegState) (numbers : List ℕ) → n ≡ length front
+    → t.kept ≡ s.kept
+    → legs_after_plan (front ++ t ∷ rest) (resends n s numbers)
+    ≡ front ++ fold (λ u seq. resent u (last_kept_with u.kept.items seq)) t numbers ∷ rest
+resends_applied front n s t rest [] e same = refl
+resends_applied front n s t rest (seq ∷ numbers) e same =
+    let r = last_kept_with s.kept.items seq in
+    let here : applied_one (front ++ t ∷ rest) (resend_planned n s seq r) ≡ front ++ resent t r ∷ rest =
+    again_applied front n seq s t rest r e in
+    let found : r ≡ last_kept_with t.kept.items seq = ap (λ (k : Kept). last_kept_with k.items seq) (sym same) in
+    let more = resends_applied front n s (resent t r) rest numbers e (kept_same t r ∙ same) in
+    ap (λ (l : List LegState). legs_after_plan l (resends n s numbers)) here ∙ more
+    ∙ ap (λ (o : Option (List ℕ)). front ++ fold (λ u q. resent u (last_kept_with u.kept.items q)) (resent t o) numbers ∷ rest) found
+
+resend_applied : (front : List LegState) (n : ℕ) (s : LegState) (rest : List LegState) (numbers : List ℕ) (b : Bool) → n ≡ length front
+    → legs_after_plan (front ++ s ∷ rest) (if b then resends n s numbers else [])
+    ≡ front ++ (if b then fold (λ u seq. resent u (last_kept_with u.kept.items seq)) s numbers else s) ∷ rest
+resend_applied front n s rest numbers true e = resends_applied front n s s rest numbers e refl
+resend_applied front n s rest numbers false e = refl
+
+report_applied : (legs : List LegState) (endpoint : ℕ) (bytes : List ℕ) (b : Bool)
+    → legs_after_plan legs (if b then Report endpoint bytes ∷ [] else []) ≡ legs
+report_applied legs endpoint bytes true = refl
+report_applied legs endpoint bytes false = refl
+
+applied_here : (cname : List ℕ) (rows : List Row) (work : Job) (front : List LegState) (n : ℕ) (s : LegState) (rest : List LegState)
+    → n ≡ length front
+    → legs_after_plan (front ++ s ∷ rest) (leg_plan cname rows work (n, s)) ≡ front ++ leg_after rows work s ∷ rest
+applied_here cname rows (job.Packet publisher bytes) front n s rest e =
+    packet_applied rows front n s rest bytes (answer_on rows bytes s) (takes rows publisher bytes s) e
+applied_here cname rows (job.Resend leg stay nack) front n s rest e =
+    resend_applied front n s rest (lost_numbers nack) (stands rows leg stay s) e
+applied_here cname rows (job.Report leg stay sr) front n s rest e =
+    report_applied (front ++ s ∷ rest) s.link.subscriber (leg_report_bytes cname s sr) (stands rows leg stay s)
+applied_here cname rows (job.Request leg stay word) front n s rest e = refl
+applied_here cname rows (job.Pli leg moment) front n s rest e = refl
+
+applied_from : (cname : List ℕ) (rows : List Row) (work : Job) (front : List LegState) (n : ℕ) (rest : List LegState) → n ≡ length front
+    → legs_after_plan (front ++ rest) (flat_map (leg_plan cname rows work) (enumerate_from n rest)) ≡ front ++ map (leg_after rows work) rest
+applied_from cname rows work front n [] e = refl
+applied_from cname rows work front n (s ∷ rest) e =
+    let behind = flat_map (leg_plan cname rows work) (enumerate_from (n + 1) rest) in
+    let t = leg_after rows work s in
+    let split = fold-append applied_one (front ++ s ∷ rest) (leg_plan cname rows work (n, s)) behind in
+    let here = ap (λ (l : List LegState). legs_after_plan l behind) (applied_here cname rows work front n s rest e) in
+    let moved = ap (λ (l : List LegState). legs_after_plan l behind) (sym (append_assoc front (t ∷ []) rest)) in
+    let more = applied_from cname rows work (front ++ t ∷ []) (n + 1) rest (count_before front t n e) in
+    split ∙ here ∙ moved ∙ more ∙ append_assoc front (t ∷ []) (map (leg_after rows work) rest)
+
+-- the plan of a job makes of the legs what the job makes of them
+pub plan_makes : (cname : List ℕ) (rows : List Row) (legs : List LegState) (work : Job)
+    → legs_after_plan legs (job_plan cname rows legs work) ≡ legs_after rows legs work
+plan_makes cname rows legs work = applied_from cname rows work [] 0 legs refl

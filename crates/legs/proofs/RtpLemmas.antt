@@ -1,0 +1,183 @@
+-- Datagrams that are RTP packets.
+use Rattle.std.proofs.Common.{◌≡◌, ◌≢◌, ℕ, ◌+◌, ◌-◌, ◌/◌, ◌%◌, ◌^◌, ◌<◌, ◌≤◌, ◌⊎◌, inl, inr, ⊎_elim, Bool, true, false, List, [], ◌∷◌, ◌++◌, length, take, drop, get_or, slice_index, refl, sym, ap, subst, ◌∙◌, arith, length-append, length-drop}
+use Rattle.std.proofs.lemmas.Bool.{cases_lt}
+use Rattle.std.proofs.lemmas.Bool.Decides.{nat_tests, eqb_tells}
+use Rattle.std.proofs.lemmas.List.{get_or-drop, drop_all, append-nil}
+use Rattle.std.specs.Prelude.{if◌then◌else◌, ◌==◌, ◌&&◌, ◌||◌, not, nat_le, nat_lt, Result, Ok, Err, IsOk, IfOk, ◌↔◌}
+use Rattle.byteorder.specs.Endian.{big_bytes, big_number}
+use Rattle.rtp_packet.specs.declared.fault.RtpFault.{RtpFault}
+use Rattle.rtp_packet.specs.declared.fault.RtpFault.TheVariants.{Short, Version, CsrcShort, ExtensionShort, Padding, Room}
+use Rattle.rtp_packet.specs.Fault.{HasRtpFault, IsNoCount, csrc_end, extension_end}
+use Rattle.rtp_packet.specs.Grammar.{RtpPacket, ReadsRtp, IsPadding, bit_of, fixed_bytes, body_bytes, first_byte, second_byte, bytes_of, with_address}
+use Rattle.rtp_packet.proofs.PacketLemmas.{laid_out}
+use Rattle.rtp_packet.proofs.PartLemmas.{count_of_padding}
+use Rattle.legs.specs.Rtp.{is_rtp, is_padded, padding_of, sequence_number, payload_octets, readdressed_bytes}
+
+-- ---- tests
+
+above_zero : (n : ℕ) → 0 < n → nat_lt 0 n ≡ true
+above_zero n h = grind (arith, nat_tests)
+
+within : (m n : ℕ) → m ≤ n → nat_le m n ≡ true
+within m n h = grind (arith, nat_tests)
+
+beyond : (m n : ℕ) → n < m → nat_le m n ≡ false
+beyond m n h = grind (arith, nat_tests)
+
+same_number : (m n : ℕ) → m ≡ n → (m == n) ≡ true
+same_number m n h = grind (arith, nat_tests)
+
+other_number : (m n : ℕ) → m ≢ n → (m == n) ≡ false
+other_number m n h = ⊎_elim (λ e. absurd (h e.1)) (λ e. e.0) (eqb_tells m n)
+
+bit_is : (b : Bool) → (bit_of b == 1) ≡ b
+bit_is true = refl
+bit_is false = refl
+
+excluded : (b : Bool) → (not b || b) ≡ true
+excluded true = refl
+excluded false = refl
+
+no_right : (a b : Bool) → b ≡ false → (a && b) ≡ false
+no_right true b h = h
+no_right false b h = refl
+
+-- ---- a packet
+
+-- the last byte of a datagram counts its padding
+padding_counts : (d payload padding : List ℕ) (e : ℕ) → slice_index d 0 / 32 % 2 ≡ bit_of (nat_lt 0 (length padding))
+    → e + length (payload ++ padding) ≡ length d → drop e d ≡ payload ++ padding → IsPadding padding → padding_of d ≡ length padding
+padding_counts d payload [] e bit size tail valid =
+    let off : slice_index d 0 / 32 % 2 ≡ 0 = bit in
+    rw off refl
+padding_counts d payload (v ∷ y) e bit size tail valid =
+    let on : slice_index d 0 / 32 % 2 ≡ 1 = bit ∙ ap bit_of (above_zero (length (v ∷ y)) (omega arith)) in
+    let n = length (payload ++ v ∷ y) - 1 in
+    let joined = length-append payload (v ∷ y) in
+    let place : e + n ≡ length d - 1 = omega arith in
+    let count = count_of_padding payload (v ∷ y) valid (omega arith) in
+    let last : slice_index d (length d - 1) ≡ length (v ∷ y) =
+    sym (ap (λ (k : ℕ). slice_index d k) place) ∙ sym (get_or-drop e d n 0) ∙ ap (λ (l : List ℕ). slice_index l n) tail ∙ count in
+    rw on last
+
+padding_is : (d : List ℕ) (p : RtpPacket) → ReadsRtp d p → padding_of d ≡ length p.padding
+padding_is d p reads =
+    let l = laid_out d p reads in
+    padding_counts d p.payload p.padding (extension_end d) l.padded l.end l.tail reads.valid.padding
+
+-- a packet is one
+pub reads_rtp : (d : List ℕ) (p : RtpPacket) → ReadsRtp d p → is_rtp d ≡ true
+unfolding is_rtp
+reads_rtp d p reads =
+    let l = laid_out d p reads in
+    let count = padding_is d p reads in
+    let joined = length-append p.payload p.padding in
+    let end = l.end in
+    let a = within 12 (length d) l.whole in
+    let b = same_number (slice_index d 0 / 64) 2 l.version in
+    let c = within (extension_end d + padding_of d) (length d) (omega arith) in
+    let padded : is_padded d ≡ nat_lt 0 (length p.padding) =
+    ap (λ (x : ℕ). x == 1) l.padded ∙ bit_is (nat_lt 0 (length p.padding)) in
+    let some : nat_lt 0 (padding_of d) ≡ nat_lt 0 (length p.padding) = ap (nat_lt 0) count in
+    let e : (not (is_padded d) || nat_lt 0 (padding_of d)) ≡ true =
+    ap (λ (x : Bool). not x || nat_lt 0 (padding_of d)) padded ∙ ap (λ (x : Bool). not (nat_lt 0 (length p.padding)) || x) some
+    ∙ excluded (nat_lt 0 (length p.padding)) in
+    rw (a, b, c, e) refl
+
+-- the octets of a packet's payload
+pub payload_read : (d : List ℕ) (p : RtpPacket) → ReadsRtp d p → payload_octets d ≡ length p.payload
+unfolding payload_octets
+payload_read d p reads =
+    let count = padding_is d p reads in
+    let joined = length-append p.payload p.padding in
+    let end = (laid_out d p reads).end in
+    let left : length d - (extension_end d + padding_of d) ≡ length p.payload = omega arith in
+    rw (reads_rtp d p reads) left
+
+number_back : (a b s t u : ℕ) (body : List ℕ) → s < 2 ^ 16 → big_number 2 (drop 2 (fixed_bytes a b s t u ++ body)) ≡ s
+unfolding fixed_bytes
+number_back a b s t u body h = omega arith
+
+-- the sequence number of a packet
+pub number_read : (d : List ℕ) (p : RtpPacket) → ReadsRtp d p → sequence_number d ≡ p.sequence_number
+unfolding sequence_number
+number_read d p reads =
+    ap (λ (l : List ℕ). big_number 2 (drop 2 l)) reads.bytes
+    ∙ number_back (first_byte p) (second_byte p) p.sequence_number p.timestamp p.ssrc (body_bytes p) reads.valid.sequence_number
+
+rewritten : (a b s t u n v : ℕ) (body : List ℕ)
+    → readdressed_bytes v n (fixed_bytes a b s t u ++ body) ≡ fixed_bytes a b n t v ++ body
+unfolding fixed_bytes readdressed_bytes
+rewritten a b s t u n v body = refl
+
+-- a packet's bytes under another source and number
+pub readdressed_read : (d : List ℕ) (p : RtpPacket) (v n : ℕ) → ReadsRtp d p → readdressed_bytes v n d ≡ bytes_of (with_address v n p)
+readdressed_read d p v n reads =
+    ap (readdressed_bytes v n) reads.bytes
+    ∙ rewritten (first_byte p) (second_byte p) p.sequence_number p.timestamp p.ssrc n v (body_bytes p)
+
+-- ---- no packet
+
+csrcs_before : (d : List ℕ) → csrc_end d ≤ extension_end d
+csrcs_before d = grind (arith, nat_tests)
+
+-- a count of padding that doesn't count what is there
+miscounted : (e n x : ℕ) → (n ≤ e) ⊎ ((x ≡ 0) ⊎ (n < e + x)) → e ≤ n → (nat_le (e + x) n && nat_lt 0 x) ≡ false
+miscounted e n x h low = grind (arith, nat_tests, h)
+
+-- the last byte, behind a place
+last_behind : (d : List ℕ) (e : ℕ) → e < length d → slice_index (drop e d) (length (drop e d) - 1) ≡ slice_index d (length d - 1)
+last_behind d e h =
+    let left = length-drop e d in
+    let place : e + (length (drop e d) - 1) ≡ length d - 1 = omega arith in
+    get_or-drop e d (length (drop e d) - 1) 0 ∙ ap (λ (k : ℕ). slice_index d k) place
+
+no_count : (d : List ℕ) (e : ℕ) → e ≤ length d → IsNoCount (drop e d)
+    → (length d ≤ e) ⊎ ((slice_index d (length d - 1) ≡ 0) ⊎ (length d < e + slice_index d (length d - 1)))
+no_count d e h none =
+    let left = length-drop e d in
+    ⊎_elim
+    (λ (below : e < length d).
+    let last = last_behind d e below in
+    elim none [
+      | inl empty ↦ inl (omega arith)
+      | inr other ↦ elim other [ inl zero_count ↦ inr (inl (sym last ∙ zero_count)) | inr above ↦ inr (inr (omega arith)) ]
+    ])
+    (λ (above : length d ≤ e). inl above)
+    (cases_lt e (length d))
+
+-- a datagram with a fault is no packet
+pub faulty : (d : List ℕ) (fault : RtpFault) → HasRtpFault d fault → is_rtp d ≡ false
+unfolding is_rtp
+faulty d Short h = rw (beyond 12 (length d) h) refl
+faulty d Version h = no_right _ _ (ap (λ (x : Bool). x && (nat_le (extension_end d + padding_of d) (length d) && (not (is_padded d) || nat_lt 0 (padding_of d)))) (other_number (slice_index d 0 / 64) 2 h.1))
+faulty d CsrcShort h =
+    let order = csrcs_before d in
+    let over = h.1 in
+    no_right _ _ (no_right _ _ (ap (λ (x : Bool). x && (not (is_padded d) || nat_lt 0 (padding_of d))) (beyond (extension_end d + padding_of d) (length d) (omega arith))))
+faulty d ExtensionShort h =
+    let over = h.2 in
+    no_right _ _ (no_right _ _ (ap (λ (x : Bool). x && (not (is_padded d) || nat_lt 0 (padding_of d))) (beyond (extension_end d + padding_of d) (length d) (omega arith))))
+faulty d Padding h =
+    let last = slice_index d (length d - 1) in
+    let on : is_padded d ≡ true = same_number (slice_index d 0 / 32 % 2) 1 h.3 in
+    let none = no_count d (extension_end d) h.2 h.4 in
+    let wrong = miscounted (extension_end d) (length d) last none h.2 in
+    let Refused : Bool → Type 0 = λ b.
+    (nat_le (extension_end d + (if b then last else 0)) (length d) && (not b || nat_lt 0 (if b then last else 0))) ≡ false in
+    no_right _ _ (no_right _ _ (subst Refused (sym on) wrong))
+faulty d Room h = absurd h
+
+-- ---- what a call wrote
+
+-- the whole buffer holds the packet under another source and number
+pub wrote : (r : Result ℕ RtpFault) (d out new : List ℕ) (p : RtpPacket) (v n : ℕ) → ReadsRtp d p → length out ≡ length d
+    → (IsOk r ↔ (length d ≤ length out)) → IfOk r (λ size. size ≡ length d)
+    → IfOk r (λ size. new ≡ bytes_of (with_address v n p) ++ drop size out) → new ≡ readdressed_bytes v n d
+wrote (Ok size) d out new p v n reads same fits is written =
+    let none : drop size out ≡ [] = drop_all size out (omega arith) in
+    written ∙ ap (λ (l : List ℕ). bytes_of (with_address v n p) ++ l) none ∙ append-nil (bytes_of (with_address v n p))
+    ∙ sym (readdressed_read d p v n reads)
+wrote (Err fault) d out new p v n reads same fits is written =
+    let ok : false ≡ true = fits.1 (omega arith) in
+    absurd (cc)

@@ -1,0 +1,4 @@
+pub mod Legs
+pub mod Plan
+pub mod Planning
+pub mod Rtp

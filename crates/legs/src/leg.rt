@@ -1,0 +1,85 @@
+//! A leg that a worker owns.
+
+ghost use Rattle.std.specs.Prelude.{◌≡◌, ◌≤◌, ◌+◌, ◌%◌, ◌^◌, ◌<◌, IfOk};
+
+use resend_ring::{MAX_CAPACITY, Ring};
+use rewrite::Leg;
+use settings::LegSettings;
+use std::alloc::{AllocError, Global};
+
+/// The counts of what was handed out go round at this number (RFC 3550, section 6.4.1).
+const COUNTS: u64 = 1 << 32;
+
+/// A leg that a worker owns: all that what it gives out depends on, beside its row.
+#[derive(Debug, Drop)]
+pub struct LegState {
+    /// Its number.
+    pub number: u16,
+    /// What it joins.
+    pub link: LegSettings,
+    /// Its outgoing sequence numbers.
+    pub numbers: Leg,
+    /// The last packets that went out on it.
+    pub kept: Ring,
+    /// How many packets were handed out on it, repeated ones too, modulo 2^32.
+    pub packets: u32,
+    /// How many octets their payloads have, modulo 2^32.
+    pub octets: u32,
+}
+
+/// A count that goes round, once so many more came.
+fn counted(count: u32, more: u64) -> u32
+    ensures { result ≡ (count + more) % 2 ^ 32 }
+{
+    ((u64::from(count) + more % COUNTS) % COUNTS) as u32
+}
+
+impl LegState {
+    ghost use Rattle.std.specs.Option.{option_to_list};
+    ghost use Rattle.legs.specs.Legs.{new_state, handed_out, leg_after_packet};
+
+    /// The leg with this number before its first packet, which keeps so many packets.
+    pub(crate) fn new(
+        alloc: Global,
+        ring: usize,
+        number: u16,
+        link: &LegSettings,
+    ) -> Result<LegState, AllocError>
+        requires least { 1 ≤ ring }
+        requires most { ring ≤ MAX_CAPACITY }
+        ensures { IfOk result (λ leg. leg ≡ new_state ring number link.now) }
+    {
+        Ok(LegState {
+            number,
+            link: *link,
+            numbers: Leg::new(link.first_seq),
+            kept: Ring::new(alloc, ring)?,
+            packets: 0,
+            octets: 0,
+        })
+    }
+
+    /// A packet with so many octets of payload was handed out.
+    pub(crate) fn hand_out(&mut self, octets: u64)
+        ensures { self.new ≡ handed_out self.old octets }
+    {
+        self.packets = counted(self.packets, 1);
+        self.octets = counted(self.octets, octets);
+    }
+
+    /// A packet was handed out under a new number. Answers the bytes of the packet that isn't kept any more.
+    pub(crate) fn forward(
+        &mut self,
+        numbers: Leg,
+        number: u64,
+        octets: u64,
+        bytes: Vec<u8>,
+    ) -> Option<Vec<u8>>
+        ensures { self.new ≡ leg_after_packet self.old numbers number octets bytes.items }
+    {
+        self.hand_out(octets);
+        self.numbers = numbers;
+        let (_, left) = self.kept.keep(number, bytes)?;
+        Some(left)
+    }
+}

@@ -1,0 +1,351 @@
+//! The legs that one worker owns. A job is planned first, which may fail and changes no leg, and then applied, which
+//! can't fail; between the two what is planned is handed out.
+
+ghost use Rattle.std.specs.Prelude.{◌≡◌, ◌≤◌, ◌++◌, [], length, IfOk, OnOk, OnErr};
+ghost use Rattle.std.specs.Prelude.{ℕ, List};
+ghost use Rattle.std.specs.List.{enumerate_from, flat_map};
+ghost use Rattle.legs.specs.Legs.{new_legs, row_of};
+ghost use Rattle.legs.specs.Planning.{publisher_places, plan_of, ListsPlaces, FindsPlaces};
+
+use crate::leg::LegState;
+use crate::plan::Plan;
+use crate::planning::{plan_packet, plan_report, plan_resends};
+use events::Job;
+use members::Row;
+use resend_ring::MAX_CAPACITY;
+use rtcp_compound::CNAME_LIMIT;
+use rtcp_feedback::{Nack, lost};
+use rtp_packet::RtpView;
+use settings::{Links, MAX_LEGS};
+use std::alloc::{AllocError, Global};
+use std::collections::HashMap;
+use std::marker::Model;
+
+/// The legs that one worker owns, by rising number: those to the subscribers whose number, modulo the number of
+/// workers, is the worker's. A leg's numbers, its kept packets and its counts outlive its stays.
+#[derive(Debug, Drop)]
+pub struct Legs {
+    legs: Vec<LegState>,
+    /// Of each endpoint, the places of the legs that it publishes.
+    published: Vec<Vec<u16>>,
+    /// The place of the leg with each number.
+    places: HashMap<u16, u16>,
+}
+
+impl Model for Legs {
+    ghost use Rattle.std.specs.Prelude.{List};
+    ghost use Rattle.legs.specs.declared.leg.LegState.{LegState};
+    ghost use Rattle.legs.specs.Planning.{AreFound};
+
+    ghost Value = { List LegState };
+
+    ghost view = { λ l. l.legs.items };
+
+    ghost invariant = { λ l. AreFound l.published.items l.places l.legs.items };
+}
+
+/// The legs of a worker before their first packets.
+fn owned(
+    alloc: Global,
+    links: &Links,
+    ring: usize,
+    worker: u16,
+) -> Result<Vec<LegState>, AllocError>
+    requires least { 1 ≤ ring }
+    requires most { ring ≤ MAX_CAPACITY }
+    ensures { IfOk result (λ legs. legs.items ≡ new_legs links.now ring worker) }
+{
+    let mut legs = Vec::new(alloc);
+    for (number, link) in links.legs().iter().enumerate() {
+        if links.worker_of(link) == worker {
+            legs.push(LegState::new(alloc, ring, number as u16, link)?)?;
+        }
+    }
+    Ok(legs)
+}
+
+/// The places of the legs of a publisher.
+fn places_by(alloc: Global, legs: &[LegState], publisher: usize) -> Result<Vec<u16>, AllocError>
+    requires { length legs.now ≤ MAX_LEGS }
+    ensures { IfOk result (λ v. v.items ≡ publisher_places publisher (enumerate_from 0 legs.now)) }
+{
+    let mut places = Vec::new(alloc);
+    for (place, leg) in legs.iter().enumerate() {
+        if usize::from(leg.link.publisher) == publisher {
+            places.push(place as u16)?;
+        }
+    }
+    Ok(places)
+}
+
+/// The places of the legs that each of so many endpoints publishes.
+fn published(
+    alloc: Global,
+    legs: &[LegState],
+    endpoints: usize,
+) -> Result<Vec<Vec<u16>>, AllocError>
+    requires { length legs.now ≤ MAX_LEGS }
+    ensures { IfOk result (λ v. ListsPlaces v.items endpoints legs.now) }
+{
+    let mut lists = Vec::new(alloc);
+    for publisher in 0..endpoints {
+        lists.push(places_by(alloc, legs, publisher)?)?;
+    }
+    Ok(lists)
+}
+
+/// The place of the leg with each number.
+fn places(alloc: Global, legs: &[LegState]) -> Result<HashMap<u16, u16>, AllocError>
+    requires { length legs.now ≤ MAX_LEGS }
+    ensures { IfOk result (λ m. FindsPlaces m legs.now) }
+{
+    let mut places = HashMap::new(alloc);
+    let mut place = legs.len();
+    while place > 0 {
+        place -= 1;
+        let leg = &legs[place];
+        places.insert(leg.number, place as u16)?;
+    }
+    Ok(places)
+}
+
+/// The row of a leg; nothing stands on a leg without a row.
+fn row_of(rows: &[Row], leg: &LegState) -> Row
+    ensures { result ≡ row_of rows.now leg.now }
+{
+    match rows.get(usize::from(leg.number)) {
+        Some(row) => *row,
+        None => Row {
+            stay: 0,
+            turn: 0,
+            on: false,
+        },
+    }
+}
+
+/// Plans what the leg at a place does with a packet of its publisher.
+fn plan_place(
+    legs: &[LegState],
+    alloc: Global,
+    place: u16,
+    rows: &[Row],
+    packet: &RtpView<'_>,
+    plan: &mut Plan,
+) -> Result<(), AllocError>
+    ensures { OnOk result (plan.new
+        ≡ plan.old ++ plan_of rows.now packet.now.datagram.now legs.now place) }
+{
+    let Some(leg) = legs.get(usize::from(place)) else {
+        return Ok(());
+    };
+    let row = row_of(rows, leg);
+    if !row.on {
+        return Ok(());
+    }
+    let planned = plan_packet(leg, alloc, place, row.turn, packet, plan)?;
+    plan.push(planned)
+}
+
+/// Plans what the legs at these places do with a packet of their publisher.
+fn plan_places(
+    legs: &[LegState],
+    alloc: Global,
+    places: &[u16],
+    rows: &[Row],
+    packet: &RtpView<'_>,
+    plan: &mut Plan,
+) -> Result<(), AllocError>
+    ensures { OnOk result (plan.new
+        ≡ plan.old ++ flat_map (plan_of rows.now packet.now.datagram.now legs.now) places.now) }
+{
+    for place in places {
+        plan_place(legs, alloc, *place, rows, packet, plan)?;
+    }
+    Ok(())
+}
+
+impl Legs {
+    ghost use Rattle.std.specs.Prelude.{option_copied, MatchOption};
+    ghost use Rattle.legs.specs.Legs.{job_datagrams, legs_after};
+    ghost use Rattle.legs.specs.Plan.{kept_at, plan_outs, legs_after_plan};
+    ghost use Rattle.legs.specs.Planning.{job_plan, IsNowhere, IsStandingAt};
+    ghost use Rattle.events.specs.declared.job.Job.TheVariants as job;
+
+    /// The legs that this worker owns, none of which has sent a packet yet. Each keeps so many packets.
+    pub fn new(alloc: Global, links: &Links, ring: usize, worker: u16) -> Result<Legs, AllocError>
+        requires least { 1 ≤ ring }
+        requires most { ring ≤ MAX_CAPACITY }
+        ensures { IfOk result (λ legs. legs ≡ new_legs links.now ring worker) }
+    {
+        let legs = owned(alloc, links, ring, worker)?;
+        let endpoints = links.endpoints().len();
+        let owned = legs.as_slice();
+        let published = published(alloc, owned, endpoints)?;
+        let places = places(alloc, owned)?;
+        Ok(Legs {
+            legs,
+            published,
+            places,
+        })
+    }
+
+    /// The legs, by rising number.
+    pub fn as_slice(&self) -> &[LegState]
+        ensures { result.now ≡ self.now }
+    {
+        self.legs.as_slice()
+    }
+
+    /// The latest packet with this sequence number that the leg at this place keeps, as it was sent.
+    pub fn kept(&self, place: u16, seq: u16) -> Option<&[u8]>
+        ensures { option_copied result ≡ kept_at self.now place seq }
+    {
+        self.legs.get(usize::from(place))?.kept.find(seq)
+    }
+
+    /// Plans a job, in place of what was planned: all copies are made, and no leg changes. A job for the desk plans
+    /// nothing, nor does one that names a leg, a publisher or a stay that isn't there. Refused for want of memory
+    /// alone; then nothing is planned.
+    pub fn plan(
+        &self,
+        alloc: Global,
+        cname: &[u8],
+        rows: &[Row],
+        job: &Job,
+        plan: &mut Plan,
+    ) -> Result<(), AllocError>
+        requires { length cname.now ≤ CNAME_LIMIT }
+        ensures outs { OnOk result (plan_outs self.now plan.new
+            ≡ job_datagrams cname.now rows.now self.now job.now) }
+        ensures after { OnOk result (legs_after_plan self.now plan.new
+            ≡ legs_after rows.now self.now job.now) }
+        ensures err { OnErr result (plan.new ≡ []) }
+    {
+        plan.clear();
+        match self.plan_job(alloc, cname, rows, job, plan) {
+            Ok(()) => Ok(()),
+            Err(error) => {
+                plan.clear();
+                Err(error)
+            }
+        }
+    }
+
+    /// Does what is planned on these legs, and plans nothing any more: packets that went out are kept and count.
+    pub fn apply(&mut self, plan: &mut Plan)
+        ensures legs { self.new ≡ legs_after_plan self.old plan.old }
+        ensures done { plan.new ≡ [] }
+    {
+        plan.apply_to(self.legs.as_mut_slice());
+    }
+
+    /// Appends what a job does.
+    fn plan_job(
+        &self,
+        alloc: Global,
+        cname: &[u8],
+        rows: &[Row],
+        job: &Job,
+        plan: &mut Plan,
+    ) -> Result<(), AllocError>
+        requires { length cname.now ≤ CNAME_LIMIT }
+        ensures { OnOk result (plan.new
+            ≡ plan.old ++ job_plan cname.now rows.now self.now job.now) }
+    {
+        match job {
+            Job::Packet { publisher, bytes } => {
+                self.plan_packets(alloc, rows, *publisher, bytes.as_slice(), plan)
+            }
+            Job::Resend { leg, stay, nack } => self.plan_wanted(rows, *leg, *stay, *nack, plan),
+            Job::Report { leg, stay, sr } => {
+                self.plan_reported(alloc, cname, rows, *leg, *stay, *sr, plan)
+            }
+            Job::Request { .. } => Ok(()),
+            Job::Pli { .. } => Ok(()),
+        }
+    }
+
+    /// Appends what a datagram of a publisher does.
+    fn plan_packets(
+        &self,
+        alloc: Global,
+        rows: &[Row],
+        publisher: u16,
+        bytes: &[u8],
+        plan: &mut Plan,
+    ) -> Result<(), AllocError>
+        ensures { (cname : List ℕ) → OnOk result (plan.new ≡ plan.old
+            ++ job_plan cname rows.now self.now (job.Packet publisher bytes.now)) }
+    {
+        let Some(places) = self.published.get(usize::from(publisher)) else {
+            return Ok(());
+        };
+        let (legs, places) = (self.legs.as_slice(), places.as_slice());
+        match RtpView::parse(bytes) {
+            Ok(packet) => plan_places(legs, alloc, places, rows, &packet, plan),
+            Err(_) => Ok(()),
+        }
+    }
+
+    /// Appends what an entry of a NACK does.
+    fn plan_wanted(
+        &self,
+        rows: &[Row],
+        leg: u16,
+        stay: u64,
+        nack: Nack,
+        plan: &mut Plan,
+    ) -> Result<(), AllocError>
+        ensures { (cname : List ℕ) → OnOk result (plan.new ≡ plan.old
+            ++ job_plan cname rows.now self.now (job.Resend leg stay nack)) }
+    {
+        let Some((place, leg)) = self.standing(rows, leg, stay) else {
+            return Ok(());
+        };
+        let numbers = lost(nack);
+        plan_resends(leg, place, numbers.as_slice(), plan)
+    }
+
+    /// Appends a report.
+    fn plan_reported(
+        &self,
+        alloc: Global,
+        cname: &[u8],
+        rows: &[Row],
+        leg: u16,
+        stay: u64,
+        sr: Option<(u64, u32)>,
+        plan: &mut Plan,
+    ) -> Result<(), AllocError>
+        requires { length cname.now ≤ CNAME_LIMIT }
+        ensures { OnOk result (plan.new
+            ≡ plan.old ++ job_plan cname.now rows.now self.now (job.Report leg stay sr)) }
+    {
+        let Some((_, leg)) = self.standing(rows, leg, stay) else {
+            return Ok(());
+        };
+        let planned = plan_report(leg, alloc, cname, sr)?;
+        plan.push(planned)
+    }
+
+    /// The leg with this number and its place, where this stay stands on it.
+    fn standing(&self, rows: &[Row], number: u16, stay: u64) -> Option<(u16, &LegState)>
+        ensures { MatchOption result (IsNowhere rows.now number stay self.now)
+            (λ found. IsStandingAt rows.now number stay self.now found.0 found.1.now) }
+    {
+        let Some(place) = self.places.get(&number) else {
+            return None;
+        };
+        let Some(leg) = self.legs.get(usize::from(*place)) else {
+            return None;
+        };
+        if stay == 0 {
+            return None;
+        }
+        let row = row_of(rows, leg);
+        if row.stay != stay {
+            return None;
+        }
+        Some((*place, leg))
+    }
+}

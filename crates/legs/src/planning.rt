@@ -1,0 +1,143 @@
+//! What a leg does for a job.
+
+ghost use Rattle.std.specs.Prelude.{◌≡◌, ◌≤◌, ◌++◌, ◌∷◌, [], length, IfOk, OnOk};
+ghost use Rattle.rewrite.specs.Leg.{answer_to};
+ghost use Rattle.resend_ring.specs.Kept.{last_kept_with};
+ghost use Rattle.legs.specs.Legs.{leg_report_bytes};
+ghost use Rattle.legs.specs.Planning.{packet_planned, resend_planned, resends};
+ghost use Rattle.legs.specs.Rtp.{sequence_number, payload_octets, readdressed_bytes};
+
+use crate::leg::LegState;
+use crate::plan::{Plan, Planned};
+use events::Bytes;
+use rtcp_compound::{CNAME_LIMIT, write_rr, write_sdes_cname, write_sr};
+use rtp_packet::{RtpView, SEQ_CYCLE};
+use std::alloc::{AllocError, Global};
+use tmmbr_tuple::Ssrc;
+
+/// The octets of the payload of a packet; 0 where the bytes are none.
+pub fn payload_octets(bytes: &[u8]) -> u64
+    ensures { result ≡ payload_octets bytes.now }
+{
+    match RtpView::parse(bytes) {
+        Ok(packet) => packet.payload.len() as u64,
+        Err(_) => 0,
+    }
+}
+
+/// Writes the packet under another source and sequence number over as many bytes.
+fn readdress(packet: &RtpView<'_>, ssrc: Ssrc, seq: u16, out: &mut [u8])
+    requires { length out.old ≡ length packet.now.datagram.now }
+    ensures { out.new ≡ readdressed_bytes ssrc.0 seq packet.now.datagram.now }
+{
+    let _ = packet.rewritten_into(ssrc, seq, out);
+}
+
+/// The packet under another source and sequence number.
+fn readdressed(
+    packet: &RtpView<'_>,
+    alloc: Global,
+    ssrc: Ssrc,
+    seq: u16,
+    plan: &mut Plan,
+) -> Result<Bytes, AllocError>
+    ensures ok { IfOk result (λ bytes. bytes
+        ≡ readdressed_bytes ssrc.0 seq packet.now.datagram.now) }
+    ensures plan { plan.new ≡ plan.old }
+{
+    let mut bytes = plan.buffer(alloc, packet.datagram.len())?;
+    readdress(packet, ssrc, seq, bytes.as_mut_slice());
+    Ok(Bytes::new(bytes))
+}
+
+/// What the leg at this place does with a packet of its publisher that comes on this turn.
+pub fn plan_packet(
+    leg: &LegState,
+    alloc: Global,
+    place: u16,
+    turn: u64,
+    packet: &RtpView<'_>,
+    plan: &mut Plan,
+) -> Result<Planned, AllocError>
+    ensures ok { IfOk result (λ planned. planned
+        ≡ packet_planned place leg.now turn packet.now.datagram.now
+        (answer_to leg.now.numbers turn (sequence_number packet.now.datagram.now))) }
+    ensures plan { plan.new ≡ plan.old }
+{
+    let mut numbers = leg.numbers;
+    match numbers.next(turn, packet.sequence_number) {
+        Ok(number) => {
+            let seq = (number % SEQ_CYCLE) as u16;
+            let bytes = readdressed(packet, alloc, leg.link.out_ssrc, seq, plan)?;
+            Ok(Planned::Forward {
+                place,
+                endpoint: leg.link.subscriber,
+                numbers,
+                number,
+                octets: packet.payload.len() as u64,
+                bytes,
+            })
+        }
+        Err(skip) => Ok(Planned::Skip {
+            leg: leg.number,
+            skip,
+        }),
+    }
+}
+
+/// What the leg at this place does where a packet with this sequence number is wanted again.
+fn plan_again(leg: &LegState, place: u16, seq: u16) -> Planned
+    ensures { result ≡ resend_planned place leg.now seq (last_kept_with leg.now.kept.items seq) }
+{
+    match leg.kept.find(seq) {
+        Some(bytes) => Planned::Resend {
+            place,
+            endpoint: leg.link.subscriber,
+            seq,
+            octets: payload_octets(bytes),
+        },
+        None => Planned::Miss {
+            leg: leg.number,
+            seq,
+        },
+    }
+}
+
+/// Plans what the leg at this place does where packets with these sequence numbers are wanted again.
+pub fn plan_resends(
+    leg: &LegState,
+    place: u16,
+    numbers: &[u16],
+    plan: &mut Plan,
+) -> Result<(), AllocError>
+    ensures { OnOk result (plan.new ≡ plan.old ++ resends place leg.now numbers.now) }
+{
+    for seq in numbers {
+        plan.push(plan_again(leg, place, *seq))?;
+    }
+    Ok(())
+}
+
+/// The report of the leg's source, by the NTP and RTP timestamps of a sender report of its publisher.
+pub fn plan_report(
+    leg: &LegState,
+    alloc: Global,
+    cname: &[u8],
+    sr: Option<(u64, u32)>,
+) -> Result<Planned, AllocError>
+    requires { length cname.now ≤ CNAME_LIMIT }
+    ensures { IfOk result (λ planned. planned
+        ≡ Planned.Report leg.now.link.subscriber (leg_report_bytes cname.now leg.now sr)) }
+{
+    let source = leg.link.out_ssrc;
+    let mut bytes = Vec::new(alloc);
+    match sr {
+        Some((ntp, rtp)) => write_sr(&mut bytes, source, ntp, rtp, leg.packets, leg.octets, &[])?,
+        None => write_rr(&mut bytes, source, &[])?,
+    }
+    write_sdes_cname(&mut bytes, source, cname)?;
+    Ok(Planned::Report {
+        endpoint: leg.link.subscriber,
+        bytes: Bytes::new(bytes),
+    })
+}

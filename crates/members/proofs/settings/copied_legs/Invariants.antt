@@ -1,6 +1,0 @@
-use Rattle.std.proofs.Common.{◌≡◌, map, take, length}
-use Rattle.members.specs.Settings.{leg_of}
-use Rattle.members.proofs.settings.copied_legs.Given as goal
-
-abbrev pub invariant-loop-leg : goal.invariant-loop-leg
-invariant-loop-leg l = l.legs.items ≡ map (leg_of (length l.parts.endpoints.items)) (take l.leg-index l.parts.legs.items)

@@ -1,0 +1,4 @@
+pub mod Head
+pub mod Notification
+pub mod DeskCalls
+pub mod Drafts

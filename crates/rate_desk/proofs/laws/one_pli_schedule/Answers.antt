@@ -1,5 +1,0 @@
-use Rattle.rate_desk.proofs.OneScheduleLemmas.{one_schedule}
-use Rattle.rate_desk.proofs.laws.one_pli_schedule.Goals as goal
-
-pub returns : goal.returns
-returns c = one_schedule

@@ -1,5 +1,0 @@
-use Rattle.rate_desk.proofs.SinceLemmas.{present_law}
-use Rattle.rate_desk.proofs.laws.present_since_arrival.Goals as goal
-
-pub returns : goal.returns
-returns c = present_law

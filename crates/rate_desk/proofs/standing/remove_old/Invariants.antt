@@ -1,8 +1,0 @@
-use Rattle.std.proofs.Common.{◌≡◌}
-use Rattle.bounding_set.specs.State.{AnnouncesSmallest}
-use Rattle.rate_desk.specs.Presence.{live_requests}
-use Rattle.rate_desk.proofs.PresenceLemmas.{aged}
-use Rattle.rate_desk.proofs.standing.remove_old.Given as goal
-
-abbrev pub invariant-loop-p : goal.invariant-loop-p
-invariant-loop-p l = (l.bounds.rows ≡ live_requests (aged l.request_ms l.now l.p-index l.present)) × AnnouncesSmallest l.bounds

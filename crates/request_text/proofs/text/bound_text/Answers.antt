@@ -1,0 +1,25 @@
+use Rattle.std.proofs.Common.{◌∙◌, sym, subst, ap, length, List, ◌<◌}
+use Rattle.std.specs.Prelude.{All}
+use Rattle.rate_cert.specs.declared.request.Request.{Request}
+use Rattle.rate_cert.specs.declared.certificate.Kept.{Kept}
+use Rattle.rate_cert.specs.declared.certificate.Implied.{Implied}
+use Rattle.rate_cert.specs.declared.certificate.Cert.{Cert}
+use Rattle.rate_cert.specs.Certificate.{IsInRange}
+use Rattle.rate_cert.proofs.CheckerLemmas.{kept_in_range, implied_in_range}
+use Rattle.request_text.proofs.text.bound_text.Goals as goal
+
+pub push_kept-requires : goal.push_kept-requires
+push_kept-requires c =
+    let cert = c.args.bounds.now.cert in
+    let in_range = kept_in_range c.args.bounds.now.rows cert.kept.items cert.implied.items c.cert-cert.ensures.announced.certified.places in
+    let kept = c.as_slice-3.ensures.value ∙ ap (λ (k : Cert). k.kept.items) c.cert-cert.ensures.value in
+    subst (λ (ks : List Kept). All (λ k. k.place < length c.rows-rows.result.now) ks) (sym kept)
+    (subst (λ (rows : List Request). All (λ k. k.place < length rows) cert.kept.items) (sym c.rows-rows.ensures.value) in_range)
+
+pub push_implied-requires : goal.push_implied-requires
+push_implied-requires c =
+    let cert = c.args.bounds.now.cert in
+    let in_range = implied_in_range c.args.bounds.now.rows cert.kept.items cert.implied.items c.cert-cert.ensures.announced.certified.places in
+    let implied = c.as_slice-4.ensures.value ∙ ap (λ (k : Cert). k.implied.items) c.cert-cert.ensures.value in
+    subst (λ (is : List Implied). All (IsInRange c.rows-rows.result.now) is) (sym implied)
+    (subst (λ (rows : List Request). All (IsInRange rows) cert.implied.items) (sym c.rows-rows.ensures.value) in_range)

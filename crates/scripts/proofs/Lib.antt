@@ -1,0 +1,4 @@
+pub mod Settling
+pub mod SettleLemmas
+pub mod ScriptLemmas
+pub mod ReplayLemmas

@@ -1,0 +1,138 @@
+-- How a unit that was to be served ends, and what is said of it.
+use Rattle.std.proofs.Common.{◌≡◌, ◌≢◌, ◌⊎◌, ◌++◌, ℕ, List, [], Option, None, Some, Result, Ok, Err, OnOk, IfErr, MatchResult, codes, refl, subst, sym, inl, inr}
+use Rattle.std.proofs.lemmas.List.{append-nil}
+use Rattle.std.specs.Io.KnownBytes.{Appends, Keeps, append_known}
+use Rattle.std.specs.declared.net.socket_addr.SocketAddr.{SocketAddr}
+use Rattle.settings.specs.Settings.{Configuration}
+use Rattle.endings.specs.Endings.{EndsSaying, IsUnsaid, SaysWhy}
+use Rattle.serving.specs.ReportText.{PrintsReport}
+use Rattle.serving.specs.Serving.{EndsServe, FailsServe, FailsToStart, SaysFault, SaysWhyServing, serving_line}
+use Rattle.serving.specs.declared.serve_fault.ServeFault.{ServeFault}
+use Rattle.endings.specs.declared.status.Status.{Status}
+use Rattle.endings.specs.declared.status.Status.TheVariants as status
+
+pub keeps_itself : (known : Option (List ℕ)) → Keeps known known
+keeps_itself None = tt
+keeps_itself (Some xs) = refl
+
+-- what is said behind a notice is said behind what was there and the notice
+said_behind : (old mid new : Option (List ℕ)) (notice : List ℕ) (s : Status) → Appends old mid notice → SaysWhy mid new s → SaysWhy (append_known old notice) new s
+said_behind None mid new notice s there said = record {
+  done = λ _. tt;
+  no_memory = λ _. tt;
+  io = λ _. tt;
+  socket = λ _. tt;
+}
+said_behind (Some xs) None new notice s there said = absurd there
+said_behind (Some xs) (Some ys) new notice s there said = subst (λ zs. SaysWhy (Some zs) new s) there said
+
+-- nothing before it
+said_alone : (old new : Option (List ℕ)) (s : Status) → SaysWhy old new s → SaysWhy (append_known old []) new s
+said_alone None new s said = said
+said_alone (Some xs) new s said = subst (λ zs. SaysWhy (Some zs) new s) (sym (append-nil xs)) said
+
+-- ---- a unit that isn't served
+
+unsaid_why : (old new : Option (List ℕ)) (s : Status) → IsUnsaid s → FailsToStart old new s
+unsaid_why old new status.UnsaidNoMemory is = record {
+  failed = λ e. cc;
+  understood = λ e. cc;
+  read = (λ e. cc, λ e. cc);
+  said = record { done = λ e. cc; no_memory = λ e. cc; io = λ e. cc; socket = λ e. cc };
+}
+unsaid_why old new status.UnsaidIo is = record {
+  failed = λ e. cc;
+  understood = λ e. cc;
+  read = (λ e. cc, λ e. cc);
+  said = record { done = λ e. cc; no_memory = λ e. cc; io = λ e. cc; socket = λ e. cc };
+}
+unsaid_why old new status.Done is = absurd is
+unsaid_why old new status.NoMemory is = absurd is
+unsaid_why old new status.CommandLine is = absurd is
+unsaid_why old new status.Settings is = absurd is
+unsaid_why old new status.Refused is = absurd is
+unsaid_why old new status.Io is = absurd is
+unsaid_why old new status.Socket is = absurd is
+
+pub not_written : (old new : Option (List ℕ)) (s : Status) → IsUnsaid s → FailsToStart old new s
+not_written = unsaid_why
+
+no_memory_said : (old new : Option (List ℕ)) (s : Status) → s ≡ status.NoMemory → Appends old new (codes "no memory\n") → FailsToStart old new s
+no_memory_said old new status.NoMemory is there = record {
+  failed = λ e. cc;
+  understood = λ e. cc;
+  read = (λ e. cc, λ e. cc);
+  said = record { done = λ e. cc; no_memory = λ e. there; io = λ e. cc; socket = λ e. cc };
+}
+no_memory_said old new status.Done is there = cc
+no_memory_said old new status.CommandLine is there = cc
+no_memory_said old new status.Settings is there = cc
+no_memory_said old new status.Refused is there = cc
+no_memory_said old new status.Io is there = cc
+no_memory_said old new status.Socket is there = cc
+no_memory_said old new status.UnsaidNoMemory is there = cc
+no_memory_said old new status.UnsaidIo is there = cc
+
+pub no_memory : (old new : Option (List ℕ)) (s : Status) → EndsSaying status.NoMemory (codes "no memory\n") old new s → FailsToStart old new s
+no_memory old new s (inl said) = no_memory_said old new s said.0 said.1
+no_memory old new s (inr is) = unsaid_why old new s is
+
+pub ends_early : (settings : Configuration) (printed old new : Option (List ℕ)) (s : Status) → FailsToStart old new s → EndsServe settings printed printed s
+ends_early settings printed old new s fails = record {
+  done = λ is. absurd (fails.failed is);
+  socket = λ is. keeps_itself printed;
+  understood = fails.understood;
+  read = fails.read;
+}
+
+pub says_early : (old new : Option (List ℕ)) (s : Status) → FailsToStart old new s → SaysWhyServing old new s
+says_early old new s fails = record {
+  notice = [];
+  listened = inl refl;
+  done = λ is. absurd (fails.failed is);
+  said = said_alone old new s fails.said;
+}
+
+-- ---- a unit that listens
+
+pub says_behind : (old mid new : Option (List ℕ)) (address : SocketAddr) (s : Status) → Appends old mid (serving_line address) → SaysWhy mid new s → SaysWhyServing old new s
+says_behind old mid new address s there said = record {
+  notice = serving_line address;
+  listened = inr (address, refl);
+  done = λ is empty. cc;
+  said = said_behind old mid new (serving_line address) s there said;
+}
+
+pub ends_so : (settings : Configuration) (old new said_old said_new : Option (List ℕ)) (served : Result (Unit {0}) ServeFault) (s : Status)
+    → OnOk served (PrintsReport settings old new) → IfErr served (FailsServe old new)
+    → MatchResult served (λ _. s ≡ status.Done) (SaysFault said_old said_new s) → EndsServe settings old new s
+ends_so settings old new said_old said_new (Ok u) s prints fails ends =
+    subst (λ z. EndsServe settings old new z) (sym ends) (record {
+      done = λ is. prints;
+      socket = λ is. cc;
+      understood = λ is. cc;
+      read = (λ is. cc, λ is. cc);
+    })
+ends_so settings old new said_old said_new (Err why) s prints fails ends = record {
+  done = λ is. absurd (ends.fails.failed is);
+  socket = λ is. fails (ends.socket is);
+  understood = ends.fails.understood;
+  read = ends.fails.read;
+}
+
+-- ---- a report that is printed
+
+pub prints : (settings : Configuration) (old new : Option (List ℕ)) (text : List ℕ) (r : Result (Unit {0}) ServeFault) → OnOk r (Appends old new text)
+    → (Appends old new text → PrintsReport settings old new) → OnOk r (PrintsReport settings old new)
+prints settings old new text (Ok u) there whole = whole there
+prints settings old new text (Err f) there whole = tt
+
+-- ---- a unit that wasn't to be served after all
+
+pub says_alone : (old new : Option (List ℕ)) (s : Status) → s ≢ status.Done → SaysWhy old new s → SaysWhyServing old new s
+says_alone old new s fails said = record {
+  notice = [];
+  listened = inl refl;
+  done = λ is. absurd (fails is);
+  said = said_alone old new s said;
+}

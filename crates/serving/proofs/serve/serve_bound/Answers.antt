@@ -1,0 +1,10 @@
+use Rattle.serving.proofs.ServeLemmas.{ends_so}
+use Rattle.serving.proofs.serve.serve_bound.Goals as goal
+
+pub returns-in-Some-clause-ends : goal.returns-in-Some-clause-ends
+returns-in-Some-clause-ends g c =
+    ends_so _ _ _ _ _ c.serve_watched-served.result c.ended.result c.serve_watched-served.ensures.done c.serve_watched-served.ensures.refused c.ended.ensures.ends
+
+pub returns-in-None-clause-ends : goal.returns-in-None-clause-ends
+returns-in-None-clause-ends g c =
+    ends_so _ _ _ _ _ c.serve_socket-served.result c.ended-in-None.result c.serve_socket-served.ensures.done c.serve_socket-served.ensures.refused c.ended-in-None.ensures.ends

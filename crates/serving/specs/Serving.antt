@@ -1,0 +1,49 @@
+-- What `sfu serve` says, and what it leaves where it isn't done.
+use Rattle.std.specs.Prelude.{◌≡◌, ◌≢◌, ◌⊎◌, ◌++◌, ℕ, List, [], Option, codes}
+use Rattle.std.specs.Io.KnownBytes.{Keeps, append_known}
+use Rattle.std.specs.Net.Text.{socket_text}
+use Rattle.std.specs.declared.net.socket_addr.SocketAddr.{SocketAddr}
+use Rattle.settings.specs.Settings.{Configuration}
+use Rattle.endings.specs.Endings.{SaysWhy}
+use Rattle.serving.specs.ReportText.{PrintsReport}
+use Rattle.serving.specs.declared.serve_fault.ServeFault.{ServeFault}
+use Rattle.serving.specs.declared.serve_fault.ServeFault.TheVariants.{Socket}
+use Rattle.endings.specs.declared.status.Status.{Status}
+use Rattle.endings.specs.declared.status.Status.TheVariants as status
+
+-- where the unit isn't served to its end for its socket and its threads, nothing was printed
+abbrev pub FailsServe : Option (List ℕ) → Option (List ℕ) → ServeFault → Type 0
+FailsServe old new fault = fault ≡ Socket → Keeps old new
+
+-- How a unit that was to be served ends: its report is printed; or its socket or its threads failed, and nothing is; or
+-- memory is wanting, or a write failed.
+pub record EndsServe (settings : Configuration) (old new : Option (List ℕ))
+    (s : Status) : Type 0 where
+  pub done : s ≡ status.Done → PrintsReport settings old new
+  pub socket : s ≡ status.Socket → Keeps old new
+  pub understood : s ≢ status.CommandLine
+  pub read : (s ≢ status.Settings) × (s ≢ status.Refused)
+
+-- The unit isn't served, and the error output says why.
+pub record FailsToStart (old new : Option (List ℕ)) (s : Status) : Type 0 where
+  pub failed : s ≢ status.Done
+  pub understood : s ≢ status.CommandLine
+  pub read : (s ≢ status.Settings) × (s ≢ status.Refused)
+  pub said : SaysWhy old new s
+
+-- The same, for this fault: `socket` is said of the socket alone.
+pub record SaysFault (old new : Option (List ℕ)) (s : Status) (fault : ServeFault) : Type 0 where
+  pub fails : FailsToStart old new s
+  pub socket : s ≡ status.Socket → fault ≡ Socket
+
+-- the line that says where the unit listens
+abbrev pub serving_line : SocketAddr → List ℕ
+serving_line address = codes "serving " ++ (socket_text address ++ codes "\n")
+
+-- What the error output says of a unit that was to be served without lines of counts: where it listens, if it came so far,
+-- and behind that what other commands say.
+pub record SaysWhyServing (old new : Option (List ℕ)) (s : Status) : Type 0 where
+  pub notice : List ℕ
+  pub listened : (notice ≡ []) ⊎ ((address : SocketAddr) × (notice ≡ serving_line address))
+  pub done : s ≡ status.Done → notice ≢ []
+  pub said : SaysWhy (append_known old notice) new s

@@ -1,0 +1,16 @@
+//! What is fixed while a room runs: its settings, which are checked once (RFC 7667, section 3.7), and how the legs that they name are
+//! found.
+//!
+//! Read `settings` first, then `links`; `checks` has the faults, in their order.
+#![tactic(auto)]
+
+mod checks;
+mod fault;
+mod links;
+mod parts;
+mod settings;
+
+pub use fault::{Key, RoomFault, SettingsFault};
+pub use links::Links;
+pub use parts::{LegParts, Parts};
+pub use settings::{LegSettings, MAX_ENDPOINTS, MAX_LEGS, Settings};

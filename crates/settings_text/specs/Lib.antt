@@ -1,0 +1,3 @@
+pub mod SettingsText
+pub mod SettingsFile
+pub mod SettingsFaults

@@ -1,0 +1,70 @@
+-- What a settings file says: a TOML table, as the parts of a room's settings.
+use Rattle.std.specs.Prelude.{◌≡◌, ℕ, ℤ, Bool, List, [], ◌∷◌, map, Option, None, Some, option_map, option_and_then, codes, string_bytes, String}
+use Rattle.std.specs.Global.{Global}
+use Rattle.toml.specs.Data.{Data, Items, Members, array, as_bool, as_integer, as_str, get, get_member, item, no_items}
+use Rattle.settings.specs.declared.parts.LegParts.{LegParts}
+use Rattle.settings.specs.declared.parts.Parts.{Parts}
+use Rattle.settings.specs.Settings.{checks, configuration_of, first_fault}
+use Rattle.settings_text.specs.declared.settings_file.FileSettings.{FileSettings}
+
+-- ---- what is found
+
+abbrev pub integer_in : Option Data → Option ℤ
+integer_in value = option_and_then as_integer value
+
+abbrev pub bool_in : Option Data → Option Bool
+bool_in value = option_and_then as_bool value
+
+abbrev pub text_in : Option Data → Option (List ℕ)
+text_in value = option_and_then as_str value
+
+abbrev pub list_of : Items → List Data
+list_of no_items = []
+list_of (item d ds) = d ∷ list_of ds
+
+-- the items of a list; none where there is no list
+abbrev pub items_in : Option Data → List Data
+items_in (Some (array ds)) = list_of ds
+items_in value = []
+
+abbrev pub source_in : Data → Option ℤ
+source_in endpoint = integer_in (get (codes "ssrc") endpoint)
+
+abbrev pub address_in : Data → Option (List ℕ)
+address_in endpoint = text_in (get (codes "address") endpoint)
+
+abbrev pub leg_in : Data → LegParts
+leg_in leg = record {
+  subscriber = integer_in (get (codes "subscriber") leg);
+  publisher = integer_in (get (codes "publisher") leg);
+  out_ssrc = integer_in (get (codes "out_ssrc") leg);
+  first_seq = integer_in (get (codes "first_seq") leg);
+  on = bool_in (get (codes "on") leg);
+}
+
+abbrev pub text_bytes : Option (String Global) → Option (List ℕ)
+text_bytes text = option_map string_bytes text
+
+-- The parts are what the table has under their keys.
+pub record ArePartsOf (t : Members) (p : Parts) : Type 0 where
+  pub workers : p.workers ≡ integer_in (get_member (codes "workers") t)
+  pub ring : p.ring ≡ integer_in (get_member (codes "ring") t)
+  pub history : p.history ≡ integer_in (get_member (codes "history") t)
+  pub timeout_ms : p.timeout_ms ≡ integer_in (get_member (codes "timeout_ms") t)
+  pub report_ms : p.report_ms ≡ integer_in (get_member (codes "report_ms") t)
+  pub request_ms : p.request_ms ≡ integer_in (get_member (codes "request_ms") t)
+  pub pli_gap_ms : p.pli_gap_ms ≡ integer_in (get_member (codes "pli_gap_ms") t)
+  pub unit_ssrc : p.unit_ssrc ≡ integer_in (get_member (codes "unit_ssrc") t)
+  pub cname : text_bytes p.cname ≡ text_in (get_member (codes "cname") t)
+  pub endpoints : p.endpoints.items ≡ map source_in (items_in (get_member (codes "endpoint") t))
+  pub legs : p.legs.items ≡ map leg_in (items_in (get_member (codes "leg") t))
+
+-- The table's parts pass every check, and these are their settings; addresses are as the table spells them.
+pub record HoldsSettings (t : Members) (f : FileSettings) : Type 0 where
+  pub parts : Parts
+  pub found : ArePartsOf t parts
+  pub passes : first_fault (checks parts) ≡ None
+  pub settings : f.settings ≡ configuration_of parts
+  pub listen : text_bytes f.listen ≡ text_in (get_member (codes "listen") t)
+  pub addresses : map text_bytes f.addresses.items
+      ≡ map address_in (items_in (get_member (codes "endpoint") t))

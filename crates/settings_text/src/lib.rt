@@ -1,0 +1,10 @@
+//! The settings of a room as TOML text: which settings a text gives, or its first fault, and the line that is said of one.
+#![tactic(auto)]
+
+mod problem_text;
+mod settings_file;
+mod settings_keys;
+
+pub use problem_text::problem_line;
+pub use settings_file::{FileSettings, SettingsProblem, problem_at, read_settings};
+pub use settings_keys::{Place, items_at};
