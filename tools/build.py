@@ -25,7 +25,7 @@ TOP = os.path.dirname(os.path.dirname(os.path.realpath(__file__)))
 SOURCES, MADE = ("src", "specs", "proofs"), ("incremental", "rlib")
 MOST_JOBS = 4
 # Bytes that a check takes: at least, for each line of the crate's sources, and for each job beside the first.
-LEAST, EACH_LINE, EACH_JOB = 1_500_000_000, 150_000, 1_000_000_000
+LEAST, EACH_LINE, EACH_JOB = 1_200_000_000, 150_000, 1_000_000_000
 # The statuses of an rt whose check was killed, as it is for want of memory, though it had one job.
 KILLED = (-signal.SIGKILL, 256 - signal.SIGKILL, 128 + signal.SIGKILL)
 # Seconds between two looks at what runs, and seconds after which a library that rt is still busy with can't be up to date.
