@@ -1,9 +1,10 @@
 #!/usr/bin/env python3
-"""Builds a program, proving the libraries below it side by side: tools/build.py PROGRAM
+"""Builds a program or a library, proving the libraries below it side by side: tools/build.py CRATE
 
 crates.txt says what stands on what. A library is proved by `rt lib` once those below it are, the one with the longest chain
 above it first, as many at a time as processors (RT_JOBS, if set) and memory allow; processors that no other library waits for
-go to those that begin. Crates that only tests need are left out. `rt run` then proves and compiles the program itself.
+go to those that begin. Crates that it doesn't stand on, as those of tests, are left out. `rt run` then proves and compiles the
+program itself.
 
 One `rt` holds every crate below its own until it ends, so each library is proved in a room: a folder with the sources, and with
 hard links to what is built below. `rt` takes a built library by the sum of its sources, wherever it lies. What is proved goes
@@ -194,8 +195,8 @@ class Crate:
         self.lock = None
 
 
-def crates_for(program):
-    """Returns the libraries below the program, each after those that it stands on, and the program."""
+def crates_for(name):
+    """Returns the libraries to prove for a crate, each after those that it stands on, and the program, if the crate is one."""
     with open(f"{TOP}/crates.txt", encoding="utf-8") as it:
         lines = [line.partition("#")[0].strip() for line in it]
     found = {crate.name: crate for crate in map(Crate, filter(None, lines))}
@@ -211,8 +212,11 @@ def crates_for(program):
         crate.count_lines()
         order.append(crate)
 
-    visit(found[program])
-    return order[:-1], order[-1]
+    if name not in found:
+        sys.exit(f"sfu: crates.txt has no crate {name}")
+    visit(found[name])
+    is_program = os.path.isfile(f"{found[name].folder}/src/main.rt")
+    return (order[:-1], order[-1]) if is_program else (order, None)
 
 
 class Build:
@@ -274,7 +278,7 @@ class Build:
             return False
         library.is_done = True
         if library.is_told:
-            left = sum(not it.is_done for it in self.libraries) + 1
+            left = sum(not it.is_done for it in self.libraries) + bool(self.program)
             self.say(f"{library.name} is proved, in {library.took()}; {left} left")
         return True
 
@@ -347,18 +351,19 @@ def only_build():
     return rooms
 
 
-def main(program):
+def main(name):
     def stop(number, _):
         sys.exit(128 + number)
 
     for number in (signal.SIGINT, signal.SIGTERM, signal.SIGHUP):
         signal.signal(number, stop)
     rooms = only_build()
-    build = Build(*crates_for(program), rooms)
-    say(f"building the program. Each of the {len(build.libraries)} libraries that it stands on is proved, side by side ({build.lanes} processors,")
-    say(f"{free_memory() / 1e9:.0f} GB of free memory). What the prover prints goes to crates/NAME/out/build.log")
-    say("for a look before any proof, in another shell: ./sfu --unproved COMMAND ARGS..")
-    is_built = build.prove_libraries() and build.build_program()
+    build = Build(*crates_for(name), rooms)
+    say(f"{len(build.libraries)} libraries are proved, side by side: {build.lanes} processors, {free_memory() / 1e9:.0f} GB of free memory")
+    say("what the prover prints goes to crates/NAME/out/build.log")
+    if build.program:
+        say("for a look before any proof, in another shell: ./sfu --unproved COMMAND ARGS..")
+    is_built = build.prove_libraries() and (build.program is None or build.build_program())
     shutil.rmtree(rooms, ignore_errors=True)
     return 0 if is_built else 1
 
