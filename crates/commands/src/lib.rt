@@ -1,8 +1,8 @@
-//! The commands of `sfu`: the words that ask for them, what each reads and prints, and how it ends.
+//! The commands of `sfu`: the words that ask for them, and what each does with which file.
 //!
-//! Read `command` first, `run_command`, which the program calls; `status` is how a command ends, and `saying` what it then
-//! says. `bound` and `text` are `sfu bound`, `entry` and `check_file` `sfu check`; `settings_file`, `script` and `replay` are
-//! `sfu replay`; `served_file`, `socket` and `serve` are `sfu serve`. `words` has the words of a line.
+//! Read `command` first, `run_command`, which the program calls; `command_line` has the words, and `check_file` is `sfu check`. What
+//! `sfu bound` reads and prints is the crate `request_text`; `sfu replay` is `settings_text` and `scripts`, `sfu serve` is `serving`,
+//! and how a command ends is `endings`. What callers need of these is handed on.
 #![tactic(auto)]
 
 mod check_file;

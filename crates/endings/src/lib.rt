@@ -1,6 +1,6 @@
 //! How a command ends, and what it then says on the error output.
 //!
-//! Read `status` first.
+//! Read `status` first, then `saying`.
 #![tactic(auto)]
 
 mod saying;

@@ -1,5 +1,5 @@
-//! What one worker of the unit does with its jobs: it sends packets on, by rows no older than the job, and asks publishers' desks for its
-//! subscribers (RFC 7667, section 3.7).
+//! What one worker of the unit does with its jobs: it sends packets on, by rows no older than the job, and asks publishers'
+//! desks for its subscribers (RFC 7667, section 3.7).
 //!
 //! Read `outside` first, what the unit needs from outside: where datagrams come from, where they go, and the time. Then
 //! `forwarder`, what one worker does with its jobs, and `notifier`, how a desk is asked and what follows is sent.

@@ -1,5 +1,7 @@
-//! What a datagram of an endpoint says: a packet of media, a goodbye, or what its other RTCP packets ask for (RFC 3550, section 6; RFC
-//! 4585, section 6; RFC 5104, section 4.2); or the first fault in it.
+//! What a datagram of an endpoint says: a packet of media, a goodbye, or what its other RTCP packets ask for (RFC 3550,
+//! section 6; RFC 4585, section 6; RFC 5104, section 4.2); or the first fault in it.
+//!
+//! Read `hear_datagram` first. All of a datagram is read before anything that it asks for is listed.
 #![tactic(auto)]
 
 mod intake;

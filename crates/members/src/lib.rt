@@ -1,8 +1,8 @@
-//! Who is there: the settings of a room, which endpoints are present in it, and the stays of its legs
-//! (RFC 7667, section 3.7); and what was received of each endpoint (RFC 3550, section 6.4.1).
+//! Who is there: which endpoints are present in a room, and the stays of its legs (RFC 7667, section 3.7); and what
+//! was received of each endpoint (RFC 3550, section 6.4.1).
 //!
-//! Read `settings` first, then `room`; `reception` stands by itself. Nothing reads a clock: calls are handed
-//! their moment.
+//! Read `room` first; `reception` stands by itself. What is fixed while a room runs is the crate `settings`, whose names
+//! are handed on. Nothing reads a clock: calls are handed their moment.
 #![tactic(auto)]
 
 pub mod laws;

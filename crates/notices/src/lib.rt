@@ -1,5 +1,5 @@
-//! The calls of publishers' desks, and what is sent to publishers and subscribers after one (RFC 5104, section 4.2; RFC 4585, section
-//! 6.3.1).
+//! The calls of publishers' desks, and what is sent to publishers and subscribers after one (RFC 5104, section 4.2; RFC 4585,
+//! section 6.3.1).
 //!
 //! Read `calls` first: which desk a job asks, and for what; then `notification`: what is told after its answer. `head` is what each
 //! compound of the unit begins with, and its reports.

@@ -1,10 +1,8 @@
-//! One publisher's desk: who may ask it for rates, what they ask for, and what is announced to them (RFC
-//! 5104, sections 3.5.4 and 4.2); and when a picture loss indication is sent on to it (PLI, RFC 4585,
-//! section 6.3.1).
+//! The desks of several publishers under locks, for several threads (RFC 5104, sections 3.5.4 and 4.2).
 //!
-//! Read `desk` first. A desk records each call with its answer; what it holds and announces is a function
-//! of these. It lists its last calls, and folds those before them into a base. Nothing reads a clock: moments
-//! are handed in. No call of a made desk allocates.
+//! Read `house` first. A thread calls desks through its seat; once all are done the desks are gathered, and compared with
+//! what the seats counted. What one desk is stands in the crate `desk`, whose names are handed on. Nothing reads a clock:
+//! moments are handed in. No call of a made house allocates.
 #![tactic(auto)]
 
 mod gathering;

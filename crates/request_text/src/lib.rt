@@ -1,5 +1,7 @@
-//! Requests and certificates as text: the datagrams of a list of lines (`bound`), what is printed of the set that is announced for them
-//! (`text`), and a line of a certificate (`entry`). `words` has the words of a line.
+//! Requests and certificates as text: what `sfu bound` reads and prints, and the lines that `sfu check` reads.
+//!
+//! Read `bound` first, the requests that the datagrams of a list of lines leave; then `text`, what is printed of the set that is
+//! announced for them, and `entry`, a line of a certificate. `words` has the words of a line.
 #![tactic(auto)]
 
 mod bound;

@@ -1,5 +1,7 @@
-//! Scripts of events, played through the unit's machine (`sfu replay`): what a line asks for (`script`), how it is played until nothing
-//! waits (`replay`), and the line for each thing that comes out (`out_text`).
+//! Scripts of events, played through the unit's machine (`sfu replay`).
+//!
+//! Read `replay` first, how a script is played, line by line; `script` is what a line asks for, `out_text` the line for each thing
+//! that comes out.
 #![tactic(auto)]
 
 mod out_text;

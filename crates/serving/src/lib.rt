@@ -1,5 +1,8 @@
-//! The unit on a UDP socket (`sfu serve`): settings with addresses (`served_file`, `addresses`), who an address is (`directory`), the
-//! socket (`socket`), the lines of counts (`status_lines`, `report_text`), and the run of it all (`serve`).
+//! The unit on a UDP socket (`sfu serve`).
+//!
+//! Read `serve` first, the run of it all. `served_file` and `addresses` are the settings with everybody's address, `directory` says
+//! who an address is, `socket` is what the unit needs from outside, on one socket; `report_text` and `status_lines` are what is
+//! printed of a run, and while it goes on.
 #![tactic(auto)]
 
 mod addresses;

@@ -1,5 +1,5 @@
-//! What is fixed while a room runs: its settings, which are checked once (RFC 7667, section 3.7), and how the legs that they name are
-//! found.
+//! What is fixed while a room runs: its settings, which are checked once (RFC 7667, section 3.7), and how the legs that they
+//! name are found.
 //!
 //! Read `settings` first, then `links`; `checks` has the faults, in their order.
 #![tactic(auto)]

@@ -1,4 +1,6 @@
 //! The settings of a room as TOML text: which settings a text gives, or its first fault, and the line that is said of one.
+//!
+//! Read `settings_file` first; `settings_keys` has the keys and the order of faults, `problem_text` the lines.
 #![tactic(auto)]
 
 mod problem_text;

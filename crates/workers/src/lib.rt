@@ -1,9 +1,8 @@
 //! The unit in threads: workers send packets on beside one writer of routes, and ask the publishers' desks for their
 //! subscribers (RFC 7667, section 3.7).
 //!
-//! Read `outside` first, what the unit needs from outside: where datagrams come from, where they go, and the time. Then
-//! `forwarder`, what one worker does with its jobs, and `notifier`, how a desk is asked and what follows is sent; last
-//! `unit`, which runs it all, by `scope` (the threads), `turns` and `ingress` (what comes in) and `worker`.
+//! Read `unit` first, which runs it all, by `scope` (the threads), `turns` and `ingress` (what comes in) and `worker`. What one
+//! worker does with its jobs, and what the unit needs from outside, is the crate `forwarding`, whose names are handed on.
 #![tactic(auto)]
 
 mod counts;
