@@ -14,7 +14,7 @@ mod seat;
 
 pub use desk::{
     Answer, Asked, Base, CALL_LIMIT, Call, Change, Desk, Effect, Entry, HISTORY_LIMIT, HistoryFull,
-    KEPT_WORDS, PRESENT_LIMIT, Present, Recorded, Reply, Signal,
+    KEPT_WORDS, PRESENT_LIMIT, Present, Recorded, Reply, Signal, laws,
 };
 pub use house::House;
 pub use ledger::{DeskCalls, SeatCalls};
