@@ -25,8 +25,8 @@ TOP = os.path.dirname(os.path.dirname(os.path.realpath(__file__)))
 # What of a crate rt reads, and what it makes of it.
 SOURCES, MADE = ("src", "specs", "proofs"), ("incremental", "rlib")
 MOST_JOBS = 4
-# Bytes that a check takes: at least, for each line of the crate's sources, and for each job beside the first.
-LEAST, EACH_LINE, EACH_JOB = 1_200_000_000, 150_000, 1_000_000_000
+# Bytes that a check takes at most: for any crate, each line of its sources, each line below it, each job beside the first.
+LEAST, EACH_LINE, EACH_LINE_BELOW, EACH_JOB = 1_200_000_000, 100_000, 25_000, 1_000_000_000
 # The statuses of an rt whose check was killed, as it is for want of memory, though it had one job.
 KILLED = (-signal.SIGKILL, 256 - signal.SIGKILL, 128 + signal.SIGKILL)
 # Seconds between two looks at what runs, and seconds after which a library that rt is still busy with can't be up to date.
@@ -119,7 +119,9 @@ class Crate:
         self.line, self.name, self.uses = line, head.split()[0], re.findall(r"[\w-]+", uses)
         self.folder = f"{TOP}/crates/{self.name}"
         self.out, self.log = f"{self.folder}/out", f"{self.folder}/out/build.log"
-        self.below, self.above, self.lines, self.jobs = [], [], 0, 1
+        self.below, self.above, self.jobs = [], [], 1
+        # The lines of its sources, and of the longest chain of crates from this one up.
+        self.lines = self.chain = 0
         self.rt = self.lock = None
         self.is_done = self.is_told = self.is_alone = self.waits = False
 
@@ -130,12 +132,9 @@ class Crate:
                     with open(f"{at}/{name}", "rb") as it:
                         self.lines += it.read().count(b"\n")
 
-    def chain(self):
-        """Returns the lines of the longest chain of crates from this one up."""
-        return self.lines + max((it.chain() for it in self.above), default=0)
-
     def need(self, jobs):
-        return LEAST + EACH_LINE * self.lines + EACH_JOB * (jobs - 1)
+        below = sum(it.lines for it in self.below)
+        return LEAST + EACH_LINE * self.lines + EACH_LINE_BELOW * below + EACH_JOB * (jobs - 1)
 
     def will_take(self):
         """Returns the bytes that the crate's check hasn't taken yet and may take."""
@@ -215,6 +214,8 @@ def crates_for(name):
     if name not in found:
         sys.exit(f"sfu: crates.txt has no crate {name}")
     visit(found[name])
+    for crate in reversed(order):
+        crate.chain = crate.lines + max((it.chain for it in crate.above), default=0)
     is_program = os.path.isfile(f"{found[name].folder}/src/main.rt")
     return (order[:-1], order[-1]) if is_program else (order, None)
 
@@ -242,7 +243,7 @@ class Build:
     def begin_some(self):
         """Begins as many libraries as may run now."""
         left = [it for it in self.libraries if not it.is_done and it not in self.running]
-        ready = sorted((it for it in left if all(low.is_done for low in it.below)), key=lambda it: -it.chain())
+        ready = sorted((it for it in left if all(low.is_done for low in it.below)), key=lambda it: -it.chain)
         for at, library in enumerate(ready):
             idle = self.lanes - sum(it.jobs for it in self.running)
             if idle <= 0 or any(it.is_alone for it in [*self.running, library]) and self.running:
