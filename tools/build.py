@@ -29,8 +29,8 @@ MOST_JOBS = 4
 LEAST, EACH_LINE, EACH_LINE_BELOW, EACH_JOB = 1_200_000_000, 100_000, 25_000, 1_000_000_000
 # The statuses of an rt whose check was killed, as it is for want of memory, though it had one job.
 KILLED = (-signal.SIGKILL, 256 - signal.SIGKILL, 128 + signal.SIGKILL)
-# Seconds between two looks at what runs, and seconds after which a library that rt is still busy with can't be up to date.
-LOOK_EACH, SURELY_PROVES = 0.2, 5
+# Seconds between two looks at what runs.
+LOOK_EACH = 0.2
 
 
 def say(text):
@@ -262,10 +262,10 @@ class Build:
             library.enter(self.room(library))
 
     def tell(self, library):
-        """Says that a library is being proved, once it shows that it isn't up to date."""
-        if not library.is_told and (os.path.getsize(library.log) or time.monotonic() > library.began + SURELY_PROVES):
+        """Says that a library is being proved, once its prover says anything: of one that is up to date rt says nothing."""
+        if not library.is_told and os.path.getsize(library.log):
             library.is_told = True
-            self.say(f"{library.name} begins" + (f", {library.jobs} jobs" if library.jobs > 1 else ""))
+            self.say(f"{library.name} is being proved" + (f", by {library.jobs} jobs" if library.jobs > 1 else ""))
 
     def end(self, library):
         """Takes in what came of a library, and returns whether the build goes on."""
@@ -316,7 +316,7 @@ class Build:
         it = self.program
         # (rt builds what it runs: an empty input is enough)
         it.start(it.folder, "run", "--jobs", str(min(self.lanes, MOST_JOBS)), "--", "bound", "--sender", "0")
-        self.say(f"{it.name} begins: it is proved and compiled")
+        self.say(f"{it.name} is being proved and compiled")
         try:
             while it.rt.poll() is None:
                 time.sleep(LOOK_EACH)
