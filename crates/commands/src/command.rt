@@ -77,6 +77,8 @@ pub fn run_command<
     ensures settings { result ≡ Status.Settings
         → Keeps (O.contents writer.old) (O.contents writer.new)
         × SaysProblem (E.contents errors.old) (E.contents errors.new) }
+    ensures asks { (asked : Request) → Types (map S.text words.now) asked
+        → asked_for (map S.text words.now) ≡ Some asked }
     ensures understood { (asked : Request) → Types (map S.text words.now) asked
         → result ≢ Status.CommandLine }
     ensures said { ¬ (AsksToServe (asked_for (map S.text words.now)))

@@ -71,6 +71,8 @@ pub fn read_words<'a, S: AsStr>(alloc: Global, words: &'a [S]) -> Result<Action<
     ensures typed { (asked : Request) → Types (map S.text words.entry.now) asked
         → MatchResult result (λ action. action_request action ≡ asked)
         (λ e. kind_of e ≡ ErrorKind.OutOfMemory) }
+    ensures asks { (asked : Request) → Types (map S.text words.entry.now) asked
+        → asked_for (map S.text words.entry.now) ≡ Some asked }
 {
     action_of(alloc, words)
 }

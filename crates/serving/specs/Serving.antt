@@ -7,9 +7,16 @@ use Rattle.settings.specs.Settings.{Configuration}
 use Rattle.endings.specs.Endings.{SaysWhy}
 use Rattle.serving.specs.ReportText.{PrintsReport}
 use Rattle.serving.specs.declared.serve_fault.ServeFault.{ServeFault}
-use Rattle.serving.specs.declared.serve_fault.ServeFault.TheVariants.{Socket}
+use Rattle.serving.specs.declared.serve_fault.ServeFault.TheVariants.{NoMemory, Socket}
+use Rattle.workers.specs.declared.fault.UnitFault.{UnitFault}
+use Rattle.workers.specs.declared.fault.UnitFault.TheVariants as unit_fault
 use Rattle.endings.specs.declared.status.Status.{Status}
 use Rattle.endings.specs.declared.status.Status.TheVariants as status
+
+-- a fault of the run as one of serving: want of memory, or else its socket or its threads
+abbrev pub serve_fault_of : UnitFault → ServeFault
+serve_fault_of unit_fault.NoMemory = NoMemory
+serve_fault_of fault = Socket
 
 -- where the unit isn't served to its end for its socket and its threads, nothing was printed
 abbrev pub FailsServe : Option (List ℕ) → Option (List ℕ) → ServeFault → Type 0

@@ -46,6 +46,11 @@ impl From<io::Error> for ServeFault {
 }
 
 impl From<UnitFault> for ServeFault {
+    ghost use Rattle.std.specs.Prelude.{◌≡◌};
+    ghost use Rattle.serving.specs.Serving.{serve_fault_of};
+
+    ghost from_gives = { λ fault e. e ≡ serve_fault_of fault };
+
     fn from(fault: UnitFault) -> ServeFault {
         match fault {
             UnitFault::NoMemory => ServeFault::NoMemory,
