@@ -263,7 +263,7 @@ length-fold : (desks : List DeskState) (asked : List RecordedCall) → length (f
 length-fold desks [] = refl
 length-fold desks (a ∷ asked) = length-fold (desks_by desks a) asked ∙ length-set desks a.publisher a.desk
 
-length-desks : (w : WorldState) (history : List Happening) → length (worlds_after w history).desks ≡ length w.desks
+pub length-desks : (w : WorldState) (history : List Happening) → length (worlds_after w history).desks ≡ length w.desks
 length-desks w [] = refl
 length-desks w (h ∷ history) = length-desks (world_after w h) history ∙ length-fold w.desks h.asked
 

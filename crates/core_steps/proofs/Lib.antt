@@ -6,6 +6,7 @@ pub mod TraceLemmas
 pub mod OrderLemmas
 pub mod AwayLemmas
 pub mod EndingLemmas
+pub mod ToldLemmas
 pub mod NumberedLemmas
 pub mod TaskLemmas
 pub mod HearingLemmas
@@ -25,3 +26,4 @@ pub mod QuietTaskLemmas
 pub mod QuietTurnLemmas
 pub mod QuietStepLemmas
 pub mod QuietLemmas
+pub mod OverRunsLemmas

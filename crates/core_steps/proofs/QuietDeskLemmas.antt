@@ -24,6 +24,7 @@ use Rattle.desk.proofs.PlaceLemmas.{not_in_nil, at_head, head_is, at_tail, from_
 use Rattle.desk.proofs.SinceLemmas.{Known, known_in, asked_as, Was, Step, arrives, asks, departs, expires, rests, step_at}
 use Rattle.desk.proofs.TraceLemmas.{done_accepted, refusal-not_done, base_after-append, base_after-push}
 use Rattle.core_steps.specs.Quiet.{ExpireTook}
+use Rattle.core_steps.specs.Traces.{IsRequestIn}
 
 -- ---- a call behind others
 
@@ -174,21 +175,21 @@ greatest_last ms base xs e =
 
 -- ---- what an owner holds
 
--- the owner's last request that was done is at this place
-pub record IsLastAsked (entries : List Entry) (owner : ℕ) (a : Asked) (place : ℕ) : Type 0 where
-  pub request : HasEntryAt (WasDone (IsRequestOf owner a.tuple)) entries place
+-- the owner's last request that was done is at this place, and was made in this stay
+pub record IsLastAsked (entries : List Entry) (owner stay : ℕ) (a : Asked) (place : ℕ) : Type 0 where
+  pub request : HasEntryAt (WasDone (IsRequestIn owner stay a.tuple)) entries place
   pub last : (later : ℕ) (other : Tuple) → place < later → ¬ HasEntryAt (WasDone (IsRequestOf owner other)) entries later
   pub stamp : a.stamp ≡ greatest_until empty_base entries place
 
 -- the owner asked for this word last: for none, or for the one that it asks for, or for one that an expire took
-pub data Holding (ms : ℕ) (entries : List Entry) (owner : ℕ) (asked : Option Asked) (word : Option ℕ) : Type 0 where
-  silent : asked ≡ None → word ≡ None → Holding ms entries owner asked word
-  asking : (a : Asked) (place : ℕ) → asked ≡ Some a → word ≡ Some (word_of a.tuple) → IsLastAsked entries owner a place
-      → Holding ms entries owner asked word
-  taken : (w : ℕ) → asked ≡ None → word ≡ Some w → ExpireTook ms entries owner w → Holding ms entries owner asked word
+pub data Holding (ms : ℕ) (entries : List Entry) (owner stay : ℕ) (asked : Option Asked) (word : Option ℕ) : Type 0 where
+  silent : asked ≡ None → word ≡ None → Holding ms entries owner stay asked word
+  asking : (a : Asked) (place : ℕ) → asked ≡ Some a → word ≡ Some (word_of a.tuple) → IsLastAsked entries owner stay a place
+      → Holding ms entries owner stay asked word
+  taken : (w : ℕ) → asked ≡ None → word ≡ Some w → ExpireTook ms entries owner stay w → Holding ms entries owner stay asked word
 
 -- one entry more, which is no request of the owner that was done
-module _ (ms owner : ℕ) (entries : List Entry) (e : Entry) (none : (t : Tuple) → ¬ WasDone (IsRequestOf owner t) e) where
+module _ (ms owner stay : ℕ) (entries : List Entry) (e : Entry) (none : (t : Tuple) → ¬ WasDone (IsRequestOf owner t) e) where
   abbrev shown : ℕ
   shown = moment_after (base_after ms empty_base entries).greatest e.call
 
@@ -200,16 +201,16 @@ module _ (ms owner : ℕ) (entries : List Entry) (e : Entry) (none : (t : Tuple)
         | inr b ↦ none other b
       ]
 
-  last_more : (a : Asked) (place : ℕ) → IsLastAsked entries owner a place → IsLastAsked (entries ++ e ∷ []) owner a place
+  last_more : (a : Asked) (place : ℕ) → IsLastAsked entries owner stay a place → IsLastAsked (entries ++ e ∷ []) owner stay a place
   last_more a place h = record {
-    request = stands_more (WasDone (IsRequestOf owner a.tuple)) entries (e ∷ []) place h.request;
+    request = stands_more (WasDone (IsRequestIn owner stay a.tuple)) entries (e ∷ []) place h.request;
     last = still_last place h.last;
-    stamp = h.stamp ∙ sym (greatest_same empty_base entries (e ∷ []) place (within (WasDone (IsRequestOf owner a.tuple)) entries place h.request));
+    stamp = h.stamp ∙ sym (greatest_same empty_base entries (e ∷ []) place (within (WasDone (IsRequestIn owner stay a.tuple)) entries place h.request));
   }
 
-  took_more : (w : ℕ) → ExpireTook ms entries owner w → ExpireTook ms (entries ++ e ∷ []) owner w
+  took_more : (w : ℕ) → ExpireTook ms entries owner stay w → ExpireTook ms (entries ++ e ∷ []) owner stay w
   took_more w h =
-      let asked_in : h.asked < length entries = within (WasDone (IsRequestOf owner h.tuple)) entries h.asked h.request in
+      let asked_in : h.asked < length entries = within (WasDone (IsRequestIn owner stay h.tuple)) entries h.asked h.request in
       let place_in : h.place < length entries = within (WasDone IsExpire) entries h.place h.takes.expire in
       let stamps = greatest_same empty_base entries (e ∷ []) h.asked asked_in in
       let nows = greatest_same empty_base entries (e ∷ []) h.place place_in in
@@ -217,7 +218,7 @@ module _ (ms owner : ℕ) (entries : List Entry) (e : Entry) (none : (t : Tuple)
         tuple = h.tuple;
         asks = h.asks;
         asked = h.asked;
-        request = stands_more (WasDone (IsRequestOf owner h.tuple)) entries (e ∷ []) h.asked h.request;
+        request = stands_more (WasDone (IsRequestIn owner stay h.tuple)) entries (e ∷ []) h.asked h.request;
         last = still_last h.asked h.last;
         place = h.place;
         behind = h.behind;
@@ -228,15 +229,15 @@ module _ (ms owner : ℕ) (entries : List Entry) (e : Entry) (none : (t : Tuple)
         };
       }
 
-  holding_rests : (before after : Option Asked) (word : Option ℕ) → after ≡ before → Holding ms entries owner before word
-      → Holding ms (entries ++ e ∷ []) owner after word
+  holding_rests : (before after : Option Asked) (word : Option ℕ) → after ≡ before → Holding ms entries owner stay before word
+      → Holding ms (entries ++ e ∷ []) owner stay after word
   holding_rests before after word same (silent quiet is) = silent (same ∙ quiet) is
   holding_rests before after word same (asking a place has is h) = asking a place (same ∙ has) is (last_more a place h)
   holding_rests before after word same (taken w quiet is h) = taken w (same ∙ quiet) is (took_more w h)
 
   holding_expires : (before after : Option Asked) (word : Option ℕ) → WasDone IsExpire e
-      → after ≡ unless_old ms (moment_after (base_after ms empty_base entries).greatest e.call) before → Holding ms entries owner before word
-      → Holding ms (entries ++ e ∷ []) owner after word
+      → after ≡ unless_old ms (moment_after (base_after ms empty_base entries).greatest e.call) before → Holding ms entries owner stay before word
+      → Holding ms (entries ++ e ∷ []) owner stay after word
   holding_expires before after word expire same (silent quiet is) = silent (same ∙ ap (unless_old ms _) quiet) is
   holding_expires before after word expire same (taken w quiet is h) = taken w (same ∙ ap (unless_old ms _) quiet) is (took_more w h)
   holding_expires before after word expire same (asking a place has is h) =
@@ -245,7 +246,7 @@ module _ (ms owner : ℕ) (entries : List Entry) (e : Entry) (none : (t : Tuple)
       old_is : is_old ms shown a.stamp ≡ true → (1 ≤ ms) × (a.stamp + ms ≤ shown)
       old_is old = (grind (arith, nat_tests, old), grind (arith, nat_tests, old))
 
-      step : (b : Bool) → is_old ms shown a.stamp ≡ b → after ≡ cond b None (Some a) → Holding ms (entries ++ e ∷ []) owner after word
+      step : (b : Bool) → is_old ms shown a.stamp ≡ b → after ≡ cond b None (Some a) → Holding ms (entries ++ e ∷ []) owner stay after word
       step false young here = asking a place here is (last_more a place h)
       step true old here =
           let limits = old_is old in
@@ -258,7 +259,7 @@ module _ (ms owner : ℕ) (entries : List Entry) (e : Entry) (none : (t : Tuple)
             request = more.request;
             last = more.last;
             place = length entries;
-            behind = within (WasDone (IsRequestOf owner a.tuple)) entries place h.request;
+            behind = within (WasDone (IsRequestIn owner stay a.tuple)) entries place h.request;
             takes = record {
               expire = stands_last (WasDone IsExpire) entries e expire;
               some_limit = limits.0;
@@ -267,14 +268,14 @@ module _ (ms owner : ℕ) (entries : List Entry) (e : Entry) (none : (t : Tuple)
           })
 
 -- a request of the owner that was done
-pub holding_asked : (ms owner : ℕ) (entries : List Entry) (e : Entry) (t : Tuple) (after : Option Asked) → WasDone (IsRequestOf owner t) e
+pub holding_asked : (ms owner stay : ℕ) (entries : List Entry) (e : Entry) (t : Tuple) (after : Option Asked) → WasDone (IsRequestIn owner stay t) e
     → after ≡ asked_as t (moment_after (base_after ms empty_base entries).greatest e.call)
-    → Holding ms (entries ++ e ∷ []) owner after (Some (word_of t))
-holding_asked ms owner entries e t after done is =
+    → Holding ms (entries ++ e ∷ []) owner stay after (Some (word_of t))
+holding_asked ms owner stay entries e t after done is =
     let now = moment_after (base_after ms empty_base entries).greatest e.call in
     let size : length (entries ++ e ∷ []) ≡ length entries + 1 = length-append entries (e ∷ []) in
     asking (record { tuple = t; stamp = now }) (length entries) is refl (record {
-      request = stands_last (WasDone (IsRequestOf owner t)) entries e done;
+      request = stands_last (WasDone (IsRequestIn owner stay t)) entries e done;
       last = λ later other behind s. absurd (omega (arith, size, behind, within (WasDone (IsRequestOf owner other)) (entries ++ e ∷ []) later s));
       stamp = sym (greatest_last ms empty_base entries e);
     })
@@ -319,15 +320,15 @@ other_stays ms now owner before after done call other (departs h gone) = absurd 
 other_stays ms now owner before after done call other (expires h stays asked) = stays
 other_stays ms now owner before after done call other (rests a r d x stays asked) = stays
 
-pub other_holds : (ms owner : ℕ) (entries : List Entry) (e : Entry) (before after : Known) (word : Option ℕ) → IsOther owner (is_done e.answer) e.call
+pub other_holds : (ms owner stay : ℕ) (entries : List Entry) (e : Entry) (before after : Known) (word : Option ℕ) → IsOther owner (is_done e.answer) e.call
     → Step ms (moment_after (base_after ms empty_base entries).greatest e.call) owner before after (is_done e.answer) e.call
-    → Holding ms entries owner before.asked word → Holding ms (entries ++ e ∷ []) owner after.asked word
-other_holds ms owner entries e before after word other (arrives s h absent stays quiet) held =
+    → Holding ms entries owner stay before.asked word → Holding ms (entries ++ e ∷ []) owner stay after.asked word
+other_holds ms owner stay entries e before after word other (arrives s h absent stays quiet) held =
     absurd (no_arrive owner e.call (is_done e.answer) other s h)
-other_holds ms owner entries e before after word other (asks t h stays asked) held =
+other_holds ms owner stay entries e before after word other (asks t h stays asked) held =
     absurd (no_request owner e.call (is_done e.answer) other t h)
-other_holds ms owner entries e before after word other (departs h gone) held = absurd (no_depart owner e.call (is_done e.answer) other h)
-other_holds ms owner entries e before after word other (expires h stays asked) held =
-    holding_expires ms owner entries e (no_request owner e.call (is_done e.answer) other) before.asked after.asked word h asked held
-other_holds ms owner entries e before after word other (rests a r d x stays asked) held =
-    holding_rests ms owner entries e (no_request owner e.call (is_done e.answer) other) before.asked after.asked word asked held
+other_holds ms owner stay entries e before after word other (departs h gone) held = absurd (no_depart owner e.call (is_done e.answer) other h)
+other_holds ms owner stay entries e before after word other (expires h stays asked) held =
+    holding_expires ms owner stay entries e (no_request owner e.call (is_done e.answer) other) before.asked after.asked word h asked held
+other_holds ms owner stay entries e before after word other (rests a r d x stays asked) held =
+    holding_rests ms owner stay entries e (no_request owner e.call (is_done e.answer) other) before.asked after.asked word asked held

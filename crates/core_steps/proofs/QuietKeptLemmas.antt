@@ -35,6 +35,7 @@ use Rattle.core_steps.specs.Happening.{RecordedCall, Worked, desks_by, workers_b
 use Rattle.core_steps.specs.Hearing.{owner_of}
 use Rattle.settings.specs.Links.{table_of, worker_of}
 use Rattle.core_steps.specs.Quiet.{HeardRate}
+use Rattle.core_steps.specs.Traces.{IsRequestIn}
 use Rattle.core_steps.specs.Rule.{IsRecordedCall}
 use Rattle.core_steps.specs.World.{WorkerState, Task, order, push, pulse, expire, report, Hand, free, doing, telling}
 use Rattle.core_steps.proofs.QuietDeskLemmas.{Holding, NotBy, IsOther}
@@ -236,7 +237,7 @@ module _ (c : Configuration) (desks : List DeskState) (asked : List RecordedCall
               let h = each x apart.1 in
               record {
                 stays = h.stays;
-                holds = λ some. subst (λ (es : List Entry). Holding c.request_ms es (asker c l) (asked_in (now_of x).present.items (asker c l)) word)
+                holds = λ some. subst (λ (es : List Entry). Holding c.request_ms es (asker c l) stay (asked_in (now_of x).present.items (asker c l)) word)
                     (sym (entries_other l.publisher asked a apart.0)) (h.holds some);
               }
         ]
@@ -307,7 +308,7 @@ module _ (c : Configuration) (l : LegSettings) (d : DeskState) (asked : List Rec
       ap (refusal_of (now_of d).present.items) recorded.names ∙ present_to_ask (now_of d).present.items (asker c l) stay h.stays in
       let done = done_of c l.publisher d asked (Stay caller stay (change.Request t)) a keeps recorded none in
       asking_requested c l d asked (Stay caller stay (change.Request t)) a keeps recorded stay word t some
-      (done, subst (λ (x : DeskCall). IsRequestOf (asker c l) t x) (sym recorded.names) (refl, refl))
+      (done, subst (λ (x : DeskCall). IsRequestIn (asker c l) stay t x) (sym recorded.names) (refl, (refl, refl)))
       (λ x. let y : IsDepartOf (asker c l) (Stay caller stay (change.Request t)) = subst (λ (z : DeskCall). IsDepartOf (asker c l) z) recorded.names x in
       let z : change.Request t ≡ change.Depart = y.1 in cc) h
 

@@ -37,7 +37,7 @@ use Rattle.notices.specs.DeskCalls.{source_of}
 use Rattle.core_steps.specs.Happening.{RecordedCall}
 use Rattle.settings.specs.Links.{table_of}
 use Rattle.core_steps.specs.Rule.{IsRecordedCall}
-use Rattle.core_steps.specs.Quiet.{entry_at, entries_at}
+use Rattle.core_steps.specs.Traces.{entry_at, entries_at, IsRequestIn}
 use Rattle.core_steps.proofs.QuietDeskLemmas.{entry_of, now_with, answered, has_stay, owner_step, done_where, refused_where, Holding, silent, holding_asked, IsOther, other_stays, other_holds}
 
 -- ---- lists
@@ -161,10 +161,14 @@ module _ (c : Configuration) (p : ℕ) (d : DeskState) (asked : List RecordedCal
 
 -- ---- a leg's subscriber at the desk
 
+request_in : (owner stay : ℕ) (t : Tuple) (call : DeskCall) → IsRequestIn owner stay t call → IsRequestOf owner t call
+request_in owner stay t (Stay o s change) is = (is.0, is.1.1)
+request_in owner stay t (Time moment signal) is = is
+
 -- with this stay the leg's subscriber is present, 0 where it isn't; and this is the last word that it asked for in it
 pub record IsAsking (c : Configuration) (l : LegSettings) (d : DeskState) (asked : List RecordedCall) (stay : ℕ) (word : Option ℕ) : Type 0 where
   pub stays : stay_in (now_of d).present.items (asker c l) ≡ stay
-  pub holds : 1 ≤ stay → Holding c.request_ms (entries_at l.publisher asked) (asker c l) (asked_in (now_of d).present.items (asker c l)) word
+  pub holds : 1 ≤ stay → Holding c.request_ms (entries_at l.publisher asked) (asker c l) stay (asked_in (now_of d).present.items (asker c l)) word
 
 module _ (c : Configuration) (l : LegSettings) (d : DeskState) (asked : List RecordedCall) (call : DeskCall) (a : RecordedCall)
     (keeps : IsKeptDesk c l.publisher d asked) (recorded : IsRecordedCall l.publisher d call a) where
@@ -175,20 +179,20 @@ module _ (c : Configuration) (l : LegSettings) (d : DeskState) (asked : List Rec
   abbrev after_stay : ℕ
   after_stay = stay_in (now_of a.desk).present.items (asker c l)
 
-  held_more : (word : Option ℕ)
-      → Holding c.request_ms (entries_at l.publisher asked ++ entry_of a.call a.answer ∷ []) (asker c l)
+  held_more : (stay : ℕ) (word : Option ℕ)
+      → Holding c.request_ms (entries_at l.publisher asked ++ entry_of a.call a.answer ∷ []) (asker c l) stay
       (asked_in (now_of a.desk).present.items (asker c l)) word
-      → Holding c.request_ms (entries_at l.publisher (asked ++ a ∷ [])) (asker c l) (asked_in (now_of a.desk).present.items (asker c l)) word
-  held_more word h =
-      subst (λ (es : List Entry). Holding c.request_ms es (asker c l) (asked_in (now_of a.desk).present.items (asker c l)) word)
+      → Holding c.request_ms (entries_at l.publisher (asked ++ a ∷ [])) (asker c l) stay (asked_in (now_of a.desk).present.items (asker c l)) word
+  held_more stay word h =
+      subst (λ (es : List Entry). Holding c.request_ms es (asker c l) stay (asked_in (now_of a.desk).present.items (asker c l)) word)
       (sym (entries_own l.publisher asked a recorded.publisher)) h
 
   pub asking_other : (stay : ℕ) (word : Option ℕ) → IsOther (asker c l) (is_done a.answer) a.call → IsAsking c l d asked stay word
       → IsAsking c l a.desk (asked ++ a ∷ []) stay word
   asking_other stay word other h = record {
     stays = other_stays c.request_ms _ (asker c l) _ _ (is_done a.answer) a.call other own_step ∙ h.stays;
-    holds = λ some. held_more word
-        (other_holds c.request_ms (asker c l) (entries_at l.publisher asked) (its_entry a) (known_in (now_of d).present.items (asker c l))
+    holds = λ some. held_more stay word
+        (other_holds c.request_ms (asker c l) stay (entries_at l.publisher asked) (its_entry a) (known_in (now_of d).present.items (asker c l))
         (known_in (now_of a.desk).present.items (asker c l)) word other own_step (h.holds some));
   }
 
@@ -213,16 +217,16 @@ module _ (c : Configuration) (l : LegSettings) (d : DeskState) (asked : List Rec
       gone (expires h stays asks_it) = absurd (no_expire h)
       gone (rests x y z v stays asks_it) = absurd (z was)
 
-  pub asking_requested : (stay : ℕ) (word : Option ℕ) (t : Tuple) → 1 ≤ stay → Was (IsRequestOf (asker c l) t) (is_done a.answer) a.call
+  pub asking_requested : (stay : ℕ) (word : Option ℕ) (t : Tuple) → 1 ≤ stay → Was (IsRequestIn (asker c l) stay t) (is_done a.answer) a.call
       → (IsDepartOf (asker c l) a.call → ⊥) → IsAsking c l d asked stay word → IsAsking c l a.desk (asked ++ a ∷ []) stay (Some (word_of t))
   asking_requested stay word t some was no_depart h = record {
     stays = stay_on c.request_ms _ (asker c l) (known_in (now_of d).present.items (asker c l))
         (known_in (now_of a.desk).present.items (asker c l)) (is_done a.answer) a.call stay some h.stays (λ gone. no_depart gone.1) own_step;
-    holds = λ _. held_more (Some (word_of t))
-        (holding_asked c.request_ms (asker c l) (entries_at l.publisher asked) (its_entry a) t
+    holds = λ _. held_more stay (Some (word_of t))
+        (holding_asked c.request_ms (asker c l) stay (entries_at l.publisher asked) (its_entry a) t
         (asked_in (now_of a.desk).present.items (asker c l)) was
         (requested c.request_ms _ (asker c l) (known_in (now_of d).present.items (asker c l))
-        (known_in (now_of a.desk).present.items (asker c l)) (is_done a.answer) a.call t was own_step));
+        (known_in (now_of a.desk).present.items (asker c l)) (is_done a.answer) a.call t (was.0, request_in (asker c l) stay t a.call was.1) own_step));
   }
 
 -- ---- room for who arrives

@@ -1,6 +1,6 @@
 -- The quiet law: what every world of a run keeps, and what that says once nothing waits.
 use Rattle.std.proofs.Common.{◌≡◌, ◌≢◌, ℕ, zero, suc, ◌+◌, ◌^◌, ◌-◌, List, [], ◌∷◌, ◌++◌, length, map, refl, sym, ap, subst, ◌∙◌, arith, Option, Some, None, Bool, true, false, inl, inr, append_assoc, append-nil}
-use Rattle.std.specs.Prelude.{slice_get, flat_map, sum_by, min, Result, Ok, Err, OnOk, MatchBool}
+use Rattle.std.specs.Prelude.{slice_get, flat_map, sum_by, min, MatchBool}
 use Rattle.std.specs.List.{last_or, AllByRecursion}
 use Rattle.std.specs.Option.{option_map_or}
 use Rattle.std.proofs.lemmas.Bool.{cases_eq}
@@ -33,13 +33,14 @@ use Rattle.core_steps.specs.Happening.{Happening, GivenUp, RecordedCall, giving,
 use Rattle.core_steps.specs.Hearing.{IsHearing}
 use Rattle.settings.specs.Links.{table_of, worker_of}
 use Rattle.core_steps.specs.Opening.{setup_by, IsNewDesk, IsNewWorker, IsNewWorld}
-use Rattle.core_steps.specs.Quiet.{HeardRate, HeardIn, HearsRates, IsHeardOf, rates_said, IsQuiet, LastHeardIsLive, ObeysQuietLaw, IsLastHeard, IsLiveOrTaken, ExpireTook, last_heard_word, entries_at, calls_of}
+use Rattle.core_steps.specs.Quiet.{HeardRate, HeardIn, HearsRates, IsHeardOf, rates_said, IsQuiet, LastHeardIsLive, ObeysQuietLaw, IsLastHeard, IsLiveOrTaken, ExpireTook, last_heard_word}
 use Rattle.core_steps.specs.Rule.{Does, is_busy}
 use Rattle.core_steps.specs.Run.{Runs, worlds_after, HasRun}
 use Rattle.core_steps.specs.Waits.{waiting_in, hand_count, pending_count, as_counted}
 use Rattle.core_steps.specs.declared.world.Waiting.{Waiting}
 use Rattle.core_steps.specs.World.{WorldState, WorkerState, Task, Hand, free, doing, telling}
 use Rattle.core_steps.proofs.HistoryLemmas.{runs_join}
+use Rattle.core_steps.specs.Traces.{entries_at, calls_of}
 use Rattle.core_steps.proofs.QuietDeskLemmas.{Holding, silent, asking, taken}
 use Rattle.core_steps.proofs.QuietLegLemmas.{asker, IsKeptDesk, IsAsking}
 use Rattle.core_steps.proofs.QuietQueueLemmas.{hand_asks, jobs_asks, rates_asks, words_of, words_heard-asks, IsWaiting}
@@ -242,22 +243,22 @@ module _ (c : Configuration) (range : IsInRange c) (w : WorldState) (rates : Lis
       ∙ ap (λ (o : Option Present). tuple_in (option_map_or (λ (x : Present). x.asked) o None))
       (absent_without_stay (now_of d).present.items owner h.base.stays absent)
 
-  holding_live : (ms : ℕ) (entries : List Entry) (owner : ℕ) (held : Option Asked) (word : Option ℕ) (tuple : Tuple)
-      → tuple_in held ≡ Some tuple → Holding ms entries owner held word → word ≡ Some (word_of tuple)
-  holding_live ms entries owner held word tuple live (silent none is) =
+  holding_live : (ms : ℕ) (entries : List Entry) (owner stay : ℕ) (held : Option Asked) (word : Option ℕ) (tuple : Tuple)
+      → tuple_in held ≡ Some tuple → Holding ms entries owner stay held word → word ≡ Some (word_of tuple)
+  holding_live ms entries owner stay held word tuple live (silent none is) =
       absurd (none-some tuple (sym (ap (λ (o : Option Asked). tuple_in o) none) ∙ live))
-  holding_live ms entries owner held word tuple live (asking a place has is h) =
+  holding_live ms entries owner stay held word tuple live (asking a place has is h) =
       is ∙ ap (λ (t : Tuple). Some (word_of t)) (same_Some a.tuple tuple (sym (ap (λ (o : Option Asked). tuple_in o) has) ∙ live))
-  holding_live ms entries owner held word tuple live (taken x none is h) =
+  holding_live ms entries owner stay held word tuple live (taken x none is h) =
       absurd (none-some tuple (sym (ap (λ (o : Option Asked). tuple_in o) none) ∙ live))
 
-  holding_heard : (ms : ℕ) (entries : List Entry) (owner : ℕ) (held : Option Asked) (last : Option ℕ) (d : DeskState) (word : ℕ)
-      → tuple_of d.bounds.rows owner ≡ tuple_in held → last ≡ Some word → Holding ms entries owner held last → IsLiveOrTaken ms entries d owner word
-  holding_heard ms entries owner held last d word rows same (silent none is) = absurd (none-some word (sym is ∙ same))
-  holding_heard ms entries owner held last d word rows same (asking a place has is h) =
+  holding_heard : (ms : ℕ) (entries : List Entry) (owner stay : ℕ) (held : Option Asked) (last : Option ℕ) (d : DeskState) (word : ℕ)
+      → tuple_of d.bounds.rows owner ≡ tuple_in held → last ≡ Some word → Holding ms entries owner stay held last → IsLiveOrTaken ms entries d owner stay word
+  holding_heard ms entries owner stay held last d word rows same (silent none is) = absurd (none-some word (sym is ∙ same))
+  holding_heard ms entries owner stay held last d word rows same (asking a place has is h) =
       inl (a.tuple, same_Some (word_of a.tuple) word (sym is ∙ same), rows ∙ ap (λ (o : Option Asked). tuple_in o) has)
-  holding_heard ms entries owner held last d word rows same (taken x none is h) =
-      inr (subst (λ (y : ℕ). ExpireTook ms entries owner y) (same_Some x word (sym is ∙ same)) h)
+  holding_heard ms entries owner stay held last d word rows same (taken x none is h) =
+      inr (subst (λ (y : ℕ). ExpireTook ms entries owner stay y) (same_Some x word (sym is ∙ same)) h)
 
   live_is_heard : (p owner : ℕ) (d : DeskState) (tuple : Tuple) → slice_get w.desks p ≡ Some d → tuple_of d.bounds.rows owner ≡ Some tuple
       → IsLastHeard c rates w p owner tuple
@@ -286,18 +287,19 @@ module _ (c : Configuration) (range : IsInRange c) (w : WorldState) (rates : Lis
             to = of.to;
             stands = λ none. here (its ∙ (stands ∙ none));
             heard = last_word of.number of.leg of.there
-                ∙ holding_live c.request_ms _ (asker c of.leg) (asked_in (now_of d).present.items (asker c of.leg)) _ tuple held
+                ∙ holding_live c.request_ms _ (asker c of.leg) k.stay (asked_in (now_of d).present.items (asker c of.leg)) _ tuple held
                 (asks.holds (omega (arith, here, its)));
           }
 
   heard_is_live : (n word : ℕ) (l : LegSettings) (d : DeskState) → slice_get c.legs n ≡ Some l → slice_get w.desks l.publisher ≡ Some d
       → stay_at w.room.legs n ≢ 0 → last_heard_word n (stay_at w.room.legs n) rates ≡ Some word
-      → IsLiveOrTaken c.request_ms (entries_at l.publisher asked) d (asker c l) word
+      → IsLiveOrTaken c.request_ms (entries_at l.publisher asked) d (asker c l) (stay_at w.room.legs n) word
   heard_is_live n word l d there at stands heard =
       let asks = asks_now n l there d at in
       let now = stands_now n l there in
-      holding_heard c.request_ms (entries_at l.publisher asked) (asker c l) (asked_in (now_of d).present.items (asker c l)) _ d word
-      (asks_for l.publisher (asker c l) d at) (sym (last_word n l there) ∙ heard) (asks.holds (omega (arith, stands, now)))
+      subst (λ (s : ℕ). IsLiveOrTaken c.request_ms (entries_at l.publisher asked) d (asker c l) s word) now
+      (holding_heard c.request_ms (entries_at l.publisher asked) (asker c l) (leg n l there).stay (asked_in (now_of d).present.items (asker c l)) _ d word
+      (asks_for l.publisher (asker c l) d at) (sym (last_word n l there) ∙ heard) (asks.holds (omega (arith, stands, now))))
 
   none_is_live : (n : ℕ) (l : LegSettings) (d : DeskState) → slice_get c.legs n ≡ Some l → slice_get w.desks l.publisher ≡ Some d
       → stay_at w.room.legs n ≡ 0 → tuple_of d.bounds.rows (asker c l) ≡ None
@@ -362,8 +364,3 @@ obeys events old outs new all run c start before past range is_new runs same =
           (last_heard_is_live c start (before ++ events) (past ++ run.history) heard.0 range is_new whole heard.1
           (subst (λ (x : WorldState). IsQuiet (past ++ run.history) x) leads quiet));
     }
-
-pub obeys_where_ok : {E : Type 0} (result : Result (Unit {0}) E) (events : List Event) (old : WorldState) (outs : List Out) (new : WorldState) (all : List Out)
-    → OnOk result (HasRun events old outs new all) → OnOk result (ObeysQuietLaw events old new)
-obeys_where_ok (Ok x) events old outs new all h = obeys events old outs new all h
-obeys_where_ok (Err x) events old outs new all h = tt

@@ -23,7 +23,8 @@ use Rattle.notices.specs.DeskCalls.{source_of}
 use Rattle.core_steps.specs.Happening.{RecordedCall, Worked, desks_by, workers_by, worker_after}
 use Rattle.core_steps.specs.Hearing.{owner_of}
 use Rattle.settings.specs.Links.{table_of, worker_of}
-use Rattle.core_steps.specs.Quiet.{HeardRate, entries_at}
+use Rattle.core_steps.specs.Quiet.{HeardRate}
+use Rattle.core_steps.specs.Traces.{entries_at}
 use Rattle.core_steps.specs.Rule.{IsRecordedCall}
 use Rattle.core_steps.specs.World.{WorkerState, Task, Hand, doing}
 use Rattle.core_steps.proofs.QuietDeskLemmas.{Holding, IsOther}
@@ -246,7 +247,7 @@ module _ (c : Configuration) (range : IsInRange c) (es : List Endpoint) (ls : Li
                 record {
                   stays = was.stays;
                   holds = λ some. subst (λ (ws : List ℕ). Holding c.request_ms
-                      (entries_at l.publisher asked) (asker c l)
+                      (entries_at l.publisher asked) (asker c l) k.stay
                       (asked_in (now_of d).present.items (asker c l)) (last_or None ws))
                       (sym (words_other k.stay stay word k.done (λ e. absurd (omega (arith, e, some, zero_stay))))) (was.holds some);
                 }

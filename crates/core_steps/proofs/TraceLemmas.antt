@@ -1,8 +1,9 @@
 -- What a run makes of each desk, and what it announces.
-use Rattle.std.proofs.Common.{◌≡◌, ◌≢◌, ◌<◌, ◌≤◌, ◌+◌, ℕ, zero, suc, List, [], ◌∷◌, ◌++◌, length, Bool, true, false, Option, None, Some, refl, ap, sym, ◌∙◌, subst, append_assoc, append-nil, arith}
-use Rattle.std.specs.Prelude.{All, fold, map, slice_get, slice_set, ◌==◌, if◌then◌else◌}
+use Rattle.std.proofs.Common.{◌≡◌, ◌≢◌, ◌<◌, ◌≤◌, ◌+◌, ℕ, zero, suc, List, [], ◌∷◌, ◌++◌, length, Bool, true, false, Option, None, Some, refl, ap, sym, ◌∙◌, subst, append_assoc, append-nil, inl, inr, arith}
+use Rattle.std.specs.Prelude.{◌⊎◌, All, fold, map, slice_get, slice_set, ◌==◌, if◌then◌else◌}
 use Rattle.std.specs.List.{flat_map, AllByRecursion}
 use Rattle.std.proofs.lemmas.Bool.{eqb-true, eq-eqb}
+use Rattle.std.proofs.lemmas.Grind.{flat_map-append}
 use Rattle.std.proofs.lemmas.List.{length-append, map-append}
 use Rattle.std.proofs.lemmas.Option.{get_or_from_slice_get, slice_get_within, same_Some}
 use Rattle.std.proofs.Math.Dec.{lit≤}
@@ -12,8 +13,9 @@ use Rattle.desk.specs.declared.call.Call.{Call as DeskCall}
 use Rattle.desk.specs.declared.call.Entry.{Entry}
 use Rattle.desk.specs.declared.base.Base.{Base}
 use Rattle.desk.specs.declared.desk.TheConstants.{HISTORY_LIMIT}
+use Rattle.desk.specs.Call.{HasStay}
 use Rattle.desk.specs.Presence.{live_requests}
-use Rattle.desk.specs.Trace.{empty_base, base_with, base_after, live_after}
+use Rattle.desk.specs.Trace.{empty_base, base_with, base_after}
 use Rattle.desk.specs.Answer.{IsAnswerTo}
 use Rattle.desk.specs.History.{IsLegalHistory, StandsForEntries}
 use Rattle.desk.specs.State.{DeskState, HoldsLegalDesk, call_count, now_of}
@@ -22,13 +24,14 @@ use Rattle.events.specs.declared.event.Event.{Event}
 use Rattle.core_steps.specs.Happening.{Happening, RecordedCall, world_after, desks_by}
 use Rattle.core_steps.specs.Laws.{TellsLegalDesk}
 use Rattle.core_steps.specs.Opening.{IsNewDesk, IsNewWorld}
-use Rattle.core_steps.specs.Rule.{IsRecordedCall, Replies}
+use Rattle.core_steps.specs.Rule.{Does, IsRecordedCall, Replies}
 use Rattle.core_steps.specs.Run.{Runs, worlds_after}
-use Rattle.core_steps.specs.Traces.{AtDesk, of_desk, recorded_in, recorded_at, recorded_entry, AreNumberedFrom, HasRecorded, AnnouncesAfter}
+use Rattle.core_steps.specs.Traces.{AtDesk, of_desk, recorded_in, recorded_at, recorded_entry, calls_of, entry_at, entries_at, AreNumberedFrom, HasRecorded, AnnouncesAfter}
 use Rattle.core_steps.specs.World.{WorldState}
 use Rattle.core_steps.proofs.CauseLemmas.{AsksDeskOf, AsksThere, recorded_of}
 use Rattle.core_steps.proofs.HistoryLemmas.{legal_by, desks_stay_legal}
 use Rattle.core_steps.proofs.KindLemmas.{IsKind, kind_of}
+use Rattle.core_steps.proofs.QuietDeskLemmas.{has_stay}
 
 -- ---- histories
 
@@ -265,13 +268,6 @@ desks_by_history w (e ∷ events) (h ∷ history) r all p d f =
 pub new_legal : (c : Configuration) (w : WorldState) → IsNewWorld c w → All HoldsLegalDesk w.desks
 new_legal c w new k d low = (new.desks k d low).legal
 
-opened_live : (ms now_ms : ℕ) (base now_base : Base) (listed entries : List Entry) → ms ≡ now_ms → base ≡ now_base → listed ≡ []
-    → live_after ms base (listed ++ entries) ≡ live_after now_ms now_base entries
-opened_live ms now_ms base now_base listed entries a b c =
-    ap (λ (m : ℕ). live_after m base (listed ++ entries)) a
-    ∙ ap (λ (x : Base). live_after now_ms x (listed ++ entries)) b
-    ∙ ap (λ (es : List Entry). live_after now_ms now_base (es ++ entries)) c
-
 opened_legal : (c : Configuration) (d : DeskState) (entries : List Entry) → IsNewDesk c d
     → IsLegalHistory d.gap d.request_ms d.base (d.history ++ entries) → IsLegalHistory c.pli_gap_ms c.request_ms empty_base entries
 opened_legal c d entries new legal =
@@ -280,19 +276,134 @@ opened_legal c d entries new legal =
     (subst (λ (b : Base). IsLegalHistory d.gap d.request_ms b entries) new.base
     (subst (λ (es : List Entry). IsLegalHistory d.gap d.request_ms d.base (es ++ entries)) new.history legal)))
 
-announced : (c : Configuration) (d later : DeskState) (calls : List RecordedCall) → IsNewDesk c d → HasRecorded d calls later
-    → HoldsLegalDesk later → AnnouncesAfter c (map recorded_entry calls) later
-announced c d later calls new r legal = record {
-  legal = opened_legal c d (map recorded_entry calls) new r.legal;
-  live = legal.live ∙ ap (λ (b : Base). live_requests b.present.items) (now_after d calls later r)
-      ∙ opened_live d.request_ms c.request_ms d.base empty_base d.history (map recorded_entry calls) new.request_ms new.base new.history;
-  announced = legal.announced;
-}
+-- what all its calls come to
+opened_now : (ms now_ms : ℕ) (base now_base : Base) (listed entries : List Entry) → ms ≡ now_ms → base ≡ now_base → listed ≡ []
+    → base_after ms base (listed ++ entries) ≡ base_after now_ms now_base entries
+opened_now ms now_ms base now_base listed entries a b c =
+    ap (λ (m : ℕ). base_after m base (listed ++ entries)) a
+    ∙ ap (λ (x : Base). base_after now_ms x (listed ++ entries)) b
+    ∙ ap (λ (es : List Entry). base_after now_ms now_base (es ++ entries)) c
 
-pub announced_over_every_run : (c : Configuration) (w : WorldState) (events : List Event) (history : List Happening)
+-- the desk announces what these calls leave, and stands for them
+pub record StandsAnnounced (c : Configuration) (entries : List Entry) (d : DeskState) : Type 0 where
+  pub announces : AnnouncesAfter c entries d
+  pub now : now_of d ≡ base_after c.request_ms empty_base entries
+
+announced : (c : Configuration) (d later : DeskState) (calls : List RecordedCall) (entries : List Entry)
+    → map recorded_entry calls ≡ entries → All (λ (e : Entry). HasStay e.call) entries → IsNewDesk c d → HasRecorded d calls later
+    → HoldsLegalDesk later → StandsAnnounced c entries later
+announced c d later calls entries same stays new r legal =
+    let now : now_of later ≡ base_after c.request_ms empty_base entries =
+    now_after d calls later r
+    ∙ opened_now d.request_ms c.request_ms d.base empty_base d.history (map recorded_entry calls) new.request_ms new.base new.history
+    ∙ ap (λ (es : List Entry). base_after c.request_ms empty_base es) same in
+    record {
+      announces = record {
+        stays = stays;
+        legal = subst (λ (es : List Entry). IsLegalHistory c.pli_gap_ms c.request_ms empty_base es) same
+            (opened_legal c d (map recorded_entry calls) new r.legal);
+        live = legal.live ∙ ap (λ (b : Base). live_requests b.present.items) now;
+        announced = legal.announced;
+      };
+      now = now;
+    }
+
+-- ---- the calls of one desk among all
+
+entries_of_desk : (p : ℕ) (asked : List RecordedCall) → map recorded_entry (flat_map (of_desk p) asked) ≡ entries_at p asked
+entries_of_desk p [] = refl
+entries_of_desk p (a ∷ asked) =
+    map-append recorded_entry (of_desk p a) (flat_map (of_desk p) asked) ∙ step (a.publisher == p) (entries_of_desk p asked)
+  where
+    step : (b : Bool) → map recorded_entry (flat_map (of_desk p) asked) ≡ entries_at p asked
+        → map recorded_entry (if b then a ∷ [] else []) ++ map recorded_entry (flat_map (of_desk p) asked)
+        ≡ (if b then recorded_entry a ∷ [] else []) ++ entries_at p asked
+    step true rest = ap (λ (es : List Entry). recorded_entry a ∷ es) rest
+    step false rest = rest
+
+entries_of_run : (p : ℕ) (history : List Happening) → map recorded_entry (recorded_at p history) ≡ entries_at p (calls_of history)
+entries_of_run p [] = refl
+entries_of_run p (h ∷ history) =
+    map-append recorded_entry (recorded_in p h) (recorded_at p history)
+    ∙ ap (λ (es : List Entry). es ++ map recorded_entry (recorded_at p history)) (entries_of_desk p h.asked)
+    ∙ ap (λ (es : List Entry). entries_at p h.asked ++ es) (entries_of_run p history)
+    ∙ sym (flat_map-append (entry_at p) h.asked (calls_of history))
+
+-- an event records one call at most: at a desk that is there, which is legal then, and whose announced set its effect shows
+pub record IsRecordedAt (w : WorldState) (a : RecordedCall) : Type 0 where
+  pub within : a.publisher < length w.desks
+  pub told : TellsLegalDesk a
+  pub stay : HasStay a.call
+
+abbrev pub AsksOne : WorldState → Happening → Type 0
+AsksOne w h = (h.asked ≡ []) ⊎ ((a : RecordedCall) × (h.asked ≡ a ∷ []) × IsRecordedAt w a)
+
+pub asks_one : (w : WorldState) (e : Event) (h : Happening) → Does w e h → AsksOne w h
+asks_one w e h does = step k.asks.who k.asks.asks
+  where
+    k : IsKind w h
+    k = kind_of w e h does
+
+    there : (p : ℕ) (call : DeskCall) (d : Option DeskState) → slice_get w.desks p ≡ d → AsksThere p call d h → AsksOne w h
+    there p call None f r = inl r.asked
+    there p call (Some d) f r = reply r.reply r.replies r.asked
+      where
+        reply : (x : Option RecordedCall) → Replies p d call x → h.asked ≡ recorded_of x → AsksOne w h
+        reply None over is = inl is
+        reply (Some a) done is = inr (
+          a,
+          is,
+          record {
+            within = subst (λ (q : ℕ). q < length w.desks) (sym done.publisher) (slice_get_within w.desks p d f);
+            told = record { legal = done.legal; announced = done.effect.announced };
+            stay = subst (λ (x : DeskCall). HasStay x) (sym done.names) (has_stay d a.desk call a.number a.answer done.records done.legal);
+          },
+        )
+
+    step : (who : Option (ℕ × DeskCall)) → AsksDeskOf w who h → AsksOne w h
+    step None r = inl r.asked
+    step (Some (p, call)) r = there p call (slice_get w.desks p) refl r
+
+all_cons : (e : Entry) (es : List Entry) → HasStay e.call → All (λ (x : Entry). HasStay x.call) es → All (λ (x : Entry). HasStay x.call) (e ∷ es)
+all_cons e es is rest zero d below = is
+all_cons e es is rest (suc i) d below = rest i d (omega (arith, below))
+
+abbrev HaveStays : List RecordedCall → Type 0
+HaveStays calls = AllByRecursion (λ (a : RecordedCall). HasStay a.call) calls
+
+stays_at : (p : ℕ) (calls : List RecordedCall) → HaveStays calls → All (λ (e : Entry). HasStay e.call) (entries_at p calls)
+stays_at p [] all = λ i d below. absurd (omega (arith, below))
+stays_at p (a ∷ calls) all = step (a.publisher == p) (stays_at p calls all.1)
+  where
+    step : (b : Bool) → All (λ (e : Entry). HasStay e.call) (entries_at p calls)
+        → All (λ (e : Entry). HasStay e.call) ((if b then recorded_entry a ∷ [] else []) ++ entries_at p calls)
+    step true rest = all_cons (recorded_entry a) (entries_at p calls) all.0 rest
+    step false rest = rest
+
+stays_append : (xs ys : List RecordedCall) → HaveStays xs → HaveStays ys → HaveStays (xs ++ ys)
+stays_append [] ys a b = b
+stays_append (x ∷ xs) ys a b = (a.0, stays_append xs ys a.1 b)
+
+stays_of_run : (w : WorldState) (events : List Event) (history : List Happening) → Runs w events history → HaveStays (calls_of history)
+stays_of_run w [] [] r = tt
+stays_of_run w [] (h ∷ history) r = absurd r
+stays_of_run w (e ∷ events) [] r = absurd r
+stays_of_run w (e ∷ events) (h ∷ history) r =
+    stays_append h.asked (calls_of history) here (stays_of_run (world_after w h) events history r.1)
+  where
+    here : HaveStays h.asked
+    here =
+        elim (asks_one w e h r.0) [
+          | inl none ↦ subst HaveStays (sym none) tt
+          | inr one ↦ subst HaveStays (sym one.1) (one.2.stay, tt)
+        ]
+
+-- ---- what each desk announces, behind every run from a new world
+
+pub announced_over_run : (c : Configuration) (w : WorldState) (events : List Event) (history : List Happening)
     → IsNewWorld c w → Runs w events history → (p : ℕ) → p < length c.endpoints
-    → AtDesk (AnnouncesAfter c (map recorded_entry (recorded_at p history))) (worlds_after w history).desks p
-announced_over_every_run c w events history new r p low =
+    → AtDesk (StandsAnnounced c (entries_at p (calls_of history))) (worlds_after w history).desks p
+announced_over_run c w events history new r p low =
     let count : p < length w.desks = omega (arith, low, new.desk_count) in
     let first = slice_get-some w.desks p count in
     let all : All HoldsLegalDesk w.desks = new_legal c w new in
@@ -300,14 +411,8 @@ announced_over_every_run c w events history new r p low =
     record {
       desk = last.desk;
       there = last.there;
-      is = announced c first.0 last.desk (recorded_at p history) (at_place (IsNewDesk c) w.desks p first.0 new.desks first.1) last.is
+      is = announced c first.0 last.desk (recorded_at p history) (entries_at p (calls_of history)) (entries_of_run p history)
+          (stays_at p (calls_of history) (stays_of_run w events history r))
+          (at_place (IsNewDesk c) w.desks p first.0 new.desks first.1) last.is
           (at_place HoldsLegalDesk (worlds_after w history).desks p last.desk (desks_stay_legal w events history r all) last.there);
     }
-
-pub told_over_every_run : (w : WorldState) (events : List Event) (history : List Happening) → Runs w events history
-    → AllByRecursion (λ (h : Happening). AllByRecursion TellsLegalDesk h.asked) history
-told_over_every_run w [] [] r = tt
-told_over_every_run w [] (h ∷ history) r = absurd r
-told_over_every_run w (e ∷ events) [] r = absurd r
-told_over_every_run w (e ∷ events) (h ∷ history) r =
-    ((kind_of w e h r.0).asked, told_over_every_run (world_after w h) events history r.1)

@@ -1,8 +1,6 @@
 -- The laws of runs: of what they are said, and the facts that they state.
-use Rattle.std.specs.Prelude.{◌≡◌, ◌<◌, ℕ, List, [], ◌∷◌, All, length, map, slice_get, Some}
+use Rattle.std.specs.Prelude.{◌≡◌, ◌<◌, ℕ, List, All, slice_get, Some}
 use Rattle.std.specs.List.{flat_map, AllByRecursion}
-use Rattle.members.specs.declared.order.Order.TheVariants.{Depart}
-use Rattle.settings.specs.declared.settings.LegSettings.{LegSettings}
 use Rattle.members.specs.Calls.{Call as RoomCall}
 use Rattle.settings.specs.Settings.{Configuration}
 use Rattle.desk.specs.State.{DeskState, HoldsLegalDesk}
@@ -10,7 +8,6 @@ use Rattle.routes.specs.declared.change.Change.{Change}
 use Rattle.events.specs.declared.event.Event.{Event}
 use Rattle.events.specs.declared.job.Job.{Job}
 use Rattle.legs.specs.declared.leg.LegState.{LegState}
-use Rattle.notices.specs.DeskCalls.{source_of}
 use Rattle.core_steps.specs.Happening.{Happening}
 use Rattle.core_steps.specs.Laws.{TellsLegalDesk, taken_at, put_at}
 use Rattle.legs.specs.Legs.{new_legs}
@@ -19,8 +16,8 @@ use Rattle.core_steps.specs.Numbered.{AtLeg, HasTaken, HasTakenAll, Taken, taken
 use Rattle.core_steps.specs.Opening.{IsNewWorld}
 use Rattle.core_steps.specs.Rule.{Does}
 use Rattle.core_steps.specs.Run.{Runs, worlds_after}
-use Rattle.core_steps.specs.Traces.{AtDesk, HasRecorded, AnnouncesAfter, HasLeft, recorded_at, recorded_entry}
-use Rattle.core_steps.specs.World.{WorldState, Task, order}
+use Rattle.core_steps.specs.Traces.{AtDesk, HasRecorded, recorded_at}
+use Rattle.core_steps.specs.World.{WorldState, Task}
 
 -- ---- of what a law is said
 
@@ -38,11 +35,6 @@ abbrev pub OfEveryRunFromNew : (Configuration → WorldState → List Happening 
 OfEveryRunFromNew P =
     (c : Configuration) (w : WorldState) (events : List Event) (history : List Happening)
     → IsNewWorld c w → Runs w events history → P c w history
-
--- of the world behind each run from this one
-abbrev pub AfterEveryRun : WorldState → (WorldState → Type 0) → Type 0
-AfterEveryRun w P = (events : List Event) (history : List Happening) → Runs w events history
-    → P (worlds_after w history)
 
 -- ---- what a history lists, in order
 
@@ -77,29 +69,9 @@ DesksRecord w history =
     (p : ℕ) (d : DeskState) → slice_get w.desks p ≡ Some d
     → AtDesk (HasRecorded d (recorded_at p history)) (worlds_after w history).desks p
 
--- each publisher's desk announces what all calls of it that the history lists leave to be announced
-abbrev pub DesksAnnounce : Configuration → WorldState → List Happening → Type 0
-DesksAnnounce c w history =
-    (p : ℕ) → p < length c.endpoints
-    → AtDesk (AnnouncesAfter c (map recorded_entry (recorded_at p history)))
-    (worlds_after w history).desks p
-
 -- what is told of each call of a desk is what a legal desk announces then
 abbrev pub TellsLegalDesks : Happening → Type 0
 TellsLegalDesks h = AllByRecursion TellsLegalDesk h.asked
-
--- an event of this world has this happening, in which the depart of the leg's stay is done
-pub record EndsStay (w : WorldState) (h : Happening) (leg stay : ℕ) : Type 0 where
-  pub event : Event
-  pub does : Does w event h
-  pub departs : h.did ≡ order (Depart leg stay) ∷ []
-
--- the leg's subscriber isn't present with this stay at the desk of the leg's publisher
-abbrev pub IsOver : Configuration → ℕ → ℕ → WorldState → Type 0
-IsOver c leg stay w =
-    (l : LegSettings) (d : DeskState) → slice_get c.legs leg ≡ Some l
-    → slice_get w.desks l.publisher ≡ Some d
-    → HasLeft (source_of (table_of c) l.subscriber).0 stay d
 
 -- ---- legs
 

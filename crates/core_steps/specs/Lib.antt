@@ -7,6 +7,7 @@ pub mod Opening
 pub mod Laws
 pub mod EveryRun
 pub mod Traces
+pub mod OverRuns
 pub mod Numbered
 pub mod FollowUps
 pub mod Machine

@@ -19,7 +19,7 @@ use Rattle.intake.specs.declared.intake.Ask.{Ask}
 use Rattle.intake.specs.declared.intake.Ask.TheVariants.{Rate, Resend as Again, Picture}
 use Rattle.events.specs.declared.output.Refusal.{Refusal}
 use Rattle.notices.specs.DeskCalls.{source_of}
-use Rattle.core_steps.specs.Happening.{Happening, RecordedCall, world_after}
+use Rattle.core_steps.specs.Happening.{Happening, world_after}
 use Rattle.intake.specs.Heard.{asks_of}
 use Rattle.core_steps.specs.Hearing.{room_call, leg_stay}
 use Rattle.intake.specs.Intake.{Said, Says}
@@ -27,6 +27,7 @@ use Rattle.settings.specs.Links.{LinkTable, leg_to, table_of}
 use Rattle.core_steps.specs.Opening.{IsNewWorld}
 use Rattle.core_steps.specs.Rule.{is_busy}
 use Rattle.core_steps.specs.Run.{Runs, worlds_after}
+use Rattle.core_steps.specs.Traces.{IsRequestIn, calls_of, entries_at}
 use Rattle.core_steps.specs.Waits.{waiting_in}
 use Rattle.core_steps.specs.World.{WorldState}
 
@@ -106,22 +107,12 @@ pub record IsQuiet (history : List Happening) (w : WorldState) : Type 0 where
 
 -- ---- what is live then
 
--- the calls that a publisher's desk recorded, in order, with their answers
-abbrev pub entry_at : ℕ → RecordedCall → List Entry
-entry_at p a = if a.publisher == p then record { call = a.call; answer = a.answer } ∷ [] else []
-
-abbrev pub entries_at : ℕ → List RecordedCall → List Entry
-entries_at p calls = flat_map (entry_at p) calls
-
-abbrev pub calls_of : List Happening → List RecordedCall
-calls_of history = flat_map (λ (h : Happening). h.asked) history
-
--- The last request of the owner that was done asks for this word, and an expire after it took it.
-pub record ExpireTook (request_ms : ℕ) (entries : List Entry) (owner word : ℕ) : Type 0 where
+-- The last request of the owner that was done was made in this stay and asks for this word, and an expire after it took it.
+pub record ExpireTook (request_ms : ℕ) (entries : List Entry) (owner stay word : ℕ) : Type 0 where
   pub tuple : Tuple
   pub asks : word_of tuple ≡ word
   pub asked : ℕ
-  pub request : HasEntryAt (WasDone (IsRequestOf owner tuple)) entries asked
+  pub request : HasEntryAt (WasDone (IsRequestIn owner stay tuple)) entries asked
   pub last : (later : ℕ) (other : Tuple) → asked < later
       → ¬ HasEntryAt (WasDone (IsRequestOf owner other)) entries later
   pub place : ℕ
@@ -139,14 +130,14 @@ pub record IsLastHeard (c : Configuration) (rates : List HeardRate) (w : WorldSt
   pub stands : leg_stay w.room number ≢ 0
   pub heard : last_heard_word number (leg_stay w.room number) rates ≡ Some (word_of tuple)
 
--- the owner asks for this word, or an expire took it
-abbrev pub IsLiveOrTaken : ℕ → List Entry → DeskState → ℕ → ℕ → Type 0
-IsLiveOrTaken request_ms entries d owner word =
+-- the owner asks for this word, or an expire took it that was asked for in this stay
+abbrev pub IsLiveOrTaken : ℕ → List Entry → DeskState → ℕ → ℕ → ℕ → Type 0
+IsLiveOrTaken request_ms entries d owner stay word =
     ((tuple : Tuple) × (word_of tuple ≡ word) × (tuple_of d.bounds.rows owner ≡ Some tuple))
-    ⊎ ExpireTook request_ms entries owner word
+    ⊎ ExpireTook request_ms entries owner stay word
 
--- Each live request is the word heard last in the stay that stands; where there is such a word, it is live, unless an expire
--- took it; and where no stay stands, nothing is live.
+-- Each live request is the word heard last in the stay that stands; where there is such a word, it is live, unless it was asked for
+-- in that stay and an expire took it; and where no stay stands, nothing is live.
 pub record LastHeardIsLive (c : Configuration) (history : List Happening) (rates : List HeardRate)
     (w : WorldState) : Type 0 where
   pub live : (publisher owner : ℕ) (d : DeskState) (tuple : Tuple)
@@ -157,7 +148,7 @@ pub record LastHeardIsLive (c : Configuration) (history : List Happening) (rates
       → slice_get w.desks leg.publisher ≡ Some d → leg_stay w.room number ≢ 0
       → last_heard_word number (leg_stay w.room number) rates ≡ Some word
       → IsLiveOrTaken c.request_ms (entries_at leg.publisher (calls_of history)) d
-      (source_of (table_of c) leg.subscriber).0 word
+      (source_of (table_of c) leg.subscriber).0 (leg_stay w.room number) word
   pub none : (number : ℕ) (leg : LegSettings) (d : DeskState) → slice_get c.legs number ≡ Some leg
       → slice_get w.desks leg.publisher ≡ Some d → leg_stay w.room number ≡ 0
       → tuple_of d.bounds.rows (source_of (table_of c) leg.subscriber).0 ≡ None

@@ -1,9 +1,14 @@
 -- The calls of each desk over a run.
-use Rattle.std.specs.Prelude.{◌≡◌, ◌≢◌, ◌==◌, ℕ, ◌+◌, List, [], ◌∷◌, ◌++◌, map, slice_get, Some, if◌then◌else◌}
+use Rattle.std.specs.Prelude.{◌≡◌, ◌≢◌, ◌==◌, ℕ, ◌+◌, List, [], ◌∷◌, ◌++◌, All, map, slice_get, Some, if◌then◌else◌}
 use Rattle.std.specs.List.{flat_map}
 use Rattle.settings.specs.Settings.{Configuration}
 use Rattle.bounding_set.specs.State.{AnnouncesSmallest}
+use Rattle.tmmbr_tuple.specs.declared.tuple.Tuple.{Tuple}
+use Rattle.desk.specs.declared.call.Call.{Call}
+use Rattle.desk.specs.declared.call.Change.TheVariants.{Request}
 use Rattle.desk.specs.declared.call.Entry.{Entry}
+use Rattle.desk.specs.Call.{HasStay}
+use Rattle.desk.specs.Places.{IsOf}
 use Rattle.desk.specs.Presence.{stay_in}
 use Rattle.desk.specs.Trace.{empty_base, live_after}
 use Rattle.desk.specs.History.{IsLegalHistory, StandsForEntries}
@@ -31,6 +36,16 @@ recorded_at p history = flat_map (recorded_in p) history
 abbrev pub recorded_entry : RecordedCall → Entry
 recorded_entry a = record { call = a.call; answer = a.answer }
 
+-- all recorded calls of a history, and those of one publisher's desk as it lists them
+abbrev pub calls_of : List Happening → List RecordedCall
+calls_of history = flat_map (λ (h : Happening). h.asked) history
+
+abbrev pub entry_at : ℕ → RecordedCall → List Entry
+entry_at p a = if a.publisher == p then recorded_entry a ∷ [] else []
+
+abbrev pub entries_at : ℕ → List RecordedCall → List Entry
+entries_at p calls = flat_map (entry_at p) calls
+
 -- ---- what they make of a desk
 
 -- calls that are numbered one after another, from this number on
@@ -50,14 +65,19 @@ pub record HasRecorded (old : DeskState) (calls : List RecordedCall)
   pub gap : new.gap ≡ old.gap
   pub request_ms : new.request_ms ≡ old.request_ms
 
--- These are all calls of the desk with their answers, each the one that is owed. Its rows are the requests that they leave live:
+-- These are all calls of the desk with their answers, each the one that is owed, and name stays from 1 on. Its rows are the requests that they leave live:
 -- of each owner that is present the last one since it arrived, unless it grew too old. The announced set is drawn from them,
 -- permits exactly what they together permit, and no smaller choice does, by its certificate.
 pub record AnnouncesAfter (c : Configuration) (entries : List Entry) (d : DeskState) : Type 0 where
+  pub stays : All (λ e. HasStay e.call) entries
   pub legal : IsLegalHistory c.pli_gap_ms c.request_ms empty_base entries
   pub live : d.bounds.rows ≡ live_after c.request_ms empty_base entries
   pub announced : AnnouncesSmallest d.bounds
 
--- the owner isn't present with this stay, so that no request that it made in the stay is live
+-- a request of the owner in this stay for this tuple
+abbrev pub IsRequestIn : ℕ → ℕ → Tuple → Call → Type 0
+IsRequestIn owner stay tuple = IsOf owner (λ s change. (s ≡ stay) × (change ≡ Request tuple))
+
+-- the owner isn't present with this stay
 abbrev pub HasLeft : ℕ → ℕ → DeskState → Type 0
 HasLeft owner stay d = stay_in (now_of d).present.items owner ≢ stay

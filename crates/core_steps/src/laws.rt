@@ -1,14 +1,14 @@
 //! What holds of every run of the machine. These functions do nothing: their contracts are the laws.
 
-ghost use Rattle.std.specs.Prelude.{◌≡◌, ◌++◌, ℕ, ◌≤◌, List, fold};
+ghost use Rattle.std.specs.Prelude.{◌≡◌, ◌++◌, ℕ, List, fold};
 ghost use Rattle.std.specs.List.{AllByRecursion};
 ghost use Rattle.members.specs.Calls.{room_after};
 ghost use Rattle.routes.specs.Rows.{row_changed};
 ghost use Rattle.events.specs.declared.event.Event.{Event};
-ghost use Rattle.core_steps.specs.EveryRun.{OfEveryHappening, OfEveryRun, OfEveryRunFromNew, AfterEveryRun};
+ghost use Rattle.core_steps.specs.EveryRun.{OfEveryHappening, OfEveryRun, OfEveryRunFromNew};
 ghost use Rattle.core_steps.specs.EveryRun.{tasks_done, tasks_made, jobs_taken, jobs_put, row_changes, room_calls};
-ghost use Rattle.core_steps.specs.EveryRun.{HasLegalDesks, DesksRecord, DesksAnnounce, TellsLegalDesks, EndsStay, IsOver, LegsTake, NewLegsTake};
-ghost use Rattle.core_steps.specs.Happening.{Happening, world_after};
+ghost use Rattle.core_steps.specs.EveryRun.{HasLegalDesks, DesksRecord, TellsLegalDesks, LegsTake, NewLegsTake};
+ghost use Rattle.core_steps.specs.Happening.{Happening};
 ghost use Rattle.core_steps.specs.Laws.{IsGivenUpFull, jobs_at};
 ghost use Rattle.core_steps.specs.Run.{Runs, worlds_after};
 ghost use Rattle.core_steps.specs.World.{WorldState};
@@ -64,22 +64,6 @@ pub fn desks_stay_legal()
 /// their numbers and with the answers that are owed to them.
 pub fn desks_by_history()
     ensures { OfEveryRun (λ w history. HasLegalDesks w → DesksRecord w history) }
-{}
-
-/// After every list of events, from the world that settings open: what each publisher's desk announces is drawn from the live
-/// requests of all calls of it that the history lists, permits exactly what they together permit, and no smaller choice does.
-/// And the set that each call's effect shows on the way, which is what is told of it, is the one that its desk announces then.
-pub fn announced_over_every_run()
-    ensures announced { OfEveryRunFromNew DesksAnnounce }
-    ensures told { OfEveryRunFromNew (λ c w history. AllByRecursion TellsLegalDesks history) }
-{}
-
-/// Once the depart of a stay was done, the subscriber of its leg isn't present with it at the desk of the leg's publisher, then or
-/// after any further events: so no request of the stay is live.
-pub fn ended_stays_stay_ended()
-    ensures { OfEveryRunFromNew (λ c w past. (h : Happening) (leg stay : ℕ) → 1 ≤ stay
-        → EndsStay (worlds_after w past) h leg stay
-        → AfterEveryRun (world_after (worlds_after w past) h) (IsOver c leg stay)) }
 {}
 
 /// After every run what each leg of a worker holds of numbers, and what it keeps, are what the packets make of them that it took:

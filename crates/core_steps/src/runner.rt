@@ -1,9 +1,10 @@
 //! Events in order, each an atomic step.
 
-ghost use Rattle.std.specs.Prelude.{◌≡◌, ◌≤◌, ◌∷◌, [], length, take, OnOk, OnErr, IfErr};
+ghost use Rattle.std.specs.Prelude.{◌≡◌, ◌<◌, ◌∷◌, [], length, take, OnOk, OnErr, IfErr};
 ghost use Rattle.core_steps.specs.Machine.{state_of};
 ghost use Rattle.events.specs.declared.output.Out.TheVariants.{Busy};
 ghost use Rattle.core_steps.specs.Happening.{giving};
+ghost use Rattle.core_steps.specs.OverRuns.{AnnouncesOverRuns, EndsStaysOverRuns, events_done};
 ghost use Rattle.core_steps.specs.Quiet.{ObeysQuietLaw};
 ghost use Rattle.core_steps.specs.Rule.{Does};
 ghost use Rattle.core_steps.specs.Run.{HasRun, Leaves, Stays};
@@ -18,12 +19,19 @@ use crate::world::World;
 use events::{Event, Out, RunFault};
 use std::alloc::AllocError;
 
-/// Does the events in order, and appends what goes out. Where a run from a new world, in one call or several, leaves nothing to
-/// do, gave up no job and met no full history, each live request is the word that was heard last in the stay that stands.
+/// Does the events in order, and appends what goes out. For want of memory it stops before an event, and nothing of that one was
+/// done. Whatever was done, in one call or several from a new world on: each publisher's desk announces the smallest set of the
+/// requests that all its calls leave live, and so do the effects that are told (`announced`); no request of a stay whose depart was
+/// done is live (`ended`); and where nothing is left to do, no job was given up and no history was full, each live request is the
+/// word that was heard last in the stay that stands (`quiet`).
 pub fn run(world: &mut World, events: &[Event], outs: &mut Vec<Out>) -> Result<(), RunFault>
     ensures ok { OnOk result (HasRun events.now world.old outs.old.items world.new outs.new.items) }
-    ensures quiet { OnOk result (ObeysQuietLaw events.now world.old world.new) }
-    ensures err { IfErr result (λ fault. (done_of fault ≤ length events.now)
+    ensures announced { AnnouncesOverRuns (events_done result events.now) world.old outs.old.items
+        world.new outs.new.items }
+    ensures ended { EndsStaysOverRuns (events_done result events.now) world.old outs.old.items
+        world.new outs.new.items }
+    ensures quiet { ObeysQuietLaw (events_done result events.now) world.old world.new }
+    ensures err { IfErr result (λ fault. (done_of fault < length events.now)
         × HasRun (take (done_of fault) events.now) world.old outs.old.items world.new
         outs.new.items) }
 {
@@ -34,7 +42,7 @@ pub fn run(world: &mut World, events: &[Event], outs: &mut Vec<Out>) -> Result<(
 fn run_machine(m: &mut Machine, events: &[Event], outs: &mut Vec<Out>) -> Result<(), RunFault>
     ensures ok { OnOk result (HasRun events.now (state_of m.old) outs.old.items
         (state_of m.new) outs.new.items) }
-    ensures err { IfErr result (λ fault. (done_of fault ≤ length events.now)
+    ensures err { IfErr result (λ fault. (done_of fault < length events.now)
         × HasRun (take (done_of fault) events.now) (state_of m.old) outs.old.items
         (state_of m.new) outs.new.items) }
 {
