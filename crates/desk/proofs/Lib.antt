@@ -10,3 +10,4 @@ pub mod ScheduleLemmas
 pub mod SinceLemmas
 pub mod RequestLemmas
 pub mod OneScheduleLemmas
+pub mod OthersLemmas

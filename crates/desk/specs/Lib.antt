@@ -2,6 +2,7 @@ pub mod Call
 pub mod Presence
 pub mod Trace
 pub mod Places
+pub mod Others
 pub mod Schedule
 pub mod Kept
 pub mod Answer

@@ -2,11 +2,18 @@
 //! contracts are the laws.
 
 ghost use Rattle.std.specs.Prelude.{◌≡◌, ◌≤◌, ◌+◌, ◌↔◌, ◌∷◌, ◌++◌, ℕ, List, All, None, Some, length};
+ghost use Rattle.tmmbr_tuple.specs.declared.ssrc.Ssrc.{Ssrc};
 ghost use Rattle.tmmbr_tuple.specs.declared.tuple.Tuple.{Tuple};
 ghost use Rattle.bounding_set.specs.Rows.{tuple_of};
+ghost use Rattle.desk.specs.declared.call.Answer.TheVariants.{Full};
+ghost use Rattle.desk.specs.declared.call.Call.TheVariants.{Stay};
+ghost use Rattle.desk.specs.declared.call.Change.TheVariants.{Arrive};
 ghost use Rattle.desk.specs.declared.call.Entry.{Entry};
 ghost use Rattle.desk.specs.declared.base.Base.{Base};
+ghost use Rattle.desk.specs.declared.presence.TheConstants.{PRESENT_LIMIT};
+ghost use Rattle.desk.specs.Answer.{IsAnswerTo};
 ghost use Rattle.desk.specs.Call.{HasStay};
+ghost use Rattle.desk.specs.Others.{HasOthers};
 ghost use Rattle.desk.specs.Presence.{stay_in};
 ghost use Rattle.desk.specs.Trace.{IsBase, base_with, base_after, live_after, words_of};
 ghost use Rattle.desk.specs.Places.{IsPresent, IsPresentFrom, IsLiveFrom, greatest_until};
@@ -33,6 +40,18 @@ pub fn present_since_arrival()
         → IsLegalHistory gap ms base entries → 1 ≤ stay
         → stay_in (base_after ms base entries).present.items owner ≡ stay
         ↔ IsPresent base entries owner stay }
+{}
+
+/// What the calls of a legal history come to is a base as it should be: owners rise, so that nobody is present twice. So where an
+/// arrive is answered `Full`, as many others are present as may be, by the trace.
+pub fn full_where_others_present()
+    ensures base { (gap ms : ℕ) (base : Base) (entries : List Entry)
+        → IsBase base → All (λ e. HasStay e.call) entries → IsLegalHistory gap ms base entries
+        → IsBase (base_after ms base entries) }
+    ensures full { (gap ms : ℕ) (base : Base) (entries : List Entry) (owner : Ssrc) (stay : ℕ)
+        → IsBase base → All (λ e. HasStay e.call) entries → IsLegalHistory gap ms base entries
+        → IsAnswerTo gap ms (base_after ms base entries) (Stay owner stay Arrive) Full
+        → HasOthers base entries owner.0 PRESENT_LIMIT }
 {}
 
 /// What an owner asks for that is present is the last request of it that was done since it arrived, or what
