@@ -1,13 +1,18 @@
 -- The last packets of a list.
-use Rattle.std.proofs.Common.{◌≡◌, ℕ, zero, suc, ◌+◌, ◌-◌, ◌<◌, ◌≤◌, List, [], ◌∷◌, ◌++◌, length, drop, get_or, refl, sym, ap, ◌∙◌, arith, length-append, length-drop, append_assoc}
-use Rattle.std.specs.Prelude.{◌==◌, ◌%◌, nat_lt, Bool, map, slice_get, Option, None, Some, if◌then◌else◌}
+use Rattle.std.proofs.Common.{◌≡◌, ◌≢◌, ℕ, zero, suc, ◌+◌, ◌-◌, ◌<◌, ◌≤◌, List, [], ◌∷◌, ◌++◌, length, take, drop, get_or, refl, sym, ap, ◌∙◌, arith, length-append, length-drop, append_assoc, take-append-drop}
+use Rattle.std.specs.Prelude.{◌==◌, ◌%◌, Bool, true, false, map, reverse, find, slice_get, Option, None, Some, option_map}
+use Rattle.std.specs.Option.{option_to_list}
 use Rattle.std.specs.Global.{Vec}
+use Rattle.std.specs.List.{position_or_len}
 use Rattle.std.proofs.lemmas.Bool.Decides.{nat_tests}
-use Rattle.std.proofs.lemmas.Option.{get_or_from_slice_get}
-use Rattle.std.proofs.lemmas.List.{drop-append-le, drop-drop, append-nil, length-map, get_or-map}
+use Rattle.std.proofs.lemmas.Option.{slice_get_past}
+use Rattle.std.proofs.lemmas.List.{drop-append-le, drop-drop, drop_at, append-nil, map-append, take-map, length-map, length-reverse, reverse-append, reverse-reverse}
+use Rattle.std.proofs.lemmas.List.Folds.{find_at}
+use Rattle.std.proofs.lemmas.List.Sums.{position_or_len_is}
 use Rattle.circular_buffer.specs.Buffer.{keep_last}
 use Rattle.rtp_packet.specs.declared.header.TheConstants.{SEQ_CYCLE}
-use Rattle.resend_ring.specs.Kept.{SentPacket, sent_packet, kept_in_turn}
+use Rattle.resend_ring.specs.Kept.{SentPacket, sent_packet, kept_in_turn, last_kept_with}
+use Rattle.resend_ring.specs.Chains.{sequence_numbers, IsLatestWith}
 
 -- what left before makes no difference to what is kept of the last ones
 pub keep_last-append : {X : Type 0} (n : ℕ) (xs ys : List X) → keep_last n (keep_last n xs ++ ys) ≡ keep_last n (xs ++ ys)
@@ -38,23 +43,96 @@ pub kept_from_none : (capacity : ℕ) (packets : List SentPacket) → kept_in_tu
 kept_from_none capacity packets =
     ap (λ items. kept_in_turn capacity items packets) (sym (drop_none (0 - capacity))) ∙ kept_in_turn-is capacity [] packets
 
-abbrev pub has_seq : ℕ → SentPacket → Bool
+-- ---- a list from the newest to the oldest
+
+reverse_take : {X : Type 0} (n : ℕ) (xs : List X) → reverse (take n xs) ≡ keep_last n (reverse xs)
+reverse_take n xs =
+    let joined : reverse xs ≡ reverse (drop n xs) ++ reverse (take n xs) = ap reverse (sym (take-append-drop n xs)) ∙ reverse-append (take n xs) (drop n xs) in
+    let counted : length (reverse (drop n xs)) ≡ length (reverse xs) - n =
+    length-reverse (drop n xs) ∙ (length-drop n xs ∙ ap (λ m. m - n) (sym (length-reverse xs))) in
+    sym (ap (drop (length (reverse xs) - n)) joined ∙ drop_at (reverse (drop n xs)) (reverse (take n xs)) (length (reverse xs) - n) counted)
+
+-- what is kept as a packet comes
+pub kept_newest : (n : ℕ) (x : ℕ × Vec ℕ) (xs : List (ℕ × Vec ℕ))
+    → reverse (map sent_packet (take n (x ∷ xs))) ≡ keep_last n (reverse (map sent_packet xs) ++ sent_packet x ∷ [])
+kept_newest n x xs =
+    ap reverse (sym (take-map sent_packet n (x ∷ xs)))
+    ∙ (reverse_take n (map sent_packet (x ∷ xs)) ∙ ap (keep_last n) (reverse-append (sent_packet x ∷ []) (map sent_packet xs)))
+
+-- what leaves
+last_left : (n : ℕ) (xs : List (ℕ × Vec ℕ)) → length xs ≤ n + 1
+    → reverse (map sent_packet (drop n xs)) ≡ option_to_list (option_map sent_packet (slice_get xs n))
+last_left n [] few = ap (λ ys. reverse (map sent_packet ys)) (drop_none n)
+last_left zero (x ∷ []) few = refl
+last_left zero (x ∷ (y ∷ xs)) few = absurd (omega arith)
+last_left (suc n) (x ∷ xs) few = last_left n xs (omega arith)
+
+pub left_oldest : (n : ℕ) (x : ℕ × Vec ℕ) (xs : List (ℕ × Vec ℕ)) → length xs ≤ n
+    → reverse (map sent_packet xs) ++ sent_packet x ∷ []
+    ≡ option_to_list (option_map sent_packet (slice_get (x ∷ xs) n)) ++ reverse (map sent_packet (take n (x ∷ xs)))
+left_oldest n x xs few =
+    let all = x ∷ xs in
+    let parts : map sent_packet all ≡ map sent_packet (take n all) ++ map sent_packet (drop n all) =
+    ap (map sent_packet) (sym (take-append-drop n all)) ∙ map-append sent_packet (take n all) (drop n all) in
+    sym (reverse-append (sent_packet x ∷ []) (map sent_packet xs))
+    ∙ (ap reverse parts
+    ∙ (reverse-append (map sent_packet (take n all)) (map sent_packet (drop n all))
+    ∙ ap (λ ys. ys ++ reverse (map sent_packet (take n all))) (last_left n all (omega arith))))
+
+-- ---- finding
+
+abbrev has_seq : ℕ → SentPacket → Bool
 has_seq seq p = p.number % SEQ_CYCLE == seq
 
--- ---- the packet so many places from the newest
+number_of : (packets : List (ℕ × Vec ℕ)) (k : ℕ) (d : SentPacket) → k < length packets
+    → (get_or (map sent_packet packets) k d).number % SEQ_CYCLE ≡ get_or (sequence_numbers packets) k 0
+number_of [] k d inside = absurd (omega arith)
+number_of (p ∷ packets) zero d inside = refl
+number_of (p ∷ packets) (suc k) d inside = number_of packets k d (omega arith)
 
--- what nth_back answers
-abbrev pub nth_from_back : {T : Type 0} → List T → ℕ → Option T
-nth_from_back xs back = if nat_lt back (length xs) then slice_get xs (length xs - back - 1) else None
+sent_at : (packets : List (ℕ × Vec ℕ)) (k : ℕ) → slice_get (map sent_packet packets) k ≡ option_map sent_packet (slice_get packets k)
+sent_at [] k = refl
+sent_at (p ∷ packets) zero = refl
+sent_at (p ∷ packets) (suc k) = sent_at packets k
 
-pub slice_get_back : {T : Type 0} (xs : List T) (back : ℕ) → back < length xs → nth_from_back xs back ≡ slice_get xs (length xs - back - 1)
-slice_get_back xs back below = grind (arith, nat_tests)
+has_own : (p : SentPacket) (seq : ℕ) → p.number % SEQ_CYCLE ≡ seq → has_seq seq p ≡ true
+has_own p seq same = grind (arith, nat_tests)
 
-pub packet_at : (xs : List (ℕ × Vec ℕ)) (back : ℕ) (x : ℕ × Vec ℕ) → back < length xs → Some x ≡ nth_from_back xs back
-    → get_or (map sent_packet xs) (length (map sent_packet xs) - back - 1) (sent_packet x) ≡ sent_packet x
-packet_at xs back x below is =
-    let place = length xs - back - 1 in
-    let inside : place < length xs = omega arith in
-    rw (length-map xs sent_packet)
-    (get_or-map sent_packet xs place x (sent_packet x) inside
-    ∙ ap sent_packet (get_or_from_slice_get xs place x x (sym (is ∙ slice_get_back xs back below))))
+has_other : (p : SentPacket) (seq : ℕ) → p.number % SEQ_CYCLE ≢ seq → has_seq seq p ≡ false
+has_other p seq other = grind (arith, nat_tests)
+
+latest_kept : (packets : List (ℕ × Vec ℕ)) (seq place : ℕ) → position_or_len (has_seq seq) (map sent_packet packets) ≡ place
+    → last_kept_with (reverse (map sent_packet packets)) seq ≡ option_map (λ (p : SentPacket). p.bytes) (slice_get (map sent_packet packets) place)
+latest_kept packets seq place is =
+    ap (λ items. option_map (λ (p : SentPacket). p.bytes) (find (has_seq seq) items)) (reverse-reverse (map sent_packet packets))
+    ∙ ap (option_map (λ (p : SentPacket). p.bytes)) (find_at (has_seq seq) (map sent_packet packets) ∙ ap (slice_get (map sent_packet packets)) is)
+
+abbrev nothing : SentPacket
+nothing = record { number = 0; bytes = [] }
+
+pub found_latest : (packets : List (ℕ × Vec ℕ)) (seq back : ℕ) (x : ℕ × Vec ℕ) → IsLatestWith seq (sequence_numbers packets) back
+    → Some x ≡ slice_get packets back → Some x.1.items ≡ last_kept_with (reverse (map sent_packet packets)) seq
+found_latest packets seq back x is there =
+    let items = map sent_packet packets in
+    let within : back < length packets = omega (arith, is.inside, length-map packets (λ (p : ℕ × Vec ℕ). p.0 % SEQ_CYCLE)) in
+    let place : position_or_len (has_seq seq) items ≡ back =
+    position_or_len_is (has_seq seq) items back nothing (omega (arith, length-map packets sent_packet))
+    (λ k below. has_other (get_or items k nothing) seq (λ same.
+    is.latest k below (sym (number_of packets k nothing (omega arith)) ∙ (same ∙ sym is.number))))
+    (λ _. has_own (get_or items back nothing) seq (number_of packets back nothing within ∙ is.number)) in
+    let at : slice_get items back ≡ Some (sent_packet x) = sent_at packets back ∙ ap (option_map sent_packet) (sym there) in
+    sym (latest_kept packets seq back place ∙ ap (option_map (λ (p : SentPacket). p.bytes)) at)
+
+pub missed_latest : (packets : List (ℕ × Vec ℕ)) (seq : ℕ)
+    → ((k : ℕ) → k < length (sequence_numbers packets) → get_or (sequence_numbers packets) k 0 ≢ seq)
+    → None ≡ last_kept_with (reverse (map sent_packet packets)) seq
+missed_latest packets seq none =
+    let items = map sent_packet packets in
+    let counted : length (sequence_numbers packets) ≡ length packets = length-map packets (λ (p : ℕ × Vec ℕ). p.0 % SEQ_CYCLE) in
+    let place : position_or_len (has_seq seq) items ≡ length items =
+    position_or_len_is (has_seq seq) items (length items) nothing (omega arith)
+    (λ k below.
+    let within : k < length packets = omega (arith, length-map packets sent_packet) in
+    has_other (get_or items k nothing) seq (λ same. none k (omega arith) (sym (number_of packets k nothing within) ∙ same)))
+    (λ inside. absurd (omega arith)) in
+    sym (latest_kept packets seq (length items) place ∙ ap (option_map (λ (p : SentPacket). p.bytes)) (slice_get_past items (length items) (omega arith)))

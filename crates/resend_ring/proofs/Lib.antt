@@ -1,2 +1,5 @@
+pub mod ChainLemmas
 pub mod KeptLemmas
-pub mod MarkLemmas
+pub mod LinkLemmas
+pub mod PushLemmas
+pub mod WalkLemmas

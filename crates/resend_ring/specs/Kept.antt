@@ -1,6 +1,5 @@
 -- What a ring keeps.
-use Rattle.std.specs.Prelude.{◌≡◌, ◌==◌, ◌<◌, ◌+◌, ◌-◌, ℕ, ◌%◌, List, [], ◌∷◌, ◌++◌, length, slice_index, find, reverse, Option, option_map}
-use Rattle.std.specs.List.{position_or_len}
+use Rattle.std.specs.Prelude.{◌==◌, ℕ, ◌%◌, List, [], ◌∷◌, ◌++◌, find, reverse, Option, option_map}
 use Rattle.std.specs.Global.{Vec}
 use Rattle.circular_buffer.specs.Buffer.{keep_last}
 use Rattle.rtp_packet.specs.declared.header.TheConstants.{SEQ_CYCLE}
@@ -29,15 +28,3 @@ abbrev pub kept_in_turn : ℕ → List SentPacket → List SentPacket → List S
 kept_in_turn capacity items [] = items
 kept_in_turn capacity items (p ∷ packets) =
     kept_in_turn capacity (keep_last capacity (items ++ p ∷ [])) packets
-
--- how many places behind the newest the latest packet with this sequence number stands; where there is none, as many
--- as there are packets
-abbrev pub places_back : ℕ → List SentPacket → ℕ
-places_back seq items = position_or_len (λ p. p.number % SEQ_CYCLE == seq) (reverse items)
-
--- The clock counts the packets that were kept, modulo 65536. For each sequence number of a packet that is kept, its mark is
--- what the clock was when the latest such packet came.
-pub record AreMarks (clock : ℕ) (marks : List ℕ) (items : List SentPacket) : Type 0 where
-  pub every_number : length marks ≡ SEQ_CYCLE
-  pub latest : (seq : ℕ) → places_back seq items < length items
-      → slice_index marks seq ≡ (clock + SEQ_CYCLE - places_back seq items) % SEQ_CYCLE

@@ -2,6 +2,7 @@
 //! section 6.2.1). Making a ring takes memory, keeping and finding take none.
 #![tactic(auto)]
 
+mod chains;
 pub mod laws;
 mod ring;
 

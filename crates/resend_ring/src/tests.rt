@@ -110,10 +110,10 @@ fn finds_across_gaps(rt: HostRuntime) -> Result<(), Fail> {
     Ok(())
 }
 
-/// The clock of a ring counts modulo 65,536: 65,536 packets after number 9 its mark leads to another
-/// packet.
+/// The clock of a ring counts modulo 65,536: 65,536 packets after number 9 the head of its chain leads to
+/// another packet.
 #[test]
-fn follows_no_stale_mark(rt: HostRuntime) -> Result<(), Fail> {
+fn follows_no_stale_head(rt: HostRuntime) -> Result<(), Fail> {
     let mut ring = Ring::new(rt.alloc(), 2)?;
     let _left = ring.keep(9, vec![in rt.alloc(); 9]?);
     assert_eq!(rt; ring.find(9).ok_or("kept")?, [9].as_slice());
@@ -132,19 +132,161 @@ fn greatest_ring(rt: HostRuntime) -> Result<(), Fail> {
     Ok(())
 }
 
-/// A ring of 512 packets wants 16 KiB for them, and 128 KiB for its marks.
+/// Of the numbers from the place `from` on, the place of the last that has these low 16 bits.
+fn last_with(numbers: &[u64], from: usize, seq: u16) -> Option<usize> {
+    let mut last = None;
+    for (place, number) in numbers.iter().enumerate() {
+        if place >= from && number % 65536 == u64::from(seq) {
+            last = Some(place);
+        }
+    }
+    last
+}
+
+/// Whether a ring that kept these numbers in turn, each with its place as its bytes, finds each of the sequence
+/// numbers as a look through the list of the last ones does: after each packet, from the place `from` on.
+fn agrees(
+    alloc: Global,
+    capacity: usize,
+    numbers: &[u64],
+    from: usize,
+    asked: &[u16],
+) -> Result<bool, Fail>
+    requires { 1 ≤ capacity × capacity ≤ MAX_CAPACITY }
+{
+    let mut ring = Ring::new(alloc, capacity)?;
+    for (place, number) in numbers.iter().enumerate() {
+        let _left = ring.keep(*number, place.to_be_bytes().to_vec(alloc)?);
+        if place < from {
+            continue;
+        }
+        let oldest = (place + 1).saturating_sub(capacity);
+        for seq in asked {
+            let is_right = match (ring.find(*seq), last_with(&numbers[..=place], oldest, *seq)) {
+                (None, None) => true,
+                (Some(bytes), Some(last)) => bytes == last.to_be_bytes().as_slice(),
+                (None, Some(_)) | (Some(_), None) => false,
+            };
+            if !is_right {
+                return Ok(false);
+            }
+        }
+    }
+    Ok(true)
+}
+
+/// Numbers 1,024 apart stand on one chain, whatever the capacity. A ring of more than 64 may keep all 64 of
+/// them, and here each of them a second and a third time.
+#[test]
+fn finds_on_one_chain(rt: HostRuntime) -> Result<(), Fail> {
+    let mut numbers = Vec::new(rt.alloc());
+    let mut asked = Vec::new(rt.alloc());
+    for step in 0u16..200 {
+        numbers.push(1024 * u64::from(step) + 7)?;
+        asked.push((step % 64) * 1024 + 7)?;
+    }
+    asked.push(8)?;
+    asked.push(6)?;
+    for capacity in [1, 2, 63, 64, 65, 130, 512] {
+        let holds = agrees(
+            rt.alloc(),
+            capacity,
+            numbers.as_slice(),
+            0,
+            asked.as_slice(),
+        )?;
+        assert!(rt; holds, "in a ring of {capacity}");
+    }
+    Ok(())
+}
+
+/// A number comes again while its packet is the newest of its chain, in the middle and the oldest of it, and
+/// once more. 1, 1,025 and 2,049 stand on one chain, as 65,537, which has the sequence number 1.
+#[test]
+fn finds_numbers_kept_again(rt: HostRuntime) -> Result<(), Fail> {
+    let asked = [1, 1025, 2049, 2, 3073];
+    let again = [
+        [1, 1025, 2049, 2049],
+        [1, 1025, 2049, 1025],
+        [1, 1025, 2049, 1],
+        [1, 1025, 2049, 65537],
+        [1, 1, 1, 65537],
+        [1, 2, 1, 1025],
+    ];
+    for first in again.as_slice() {
+        for second in again.as_slice() {
+            let mut numbers = Vec::from_slice(rt.alloc(), first.as_slice())?;
+            numbers.extend_from_slice(second.as_slice())?;
+            numbers.extend_from_slice(first.as_slice())?;
+            for capacity in [1, 2, 3, 4, 5, 8, 100] {
+                let holds = agrees(
+                    rt.alloc(),
+                    capacity,
+                    numbers.as_slice(),
+                    0,
+                    asked.as_slice(),
+                )?;
+                assert!(rt; holds, "in a ring of {capacity}");
+            }
+        }
+    }
+    Ok(())
+}
+
+/// Numbers by chance, of few chains, in rings on both sides of the capacity from which there are more chains.
+#[test]
+fn agrees_with_a_list(rt: HostRuntime) -> Result<(), Fail> {
+    let mut numbers = Vec::new(rt.alloc());
+    let mut asked = Vec::new(rt.alloc());
+    let mut chance = 1u64;
+    for _ in 0..3000 {
+        chance = chance
+            .wrapping_mul(6364136223846793005)
+            .wrapping_add(1442695040888963407);
+        let drawn = chance >> 33;
+        numbers.push((drawn % 80) * 1024 + drawn / 80 % 5)?;
+    }
+    for row in 0u16..64 {
+        for column in 0u16..5 {
+            asked.push(row * 1024 + column)?;
+        }
+    }
+    for capacity in [1, 7, 64, 65, 512] {
+        let holds = agrees(
+            rt.alloc(),
+            capacity,
+            numbers.as_slice(),
+            2900,
+            asked.as_slice(),
+        )?;
+        assert!(rt; holds, "in a ring of {capacity}");
+    }
+    Ok(())
+}
+
+/// A ring of 126 packets wants 4,032 bytes for them, then 252 for their links, then 2,048 for the heads. The
+/// memory comes in chunks, of which the first is full of the packets. A ring of 512 wants 16 KiB and 3 KiB, one
+/// of 8 wants 528 bytes in all.
 #[test]
 fn refused_without_memory(rt: HostRuntime) -> Result<(), Fail> {
-    for (limit, is_made) in [
-        (0, false),
-        (10_000, false),
-        (100_000, false),
-        (1_000_000, true),
+    for (capacity, limit, taken, is_made) in [
+        (126, 0, 0, false),
+        (126, 4_000, 0, false),
+        (126, 4_100, 4_032, false),
+        (126, 5_000, 4_032 + 252, false),
+        (126, 10_000, 4_032 + 252 + 2_048, true),
+        (8, 1_000, 528, true),
+        (512, 20_480, 16_384 + 3_072, true),
     ] {
         let bump = Bump::new(rt.alloc());
         bump.set_allocation_limit(Some(limit));
-        let made = Ring::new(&bump, MAX_CAPACITY).is_ok();
-        assert_eq!(rt; made, is_made, "in {limit} bytes");
+        let made = Ring::new(&bump, capacity).is_ok();
+        assert_eq!(rt; made, is_made, "{capacity} packets in {limit} bytes");
+        let bytes = bump.allocated_bytes();
+        assert!(rt;
+            taken <= bytes && bytes <= limit,
+            "{bytes} of {limit} bytes"
+        );
     }
     Ok(())
 }
