@@ -1,0 +1,6 @@
+pub mod Numbers
+pub mod First
+pub mod Order
+pub mod Renumbering
+pub mod Answer
+pub mod Verdict
