@@ -20,10 +20,10 @@ use events::{Event, Out, RunFault};
 use std::alloc::AllocError;
 
 /// Does the events in order, and appends what goes out. For want of memory it stops before an event, and nothing of that one was
-/// done. Whatever was done, in one call or several from a new world on: each publisher's desk announces the smallest set of the
-/// requests that all its calls leave live, and so do the effects that are told (`announced`); no request of a stay whose depart was
-/// done is live (`ended`); and where nothing is left to do, no job was given up and no history was full, each live request is the
-/// word that was heard last in the stay that stands (`quiet`).
+/// done. Whatever was done since the world was new, in however many calls: each publisher's desk announces the smallest set of the
+/// requests that all its calls leave live, and so do the effects that are told (`announced`); once the depart of a stay is done,
+/// nothing that was asked for in it is live (`ended`); and if nothing is left to do, no job was given up and no history was full,
+/// each live request is the word that was heard last in the stay that stands (`quiet`).
 pub fn run(world: &mut World, events: &[Event], outs: &mut Vec<Out>) -> Result<(), RunFault>
     ensures ok { OnOk result (HasRun events.now world.old outs.old.items world.new outs.new.items) }
     ensures announced { AnnouncesOverRuns (events_done result events.now) world.old outs.old.items
