@@ -16,11 +16,14 @@ use Rattle.members.specs.Calls.{Call as RoomCall, Tick, room_after}
 use Rattle.core_steps.specs.declared.ticking.Due.TheVariants as due
 use Rattle.intake.specs.declared.intake.Ask.{Ask}
 use Rattle.intake.specs.declared.intake.Ask.TheVariants.{Rate, Resend as Again, Picture}
+use Rattle.events.specs.declared.job.Job.{Job}
 use Rattle.events.specs.declared.job.Job.TheVariants as job
 use Rattle.events.specs.declared.output.Out.{Out}
 use Rattle.core_steps.specs.declared.tasks.FollowUp.{FollowUp}
-use Rattle.core_steps.specs.declared.tasks.FollowUp.TheVariants.{Packet, LegReport}
-use Rattle.core_steps.specs.FollowUps.{due_at, due_to, packet_to, report_to, asked_of, follow_up_on, follow_up_for, refusal_unless}
+use Rattle.core_steps.specs.declared.tasks.FollowUp.TheVariants.{Push}
+use Rattle.core_steps.specs.declared.seed.Seed.TheVariants as seed
+use Rattle.core_steps.specs.Seed.{job_of}
+use Rattle.core_steps.specs.FollowUps.{due_at, due_to, packet_to, report_to, seed_by, follow_up_on, follow_up_for, refusal_unless}
 use Rattle.core_steps.specs.Happening.{Happening, giving, capped_count, world_after}
 use Rattle.core_steps.specs.Hearing.{ticking, numbers_below, leg_stay, owner_of, is_served_by, media_of, leg_report, task_for, task_on, refusal_for, job_by}
 use Rattle.settings.specs.Links.{LinkTable, leg_to, worker_of}
@@ -212,11 +215,10 @@ flat_filter {X} {Y} f h g e (x ∷ xs) = flat_cons (h x) (filter_map h xs) ∙ a
     flat_cons None ys = refl
     flat_cons (Some y) ys = refl
 
-asked_is : (bits : List ℕ) (moment worker leg stay : ℕ) (a : Ask)
-    → task_of bits (asked_of moment worker leg stay a) ≡ push worker (job_by moment leg stay a)
-asked_is bits moment worker leg stay (Rate source word) = refl
-asked_is bits moment worker leg stay (Again source nack) = refl
-asked_is bits moment worker leg stay (Picture source) = refl
+asked_is : (bits : List ℕ) (moment leg stay : ℕ) (a : Ask) → job_of bits (seed_by moment leg stay a) ≡ job_by moment leg stay a
+asked_is bits moment leg stay (Rate source word) = refl
+asked_is bits moment leg stay (Again source nack) = refl
+asked_is bits moment leg stay (Picture source) = refl
 
 some_unless : {Y Z : Type 0} (f : Y → Z) (b : Bool) (y : Y) (z : Z) → f y ≡ z
     → option_map f (if b then None else Some y) ≡ (if b then None else Some z)
@@ -227,8 +229,9 @@ follow_is : (bits : List ℕ) (t : LinkTable) (r : RoomState) (a : Ask) (o : Opt
     → option_map (task_of bits) (follow_up_on t r a o) ≡ task_on t r a o
 follow_is bits t r a None = refl
 follow_is bits t r a (Some leg) =
-    some_unless (task_of bits) (leg_stay r leg == 0) (asked_of r.moment (owner_of t leg) leg (leg_stay r leg) a)
-    (push (owner_of t leg) (job_by r.moment leg (leg_stay r leg) a)) (asked_is bits r.moment (owner_of t leg) leg (leg_stay r leg) a)
+    some_unless (task_of bits) (leg_stay r leg == 0) (Push (owner_of t leg) (seed_by r.moment leg (leg_stay r leg) a))
+    (push (owner_of t leg) (job_by r.moment leg (leg_stay r leg) a))
+    (ap (λ (j : Job). push (owner_of t leg) j) (asked_is bits r.moment leg (leg_stay r leg) a))
 
 pub asks_follow : (bits : List ℕ) (t : LinkTable) (r : RoomState) (endpoint : ℕ) (asks : List Ask)
     → map (task_of bits) (filter_map (follow_up_for t r endpoint) asks) ≡ filter_map (task_for t r endpoint) asks
@@ -262,7 +265,7 @@ pub packets_follow : (bits : List ℕ) (t : LinkTable) (r : RoomState) (publishe
     → map (task_of bits) (filter_map (packet_to t r publisher) ns)
     ≡ map (λ w. push w (job.Packet publisher bits)) (filter (is_served_by t r publisher) ns)
 packets_follow bits t r publisher ns =
-    when_map (task_of bits) (is_served_by t r publisher) (λ w. Packet w publisher) (λ w. push w (job.Packet publisher bits)) (λ n. refl) ns
+    when_map (task_of bits) (is_served_by t r publisher) (λ w. Push w (seed.Packet publisher)) (λ w. push w (job.Packet publisher bits)) (λ n. refl) ns
 
 unless_list : {Y Z : Type 0} (f : Y → Z) (b : Bool) (y : Y) (z : Z) → f y ≡ z
     → map f (option_to_list (if b then None else Some y)) ≡ (if b then [] else z ∷ [])
@@ -276,7 +279,7 @@ leg_reports_follow bits t r es = flat_filter (task_of bits) (report_to t r) (leg
     one : (e : ℕ × LegSettings) → map (task_of bits) (option_to_list (report_to t r e)) ≡ leg_report t r e
     one (leg, l) =
         unless_list (task_of bits) (leg_stay r leg == 0)
-        (LegReport (worker_of t l) leg (leg_stay r leg) (timestamps_of (reception_at r l.publisher).report))
+        (Push (worker_of t l) (seed.Report leg (leg_stay r leg) (timestamps_of (reception_at r l.publisher).report)))
         (push (worker_of t l) (job.Report leg (leg_stay r leg) (timestamps_of (reception_at r l.publisher).report))) refl
 
 pub tasks_from : (bits : List ℕ) (orders : List Order) (follow_ups : List FollowUp) (done done' : ℕ) → done ≡ 0 → done' ≡ 0

@@ -13,7 +13,9 @@ use Rattle.events.specs.declared.output.Out.{Out}
 use Rattle.events.specs.declared.output.Out.TheVariants.{Refused}
 use Rattle.events.specs.declared.output.Refusal.TheVariants.{Room}
 use Rattle.core_steps.specs.declared.tasks.FollowUp.{FollowUp}
-use Rattle.core_steps.specs.declared.tasks.FollowUp.TheVariants.{Packet, Request, Resend, Pli, LegReport, Pulse, Expire, Report}
+use Rattle.core_steps.specs.declared.tasks.FollowUp.TheVariants.{Push, Pulse, Expire, Report}
+use Rattle.core_steps.specs.declared.seed.Seed.{Seed}
+use Rattle.core_steps.specs.declared.seed.Seed.TheVariants as seed
 use Rattle.settings.specs.Links.{LinkTable, leg_to, worker_of}
 use Rattle.core_steps.specs.Hearing.{leg_stay, owner_of, is_served_by, media_of}
 
@@ -29,25 +31,26 @@ due_to r d endpoint = if is_present_at r.endpoints endpoint then Some (due_at d 
 -- the datagram goes to a worker that serves the publisher
 abbrev pub packet_to : LinkTable → RoomState → ℕ → ℕ → Option FollowUp
 packet_to t r publisher worker =
-    if is_served_by t r publisher worker then Some (Packet worker publisher) else None
+    if is_served_by t r publisher worker then Some (Push worker (seed.Packet publisher)) else None
 
 -- the report to a leg's subscriber, where a stay stands
 abbrev pub report_to : LinkTable → RoomState → ℕ × LegSettings → Option FollowUp
 report_to t r (leg, l) =
     if leg_stay r leg == 0 then None
-    else Some (LegReport (worker_of t l) leg (leg_stay r leg)
-    (timestamps_of (reception_at r l.publisher).report))
+    else Some (Push (worker_of t l) (seed.Report leg (leg_stay r leg)
+    (timestamps_of (reception_at r l.publisher).report)))
 
-abbrev pub asked_of : ℕ → ℕ → ℕ → ℕ → Ask → FollowUp
-asked_of moment worker leg stay (Rate source word) = Request worker leg stay word
-asked_of moment worker leg stay (Again source nack) = Resend worker leg stay nack
-asked_of moment worker leg stay (Picture source) = Pli worker leg moment
+-- what an ask about a leg in which this stay stands becomes
+abbrev pub seed_by : ℕ → ℕ → ℕ → Ask → Seed
+seed_by moment leg stay (Rate source word) = seed.Request leg stay word
+seed_by moment leg stay (Again source nack) = seed.Resend leg stay nack
+seed_by moment leg stay (Picture source) = seed.Pli leg moment
 
 abbrev pub follow_up_on : LinkTable → RoomState → Ask → Option ℕ → Option FollowUp
 follow_up_on t r a None = None
 follow_up_on t r a (Some leg) =
     if leg_stay r leg == 0 then None
-    else Some (asked_of r.moment (owner_of t leg) leg (leg_stay r leg) a)
+    else Some (Push (owner_of t leg) (seed_by r.moment leg (leg_stay r leg) a))
 
 -- what follows from an ask of this endpoint
 abbrev pub follow_up_for : LinkTable → RoomState → ℕ → Ask → Option FollowUp

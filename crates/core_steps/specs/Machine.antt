@@ -1,7 +1,6 @@
 -- The world that the machine's parts stand for.
 use Rattle.std.specs.Prelude.{ℕ, List, ◌++◌, map, drop, Option, option_map}
 use Rattle.desk.specs.declared.effect.Effect.{Effect}
-use Rattle.events.specs.declared.job.Job.TheVariants as job
 use Rattle.core_steps.specs.declared.machine.Machine.{Machine}
 use Rattle.core_steps.specs.declared.machine.Setup.{Setup as SetupParts}
 use Rattle.core_steps.specs.declared.machine.Worker.{Worker}
@@ -12,17 +11,14 @@ use Rattle.core_steps.specs.declared.tasks.Tasks.{Tasks}
 use Rattle.core_steps.specs.declared.tasks.FollowUp.{FollowUp}
 use Rattle.core_steps.specs.declared.tasks.NextTask.{NextTask}
 use Rattle.core_steps.specs.declared.tasks.NextTask.TheVariants.{Order as AnOrder, FollowUp as Follows}
-use Rattle.core_steps.specs.declared.tasks.FollowUp.TheVariants.{Packet, Request, Resend, Pli, LegReport, Pulse, Expire, Report}
+use Rattle.core_steps.specs.declared.tasks.FollowUp.TheVariants.{Push, Pulse, Expire, Report}
+use Rattle.core_steps.specs.Seed.{job_of}
 use Rattle.core_steps.specs.World.{Setup, Task, order, push, pulse, expire, report, Hand, free, doing, telling, WorkerState, WorldState}
 use Rattle.notices.specs.Notification.{Pending, pending_with}
 
 -- the task that follows, where the datagram has these bytes
 abbrev pub task_of : List ℕ → FollowUp → Task
-task_of bytes (Packet worker publisher) = push worker (job.Packet publisher bytes)
-task_of bytes (Request worker leg stay word) = push worker (job.Request leg stay word)
-task_of bytes (Resend worker leg stay nack) = push worker (job.Resend leg stay nack)
-task_of bytes (Pli worker leg moment) = push worker (job.Pli leg moment)
-task_of bytes (LegReport worker leg stay sr) = push worker (job.Report leg stay sr)
+task_of bytes (Push worker seed) = push worker (job_of bytes seed)
 task_of bytes (Pulse publisher) = pulse publisher
 task_of bytes (Expire publisher) = expire publisher
 task_of bytes (Report publisher) = report publisher

@@ -1,7 +1,6 @@
 //! What the ingress takes in, for a driver that does itself what follows.
 
 ghost use Rattle.std.specs.Prelude.{◌≡◌, IfOk, OnOk, OnErr};
-ghost use Rattle.core_steps.specs.declared.duties.Duty.TheVariants.{Push};
 ghost use Rattle.events.specs.declared.event.Event.TheVariants.{Tick};
 ghost use Rattle.core_steps.specs.declared.tasks.NextTask.TheVariants.{FollowUp as AFollowUp};
 ghost use Rattle.core_steps.specs.Duties.{task_by};
@@ -13,6 +12,7 @@ use crate::hearing::{hear, select};
 use crate::ingress::report_on;
 use crate::machine::{Machine, Setup};
 use crate::runner::busy;
+use crate::seed::job_of;
 use crate::tasks::{FollowUp, NextTask, Tasks};
 use crate::ticking::tick;
 use desk::Effect;
@@ -230,42 +230,12 @@ fn duty_that_follows(alloc: Global, datagram: &[u8], next: FollowUp) -> Result<D
     ensures { IfOk result (λ duty. task_by duty ≡ task_in datagram.now (AFollowUp next)) }
 {
     Ok(match next {
-        FollowUp::Packet { worker, publisher } => {
-            let bytes = Bytes::copy_of(alloc, datagram)?;
-            push(worker, Job::Packet { publisher, bytes })
-        }
-        FollowUp::Request {
+        FollowUp::Push { worker, seed } => Duty::Push {
             worker,
-            leg,
-            stay,
-            word,
-        } => push(worker, Job::Request { leg, stay, word }),
-        FollowUp::Resend {
-            worker,
-            leg,
-            stay,
-            nack,
-        } => push(worker, Job::Resend { leg, stay, nack }),
-        FollowUp::Pli {
-            worker,
-            leg,
-            moment,
-        } => push(worker, Job::Pli { leg, moment }),
-        FollowUp::LegReport {
-            worker,
-            leg,
-            stay,
-            sr,
-        } => push(worker, Job::Report { leg, stay, sr }),
+            job: job_of(alloc, datagram, seed)?,
+        },
         FollowUp::Pulse(publisher) => Duty::Pulse(publisher),
         FollowUp::Expire(publisher) => Duty::Expire(publisher),
         FollowUp::Report(publisher) => Duty::Report(publisher),
     })
-}
-
-/// The worker of this number gets the job.
-fn push(worker: u16, job: Job) -> Duty
-    ensures { result ≡ Push worker job }
-{
-    Duty::Push { worker, job }
 }

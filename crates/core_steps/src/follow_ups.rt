@@ -3,9 +3,10 @@
 ghost use Rattle.std.specs.Prelude.{◌≡◌, ◌+◌, ◌≤◌, ◌<◌, ◌++◌, length, vec_len, vec_capacity};
 ghost use Rattle.std.specs.List.{filter_map, flat_map};
 ghost use Rattle.std.specs.Option.{option_to_list};
-ghost use Rattle.core_steps.specs.FollowUps.{packet_to, asked_of, follow_up_for, refusal_unless};
+ghost use Rattle.core_steps.specs.FollowUps.{packet_to, seed_by, follow_up_for, refusal_unless};
 ghost use Rattle.core_steps.specs.Hearing.{is_served_by, numbers_below, owner_of, media_of};
 
+use crate::seed::Seed;
 use crate::tasks::FollowUp;
 use events::{Out, Refusal};
 use intake::Ask;
@@ -35,7 +36,10 @@ fn packet_to(links: &Links, room: &Room, publisher: u16, worker: u16) -> Option<
     ensures { result ≡ packet_to links.now room.now publisher worker }
 {
     if is_served_by(links, room, publisher, worker) {
-        Some(FollowUp::Packet { worker, publisher })
+        Some(FollowUp::Push {
+            worker,
+            seed: Seed::Packet { publisher },
+        })
     } else {
         None
     }
@@ -106,7 +110,10 @@ fn follow_up(links: &Links, room: &Room, endpoint: u16, ask: &Ask) -> Option<Fol
     if stay == 0 {
         return None;
     }
-    Some(asked_of(room.moment(), owner_of(links, leg), leg, stay, ask))
+    Some(FollowUp::Push {
+        worker: owner_of(links, leg),
+        seed: seed_by(room.moment(), leg, stay, ask),
+    })
 }
 
 /// Whose media an ask is about.
@@ -120,28 +127,22 @@ fn media_of(ask: &Ask) -> Ssrc
     }
 }
 
-/// The job for an ask about a leg in which this stay stands.
-fn asked_of(moment: u64, worker: u16, leg: u16, stay: u64, ask: &Ask) -> FollowUp
-    ensures { result ≡ asked_of moment worker leg stay ask.now }
+/// What an ask about a leg in which this stay stands becomes.
+fn seed_by(moment: u64, leg: u16, stay: u64, ask: &Ask) -> Seed
+    ensures { result ≡ seed_by moment leg stay ask.now }
 {
     match ask {
-        Ask::Rate { word, .. } => FollowUp::Request {
-            worker,
+        Ask::Rate { word, .. } => Seed::Request {
             leg,
             stay,
             word: *word,
         },
-        Ask::Resend { nack, .. } => FollowUp::Resend {
-            worker,
+        Ask::Resend { nack, .. } => Seed::Resend {
             leg,
             stay,
             nack: *nack,
         },
-        Ask::Picture { .. } => FollowUp::Pli {
-            worker,
-            leg,
-            moment,
-        },
+        Ask::Picture { .. } => Seed::Pli { leg, moment },
     }
 }
 

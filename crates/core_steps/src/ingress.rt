@@ -3,7 +3,6 @@
 ghost use Rattle.std.specs.Prelude.{◌≡◌, ◌<◌, ◌++◌, ◌∷◌, [], None, Some, nat_le, length, if◌then◌else◌, map, slice_get, slice_set, vec_len, vec_capacity, IfOk, OnOk, OnErr};
 ghost use Rattle.desk.specs.Call.{HasStay};
 ghost use Rattle.desk.specs.declared.call.Call.TheVariants.{Time};
-ghost use Rattle.events.specs.declared.job.Job.TheVariants.{Packet};
 ghost use Rattle.notices.specs.DeskCalls.{stay_call};
 ghost use Rattle.core_steps.specs.Duties.{Reports};
 ghost use Rattle.core_steps.specs.Machine.{state_of, task_of, task_in, worker_state};
@@ -11,11 +10,13 @@ ghost use Rattle.notices.specs.Notification.{pending_with};
 ghost use Rattle.core_steps.specs.Pushing.{Pushed};
 ghost use Rattle.core_steps.specs.Rule.{AsksDesk, OrderAsks, DoesTask, DoesNext, IsReporting, pushing};
 ghost use Rattle.core_steps.specs.Run.{Leaves, Stays};
+ghost use Rattle.core_steps.specs.Seed.{job_of};
 ghost use Rattle.core_steps.specs.World.{Task, order as ordering};
 
 use crate::asking::ask;
 use crate::machine::{Machine, Worker};
 use crate::ring::{JOB_LIMIT, JobRing};
+use crate::seed::{Seed, job_of};
 use crate::tasks::{FollowUp, NextTask};
 use desk::{Call, Change, Signal};
 use events::{Bytes, Job, Out};
@@ -180,31 +181,8 @@ fn do_follow_up(m: &mut Machine, next: FollowUp, outs: &mut Vec<Out>) -> Result<
         (state_of m.new) outs.new.items) }
 {
     match next {
-        FollowUp::Packet { worker, publisher } => return push_packet(m, worker, publisher, outs),
+        FollowUp::Push { worker, seed } => return push_seed(m, worker, seed, outs),
         FollowUp::Report(publisher) => return report(m, publisher, outs),
-        FollowUp::Request {
-            worker,
-            leg,
-            stay,
-            word,
-        } => push(m, worker, Job::Request { leg, stay, word }, outs),
-        FollowUp::Resend {
-            worker,
-            leg,
-            stay,
-            nack,
-        } => push(m, worker, Job::Resend { leg, stay, nack }, outs),
-        FollowUp::Pli {
-            worker,
-            leg,
-            moment,
-        } => push(m, worker, Job::Pli { leg, moment }, outs),
-        FollowUp::LegReport {
-            worker,
-            leg,
-            stay,
-            sr,
-        } => push(m, worker, Job::Report { leg, stay, sr }, outs),
         FollowUp::Pulse(publisher) => signal(m, publisher, Signal::Tick, outs),
         FollowUp::Expire(publisher) => signal(m, publisher, Signal::Expire, outs),
     }
@@ -223,24 +201,24 @@ fn signal(m: &mut Machine, publisher: u16, signal: Signal, outs: &mut Vec<Out>)
     ask_desk(m, publisher, &Call::Time { moment, signal }, outs);
 }
 
-/// The worker gets the datagram as a packet of this publisher.
-fn push_packet(
+/// The worker gets the job of this seed.
+fn push_seed(
     m: &mut Machine,
     worker: u16,
-    publisher: u16,
+    seed: Seed,
     outs: &mut Vec<Out>,
 ) -> Result<(), AllocError>
     requires idle { m.old.pending ≡ None }
     requires room { vec_len outs.old < vec_capacity outs.old }
     ensures ok { OnOk result (Leaves
-        (λ h. h ≡ pushing (state_of m.old) worker (Packet publisher m.old.tasks.datagram.items)
+        (λ h. h ≡ pushing (state_of m.old) worker (job_of m.old.tasks.datagram.items seed)
         (slice_get (state_of m.old).workers worker))
         (state_of m.old) outs.old.items (state_of m.new) outs.new.items) }
     ensures err { OnErr result (Stays (state_of m.old) outs.old.items
         (state_of m.new) outs.new.items) }
 {
-    let bytes = Bytes::copy_of(m.alloc, m.tasks.datagram.as_slice())?;
-    push(m, worker, Job::Packet { publisher, bytes }, outs);
+    let job = job_of(m.alloc, m.tasks.datagram.as_slice(), seed)?;
+    push(m, worker, job, outs);
     Ok(())
 }
 

@@ -17,6 +17,7 @@ mod machine;
 pub mod quiet;
 mod ring;
 mod runner;
+mod seed;
 mod tasks;
 mod ticking;
 mod working;

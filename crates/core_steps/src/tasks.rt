@@ -1,7 +1,7 @@
 //! What waits for the ingress.
 
+use crate::seed::Seed;
 use members::Order;
-use rtcp_feedback::Nack;
 use std::alloc::{AllocError, Global};
 
 /// What waits for the ingress, oldest first: orders of the room; then what follows from the datagram or the moment that was
@@ -15,42 +15,15 @@ pub(crate) struct Tasks {
     pub(crate) follow_ups: Vec<FollowUp>,
     /// How many of the follow-ups are done.
     pub(crate) follow_ups_done: usize,
-    /// The datagram that `FollowUp::Packet` is about.
+    /// The datagram that a packet to be pushed is of.
     pub(crate) datagram: Vec<u8>,
 }
 
 /// What follows from a datagram or a moment.
 #[derive(Clone, Copy, Debug, PartialEq, Eq)]
 pub(crate) enum FollowUp {
-    /// The worker gets the datagram as a packet of this publisher.
-    Packet {
-        worker: u16,
-        publisher: u16,
-    },
-    /// The worker gets this job.
-    Request {
-        worker: u16,
-        leg: u16,
-        stay: u64,
-        word: u32,
-    },
-    Resend {
-        worker: u16,
-        leg: u16,
-        stay: u64,
-        nack: Nack,
-    },
-    Pli {
-        worker: u16,
-        leg: u16,
-        moment: u64,
-    },
-    LegReport {
-        worker: u16,
-        leg: u16,
-        stay: u64,
-        sr: Option<(u64, u32)>,
-    },
+    /// The worker gets the job of this seed.
+    Push { worker: u16, seed: Seed },
     /// The desk of this publisher is told the moment, for its PLIs.
     Pulse(u16),
     /// The desk of this publisher is told the moment, for requests that are too old.

@@ -11,6 +11,7 @@ ghost use Rattle.core_steps.specs.Run.{Leaves};
 
 use crate::follow_ups::push_some;
 use crate::machine::{Machine, Setup};
+use crate::seed::Seed;
 use crate::tasks::FollowUp;
 use members::Room;
 use settings::{LegSettings, Links};
@@ -163,10 +164,9 @@ fn report_to(links: &Links, room: &Room, leg: u16, settings: &LegSettings) -> Op
     if stay == 0 {
         return None;
     }
-    Some(FollowUp::LegReport {
+    let sr = room.last_sr(settings.publisher);
+    Some(FollowUp::Push {
         worker: links.worker_of(settings),
-        leg,
-        stay,
-        sr: room.last_sr(settings.publisher),
+        seed: Seed::Report { leg, stay, sr },
     })
 }

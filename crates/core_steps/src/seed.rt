@@ -1,0 +1,51 @@
+//! Jobs that wait to be pushed.
+
+ghost use Rattle.std.specs.Prelude.{◌≡◌, IfOk};
+ghost use Rattle.core_steps.specs.Seed.{job_of};
+
+use events::{Bytes, Job};
+use rtcp_feedback::Nack;
+use std::alloc::{AllocError, Global};
+
+/// A job that waits to be pushed, without the bytes of its packet: those are the datagram's, which is kept once for all workers.
+#[derive(Clone, Copy, Debug, PartialEq, Eq)]
+pub(crate) enum Seed {
+    Packet {
+        publisher: u16,
+    },
+    Request {
+        leg: u16,
+        stay: u64,
+        word: u32,
+    },
+    Resend {
+        leg: u16,
+        stay: u64,
+        nack: Nack,
+    },
+    Pli {
+        leg: u16,
+        moment: u64,
+    },
+    Report {
+        leg: u16,
+        stay: u64,
+        sr: Option<(u64, u32)>,
+    },
+}
+
+/// The job of this seed, if the datagram has these bytes; a packet takes a copy of them.
+pub(crate) fn job_of(alloc: Global, datagram: &[u8], seed: Seed) -> Result<Job, AllocError>
+    ensures { IfOk result (λ job. job ≡ job_of datagram.now seed) }
+{
+    Ok(match seed {
+        Seed::Packet { publisher } => Job::Packet {
+            publisher,
+            bytes: Bytes::copy_of(alloc, datagram)?,
+        },
+        Seed::Request { leg, stay, word } => Job::Request { leg, stay, word },
+        Seed::Resend { leg, stay, nack } => Job::Resend { leg, stay, nack },
+        Seed::Pli { leg, moment } => Job::Pli { leg, moment },
+        Seed::Report { leg, stay, sr } => Job::Report { leg, stay, sr },
+    })
+}
