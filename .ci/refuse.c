@@ -1,15 +1,20 @@
-// Refuses the process its REFUSEth request for memory, counted from 1, and no other one.
+// Refuses a process its REFUSEth request for memory, counted from 1, and no other one; the file REFUSED is made where it was met.
 #define _GNU_SOURCE
 #include <dlfcn.h>
 #include <errno.h>
+#include <fcntl.h>
 #include <stdatomic.h>
 #include <stddef.h>
 #include <stdlib.h>
+#include <unistd.h>
 
 static int refused(void) {
     static atomic_long count;
     const char *nth = getenv("REFUSE");
-    return nth && atomic_fetch_add(&count, 1) + 1 == atol(nth);
+    if (!nth || atomic_fetch_add(&count, 1) + 1 != atol(nth)) return 0;
+    const char *met = getenv("REFUSED");
+    if (met) close(open(met, O_CREAT | O_WRONLY, 0600));
+    return 1;
 }
 
 void *malloc(size_t size) {
