@@ -24,20 +24,3 @@ mod zero_rates;
 
 pub use bounds::Bounds;
 pub use rows::{Full, LIVE_LIMIT};
-
-#[cfg(test)]
-mod examples;
-#[cfg(test)]
-mod implies_tests;
-#[cfg(test)]
-mod in_place_tests;
-#[cfg(test)]
-mod lists;
-#[cfg(test)]
-mod slow;
-#[cfg(test)]
-mod slow_certificate;
-#[cfg(test)]
-mod tests;
-#[cfg(test)]
-mod unsplice_tests;

@@ -15,6 +15,3 @@ pub use certificate::{Cert, Implied, Kept, MAX_REQUESTS};
 pub use checker::check;
 pub use fault::CertFault;
 pub use request::Request;
-
-#[cfg(test)]
-mod tests;

@@ -7,6 +7,3 @@ pub mod laws;
 mod ring;
 
 pub use ring::{MAX_CAPACITY, Ring};
-
-#[cfg(test)]
-mod tests;

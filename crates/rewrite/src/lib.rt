@@ -14,6 +14,3 @@ mod skip;
 pub use leg::Leg;
 pub use segment::NUMBER_LIMIT;
 pub use skip::Skip;
-
-#[cfg(test)]
-mod tests;

@@ -25,8 +25,3 @@ pub use report::{Block, Blocks};
 pub use unread::Packets;
 pub use view::RtcpView;
 pub use writer::{CNAME_LIMIT, ENTRY_LIMIT, write_bye, write_rr, write_sdes_cname, write_sr};
-
-#[cfg(test)]
-mod tests;
-#[cfg(test)]
-mod writer_tests;

@@ -18,8 +18,3 @@ pub use feedback::{Feedback, read_feedback};
 pub use nack::{Nack, Nacks, lost};
 pub use pli::write_pli;
 pub use tmmb::{MAX_ENTRIES, TmmbEntries, TmmbrEntry, write_tmmbn, write_tmmbr};
-
-#[cfg(test)]
-mod compound_tests;
-#[cfg(test)]
-mod tests;

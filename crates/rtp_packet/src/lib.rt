@@ -17,6 +17,3 @@ pub use fault::RtpFault;
 pub use header::SEQ_CYCLE;
 pub use sequence::{SEQ_REACH, extended_number};
 pub use view::RtpView;
-
-#[cfg(test)]
-mod tests;

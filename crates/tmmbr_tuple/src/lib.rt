@@ -13,6 +13,3 @@ pub use pair::Pair;
 pub use permission::permits;
 pub use ssrc::Ssrc;
 pub use tuple::Tuple;
-
-#[cfg(test)]
-mod tests;

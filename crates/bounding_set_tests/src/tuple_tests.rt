@@ -1,6 +1,6 @@
 //! Each public call on its happy path, by words of the examples.
-use super::*;
 use std::test::Fail;
+use tmmbr_tuple::*;
 
 #[test]
 fn word_of_example_1(rt: HostRuntime) -> Result<(), Fail> {

@@ -1,5 +1,5 @@
 //! Packets in, numbers out.
-use super::*;
+use rewrite::*;
 use std::process::Abort;
 use std::test::Fail;
 

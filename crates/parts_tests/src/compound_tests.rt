@@ -1,7 +1,7 @@
 //! Feedback in compound datagrams: what is written is split and read again, and each prefix of the examples'
 //! datagrams is read, or refused with its number.
-use super::*;
-use rtcp_compound::{RtcpView, split};
+use rtcp_compound::{Packets, RtcpView, split};
+use rtcp_feedback::*;
 use std::process::Abort;
 use std::test::Fail;
 use tmmbr_tuple::Ssrc;
@@ -12,7 +12,7 @@ const TUPLE: u32 = 0x0007_d028;
 /// The next packet, which is feedback of this FMT and type, as it is read.
 fn next_feedback<'a>(
     rt: &impl Abort,
-    packets: &mut rtcp_compound::Packets<'a>,
+    packets: &mut Packets<'a>,
     header: (u8, u8),
 ) -> Result<Feedback<'a>, Fail> {
     match packets.next().ok_or("a packet")? {

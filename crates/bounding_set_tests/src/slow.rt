@@ -6,8 +6,17 @@ use std::alloc::{AllocError, Global};
 /// The places of the announced requests, by rising overhead.
 pub fn canonical_places(alloc: Global, requests: &[Request]) -> Result<Vec<usize>, AllocError> {
     let mut places = Vec::new(alloc);
-    for (place, request) in requests.iter().enumerate() {
-        if is_announced(alloc, requests, request)? {
+    let one_stops_everything = requests.iter().any(stops_everything);
+    let one_stops_media = requests.iter().any(stops_media);
+    for (place, x) in requests.iter().enumerate() {
+        let is_announced = if one_stops_everything {
+            is_strictest_stop(requests, x)
+        } else if one_stops_media {
+            is_first_stop(requests, x) || is_of_least_reach(requests, x)
+        } else {
+            is_first_of_line(requests, x) && is_essential(alloc, requests, x)?
+        };
+        if is_announced {
             places.push(place)?;
         }
     }
@@ -15,40 +24,41 @@ pub fn canonical_places(alloc: Global, requests: &[Request]) -> Result<Vec<usize
     Ok(places)
 }
 
-fn is_announced(alloc: Global, requests: &[Request], x: &Request) -> Result<bool, AllocError> {
-    let stops_everything = |r: &Request| r.tuple.rate() == 0 && r.tuple.overhead > 0;
-    let stops_media = |r: &Request| r.tuple.rate() == 0;
-    if requests.iter().any(stops_everything) {
-        return Ok(
-            stops_everything(x)
-                && requests.iter().filter(|y| stops_everything(y)).all(|y| (
-                    y.tuple.overhead,
-                    x.owner,
-                ) <= (x.tuple.overhead, y.owner)),
-        );
-    }
-    if requests.iter().any(stops_media) {
-        if stops_media(x) {
-            return Ok(
-                requests
-                    .iter()
-                    .filter(|y| stops_media(y))
-                    .all(|y| x.owner <= y.owner),
-            );
-        }
-        return Ok(
-            x.tuple.overhead > 0
-                && requests
-                    .iter()
-                    .filter(|y| y.tuple.overhead > 0)
-                    .all(|y| reaches_first(x, y)),
-        );
-    }
-    let is_first = requests
+fn stops_everything(x: &Request) -> bool {
+    x.tuple.rate() == 0 && x.tuple.overhead > 0
+}
+
+fn stops_media(x: &Request) -> bool {
+    x.tuple.rate() == 0
+}
+
+/// Whether x stops everything, and is kept before each other that does: by overhead, then by owner.
+fn is_strictest_stop(requests: &[Request], x: &Request) -> bool {
+    let is_before = |y: &Request| (y.tuple.overhead, x.owner) <= (x.tuple.overhead, y.owner);
+    stops_everything(x)
+        && requests
+            .iter()
+            .all(|y| !stops_everything(y) || is_before(y))
+}
+
+fn is_first_stop(requests: &[Request], x: &Request) -> bool {
+    stops_media(x)
+        && requests
+            .iter()
+            .all(|y| !stops_media(y) || x.owner <= y.owner)
+}
+
+fn is_of_least_reach(requests: &[Request], x: &Request) -> bool {
+    x.tuple.overhead > 0
+        && requests
+            .iter()
+            .all(|y| y.tuple.overhead == 0 || reaches_first(x, y))
+}
+
+fn is_first_of_line(requests: &[Request], x: &Request) -> bool {
+    requests
         .iter()
-        .filter(|y| is_same_line(x, y))
-        .all(|y| x.owner <= y.owner);
-    Ok(is_first && is_essential(alloc, requests, x)?)
+        .all(|y| !is_same_line(x, y) || x.owner <= y.owner)
 }
 
 fn is_same_line(x: &Request, y: &Request) -> bool {

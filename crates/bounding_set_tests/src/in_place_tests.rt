@@ -1,34 +1,58 @@
 //! The envelope that is changed in place beside the plain walk over all rows.
-use super::*;
-use crate::laws::walk;
+ghost use Rattle.std.specs.Prelude.{◌≡◌, All};
+ghost use Rattle.bounding_set.specs.Canonical.{StopsMedia};
+
 use crate::lists::{Generator, KINDS, Kind};
+use crate::set_tests::{Step, assert_as_defined, play, printed, tuple_of_64};
+use crate::slow::canonical_places;
 use crate::slow_certificate::certificate;
-use crate::tests::{Step, assert_as_defined, play, printed, tuple_of_64};
-use crate::zero_rates::announce_stops;
 use arrayvec::ArrayVec;
-use rate_cert::Request;
+use bounding_set::Bounds;
+use bounding_set::laws::walk;
+use rate_cert::{MAX_REQUESTS, Request};
 use std::alloc::Global;
 use std::process::Abort;
 use std::test::Fail;
 use tmmbr_tuple::{Ssrc, Tuple};
 
-/// How many tests the plain walk takes over all rows; `None` where a rate is 0, and all rows are
-/// looked through for the stops. That way finds the announced requests, and their certificate is the
-/// same.
+/// Whether a rate is 0.
+fn has_stop(rows: &[Request]) -> bool
+    ensures { result ≡ false → All (λ r. ¬ StopsMedia r) rows.now }
+{
+    for row in rows {
+        if row.tuple.rate() == 0 {
+            return true;
+        }
+    }
+    false
+}
+
+/// The announced requests by the definition, to an empty list.
+fn put_defined(
+    alloc: Global,
+    rows: &[Request],
+    lines: &mut ArrayVec<Request, MAX_REQUESTS>,
+) -> Result<(), Fail> {
+    let places = canonical_places(alloc, rows)?;
+    for place in places.as_slice() {
+        lines.try_push(*rows.get(*place).ok_or("no row")?)?;
+    }
+    Ok(())
+}
+
+/// How many tests the plain walk takes over all rows; `None` where a rate is 0, and the definition is asked
+/// instead. That way finds the announced requests, and their certificate is the same.
 fn assert_as_walked(rt: &impl Abort, alloc: Global, bounds: &Bounds) -> Result<Option<u32>, Fail> {
     let rows = bounds.rows();
-    let mut stops = ArrayVec::new();
     let mut lines = ArrayVec::new();
     let mut count = 0;
-    let is_stopped = announce_stops(rows, &mut stops);
-    if !is_stopped {
+    let is_stopped = has_stop(rows);
+    if is_stopped {
+        put_defined(alloc, rows, &mut lines)?;
+    } else {
         walk(rows, &mut lines, &mut count);
     }
-    let announced = if is_stopped {
-        stops.as_slice()
-    } else {
-        lines.as_slice()
-    };
+    let announced = lines.as_slice();
     assert_eq!(rt; bounds.announced().as_slice(), announced, "{rows:?}");
     let mut places = Vec::new(alloc);
     for line in announced {

@@ -1,8 +1,10 @@
 //! Each public call on its happy path, and bodies built by hand from RFC 4585, sections 6.1, 6.2.1 and
 //! 6.3.1, and RFC 5104, sections 4.2.1 and 4.2.2.
-use super::*;
+ghost use Rattle.std.specs.Prelude.{◌≤◌, length};
+
 use bumpalo::Bump;
-use std::alloc::{AllocError, Allocator};
+use rtcp_feedback::*;
+use std::alloc::{AllocError, Allocator, Global};
 use std::process::Abort;
 use std::test::Fail;
 use tmmbr_tuple::Ssrc;
@@ -88,21 +90,48 @@ fn lost_of_example_15(rt: HostRuntime) {
     }
 }
 
+/// A list that begins with one byte, to which a writer appends.
+fn begun(alloc: Global) -> Result<Vec<u8>, AllocError> {
+    Ok(vec![in alloc; 7]?)
+}
+
+fn tmmbn_written(
+    rt: &impl Abort,
+    alloc: Global,
+    entries: &[TmmbrEntry],
+    packet: &[u8],
+) -> Result<(), AllocError>
+    requires { length entries.now ≤ MAX_ENTRIES }
+{
+    let mut out = begun(alloc)?;
+    let answer = write_tmmbn(&mut out, Ssrc(1), entries);
+    written(rt, &out, answer, packet)
+}
+
+fn tmmbr_written(rt: &impl Abort, alloc: Global) -> Result<(), AllocError> {
+    let mut out = begun(alloc)?;
+    let answer = write_tmmbr(&mut out, Ssrc(17), &[entry(16, TUPLE)]);
+    written(rt, &out, answer, &TMMBR)
+}
+
+fn pli_written(rt: &impl Abort, alloc: Global) -> Result<(), AllocError> {
+    let mut out = begun(alloc)?;
+    let answer = write_pli(&mut out, Ssrc(9), Ssrc(16));
+    written(rt, &out, answer, &PLI)
+}
+
 #[test]
 fn writers_read_again(rt: HostRuntime) -> Result<(), Fail> {
-    let mut out = vec![in rt.alloc(); 7]?;
-    let answer = write_tmmbn(&mut out, Ssrc(1), &[entry(17, TUPLE)]);
-    written(&rt, &out, answer, &TMMBN)?;
-    let mut out = vec![in rt.alloc(); 7]?;
-    let answer = write_tmmbn(&mut out, Ssrc(1), &[]);
-    written(&rt, &out, answer, &EMPTY_TMMBN)?;
-    let mut out = vec![in rt.alloc(); 7]?;
-    let answer = write_tmmbr(&mut out, Ssrc(17), &[entry(16, TUPLE)]);
-    written(&rt, &out, answer, &TMMBR)?;
-    let mut out = vec![in rt.alloc(); 7]?;
-    let answer = write_pli(&mut out, Ssrc(9), Ssrc(16));
-    written(&rt, &out, answer, &PLI)?;
+    tmmbn_written(&rt, rt.alloc(), &[entry(17, TUPLE)], &TMMBN)?;
+    tmmbn_written(&rt, rt.alloc(), &[], &EMPTY_TMMBN)?;
+    tmmbr_written(&rt, rt.alloc())?;
+    pli_written(&rt, rt.alloc())?;
+    written_are_read(&rt);
+    Ok(())
+}
 
+/// The packets say again what was written.
+fn written_are_read(rt: &impl Abort) {
     match read(&TMMBN) {
         Ok(
             Feedback::Tmmbn {
@@ -136,7 +165,6 @@ fn writers_read_again(rt: HostRuntime) -> Result<(), Fail> {
             media: Ssrc(16)
         })
     );
-    Ok(())
 }
 
 #[test]

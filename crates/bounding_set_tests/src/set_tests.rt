@@ -1,11 +1,11 @@
 //! The worked examples, the greatest number of live requests, and the definition on many lists.
-use super::*;
 use crate::examples::{
     EXAMPLE_4, EXAMPLES, Example, LEFT_OF_EXAMPLE_4, NO_REQUEST, SAME_LINE_TWICE, STOPS,
 };
 use crate::lists::{Generator, KINDS};
 use crate::slow::canonical_places;
 use crate::slow_certificate::certificate;
+use bounding_set::{Bounds, Full};
 use rate_cert::{Request, check};
 use std::alloc::{AllocError, Global};
 use std::process::Abort;

@@ -1,6 +1,6 @@
 //! What comes back where a line goes, worked out by hand.
-use super::*;
-use crate::tests::{Step, play};
+use crate::set_tests::{Step, play};
+use bounding_set::Bounds;
 use rate_cert::Request;
 use std::test::Fail;
 use tmmbr_tuple::{Ssrc, Tuple};

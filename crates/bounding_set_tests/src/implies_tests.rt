@@ -1,5 +1,5 @@
 //! Whether two tuples imply a third, worked out by hand.
-use crate::implies::implies;
+use bounding_set::laws::implies;
 use std::test::Fail;
 use tmmbr_tuple::Tuple;
 

@@ -1,5 +1,5 @@
 //! Datagrams of the examples, and one of each fault.
-use super::*;
+use rtcp_compound::*;
 use std::alloc::{AllocError, Global};
 use std::test::Fail;
 use tmmbr_tuple::Ssrc;

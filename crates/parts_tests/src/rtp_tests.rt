@@ -1,5 +1,5 @@
 //! Each public call on its happy path, and datagrams built by hand from RFC 3550, sections 5.1 and 5.3.1.
-use super::*;
+use rtp_packet::*;
 use std::test::Fail;
 use tmmbr_tuple::Ssrc;
 

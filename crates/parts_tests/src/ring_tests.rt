@@ -1,9 +1,9 @@
 //! Packets in, packets found and pushed out.
 ghost use Rattle.std.specs.Prelude.{◌≤◌};
 
-use super::*;
 use bumpalo::Bump;
-use std::alloc::Global;
+use resend_ring::*;
+use std::alloc::{AllocError, Global};
 use std::test::Fail;
 
 /// A ring of this capacity that kept these numbers in turn, each with its number as its bytes, and the
@@ -22,19 +22,28 @@ fn kept(alloc: Global, capacity: usize, numbers: &[u64]) -> Result<(Ring, Vec<u6
     Ok((ring, left))
 }
 
+/// Keeps a packet with its number as its bytes.
+fn keep(ring: &mut Ring, alloc: Global, number: u64) -> Result<(), AllocError> {
+    let bytes = number.to_be_bytes().to_vec(alloc)?;
+    let _left = ring.keep(number, bytes);
+    Ok(())
+}
+
+/// Whether the packet with this sequence number is found, and its bytes are this number.
+fn finds(ring: &Ring, seq: u16, number: u64) -> bool {
+    match ring.find(seq) {
+        Some(bytes) => bytes == number.to_be_bytes().as_slice(),
+        None => false,
+    }
+}
+
 #[test]
 fn finds_of_example_15(rt: HostRuntime) -> Result<(), Fail> {
     let (ring, left) = kept(rt.alloc(), 2, &[65534, 65535, 65536])?;
     assert_eq!(rt; left.as_slice(), [65534].as_slice());
     assert!(rt; ring.find(65534).is_none());
-    assert_eq!(rt;
-        ring.find(65535).ok_or("kept")?,
-        65535u64.to_be_bytes().as_slice()
-    );
-    assert_eq!(rt;
-        ring.find(0).ok_or("kept")?,
-        65536u64.to_be_bytes().as_slice()
-    );
+    assert!(rt; finds(&ring, 65535, 65535));
+    assert!(rt; finds(&ring, 0, 65536));
     Ok(())
 }
 
@@ -46,10 +55,7 @@ fn finds_the_latest_of_two(rt: HostRuntime) -> Result<(), Fail> {
     // 65638 is 102 after a wrap.
     let (ring, left) = kept(rt.alloc(), 2, &[100, 101, 102, 65638])?;
     assert_eq!(rt; left.as_slice(), [100, 101].as_slice());
-    assert_eq!(rt;
-        ring.find(102).ok_or("kept")?,
-        65638u64.to_be_bytes().as_slice()
-    );
+    assert!(rt; finds(&ring, 102, 65638));
     Ok(())
 }
 
@@ -64,10 +70,7 @@ fn keeps_round_every_wrap(rt: HostRuntime) -> Result<(), Fail> {
             assert!(rt; ring.find((number % 65536) as u16).is_none());
         }
         for number in first + 2..first + 5 {
-            assert_eq!(rt;
-                ring.find((number % 65536) as u16).ok_or("kept")?,
-                number.to_be_bytes().as_slice()
-            );
+            assert!(rt; finds(&ring, (number % 65536) as u16, number), "{number}");
         }
         assert!(rt; ring.find(((first + 5) % 65536) as u16).is_none());
     }
@@ -79,14 +82,10 @@ fn finds_in_a_run_of_512(rt: HostRuntime) -> Result<(), Fail> {
     let mut ring = Ring::new(rt.alloc(), MAX_CAPACITY)?;
     // The last 512 are 65400 to 65911.
     for number in 65300u64..65912 {
-        let bytes = number.to_be_bytes().to_vec(rt.alloc())?;
-        let _left = ring.keep(number, bytes);
+        keep(&mut ring, rt.alloc(), number)?;
     }
     for number in 65400u64..65912 {
-        assert_eq!(rt;
-            ring.find((number % 65536) as u16).ok_or("kept")?,
-            number.to_be_bytes().as_slice()
-        );
+        assert!(rt; finds(&ring, (number % 65536) as u16, number), "{number}");
     }
     assert!(rt; ring.find(65399).is_none());
     assert!(rt; ring.find(376).is_none());
@@ -102,10 +101,7 @@ fn finds_across_gaps(rt: HostRuntime) -> Result<(), Fail> {
     assert!(rt; ring.find(65535).is_none());
     assert!(rt; ring.find(5).is_none());
     for number in [65533u64, 65534, 65536, 65537, 65538, 131075, 131076] {
-        assert_eq!(rt;
-            ring.find((number % 65536) as u16).ok_or("kept")?,
-            number.to_be_bytes().as_slice()
-        );
+        assert!(rt; finds(&ring, (number % 65536) as u16, number), "{number}");
     }
     Ok(())
 }
@@ -115,18 +111,19 @@ fn finds_across_gaps(rt: HostRuntime) -> Result<(), Fail> {
 #[test]
 fn follows_no_stale_head(rt: HostRuntime) -> Result<(), Fail> {
     let mut ring = Ring::new(rt.alloc(), 2)?;
-    let _left = ring.keep(9, vec![in rt.alloc(); 9]?);
-    assert_eq!(rt; ring.find(9).ok_or("kept")?, [9].as_slice());
+    keep(&mut ring, rt.alloc(), 9)?;
+    assert!(rt; finds(&ring, 9, 9));
     for _ in 0..65536 {
-        let _left = ring.keep(5, vec![in rt.alloc(); 5]?);
+        keep(&mut ring, rt.alloc(), 5)?;
     }
     assert!(rt; ring.find(9).is_none());
-    assert_eq!(rt; ring.find(5).ok_or("kept")?, [5].as_slice());
+    assert!(rt; finds(&ring, 5, 5));
     Ok(())
 }
 
 #[test]
 fn greatest_ring(rt: HostRuntime) -> Result<(), Fail> {
+    assert_eq!(rt; MAX_CAPACITY, 512);
     let ring = Ring::new(rt.alloc(), MAX_CAPACITY)?;
     assert!(rt; ring.find(0).is_none());
     Ok(())
