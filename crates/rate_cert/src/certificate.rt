@@ -7,7 +7,7 @@ use tmmbr_tuple::Pair;
 pub const MAX_REQUESTS: usize = 256;
 
 /// A request of the choice, with a pair that it forbids and no other kept request does.
-#[derive(Clone, Copy, Debug, Default, PartialEq, Eq, Hash)]
+#[derive(Clone, Copy, Debug, Default, PartialEq, Eq)]
 pub struct Kept {
     /// The request's place in the list of requests, from 0.
     pub place: u16,
@@ -17,7 +17,7 @@ pub struct Kept {
 
 /// A request outside the choice, with two kept requests that imply it: `p` times the one and `q`
 /// times the other are at least as strict as `r` times this one.
-#[derive(Clone, Copy, Debug, Default, PartialEq, Eq, Hash)]
+#[derive(Clone, Copy, Debug, Default, PartialEq, Eq)]
 pub struct Implied {
     /// The request's place in the list of requests, from 0.
     pub place: u16,
@@ -34,7 +34,7 @@ pub struct Implied {
 }
 
 /// What shows that a choice of requests bounds as all of them do, and is the smallest that does.
-#[derive(Clone, Debug, Default, PartialEq, Eq, Drop)]
+#[derive(Debug, Default, PartialEq, Eq, Drop)]
 pub struct Cert {
     /// The requests of the choice.
     pub kept: ArrayVec<Kept, MAX_REQUESTS>,

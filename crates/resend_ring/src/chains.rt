@@ -33,7 +33,7 @@ pub struct Chains<A: Allocator> {
 }
 
 /// Where a packet stands.
-#[derive(Clone, Copy, Debug)]
+#[derive(Clone, Copy)]
 struct Found {
     /// Its place.
     back: usize,

@@ -28,7 +28,7 @@ pub const SENDER: usize = 24;
 pub const BLOCK: usize = 24;
 
 /// A packet without its header (RFC 3550, section 6.4.1).
-#[derive(Clone, Copy, Debug, PartialEq, Eq)]
+#[derive(Clone, Copy)]
 pub struct Packet<'a> {
     /// The count of entries, or the FMT of feedback; below 32.
     pub count: u8,

@@ -2,7 +2,7 @@
 
 /// A rate request by the parts of its word (RFC 5104, section 4.2.1.1).
 #[repr(C)]
-#[derive(Clone, Copy, Debug, Default, PartialEq, Eq)]
+#[derive(Clone, Copy, Default)]
 pub struct TmmbrRequest {
     /// The receiver that asks; any 32 bits.
     pub ssrc: u32,
@@ -56,7 +56,7 @@ pub struct TmmbrImplied {
 
 /// What `tmmbr_announced` answers.
 #[repr(C)]
-#[derive(Clone, Copy, Debug, Default, PartialEq, Eq)]
+#[derive(Clone, Copy)]
 pub struct TmmbrAnswer {
     /// 0 where it is done; else the number of the refusal.
     pub fault: u32,
@@ -71,7 +71,7 @@ pub struct TmmbrAnswer {
 
 /// What `tmmbr_check` answers.
 #[repr(C)]
-#[derive(Clone, Copy, Debug, Default, PartialEq, Eq)]
+#[derive(Clone, Copy)]
 pub struct TmmbrVerdict {
     /// 0 where the certificate holds; else the number of the first condition that fails, or of the
     /// refusal.

@@ -4,7 +4,7 @@ ghost use Rattle.std.specs.Prelude.{◌≡◌, ◌^◌, ◌<◌, ◌≤◌, ◌�
 
 /// A sender's operating point, in whole numbers: `packets / seconds` packets and `bits / seconds`
 /// bits of net media per second (RFC 5104, section 2.2: net media bit rate and packet rate).
-#[derive(Clone, Copy, Debug, PartialEq, Eq, Hash)]
+#[derive(Clone, Copy, Debug, PartialEq, Eq)]
 pub struct Pair {
     /// Packets in `seconds`, below 2^100.
     pub packets: u128,

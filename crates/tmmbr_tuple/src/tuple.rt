@@ -7,7 +7,7 @@ ghost use Rattle.std.specs.Prelude.{◌≡◌, ℕ, ◌*◌, ◌^◌, ◌<◌, �
 ///
 /// A rate of 0 asks for no media at all. Two tuples may spell one rate; they are equal only where
 /// all three numbers are.
-#[derive(Clone, Copy, Debug, PartialEq, Eq, Hash)]
+#[derive(Clone, Copy, Debug, PartialEq, Eq)]
 pub struct Tuple {
     /// The exponent of the rate, below 64.
     pub exp: u8,
