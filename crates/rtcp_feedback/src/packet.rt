@@ -1,8 +1,10 @@
 //! What feedback packets have in common (RFC 4585, section 6.1).
 
 ghost use Rattle.std.specs.Prelude.{◌≡◌, ◌+◌, ◌≤◌, ◌<◌, ◌++◌, length, vec_len, vec_capacity};
+ghost use Rattle.byteorder.specs.Endian.{big_bytes};
 ghost use Rattle.rtcp_feedback.specs.Writing.{front_bytes};
 
+use byteorder::{BigEndian, ByteOrder};
 use std::alloc::Allocator;
 use tmmbr_tuple::Ssrc;
 
@@ -35,14 +37,27 @@ pub fn put_front<A: Allocator>(
     ensures len { vec_len out.new ≡ vec_len out.old + 12 }
     ensures capacity { vec_capacity out.old ≤ vec_capacity out.new }
 {
-    put(out, &[0x80 + fmt, kind]);
-    put(out, &words.to_be_bytes());
-    put(out, &sender.0.to_be_bytes());
-    put(out, &media.0.to_be_bytes());
+    let mut length = [0; 2];
+    BigEndian::write_u16(&mut length, words);
+    put(out, &[0x80 + fmt, kind, length[0], length[1]]);
+    put_u32(out, sender.0);
+    put_u32(out, media.0);
+}
+
+/// Appends a number in 32 bits, for which there is room.
+pub fn put_u32<A: Allocator>(out: &mut Vec<u8, A>, number: u32)
+    requires { vec_len out.old + 4 ≤ vec_capacity out.old }
+    ensures items { out.new.items ≡ out.old.items ++ big_bytes 4 number }
+    ensures len { vec_len out.new ≡ vec_len out.old + 4 }
+    ensures capacity { vec_capacity out.old ≤ vec_capacity out.new }
+{
+    let mut bytes = [0; 4];
+    BigEndian::write_u32(&mut bytes, number);
+    put(out, &bytes);
 }
 
 /// Appends bytes that there is room for, so that no memory is asked for.
-pub fn put<A: Allocator>(out: &mut Vec<u8, A>, bytes: &[u8])
+fn put<A: Allocator>(out: &mut Vec<u8, A>, bytes: &[u8])
     requires { vec_len out.old + length bytes.now ≤ vec_capacity out.old }
     ensures items { out.new.items ≡ out.old.items ++ bytes.now }
     ensures len { vec_len out.new ≡ vec_len out.old + length bytes.now }

@@ -4,7 +4,7 @@ ghost use Rattle.std.specs.Prelude.{◌≡◌, ◌+◌, ◌*◌, ◌≤◌, ◌<
 ghost use Rattle.rtcp_feedback.specs.Writing.{packet_bytes, tmmb_body};
 
 use crate::fault::FbFault;
-use crate::packet::{FMT_TMMBN, FMT_TMMBR, FRONT, put, put_front};
+use crate::packet::{FMT_TMMBN, FMT_TMMBR, FRONT, put_front, put_u32};
 use byteorder::{BigEndian, ByteOrder};
 use rtcp_compound::RTPFB;
 use std::alloc::{AllocError, Allocator};
@@ -17,7 +17,7 @@ const ENTRY: usize = 8;
 pub const MAX_ENTRIES: usize = 32_766;
 
 /// One entry of a TMMBR or a TMMBN (RFC 5104, section 4.2.1.1).
-#[derive(Clone, Copy, Debug, PartialEq, Eq, Hash)]
+#[derive(Clone, Copy, Debug, PartialEq, Eq)]
 pub struct TmmbrEntry {
     /// Of a TMMBR the media sender whose rate is meant; of a TMMBN the owner, who asked for it.
     pub ssrc: Ssrc,
@@ -122,8 +122,8 @@ fn write_entries<A: Allocator>(
     let words = 2 + 2 * entries.len() as u16;
     put_front(out, fmt, RTPFB, words, sender, Ssrc(0));
     for entry in entries {
-        put(out, &entry.ssrc.0.to_be_bytes());
-        put(out, &entry.word.to_be_bytes());
+        put_u32(out, entry.ssrc.0);
+        put_u32(out, entry.word);
     }
     Ok(())
 }
