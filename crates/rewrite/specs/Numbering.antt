@@ -1,8 +1,7 @@
 -- Outgoing numbers, over whole lists of packets (RFC 3550, appendix A.1, of extended sequence numbers).
-use Rattle.std.specs.Prelude.{◌≡◌, ◌⊎◌, ◌==◌, ℕ, ◌+◌, ◌-◌, ◌<◌, ◌≤◌, nat_lt, List, [], ◌∷◌, ◌++◌, All, Any, find, Some, Result, Ok, Err, if◌then◌else◌}
+use Rattle.std.specs.Prelude.{◌≡◌, ◌⊎◌, ◌==◌, ℕ, ◌+◌, ◌-◌, ◌^◌, ◌<◌, ◌≤◌, nat_lt, List, [], ◌∷◌, ◌++◌, All, Any, find, Some, Result, Ok, Err, if◌then◌else◌}
 use Rattle.rewrite.specs.declared.skip.Skip.{Skip}
 use Rattle.rewrite.specs.declared.skip.Skip.TheVariants.{Old, Spent}
-use Rattle.rewrite.specs.declared.segment.TheConstants.{NUMBER_LIMIT}
 use Rattle.rtp_packet.specs.Sequence.{IsExtendedNumber}
 use Rattle.rtp_packet.specs.declared.header.TheConstants.{SEQ_CYCLE}
 
@@ -30,9 +29,9 @@ numbered_as turn seq (Err skip) = []
 abbrev pub entry_numbers : Entry → List Numbered
 entry_numbers e = numbered_as e.turn e.seq e.answer
 
--- the number, or Spent from the limit on
+-- the number, or Spent from 2^62 on
 abbrev pub within_limit : ℕ → Result ℕ Skip
-within_limit number = if nat_lt number NUMBER_LIMIT then Ok number else Err Spent
+within_limit number = if nat_lt number (2 ^ 62) then Ok number else Err Spent
 
 -- The number is one above all that were given, or the leg's first where none was.
 abbrev pub IsNextNumber : ℕ → List Numbered → ℕ → Type 0

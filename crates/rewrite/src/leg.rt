@@ -1,6 +1,6 @@
 //! The outgoing numbers of one leg.
 
-ghost use Rattle.std.specs.Prelude.{◌≡◌, ◌<◌, OnErr, IfOk};
+ghost use Rattle.std.specs.Prelude.{◌≡◌, ◌<◌, ◌^◌, OnErr, IfOk};
 
 use crate::segment::{NUMBER_LIMIT, Segment};
 use crate::skip::Skip;
@@ -54,7 +54,7 @@ impl Leg {
         ensures answer { result ≡ answer_to self.old turn seq }
         ensures kept { self.new ≡ held_with self.old turn seq result }
         ensures unchanged { OnErr result (self.new ≡ self.old) }
-        ensures bound { IfOk result (λ number. number < NUMBER_LIMIT) }
+        ensures bound { IfOk result (λ number. number < 2 ^ 62) }
     {
         let Some(mut segment) = self.segment else {
             return Ok(self.begin(turn, seq, u64::from(self.first)));
