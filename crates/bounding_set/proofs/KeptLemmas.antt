@@ -1,6 +1,6 @@
 -- The places of kept requests among the rows.
 use Rattle.std.proofs.Common.{◌≡◌, ℕ, ◌+◌, ◌-◌, ◌*◌, ◌<◌, ◌≤◌, List, [], ◌∷◌, ◌++◌, length, get_or, map, suc, refl, sym, ap, ◌∙◌, arith}
-use Rattle.std.specs.Prelude.{All, AllPairs, Contains, slice_get}
+use Rattle.std.specs.Prelude.{All, Contains, slice_get}
 use Rattle.std.specs.List.{cons_option}
 use Rattle.std.proofs.lemmas.List.{map-append, length-map, get_or-map}
 use Rattle.std.proofs.lemmas.List.Elements.{All-head, All-tail, All-map, All-push, filter_map-append}
@@ -142,9 +142,6 @@ HasLeftEnd-right x [] follow = tt
 HasLeftEnd-right x (y ∷ ys) follow =
     let follows : Follows x y = All-head (Follows x) y ys follow in
     (omega (arith, follows.overhead), IsEndOf-crossing x y follows)
-
-pub follow_first : (x : Request) (behind : List Request) → AllPairs Follows (x ∷ behind) → All (Follows x) behind
-follow_first x behind in_order = λ k d below. in_order 0 (suc k) d (omega arith) (omega arith)
 
 -- a list of two elements, as a pattern takes it apart
 pub two_elements : {X : Type 0} (xs : List X) (x y : X) → 2 ≤ length xs → length xs < 3 → x ≡ get_or xs 0 x → y ≡ get_or xs 1 y → xs ≡ x ∷ y ∷ []

@@ -50,10 +50,6 @@ abbrev pub behind : Gist → Result Gist FbFault → Result Gist FbFault
 behind a (Ok b) = Ok (joint_gist a b)
 behind a (Err fault) = Err fault
 
-pub behind_nothing : (said : Result Gist FbFault) → behind empty_gist said ≡ said
-behind_nothing (Ok b) = ap Ok (nothing_joined b)
-behind_nothing (Err fault) = refl
-
 pub behind_both : (a b : Gist) (said : Result Gist FbFault) → behind a (behind b said) ≡ behind (joint_gist a b) said
 behind_both a b (Ok c) = ap Ok (joined_assoc a b c)
 behind_both a b (Err fault) = refl
@@ -124,22 +120,6 @@ control_said own s g is stays = sym (cond-false _ _ _ (sym is.goodbye ∙ stays)
 pub control_heard : (own : ℕ) (s : Survey) (g : Gist) → IsSurveyOf own s g
     → ◌≡◌ {A = Heard} (Control s.control) (heard_of (control (speaker_of own g.senders) g.reports g.tmmbns g.asks))
 control_heard own s g is = λ i. Control (record { speaker = record { 0 = is.speaker i }; report = is.report i; tmmbns = is.tmmbns i })
-
--- ---- lists that grow
-
-pub grown_more : (old now new done first rest all : List Ask) → now ≡ old ++ done → new ≡ now ++ first → all ≡ done ++ (first ++ rest)
-    → (new ≡ old ++ (done ++ first)) × (all ≡ (done ++ first) ++ rest)
-grown_more old now new done first rest all n m a = (
-  m ∙ ap (λ x. x ++ first) n ∙ append_assoc old done first,
-  a ∙ sym (append_assoc done first rest),
-)
-
-pub grown_some : (old now new done some first rest all : List Ask) → now ≡ old ++ done → new ≡ now ++ some → all ≡ done ++ (first ++ rest)
-    → 0 < length first → (0 < length all) × ((more : List Ask) × (new ≡ old ++ more))
-grown_some old now new done some first rest all n m a more = (
-  (let long = ap length a ∙ length-append done (first ++ rest) in let longer = length-append first rest in omega arith),
-  (done ++ some, m ∙ ap (λ x. x ++ some) n ∙ append_assoc old done some),
-)
 
 -- ---- the number of packets
 

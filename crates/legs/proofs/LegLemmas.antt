@@ -26,7 +26,6 @@ use Rattle.settings.specs.Places.{Sources}
 use Rattle.legs.specs.Plan.{changed_at, applied_one, legs_after_plan}
 use Rattle.legs.specs.Planning.{packet_planned, resends, leg_plan, job_plan, plan_by, plan_of, publisher_places, leg_place, ListsPlaces, FindsPlaces, IsRising, AreFound, IsNowhere, IsStandingAt}
 use Rattle.legs.specs.Rtp.{is_rtp, sequence_number}
-use Rattle.settings.proofs.LinkLemmas.{at_push}
 use Rattle.legs.proofs.PlanLemmas.{at_behind}
 
 -- ---- tests
@@ -401,16 +400,6 @@ found_new t ring worker count lists places legs table is among lists_places find
     }
 
 -- ---- one leg more
-
-pub lists_one_place_more : (lists : List (Vec ℕ)) (v : Vec ℕ) (n : ℕ) (legs : List LegState) → ListsPlaces lists n legs
-    → v.items ≡ publisher_places n (enumerate_from 0 legs) → ListsPlaces (lists ++ v ∷ []) (n + 1) legs
-lists_one_place_more lists v n legs before here =
-    let size = before.size in
-    let P : ℕ → Vec ℕ → Type 0 = λ k w. w.items ≡ publisher_places k (enumerate_from 0 legs) in
-    record {
-      size = omega (arith, length-append lists (v ∷ []));
-      each = at_push lists v P before.each (rw size here);
-    }
 
 -- a vector whose whole slice was written
 pub whole_written : (new old : List LegState) (n : ℕ) → n ≡ length old → length new ≡ length old

@@ -18,10 +18,6 @@ some-left : {X : Type 0} (xs ys : List X) → xs ≢ [] → xs ++ ys ≢ []
 some-left [] ys some = absurd (some refl)
 some-left (x ∷ xs) ys some = λ e. cc
 
-some-right : {X : Type 0} (xs ys : List X) → ys ≢ [] → xs ++ ys ≢ []
-some-right [] ys some = some
-some-right (x ∷ xs) ys some = λ e. cc
-
 -- a list with an element at this place gives what that element gives
 some-at : {X : Type 0} (f : X → Out) (xs : List X) (k : ℕ) → k < length xs → option_map_or (λ x. f x ∷ []) (slice_get xs k) [] ≢ []
 some-at f [] k within = absurd (omega arith)
