@@ -83,6 +83,9 @@ fn hear_media(
     m.knows_counts();
     let (ssrc, seq, timestamp) = packet;
     outs.reserve(1)?;
+    if let Some(fault) = m.room.refuses(endpoint, ssrc) {
+        return refuse(fault, outs);
+    }
     let workers = m.setup.links.workers();
     m.tasks.prepare(usize::from(workers))?;
     m.tasks.take_datagram(bytes)?;
@@ -144,6 +147,9 @@ fn hear_control(
 {
     m.knows_counts();
     outs.reserve(m.asks.len().max(1))?;
+    if let Some(fault) = m.room.refuses(endpoint, control.speaker) {
+        return refuse(fault, outs);
+    }
     m.tasks.prepare(m.asks.len())?;
     match m
         .room

@@ -36,19 +36,10 @@ fn leg(subscriber: i64, publisher: i64, out_ssrc: i64, first_seq: i64) -> LegPar
 
 /// The links of a room of the endpoints 16, 17 and 18 with these legs.
 fn links_of(alloc: Global, workers: i64, legs: &[LegParts]) -> Result<Links, Fail> {
-    let parts = Parts {
-        workers: Some(workers),
-        ring: Some(8),
-        history: Some(128),
-        timeout_ms: Some(1000),
-        report_ms: Some(60_000),
-        request_ms: None,
-        pli_gap_ms: Some(500),
-        unit_ssrc: Some(9),
-        cname: Some(String::from_str(alloc, "sfu")?),
-        endpoints: [Some(16), Some(17), Some(18)].to_vec(alloc)?,
-        legs: legs.to_vec(alloc)?,
-    };
+    let mut parts = Parts::example(alloc)?;
+    parts.workers = Some(workers);
+    parts.endpoints = [Some(16), Some(17), Some(18)].to_vec(alloc)?;
+    parts.legs = legs.to_vec(alloc)?;
     let settings = Settings::new(alloc, &parts)?;
     Ok(Links::new(alloc, &settings)?)
 }

@@ -29,19 +29,9 @@ fn links_of(
     endpoints: Vec<Option<i64>>,
     legs: Vec<LegParts>,
 ) -> Result<Links, SettingsFault> {
-    let parts = Parts {
-        workers: Some(2),
-        ring: Some(8),
-        history: Some(128),
-        timeout_ms: Some(1000),
-        report_ms: Some(60000),
-        request_ms: None,
-        pli_gap_ms: Some(500),
-        unit_ssrc: Some(9),
-        cname: String::from_str(alloc, "sfu").ok(),
-        endpoints,
-        legs,
-    };
+    let mut parts = Parts::example(alloc).map_err(|_| SettingsFault::NoMemory)?;
+    parts.endpoints = endpoints;
+    parts.legs = legs;
     let settings = Settings::new(alloc, &parts)?;
     Links::new(alloc, &settings).map_err(|_| SettingsFault::NoMemory)
 }

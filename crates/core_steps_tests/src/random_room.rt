@@ -49,19 +49,13 @@ pub(crate) fn room(alloc: Global, request_ms: u64) -> Result<Settings, Fail> {
         })?;
         out = out.wrapping_add(1);
     }
-    let parts = Parts {
-        workers: Some(2),
-        ring: Some(8),
-        history: Some(128),
-        timeout_ms: Some(TIMEOUT_MS as i64),
-        report_ms: Some(30),
-        request_ms: Some((request_ms % 1000) as i64),
-        pli_gap_ms: Some(10),
-        unit_ssrc: Some(9),
-        cname: Some(String::from_str(alloc, "sfu")?),
-        endpoints: [Some(16), Some(17), Some(18)].to_vec(alloc)?,
-        legs,
-    };
+    let mut parts = Parts::example(alloc)?;
+    parts.timeout_ms = Some(TIMEOUT_MS as i64);
+    parts.report_ms = Some(30);
+    parts.request_ms = Some((request_ms % 1000) as i64);
+    parts.pli_gap_ms = Some(10);
+    parts.endpoints = [Some(16), Some(17), Some(18)].to_vec(alloc)?;
+    parts.legs = legs;
     Ok(Settings::new(alloc, &parts)?)
 }
 

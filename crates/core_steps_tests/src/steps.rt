@@ -54,7 +54,7 @@ pub(crate) fn settings(
     Settings::new(alloc, &parts)
 }
 
-/// Those settings without their times.
+/// Those settings, with the times of the examples.
 fn parts(alloc: Global) -> Result<Parts, AllocError> {
     let leg = LegParts {
         subscriber: Some(1),
@@ -63,19 +63,10 @@ fn parts(alloc: Global) -> Result<Parts, AllocError> {
         first_seq: Some(100),
         on: None,
     };
-    Ok(Parts {
-        workers: Some(2),
-        ring: Some(8),
-        history: Some(128),
-        timeout_ms: None,
-        report_ms: None,
-        request_ms: None,
-        pli_gap_ms: Some(500),
-        unit_ssrc: Some(9),
-        cname: Some(String::from_str(alloc, "sfu")?),
-        endpoints: [Some(16), Some(17)].to_vec(alloc)?,
-        legs: [leg].to_vec(alloc)?,
-    })
+    let mut parts = Parts::example(alloc)?;
+    parts.endpoints = [Some(16), Some(17)].to_vec(alloc)?;
+    parts.legs = [leg].to_vec(alloc)?;
+    Ok(parts)
 }
 
 fn digit(byte: u8) -> u8

@@ -20,7 +20,7 @@ use std::marker::Model;
 use std::sync::Wait;
 
 /// Asks the desks of a house, and tells the publisher and its subscribers what follows.
-#[derive(Debug, Drop)]
+#[derive(Drop)]
 pub struct Notifier {
     pub(crate) alloc: Global,
     pub(crate) links: Links,

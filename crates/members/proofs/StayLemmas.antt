@@ -165,3 +165,10 @@ unfolding is_present_at
 absent_beyond [] k over = refl
 absent_beyond (e ∷ es) zero over = absurd (omega arith)
 absent_beyond (e ∷ es) (suc k) over = absent_beyond es k (omega arith)
+
+pub present_within : (es : List Endpoint) (k : ℕ) → is_present_at es k ≡ true → k < length es
+unfolding is_present_at
+present_within [] k present = absurd (cc present)
+present_within (e ∷ es) zero present = omega arith
+present_within (e ∷ es) (suc k) present =
+    let below : k < length es = present_within es k present in omega arith

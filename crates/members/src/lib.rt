@@ -8,10 +8,10 @@
 pub mod laws;
 mod order;
 mod presence;
-mod reception;
+pub mod reception;
 mod room;
 mod stays;
-mod stream;
+pub mod stream;
 mod table;
 
 pub use order::{Order, Row};
@@ -22,14 +22,3 @@ pub use settings::{
 };
 pub use stays::MAX_STAY;
 pub use stream::COUNTED_PACKETS;
-
-#[cfg(test)]
-mod limits_tests;
-#[cfg(test)]
-mod memory_tests;
-#[cfg(test)]
-mod reception_tests;
-#[cfg(test)]
-mod room_tests;
-#[cfg(test)]
-mod settings_tests;

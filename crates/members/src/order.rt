@@ -28,7 +28,7 @@ pub enum Order {
 }
 
 /// A row of the route table: what is forwarded on a leg.
-#[derive(Clone, Copy, Debug, Default, PartialEq, Eq)]
+#[derive(Clone, Copy, Debug, PartialEq, Eq)]
 pub struct Row {
     /// The stay that stands; 0 where none does.
     pub stay: u64,
@@ -39,7 +39,7 @@ pub struct Row {
 }
 
 /// Orders in the making. Once no memory was left for one they are short, and stay so.
-#[derive(Debug, Drop)]
+#[derive(Drop)]
 pub struct Draft {
     orders: Vec<Order>,
     is_short: bool,

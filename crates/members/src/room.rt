@@ -25,7 +25,7 @@ use tmmbr_tuple::Ssrc;
 ///
 /// What is received of an endpoint while it is present is counted at the room's moment, anew whenever it
 /// comes.
-#[derive(Debug, Drop)]
+#[derive(Drop)]
 pub struct Room {
     alloc: Global,
     timeout_ms: u64,
@@ -69,7 +69,7 @@ impl Model for Room {
 }
 
 impl Room {
-    ghost use Rattle.std.specs.Prelude.{◌≡◌, ◌<◌, ◌++◌, ◌↔◌, max, true, IsTrue, IsOk, IsNone, IfNone, IfOk, OnOk, OnErr, length};
+    ghost use Rattle.std.specs.Prelude.{◌≡◌, ◌<◌, ◌++◌, ◌↔◌, ℕ, max, true, Err, IsTrue, IsOk, IsNone, IfNone, IfSome, IfOk, OnOk, OnErr, length};
     ghost use Rattle.members.specs.Presence.{NobodyOverdue, is_present_at, source_at};
     ghost use Rattle.members.specs.Room.{new_room, tick_step, bye_step, hear_step, heard_step, select_step, after_leaving, leg_at, Answers, ChangesNothing, IsCalm, TakesStep};
     ghost use Rattle.members.specs.Room.{reception_at, after_packet, after_report, after_block};
@@ -96,6 +96,14 @@ impl Room {
         ensures { result ≡ self.now.moment }
     {
         self.moment
+    }
+
+    /// No endpoint is overdue before this moment. It is found anew, by going over the endpoints, only by a call that comes to it.
+    pub fn quiet_until(&self) -> u64
+        ensures { (moment : ℕ) → moment < result
+            → NobodyOverdue self.now.timeout moment self.now.endpoints }
+    {
+        self.quiet_until
     }
 
     /// Whether the endpoint is present.
@@ -190,6 +198,25 @@ impl Room {
         Ok(())
     }
 
+    /// What `hear` refuses a packet of this source at the endpoint with, at every moment: `UnknownEndpoint`, or `WrongSsrc` if the
+    /// source isn't the endpoint's; `None` if the endpoint is known and the source is its own. Who wants memory for a packet asks
+    /// this first, so that a want of memory comes after these refusals.
+    pub fn refuses(&self, endpoint: u16, ssrc: Ssrc) -> Option<RoomFault>
+        ensures refused { IfSome result (λ fault. (moment : ℕ)
+            → hear_step self.now moment endpoint ssrc.0 ≡ Err fault) }
+        ensures own { IsNone result ↔ ((endpoint < length self.now.endpoints)
+            × ((source_at self.now.endpoints endpoint).0 ≡ ssrc.0)) }
+    {
+        let at = usize::from(endpoint);
+        if at >= self.held.endpoints.len() {
+            return Some(RoomFault::UnknownEndpoint);
+        }
+        if source_at(self.held.endpoints.as_slice(), at).0 != ssrc.0 {
+            return Some(RoomFault::WrongSsrc);
+        }
+        None
+    }
+
     /// A packet of this source was heard at the endpoint, which comes where it isn't present: its
     /// reception begins anew. Those overdue at this moment leave before.
     ///
@@ -211,15 +238,11 @@ impl Room {
             → is_present_at self.old.endpoints endpoint ≡ true → IsCalm self.old moment
             → IsOk result }
     {
-        let at = usize::from(endpoint);
-        if at >= self.held.endpoints.len() {
-            return Err(RoomFault::UnknownEndpoint);
-        }
-        if source_at(self.held.endpoints.as_slice(), at).0 != ssrc.0 {
-            return Err(RoomFault::WrongSsrc);
+        if let Some(fault) = self.refuses(endpoint, ssrc) {
+            return Err(fault);
         }
         let moment = self.moment.max(moment);
-        self.hear_known(moment, at, orders)
+        self.hear_known(moment, usize::from(endpoint), orders)
     }
 
     /// This endpoint is heard.
@@ -356,6 +379,3 @@ impl Room {
         self.receptions[usize::from(endpoint)].last_sr()
     }
 }
-
-#[cfg(test)]
-mod quiet_tests;

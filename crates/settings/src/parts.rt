@@ -1,7 +1,9 @@
 //! The parts of a room's settings, as they were found.
 
+use std::alloc::{AllocError, Global};
+
 /// What was found of the settings. A number is `None` where it is missing or of the wrong kind.
-#[derive(Debug, Drop)]
+#[derive(Drop)]
 pub struct Parts {
     /// Threads that forward, 1 to 8.
     pub workers: Option<i64>,
@@ -25,6 +27,31 @@ pub struct Parts {
     pub endpoints: Vec<Option<i64>>,
     /// The legs.
     pub legs: Vec<LegParts>,
+}
+
+impl Parts {
+    ghost use Rattle.std.specs.Prelude.{IfOk};
+    ghost use Rattle.settings.specs.Example.{AreExamples};
+
+    /// The parts of the first example's settings (`examples/room.toml`), before any endpoint and any leg. Tests and benchmarks begin
+    /// with these, and put in what they are about.
+    pub fn example(alloc: Global) -> Result<Parts, AllocError>
+        ensures { IfOk result AreExamples }
+    {
+        Ok(Parts {
+            workers: Some(2),
+            ring: Some(8),
+            history: Some(128),
+            timeout_ms: Some(1000),
+            report_ms: Some(60_000),
+            request_ms: None,
+            pli_gap_ms: Some(500),
+            unit_ssrc: Some(9),
+            cname: Some(String::from_str(alloc, "sfu")?),
+            endpoints: Vec::new(alloc),
+            legs: Vec::new(alloc),
+        })
+    }
 }
 
 /// What was found of a leg's settings.

@@ -27,19 +27,10 @@ fn settings_of(
     endpoints: &[Option<i64>],
     legs: &[LegParts],
 ) -> Option<Settings> {
-    let parts = Parts {
-        workers: Some(workers),
-        ring: Some(8),
-        history: Some(128),
-        timeout_ms: Some(1000),
-        report_ms: Some(60_000),
-        request_ms: None,
-        pli_gap_ms: Some(500),
-        unit_ssrc: Some(9),
-        cname: Some(String::from_str(alloc, "sfu").ok()?),
-        endpoints: endpoints.to_vec(alloc).ok()?,
-        legs: legs.to_vec(alloc).ok()?,
-    };
+    let mut parts = Parts::example(alloc).ok()?;
+    parts.workers = Some(workers);
+    parts.endpoints = endpoints.to_vec(alloc).ok()?;
+    parts.legs = legs.to_vec(alloc).ok()?;
     Settings::new(alloc, &parts).ok()
 }
 

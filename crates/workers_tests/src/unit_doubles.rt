@@ -68,19 +68,14 @@ pub(super) fn settings_with(
             on: None,
         })?;
     }
-    let parts = Parts {
-        workers: Some(workers),
-        ring: Some(8),
-        history: Some(128),
-        timeout_ms: Some(times.timeout),
-        report_ms: Some(times.report),
-        request_ms: Some(times.request),
-        pli_gap_ms: Some(times.gap),
-        unit_ssrc: Some(9),
-        cname: Some(String::from_str(alloc, "sfu")?),
-        endpoints: sources,
-        legs,
-    };
+    let mut parts = Parts::example(alloc)?;
+    parts.workers = Some(workers);
+    parts.timeout_ms = Some(times.timeout);
+    parts.report_ms = Some(times.report);
+    parts.request_ms = Some(times.request);
+    parts.pli_gap_ms = Some(times.gap);
+    parts.endpoints = sources;
+    parts.legs = legs;
     Ok(Settings::new(alloc, &parts)?)
 }
 

@@ -1,13 +1,11 @@
-use Rattle.std.proofs.Common.{◌≡◌, ◌≤◌, length, false, arith, rules}
-use Rattle.std.proofs.lemmas.Grind.{common_steps}
-use Rattle.members.specs.Presence.{is_present_at}
-use Rattle.members.proofs.StayLemmas.{absent_beyond}
+use Rattle.std.proofs.Common.{◌<◌, length, subst}
+use Rattle.std.specs.Prelude.{IsNone, Option}
+use Rattle.settings.specs.declared.fault.RoomFault.{RoomFault}
+use Rattle.members.proofs.StayLemmas.{present_within}
 use Rattle.members.proofs.room.Room.hear.Goals as goal
 
 -- who is present is known
-pub returns-then-at-len-clause-calm : goal.returns-then-at-len-clause-calm
-returns-then-at-len-clause-calm c = λ source present calm.
-    let over : length c.args.self.now.endpoints ≤ c.args.endpoint = first_of (search rules, grind (arith, common_steps)) in
-    let absent : is_present_at c.args.self.now.endpoints c.args.endpoint ≡ false =
-    absent_beyond c.args.self.now.endpoints c.args.endpoint over in
-    cc
+pub returns-in-Some-clause-calm : goal.returns-in-Some-clause-calm
+returns-in-Some-clause-calm c = λ source present calm.
+    let known : c.args.endpoint < length c.args.self.now.endpoints = present_within c.args.self.now.endpoints c.args.endpoint present in
+    absurd (cc (subst (λ (o : Option RoomFault). IsNone o) c.in-Some.is (c.refuses.ensures.own.1 (known, source))))

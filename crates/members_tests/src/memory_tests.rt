@@ -1,7 +1,7 @@
 //! Calls that are refused for want of memory. Run with `rt try --test --fail-alloc N`, which refuses the
 //! Nth growth.
-use super::*;
 use crate::room_tests::{arrive, depart, larger_room, route};
+use members::*;
 use std::process::Abort;
 use std::test::Fail;
 use tmmbr_tuple::Ssrc;

@@ -1,8 +1,7 @@
 //! Each limit at both edges: the last value that is accepted and the first that is refused.
-use super::*;
 use crate::room_tests::{arrive, depart, route};
 use crate::settings_tests::{fault_of, found_parts, leg, put};
-use crate::stream::COUNTED_PACKETS;
+use members::*;
 use std::alloc::{AllocError, Global};
 use std::process::Abort;
 use std::test::Fail;

@@ -1,6 +1,6 @@
 //! The moment before which nobody is overdue is remembered, so that a packet goes over no endpoint.
-use super::Room;
 use crate::room_tests::larger_room;
+use members::Room;
 use std::test::Fail;
 use tmmbr_tuple::Ssrc;
 
@@ -32,9 +32,9 @@ fn quiet_moment_is_remembered(rt: HostRuntime) -> Result<(), Fail> {
             Ssrc(16 + u32::from(endpoint)),
             &mut orders,
         )?;
-        assert_eq!(rt; room.quiet_until, quiet_until, "{endpoint} at {moment}");
+        assert_eq!(rt; room.quiet_until(), quiet_until, "{endpoint} at {moment}");
         room.tick(moment, &mut orders)?;
-        assert_eq!(rt; room.quiet_until, quiet_until, "tick at {moment}");
+        assert_eq!(rt; room.quiet_until(), quiet_until, "tick at {moment}");
     }
     assert_eq!(rt; orders.len(), 8);
     Ok(())

@@ -1,6 +1,6 @@
 //! Who comes and goes in, orders out; packets in, blocks out.
-use super::*;
 use crate::settings_tests::{found_parts, leg};
+use members::*;
 use rtcp_compound::write_rr;
 use std::alloc::{AllocError, Global};
 use std::process::Abort;
@@ -134,6 +134,28 @@ fn stays_of_example_17(rt: HostRuntime) -> Result<(), Fail> {
         (1600, Call::Select(65_535, true), RoomFault::UnknownLeg),
     ];
     refuses(&rt, &mut room, &rows)
+}
+
+/// What a packet is refused with is known before anything is done for it.
+#[test]
+fn unknown_endpoints_and_other_sources(rt: HostRuntime) -> Result<(), Fail> {
+    let room = small_room(rt.alloc())?;
+    let rows = [
+        (0, 16, None),
+        (1, 17, None),
+        (0, 17, Some(RoomFault::WrongSsrc)),
+        (1, 16, Some(RoomFault::WrongSsrc)),
+        (2, 16, Some(RoomFault::UnknownEndpoint)),
+        (65_535, 0, Some(RoomFault::UnknownEndpoint)),
+    ];
+    for (endpoint, source, fault) in rows {
+        assert_eq!(rt;
+            room.refuses(endpoint, Ssrc(source)),
+            fault,
+            "{source} at {endpoint}"
+        );
+    }
+    Ok(())
 }
 
 #[test]

@@ -1,7 +1,7 @@
 //! Packets in, blocks out.
-use super::*;
-use crate::reception::Reception;
-use crate::stream::{self, Stream};
+use members::reception::Reception;
+use members::stream::{self, Stream};
+use members::*;
 use std::test::Fail;
 use tmmbr_tuple::Ssrc;
 

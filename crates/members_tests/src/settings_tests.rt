@@ -1,5 +1,5 @@
 //! Settings in, faults out.
-use super::*;
+use members::*;
 use std::alloc::{AllocError, Global};
 use std::test::Fail;
 use tmmbr_tuple::Ssrc;
@@ -17,23 +17,12 @@ pub fn leg(subscriber: i64, publisher: i64, out_ssrc: i64) -> LegParts {
 
 /// The settings of the examples.
 pub fn found_parts(alloc: Global) -> Result<Parts, AllocError> {
-    let endpoints = vec![in alloc; Some(16), Some(17)]?;
     let mut first = leg(1, 0, 257);
     first.first_seq = Some(100);
-    let legs = vec![in alloc; first]?;
-    Ok(Parts {
-        workers: Some(2),
-        ring: Some(8),
-        history: Some(128),
-        timeout_ms: Some(1000),
-        report_ms: Some(60000),
-        request_ms: None,
-        pli_gap_ms: Some(500),
-        unit_ssrc: Some(9),
-        cname: Some(String::from_str(alloc, "sfu")?),
-        endpoints,
-        legs,
-    })
+    let mut parts = Parts::example(alloc)?;
+    parts.endpoints = vec![in alloc; Some(16), Some(17)]?;
+    parts.legs = vec![in alloc; first]?;
+    Ok(parts)
 }
 
 /// The fault of these parts.
