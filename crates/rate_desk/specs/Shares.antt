@@ -75,10 +75,11 @@ pub record IsPulsed (gap request_ms : ℕ) (receipt : Receipt) : Type 0 where
   pub recorded : Recorded gap request_ms receipt former desk
   pub announced : desk.bounds ≡ former.bounds
 
--- The desk has fewer calls than the seat made to it, and this many are shown; else it has no room for the call.
+-- The desk has no room for the call; else it has fewer calls than the seat made to it, and this many are shown.
 abbrev pub IsFaultAt : ℕ → Call → SeatState → DeskState → HouseFault → Type 0
-IsFaultAt p call seat desk HistoryFull = (calls_to p seat ≤ call_count desk) × IsOverLimit desk call
-IsFaultAt p call seat desk (Behind calls) = (calls ≡ call_count desk) × (calls < calls_to p seat)
+IsFaultAt p call seat desk HistoryFull = IsOverLimit desk call
+IsFaultAt p call seat desk (Behind calls) =
+    (¬ IsOverLimit desk call) × (calls ≡ call_count desk) × (calls < calls_to p seat)
 
 -- some desk of the house has this fault
 pub record IsFaultOf (gap request_ms p : ℕ) (call : Call) (seat : SeatState)

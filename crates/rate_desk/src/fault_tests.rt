@@ -121,6 +121,8 @@ fn exchange<D: DeskCalls, S: SeatCalls, R: Wait>(rt: &R, house: &House<D, S>)
     let mut first = house.desks[0].lock(rt);
     let mut second = house.desks[1].lock(rt);
     mem::swap(&mut *first, &mut *second);
+    // Each still lies under the lock of the publisher that it says.
+    mem::swap(&mut first.publisher, &mut second.publisher);
 }
 
 /// Calls of both publishers, and then faults of the second one, whose desk has one call and not three. The

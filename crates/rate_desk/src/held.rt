@@ -7,10 +7,12 @@ use crate::ledger::DeskCalls;
 use desk::{CALL_LIMIT, Desk};
 use std::sync::ledger::Share;
 
-/// A desk, whose type keeps that its history is legal and its announced set the smallest; and its share of
+/// Whose desk it is; a desk, whose type keeps that its history is legal and its announced set the smallest; and its share of
 /// the ledger of recorded calls. Its gap and the age of its requests are the house's.
 #[derive(Drop)]
 pub struct HeldDesk<D: DeskCalls> {
+    /// The number of its publisher.
+    pub publisher: usize,
     pub desk: Desk,
     pub share: Share<D>,
     pub ghost one_part: { share.parts ≡ 1 },
@@ -26,7 +28,11 @@ impl<D: DeskCalls> HeldDesk<D> {
     pub fn into_desk(self) -> Desk
         ensures { IsDeskOf D.gap D.request_ms result }
     {
-        let HeldDesk { desk, share: _ } = self;
+        let HeldDesk {
+            publisher: _,
+            desk,
+            share: _,
+        } = self;
         prove!(desk.calls() <= CALL_LIMIT);
         desk
     }

@@ -10,7 +10,8 @@ use crate::seat::DeskSeat;
 use desk::{Call, Change, Desk, Effect, Signal};
 use std::alloc::{AllocError, Global};
 use std::sync::ledger::{Blank, Share};
-use std::sync::{Mutex, Wait};
+use std::sync::{Mutex, MutexGuard, Wait};
+use std::thread;
 use tmmbr_tuple::{Ssrc, Tuple};
 
 /// A desk for each publisher.
@@ -35,6 +36,7 @@ pub struct House<D: DeskCalls, S: SeatCalls> {
 
 impl<D: DeskCalls, S: SeatCalls> House<D, S> {
     ghost use Rattle.std.specs.Prelude.{◌≡◌, ◌<◌, ◌≤◌, replicate, IfOk, IfErr, OnOk, OnErr};
+    ghost use Rattle.std.specs.Sync.Mutex.{mutex_guard_value};
     ghost use Rattle.desk.specs.declared.call.Call.TheVariants as call;
     ghost use Rattle.desk.specs.declared.call.Change.TheVariants as change;
     ghost use Rattle.desk.specs.declared.call.Signal.TheVariants as signal;
@@ -293,7 +295,7 @@ impl<D: DeskCalls, S: SeatCalls> House<D, S> {
         ensures fault { IfErr result (IsFaultOf D.gap D.request_ms publisher call seat.old) }
         ensures unchanged { OnErr result ((seat.new ≡ seat.old) × (effect.new ≡ effect.old)) }
     {
-        let mut held = self.desks[publisher].lock(rt);
+        let mut held = self.desk_of(rt, publisher);
         seat.call(rt, &mut *held, &self.tally, publisher, call, effect)
     }
 
@@ -316,8 +318,24 @@ impl<D: DeskCalls, S: SeatCalls> House<D, S> {
             (call.Time moment signal.Tick) seat.old) }
         ensures unchanged { OnErr result (seat.new ≡ seat.old) }
     {
-        let mut held = self.desks[publisher].lock(rt);
-        seat.pulse(rt, &mut *held, &self.tally, publisher, moment)
+        let mut desk = self.desk_of(rt, publisher);
+        seat.pulse(rt, &mut *desk, &self.tally, publisher, moment)
+    }
+
+    /// The publisher's desk, under its lock, as what lies there says. No lock has the desk of another publisher; it would be waited
+    /// for in vain.
+    fn desk_of<R: Wait>(&self, rt: &R, publisher: usize) -> MutexGuard<'_, HeldDesk<D>>
+        requires { publisher < S.publishers }
+        ensures { (mutex_guard_value result).publisher ≡ publisher }
+    {
+        for _ in rt.forever() {
+            let held = self.desks[publisher].lock(rt);
+            if held.publisher == publisher {
+                return held;
+            }
+            thread::yield_now();
+        }
+        unreachable!()
     }
 
     /// Makes a call, and hands its effect out with the receipt.
@@ -358,10 +376,14 @@ fn new_desks<D: DeskCalls>(
 {
     let mut shares = shares;
     let mut desks = Vec::with_capacity(alloc, publishers)?;
-    for _at in 0..publishers {
+    for publisher in 0..publishers {
         let desk = Desk::new(alloc, gap, request_ms)?;
         let share = shares.split_off(1, 0);
-        desks.push(Mutex::new(HeldDesk { desk, share }))?;
+        desks.push(Mutex::new(HeldDesk {
+            publisher,
+            desk,
+            share,
+        }))?;
     }
     Ok(desks)
 }

@@ -90,6 +90,7 @@ impl<S: SeatCalls> DeskSeat<S> {
     ) -> Result<Receipt, HouseFault>
         requires stays { HasStay call }
         requires publisher { publisher < S.publishers }
+        requires here { held.old.publisher ≡ publisher }
         ensures refused { IsErr result ↔ (call_count held.old.desk < calls_to publisher self.old)
             ⊎ IsOverLimit held.old.desk call }
         ensures fault_here { IfErr result (IsFaultAt publisher call self.old held.old.desk) }
@@ -101,14 +102,18 @@ impl<S: SeatCalls> DeskSeat<S> {
         ensures effect { OnOk result (IsEffect (announced_of held.old.desk.bounds)
             (announced_of held.new.desk.bounds) effect.new) }
         ensures receipt { IfOk result (IsReceiptOf publisher call self.old) }
+        ensures place { held.new.publisher ≡ publisher }
         ensures told { IfOk result (λ r. IsTold D.gap D.request_ms r effect.new) }
         ensures counted { OnOk result (Counts publisher call self.old self.new) }
     {
         let calls = held.desk.calls();
         if calls < self.calls(publisher) {
+            if held.desk.is_over_limit(&call) {
+                return Err(HouseFault::HistoryFull);
+            }
             return Err(HouseFault::Behind(calls));
         }
-        let HeldDesk { desk, share } = held;
+        let HeldDesk { desk, share, .. } = held;
         let Ok(Recorded { number, answer }) = desk.call(&call, effect) else {
             return Err(HouseFault::HistoryFull);
         };
@@ -131,6 +136,7 @@ impl<S: SeatCalls> DeskSeat<S> {
         moment: u64,
     ) -> Result<Receipt, HouseFault>
         requires publisher { publisher < S.publishers }
+        requires here { held.old.publisher ≡ publisher }
         ensures refused { IsErr result ↔ (call_count held.old.desk < calls_to publisher self.old)
             ⊎ IsOverLimit held.old.desk (call.Time moment signal.Tick) }
         ensures fault_here { IfErr result (IsFaultAt publisher
@@ -143,27 +149,31 @@ impl<S: SeatCalls> DeskSeat<S> {
         ensures announced { held.new.desk.bounds ≡ held.old.desk.bounds }
         ensures receipt { IfOk result (IsReceiptOf publisher (call.Time moment signal.Tick)
             self.old) }
+        ensures place { held.new.publisher ≡ publisher }
         ensures answered { IfOk result (IsPulsed D.gap D.request_ms) }
         ensures counted { OnOk result (Counts publisher (call.Time moment signal.Tick)
             self.old self.new) }
     {
-        let calls = held.desk.calls();
-        if calls < self.calls(publisher) {
-            return Err(HouseFault::Behind(calls));
-        }
-        let HeldDesk { desk, share } = held;
-        let Ok(Recorded { number, answer }) = desk.pulse(moment) else {
-            return Err(HouseFault::HistoryFull);
-        };
-        let call = Call::Time {
+        let tick = Call::Time {
             moment,
             signal: Signal::Tick,
         };
-        self.count(rt, share, tally, publisher, &call);
+        let calls = held.desk.calls();
+        if calls < self.calls(publisher) {
+            if held.desk.is_over_limit(&tick) {
+                return Err(HouseFault::HistoryFull);
+            }
+            return Err(HouseFault::Behind(calls));
+        }
+        let HeldDesk { desk, share, .. } = held;
+        let Ok(Recorded { number, answer }) = desk.pulse(moment) else {
+            return Err(HouseFault::HistoryFull);
+        };
+        self.count(rt, share, tally, publisher, &tick);
         Ok(Receipt {
             publisher,
             number,
-            call,
+            call: tick,
             answer,
         })
     }
