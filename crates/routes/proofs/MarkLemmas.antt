@@ -31,6 +31,11 @@ pub begins_by : {A : Type 0} (xs ys zs : List A) (n m : ℕ) → n ≡ length xs
 begins_by xs ys zs n m nx my p q true is = let le : n ≤ m = grind (arith, nat_tests) in prefix_shorter xs ys zs p q (omega arith)
 begins_by xs ys zs n m nx my p q false is = let lt : m < n = grind (arith, nat_tests) in prefix_shorter ys xs zs q p (omega arith)
 
+-- a beginning is no longer than the whole
+pub no_longer : {A : Type 0} (xs ys : List A) (n m : ℕ) → n ≡ length xs → m ≡ length ys → IsPrefix xs ys → IsTrue (leb n m)
+no_longer xs ys n m nx my p =
+    let le : n ≤ m = omega (arith, ap length p.1, length-append xs p.0) in grind (arith, nat_tests)
+
 -- two beginnings are the same exactly where they are as long
 pub same_by : {A : Type 0} (xs ys zs : List A) (n m : ℕ) → n ≡ length xs → m ≡ length ys → IsPrefix xs zs → IsPrefix ys zs
     → IsTrue (n == m) ↔ (xs ≡ ys)

@@ -20,8 +20,3 @@ pub use opening::{Blank, MAX_READERS, RoutesFault, routes};
 pub use reader::RouteReader;
 pub use rule::Naming;
 pub use writer::{NoMemory, RouteWriter};
-
-#[cfg(test)]
-mod tests;
-#[cfg(test)]
-mod thread_tests;

@@ -1,6 +1,6 @@
 //! How far the publications are known: their number, and a token that stands for them.
 
-ghost use Rattle.std.specs.Prelude.{◌≡◌, ◌<◌, ◌^◌, ◌++◌, ◌∷◌, ◌↔◌, [], length, IsTrue, MatchBool, IfSome};
+ghost use Rattle.std.specs.Prelude.{◌≡◌, ◌<◌, ◌≤◌, ◌^◌, ◌++◌, ◌∷◌, ◌↔◌, [], length, IsTrue, MatchBool, IfSome};
 ghost use mathlib.Core.List.{IsPrefix};
 ghost use Rattle.routes.specs.Publications.{head_of};
 
@@ -88,9 +88,10 @@ impl Mark {
     /// Whether this one has no more publications than the other. Then the other begins with it.
     pub(crate) fn begins(&self, other: &Mark) -> bool
         requires { other.now.seen.book ≡ self.now.seen.book }
-        ensures { MatchBool result
+        ensures beginning { MatchBool result
             (IsPrefix self.now.seen.log other.now.seen.log)
             (IsPrefix other.now.seen.log self.now.seen.log) }
+        ensures begins { IsPrefix self.now.seen.log other.now.seen.log → IsTrue result }
     {
         let mut both = self.seen.again();
         both.learn(&other.seen);
@@ -107,7 +108,14 @@ impl Mark {
         self.count == other.count
     }
 
-    /// One publication more, if nobody else made one.
+    /// Whether there are 2^62 publications, which is as many as the book may have.
+    fn is_full(&self) -> bool
+        ensures { IsTrue result ↔ (2 ^ 62 ≤ length self.now.seen.log) }
+    {
+        self.count >= MOST
+    }
+
+    /// One publication more, if nobody else made one and the book isn't full.
     pub(crate) fn publish(
         &self,
         head: &Word<[Change; 0], u64, Law>,
@@ -117,7 +125,7 @@ impl Mark {
         ensures { IfSome result (λ m. (m.seen.book ≡ self.now.seen.book)
             × (m.seen.log ≡ self.now.seen.log ++ changes.now.items ∷ [])) }
     {
-        if self.count >= MOST {
+        if self.is_full() {
             return None;
         }
         let mut seen = self.seen.again();

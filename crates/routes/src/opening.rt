@@ -1,8 +1,10 @@
 //! A new route table: its writer and its readers.
 
-ghost use Rattle.std.specs.Prelude.{◌≡◌, ◌≤◌, [], length, All, IfOk};
+ghost use Rattle.std.specs.Prelude.{◌≡◌, ◌≤◌, [], length, All, IfOk, IfErr};
+ghost use Rattle.routes.specs.declared.opening.RoutesFault.TheVariants.{NoPlace, NoMemory};
+ghost use Rattle.routes.specs.Publications.{changes_of};
 ghost use Rattle.routes.specs.Rows.{opening_rows};
-ghost use Rattle.routes.specs.Views.{IsOpening};
+ghost use Rattle.routes.specs.Views.{IsOpening, IsTable};
 
 use crate::change::Change;
 use crate::mark::{Law, Mark};
@@ -33,6 +35,8 @@ pub enum RoutesFault {
 }
 
 impl From<AllocError> for RoutesFault {
+    ghost from_gives = { λ _ fault. fault ≡ NoMemory };
+
     fn from(_: AllocError) -> RoutesFault {
         RoutesFault::NoMemory
     }
@@ -145,7 +149,7 @@ fn make_readers<J: Naming>(
     let mut readers = Vec::with_capacity(alloc, count)?;
     while readers.len() < count {
         let reader = make_reader(alloc, writer, mark, legs)?;
-        readers.push(reader).map_err(|_| RoutesFault::NoMemory)?;
+        readers.push(reader).map_err(|_| AllocError)?;
     }
     Ok(readers)
 }
@@ -161,6 +165,20 @@ fn make_reader<J: Naming>(
     ensures { IfOk result (IsOpening J.legs) }
 {
     let taken = opening_table(alloc, legs, mark)?;
+    reader_with(alloc, writer, taken)
+}
+
+/// A reader with this copy of the table. Refused only if there is no place for it.
+fn reader_with<J: Naming>(
+    alloc: Global,
+    writer: &TableWriter<J>,
+    taken: Table,
+) -> Result<RouteReader<J>, RoutesFault>
+    requires { IsTable J.book J.legs taken }
+    ensures known { IfOk result (λ r. r.known ≡ changes_of taken.mark.seen.log) }
+    ensures rows { IfOk result (λ r. r.rows ≡ taken.rows.items) }
+    ensures no_place { IfErr result (λ fault. fault ≡ NoPlace) }
+{
     match writer.factory().reader() {
         Ok(reader) => Ok(RouteReader::new(alloc, reader, taken)),
         Err(_) => Err(RoutesFault::NoPlace),

@@ -1,6 +1,6 @@
 //! A reader of the route table: it takes the rows without waiting, and never goes back.
 
-ghost use Rattle.std.specs.Prelude.{◌≡◌, MatchBool};
+ghost use Rattle.std.specs.Prelude.{◌≡◌, IsTrue, MatchBool};
 ghost use mathlib.Core.List.{IsPrefix};
 ghost use Rattle.routes.specs.Views.{IsTable, Sees};
 
@@ -183,7 +183,7 @@ fn look<J: Naming>(reader: TableReader<J>, held: Held) -> (TableReader<J>, Held)
     }
 }
 
-/// Takes the table, unless more is known than its rows follow from.
+/// Takes the table, unless more is known than its rows follow from: what is there is a view, if it was taken before or not.
 fn take_table<J: Naming>(table: &Table, held: Held) -> Held
     requires table { IsTable J.book J.legs table.now }
     requires book { held.known.seen.book ≡ J.book }
@@ -192,6 +192,7 @@ fn take_table<J: Naming>(table: &Table, held: Held) -> Held
     ensures taken { IsTable J.book J.legs result.taken }
     ensures sees { Sees J.legs held.known.seen.log held.taken.rows.items
         result.is_new result.known.seen.log result.taken.rows.items }
+    ensures view { IsPrefix held.known.seen.log table.now.mark.seen.log → IsTrue result.is_new }
 {
     if !held.known.begins(&table.mark) {
         return Held {

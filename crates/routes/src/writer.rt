@@ -51,7 +51,7 @@ impl<J: Naming> Model for RouteWriter<J> {
 }
 
 impl<J: Naming> RouteWriter<J> {
-    ghost use Rattle.std.specs.Prelude.{◌≡◌, ◌++◌, [], drop, OnOk, OnErr};
+    ghost use Rattle.std.specs.Prelude.{◌≡◌, ◌≢◌, ◌++◌, [], drop, OnOk, OnErr};
     ghost use Rattle.routes.specs.Rows.{changes_by};
     ghost use Rattle.routes.specs.Publications.{changes_of, head_of};
     ghost use Rattle.routes.specs.Views.{IsAhead, IsNext};
@@ -83,11 +83,12 @@ impl<J: Naming> RouteWriter<J> {
     }
 
     /// Notes a `Route` of a leg of the table, to be published. Of other orders nothing is noted, and that is Ok.
-    /// Refused where no memory is left; then nothing is noted.
+    /// Refused only if there is something to note, and no memory is left for it; then nothing is noted.
     pub fn change(&mut self, order: &Order) -> Result<(), NoMemory>
         ensures published { self.new.published ≡ self.old.published }
         ensures ok { OnOk result (self.new.noted ≡ self.old.noted ++ changes_by J.legs order.now) }
-        ensures err { OnErr result (self.new.noted ≡ self.old.noted) }
+        ensures err { OnErr result ((self.new.noted ≡ self.old.noted)
+            × (changes_by J.legs order.now ≢ [])) }
     {
         match *order {
             Order::Route {

@@ -1,4 +1,4 @@
-use Rattle.routes.proofs.tests.readers_take_what_was_published.Given as goal
+use Rattle.routes_tests.proofs.row_tests.readers_take_what_was_published.Given as goal
 
 -- the table that was just opened
 abbrev pub ghosts-take_published : goal.ghosts-take_published

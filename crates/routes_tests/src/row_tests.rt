@@ -2,7 +2,7 @@
 
 ghost use Rattle.std.specs.Prelude.{◌≡◌};
 
-use super::*;
+use routes::*;
 use std::alloc::Global;
 use std::marker::Brand;
 use std::process::Abort;

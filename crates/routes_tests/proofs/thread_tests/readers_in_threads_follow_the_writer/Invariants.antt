@@ -1,4 +1,4 @@
-use Rattle.routes.proofs.thread_tests.readers_in_threads_follow_the_writer.Given as goal
+use Rattle.routes_tests.proofs.thread_tests.readers_in_threads_follow_the_writer.Given as goal
 
 -- the table that was just opened
 abbrev pub ghosts-follow_beside : goal.ghosts-follow_beside
