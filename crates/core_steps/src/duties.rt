@@ -41,7 +41,7 @@ pub enum Duty {
 
 /// The room, and what waits for the ingress: the machine without desks, rows and workers, which its driver has. Contracts
 /// see it as a world of the machine.
-#[derive(Debug, Drop)]
+#[derive(Drop)]
 pub struct IngressCore {
     machine: Machine,
 }
