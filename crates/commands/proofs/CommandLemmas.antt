@@ -2,12 +2,12 @@
 use Rattle.std.proofs.Common.{◌≡◌, ℕ, List, Option, None, Some, Ok, Err, subst}
 use Rattle.std.specs.Prelude.{IfSome}
 use Rattle.std.specs.Io.KnownBytes.{Keeps}
-use Rattle.commands.specs.CommandLine.{bound}
+use Rattle.commands.specs.CommandLine.{bound, draw}
 use Rattle.request_text.specs.Lines.{TextLeaves}
 use Rattle.endings.specs.declared.status.Failure.{Failure}
 use Rattle.endings.specs.declared.status.Failure.TheVariants.{NoMemory, Refused, Io}
 use Rattle.endings.specs.declared.status.Status.TheVariants as status
-use Rattle.commands.specs.Command.{FailsBound, PrintsBound, RefusesBound}
+use Rattle.commands.specs.Command.{FailsBound, PrintsBound, PrintsPicture, RefusesBound}
 use Rattle.endings.specs.Endings.{ShowsLine, status_of}
 use Rattle.scripts.specs.Replay.{PrintsByFile, PrintsReplay, RefusesByFile, RefusesReplay}
 use Rattle.settings_text.specs.SettingsFaults.{TextGives}
@@ -29,6 +29,19 @@ shown_set asked media input old new same printed = subst (λ (n : ℕ). IfSome i
 
 pub same_media : (asked media : ℕ) → Some (bound asked) ≡ Some (bound media) → asked ≡ media
 same_media asked media e = cc
+
+pub same_drawn : (asked media : ℕ) → Some (draw asked) ≡ Some (draw media) → asked ≡ media
+same_drawn asked media e = cc
+
+pub shown_picture : (asked media : ℕ) (input old new : Option (List ℕ)) → asked ≡ media → IfSome input (λ text. PrintsPicture asked text old new)
+    → IfSome input (λ text. PrintsPicture media text old new)
+shown_picture asked media input old new same printed = subst (λ (n : ℕ). IfSome input (λ text. PrintsPicture n text old new)) same printed
+
+pub shown_fault : (asked media : ℕ) (input old new errors_old errors_new : Option (List ℕ)) → asked ≡ media
+    → IfSome input (λ text. Keeps old new × RefusesBound asked text errors_old errors_new)
+    → IfSome input (λ text. Keeps old new × RefusesBound media text errors_old errors_new)
+shown_fault asked media input old new errors_old errors_new same refused =
+    subst (λ (n : ℕ). IfSome input (λ text. Keeps old new × RefusesBound n text errors_old errors_new)) same refused
 
 -- what a replay prints, by the settings that a file holds
 pub printed_by_file : (f : FileSettings) (input old new : Option (List ℕ)) → (text : List ℕ) × TextGives text (Ok f)

@@ -23,7 +23,7 @@ use Rattle.clap.specs.declared.builder.ValueParser.{ValueParser}
 use Rattle.clap.specs.declared.builder.ValueParser.TheVariants as vp
 use Rattle.std.proofs.lemmas.Fmt.{decimal_is_IsNumeral}
 use Rattle.request_text.proofs.DigitLemmas.{digits_back, digits_from}
-use Rattle.commands.specs.CommandLine.{IsWritable, Types, words_of, Request, asked_for, request_found, asked_named, bound, check, replay, sfu, number_of, serve, number_in, option_words}
+use Rattle.commands.specs.CommandLine.{IsWritable, Types, words_of, Request, asked_for, request_found, asked_named, bound, check, replay, sfu, number_of, serve, number_in, option_words, draw}
 
 -- ---- reading a number
 
@@ -92,6 +92,21 @@ pub bound_taken : (name : Text) (d : ℕ) (ds : Text) → (d == 45) ≡ false �
     → takes sfu (name ∷ codes "bound" ∷ codes "--sender" ∷ (d ∷ ds) ∷ []) ≡ true
 unfolding clap_on_literals
 bound_taken name d ds e p = rw (e, no_hyphen d ds e, p) refl
+
+draw_found : (name : Text) (d : ℕ) (ds : Text) → (d == 45) ≡ false
+    → subcommand_of sfu (name ∷ codes "draw" ∷ codes "--sender" ∷ (d ∷ ds) ∷ []) ≡ Some (codes "draw", row (codes "sender") WithoutMinus (d ∷ ds) ∷ [])
+unfolding clap_on_literals
+draw_found name d ds e = rw (e, no_hyphen d ds e) refl
+
+pub draw_asked : (name : Text) (d : ℕ) (ds : Text) → (d == 45) ≡ false
+    → asked_for (name ∷ codes "draw" ∷ codes "--sender" ∷ (d ∷ ds) ∷ []) ≡ option_map draw (number_of (d ∷ ds))
+draw_asked name d ds e =
+    ap request_found (draw_found name d ds e) ∙ ap (λ (o : Option Text). option_map draw (number_of (unwrap_or o (d ∷ ds)))) (no_hyphen d ds e)
+
+pub draw_taken : (name : Text) (d : ℕ) (ds : Text) → (d == 45) ≡ false → accepts false u32_parser (d ∷ ds) ≡ true
+    → takes sfu (name ∷ codes "draw" ∷ codes "--sender" ∷ (d ∷ ds) ∷ []) ≡ true
+unfolding clap_on_literals
+draw_taken name d ds e p = rw (e, no_hyphen d ds e, p) refl
 
 check_found : (name : Text) (d : ℕ) (ds : Text) → (d == 45) ≡ false
     → subcommand_of sfu (name ∷ codes "check" ∷ (d ∷ ds) ∷ []) ≡ Some (codes "check", row (codes "FILE") AsWritten (d ∷ ds) ∷ [])
@@ -280,6 +295,10 @@ read_at words (serve (d ∷ ds) None (Some m)) name is fits =
     subst (λ (t : Text). IsRead (name ∷ codes "serve" ∷ (d ∷ ds) ∷ codes "--status" ∷ t ∷ []) (serve (d ∷ ds) None (Some m))) (sym k.is)
     (status_asked name d ds k.d k.ds plain k.plain ∙ ap (λ o. Some (serve (d ∷ ds) None o)) k.read, status_taken name d ds k.d k.ds plain k.plain k.passes)
 read_at words (serve file (Some n) (Some m)) name is fits = absurd fits
+read_at words (draw n) name is fits =
+    let k = decimal_number n fits in
+    subst (λ (t : Text). IsRead (name ∷ codes "draw" ∷ codes "--sender" ∷ t ∷ []) (draw n)) (sym k.is)
+    (draw_asked name k.d k.ds k.plain ∙ ap (option_map draw) k.read, draw_taken name k.d k.ds k.plain k.passes)
 
 pub some_is : {X : Type 0} (x y : X) → Some x ≡ Some y → x ≡ y
 some_is x y e = cc

@@ -8,6 +8,7 @@ use Rattle.std.specs.declared.io.ErrorKind.TheVariants.{OutOfMemory}
 use Rattle.rate_cert.specs.declared.fault.CertFault.{CertFault}
 use Rattle.request_text.specs.declared.fault.LineFault.TheVariants.{Text}
 use Rattle.bounding_set.specs.State.{State, AnnouncesSmallest}
+use Rattle.drawing.specs.Picture.{picture_text}
 use Rattle.request_text.specs.BoundText.{answer_text, bound_text, refused_text}
 use Rattle.request_text.specs.Lines.{Asked, Refused, AreRowsOf, HoldsLastWords, TextLeaves}
 use Rattle.request_text.specs.declared.bound.Refusal.{Refusal}
@@ -27,6 +28,17 @@ pub record PrintsBound (media : ℕ) (input : List ℕ) (old new : Option (List 
   pub last : HoldsLastWords media input state.rows
   pub announced : AnnouncesSmallest state
   pub printed : Appends old new (bound_text media state)
+
+-- What is printed is the picture of the requests that the input leaves, the last word of each owner, and of the set that is
+-- announced for them.
+pub record PrintsPicture (media : ℕ) (input : List ℕ) (old new : Option (List ℕ)) : Type 0 where
+  pub live : List Asked
+  pub state : State
+  pub left : TextLeaves media input (Ok live)
+  pub rows : AreRowsOf live state.rows
+  pub last : HoldsLastWords media input state.rows
+  pub announced : AnnouncesSmallest state
+  pub printed : Appends old new (picture_text media state)
 
 -- What goes to the error output is the stated line for the first fault of the input.
 pub record RefusesBound (media : ℕ) (input : List ℕ) (old new : Option (List ℕ)) : Type 0 where

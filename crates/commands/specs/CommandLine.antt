@@ -9,7 +9,7 @@ use Rattle.clap.specs.declared.builder.command.Command.{Command}
 use Rattle.clap.specs.declared.builder.command.Command.TheViews.{out-Command}
 use Rattle.request_text.specs.Words.{number_under}
 use Rattle.commands.specs.declared.command_line.Action.{Action}
-use Rattle.commands.specs.declared.command_line.Action.TheVariants.{Bound, Check, Replay, Serve}
+use Rattle.commands.specs.declared.command_line.Action.TheVariants.{Bound, Check, Draw, Replay, Serve}
 
 -- a required option with a number below 2 ^ 32
 abbrev pub number_rule : Text → Rule
@@ -24,9 +24,9 @@ number_rule name = record (new_rule name) {
 abbrev pub HasNoGlobals : Command → Type 0
 HasNoGlobals c = (out-Command c).has_globals ≡ false
 
--- the program's command line
-abbrev pub bound_app : App
-bound_app = with_rule (new_app (codes "bound")) (number_rule (codes "sender"))
+-- a subcommand with a media sender
+abbrev pub sender_app : Text → App
+sender_app name = with_rule (new_app name) (number_rule (codes "sender"))
 
 -- a required word
 abbrev pub file_rule : Rule
@@ -55,10 +55,13 @@ sfu_top = record (new_app (codes "sfu")) {
   top = record (new_app (codes "sfu")).top { subcommand_required = true };
 }
 
+-- the program's command line
 abbrev pub sfu : App
 sfu = with_subcommand
-    (with_subcommand (with_subcommand (with_subcommand sfu_top bound_app.top)
-    (file_app (codes "check")).top) (file_app (codes "replay")).top) serve_app.top
+    (with_subcommand
+    (with_subcommand (with_subcommand (with_subcommand sfu_top (sender_app (codes "bound")).top)
+    (file_app (codes "check")).top) (file_app (codes "replay")).top) serve_app.top)
+    (sender_app (codes "draw")).top
 
 -- what can be asked for
 pub data Request : Type 0 where
@@ -66,12 +69,14 @@ pub data Request : Type 0 where
   check : Text → Request
   replay : Text → Request
   serve : Text → Option ℕ → Option ℕ → Request
+  draw : ℕ → Request
 
 abbrev pub action_request : Action → Request
 action_request (Bound media) = bound media
 action_request (Check file) = check file.now
 action_request (Replay file) = replay file.now
 action_request (Serve file ticks status) = serve file.now ticks status
+action_request (Draw media) = draw media
 
 -- the number that a word spells
 abbrev pub number_of : Text → Option ℕ
@@ -90,6 +95,7 @@ asked_named name rows =
     then option_map
     (λ file. serve file (number_in (codes "ticks") rows) (number_in (codes "status") rows))
     (first_of (codes "FILE") rows)
+    else if bytes_eq name (codes "draw") then option_map draw (number_in (codes "sender") rows)
     else None
 
 abbrev pub request_found : Option (Text × List Row) → Option Request
@@ -111,6 +117,7 @@ AsksToServe (Some (bound media)) = ⊥
 AsksToServe (Some (check file)) = ⊥
 AsksToServe (Some (replay file)) = ⊥
 AsksToServe (Some (serve file ticks status)) = Unit {0}
+AsksToServe (Some (draw media)) = ⊥
 
 -- the words behind the program's name that ask for it in the plainest way
 abbrev pub words_of : Request → List Text
@@ -119,6 +126,7 @@ words_of (check file) = codes "check" ∷ file ∷ []
 words_of (replay file) = codes "replay" ∷ file ∷ []
 words_of (serve file ticks status) = codes "serve" ∷ file
     ∷ (option_words (codes "--ticks") ticks ++ option_words (codes "--status") status)
+words_of (draw media) = codes "draw" ∷ codes "--sender" ∷ decimal media ∷ []
 
 -- a file's name that has a first byte, which is no hyphen
 abbrev pub IsFileName : Text → Type 0
@@ -138,6 +146,7 @@ IsWritable (replay file) = IsFileName file
 IsWritable (serve file ticks None) = IsFileName file × IsOption ticks 1000000
 IsWritable (serve file None (Some seconds)) = IsFileName file × IsOption (Some seconds) 86400
 IsWritable (serve file (Some ticks) (Some seconds)) = ⊥
+IsWritable (draw media) = media < 2 ^ 32
 
 abbrev pub Types : List Text → Request → Type 0
 Types words asked = (name : Text) × (words ≡ name ∷ words_of asked) × IsWritable asked

@@ -2,8 +2,8 @@
 
 ghost use Rattle.std.specs.Prelude.{◌≡◌, ◌≢◌, ℕ, List, Option, map, None, Some, Ok, Err, IfSome, IfOk, IfErr, OnOk, codes};
 ghost use Rattle.std.specs.Io.KnownBytes.{Appends, Keeps};
-ghost use Rattle.commands.specs.CommandLine.{AsksToServe, Request, Types, asked_for, bound, check, replay, serve};
-ghost use Rattle.commands.specs.Command.{FailsBound, PrintsBound, RefusesBound, SaysNo};
+ghost use Rattle.commands.specs.CommandLine.{AsksToServe, Request, Types, asked_for, bound, check, draw, replay, serve};
+ghost use Rattle.commands.specs.Command.{FailsBound, PrintsBound, PrintsPicture, RefusesBound, SaysNo};
 ghost use Rattle.endings.specs.Endings.{SaysWhy};
 ghost use Rattle.scripts.specs.Replay.{PrintsByFile, RefusesByFile};
 ghost use Rattle.settings.specs.Settings.{Configuration};
@@ -14,6 +14,7 @@ ghost use Rattle.settings_text.specs.SettingsText.{SaysProblem};
 
 use crate::check_file::check_lines;
 use crate::command_line::{Action, read_words};
+use drawing::set_picture;
 use endings::{Failure, Status, refuse_words, report, report_settings, unreadable};
 use request_text::{bound_text, read_lines};
 use scripts::replay_lines;
@@ -74,6 +75,15 @@ pub fn run_command<
     ensures serve_said { (file : List ℕ) (ticks : Option ℕ)
         → asked_for (map S.text words.now) ≡ Some (serve file ticks None)
         → SaysWhyServing (E.contents errors.old) (E.contents errors.new) result }
+    ensures draw_done { (media : ℕ) → asked_for (map S.text words.now) ≡ Some (draw media)
+        → result ≡ Status.Done
+        → IfSome (I.remaining reader.old)
+        (λ input. PrintsPicture media input (O.contents writer.old) (O.contents writer.new)) }
+    ensures draw_refused { (media : ℕ) → asked_for (map S.text words.now) ≡ Some (draw media)
+        → result ≡ Status.Refused
+        → IfSome (I.remaining reader.old)
+        (λ input. Keeps (O.contents writer.old) (O.contents writer.new)
+        × RefusesBound media input (E.contents errors.old) (E.contents errors.new)) }
     ensures settings { result ≡ Status.Settings
         → Keeps (O.contents writer.old) (O.contents writer.new)
         × SaysProblem (E.contents errors.old) (E.contents errors.new) }
@@ -99,6 +109,7 @@ pub fn run_command<
                 status,
             },
         ) => run_serve(rt, file, Term { ticks, status }, writer, errors),
+        Ok(Action::Draw { media }) => run_draw(alloc, Ssrc(media), reader, writer, errors),
         Err(error) => refuse_words(alloc, errors, &error),
     }
 }
@@ -242,5 +253,48 @@ fn run_bound<I: Read, O: Write>(
     let bounds = read_lines(alloc, input.as_slice(), media)?;
     let text = bound_text(alloc, media, &bounds)?;
     writer.write_all(text.as_bytes())?;
+    Ok(())
+}
+
+/// `sfu draw`: draws the requests of the input's lines and the set that is announced for them.
+fn run_draw<I: Read, O: Write, E: Write>(
+    alloc: Global,
+    media: Ssrc,
+    reader: &mut I,
+    writer: &mut O,
+    errors: &mut E,
+) -> Status
+    ensures done { result ≡ Status.Done → IfSome (I.remaining reader.old) (λ input.
+        PrintsPicture media.0 input (O.contents writer.old) (O.contents writer.new)) }
+    ensures refused { result ≡ Status.Refused → IfSome (I.remaining reader.old) (λ input.
+        Keeps (O.contents writer.old) (O.contents writer.new)
+        × RefusesBound media.0 input (E.contents errors.old) (E.contents errors.new)) }
+    ensures understood { (result ≢ Status.CommandLine) × (result ≢ Status.Settings) }
+    ensures said { SaysWhy (E.contents errors.old) (E.contents errors.new) result }
+{
+    match draw_lines(alloc, media, reader, writer) {
+        Ok(()) => Status::Done,
+        Err(failure) => report(alloc, errors, failure),
+    }
+}
+
+/// Prints the picture for the lines of the input, or nothing.
+fn draw_lines<I: Read, O: Write>(
+    alloc: Global,
+    media: Ssrc,
+    reader: &mut I,
+    writer: &mut O,
+) -> Result<(), Failure>
+    ensures done { OnOk result (IfSome (I.remaining reader.old) (λ input.
+        PrintsPicture media.0 input (O.contents writer.old) (O.contents writer.new))) }
+    ensures refused { IfErr result
+        (FailsBound media.0 (I.remaining reader.old) (O.contents writer.old)
+        (O.contents writer.new)) }
+{
+    let mut input = Vec::new(alloc);
+    reader.read_to_end(&mut input)?;
+    let bounds = read_lines(alloc, input.as_slice(), media)?;
+    let picture = set_picture(alloc, media, &bounds)?;
+    writer.write_all(picture.as_bytes())?;
     Ok(())
 }

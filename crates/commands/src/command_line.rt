@@ -2,7 +2,7 @@
 
 ghost use Rattle.std.specs.Prelude.{◌≡◌, ◌∷◌, ◌<◌, ◌^◌, ℕ, List, [], IfErr, IfOk, MatchResult, Some, codes, map, true, option_map, false};
 ghost use Rattle.clap.specs.Words.{app_of, found_of, kind_of, rows_of, rule_of, subcommand_rows_of, takes};
-ghost use Rattle.commands.specs.CommandLine.{HasNoGlobals, Request, Types, asked_for, bound_app, file_app, request_found, asked_named, file_rule, number_in, number_rule, optional_rule, action_request, serve_app, sfu};
+ghost use Rattle.commands.specs.CommandLine.{HasNoGlobals, Request, Types, asked_for, file_app, request_found, asked_named, file_rule, number_in, number_rule, optional_rule, action_request, sender_app, serve_app, sfu, sfu_top};
 
 use clap::builder::ValueParser;
 use clap::error::ErrorKind;
@@ -32,6 +32,10 @@ pub enum Action<'a> {
         ticks: Option<u32>,
         status: Option<u32>,
     },
+    /// `sfu draw --sender N`: a picture of the requests of the lines and of the set.
+    Draw {
+        media: u32,
+    },
 }
 
 /// How many turns `--ticks` may name.
@@ -49,6 +53,9 @@ const CHECK_HELP: &str = "Says whether a certificate holds, or what its first fa
 const REPLAY_HELP: &str = "Plays a script through the unit, event by event";
 
 const SERVE_HELP: &str = "Runs the unit on a UDP socket";
+
+const DRAW_HELP: &str =
+    "Draws the requests in a list of datagrams and the set that is announced for them, as an SVG";
 
 // What it says of each file and option.
 const CERTIFICATE_HELP: &str = "The certificate: lines as `sfu bound` prints them";
@@ -97,22 +104,34 @@ fn action_of<'a, S: AsStr>(alloc: Global, words: &'a [S]) -> Result<Action<'a>, 
 fn command<'a>(alloc: Global) -> Result<Command<'a>, AllocError>
     ensures { IfOk result (λ c. app_of c ≡ sfu) }
 {
+    top_command(alloc)
+        .subcommand(sender_command(alloc, "bound", BOUND_HELP)?)?
+        .subcommand(file_command(alloc, "check", CHECK_HELP, CERTIFICATE_HELP)?)?
+        .subcommand(file_command(alloc, "replay", REPLAY_HELP, ROOM_HELP)?)?
+        .subcommand(serve_command(alloc)?)?
+        .subcommand(sender_command(alloc, "draw", DRAW_HELP)?)
+}
+
+/// The program, before its subcommands, of which one is required.
+fn top_command<'a>(alloc: Global) -> Command<'a>
+    ensures { app_of result ≡ sfu_top }
+{
     Command::new(alloc, "sfu")
         .about("A selective forwarding unit for RTP")
         .subcommand_required(true)
-        .subcommand(bound_command(alloc)?)?
-        .subcommand(file_command(alloc, "check", CHECK_HELP, CERTIFICATE_HELP)?)?
-        .subcommand(file_command(alloc, "replay", REPLAY_HELP, ROOM_HELP)?)?
-        .subcommand(serve_command(alloc)?)
 }
 
-/// `bound --sender N`.
-fn bound_command<'a>(alloc: Global) -> Result<Command<'a>, AllocError>
-    ensures app { IfOk result (λ c. app_of c ≡ bound_app) }
+/// A subcommand of this name, with a media sender; the help says this about it.
+fn sender_command<'a>(
+    alloc: Global,
+    name: &'a str,
+    about: &'a str,
+) -> Result<Command<'a>, AllocError>
+    ensures app { IfOk result (λ c. app_of c ≡ sender_app name.entry.now) }
     ensures local { IfOk result HasNoGlobals }
 {
-    Command::new(alloc, "bound")
-        .about(BOUND_HELP)
+    Command::new(alloc, name)
+        .about(about)
         .arg(number(alloc, "sender", SENDER_HELP))
 }
 
@@ -202,6 +221,9 @@ fn action_named<'a>(name: &str, matches: &ArgMatches<'a>) -> Option<Action<'a>>
             file: matches.get_str("FILE")?,
             ticks: number_in(matches, "ticks"),
             status: number_in(matches, "status"),
+        }),
+        "draw" => Some(Action::Draw {
+            media: number_in(matches, "sender")?,
         }),
         _ => None,
     }

@@ -1,7 +1,7 @@
 //! The commands of `sfu`: the words that ask for them, and what each does with which file.
 //!
 //! Read `command` first, `run_command`, which the program calls; `command_line` has the words, and `check_file` is `sfu check`. What
-//! `sfu bound` reads and prints is the crate `request_text`; `sfu replay` is `settings_text` and `scripts`, `sfu serve` is `serving`,
+//! `sfu bound` reads and prints is the crate `request_text`, what `sfu draw` prints `drawing`; `sfu replay` is `settings_text` and `scripts`, `sfu serve` is `serving`,
 //! and how a command ends is `endings`. What callers need of these is handed on.
 #![tactic(auto)]
 

@@ -10,6 +10,8 @@ mod check_tests;
 #[cfg(test)]
 mod command_tests;
 #[cfg(test)]
+mod draw_tests;
+#[cfg(test)]
 mod exchange_tests;
 #[cfg(test)]
 mod replay_fault_tests;

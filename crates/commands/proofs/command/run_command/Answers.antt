@@ -1,5 +1,5 @@
 use Rattle.std.proofs.Common.{◌≡◌, ◌∙◌, sym}
-use Rattle.commands.proofs.CommandLemmas.{shown_refusal, shown_set, same_media}
+use Rattle.commands.proofs.CommandLemmas.{shown_refusal, shown_set, same_media, same_drawn, shown_picture, shown_fault}
 use Rattle.serving.proofs.ServeLemmas.{says_alone}
 use Rattle.commands.proofs.command.run_command.Goals as goal
 
@@ -21,3 +21,15 @@ returns-in-Ok-clause-bound_done g c = λ media asked is.
 
 pub returns-in-Err-clause-serve_said : goal.returns-in-Err-clause-serve_said
 returns-in-Err-clause-serve_said g c = λ file ticks asked. says_alone _ _ _ c.refuse_words.ensures.done c.refuse_words.ensures.said
+
+pub returns-in-Ok-Draw-clause-draw_done : goal.returns-in-Ok-Draw-clause-draw_done
+returns-in-Ok-Draw-clause-draw_done g c = λ media asked is.
+    let here = rw c.in-Ok-Draw.field-0-is at c.in-Ok-Draw.ensures.asked in
+    let same : c.in-Ok-Draw.media ≡ media = same_drawn c.in-Ok-Draw.media media (sym here ∙ asked) in
+    shown_picture _ media _ _ _ same (c.run_draw.ensures.done is)
+
+pub returns-in-Ok-Draw-clause-draw_refused : goal.returns-in-Ok-Draw-clause-draw_refused
+returns-in-Ok-Draw-clause-draw_refused g c = λ media asked is.
+    let here = rw c.in-Ok-Draw.field-0-is at c.in-Ok-Draw.ensures.asked in
+    let same : c.in-Ok-Draw.media ≡ media = same_drawn c.in-Ok-Draw.media media (sym here ∙ asked) in
+    shown_fault _ media _ _ _ _ _ same (c.run_draw.ensures.refused is)

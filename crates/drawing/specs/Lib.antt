@@ -1,0 +1,3 @@
+pub mod Scale
+pub mod Line
+pub mod Picture
