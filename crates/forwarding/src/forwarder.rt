@@ -20,7 +20,7 @@ use std::marker::Model;
 use std::sync::Wait;
 
 /// A worker: the legs to the subscribers whose number, modulo the number of workers, is its own.
-#[derive(Debug, Drop)]
+#[derive(Drop)]
 pub struct Forwarder {
     notifier: Notifier,
     worker: u16,
