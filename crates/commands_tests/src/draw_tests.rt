@@ -1,10 +1,18 @@
 //! `sfu draw`, through the public call: a worked example, whose places were worked out by hand, and what is extreme.
 use super::test_commands::{Ran, run_words};
 use commands::Status;
+use std::net::Net;
+use std::rt::Files;
+use std::sync::Wait;
 use std::test::Fail;
+use std::thread::Threads;
+use std::time::Clock;
 
 /// Runs `sfu draw --sender 1` on these lines.
-fn draw(rt: &HostRuntime, lines: &str) -> Result<Ran, Fail> {
+fn draw(
+    rt: &(impl AllocGlobal + Files + Net + Threads + Wait + Sync + Clock),
+    lines: &str,
+) -> Result<Ran, Fail> {
     run_words(rt, ["sfu", "draw", "--sender", "1"].as_slice(), lines)
 }
 
