@@ -39,7 +39,7 @@ pub struct Row {
 }
 
 /// Orders in the making. Once no memory was left for one they are short, and stay so.
-#[derive(Drop)]
+#[derive(Debug, Drop)]
 pub struct Draft {
     orders: Vec<Order>,
     is_short: bool,

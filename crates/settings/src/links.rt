@@ -13,7 +13,7 @@ use std::marker::Model;
 use tmmbr_tuple::Ssrc;
 
 /// How many workers, endpoints and legs there are, and what each leg joins. No look-up passes over all legs.
-#[derive(Drop)]
+#[derive(Debug, Drop)]
 pub struct Links {
     workers: u16,
     endpoints: Vec<Ssrc>,

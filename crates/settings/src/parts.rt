@@ -3,7 +3,7 @@
 use std::alloc::{AllocError, Global};
 
 /// What was found of the settings. A number is `None` where it is missing or of the wrong kind.
-#[derive(Drop)]
+#[derive(Debug, Drop)]
 pub struct Parts {
     /// Threads that forward, 1 to 8.
     pub workers: Option<i64>,

@@ -51,7 +51,7 @@ pub struct LegSettings {
 }
 
 /// The settings of a room. All sources are distinct, and no two legs have one pair of endpoints.
-#[derive(Drop)]
+#[derive(Debug, Drop)]
 pub struct Settings {
     numbers: Numbers,
     unit_ssrc: Ssrc,

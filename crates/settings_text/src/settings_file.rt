@@ -12,7 +12,7 @@ use std::alloc::{AllocError, Global};
 use toml::{Table, Value};
 
 /// What a settings file says.
-#[derive(Drop)]
+#[derive(Debug, Drop)]
 pub struct FileSettings {
     /// The settings of the room.
     pub settings: Settings,

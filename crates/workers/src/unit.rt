@@ -20,7 +20,7 @@ use std::sync::ledger::Blank;
 use std::thread::{Parker, Threads};
 
 /// What a run came to. Each count stays at `u64::MAX` once there.
-#[derive(Drop)]
+#[derive(Debug, Drop)]
 pub struct Report {
     /// How many datagrams came from endpoints.
     pub heard: u64,
