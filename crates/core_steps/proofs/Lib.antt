@@ -14,6 +14,7 @@ pub mod HearingLeaves
 pub mod AskingLemmas
 pub mod IngressLemmas
 pub mod RunLemmas
+pub mod SettleLemmas
 pub mod WorkingLemmas
 pub mod WorldLemmas
 pub mod QuietRoomLemmas

@@ -51,7 +51,7 @@ use Rattle.core_steps.proofs.TraceLemmas.{StandsAnnounced, IsRecordedAt, asks_on
 -- ---- runs
 
 -- the beginning of a run is a run
-runs_first : (w : WorldState) (events : List Event) (first rest : List Happening) → Runs w events (first ++ rest)
+pub runs_first : (w : WorldState) (events : List Event) (first rest : List Happening) → Runs w events (first ++ rest)
     → (some : List Event) × Runs w some first
 runs_first w events [] rest r = ([], tt)
 runs_first w [] (h ∷ first) rest r = absurd r
@@ -192,7 +192,7 @@ shown_over_run c w events history new r before behind a is =
       set = f.recorded.told.announced;
     }
 
-announces_over_run : (c : Configuration) (w : WorldState) (events : List Event) (history : List Happening) → IsNewWorld c w
+pub announces_over_run : (c : Configuration) (w : WorldState) (events : List Event) (history : List Happening) → IsNewWorld c w
     → Runs w events history → Announces c history (worlds_after w history)
 announces_over_run c w events history new r = record {
   desks = λ p low.
@@ -371,7 +371,7 @@ none_live c entries owner n d stands left x =
 
 -- ---- stays that ended
 
-ends_over_run : (c : Configuration) (w : WorldState) (events : List Event) (history : List Happening) → IsNewWorld c w
+pub ends_over_run : (c : Configuration) (w : WorldState) (events : List Event) (history : List Happening) → IsNewWorld c w
     → Runs w events history → EndsStays c history (worlds_after w history)
 ends_over_run c w events history new r place leg stay l d some is f g =
     let t = done_at w events history place (order (Depart leg stay)) r is in

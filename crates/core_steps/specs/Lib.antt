@@ -18,3 +18,4 @@ pub mod Pushing
 pub mod Turns
 pub mod Duties
 pub mod Quiet
+pub mod Settling

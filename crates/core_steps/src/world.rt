@@ -185,6 +185,7 @@ fn hands_full(workers: &[Worker]) -> usize
 }
 
 impl World {
+    ghost use Rattle.members.specs.Presence.{is_present_at};
     ghost use Rattle.core_steps.specs.Rule.{is_busy};
     ghost use Rattle.core_steps.specs.Waits.{has_work, waiting_in};
 
@@ -210,6 +211,22 @@ impl World {
         ensures { slice_get self.now.desks publisher ≡ Some result.now }
     {
         &self.machine.desks[usize::from(publisher)]
+    }
+
+    /// The desks of all publishers, by their numbers, of a world that is done with.
+    pub fn into_desks(self) -> Vec<Desk>
+        ensures { result.items ≡ self.desks }
+    {
+        let World { machine } = self;
+        let Machine { desks, .. } = machine;
+        desks
+    }
+
+    /// Whether this endpoint is present.
+    pub fn is_present(&self, endpoint: u16) -> bool
+        ensures { result ≡ is_present_at self.now.room.endpoints endpoint }
+    {
+        self.machine.room.is_present(endpoint)
     }
 
     /// The published rows, one for each leg.

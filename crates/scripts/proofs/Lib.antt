@@ -1,4 +1,2 @@
-pub mod Settling
-pub mod SettleLemmas
 pub mod ScriptLemmas
 pub mod ReplayLemmas

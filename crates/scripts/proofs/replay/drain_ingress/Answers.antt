@@ -2,7 +2,7 @@ use Rattle.std.proofs.Common.{[], ◌∙◌, sym}
 use Rattle.events.specs.declared.event.Event.TheVariants.{Ingress}
 use Rattle.core_steps.specs.Rule.{is_busy}
 use Rattle.scripts.proofs.ReplayLemmas.{drains_on, is_drained}
-use Rattle.scripts.proofs.SettleLemmas.{ingress_falls}
+use Rattle.core_steps.proofs.SettleLemmas.{ingress_falls}
 use Rattle.scripts.proofs.replay.drain_ingress.Goals as goal
 
 pub loop-alloc-preserved : goal.loop-alloc-preserved

@@ -2,7 +2,7 @@ use Rattle.std.proofs.Common.{◌≡◌, length}
 use Rattle.events.specs.declared.event.Event.TheVariants.{Ingress}
 use Rattle.core_steps.specs.Rule.{is_busy}
 use Rattle.scripts.proofs.ReplayLemmas.{Drained}
-use Rattle.scripts.proofs.Settling.{ingress_left}
+use Rattle.core_steps.specs.Settling.{ingress_left}
 use Rattle.scripts.proofs.replay.drain_ingress.Given as goal
 
 abbrev pub invariant-loop-alloc : goal.invariant-loop-alloc

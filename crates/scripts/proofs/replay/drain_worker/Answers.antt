@@ -3,7 +3,7 @@ use Rattle.events.specs.declared.event.Event.TheVariants.{Work}
 use Rattle.core_steps.specs.Waits.{has_work}
 use Rattle.core_steps.specs.World.{WorldState}
 use Rattle.scripts.proofs.ReplayLemmas.{drains_on, is_drained}
-use Rattle.scripts.proofs.SettleLemmas.{work_falls}
+use Rattle.core_steps.proofs.SettleLemmas.{work_falls}
 use Rattle.scripts.proofs.replay.drain_worker.Goals as goal
 
 pub loop-alloc-preserved : goal.loop-alloc-preserved

@@ -2,7 +2,7 @@ use Rattle.std.proofs.Common.{◌≡◌, length}
 use Rattle.events.specs.declared.event.Event.TheVariants.{Work}
 use Rattle.core_steps.specs.Waits.{has_work}
 use Rattle.scripts.proofs.ReplayLemmas.{Drained}
-use Rattle.scripts.proofs.Settling.{work_left}
+use Rattle.core_steps.specs.Settling.{work_left}
 use Rattle.scripts.proofs.replay.drain_worker.Given as goal
 
 abbrev pub invariant-loop-alloc : goal.invariant-loop-alloc

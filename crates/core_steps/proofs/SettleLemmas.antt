@@ -23,7 +23,7 @@ use Rattle.core_steps.specs.Run.{HasRun, Runs, worlds_after}
 use Rattle.core_steps.specs.Waits.{has_work, pending_count, worker_has_work, works_more}
 use Rattle.core_steps.specs.World.{Hand, Task, WorkerState, WorldState, doing, expire, free, order, pulse, push, report, telling}
 use Rattle.notices.specs.Notification.{Pending}
-use Rattle.scripts.proofs.Settling.{hand_left, ingress_left, state_left, work_left}
+use Rattle.core_steps.specs.Settling.{hand_left, ingress_left, state_left, work_left}
 
 -- ---- a run of one event
 

@@ -1,0 +1,4 @@
+pub mod StepLemmas
+pub mod DrivingLemmas
+pub mod TurnLemmas
+pub mod DriverLemmas

@@ -1,0 +1,164 @@
+-- Turns: what a receive gave, and the moment that the clock told then. What comes of them from outside.
+use Rattle.std.specs.Prelude.{◌≡◌, ℕ, ◌+◌, ◌<◌, ◌≤◌, List, [], ◌∷◌, ◌++◌, map, length, Option, if◌then◌else◌}
+use Rattle.events.specs.declared.event.Event.{Event}
+use Rattle.events.specs.declared.event.Event.TheVariants.{Hear, Tick}
+use Rattle.events.specs.declared.output.Out.{Out}
+use Rattle.outside.specs.declared.datagram.Datagram.{Datagram}
+use Rattle.outside.specs.declared.source.TheConstants.{MAX_FAULTS}
+use Rattle.outside.specs.Outside.{Arrival, came, silence, failure, Grows, SinkView, datagrams_of}
+use Rattle.outside.specs.Ticks.{TicksState, is_due, ticks_after}
+use Rattle.core_steps.specs.Waits.{as_counted}
+use Rattle.core_steps.specs.World.{WorldState}
+use Rattle.one_thread.specs.declared.tally.Tally.{Tally}
+use Rattle.one_thread.specs.Driving.{Drives, DrivesSome}
+
+-- ---- what comes from outside
+
+pub record Turn : Type 0 where
+  pub arrival : Arrival
+  pub moment : ℕ
+
+-- a datagram is heard at the moment of its turn
+abbrev pub heard_at : ℕ → Arrival → List Event
+heard_at moment (came endpoint bytes) = Hear moment endpoint bytes ∷ []
+heard_at moment silence = []
+heard_at moment failure = []
+
+-- a tick is made where one is due
+abbrev pub tick_at : TicksState → ℕ → List Event
+tick_at ticks moment = if is_due ticks moment then Tick moment ∷ [] else []
+
+abbrev pub turn_events : TicksState → Turn → List Event
+turn_events ticks t = heard_at t.moment t.arrival ++ tick_at ticks t.moment
+
+-- those of all turns, one after the other
+abbrev pub events_of : TicksState → List Turn → List Event
+events_of ticks [] = []
+events_of ticks (t ∷ turns) = turn_events ticks t ++ events_of (ticks_after ticks t.moment) turns
+
+-- how ticks stand after the turns
+abbrev pub ticks_over : TicksState → List Turn → TicksState
+ticks_over ticks [] = ticks
+ticks_over ticks (t ∷ turns) = ticks_over (ticks_after ticks t.moment) turns
+
+-- ---- receives that fail
+
+-- how many receives in a row failed, with this one
+abbrev pub faults_with : ℕ → Arrival → ℕ
+faults_with faults (came endpoint bytes) = 0
+faults_with faults silence = 0
+faults_with faults failure = faults + 1
+
+abbrev pub faults_over : ℕ → List Turn → ℕ
+faults_over faults [] = faults
+faults_over faults (t ∷ turns) = faults_over (faults_with faults t.arrival) turns
+
+-- before each turn fewer receives in a row had failed than end a run
+abbrev pub GoesOn : ℕ → List Turn → Type 0
+GoesOn faults [] = Unit {0}
+GoesOn faults (t ∷ turns) = (faults < MAX_FAULTS) × GoesOn (faults_with faults t.arrival) turns
+
+-- ---- counts
+
+abbrev pub heard_count : Arrival → ℕ
+heard_count (came endpoint bytes) = 1
+heard_count silence = 0
+heard_count failure = 0
+
+abbrev pub heard_over : List Turn → ℕ
+heard_over [] = 0
+heard_over (t ∷ turns) = heard_count t.arrival + heard_over turns
+
+-- a count rises by so many, and stays at its greatest once it is there
+abbrev pub Raises : ℕ → ℕ → ℕ → Type 0
+Raises count more next = (n : ℕ) → count ≡ as_counted n → next ≡ as_counted (n + more)
+
+-- ---- the outside
+
+-- what the source gave, what the clock told and what the sink was handed, where that is known; and how many sends failed
+pub record OutsideView : Type 0 where
+  pub given : Option (List Arrival)
+  pub told : Option (List ℕ)
+  pub handed : Option (List Datagram)
+  pub failures : ℕ
+
+abbrev pub sink_of : OutsideView → SinkView
+sink_of view = record { handed = view.handed; failures = view.failures }
+
+abbrev pub view_of : Option (List Arrival) → Option (List ℕ) → SinkView → OutsideView
+view_of given told sink =
+    record { given = given; told = told; handed = sink.handed; failures = sink.failures }
+
+-- The datagrams of what the machine gave out came to the sink, in order; so many were sent, and so many couldn't be.
+pub record HandsOver (outs : List Out) (before after : SinkView) (sent failed : ℕ) : Type 0 where
+  pub handed : Grows before.handed (datagrams_of outs) after.handed
+  pub all : sent + failed ≡ length (datagrams_of outs)
+  pub failures : after.failures ≡ before.failures + failed
+
+-- they came to the sink, and are counted
+pub record Hands (outs : List Out) (before after : SinkView) (former tally : Tally) : Type 0 where
+  pub sent : ℕ
+  pub failed : ℕ
+  pub hands : HandsOver outs before after sent failed
+  pub heard : tally.heard ≡ former.heard
+  pub counts_sent : Raises former.sent sent tally.sent
+  pub counts_failed : Raises former.failed failed tally.failed
+
+-- ---- turns that are made
+
+-- Of one turn: what the source gave and the clock told, what was done of it, and what was handed over and counted; how ticks and
+-- receives that fail stand then.
+pub record MakesTurn (ticks next_ticks : TicksState) (faults next_faults : ℕ) (old new : WorldState)
+    (before after : OutsideView) (former tally : Tally) : Type 0 where
+  pub turn : Turn
+  pub outs : List Out
+  pub drives : Drives (turn_events ticks turn) old [] new outs
+  pub given : Grows before.given (turn.arrival ∷ []) after.given
+  pub told : Grows before.told (turn.moment ∷ []) after.told
+  pub sent : ℕ
+  pub failed : ℕ
+  pub hands : HandsOver outs (sink_of before) (sink_of after) sent failed
+  pub counts_heard : Raises former.heard (heard_count turn.arrival) tally.heard
+  pub counts_sent : Raises former.sent sent tally.sent
+  pub counts_failed : Raises former.failed failed tally.failed
+  pub noted : next_ticks ≡ ticks_after ticks turn.moment
+  pub failing : next_faults ≡ faults_with faults turn.arrival
+
+-- These turns were made. The source gave what came in them, and the clock told their moments. The events from outside are those of
+-- the turns, one after the other; each found nothing waiting; no job was given up; the sink was handed the machine's datagrams, in
+-- order; and what came, was sent and couldn't be is counted.
+pub record MakesTurns (ticks : TicksState) (turns : List Turn) (old new : WorldState)
+    (before after : OutsideView) (tally : Tally) : Type 0 where
+  pub outs : List Out
+  pub drives : Drives (events_of ticks turns) old [] new outs
+  pub given : Grows before.given (map (λ (t : Turn). t.arrival) turns) after.given
+  pub told : Grows before.told (map (λ (t : Turn). t.moment) turns) after.told
+  pub sent : ℕ
+  pub failed : ℕ
+  pub hands : HandsOver outs (sink_of before) (sink_of after) sent failed
+  pub counts_heard : tally.heard ≡ as_counted (heard_over turns)
+  pub counts_sent : tally.sent ≡ as_counted sent
+  pub counts_failed : tally.failed ≡ as_counted failed
+
+-- A turn was begun, and there was no memory in it: the source gave, and the clock told; the first of its events were done, and what
+-- the machine gave out then wasn't handed over.
+pub record BreaksOff (ticks : TicksState) (old : WorldState) (before after : OutsideView) : Type 0
+  where
+    pub turn : Turn
+    pub new : WorldState
+    pub unsent : List Out
+    pub drives : DrivesSome (turn_events ticks turn) old [] new unsent
+    pub given : Grows before.given (turn.arrival ∷ []) after.given
+    pub told : Grows before.told (turn.moment ∷ []) after.told
+    pub sink : sink_of after ≡ sink_of before
+
+-- So many turns were made from the world at the start, and this is how ticks and receives that fail stand then.
+pub record HasMade (start : WorldState) (ticks : TicksState) (count : ℕ) (now : WorldState)
+    (ticks_now : TicksState) (faults_now : ℕ) (tally : Tally) (before after : OutsideView) : Type 0
+  where
+    pub turns : List Turn
+    pub size : length turns ≡ count
+    pub goes_on : GoesOn 0 turns
+    pub made : MakesTurns ticks turns start now before after tally
+    pub noted : ticks_now ≡ ticks_over ticks turns
+    pub faults : faults_now ≡ faults_over 0 turns

@@ -1,0 +1,165 @@
+//! The unit in one thread, from a new world on.
+
+ghost use Rattle.std.specs.Prelude.{◌≡◌, ◌<◌, length, [], IfErr, IfOk, OnOk};
+ghost use Rattle.rate_desk.specs.Gathered.{AreDesksOf};
+ghost use Rattle.outside.specs.Ticks.{new_ticks};
+ghost use Rattle.outside.specs.declared.source.TheConstants.{MAX_FAULTS};
+ghost use Rattle.core_steps.specs.Opening.{IsNewWorld};
+ghost use Rattle.settings.specs.Settings.{IsInRange};
+ghost use Rattle.one_thread.specs.declared.driver.DriveFault.TheVariants.{NoMemory};
+ghost use Rattle.one_thread.specs.Driver.{EndsEarly, HasDriven, StopsEarly};
+ghost use Rattle.one_thread.specs.Driving.{IsIdle};
+ghost use Rattle.one_thread.specs.Turns.{HasMade, view_of};
+
+use crate::tally::Tally;
+use crate::turn::{Engine, turn};
+use core_steps::World;
+use desk::Desk;
+use outside::{Clock, MAX_DATAGRAM, MAX_FAULTS, Sink, Source, Ticks, Watch};
+use settings::Settings;
+use std::alloc::{AllocError, Global};
+use thiserror::Error;
+
+/// How long the unit runs, and how often it ticks.
+#[derive(Clone, Copy, Debug, PartialEq, Eq)]
+pub struct Pace {
+    /// How many turns it makes: as good as no end at `u64::MAX`.
+    pub turns: u64,
+    /// How many milliseconds the moment rises at least between two ticks. Whatever comes with time (an endpoint's timeout, a
+    /// report, a PLI that waits for its gap, a request that grows too old) may come so much later.
+    pub tick_ms: u64,
+}
+
+/// What a run came to.
+#[derive(Drop)]
+pub struct Report {
+    pub counts: Tally,
+    /// The desk of each publisher, by its number.
+    pub desks: Vec<Desk>,
+}
+
+/// Why a run ended before its turns did.
+#[derive(Clone, Copy, Debug, PartialEq, Eq, Error)]
+pub enum DriveFault {
+    /// There was no memory.
+    #[error("no memory")]
+    NoMemory,
+    /// As many receives in a row failed as may not.
+    #[error("receives fail")]
+    Receive,
+}
+
+/// The machine of these settings, before its first turn.
+fn new_engine(alloc: Global, settings: &Settings, tick_ms: u64) -> Result<Engine, AllocError>
+    ensures world { IfOk result (λ e. IsNewWorld settings.now e.world) }
+    ensures empty { IfOk result (λ e. e.outs.items ≡ []) }
+    ensures ticks { IfOk result (λ e. e.ticks ≡ new_ticks tick_ms) }
+    ensures counts { IfOk result (λ e. (e.faults ≡ 0)
+        × (e.tally ≡ record { heard = 0; sent = 0; failed = 0 })) }
+{
+    Ok(Engine {
+        alloc,
+        world: World::new(alloc, settings)?,
+        outs: Vec::new(alloc),
+        buffer: vec![in alloc; 0; MAX_DATAGRAM]?,
+        ticks: Ticks::new(tick_ms),
+        faults: 0,
+        tally: Tally::default(),
+    })
+}
+
+/// The same, with the fault of a run.
+fn open_engine(alloc: Global, settings: &Settings, tick_ms: u64) -> Result<Engine, DriveFault>
+    ensures world { IfOk result (λ e. IsNewWorld settings.now e.world) }
+    ensures empty { IfOk result (λ e. e.outs.items ≡ []) }
+    ensures ticks { IfOk result (λ e. e.ticks ≡ new_ticks tick_ms) }
+    ensures counts { IfOk result (λ e. (e.faults ≡ 0)
+        × (e.tally ≡ record { heard = 0; sent = 0; failed = 0 })) }
+    ensures range { IfOk result (λ _. IsInRange settings.now) }
+    ensures err { IfErr result (λ fault. fault ≡ NoMemory) }
+{
+    let _workers = settings.workers();
+    match new_engine(alloc, settings, tick_ms) {
+        Ok(engine) => Ok(engine),
+        Err(_) => Err(DriveFault::NoMemory),
+    }
+}
+
+/// Makes so many turns.
+#[tactic(auto, using(crate::proofs::TurnLemmas::made_nothing, crate::proofs::TurnLemmas::made_more, crate::proofs::TurnLemmas::stops_in, crate::proofs::TurnLemmas::fails_in))]
+fn run_turns<Src: Source, Snk: Sink, Clk: Clock, W: Watch>(
+    engine: &mut Engine,
+    turns: u64,
+    source: &mut Src,
+    sink: &mut Snk,
+    clock: &mut Clk,
+    watch: &mut W,
+) -> Result<(), DriveFault>
+    requires one { length engine.old.world.workers ≡ 1 }
+    requires idle { IsIdle engine.old.world }
+    requires empty { engine.old.outs.items ≡ [] }
+    requires faults { engine.old.faults ≡ 0 }
+    requires tally { engine.old.tally ≡ record { heard = 0; sent = 0; failed = 0 } }
+    ensures ok { OnOk result (HasMade engine.old.world engine.old.ticks turns
+        engine.new.world engine.new.ticks engine.new.faults engine.new.tally
+        (view_of (Src.given source.old) (Clk.told clock.old) (Snk.shown sink.old))
+        (view_of (Src.given source.new) (Clk.told clock.new) (Snk.shown sink.new))) }
+    ensures few { OnOk result (engine.new.faults < MAX_FAULTS) }
+    ensures idle { OnOk result (IsIdle engine.new.world) }
+    ensures err { IfErr result (StopsEarly engine.old.world engine.old.ticks
+        (view_of (Src.given source.old) (Clk.told clock.old) (Snk.shown sink.old))
+        (view_of (Src.given source.new) (Clk.told clock.new) (Snk.shown sink.new))) }
+{
+    for _turn in 0..turns {
+        let Ok(()) = turn(engine, source, sink, clock, watch) else {
+            return Err(DriveFault::NoMemory);
+        };
+        if engine.faults >= MAX_FAULTS {
+            return Err(DriveFault::Receive);
+        }
+    }
+    Ok(())
+}
+
+/// The counts, and the desks of the world that is done with.
+fn report_of(engine: Engine) -> Report
+    ensures counts { result.counts ≡ engine.tally }
+    ensures desks { result.desks.items ≡ engine.world.desks }
+{
+    let Engine { world, tally, .. } = engine;
+    Report {
+        counts: tally,
+        desks: world.into_desks(),
+    }
+}
+
+/// Runs the unit of these settings in this thread for so many turns, from a new world on. In a turn it receives once and asks the
+/// clock; hears what came, and ticks if a tick is due, each with all that follows from it; and hands what the machine gives out to
+/// the sink, in order. No job is ever given up. What the machine's laws say holds of all that was received (`ok`).
+///
+/// Refused as `NoMemory` where there is no memory, and then what the machine gave out in this turn isn't handed over; as `Receive`
+/// after 100 receives in a row that fail (`err`).
+#[tactic(auto, using(crate::proofs::DriverLemmas::never_began, crate::proofs::DriverLemmas::ends_early))]
+pub fn run_one_thread<Src: Source, Snk: Sink, Clk: Clock, W: Watch>(
+    alloc: Global,
+    settings: &Settings,
+    source: &mut Src,
+    sink: &mut Snk,
+    clock: &mut Clk,
+    watch: &mut W,
+    pace: Pace,
+) -> Result<Report, DriveFault>
+    requires one { settings.now.workers ≡ 1 }
+    ensures ok { IfOk result (HasDriven settings.now pace.tick_ms pace.turns
+        (view_of (Src.given source.old) (Clk.told clock.old) (Snk.shown sink.old))
+        (view_of (Src.given source.new) (Clk.told clock.new) (Snk.shown sink.new))) }
+    ensures err { IfErr result (EndsEarly settings.now pace.tick_ms
+        (view_of (Src.given source.old) (Clk.told clock.old) (Snk.shown sink.old))
+        (view_of (Src.given source.new) (Clk.told clock.new) (Snk.shown sink.new))) }
+    ensures desks { IfOk result (λ r. AreDesksOf settings.now.pli_gap_ms settings.now.request_ms
+        (length settings.now.endpoints) r.desks.items) }
+{
+    let mut engine = open_engine(alloc, settings, pace.tick_ms)?;
+    run_turns(&mut engine, pace.turns, source, sink, clock, watch)?;
+    Ok(report_of(engine))
+}

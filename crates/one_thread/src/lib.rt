@@ -1,0 +1,14 @@
+//! The unit in one thread: what comes from outside is given to the machine, and what the machine gives out is handed to the sink. What
+//! runs is what is proved.
+//!
+//! Read `driver` first, the one public call; then `turn`, what is done in a turn, and `settle`, an event with all that follows from it.
+//! `specs/Driver.antt` says what a run did, `specs/Turns.antt` what comes of turns.
+#![tactic(auto)]
+
+mod driver;
+mod settle;
+mod tally;
+mod turn;
+
+pub use driver::{DriveFault, Pace, Report, run_one_thread};
+pub use tally::Tally;

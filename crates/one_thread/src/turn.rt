@@ -1,0 +1,268 @@
+//! A turn: a receive, what came of it, a tick where one is due, and what goes out.
+
+ghost use Rattle.std.specs.Prelude.{◌≡◌, ◌≤◌, ◌<◌, ◌∷◌, ◌++◌, [], List, ℕ, length, IfOk, IfSome, OnOk, OnErr};
+ghost use Rattle.events.specs.declared.event.Event.TheVariants.{Hear};
+ghost use Rattle.events.specs.declared.output.Out.TheVariants.{Send};
+ghost use Rattle.outside.specs.Outside.{arrival_of};
+ghost use Rattle.outside.specs.Ticks.{ticks_after};
+ghost use Rattle.outside.specs.declared.source.TheConstants.{MAX_FAULTS};
+ghost use Rattle.one_thread.specs.Driving.{Drives, DrivesSome, IsIdle};
+ghost use Rattle.one_thread.specs.Turns.{BreaksOff, Hands, MakesTurn, Raises, faults_with, heard_at, heard_count, tick_at, turn_events, view_of};
+
+use crate::settle::take_in;
+use crate::tally::Tally;
+use core_steps::World;
+use events::{Bytes, Event, Out};
+use outside::{Clock, ReceiveFault, Sink, Source, Status, Ticks, Watch};
+use std::alloc::{AllocError, Global};
+
+/// What a receive gave: the endpoint and how many bytes, or silence, or a failure.
+type Received = Result<Option<(u16, usize)>, ReceiveFault>;
+
+/// The machine with what comes in and goes out, and the counts of a run.
+#[derive(Drop)]
+pub(crate) struct Engine {
+    pub(crate) alloc: Global,
+    pub(crate) world: World,
+    /// What the machine gave out in this turn; empty between turns.
+    pub(crate) outs: Vec<Out>,
+    /// Where a datagram is received.
+    pub(crate) buffer: Vec<u8>,
+    pub(crate) ticks: Ticks,
+    /// How many receives failed since the last one that didn't.
+    pub(crate) faults: u64,
+    pub(crate) tally: Tally,
+}
+
+/// A datagram of this endpoint is heard.
+#[tactic(auto, using(crate::proofs::DrivingLemmas::some_nothing))]
+fn hear_datagram(
+    alloc: Global,
+    world: &mut World,
+    moment: u64,
+    endpoint: u16,
+    bytes: &[u8],
+    outs: &mut Vec<Out>,
+) -> Result<(), AllocError>
+    requires one { length world.old.workers ≡ 1 }
+    requires idle { IsIdle world.old }
+    ensures ok { OnOk result (Drives (Hear moment endpoint bytes.now ∷ [])
+        world.old outs.old.items world.new outs.new.items) }
+    ensures err { OnErr result (DrivesSome (Hear moment endpoint bytes.now ∷ [])
+        world.old outs.old.items world.new outs.new.items) }
+    ensures idle { OnOk result (IsIdle world.new) }
+    ensures one { length world.new.workers ≡ 1 }
+{
+    let bytes = Bytes::copy_of(alloc, bytes)?;
+    let event = Event::Hear {
+        moment,
+        endpoint,
+        bytes,
+    };
+    take_in(world, event, outs)
+}
+
+/// The datagram that came is heard, where one came.
+#[tactic(auto, using(crate::proofs::DrivingLemmas::drives_nothing))]
+fn hear(
+    alloc: Global,
+    world: &mut World,
+    moment: u64,
+    received: Received,
+    buffer: &[u8],
+    outs: &mut Vec<Out>,
+) -> Result<(), AllocError>
+    requires within { IfOk received (λ heard. IfSome heard (λ h. h.1 ≤ length buffer.now)) }
+    requires one { length world.old.workers ≡ 1 }
+    requires idle { IsIdle world.old }
+    ensures ok { OnOk result (Drives (heard_at moment (arrival_of buffer.now received))
+        world.old outs.old.items world.new outs.new.items) }
+    ensures err { OnErr result (DrivesSome (heard_at moment (arrival_of buffer.now received))
+        world.old outs.old.items world.new outs.new.items) }
+    ensures idle { OnOk result (IsIdle world.new) }
+    ensures one { length world.new.workers ≡ 1 }
+{
+    match received {
+        Ok(Some((endpoint, length))) => {
+            hear_datagram(alloc, world, moment, endpoint, &buffer[..length], outs)
+        }
+        Ok(None) | Err(_) => Ok(()),
+    }
+}
+
+/// A tick is made where one is due.
+#[tactic(auto, using(crate::proofs::DrivingLemmas::drives_nothing))]
+fn tick(
+    world: &mut World,
+    moment: u64,
+    ticks: &mut Ticks,
+    outs: &mut Vec<Out>,
+) -> Result<(), AllocError>
+    requires one { length world.old.workers ≡ 1 }
+    requires idle { IsIdle world.old }
+    ensures ok { OnOk result (Drives (tick_at ticks.old moment)
+        world.old outs.old.items world.new outs.new.items) }
+    ensures err { OnErr result (DrivesSome (tick_at ticks.old moment)
+        world.old outs.old.items world.new outs.new.items) }
+    ensures noted { ticks.new ≡ ticks_after ticks.old moment }
+    ensures idle { OnOk result (IsIdle world.new) }
+    ensures one { length world.new.workers ≡ 1 }
+{
+    if !ticks.take(moment) {
+        return Ok(());
+    }
+    take_in(world, Event::Tick { moment }, outs)
+}
+
+/// How many receives in a row failed, with this one.
+fn faults_with(faults: u64, received: Received) -> u64
+    requires few { faults < MAX_FAULTS }
+    ensures { (buffer : List ℕ) → result ≡ faults_with faults (arrival_of buffer received) }
+{
+    match received {
+        Ok(_) => 0,
+        Err(_) => faults + 1,
+    }
+}
+
+/// The count of datagrams that came, with this receive.
+fn heard_with(heard: u64, received: Received) -> u64
+    ensures { (buffer : List ℕ) → Raises heard (heard_count (arrival_of buffer received)) result }
+{
+    match received {
+        Ok(Some(_)) => heard.saturating_add(1),
+        Ok(None) | Err(_) => heard,
+    }
+}
+
+/// What came is heard, then a tick is made where one is due.
+#[tactic(auto, using(crate::proofs::DrivingLemmas::drives_on, crate::proofs::DrivingLemmas::some_first, crate::proofs::DrivingLemmas::some_after))]
+fn take_turn(
+    alloc: Global,
+    world: &mut World,
+    ticks: &mut Ticks,
+    moment: u64,
+    received: Received,
+    buffer: &[u8],
+    outs: &mut Vec<Out>,
+) -> Result<(), AllocError>
+    requires within { IfOk received (λ heard. IfSome heard (λ h. h.1 ≤ length buffer.now)) }
+    requires one { length world.old.workers ≡ 1 }
+    requires idle { IsIdle world.old }
+    ensures ok { OnOk result (Drives (heard_at moment (arrival_of buffer.now received)
+        ++ tick_at ticks.old moment) world.old outs.old.items world.new outs.new.items) }
+    ensures err { OnErr result (DrivesSome (heard_at moment (arrival_of buffer.now received)
+        ++ tick_at ticks.old moment) world.old outs.old.items world.new outs.new.items) }
+    ensures noted { OnOk result (ticks.new ≡ ticks_after ticks.old moment) }
+    ensures idle { OnOk result (IsIdle world.new) }
+    ensures one { length world.new.workers ≡ 1 }
+{
+    hear(alloc, world, moment, received, buffer, outs)?;
+    tick(world, moment, ticks, outs)
+}
+
+/// Hands a datagram to the sink, and counts it.
+fn hand_over<S: Sink>(sink: &mut S, endpoint: u16, bytes: &[u8], tally: &mut Tally)
+    ensures { Hands (Send endpoint bytes.now ∷ []) (S.shown sink.old) (S.shown sink.new)
+        tally.old tally.new }
+{
+    match sink.send(endpoint, bytes) {
+        Ok(()) => tally.sent = tally.sent.saturating_add(1),
+        Err(_) => tally.failed = tally.failed.saturating_add(1),
+    }
+}
+
+/// Hands what the machine gave out to the sink, where it is a datagram.
+#[tactic(auto, using(crate::proofs::TurnLemmas::hands_none))]
+fn give<S: Sink>(out: &Out, sink: &mut S, tally: &mut Tally)
+    ensures { Hands (out.now ∷ []) (S.shown sink.old) (S.shown sink.new) tally.old tally.new }
+{
+    match out {
+        Out::Send { endpoint, bytes } => hand_over(sink, *endpoint, bytes.as_slice(), tally),
+        Out::Refused(_)
+        | Out::Busy
+        | Out::Lost(_)
+        | Out::Skip { .. }
+        | Out::Miss { .. }
+        | Out::Idle => {}
+    }
+}
+
+/// Hands the datagrams among what the machine gave out to the sink, in order.
+fn give_all<S: Sink>(outs: &[Out], sink: &mut S, tally: &mut Tally)
+    ensures { Hands outs.now (S.shown sink.old) (S.shown sink.new) tally.old tally.new }
+{
+    for out in outs {
+        give(out, sink, tally);
+    }
+}
+
+/// The totals, once they are to be shown.
+fn show<W: Watch>(world: &World, moment: u64, tally: &Tally, watch: &mut W) {
+    if watch.is_due(moment) {
+        let status = Status {
+            present: count_present(world),
+            heard: tally.heard,
+            sent: tally.sent,
+            failed: tally.failed,
+            lost: world.lost(),
+            dropped: 0,
+        };
+        watch.show(moment, &status);
+    }
+}
+
+/// How many endpoints are present.
+fn count_present(world: &World) -> u64 {
+    let mut present: u64 = 0;
+    for endpoint in 0..u16::try_from(world.publishers()).unwrap_or(u16::MAX) {
+        if world.is_present(endpoint) {
+            present = present.saturating_add(1);
+        }
+    }
+    present
+}
+
+/// Receives once, asks the clock, hears what came and ticks where a tick is due, with all that follows, and hands what comes out to
+/// the sink. For want of memory it stops; then what the machine gave out in this turn isn't handed over.
+pub(crate) fn turn<Src: Source, Snk: Sink, Clk: Clock, W: Watch>(
+    engine: &mut Engine,
+    source: &mut Src,
+    sink: &mut Snk,
+    clock: &mut Clk,
+    watch: &mut W,
+) -> Result<(), AllocError>
+    requires one { length engine.old.world.workers ≡ 1 }
+    requires idle { IsIdle engine.old.world }
+    requires empty { engine.old.outs.items ≡ [] }
+    requires few { engine.old.faults < MAX_FAULTS }
+    ensures ok { OnOk result (MakesTurn engine.old.ticks engine.new.ticks engine.old.faults
+        engine.new.faults engine.old.world engine.new.world
+        (view_of (Src.given source.old) (Clk.told clock.old) (Snk.shown sink.old))
+        (view_of (Src.given source.new) (Clk.told clock.new) (Snk.shown sink.new))
+        engine.old.tally engine.new.tally) }
+    ensures err { OnErr result (BreaksOff engine.old.ticks engine.old.world
+        (view_of (Src.given source.old) (Clk.told clock.old) (Snk.shown sink.old))
+        (view_of (Src.given source.new) (Clk.told clock.new) (Snk.shown sink.new))) }
+    ensures one { OnOk result (length engine.new.world.workers ≡ 1) }
+    ensures idle { OnOk result (IsIdle engine.new.world) }
+    ensures empty { OnOk result (engine.new.outs.items ≡ []) }
+{
+    let received = source.receive(engine.buffer.as_mut_slice());
+    let moment = clock.moment();
+    take_turn(
+        engine.alloc,
+        &mut engine.world,
+        &mut engine.ticks,
+        moment,
+        received,
+        engine.buffer.as_slice(),
+        &mut engine.outs,
+    )?;
+    engine.faults = faults_with(engine.faults, received);
+    engine.tally.heard = heard_with(engine.tally.heard, received);
+    give_all(engine.outs.as_slice(), sink, &mut engine.tally);
+    engine.outs.clear();
+    show(&engine.world, moment, &engine.tally, watch);
+    Ok(())
+}

@@ -1,0 +1,121 @@
+//! What stands for the outside of a unit in tests: a script of arrivals, a clock that goes on, and lists of what was told and handed
+//! over, which contracts see for as long as there was room for all of it.
+
+use events::Bytes;
+use outside::{Clock, Datagram, ReceiveFault, SendFault, Sink, Source};
+use std::alloc::{AllocError, Global};
+
+/// What a receive comes to.
+#[derive(Debug, Drop)]
+pub(super) enum Arrival {
+    Datagram(u16, Vec<u8>),
+    Fault,
+}
+
+/// A source that plays its arrivals one after the other; after them nothing comes.
+#[derive(Debug, Drop)]
+pub(super) struct Script {
+    pub(super) arrivals: Vec<Arrival>,
+    pub(super) next: usize,
+    pub(super) failures: u64,
+}
+
+impl Source for Script {
+    ghost use Rattle.std.specs.Prelude.{None};
+
+    ghost failures = { λ s. s.failures };
+
+    ghost given = { λ _. None };
+
+    fn receive(&mut self, out: &mut [u8]) -> Result<Option<(u16, usize)>, ReceiveFault> {
+        let at = self.next;
+        if at >= self.arrivals.len() {
+            return Ok(None);
+        }
+        self.next = at + 1;
+        match &self.arrivals[at] {
+            Arrival::Datagram(endpoint, bytes) => {
+                let length = bytes.len();
+                if length > out.len() {
+                    return Ok(None);
+                }
+                out[..length].copy_from_slice(bytes.as_slice());
+                Ok(Some((*endpoint, length)))
+            }
+            Arrival::Fault => {
+                if self.failures == u64::MAX {
+                    return Ok(None);
+                }
+                self.failures += 1;
+                Err(ReceiveFault)
+            }
+        }
+    }
+}
+
+/// A clock that goes on by a step each time that it is asked, and keeps what it told.
+#[derive(Debug, Drop)]
+pub(super) struct Steps {
+    pub(super) step_ms: u64,
+    pub(super) now: u64,
+    pub(super) told: Vec<u64>,
+    pub(super) is_whole: bool,
+}
+
+impl Clock for Steps {
+    ghost use Rattle.std.specs.Prelude.{Some, None, if◌then◌else◌};
+
+    ghost told = { λ s. if s.is_whole then Some s.told.items else None };
+
+    fn moment(&mut self) -> u64 {
+        self.now = self.now.saturating_add(self.step_ms);
+        let Ok(()) = self.told.push(self.now) else {
+            self.is_whole = false;
+            return self.now;
+        };
+        self.now
+    }
+}
+
+/// A sink in memory.
+#[derive(Debug, Drop)]
+pub(super) struct ListSink {
+    pub(super) alloc: Global,
+    pub(super) handed: Vec<Datagram>,
+    pub(super) is_whole: bool,
+}
+
+impl Sink for ListSink {
+    ghost use Rattle.std.specs.Prelude.{Some, None, if◌then◌else◌};
+
+    ghost shown = { λ s. record {
+      handed = (if s.is_whole then Some s.handed.items else None);
+      failures = 0;
+    } };
+
+    fn send(&mut self, endpoint: u16, bytes: &[u8]) -> Result<(), SendFault> {
+        let Ok(bytes) = Bytes::copy_of(self.alloc, bytes) else {
+            self.is_whole = false;
+            return Ok(());
+        };
+        let Ok(()) = self.handed.push(Datagram { endpoint, bytes }) else {
+            self.is_whole = false;
+            return Ok(());
+        };
+        Ok(())
+    }
+}
+
+/// A receiver report of this source, without blocks (RFC 3550, section 6.4.2).
+pub(super) fn receiver_report(alloc: Global, source: u8) -> Result<Vec<u8>, AllocError> {
+    [0x80, 0xc9, 0, 1, 0, 0, 0, source].to_vec(alloc)
+}
+
+/// An RTP packet of this source with two bytes of payload (RFC 3550, section 5.1).
+pub(super) fn media_packet(alloc: Global, source: u8, seq: u16) -> Result<Vec<u8>, AllocError> {
+    let [high, low] = seq.to_be_bytes();
+    [
+        0x80, 0x60, high, low, 0, 0, 0x0b, 0xb8, 0, 0, 0, source, 0xaa, 0xbb,
+    ]
+    .to_vec(alloc)
+}

@@ -1,0 +1,7 @@
+//! The tests of `one_thread`, in a crate of their own so that it isn't proved a second time with them.
+#![tactic(auto)]
+
+#[cfg(test)]
+mod doubles;
+#[cfg(test)]
+mod run_tests;

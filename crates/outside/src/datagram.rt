@@ -1,0 +1,10 @@
+//! A datagram on its way out.
+
+use events::Bytes;
+
+/// A datagram to an endpoint, which is named by its number.
+#[derive(Debug, Drop)]
+pub struct Datagram {
+    pub endpoint: u16,
+    pub bytes: Bytes,
+}

@@ -1,0 +1,23 @@
+//! What a unit needs from outside: where datagrams come from, where they go, what time it is, and who looks at it while it runs.
+//!
+//! Read `source` and `sink` first, then `clock`. `ticks` says when a tick is due, `watch` who looks at the totals, `gate` who stands
+//! before and after the jobs of workers.
+#![tactic(auto)]
+
+mod clock;
+mod datagram;
+mod gate;
+mod sink;
+mod source;
+#[cfg(test)]
+mod tests;
+mod ticks;
+mod watch;
+
+pub use clock::Clock;
+pub use datagram::Datagram;
+pub use gate::{Gate, Open};
+pub use sink::{SendFault, Sink};
+pub use source::{MAX_DATAGRAM, MAX_FAULTS, ReceiveFault, Source};
+pub use ticks::Ticks;
+pub use watch::{Status, Unwatched, Watch};

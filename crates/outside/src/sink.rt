@@ -1,0 +1,25 @@
+//! Where datagrams go.
+
+use thiserror::Error;
+
+/// A datagram couldn't be sent.
+#[derive(Clone, Copy, Debug, PartialEq, Eq, Error)]
+#[error("a send failed")]
+pub struct SendFault;
+
+/// Where datagrams go.
+pub trait Sink {
+    ghost use Rattle.std.specs.Prelude.{◌≡◌, ◌+◌, ◌∷◌, [], OnOk, OnErr};
+    ghost use Rattle.outside.specs.Outside.{SinkView, Grows};
+
+    /// What was handed over, failed sends too, where that is known, and how many sends failed. A socket doesn't know what
+    /// it was handed, nor does a list in memory that found no room. A count that can't rise any more answers Ok.
+    ghost shown: { Self → SinkView };
+
+    /// Sends these bytes to the endpoint with this number.
+    fn send(&mut self, endpoint: u16, bytes: &[u8]) -> Result<(), SendFault>
+        ensures handed { Grows (shown self.old).handed
+            (record { endpoint = endpoint; bytes = bytes.now } ∷ []) (shown self.new).handed }
+        ensures ok { OnOk result ((shown self.new).failures ≡ (shown self.old).failures) }
+        ensures err { OnErr result ((shown self.new).failures ≡ (shown self.old).failures + 1) };
+}

@@ -1,0 +1,40 @@
+//! Who looks at a unit while it runs.
+
+/// The totals of a unit at one moment. Each stays at `u64::MAX` once there.
+#[derive(Clone, Copy, Debug, PartialEq, Eq)]
+pub struct Status {
+    /// How many endpoints were present at the last tick.
+    pub present: u64,
+    /// How many datagrams came from endpoints.
+    pub heard: u64,
+    /// How many datagrams were sent.
+    pub sent: u64,
+    /// How many datagrams couldn't be sent.
+    pub failed: u64,
+    /// How many jobs no worker got, since its ring was full.
+    pub lost: u64,
+    /// How many jobs were taken and given up, and how many notifications, for want of a view or of memory.
+    pub dropped: u64,
+}
+
+/// Who looks at the totals of a unit after its turns. The thread that takes in what comes calls it, and goes on when it returns.
+pub trait Watch {
+    /// Whether the totals are to be shown after the turn at this moment, in milliseconds. It is asked after each turn, since
+    /// adding up the totals takes time.
+    fn is_due(&self, moment: u64) -> bool;
+
+    /// The totals after the turn at this moment, in milliseconds.
+    fn show(&mut self, moment: u64, status: &Status);
+}
+
+/// Nobody looks.
+#[derive(Clone, Copy, Debug)]
+pub struct Unwatched;
+
+impl Watch for Unwatched {
+    fn is_due(&self, _moment: u64) -> bool {
+        false
+    }
+
+    fn show(&mut self, _moment: u64, _status: &Status) {}
+}
