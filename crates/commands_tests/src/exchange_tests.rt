@@ -6,7 +6,7 @@ use std::net::{SocketAddr, UdpSocket};
 use std::process::Abort;
 use std::test::Fail;
 use std::time::Duration;
-use workers::{Counts, Watch};
+use workers::{Status, Watch};
 
 /// How many packets each endpoint sends to the other.
 const PACKETS: u32 = 50_000;
@@ -214,8 +214,12 @@ impl Exchange<'_, '_> {
 }
 
 impl Watch for Exchange<'_, '_> {
-    fn turn(&mut self, counts: &Counts) {
-        let waiting = self.sent.saturating_sub(counts.status().heard);
+    fn is_due(&self, _moment: u64) -> bool {
+        true
+    }
+
+    fn show(&mut self, _moment: u64, status: &Status) {
+        let waiting = self.sent.saturating_sub(status.heard);
         if self.first.told < PACKETS {
             if waiting < 2 {
                 self.tell();

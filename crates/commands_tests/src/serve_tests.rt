@@ -10,7 +10,7 @@ use std::net::{Net, SocketAddr, UdpSocket};
 use std::process::Abort;
 use std::test::Fail;
 use std::time::Duration;
-use workers::{Counts, Watch};
+use workers::{Status, Watch};
 
 /// What a port of nobody's choice is bound by.
 pub(crate) const ANY_PORT: &str = "127.0.0.1:0";
@@ -141,7 +141,11 @@ struct Keeper<'a> {
 }
 
 impl Watch for Keeper<'_> {
-    fn turn(&mut self, _counts: &Counts) {
+    fn is_due(&self, _moment: u64) -> bool {
+        true
+    }
+
+    fn show(&mut self, _moment: u64, _status: &Status) {
         self.turns = self.turns.saturating_add(1);
         if self.turns % 10 == 0 {
             let _ = self.socket.send_to(self.datagram, self.to);

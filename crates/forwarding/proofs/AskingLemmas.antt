@@ -20,7 +20,8 @@ use Rattle.forwarding.specs.declared.done.ForwardFault.{ForwardFault}
 use Rattle.forwarding.specs.declared.question.Question.{Question}
 use Rattle.forwarding.specs.Asking.{IsAsked, nowhere, unrecorded, IsTelling, GivesUp, Notifies, QuestionOf, Feeds, picture_of}
 use Rattle.forwarding.specs.Forwarding.{NotifierState, ForwarderState}
-use Rattle.forwarding.specs.Outside.{SinkView, Hands, nothing_done}
+use Rattle.outside.specs.Outside.{SinkView}
+use Rattle.forwarding.specs.Handing.{Hands, nothing_done}
 
 pub asked_nowhere : (gap request_ms publishers : ℕ) (q : Question) (seat : SeatState) → publishers ≤ q.publisher
     → IsAsked gap request_ms publishers q seat seat None

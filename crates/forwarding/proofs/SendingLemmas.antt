@@ -9,18 +9,10 @@ use Rattle.legs.specs.declared.leg.LegState.{LegState}
 use Rattle.events.specs.declared.output.Out.{Out}
 use Rattle.legs.specs.declared.plan.Planned.{Planned}
 use Rattle.legs.specs.Plan.{out_of, plan_outs}
-use Rattle.forwarding.specs.declared.datagram.Datagram.{Datagram}
+use Rattle.outside.specs.Outside.{SinkView, Grows, datagram_in, datagrams_of}
+use Rattle.outside.proofs.GrowsLemmas.{grows_more}
 use Rattle.forwarding.specs.declared.done.Forwarded.{Forwarded}
-use Rattle.forwarding.specs.Outside.{SinkView, Grows, Adds, Hands, nothing_done, datagram_in, datagrams_of, is_skip, is_miss}
-
-pub grows_more : (a : Option (List Datagram)) (xs ys : List Datagram) (b c : Option (List Datagram))
-    → Grows a xs b → Grows b ys c → Grows a (xs ++ ys) c
-grows_more a xs ys b None first last = tt
-grows_more None xs ys None (Some all) first last = absurd (cc)
-grows_more None xs ys (Some m) (Some all) first last = absurd (cc)
-grows_more (Some k) xs ys None (Some all) first last = absurd (cc)
-grows_more (Some k) xs ys (Some m) (Some all) first last =
-    ap Some (sym (append_assoc k xs ys)) ∙ ap (λ (l : List Datagram). Some (l ++ ys)) (same_Some _ _ first) ∙ last
+use Rattle.forwarding.specs.Handing.{Adds, Hands, nothing_done, is_skip, is_miss}
 
 pub adds_more : (xs ys : List Out) (a b c : SinkView) (d e f : Forwarded) → Adds xs a b d e → Adds ys b c e f
     → Adds (xs ++ ys) a c d f
@@ -38,10 +30,6 @@ adds_more xs ys a b c d e f first last =
       skipped = omega (arith, first.skipped, last.skipped, s);
       missed = omega (arith, first.missed, last.missed, m);
     }
-
-pub grows_nothing : (a : Option (List Datagram)) → Grows a [] a
-grows_nothing None = tt
-grows_nothing (Some k) = ap Some (append-nil k)
 
 -- ---- the next of a list
 

@@ -19,7 +19,8 @@ use Rattle.notices.specs.DeskCalls.{AsksOf}
 use Rattle.forwarding.specs.declared.done.Forwarded.{Forwarded}
 use Rattle.forwarding.specs.declared.done.ForwardFault.{ForwardFault}
 use Rattle.forwarding.specs.declared.question.Question.{Question}
-use Rattle.forwarding.specs.Outside.{SinkView, Hands, nothing_done}
+use Rattle.outside.specs.Outside.{SinkView}
+use Rattle.forwarding.specs.Handing.{Hands, nothing_done}
 use Rattle.forwarding.specs.Forwarding.{NotifierState, ForwarderState, IsView, LeavesRows}
 
 -- ---- what a desk answers

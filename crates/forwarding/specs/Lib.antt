@@ -1,4 +1,4 @@
-pub mod Outside
+pub mod Handing
 pub mod Forwarding
 pub mod Asking
 pub mod Faults

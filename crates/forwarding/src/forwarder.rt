@@ -6,12 +6,12 @@ ghost use Rattle.forwarding.specs.Asking.{is_owned, is_asking, QuestionOf};
 
 use crate::done::{ForwardFault, Forwarded};
 use crate::notifier::Notifier;
-use crate::outside::Sink;
 use crate::question::Question;
 use crate::sending::send_planned;
 use events::Job;
 use legs::{Legs, Plan};
 use notices::{Asks, asked_by};
+use outside::Sink;
 use rate_desk::{DeskCalls, DeskSeat, House, SeatCalls};
 use routes::{Naming, RouteNote, RouteReader};
 use settings::Settings;
@@ -40,7 +40,7 @@ impl Model for Forwarder {
 impl Forwarder {
     ghost use Rattle.std.specs.Prelude.{◌≡◌, IfOk, IfErr, OnOk, OnErr};
     ghost use mathlib.Core.List.{IsPrefix};
-    ghost use Rattle.forwarding.specs.Outside.{Hands};
+    ghost use Rattle.forwarding.specs.Handing.{Hands};
     ghost use Rattle.forwarding.specs.Forwarding.{new_forwarder, given_by, after_job, IsView, LeavesRows};
     ghost use Rattle.forwarding.specs.Asking.{Feeds};
 

@@ -7,11 +7,11 @@ ghost use Rattle.forwarding.specs.Asking.{IsAsked, IsTelling};
 ghost use mathlib.Core.List.{IsPrefix};
 
 use crate::done::{ForwardFault, Forwarded};
-use crate::outside::Sink;
 use crate::question::Question;
 use crate::sending::send_all;
 use desk::Effect;
 use notices::{Head, Notification, notification_of, notify, waiting};
+use outside::Sink;
 use rate_desk::{DeskCalls, DeskSeat, House, SeatCalls};
 use routes::{Naming, RouteNote, RouteReader};
 use settings::{Links, Settings};
@@ -41,7 +41,7 @@ impl Notifier {
     ghost use Rattle.std.specs.Prelude.{◌≡◌, Some, IfOk, MatchResult};
     ghost use mathlib.Core.List.{IsPrefix};
     ghost use Rattle.notices.specs.Notification.{picture_upstream};
-    ghost use Rattle.forwarding.specs.Outside.{Hands};
+    ghost use Rattle.forwarding.specs.Handing.{Hands};
     ghost use Rattle.forwarding.specs.Asking.{Notifies, GivesUp, picture_of};
     ghost use Rattle.forwarding.specs.Forwarding.{new_notifier};
 

@@ -3,12 +3,12 @@
 ghost use Rattle.std.specs.Prelude.{◌≡◌, ◌+◌, ◌-◌, ◌^◌, ◌<◌, ◌≤◌, ◌∷◌, []};
 ghost use Rattle.events.specs.declared.output.Out.TheVariants.{Send};
 ghost use Rattle.legs.specs.Plan.{out_of, plan_outs};
-ghost use Rattle.forwarding.specs.Outside.{Adds, Hands, total_of};
+ghost use Rattle.forwarding.specs.Handing.{Adds, Hands, total_of};
 
 use crate::done::Forwarded;
-use crate::outside::Sink;
 use events::Out;
 use legs::{Legs, Planned};
+use outside::Sink;
 
 /// Hands a datagram to the sink, and counts it.
 fn hand_over<S: Sink>(sink: &mut S, endpoint: u16, bytes: &[u8], done: &mut Forwarded)
@@ -24,7 +24,7 @@ fn hand_over<S: Sink>(sink: &mut S, endpoint: u16, bytes: &[u8], done: &mut Forw
 }
 
 /// Does what one thing that is planned on these legs gives out.
-#[tactic(auto, using(crate::proofs::SendingLemmas::grows_nothing))]
+#[tactic(auto, using(outside::proofs::GrowsLemmas::grows_nothing))]
 fn give_planned<S: Sink>(legs: &Legs, planned: &Planned, sink: &mut S, done: &mut Forwarded)
     requires room { total_of done.old < 2 ^ 64 - 1 }
     ensures adds { Adds (out_of legs.now planned.now)
@@ -53,7 +53,7 @@ fn give_planned<S: Sink>(legs: &Legs, planned: &Planned, sink: &mut S, done: &mu
 }
 
 /// Does one thing that is given out; what is no datagram is counted alone.
-#[tactic(auto, using(crate::proofs::SendingLemmas::grows_nothing))]
+#[tactic(auto, using(outside::proofs::GrowsLemmas::grows_nothing))]
 fn give<S: Sink>(out: &Out, sink: &mut S, done: &mut Forwarded)
     requires room { total_of done.old < 2 ^ 64 - 1 }
     ensures adds { Adds (out.now ∷ []) (S.shown sink.old) (S.shown sink.new) done.old done.new }

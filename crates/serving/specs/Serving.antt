@@ -8,6 +8,8 @@ use Rattle.endings.specs.Endings.{SaysWhy}
 use Rattle.serving.specs.ReportText.{PrintsReport}
 use Rattle.serving.specs.declared.serve_fault.ServeFault.{ServeFault}
 use Rattle.serving.specs.declared.serve_fault.ServeFault.TheVariants.{NoMemory, Socket}
+use Rattle.one_thread.specs.declared.driver.DriveFault.{DriveFault}
+use Rattle.one_thread.specs.declared.driver.DriveFault.TheVariants as drive_fault
 use Rattle.workers.specs.declared.fault.UnitFault.{UnitFault}
 use Rattle.workers.specs.declared.fault.UnitFault.TheVariants as unit_fault
 use Rattle.endings.specs.declared.status.Status.{Status}
@@ -17,6 +19,11 @@ use Rattle.endings.specs.declared.status.Status.TheVariants as status
 abbrev pub serve_fault_of : UnitFault → ServeFault
 serve_fault_of unit_fault.NoMemory = NoMemory
 serve_fault_of fault = Socket
+
+-- the same of a run in one thread
+abbrev pub drive_fault_of : DriveFault → ServeFault
+drive_fault_of drive_fault.NoMemory = NoMemory
+drive_fault_of drive_fault.Receive = Socket
 
 -- where the unit isn't served to its end for its socket and its threads, nothing was printed
 abbrev pub FailsServe : Option (List ℕ) → Option (List ℕ) → ServeFault → Type 0

@@ -12,9 +12,10 @@ use crate::addresses::Addresses;
 use crate::report_text::report_text;
 use crate::serve_fault::ServeFault;
 use crate::served_file::ServedSettings;
-use crate::socket::{Gauges, RunClock, SocketSource, socket_sinks};
+use crate::socket::{Gauges, RunClock, SocketSink, SocketSource, socket_sinks};
 use crate::status_lines::StatusLines;
 use endings::{Status, say, say_no_memory, unsaid};
+use one_thread::run_one_thread;
 use settings::Settings;
 use std::alloc::Global;
 use std::io::Write;
@@ -27,9 +28,9 @@ use workers::{Open, Outside, Pace, Report, Unwatched, Watch, run_watched};
 /// How long a receive waits, in milliseconds, so that time goes on while nothing comes.
 const RECEIVE_MS: u64 = 10;
 
-/// How far the unit's moment rises at least between two rounds of pulses, in milliseconds. A desk records each pulse, so
-/// that it lives for months.
-const PULSE_MS: u64 = 10;
+/// How far the unit's moment rises at least between two ticks, in milliseconds. A desk records the moment at each, so that it lives
+/// for months.
+const TICK_MS: u64 = 10;
 
 /// How long the unit is served, and how often it says how it goes.
 #[derive(Clone, Copy, Debug, PartialEq, Eq)]
@@ -216,7 +217,7 @@ fn print_report<O: Write>(
     Ok(())
 }
 
-/// Runs the unit on the socket for so many turns.
+/// Runs the unit on the socket for so many turns: in this thread if there is one worker, else with a thread for each.
 pub fn run_on<R: AllocGlobal + Threads + Wait + Sync + time::Clock, W: Watch + Drop>(
     rt: &R,
     socket: &UdpSocket,
@@ -230,25 +231,95 @@ pub fn run_on<R: AllocGlobal + Threads + Wait + Sync + time::Clock, W: Watch + D
         (length settings.now.endpoints) r.desks.items) }
     ensures range { IfOk result (λ _. IsInRange settings.now) }
 {
-    let alloc = rt.alloc();
     if !waits_a_little(socket) {
         return Err(ServeFault::Socket);
     }
+    if settings.workers() == 1 {
+        run_in_this_thread(rt, socket, settings, addresses, turns, gauges, watch)
+    } else {
+        run_on_threads(rt, socket, settings, addresses, turns, gauges, watch)
+    }
+}
+
+/// Runs the machine itself: what it gives out for what comes to the socket goes out there.
+fn run_in_this_thread<R: AllocGlobal + time::Clock, W: Watch + Drop>(
+    rt: &R,
+    socket: &UdpSocket,
+    settings: &Settings,
+    addresses: &Addresses,
+    turns: u64,
+    gauges: &Gauges,
+    watch: W,
+) -> Result<Report, ServeFault>
+    requires { settings.now.workers ≡ 1 }
+    ensures { IfOk result (λ r. AreDesksOf settings.now.pli_gap_ms settings.now.request_ms
+        (length settings.now.endpoints) r.desks.items) }
+{
+    let mut source = SocketSource::new(socket, addresses, gauges);
+    let mut sink = SocketSink::new(socket, addresses.keys());
+    let mut clock = RunClock::new(rt, &gauges.moment_ms);
+    let mut watch = watch;
+    let pace = one_thread::Pace {
+        turns,
+        tick_ms: TICK_MS,
+    };
+    match run_one_thread(
+        rt.alloc(),
+        settings,
+        &mut source,
+        &mut sink,
+        &mut clock,
+        &mut watch,
+        pace,
+    ) {
+        Ok(report) => Ok(report_of(report)),
+        Err(fault) => Err(ServeFault::from(fault)),
+    }
+}
+
+/// What a run in one thread came to; no job is ever lost or dropped there.
+fn report_of(report: one_thread::Report) -> Report
+    ensures desks { result.desks ≡ report.desks }
+    ensures counts { (result.heard ≡ report.counts.heard) × (result.sent ≡ report.counts.sent)
+        × (result.failed ≡ report.counts.failed) }
+    ensures none { (result.lost ≡ 0) × (result.dropped ≡ 0) }
+{
+    let one_thread::Report { counts, desks } = report;
+    Report {
+        heard: counts.heard,
+        sent: counts.sent,
+        failed: counts.failed,
+        lost: 0,
+        dropped: 0,
+        desks,
+    }
+}
+
+/// Runs the unit with a thread for each worker.
+fn run_on_threads<R: AllocGlobal + Threads + Wait + Sync + time::Clock, W: Watch + Drop>(
+    rt: &R,
+    socket: &UdpSocket,
+    settings: &Settings,
+    addresses: &Addresses,
+    turns: u64,
+    gauges: &Gauges,
+    watch: W,
+) -> Result<Report, ServeFault>
+    ensures report { IfOk result (λ r. AreDesksOf settings.now.pli_gap_ms settings.now.request_ms
+        (length settings.now.endpoints) r.desks.items) }
+    ensures range { IfOk result (λ _. IsInRange settings.now) }
+{
+    let alloc = rt.alloc();
     let count = settings.workers() as usize + 1;
     let outside = Outside {
-        source: SocketSource {
-            socket,
-            addresses,
-            strangers: &gauges.strangers,
-            failures: 0,
-        },
+        source: SocketSource::new(socket, addresses, gauges),
         sinks: socket_sinks(alloc, socket, addresses.keys(), count)?,
         clock: RunClock::new(rt, &gauges.moment_ms),
         watch,
     };
     let pace = Pace {
         turns,
-        pulse_ms: PULSE_MS,
+        pulse_ms: TICK_MS,
     };
     match run_watched(rt, alloc, settings, outside, &Open, pace) {
         Ok(report) => Ok(report),

@@ -1,5 +1,6 @@
 //! Why a unit isn't served, or not to its end.
 
+use one_thread::DriveFault;
 use std::alloc::AllocError;
 use std::io;
 use thiserror::Error;
@@ -55,6 +56,20 @@ impl From<UnitFault> for ServeFault {
         match fault {
             UnitFault::NoMemory => ServeFault::NoMemory,
             UnitFault::Receive | UnitFault::Start | UnitFault::Gather => ServeFault::Socket,
+        }
+    }
+}
+
+impl From<DriveFault> for ServeFault {
+    ghost use Rattle.std.specs.Prelude.{◌≡◌};
+    ghost use Rattle.serving.specs.Serving.{drive_fault_of};
+
+    ghost from_gives = { λ fault e. e ≡ drive_fault_of fault };
+
+    fn from(fault: DriveFault) -> ServeFault {
+        match fault {
+            DriveFault::NoMemory => ServeFault::NoMemory,
+            DriveFault::Receive => ServeFault::Socket,
         }
     }
 }

@@ -3,7 +3,7 @@
 ghost use Rattle.std.specs.Prelude.{◌≡◌, ◌+◌, vec_len, IfOk};
 
 use crate::addresses::Addresses;
-use forwarding::{Clock, ReceiveFault, SendFault, Sink, Source};
+use outside::{Clock, ReceiveFault, SendFault, Sink, Source};
 use std::alloc::{AllocError, Global};
 use std::cell::Cell;
 use std::io::ErrorKind;
@@ -39,8 +39,30 @@ pub struct SocketSource<'a> {
     pub failures: u64,
 }
 
+impl<'a> SocketSource<'a> {
+    /// The datagrams that come to this socket from now on.
+    pub fn new(
+        socket: &'a UdpSocket,
+        addresses: &'a Addresses,
+        gauges: &'a Gauges,
+    ) -> SocketSource<'a>
+        ensures { result.failures ≡ 0 }
+    {
+        SocketSource {
+            socket,
+            addresses,
+            strangers: &gauges.strangers,
+            failures: 0,
+        }
+    }
+}
+
 impl Source for SocketSource<'_> {
+    ghost use Rattle.std.specs.Prelude.{None};
+
     ghost failures = { λ s. s.failures };
+
+    ghost given = { λ _. None };
 
     fn receive(&mut self, out: &mut [u8]) -> Result<Option<(u16, usize)>, ReceiveFault> {
         match self.socket.recv_from(out) {
@@ -83,6 +105,19 @@ pub struct SocketSink<'a> {
     pub failures: u64,
 }
 
+impl<'a> SocketSink<'a> {
+    /// Sends by this socket to the endpoints at these addresses, by their numbers.
+    pub fn new(socket: &'a UdpSocket, addresses: &'a [SocketAddr]) -> SocketSink<'a>
+        ensures { result.failures ≡ 0 }
+    {
+        SocketSink {
+            socket,
+            addresses,
+            failures: 0,
+        }
+    }
+}
+
 impl Sink for SocketSink<'_> {
     ghost use Rattle.std.specs.Prelude.{None};
 
@@ -116,11 +151,7 @@ pub fn socket_sinks<'a>(
 {
     let mut sinks = Vec::with_capacity(alloc, count)?;
     for _sink in 0..count {
-        sinks.push(SocketSink {
-            socket,
-            addresses,
-            failures: 0,
-        })?;
+        sinks.push(SocketSink::new(socket, addresses))?;
     }
     Ok(sinks)
 }
@@ -152,6 +183,10 @@ impl<'a, R: time::Clock> RunClock<'a, R> {
 }
 
 impl<R: time::Clock> Clock for RunClock<'_, R> {
+    ghost use Rattle.std.specs.Prelude.{None};
+
+    ghost told = { λ _. None };
+
     fn moment(&mut self) -> u64 {
         if let Some(elapsed) = self.elapsed_ms() {
             self.shown.set(elapsed.max(self.shown.get()));

@@ -1,9 +1,9 @@
 //! The lines of counts that `sfu serve --status` writes while the unit runs.
 
 use crate::socket::Gauges;
+use outside::{Status, Watch};
 use std::alloc::{AllocError, Global};
 use std::io::Write;
-use workers::{Counts, Watch};
 
 /// Writes a line of counts each so many milliseconds. A line that can't be written is left out.
 #[derive(Drop)]
@@ -35,8 +35,7 @@ impl<'a, E: Write> StatusLines<'a, E> {
     }
 
     /// Writes one line.
-    fn write_line(&mut self, counts: &Counts) -> Result<(), AllocError> {
-        let status = counts.status();
+    fn write_line(&mut self, status: &Status) -> Result<(), AllocError> {
         let line = format!(in self.alloc;
             "present {} heard {} sent {} failed {} lost {} strangers {}\n",
             status.present,
@@ -52,11 +51,12 @@ impl<'a, E: Write> StatusLines<'a, E> {
 }
 
 impl<E: Write> Watch for StatusLines<'_, E> {
-    fn turn(&mut self, counts: &Counts) {
-        let now = self.gauges.moment_ms.get();
-        if now >= self.due_ms {
-            self.due_ms = now.saturating_add(self.every_ms);
-            let _ = self.write_line(counts);
-        }
+    fn is_due(&self, moment: u64) -> bool {
+        moment >= self.due_ms
+    }
+
+    fn show(&mut self, moment: u64, status: &Status) {
+        self.due_ms = moment.saturating_add(self.every_ms);
+        let _ = self.write_line(status);
     }
 }

@@ -1,1 +1,3 @@
 pub mod UnitFaults
+pub mod Counted
+pub mod Faults

@@ -1,29 +1,14 @@
 //! What the unit did so far, for whoever watches it while it runs.
 
-ghost use Rattle.std.specs.Prelude.{◌≡◌};
+ghost use Rattle.std.specs.Prelude.{◌≡◌, IfSome};
 ghost use Rattle.core_steps.specs.Happening.{capped_count};
 
 use crossbeam_utils::CachePadded;
 use forwarding::Forwarded;
+use outside::Status;
 use std::alloc::{AllocError, Global};
 use std::sync::atomic::{AtomicU64, Ordering};
-
-/// The counts of the unit at one moment. Each stays at `u64::MAX` once there.
-#[derive(Clone, Copy, Debug, PartialEq, Eq)]
-pub struct Status {
-    /// How many endpoints were present at the last tick.
-    pub present: u64,
-    /// How many datagrams came from endpoints.
-    pub heard: u64,
-    /// How many datagrams were sent.
-    pub sent: u64,
-    /// How many datagrams couldn't be sent.
-    pub failed: u64,
-    /// How many jobs no worker got, since its ring was full.
-    pub lost: u64,
-    /// How many jobs were taken and given up, and how many notifications, for want of a view or of memory.
-    pub dropped: u64,
-}
+use std::thread::Parker;
 
 /// The counts of the unit so far, which its threads raise.
 #[derive(Drop)]
@@ -32,22 +17,22 @@ pub struct Counts {
     heard: AtomicU64,
     lost: AtomicU64,
     ingress: Tally,
-    workers: Vec<CachePadded<Tally>>,
+    stations: Vec<CachePadded<Station>>,
 }
 
 impl Counts {
     /// The counts of a unit with so many workers, which did nothing yet.
-    pub(crate) fn new(alloc: Global, workers: usize) -> Result<Counts, AllocError> {
-        let mut tallies = Vec::with_capacity(alloc, workers)?;
-        for _worker in 0..workers {
-            tallies.push(CachePadded::new(Tally::new()))?;
+    pub(crate) fn new(alloc: Global, workers: u16) -> Result<Counts, AllocError> {
+        let mut stations = Vec::with_capacity(alloc, usize::from(workers))?;
+        for number in 0..workers {
+            stations.push(CachePadded::new(Station::new(number)))?;
         }
         Ok(Counts {
             present: AtomicU64::new(0),
             heard: AtomicU64::new(0),
             lost: AtomicU64::new(0),
             ingress: Tally::new(),
-            workers: tallies,
+            stations,
         })
     }
 
@@ -61,9 +46,9 @@ impl Counts {
             lost: self.lost.load(Ordering::SeqCst),
             dropped: 0,
         };
-        self.ingress.add_to(&mut status);
-        for tally in &self.workers {
-            tally.add_to(&mut status);
+        add_up(&mut status, self.ingress.seen());
+        for station in &self.stations {
+            add_up(&mut status, station.tally.seen());
         }
         status
     }
@@ -88,11 +73,39 @@ impl Counts {
         &self.ingress
     }
 
-    /// What a worker sends; `None` where there is no worker of this number.
-    pub(crate) fn of_worker(&self, worker: u16) -> Option<&Tally> {
-        match self.workers.get(usize::from(worker)) {
-            Some(padded) => Some(&**padded),
-            None => None,
+    /// The station of the worker of this number.
+    pub(crate) fn station(&self, worker: u16) -> Option<&Station>
+        ensures { IfSome result (λ station. station.now.number ≡ worker) }
+    {
+        let station = self.stations.get(usize::from(worker))?;
+        if station.number == worker {
+            Some(&**station)
+        } else {
+            None
+        }
+    }
+
+    /// The workers' stations, by their numbers.
+    pub(crate) fn stations(&self) -> &[CachePadded<Station>] {
+        self.stations.as_slice()
+    }
+}
+
+/// What a worker shows to others: its number, where it sleeps while its ring is empty, and its tally.
+#[derive(Drop)]
+pub(crate) struct Station {
+    pub(crate) number: u16,
+    pub(crate) parker: Parker,
+    pub(crate) tally: Tally,
+}
+
+impl Station {
+    /// The station of the worker of this number, which did nothing yet.
+    fn new(number: u16) -> Station {
+        Station {
+            number,
+            parker: Parker::new(),
+            tally: Tally::new(),
         }
     }
 }
@@ -125,11 +138,35 @@ impl Tally {
         raise(&self.dropped, 1);
     }
 
-    fn add_to(&self, status: &mut Status) {
-        status.sent = raised(status.sent, self.sent.load(Ordering::SeqCst));
-        status.failed = raised(status.failed, self.failed.load(Ordering::SeqCst));
-        status.dropped = raised(status.dropped, self.dropped.load(Ordering::SeqCst));
+    /// What it comes to now.
+    fn seen(&self) -> Seen {
+        Seen {
+            sent: self.sent.load(Ordering::SeqCst),
+            failed: self.failed.load(Ordering::SeqCst),
+            dropped: self.dropped.load(Ordering::SeqCst),
+        }
     }
+}
+
+/// What a tally came to when it was looked at.
+#[derive(Clone, Copy, Debug)]
+struct Seen {
+    sent: u64,
+    failed: u64,
+    dropped: u64,
+}
+
+/// Adds to the totals what one more thread did.
+fn add_up(status: &mut Status, seen: Seen)
+    ensures { status.new ≡ record status.old {
+      sent = capped_count status.old.sent seen.sent;
+      failed = capped_count status.old.failed seen.failed;
+      dropped = capped_count status.old.dropped seen.dropped;
+    } }
+{
+    status.sent = raised(status.sent, seen.sent);
+    status.failed = raised(status.failed, seen.failed);
+    status.dropped = raised(status.dropped, seen.dropped);
 }
 
 /// Raises a count that one thread alone raises.

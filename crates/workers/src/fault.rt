@@ -40,12 +40,22 @@ impl UnitFault {
 }
 
 impl From<AllocError> for UnitFault {
+    ghost use Rattle.std.specs.Prelude.{◌≡◌};
+    ghost use Rattle.workers.specs.declared.fault.UnitFault.TheVariants.{NoMemory};
+
+    ghost from_gives = { λ _ fault. fault ≡ NoMemory };
+
     fn from(_: AllocError) -> UnitFault {
         UnitFault::NoMemory
     }
 }
 
 impl From<RoutesFault> for UnitFault {
+    ghost use Rattle.std.specs.Prelude.{◌≡◌};
+    ghost use Rattle.workers.specs.UnitFaults.{fault_of_routes};
+
+    ghost from_gives = { λ of fault. fault ≡ fault_of_routes of };
+
     fn from(fault: RoutesFault) -> UnitFault {
         match fault {
             RoutesFault::NoPlace => UnitFault::Start,
@@ -55,10 +65,19 @@ impl From<RoutesFault> for UnitFault {
 }
 
 impl From<GatherFault> for UnitFault {
+    ghost use Rattle.std.specs.Prelude.{◌≡◌};
+    ghost use Rattle.workers.specs.UnitFaults.{fault_of_gathering};
+
+    ghost from_gives = { λ of fault. fault ≡ fault_of_gathering of };
+
     fn from(fault: GatherFault) -> UnitFault {
         match fault {
             GatherFault::NoMemory => UnitFault::NoMemory,
-            _ => UnitFault::Gather,
+            GatherFault::Differs(_)
+            | GatherFault::Twice(_)
+            | GatherFault::Folded(_)
+            | GatherFault::Seats(_)
+            | GatherFault::Totals(_) => UnitFault::Gather,
         }
     }
 }

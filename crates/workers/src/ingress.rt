@@ -1,46 +1,68 @@
 //! The ingress: it takes in what comes, and does what follows, in the thread that runs the unit.
 
-ghost use Rattle.std.specs.Prelude.{◌<◌, ◌≤◌, IfOk};
+ghost use Rattle.std.specs.Prelude.{◌≡◌, ◌<◌, ◌≤◌, ◌++◌, [], IfOk, OnOk, OnErr};
 ghost use Rattle.desk.specs.Call.{HasStay};
+ghost use Rattle.events.specs.declared.event.Event.TheVariants.{Hear, Tick};
+ghost use Rattle.core_steps.specs.Rule.{Does};
+ghost use Rattle.core_steps.specs.Run.{Leaves};
+ghost use Rattle.routes.specs.Rows.{changes_by};
+ghost use Rattle.workers.specs.Counted.{counted_of};
 
 use crate::counts::Counts;
+use crate::gear::Gear;
 use crate::item::Item;
-use crate::lane::Lane;
-use crate::pulses::Pulses;
+use crate::lane::Crew;
 use core_steps::{Duty, IngressCore};
 use desk::{Answer, Call, Change, Signal};
 use events::{Job, Out};
-use forwarding::{ForwardFault, Forwarded, Notifier, Question, Sink, send_all};
+use forwarding::{ForwardFault, Forwarded, Notifier, Question, send_all};
 use members::Order;
 use notices::stay_call;
+use outside::{Sink, Ticks};
 use rate_desk::{DeskCalls, DeskSeat, House, SeatCalls};
-use routes::{Naming, RouteReader, RouteWriter};
-use std::alloc::AllocError;
+use routes::{Naming, RouteWriter};
+use settings::Settings;
+use std::alloc::{AllocError, Global};
 use std::sync::Wait;
+use std::thread::Threads;
 
-/// What the ingress owns: the room with what waits, the last reader, a seat of the house, and a sink. It alone writes the
-/// routes, and puts jobs into the rings.
+/// What the ingress owns: the room with what waits, its gear, and the workers that were started. It alone writes the routes,
+/// and puts jobs into the rings.
 #[derive(Drop)]
 pub(crate) struct Ingress<'a, D: DeskCalls, C: SeatCalls, J: Naming, S: Drop> {
     pub(crate) core: IngressCore,
     pub(crate) notifier: Notifier,
     pub(crate) house: &'a House<D, C>,
-    pub(crate) seat: DeskSeat<C>,
-    pub(crate) writer: &'a mut RouteWriter<J>,
-    pub(crate) reader: RouteReader<J>,
-    pub(crate) lanes: Vec<Lane<'a, J, C>>,
-    pub(crate) sink: S,
     pub(crate) counts: &'a Counts,
-    pub(crate) pulses: Pulses,
+    pub(crate) writer: &'a mut RouteWriter<J>,
+    pub(crate) gear: Gear<C, J, S>,
+    pub(crate) crew: Crew<J, C>,
+    pub(crate) ticks: Ticks,
+    /// How many endpoints are present at this tick, of those that were counted.
+    pub(crate) present: u64,
     /// What was refused of a datagram, which nobody is told.
     pub(crate) refusals: Vec<Out>,
 }
 
+/// The ingress's own machine, and what asks desks for it.
+pub(crate) fn core_and_notifier(
+    alloc: Global,
+    settings: &Settings,
+) -> Result<(IngressCore, Notifier), AllocError> {
+    let core = IngressCore::new(alloc, settings)?;
+    Ok((core, Notifier::new(alloc, settings)?))
+}
+
 impl<'a, D: DeskCalls, C: SeatCalls, J: Naming, S: Sink + Drop> Ingress<'a, D, C, J, S> {
-    /// The workers' lanes, and the ingress's own seat.
-    pub(crate) fn into_lanes(self) -> (Vec<Lane<'a, J, C>>, DeskSeat<C>) {
-        let Ingress { lanes, seat, .. } = self;
-        (lanes, seat)
+    /// Stops and joins the workers, and hands all seats back.
+    pub(crate) fn end<R: Threads + Wait>(self, rt: &R) -> Result<Vec<DeskSeat<C>>, AllocError> {
+        let Ingress {
+            crew,
+            gear,
+            counts,
+            ..
+        } = self;
+        crew.join(rt, counts, gear.into_seat())
     }
 
     /// A datagram came from an endpoint: it is heard, and what follows is done.
@@ -52,20 +74,19 @@ impl<'a, D: DeskCalls, C: SeatCalls, J: Naming, S: Sink + Drop> Ingress<'a, D, C
         bytes: &[u8],
     ) -> Result<(), AllocError> {
         self.counts.add_heard();
-        self.refusals.clear();
-        self.core.hear(moment, endpoint, bytes, &mut self.refusals)?;
+        hear_one(&mut self.core, moment, endpoint, bytes, &mut self.refusals)?;
         self.do_duties(rt)
     }
 
-    /// It is this moment, and what follows is done. A second tick at one moment would change nothing, so it isn't made.
+    /// It is this moment: if a tick is due it is made, and what follows is done.
     pub(crate) fn tick<R: Wait>(&mut self, rt: &R, moment: u64) -> Result<(), AllocError> {
-        if !self.pulses.begin_tick(moment) {
+        if !self.ticks.take(moment) {
             return Ok(());
         }
-        self.refusals.clear();
-        self.core.tick(moment, &mut self.refusals)?;
+        self.present = 0;
+        tick_once(&mut self.core, moment, &mut self.refusals)?;
         self.do_duties(rt)?;
-        self.counts.note_present(self.pulses.present());
+        self.counts.note_present(self.present);
         Ok(())
     }
 
@@ -98,11 +119,7 @@ impl<'a, D: DeskCalls, C: SeatCalls, J: Naming, S: Sink + Drop> Ingress<'a, D, C
         match order {
             Order::Arrive { leg, stay } => self.ask_in_stay(rt, leg, stay, Change::Arrive),
             Order::Depart { leg, stay } => self.ask_in_stay(rt, leg, stay, Change::Depart),
-            Order::Route { .. } => {
-                self.writer.change(&order).map_err(|_| AllocError)?;
-                self.writer.publish(rt);
-                Ok(())
-            }
+            Order::Route { .. } => publish(rt, self.writer, &order),
         }
     }
 
@@ -130,41 +147,34 @@ impl<'a, D: DeskCalls, C: SeatCalls, J: Naming, S: Sink + Drop> Ingress<'a, D, C
             call,
         };
         let note = self.writer.note();
-        let told = self.notifier.ask(
-            rt,
-            self.house,
-            &mut self.seat,
-            &mut self.reader,
-            note,
-            &question,
-            &mut self.sink,
-        );
+        let Gear { seat, reader, sink } = &mut self.gear;
+        let told = self
+            .notifier
+            .ask(rt, self.house, seat, reader, note, &question, sink);
         self.count(told)
     }
 
     /// Puts a job into the worker's ring; it is lost where the ring is full.
     fn push(&mut self, worker: u16, job: Job) {
-        let at = usize::from(worker);
-        if at < self.lanes.len() {
-            let note = self.writer.note();
-            if self.lanes[at].push(Item::Work { job, note }).is_some() {
-                self.counts.add_lost();
-            }
+        let note = self.writer.note();
+        if self
+            .crew
+            .push(self.counts, worker, Item::Work { job, note })
+            .is_some()
+        {
+            self.counts.add_lost();
         }
     }
 
-    /// Tells the publisher's desk the moment, where pulses are due.
+    /// Tells the publisher's desk the moment.
     fn pulse<R: Wait>(&mut self, rt: &R, publisher: u16) -> Result<(), AllocError> {
-        self.pulses.count_present();
-        if !self.pulses.are_due() {
-            return Ok(());
-        }
+        self.present = self.present.saturating_add(1);
         let at = usize::from(publisher);
         if at >= self.house.publishers() {
             return Ok(());
         }
         let moment = self.core.moment();
-        match self.house.pulse(rt, &mut self.seat, at, moment) {
+        match self.house.pulse(rt, &mut self.gear.seat, at, moment) {
             Ok(receipt) if wants_pli(&receipt.answer) => self.ask_for_picture(publisher),
             _ => Ok(()),
         }
@@ -173,17 +183,13 @@ impl<'a, D: DeskCalls, C: SeatCalls, J: Naming, S: Sink + Drop> Ingress<'a, D, C
     /// A picture is wanted of the publisher.
     fn ask_for_picture(&mut self, publisher: u16) -> Result<(), AllocError> {
         let note = self.writer.note();
-        let told = self
-            .notifier
-            .ask_for_picture(&mut self.reader, note, publisher, &mut self.sink);
+        let Gear { reader, sink, .. } = &mut self.gear;
+        let told = self.notifier.ask_for_picture(reader, note, publisher, sink);
         self.count(told)
     }
 
-    /// The publisher's desk takes requests away that are too old, where pulses are due.
+    /// The publisher's desk takes requests away that are too old.
     fn expire<R: Wait>(&mut self, rt: &R, publisher: u16) -> Result<(), AllocError> {
-        if !self.pulses.are_due() {
-            return Ok(());
-        }
         let moment = self.core.moment();
         self.ask(
             rt,
@@ -202,20 +208,72 @@ impl<'a, D: DeskCalls, C: SeatCalls, J: Naming, S: Sink + Drop> Ingress<'a, D, C
             endpoint: publisher,
             bytes,
         };
-        let done = send_all(&[out], &mut self.sink);
+        let done = send_all(&[out], &mut self.gear.sink);
         self.count(Ok(done))
     }
 
     /// Counts what was sent. Without a view it was given up; want of memory is handed on.
     fn count(&self, told: Result<Forwarded, ForwardFault>) -> Result<(), AllocError> {
         let tally = self.counts.of_ingress();
-        match told {
-            Ok(done) => tally.add(&done),
-            Err(ForwardFault::NoView) => tally.add_dropped(),
-            Err(ForwardFault::NoMemory) => return Err(AllocError),
+        match counted(told)? {
+            Some(done) => tally.add(&done),
+            None => tally.add_dropped(),
         }
         Ok(())
     }
+}
+
+/// What is counted of what was told: what was sent, or that it was given up for want of a view. Want of memory isn't counted.
+fn counted(told: Result<Forwarded, ForwardFault>) -> Result<Option<Forwarded>, AllocError>
+    ensures { result ≡ counted_of told }
+{
+    match told {
+        Ok(done) => Ok(Some(done)),
+        Err(ForwardFault::NoView) => Ok(None),
+        Err(ForwardFault::NoMemory) => Err(AllocError),
+    }
+}
+
+/// Publishes the row of this order. Refused for want of memory alone; then nothing is noted.
+fn publish<J: Naming, R: Wait>(
+    rt: &R,
+    writer: &mut RouteWriter<J>,
+    order: &Order,
+) -> Result<(), AllocError>
+    ensures ok { OnOk result (writer.new.published
+        ≡ writer.old.published ++ (writer.old.noted ++ changes_by J.legs order.now)) }
+    ensures err { OnErr result ((writer.new.published ≡ writer.old.published)
+        × (writer.new.noted ≡ writer.old.noted)) }
+{
+    let Ok(()) = writer.change(order) else {
+        return Err(AllocError);
+    };
+    writer.publish(rt);
+    Ok(())
+}
+
+/// The core hears a datagram; what was refused of it alone is listed.
+fn hear_one(
+    core: &mut IngressCore,
+    moment: u64,
+    endpoint: u16,
+    bytes: &[u8],
+    refusals: &mut Vec<Out>,
+) -> Result<(), AllocError>
+    ensures { OnOk result (Leaves (Does core.old (Hear moment endpoint bytes.now)) core.old []
+        core.new refusals.new.items) }
+{
+    refusals.clear();
+    core.hear(moment, endpoint, bytes, refusals)
+}
+
+/// The core ticks; what was refused then alone is listed.
+fn tick_once(core: &mut IngressCore, moment: u64, refusals: &mut Vec<Out>) -> Result<(), AllocError>
+    ensures { OnOk result (Leaves (Does core.old (Tick moment)) core.old []
+        core.new refusals.new.items) }
+{
+    refusals.clear();
+    core.tick(moment, refusals)
 }
 
 /// Whether a desk answered that a picture is wanted upstream.

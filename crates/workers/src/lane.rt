@@ -1,38 +1,54 @@
-//! A lane: a worker in a thread of its own, and the end of its ring where the ingress puts jobs.
+//! Lanes: workers in threads of their own, and the ends of their rings where the ingress puts jobs.
 
-use crate::item::Item;
+ghost use Rattle.std.specs.Prelude.{◌≡◌, ◌++◌, ◌∷◌, [], IfNone, IfSome, IfOk, vec_len};
+ghost use Rattle.rtrb.specs.Ring.{sent, producer_capacity};
+
+use crate::counts::{Counts, Station};
+use crate::fault::UnitFault;
+use crate::item::{Item, RING};
 use rate_desk::{DeskSeat, SeatCalls};
 use routes::Naming;
-use rtrb::{Producer, PushError};
-use std::alloc::Global;
+use rtrb::{Consumer, Producer, PushError, RingBuffer};
+use std::alloc::{AllocError, Global};
 use std::sync::Wait;
 use std::thread;
-use std::thread::{JoinHandle, Parker, Threads};
+use std::thread::{JoinHandle, Threads};
+
+/// The two ends of a worker's ring.
+pub(crate) fn new_ring<J: Naming>(
+    alloc: Global,
+) -> Result<(Producer<Item<J>, Global>, Consumer<Item<J>, Global>), AllocError>
+    ensures { IfOk result (λ ends. producer_capacity ends.0 ≡ 1024) }
+{
+    RingBuffer::new(alloc, RING)
+}
 
 /// What the ingress has of a worker that was started.
 #[derive(Drop)]
-pub(crate) struct Lane<'a, J: Naming, C: SeatCalls> {
+pub(crate) struct Lane<J: Naming, C: SeatCalls> {
     pub(crate) ring: Producer<Item<J>, Global>,
-    pub(crate) parker: &'a Parker,
     pub(crate) thread: JoinHandle<DeskSeat<C>>,
 }
 
-impl<'a, J: Naming, C: SeatCalls> Lane<'a, J, C> {
-    /// Puts an item into the ring and wakes the worker; a full ring hands it back.
-    pub(crate) fn push(&mut self, item: Item<J>) -> Option<Item<J>> {
+impl<J: Naming, C: SeatCalls> Lane<J, C> {
+    /// Puts an item into the ring and wakes the worker at this station; a full ring hands it back.
+    fn push(&mut self, station: &Station, item: Item<J>) -> Option<Item<J>>
+        ensures put { IfNone result (sent self.new.ring ≡ sent self.old.ring ++ item ∷ []) }
+        ensures back { IfSome result (λ i. i ≡ item) }
+    {
         match self.ring.push(item) {
             Ok(()) => {
-                self.parker.unpark();
+                station.parker.unpark();
                 None
             }
             Err(PushError::Full(item)) => Some(item),
         }
     }
 
-    /// Puts the stop behind all jobs, as soon as the ring has a place for it.
-    pub(crate) fn stop<R: Wait>(&mut self, rt: &R) {
+    /// Puts the stop after all jobs, as soon as the ring has a place for it.
+    fn stop<R: Wait>(&mut self, rt: &R, station: &Station) {
         for _ in rt.forever() {
-            if self.push(Item::Stop).is_none() {
+            if self.push(station, Item::Stop).is_none() {
                 return;
             }
             thread::yield_now();
@@ -41,12 +57,95 @@ impl<'a, J: Naming, C: SeatCalls> Lane<'a, J, C> {
     }
 
     /// The worker's seat, once it has ended.
-    pub(crate) fn join<R: Threads>(self, rt: &R) -> DeskSeat<C> {
-        let Lane {
-            ring: _,
-            parker: _,
-            thread,
-        } = self;
+    fn join<R: Threads>(self, rt: &R) -> DeskSeat<C> {
+        let Lane { ring: _, thread } = self;
         thread.join(rt)
     }
+}
+
+/// The workers that were started, by their numbers, and room for the seats that come back.
+#[derive(Drop)]
+pub(crate) struct Crew<J: Naming, C: SeatCalls> {
+    lanes: Vec<Lane<J, C>>,
+    seats: Vec<DeskSeat<C>>,
+}
+
+impl<J: Naming, C: SeatCalls> Crew<J, C> {
+    /// Room for so many workers, none of whom was started.
+    pub(crate) fn new(alloc: Global, workers: usize) -> Result<Crew<J, C>, AllocError> {
+        let lanes = Vec::with_capacity(alloc, workers)?;
+        let seats = Vec::with_capacity(alloc, workers + 1)?;
+        Ok(Crew { lanes, seats })
+    }
+
+    /// Takes in the worker at this station; one that finds no room is stopped and joined.
+    pub(crate) fn add<R: Threads + Wait>(
+        &mut self,
+        rt: &R,
+        station: &Station,
+        lane: Lane<J, C>,
+    ) -> Result<(), UnitFault> {
+        match self.lanes.push(lane) {
+            Ok(()) => Ok(()),
+            Err(unlisted) => {
+                let mut lane = unlisted.value;
+                lane.stop(rt, station);
+                lane.join(rt);
+                Err(UnitFault::NoMemory)
+            }
+        }
+    }
+
+    /// Puts an item into this worker's ring, and into no other; it is handed back if there is no such worker, or its ring is full.
+    pub(crate) fn push(&mut self, counts: &Counts, worker: u16, item: Item<J>) -> Option<Item<J>>
+        ensures back { IfSome result (λ i. i ≡ item) }
+    {
+        let at = usize::from(worker);
+        if at >= self.lanes.len() {
+            return Some(item);
+        }
+        match counts.station(worker) {
+            Some(station) => self.lanes[at].push(station, item),
+            None => Some(item),
+        }
+    }
+
+    /// Stops all workers, and takes their seats once they have ended, and the ingress's last.
+    pub(crate) fn join<R: Threads + Wait>(
+        self,
+        rt: &R,
+        counts: &Counts,
+        own: DeskSeat<C>,
+    ) -> Result<Vec<DeskSeat<C>>, AllocError> {
+        let mut crew = self;
+        crew.stop_all(rt, counts);
+        let Crew { lanes, seats } = crew;
+        join_all(rt, lanes, seats, own)
+    }
+
+    /// Stops all workers.
+    fn stop_all<R: Wait>(&mut self, rt: &R, counts: &Counts) {
+        for (lane, station) in self.lanes.iter_mut().zip(counts.stations()) {
+            lane.stop(rt, &**station);
+        }
+    }
+}
+
+/// Takes the workers' seats once they have ended, and the ingress's last. There is room for all of them.
+fn join_all<J: Naming, C: SeatCalls, R: Threads>(
+    rt: &R,
+    lanes: Vec<Lane<J, C>>,
+    seats: Vec<DeskSeat<C>>,
+    own: DeskSeat<C>,
+) -> Result<Vec<DeskSeat<C>>, AllocError> {
+    let mut seats = seats;
+    let mut is_short = false;
+    for lane in lanes {
+        is_short = seats.push(lane.join(rt)).is_err() || is_short;
+    }
+    is_short = seats.push(own).is_err() || is_short;
+    if is_short {
+        return Err(AllocError);
+    }
+    Ok(seats)
 }

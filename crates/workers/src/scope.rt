@@ -1,26 +1,24 @@
 //! The threads of a run: they are started, work beside the ingress, and are joined.
 
-ghost use Rattle.std.specs.Prelude.{◌≡◌};
+ghost use Rattle.std.specs.Prelude.{◌≡◌, IfErr, OnOk, MatchResult};
 
-use crate::counts::Counts;
+use crate::counts::{Counts, Station};
 use crate::fault::UnitFault;
-use crate::ingress::Ingress;
-use crate::item::RING;
-use crate::lane::Lane;
-use crate::pulses::Pulses;
+use crate::gear::{Gear, gears_of};
+use crate::ingress::{Ingress, core_and_notifier};
+use crate::lane::{Crew, Lane, new_ring};
 use crate::turns::Inlet;
-use crate::watch::Watch;
+use crate::unit::{Outside, Pace};
 use crate::worker::Worker;
-use core_steps::IngressCore;
-use forwarding::{Clock, Forwarder, Gate, Notifier, Sink, Source};
+use forwarding::Forwarder;
+use outside::{Clock, Gate, Sink, Source, Ticks, Watch};
 use rate_desk::{DeskCalls, DeskSeat, House, SeatCalls};
 use routes::{Blank, Naming, RouteReader, RouteWriter, routes};
-use rtrb::RingBuffer;
 use settings::Settings;
 use std::alloc::{AllocError, Global};
 use std::sync::Wait;
 use std::thread;
-use std::thread::{Parker, Scope, Threads};
+use std::thread::{JoinHandle, Scope, Threads};
 
 /// What the threads of a run share.
 #[derive(Drop)]
@@ -29,22 +27,10 @@ pub(crate) struct Shared<'a, D: DeskCalls, C: SeatCalls, G> {
     pub(crate) settings: &'a Settings,
     pub(crate) house: &'a House<D, C>,
     pub(crate) gate: &'a G,
-    /// Where each worker sleeps.
-    pub(crate) parkers: &'a [Parker],
     pub(crate) counts: &'a Counts,
 }
 
-/// What a run is given: the seats of the house and the sinks, one for each worker and last one for the ingress; how far
-/// the moment rises between pulses; and how many turns to make.
-#[derive(Drop)]
-pub(crate) struct Given<C: SeatCalls, S: Drop> {
-    pub(crate) seats: Vec<DeskSeat<C>>,
-    pub(crate) sinks: Vec<S>,
-    pub(crate) pulse_ms: u64,
-    pub(crate) turns: u64,
-}
-
-/// Runs the threads in a scope.
+/// Runs the threads in a scope; hands the seats back.
 pub(crate) fn run_scoped<
     'a,
     D: DeskCalls + Send + Sync + 'a,
@@ -60,8 +46,9 @@ pub(crate) fn run_scoped<
     rt: &'a R,
     shared: &'a Shared<'a, D, C, G>,
     table: Blank,
-    given: Given<C, S>,
-    inlet: Inlet<Src, Clk, W>,
+    seats: Vec<DeskSeat<C>>,
+    outside: Outside<Src, S, Clk, W>,
+    pace: Pace,
 ) -> Result<Vec<DeskSeat<C>>, UnitFault>
     requires table { (table.book ≡ J.book) × (table.legs ≡ J.legs) }
 {
@@ -70,7 +57,11 @@ pub(crate) fn run_scoped<
         rt,
         move |scope| -> Result<Vec<DeskSeat<C>>, UnitFault>
             requires { (table.book ≡ J.book) × (table.legs ≡ J.legs) }
-        { run_in_scope::<D, C, J, R, Src, S, Clk, W, G>(scope, rt, shared, table, given, inlet) },
+        {
+            run_in_scope::<D, C, J, R, Src, S, Clk, W, G>(
+                scope, rt, shared, table, seats, outside, pace,
+            )
+        },
     )
 }
 
@@ -92,110 +83,60 @@ fn run_in_scope<
     rt: &'a R,
     shared: &'a Shared<'a, D, C, G>,
     table: Blank,
-    given: Given<C, S>,
-    inlet: Inlet<Src, Clk, W>,
+    seats: Vec<DeskSeat<C>>,
+    outside: Outside<Src, S, Clk, W>,
+    pace: Pace,
 ) -> Result<Vec<DeskSeat<C>>, UnitFault>
     requires table { (table.book ≡ J.book) × (table.legs ≡ J.legs) }
 {
     let readers = shared.settings.workers() as usize + 1;
     let (mut writer, readers) = routes::<J, R>(rt, shared.alloc, table, readers)?;
-    let ran = run_beside::<D, C, J, R, Src, S, Clk, W, G>(
+    let ran = run_equipped(
         scope,
         rt,
         shared,
         &mut writer,
         readers,
-        given,
-        inlet,
+        seats,
+        outside,
+        pace,
     );
     writer.end(rt);
     ran
 }
 
-/// What one thread works with: a seat of the house, a reader of the routes, and a sink.
-#[derive(Drop)]
-struct Hands<C: SeatCalls, J: Naming, S: Drop> {
-    seat: DeskSeat<C>,
-    reader: RouteReader<J>,
-    sink: S,
-}
-
-/// Puts together what each thread works with.
-fn hands_of<C: SeatCalls, J: Naming, S: Drop>(
-    alloc: Global,
-    seats: Vec<DeskSeat<C>>,
+/// Equips each thread, and runs them.
+fn run_equipped<
+    's,
+    'a: 's,
+    D: DeskCalls + Send + Sync + 'a,
+    C: SeatCalls + Send + Sync + 'a,
+    J: Naming + Send + Sync + 'a,
+    R: Threads + Wait + Sync + 'a,
+    Src: Source + Drop,
+    S: Sink + Send + Drop + 'a,
+    Clk: Clock + Drop,
+    W: Watch + Drop,
+    G: Gate + Sync + 'a,
+>(
+    scope: &'s Scope<'s, &'a ()>,
+    rt: &'a R,
+    shared: &'a Shared<'a, D, C, G>,
+    writer: &mut RouteWriter<J>,
     readers: Vec<RouteReader<J>>,
-    sinks: Vec<S>,
-) -> Result<Vec<Hands<C, J, S>>, AllocError> {
-    let mut all = Vec::with_capacity(alloc, seats.len())?;
-    for (seat, (reader, sink)) in seats.into_iter().zip(readers.into_iter().zip(sinks)) {
-        all.push(Hands { seat, reader, sink })?;
-    }
-    Ok(all)
-}
-
-/// What the ingress needs before any thread is started, and room for the lanes and the seats that come back.
-#[derive(Drop)]
-struct Kit<'a, C: SeatCalls, J: Naming> {
-    core: IngressCore,
-    notifier: Notifier,
-    lanes: Vec<Lane<'a, J, C>>,
-    ended: Vec<DeskSeat<C>>,
-}
-
-impl<'a, C: SeatCalls, J: Naming> Kit<'a, C, J> {
-    fn new(alloc: Global, settings: &Settings) -> Result<Kit<'a, C, J>, AllocError> {
-        let (lanes, ended) = rooms_for(alloc, settings.workers() as usize)?;
-        let (core, notifier) = core_and_notifier(alloc, settings)?;
-        Ok(Kit {
-            core,
-            notifier,
-            lanes,
-            ended,
-        })
-    }
-}
-
-/// The ingress's own machine, and what asks desks for it.
-fn core_and_notifier(
-    alloc: Global,
-    settings: &Settings,
-) -> Result<(IngressCore, Notifier), AllocError> {
-    let core = IngressCore::new(alloc, settings)?;
-    Ok((core, Notifier::new(alloc, settings)?))
-}
-
-/// Room for the lanes of so many workers, and for the seats that come back.
-fn rooms_for<'a, C: SeatCalls, J: Naming>(
-    alloc: Global,
-    workers: usize,
-) -> Result<(Vec<Lane<'a, J, C>>, Vec<DeskSeat<C>>), AllocError> {
-    let lanes = Vec::with_capacity(alloc, workers)?;
-    Ok((lanes, Vec::with_capacity(alloc, workers + 1)?))
-}
-
-/// What a run has before any thread is started: what each worker works with, the same of the ingress, and its kit.
-#[derive(Drop)]
-struct Ready<'a, C: SeatCalls, J: Naming, S: Drop> {
-    hands: Vec<Hands<C, J, S>>,
-    own: Hands<C, J, S>,
-    kit: Kit<'a, C, J>,
-}
-
-/// Makes all that a run has before any thread is started.
-fn make_ready<'a, C: SeatCalls, J: Naming, S: Drop>(
-    alloc: Global,
-    settings: &Settings,
     seats: Vec<DeskSeat<C>>,
-    readers: Vec<RouteReader<J>>,
-    sinks: Vec<S>,
-) -> Result<Ready<'a, C, J, S>, UnitFault> {
-    let mut hands = hands_of(alloc, seats, readers, sinks)?;
-    let Some(own) = hands.pop() else {
-        return Err(UnitFault::Start);
-    };
-    let kit = Kit::new(alloc, settings)?;
-    Ok(Ready { hands, own, kit })
+    outside: Outside<Src, S, Clk, W>,
+    pace: Pace,
+) -> Result<Vec<DeskSeat<C>>, UnitFault> {
+    let Outside {
+        source,
+        sinks,
+        clock,
+        watch,
+    } = outside;
+    let gears = gears_of(shared.alloc, seats, readers, sinks)?;
+    let inlet = Inlet::new(shared.alloc, source, clock, watch)?;
+    run_beside(scope, rt, shared, writer, gears, inlet, pace)
 }
 
 /// Starts the workers, makes the turns of the ingress, and joins all that were started; hands the seats back.
@@ -216,59 +157,52 @@ fn run_beside<
     rt: &'a R,
     shared: &'a Shared<'a, D, C, G>,
     writer: &mut RouteWriter<J>,
-    readers: Vec<RouteReader<J>>,
-    given: Given<C, S>,
+    gears: Vec<Gear<C, J, S>>,
     inlet: Inlet<Src, Clk, W>,
+    pace: Pace,
 ) -> Result<Vec<DeskSeat<C>>, UnitFault> {
-    let Given {
-        seats,
-        sinks,
-        pulse_ms,
-        turns,
-    } = given;
-    let Ready { hands, own, kit } = make_ready(
-        shared.alloc,
-        shared.settings,
-        seats,
-        readers,
-        sinks,
-    )?;
-    let Kit {
-        core,
-        notifier,
-        lanes,
-        ended,
-    } = kit;
-    let Hands { seat, reader, sink } = own;
-    let (lanes, started) = start_all(scope, rt, shared, hands, lanes);
-    let ingress = Ingress {
+    let (mut gears, mut inlet) = (gears, inlet);
+    let Some(own) = gears.pop() else {
+        return Err(UnitFault::Start);
+    };
+    let (core, notifier) = core_and_notifier(shared.alloc, shared.settings)?;
+    let mut crew = Crew::new(shared.alloc, shared.settings.workers() as usize)?;
+    let started = start_all(scope, rt, shared, gears, &mut crew);
+    let mut ingress = Ingress {
         core,
         notifier,
         house: shared.house,
-        seat,
-        writer,
-        reader,
-        lanes,
-        sink,
         counts: shared.counts,
-        pulses: Pulses::new(pulse_ms),
+        writer,
+        gear: own,
+        crew,
+        ticks: Ticks::new(pace.pulse_ms),
+        present: 0,
         refusals: Vec::new(shared.alloc),
     };
-    let (ingress, ran) = inlet.run_started(rt, ingress, started, turns);
-    let (lanes, seat) = ingress.into_lanes();
-    settled(ran, join_all(rt, lanes, seat, ended))
+    let ran = inlet.run_started(rt, &mut ingress, started, pace.turns);
+    settled(ran, ingress.end(rt))
 }
 
 /// The fault of the run, and else what was joined.
-fn settled<C: SeatCalls>(
+fn settled<T: Drop>(
     ran: Result<(), UnitFault>,
-    joined: Result<Vec<DeskSeat<C>>, AllocError>,
-) -> Result<Vec<DeskSeat<C>>, UnitFault> {
-    ran?;
-    Ok(joined?)
+    joined: Result<T, AllocError>,
+) -> Result<T, UnitFault>
+    ensures ran { IfErr ran (λ fault. result ≡ Err fault) }
+    ensures joined { OnOk ran (MatchResult joined (λ all. result ≡ Ok all)
+        (λ _. result ≡ Err UnitFault.NoMemory)) }
+{
+    match ran {
+        Ok(()) => match joined {
+            Ok(all) => Ok(all),
+            Err(_) => Err(UnitFault::NoMemory),
+        },
+        Err(fault) => Err(fault),
+    }
 }
 
-/// Starts a worker with each of these, by their numbers. Those that were started are listed, after a fault, too.
+/// Starts a worker at each station, by their numbers. Those that were started are of the crew, after a fault, too.
 fn start_all<
     's,
     'a: 's,
@@ -282,32 +216,17 @@ fn start_all<
     scope: &'s Scope<'s, &'a ()>,
     rt: &'a R,
     shared: &'a Shared<'a, D, C, G>,
-    hands: Vec<Hands<C, J, S>>,
-    lanes: Vec<Lane<'a, J, C>>,
-) -> (Vec<Lane<'a, J, C>>, Result<(), UnitFault>) {
-    let mut lanes = lanes;
-    let workers = shared.settings.workers() as u16;
-    for (number, hands) in (0..workers).zip(hands) {
-        let lane = match start(scope, rt, shared, number, hands) {
-            Ok(lane) => lane,
-            Err(fault) => return (lanes, Err(fault)),
-        };
-        if let Err(unlisted) = lanes.push(lane) {
-            end(rt, unlisted.value);
-            return (lanes, Err(UnitFault::NoMemory));
-        }
+    gears: Vec<Gear<C, J, S>>,
+    crew: &mut Crew<J, C>,
+) -> Result<(), UnitFault> {
+    for (station, gear) in shared.counts.stations().iter().zip(gears) {
+        let lane = start(scope, rt, shared, &**station, gear)?;
+        crew.add(rt, &**station, lane)?;
     }
-    (lanes, Ok(()))
+    Ok(())
 }
 
-/// Stops a worker that isn't listed.
-fn end<J: Naming, C: SeatCalls, R: Threads + Wait>(rt: &R, lane: Lane<'_, J, C>) {
-    let mut lane = lane;
-    lane.stop(rt);
-    lane.join(rt);
-}
-
-/// Starts the worker of this number.
+/// Starts the worker of this station.
 fn start<
     's,
     'a: 's,
@@ -321,58 +240,40 @@ fn start<
     scope: &'s Scope<'s, &'a ()>,
     rt: &'a R,
     shared: &'a Shared<'a, D, C, G>,
-    number: u16,
-    hands: Hands<C, J, S>,
-) -> Result<Lane<'a, J, C>, UnitFault> {
-    let (Some(parker), Some(tally)) = (
-        shared.parkers.get(usize::from(number)),
-        shared.counts.of_worker(number),
-    ) else {
-        return Err(UnitFault::Start);
-    };
-    let forwarder = Forwarder::new(shared.alloc, shared.settings, number)?;
-    let (ring, jobs) = RingBuffer::new(shared.alloc, RING)?;
-    let Hands { seat, reader, sink } = hands;
+    station: &'a Station,
+    gear: Gear<C, J, S>,
+) -> Result<Lane<J, C>, UnitFault> {
+    let forwarder = Forwarder::new(shared.alloc, shared.settings, station.number)?;
+    let (ring, jobs) = new_ring(shared.alloc)?;
     let worker = Worker {
-        number,
         ring: jobs,
         forwarder,
-        reader,
-        seat,
-        sink,
+        gear,
         house: shared.house,
         gate: shared.gate,
-        parker,
-        tally,
+        station,
     };
-    match scope.spawn(move || worker.run(rt)) {
-        Ok(thread) => Ok(Lane {
-            ring,
-            parker,
-            thread,
-        }),
-        Err(_) => Err(UnitFault::Start),
-    }
+    let thread = spawn(scope, rt, worker)?;
+    Ok(Lane { ring, thread })
 }
 
-/// Stops all workers, and takes their seats once they have ended, and the ingress's last. There is room for all of them.
-fn join_all<J: Naming, C: SeatCalls, R: Threads + Wait>(
-    rt: &R,
-    lanes: Vec<Lane<'_, J, C>>,
-    own: DeskSeat<C>,
-    ended: Vec<DeskSeat<C>>,
-) -> Result<Vec<DeskSeat<C>>, AllocError> {
-    let (mut lanes, mut ended) = (lanes, ended);
-    for lane in &mut lanes {
-        lane.stop(rt);
+/// Runs a worker in a thread of its own.
+fn spawn<
+    's,
+    'a: 's,
+    D: DeskCalls + Send + Sync + 'a,
+    C: SeatCalls + Send + Sync + 'a,
+    J: Naming + Send + Sync + 'a,
+    R: Threads + Wait + Sync + 'a,
+    S: Sink + Send + Drop + 'a,
+    G: Gate + Sync + 'a,
+>(
+    scope: &'s Scope<'s, &'a ()>,
+    rt: &'a R,
+    worker: Worker<'a, D, C, J, S, G>,
+) -> Result<JoinHandle<DeskSeat<C>>, UnitFault> {
+    match scope.spawn(move || worker.run(rt)) {
+        Ok(thread) => Ok(thread),
+        Err(_) => Err(UnitFault::Start),
     }
-    let mut is_short = false;
-    for lane in lanes {
-        is_short = ended.push(lane.join(rt)).is_err() || is_short;
-    }
-    is_short = ended.push(own).is_err() || is_short;
-    if is_short {
-        return Err(AllocError);
-    }
-    Ok(ended)
 }

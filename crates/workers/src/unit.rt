@@ -3,13 +3,11 @@
 ghost use Rattle.std.specs.Prelude.{◌≡◌, ◌+◌, length, vec_len, IfOk};
 ghost use Rattle.rate_desk.specs.Gathered.{AreDesksOf};
 
-use crate::counts::{Counts, Status};
+use crate::counts::Counts;
 use crate::fault::UnitFault;
-use crate::scope::{Given, Shared, run_scoped};
-use crate::turns::Inlet;
-use crate::watch::{Unwatched, Watch};
+use crate::scope::{Shared, run_scoped};
 use desk::Desk;
-use forwarding::{Clock, Gate, Sink, Source};
+use outside::{Clock, Gate, Sink, Source, Status, Unwatched, Watch};
 use rate_desk::{DeskCalls, House, SeatCalls};
 use routes::Naming;
 use settings::Settings;
@@ -17,7 +15,7 @@ use std::alloc::{AllocError, Global};
 use std::marker::Brand;
 use std::sync::Wait;
 use std::sync::ledger::Blank;
-use std::thread::{Parker, Threads};
+use std::thread::Threads;
 
 /// What a run came to. Each count stays at `u64::MAX` once there.
 #[derive(Debug, Drop)]
@@ -45,18 +43,17 @@ pub struct Outside<Src: Drop, Snk: Drop, Clk: Drop, W: Drop> {
     pub watch: W,
 }
 
-/// How long the unit runs, and how often it tells its desks the moment.
+/// How long the unit runs, and how often it ticks.
 #[derive(Clone, Copy, Debug, PartialEq, Eq)]
 pub struct Pace {
     /// How many turns it makes: as good as no end at `u64::MAX`.
     pub turns: u64,
-    /// How many milliseconds the moment rises at least between two such rounds. A PLI that waits for its gap, or a request
-    /// that grows too old, may come so much later.
+    /// How many milliseconds the moment rises at least between two ticks, and so between two pulses of a desk.
     pub pulse_ms: u64,
 }
 
-/// How many milliseconds the moment rises at least between two rounds of pulses.
-const PULSE_MS: u64 = 1;
+/// How many milliseconds the moment rises at least between two ticks.
+const TICK_MS: u64 = 1;
 
 /// Runs the unit for so many turns, each one receive and one tick, with all that follows. Each worker sends on its legs in
 /// a thread of its own, and calls the gate before and after each job. Behind the turns each worker does the jobs that wait,
@@ -93,7 +90,7 @@ pub fn run_unit<
     };
     let pace = Pace {
         turns,
-        pulse_ms: PULSE_MS,
+        pulse_ms: TICK_MS,
     };
     run_watched(rt, alloc, settings, outside, gate, pace)
 }
@@ -121,6 +118,7 @@ pub fn run_watched<
     let endpoints = settings.endpoints().len();
     let workers = settings.workers();
     let legs = settings.legs().len() as u16;
+    let counts = Counts::new(alloc, workers as u16)?;
     run_named::<Brand, Brand, Brand, R, Src, Snk, Clk, W, G>(
         rt,
         alloc,
@@ -130,6 +128,7 @@ pub fn run_watched<
         routes::Blank::new(legs),
         outside,
         gate,
+        &counts,
         pace,
     )
 }
@@ -154,6 +153,7 @@ fn run_named<
     table: routes::Blank,
     outside: Outside<Src, Snk, Clk, W>,
     gate: &G,
+    counts: &Counts,
     pace: Pace,
 ) -> Result<Report, UnitFault>
     requires recorded { (recorded.name ≡ D.name) × (recorded.parts ≡ D.parts) }
@@ -169,55 +169,39 @@ fn run_named<
     ensures { IfOk result (λ r. AreDesksOf settings.now.pli_gap_ms settings.now.request_ms
         (length settings.now.endpoints) r.desks.items) }
 {
-    let workers = settings.workers() as usize;
     let (house, seats) = House::<D, C>::new(
         alloc,
         recorded,
         made,
         settings.endpoints().len(),
-        workers + 1,
+        settings.workers() as usize + 1,
         settings.pli_gap_ms(),
         settings.request_ms(),
     )?;
-    let parkers = new_parkers(alloc, workers)?;
-    let counts = Counts::new(alloc, workers)?;
-    let Outside {
-        source,
-        sinks,
-        clock,
-        watch,
-    } = outside;
-    let inlet = Inlet::new(alloc, source, clock, watch)?;
-    let given = Given {
-        seats,
-        sinks,
-        pulse_ms: pace.pulse_ms,
-        turns: pace.turns,
-    };
     let shared = Shared {
         alloc,
         settings,
         house: &house,
         gate,
-        parkers: parkers.as_slice(),
-        counts: &counts,
+        counts,
     };
-    let seats = run_scoped::<D, C, J, R, Src, Snk, Clk, W, G>(rt, &shared, table, given, inlet)?;
+    let seats = run_scoped::<D, C, J, R, Src, Snk, Clk, W, G>(
+        rt, &shared, table, seats, outside, pace,
+    )?;
     let desks = house.gather(seats, &[])?;
     Ok(report_of(&counts.status(), desks))
 }
 
-/// Where each worker sleeps.
-fn new_parkers(alloc: Global, workers: usize) -> Result<Vec<Parker>, AllocError> {
-    let mut parkers = Vec::with_capacity(alloc, workers)?;
-    for _worker in 0..workers {
-        parkers.push(Parker::new())?;
-    }
-    Ok(parkers)
-}
-
+/// The report of a unit with these totals and desks.
 fn report_of(status: &Status, desks: Vec<Desk>) -> Report
-    ensures { result.desks ≡ desks }
+    ensures { result ≡ record {
+      heard = status.now.heard;
+      sent = status.now.sent;
+      failed = status.now.failed;
+      lost = status.now.lost;
+      dropped = status.now.dropped;
+      desks = desks;
+    } }
 {
     Report {
         heard: status.heard,

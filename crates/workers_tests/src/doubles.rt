@@ -103,7 +103,11 @@ pub(super) struct MemorySource {
 }
 
 impl Source for MemorySource {
+    ghost use Rattle.std.specs.Prelude.{None};
+
     ghost failures = { λ s. s.failures };
+
+    ghost given = { λ _. None };
 
     fn receive(&mut self, out: &mut [u8]) -> Result<Option<(u16, usize)>, ReceiveFault> {
         let Some(datagram) = self.waiting.pop() else {
@@ -128,8 +132,29 @@ impl Source for MemorySource {
 pub(super) struct StoppedClock;
 
 impl Clock for StoppedClock {
+    ghost use Rattle.std.specs.Prelude.{None};
+
+    ghost told = { λ _. None };
+
     fn moment(&mut self) -> u64 {
         0
+    }
+}
+
+/// A clock that rises by 20 ms each time it is asked.
+#[derive(Debug, Drop)]
+pub(super) struct RisingClock {
+    pub(super) moment: u64,
+}
+
+impl Clock for RisingClock {
+    ghost use Rattle.std.specs.Prelude.{None};
+
+    ghost told = { λ _. None };
+
+    fn moment(&mut self) -> u64 {
+        self.moment = self.moment.saturating_add(20);
+        self.moment
     }
 }
 

@@ -2,7 +2,7 @@
 
 ghost use Rattle.std.specs.Prelude.{◌≡◌, ◌++◌, IsTrue, IfOk};
 ghost use Rattle.forwarding.specs.Forwarding.{given_by};
-ghost use Rattle.forwarding.specs.Outside.{datagrams_of};
+ghost use Rattle.outside.specs.Outside.{datagrams_of};
 
 use crate::doubles::{ListSink, MemorySink, MemorySource, OpenGate, StoppedClock};
 use crate::rooms::{examples, is, on, packet, rtp, two_subscribers};

@@ -190,6 +190,11 @@ pub(super) fn make_turns(alloc: Global) -> Result<Vec<Turn>, AllocError> {
 
 /// The room in which all this comes: each endpoint sends to each other one.
 pub(super) fn room(alloc: Global) -> Result<Settings, Fail> {
+    room_with(alloc, WORKERS)
+}
+
+/// The same, with so many workers.
+pub(super) fn room_with(alloc: Global, workers: u8) -> Result<Settings, Fail> {
     let links = all_links(alloc)?;
     let times = Times {
         timeout: 1_000,
@@ -199,7 +204,7 @@ pub(super) fn room(alloc: Global) -> Result<Settings, Fail> {
     };
     settings_with(
         alloc,
-        i64::from(WORKERS),
+        i64::from(workers),
         ENDPOINTS,
         links.as_slice(),
         times,

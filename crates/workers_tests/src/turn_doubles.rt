@@ -27,7 +27,11 @@ pub(super) struct Turned<'a> {
 }
 
 impl<'a> Source for Turned<'a> {
+    ghost use Rattle.std.specs.Prelude.{None};
+
     ghost failures = { λ s. 0 };
+
+    ghost given = { λ _. None };
 
     fn receive(&mut self, out: &mut [u8]) -> Result<Option<(u16, usize)>, ReceiveFault> {
         let at = self.next;
@@ -62,6 +66,10 @@ pub(super) struct Moved<'a> {
 }
 
 impl<'a> Clock for Moved<'a> {
+    ghost use Rattle.std.specs.Prelude.{None};
+
+    ghost told = { λ _. None };
+
     fn moment(&mut self) -> u64 {
         self.now.load(Ordering::SeqCst)
     }

@@ -5,7 +5,7 @@ ghost use Rattle.std.specs.Prelude.{◌≡◌, ◌<◌, vec_len, IfOk};
 use crate::doubles::MemorySink;
 use settings::{LegParts, Parts, Settings};
 use std::alloc::{AllocError, Global};
-use std::sync::atomic::{AtomicBool, Ordering};
+use std::sync::atomic::{AtomicBool, AtomicU64, Ordering};
 use std::test::Fail;
 use std::thread;
 use workers::*;
@@ -119,7 +119,11 @@ impl<'a> Script<'a> {
 }
 
 impl<'a> Source for Script<'a> {
+    ghost use Rattle.std.specs.Prelude.{None};
+
     ghost failures = { λ s. s.failures };
+
+    ghost given = { λ _. None };
 
     fn receive(&mut self, out: &mut [u8]) -> Result<Option<(u16, usize)>, ReceiveFault> {
         let at = self.next;
@@ -145,6 +149,25 @@ impl<'a> Source for Script<'a> {
                 Err(ReceiveFault)
             }
         }
+    }
+}
+
+/// A source from which nothing comes. It counts the receives.
+#[derive(Drop)]
+pub(super) struct Quiet<'a> {
+    pub(super) receives: &'a AtomicU64,
+}
+
+impl<'a> Source for Quiet<'a> {
+    ghost use Rattle.std.specs.Prelude.{None};
+
+    ghost failures = { λ s. 0 };
+
+    ghost given = { λ _. None };
+
+    fn receive(&mut self, _out: &mut [u8]) -> Result<Option<(u16, usize)>, ReceiveFault> {
+        self.receives.fetch_add(1, Ordering::SeqCst);
+        Ok(None)
     }
 }
 

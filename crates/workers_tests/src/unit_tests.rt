@@ -2,14 +2,15 @@
 
 ghost use Rattle.std.specs.Prelude.{◌≡◌, ◌+◌, vec_len};
 
-use crate::doubles::{OpenGate, StoppedClock};
+use crate::doubles::{MemorySink, OpenGate, RisingClock, StoppedClock};
 use crate::unit_doubles::{
-    Arrival, Link, Pairing, Script, Until, media_packet, receiver_report, settings_of, sinks_of,
+    Arrival, Link, Pairing, Quiet, Script, Until, media_packet, receiver_report, settings_of,
+    sinks_of,
 };
 use settings::Settings;
 use std::alloc::Global;
 use std::sync::Wait;
-use std::sync::atomic::AtomicBool;
+use std::sync::atomic::{AtomicBool, AtomicU64, Ordering};
 use std::test::Fail;
 use std::thread::Threads;
 use workers::*;
@@ -43,22 +44,24 @@ const ONE_LINK: [Link; 1] = [Link {
     out_ssrc: 257,
 }];
 
+/// Endpoint 2 sends to the endpoints 0 and 1, each of a worker of its own.
+const TWO_LINKS: [Link; 2] = [
+    Link {
+        subscriber: 0,
+        publisher: 2,
+        out_ssrc: 257,
+    },
+    Link {
+        subscriber: 1,
+        publisher: 2,
+        out_ssrc: 258,
+    },
+];
+
 #[test]
 fn gate_two_workers(rt: HostRuntime) -> Result<(), Fail> {
     let alloc = rt.alloc();
-    let links = [
-        Link {
-            subscriber: 0,
-            publisher: 2,
-            out_ssrc: 257,
-        },
-        Link {
-            subscriber: 1,
-            publisher: 2,
-            out_ssrc: 258,
-        },
-    ];
-    let settings = settings_of(alloc, 2, 3, &links)?;
+    let settings = settings_of(alloc, 2, 3, &TWO_LINKS)?;
     let mut arrivals = Vec::new(alloc);
     arrivals.push(Arrival::Datagram(0, receiver_report(alloc, 16)?))?;
     arrivals.push(Arrival::Datagram(1, receiver_report(alloc, 17)?))?;
@@ -134,5 +137,96 @@ fn receive_faults(rt: HostRuntime) -> Result<(), Fail> {
     let fault = run_faults(&rt, rt.alloc(), 100)?.err();
     assert_eq!(rt; fault, Some(UnitFault::Receive));
     assert_eq!(rt; UnitFault::Receive.number(), 2);
+    Ok(())
+}
+
+/// Sinks for two workers and the ingress, of whose first sends 2, 3 and 1 fail.
+fn failing_sinks(alloc: Global) -> Result<Vec<MemorySink>, Fail> {
+    let mut sinks = Vec::new(alloc);
+    for to_fail in [2, 3, 1] {
+        sinks.push(MemorySink::failing(alloc, to_fail))?;
+    }
+    Ok(sinks)
+}
+
+/// Two endpoints say that they are there, and the third sends six packets.
+fn six_packets(alloc: Global) -> Result<Vec<Arrival>, Fail> {
+    let mut arrivals = Vec::new(alloc);
+    for endpoint in 0..2u8 {
+        let report = receiver_report(alloc, 16 + endpoint)?;
+        arrivals.push(Arrival::Datagram(u16::from(endpoint), report))?;
+    }
+    for seq in 0..6 {
+        arrivals.push(Arrival::Datagram(2, media_packet(alloc, 18, seq)?))?;
+    }
+    Ok(arrivals)
+}
+
+/// Of twelve datagrams that two workers send, the first two of one and the first three of the other fail.
+#[test]
+fn each_count_by_its_name(rt: HostRuntime) -> Result<(), Fail> {
+    let alloc = rt.alloc();
+    let settings = settings_of(alloc, 2, 3, &TWO_LINKS)?;
+    let is_played = AtomicBool::new(false);
+    let source = Script::of(six_packets(alloc)?, &is_played);
+    let sinks = failing_sinks(alloc)?;
+    if sinks.len() as u64 != settings.workers() + 1 {
+        return Err("sinks".into());
+    }
+    let report = run_unit(
+        &rt,
+        alloc,
+        &settings,
+        source,
+        sinks,
+        StoppedClock,
+        &OpenGate,
+        8,
+    )?;
+    assert_eq!(rt; (report.heard, report.sent, report.failed), (8, 7, 5));
+    assert_eq!(rt; (report.lost, report.dropped), (0, 0));
+    Ok(())
+}
+
+/// Receives fail for longer than a subscriber may be silent: it is gone when a packet comes.
+#[test]
+fn ticks_while_receives_fail(rt: HostRuntime) -> Result<(), Fail> {
+    let alloc = rt.alloc();
+    let settings = settings_of(alloc, 1, 2, &ONE_LINK)?;
+    let mut arrivals = Vec::new(alloc);
+    arrivals.push(Arrival::Datagram(1, receiver_report(alloc, 17)?))?;
+    for _fault in 0..60 {
+        arrivals.push(Arrival::Fault)?;
+    }
+    arrivals.push(Arrival::Datagram(0, media_packet(alloc, 16, 7)?))?;
+    let is_played = AtomicBool::new(false);
+    let source = Script::of(arrivals, &is_played);
+    let sinks = sinks_of(alloc, settings.workers() + 1)?;
+    let clock = RisingClock { moment: 0 };
+    let report = run_unit(&rt, alloc, &settings, source, sinks, clock, &OpenGate, 62)?;
+    assert_eq!(rt; (report.heard, report.sent, report.failed), (2, 0, 0));
+    Ok(())
+}
+
+#[test]
+fn as_many_receives_as_turns(rt: HostRuntime) -> Result<(), Fail> {
+    let alloc = rt.alloc();
+    let settings = settings_of(alloc, 1, 2, &ONE_LINK)?;
+    let receives = AtomicU64::new(0);
+    let source = Quiet {
+        receives: &receives,
+    };
+    let sinks = sinks_of(alloc, settings.workers() + 1)?;
+    run_unit(
+        &rt,
+        alloc,
+        &settings,
+        source,
+        sinks,
+        StoppedClock,
+        &OpenGate,
+        7,
+    )?;
+    assert_eq!(rt; receives.load(Ordering::SeqCst), 7);
     Ok(())
 }

@@ -1,5 +1,5 @@
 use Rattle.std.proofs.Common.{◌≡◌, ◌≤◌, take}
-use Rattle.forwarding.specs.Outside.{Hands, total_of}
+use Rattle.forwarding.specs.Handing.{Hands, total_of}
 use Rattle.forwarding.proofs.sending.send_all.Given as goal
 
 abbrev pub invariant-loop-out : goal.invariant-loop-out

@@ -1,6 +1,6 @@
 use Rattle.std.proofs.Common.{◌≡◌, ◌≤◌, take}
 use Rattle.legs.specs.Plan.{plan_outs}
-use Rattle.forwarding.specs.Outside.{Hands, total_of}
+use Rattle.forwarding.specs.Handing.{Hands, total_of}
 use Rattle.forwarding.proofs.sending.send_planned.Given as goal
 
 abbrev pub invariant-loop-planned : goal.invariant-loop-planned

@@ -1,34 +1,9 @@
--- What contracts see of a sink, and how datagrams come to it.
-use Rattle.std.specs.Prelude.{◌≡◌, ◌+◌, ℕ, Bool, true, false, List, [], ◌∷◌, ◌++◌, length, filter, flat_map, Option, None, Some, option_map}
+-- What is given out is handed to a sink, and counted.
+use Rattle.std.specs.Prelude.{◌≡◌, ◌+◌, ℕ, Bool, true, false, List, length, filter}
 use Rattle.events.specs.declared.output.Out.{Out}
 use Rattle.events.specs.declared.output.Out.TheVariants.{Send, Refused, Busy, Lost, Skip, Miss, Idle}
-use Rattle.forwarding.specs.declared.datagram.Datagram.{Datagram}
+use Rattle.outside.specs.Outside.{SinkView, Grows, datagrams_of}
 use Rattle.forwarding.specs.declared.done.Forwarded.{Forwarded}
-
--- the datagrams that were handed over, failed ones too, where that is known; and how many sends failed
-pub record SinkView : Type 0 where
-  pub handed : Option (List Datagram)
-  pub failures : ℕ
-
--- These datagrams came behind those that were handed over before; or what was handed over isn't known any more.
-abbrev pub Grows : Option (List Datagram) → List Datagram → Option (List Datagram) → Type 0
-Grows before more None = Unit {0}
-Grows before more (Some all) = option_map (λ known. known ++ more) before ≡ Some all
-
--- ---- what is given out
-
-abbrev pub datagram_in : Out → List Datagram
-datagram_in (Send endpoint bytes) = record { endpoint = endpoint; bytes = bytes } ∷ []
-datagram_in (Refused refusal) = []
-datagram_in Busy = []
-datagram_in (Lost worker) = []
-datagram_in (Skip leg skip) = []
-datagram_in (Miss leg seq) = []
-datagram_in Idle = []
-
--- the datagrams among what is given out, in order
-abbrev pub datagrams_of : List Out → List Datagram
-datagrams_of outs = flat_map datagram_in outs
 
 abbrev pub is_skip : Out → Bool
 is_skip (Send endpoint bytes) = false
@@ -47,8 +22,6 @@ is_miss (Lost worker) = false
 is_miss (Skip leg skip) = false
 is_miss (Miss leg seq) = true
 is_miss Idle = false
-
--- ---- what is given out is handed to a sink
 
 -- the datagrams came to the sink, each was sent or couldn't be, and with all else they came to these counts
 pub record Adds (outs : List Out) (before after : SinkView) (former done : Forwarded) : Type 0 where
