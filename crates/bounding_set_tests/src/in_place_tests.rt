@@ -1,5 +1,5 @@
 //! The envelope that is changed in place beside the plain walk over all rows.
-ghost use Rattle.std.specs.Prelude.{◌≡◌, All};
+ghost use Rattle.std.specs.Prelude.{◌≡◌, false, All};
 ghost use Rattle.bounding_set.specs.Canonical.{StopsMedia};
 
 use crate::lists::{Generator, KINDS, Kind};
