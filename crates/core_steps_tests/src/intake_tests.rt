@@ -5,6 +5,7 @@ use core_steps::*;
 use rtcp_compound::RtcpFault;
 use rtcp_feedback::{FbFault, Nack};
 use rtp_packet::RtpFault;
+use std::alloc::Global;
 use std::process::Abort;
 use std::test::Fail;
 use tmmbr_tuple::Ssrc;
@@ -248,4 +249,33 @@ fn refusals(rt: HostRuntime) -> Result<(), Fail> {
     expect(&rt, 17, &[&packet(192)], Ok(control(17, None, 0)), &[])?;
     expect(&rt, 17, &[&packet(223)], Ok(control(17, None, 0)), &[])?;
     expect(&rt, 17, &[&packet(224)], rtp, &[])
+}
+
+/// A NACK of 17 about source 257 that has so many entries, from packet 0 on.
+fn long_nack(alloc: Global, count: u16) -> Result<Vec<u8>, Fail> {
+    let [high, low] = count.wrapping_add(2).to_be_bytes();
+    let mut packet = Vec::new(alloc);
+    packet.extend_from_slice(&[0x81, 0xcd, high, low, 0, 0, 0, 0x11, 0, 0, 1, 1])?;
+    for pid in 0..count {
+        let [high, low] = pid.to_be_bytes();
+        packet.extend_from_slice(&[high, low, 0, 0])?;
+    }
+    Ok(packet)
+}
+
+/// Of 300 entries, and a PLI after them, the first 256 are heeded.
+#[test]
+fn so_many_entries_are_heeded(rt: HostRuntime) -> Result<(), Fail> {
+    let nack = long_nack(rt.alloc(), 300)?;
+    let mut asked = Vec::new(rt.alloc());
+    for pid in 0..256 {
+        asked.push(resend(257, pid, 0))?;
+    }
+    expect(
+        &rt,
+        17,
+        &[nack.as_slice(), &PLI],
+        Ok(control(17, None, 0)),
+        asked.as_slice(),
+    )
 }

@@ -1,5 +1,14 @@
 //! Jobs in; datagrams, skips and misses out.
+//!
+//! A script has a job of publisher 0 a line, `ROWS | JOB`, and below it what it gives out. A row is `STAY.TURN`, or `-` if it is off;
+//! a job is one of these:
+//!
+//! - `packet SEQ`: a packet with this sequence number; `short`: the first three bytes of a packet.
+//! - `resend LEG STAY PID BLP`: of this leg and stay, the packet with this sequence number, and those after it with these bits.
+//! - `report LEG STAY`, `report LEG STAY NTP RTP`: a report on this leg and stay, with this clock of the publisher's.
+//! - `counts`: no job, but how many packets and octets the last leg sent.
 
+use crate::steps::number_of;
 use core_steps::*;
 use members::Row;
 use rtcp_feedback::Nack;
@@ -23,49 +32,38 @@ fn rtp(alloc: Global, seq: u16) -> Result<Bytes, AllocError> {
     )
 }
 
-/// A leg between these endpoints, with this source and this first number.
-fn leg(subscriber: i64, publisher: i64, out_ssrc: i64, first_seq: i64) -> LegParts {
-    LegParts {
-        subscriber: Some(subscriber),
-        publisher: Some(publisher),
-        out_ssrc: Some(out_ssrc),
-        first_seq: Some(first_seq),
-        on: None,
-    }
-}
-
-/// The links of a room of the endpoints 16, 17 and 18 with these legs.
-fn links_of(alloc: Global, workers: i64, legs: &[LegParts]) -> Result<Links, Fail> {
+/// The links of a room of the endpoints 16, 17 and 18 with these legs: subscriber, publisher, outgoing source, first number.
+fn links_of(alloc: Global, workers: i64, legs: &[[i64; 4]]) -> Result<Links, Fail> {
     let mut parts = Parts::example(alloc)?;
     parts.workers = Some(workers);
     parts.endpoints = [Some(16), Some(17), Some(18)].to_vec(alloc)?;
-    parts.legs = legs.to_vec(alloc)?;
+    parts.legs = leg_parts(alloc, legs)?;
     let settings = Settings::new(alloc, &parts)?;
     Ok(Links::new(alloc, &settings)?)
 }
 
-const fn on(stay: u64, turn: u64) -> Row {
-    Row {
-        stay,
-        turn,
-        on: true,
+/// The settings of these legs.
+fn leg_parts(alloc: Global, legs: &[[i64; 4]]) -> Result<Vec<LegParts>, AllocError> {
+    let mut parts = Vec::new(alloc);
+    for [subscriber, publisher, out_ssrc, first_seq] in legs {
+        parts.push(LegParts {
+            subscriber: Some(*subscriber),
+            publisher: Some(*publisher),
+            out_ssrc: Some(*out_ssrc),
+            first_seq: Some(*first_seq),
+            on: None,
+        })?;
     }
+    Ok(parts)
 }
 
-const OFF: Row = Row {
-    stay: 0,
-    turn: 0,
-    on: false,
-};
-
 /// One datagram that is sent, in hex.
-fn send(text: &mut String, endpoint: u16, bytes: &[u8]) -> Result<(), Fail> {
+fn send(text: &mut String, endpoint: u16, bytes: &[u8]) -> Result<(), AllocError> {
     write!(text, "send {endpoint} ")?;
     for byte in bytes {
         write!(text, "{byte:02x}")?;
     }
-    text.push('\n')?;
-    Ok(())
+    text.push('\n')
 }
 
 /// What is planned, a line each.
@@ -89,192 +87,212 @@ fn write_planned(text: &mut String, legs: &Legs, planned: &Planned) -> Result<()
     Ok(())
 }
 
-/// The legs of a worker, and the plan that its jobs are written into.
-#[derive(Drop)]
-struct Bench {
-    legs: Legs,
-    plan: Plan,
-}
-
-/// The bench of this worker.
-fn new_bench(alloc: Global, links: &Links, worker: u16) -> Result<Bench, Fail> {
-    let legs = Legs::new(alloc, links, 8, worker)?;
-    let plan = Plan::new(alloc);
-    Ok(Bench { legs, plan })
-}
-
-/// Does a job, and answers what it gives out, a line each.
-fn done(alloc: Global, bench: &mut Bench, rows: &[Row], job: &Job) -> Result<String, Fail> {
-    let mut text = String::new(alloc);
-    bench.legs.plan(alloc, CNAME, rows, job, &mut bench.plan)?;
-    for planned in bench.plan.as_slice() {
-        write_planned(&mut text, &bench.legs, planned)?;
+/// Does a job, and writes what it gives out, a line each.
+fn do_job(
+    alloc: Global,
+    legs: &mut Legs,
+    plan: &mut Plan,
+    rows: &[Row],
+    job: &Job,
+    text: &mut String,
+) -> Result<(), Fail> {
+    legs.plan(alloc, CNAME, rows, job, plan)?;
+    for planned in plan.as_slice() {
+        write_planned(text, legs, planned)?;
     }
-    bench.legs.apply(&mut bench.plan);
-    Ok(text)
+    legs.apply(plan);
+    Ok(())
 }
 
-/// A job of publisher 0.
-#[derive(Clone, Copy)]
-enum Work {
-    /// A packet with this sequence number.
-    Packet(u16),
-    /// The first three bytes of a packet.
-    Short,
-    /// Of this leg and stay, the packet with this sequence number, and those behind it with these bits.
-    Resend(u16, u64, u16, u16),
-    /// A report on this leg and stay, with this clock of the publisher's.
-    Report(u16, u64, Option<(u64, u32)>),
-}
-
-use Work::{Packet, Report, Resend, Short};
-
-fn job_of(alloc: Global, work: Work) -> Result<Job, AllocError> {
-    Ok(match work {
-        Packet(seq) => Job::Packet {
-            publisher: 0,
-            bytes: rtp(alloc, seq)?,
-        },
-        Short => Job::Packet {
-            publisher: 0,
-            bytes: Bytes::copy_of(alloc, &[0x80, 0x60, 0])?,
-        },
-        Resend(leg, stay, pid, blp) => Job::Resend {
-            leg,
-            stay,
-            nack: Nack { pid, blp },
-        },
-        Report(leg, stay, sr) => Job::Report { leg, stay, sr },
+/// The row of a word.
+fn row_of(word: &str) -> Option<Row> {
+    let (stay, turn) = word.split_once('.').unwrap_or(("0", "0"));
+    Some(Row {
+        stay: stay.parse().ok()?,
+        turn: turn.parse().ok()?,
+        on: word != "-",
     })
 }
 
-/// With these rows the job gives out these lines.
-fn gives(
-    rt: &impl Abort,
-    alloc: Global,
-    bench: &mut Bench,
-    rows: &[Row],
-    work: Work,
-    lines: &str,
-) -> Result<(), Fail> {
-    let job = job_of(alloc, work)?;
-    let text = done(alloc, bench, rows, &job)?;
-    assert_eq!(rt; text.as_str(), lines);
-    Ok(())
+/// The rows of these words.
+fn rows_of(alloc: Global, words: &str) -> Option<Vec<Row>> {
+    let mut rows = Vec::new(alloc);
+    for word in words.split(' ') {
+        rows.push(row_of(word)?).ok()?;
+    }
+    Some(rows)
 }
 
-/// One job behind the other, each with these rows, gives out these lines.
-fn give(
-    rt: &impl Abort,
-    alloc: Global,
-    bench: &mut Bench,
-    steps: &[(&[Row], Work, &str)],
-) -> Result<(), Fail> {
-    for (rows, work, lines) in steps {
-        gives(rt, alloc, bench, *rows, *work, *lines)?;
+/// The job of these words.
+fn job_of(alloc: Global, name: &str, words: &str) -> Option<Job> {
+    match name {
+        "packet" => Some(Job::Packet {
+            publisher: 0,
+            bytes: rtp(alloc, words.parse().ok()?).ok()?,
+        }),
+        "short" => Some(Job::Packet {
+            publisher: 0,
+            bytes: Bytes::copy_of(alloc, &[0x80, 0x60, 0]).ok()?,
+        }),
+        "resend" => resend_of(words),
+        "report" => report_of(words),
+        _ => None,
+    }
+}
+
+/// `LEG STAY PID BLP`.
+fn resend_of(words: &str) -> Option<Job> {
+    let (leg, words) = words.split_once(' ')?;
+    let (stay, words) = words.split_once(' ')?;
+    let (pid, blp) = words.split_once(' ')?;
+    Some(Job::Resend {
+        leg: leg.parse().ok()?,
+        stay: stay.parse().ok()?,
+        nack: Nack {
+            pid: pid.parse().ok()?,
+            blp: blp.parse().ok()?,
+        },
+    })
+}
+
+/// `LEG STAY`, or `LEG STAY NTP RTP`; the NTP timestamp is hexadecimal.
+fn report_of(words: &str) -> Option<Job> {
+    let (leg, words) = words.split_once(' ')?;
+    let (stay, clock) = words.split_once(' ').unwrap_or((words, ""));
+    let sr = match clock.split_once(' ') {
+        Some((ntp, rtp)) => Some((number_of(ntp), rtp.parse().ok()?)),
+        None => None,
+    };
+    Some(Job::Report {
+        leg: leg.parse().ok()?,
+        stay: stay.parse().ok()?,
+        sr,
+    })
+}
+
+/// Writes how many packets and octets the last leg sent.
+fn write_counts(text: &mut String, legs: &[LegState]) -> Result<(), AllocError> {
+    if let Some(leg) = legs.last() {
+        writeln!(text, "{} packets, {} octets", leg.packets, leg.octets)?;
     }
     Ok(())
 }
 
+/// Does the job of these words, and writes what it gives out.
+fn play_job(
+    alloc: Global,
+    legs: &mut Legs,
+    plan: &mut Plan,
+    rows: &str,
+    work: &str,
+    text: &mut String,
+) -> Result<(), Fail> {
+    let (name, words) = work.split_once(' ').unwrap_or((work, ""));
+    if name == "counts" {
+        return Ok(write_counts(text, legs.as_slice())?);
+    }
+    let rows = rows_of(alloc, rows).ok_or("rows")?;
+    let job = job_of(alloc, name, words).ok_or("a job")?;
+    do_job(alloc, legs, plan, rows.as_slice(), &job, text)
+}
+
+/// Does the jobs of the script, and writes each, and what it gives out.
+fn play_lines(
+    alloc: Global,
+    legs: &mut Legs,
+    plan: &mut Plan,
+    script: &str,
+    text: &mut String,
+) -> Result<(), Fail> {
+    for line in script.lines() {
+        if let Some((rows, work)) = line.split_once(" | ") {
+            writeln!(text, "{line}")?;
+            play_job(alloc, legs, plan, rows, work, text)?;
+        }
+    }
+    Ok(())
+}
+
+/// What the worker of this number makes of the script.
+fn played(alloc: Global, links: &Links, worker: u16, script: &str) -> Result<String, Fail> {
+    let mut text = String::new(alloc);
+    let mut plan = Plan::new(alloc);
+    let mut legs = Legs::new(alloc, links, 8, worker)?;
+    play_lines(alloc, &mut legs, &mut plan, script, &mut text)?;
+    Ok(text)
+}
+
+/// Each job of the script, done by the worker of this number, gives out what stands below it.
+fn assert_gives(
+    rt: &impl Abort,
+    alloc: Global,
+    links: &Links,
+    worker: u16,
+    script: &str,
+) -> Result<(), Fail> {
+    let text = played(alloc, links, worker, script)?;
+    assert_eq!(rt; text.as_str(), script);
+    Ok(())
+}
+
+/// Two datagrams of two octets were handed out before the report.
 #[test]
 fn jobs_of_example_22(rt: HostRuntime) -> Result<(), Fail> {
-    let rows = [on(1, 1)];
-    let steps = [
-        (
-            rows.as_slice(),
-            Packet(8),
-            "send 1 8060006400000bb800000101aabb\n",
-        ),
-        (
-            &rows,
-            Resend(0, 1, 100, 1),
-            "send 1 8060006400000bb800000101aabb\nmiss 0 101\n",
-        ),
-        // Two datagrams of two octets were handed out.
-        (
-            &rows,
-            Report(0, 1, Some((0x0102_0304_0506_0708, 3000))),
-            "send 1 80c800060000010101020304050607080000\
-            0bb8000000020000000481ca0003000001010103736675000000\n",
-        ),
-        (
-            &rows,
-            Report(0, 1, None),
-            "send 1 80c900010000010181ca0003000001010103736675000000\n",
-        ),
-    ];
-    let links = links_of(rt.alloc(), 2, &[leg(1, 0, 257, 100)])?;
-    let mut bench = new_bench(rt.alloc(), &links, 1)?;
-    give(&rt, rt.alloc(), &mut bench, &steps)
+    let script = "1.1 | packet 8\n\
+        send 1 8060006400000bb800000101aabb\n\
+        1.1 | resend 0 1 100 1\n\
+        send 1 8060006400000bb800000101aabb\n\
+        miss 0 101\n\
+        1.1 | report 0 1 0102030405060708 3000\n\
+        send 1 80c8000600000101010203040506070800000bb8000000020000000481ca0003000001010103736675000000\n\
+        1.1 | report 0 1\n\
+        send 1 80c900010000010181ca0003000001010103736675000000\n";
+    let links = links_of(rt.alloc(), 2, &[[1, 0, 257, 100]])?;
+    assert_gives(&rt, rt.alloc(), &links, 1, script)
 }
 
-/// The counts of packets and octets of the last leg.
-fn counts(legs: &[LegState]) -> Option<(u32, u32)> {
-    match legs {
-        [.., leg] => Some((leg.packets, leg.octets)),
-        [] => None,
-    }
-}
-
+/// Once the stay ended nothing goes out. In the next stay the numbers go on, and the first packet is found.
 #[test]
 fn numbers_and_packets_outlive_stays(rt: HostRuntime) -> Result<(), Fail> {
-    let (first, next) = ([on(1, 1)], [on(2, 2)]);
-    let steps = [
-        (
-            first.as_slice(),
-            Packet(8),
-            "send 1 8060006400000bb800000101aabb\n",
-        ),
-        // The stay ended: nothing goes out.
-        (&[OFF], Packet(8), ""),
-        // In the next stay the numbers go on, and the first packet is found.
-        (&next, Packet(8), "send 1 8060006500000bb800000101aabb\n"),
-        (&next, Resend(0, 1, 100, 0), ""),
-        (
-            &next,
-            Resend(0, 2, 100, 0),
-            "send 1 8060006400000bb800000101aabb\n",
-        ),
-    ];
-    let links = links_of(rt.alloc(), 2, &[leg(1, 0, 257, 100)])?;
-    let mut bench = new_bench(rt.alloc(), &links, 1)?;
-    give(&rt, rt.alloc(), &mut bench, &steps)?;
-    assert_eq!(rt; counts(bench.legs.as_slice()), Some((3, 6)));
-    Ok(())
+    let script = "1.1 | packet 8\n\
+        send 1 8060006400000bb800000101aabb\n\
+        - | packet 8\n\
+        2.2 | packet 8\n\
+        send 1 8060006500000bb800000101aabb\n\
+        2.2 | resend 0 1 100 0\n\
+        2.2 | resend 0 2 100 0\n\
+        send 1 8060006400000bb800000101aabb\n\
+        - | counts\n\
+        3 packets, 6 octets\n";
+    let links = links_of(rt.alloc(), 2, &[[1, 0, 257, 100]])?;
+    assert_gives(&rt, rt.alloc(), &links, 1, script)
 }
 
+/// At the end each leg of the publisher, by rising number, under its own source and number.
 #[test]
 fn numbers_of_example_14_on_one_of_three_legs(rt: HostRuntime) -> Result<(), Fail> {
-    let turn = |turn| [on(1, turn), OFF, on(1, turn)];
-    let (first, second, third) = (turn(1), turn(2), turn(3));
-    let steps = [
-        (
-            first.as_slice(),
-            Packet(65534),
-            "send 1 8060006400000bb800000101aabb\n",
-        ),
-        (
-            &first,
-            Packet(65535),
-            "send 1 8060006500000bb800000101aabb\n",
-        ),
-        (&second, Packet(3), "send 1 8060006600000bb800000101aabb\n"),
-        (&second, Packet(65534), "skip 0 1\n"),
-        (&second, Packet(5), "send 1 8060006800000bb800000101aabb\n"),
-        (&second, Packet(4), "send 1 8060006700000bb800000101aabb\n"),
-        (&first, Packet(65535), "skip 0 1\n"),
-        (&third, Packet(9), "send 1 8060006900000bb800000101aabb\n"),
-        // Each leg of the publisher, by rising number, under its own source and number.
-        (
-            &[on(1, 3), on(1, 1), on(1, 1)],
-            Packet(10),
-            "send 1 8060006a00000bb800000101aabb\nsend 2 8060000700000bb800000102aabb\n",
-        ),
-    ];
-    let legs = [leg(1, 0, 257, 100), leg(2, 0, 258, 7), leg(0, 1, 259, 0)];
+    let script = "1.1 - 1.1 | packet 65534\n\
+        send 1 8060006400000bb800000101aabb\n\
+        1.1 - 1.1 | packet 65535\n\
+        send 1 8060006500000bb800000101aabb\n\
+        1.2 - 1.2 | packet 3\n\
+        send 1 8060006600000bb800000101aabb\n\
+        1.2 - 1.2 | packet 65534\n\
+        skip 0 1\n\
+        1.2 - 1.2 | packet 5\n\
+        send 1 8060006800000bb800000101aabb\n\
+        1.2 - 1.2 | packet 4\n\
+        send 1 8060006700000bb800000101aabb\n\
+        1.1 - 1.1 | packet 65535\n\
+        skip 0 1\n\
+        1.3 - 1.3 | packet 9\n\
+        send 1 8060006900000bb800000101aabb\n\
+        1.3 1.1 1.1 | packet 10\n\
+        send 1 8060006a00000bb800000101aabb\n\
+        send 2 8060000700000bb800000102aabb\n";
+    let legs = [[1, 0, 257, 100], [2, 0, 258, 7], [0, 1, 259, 0]];
     let links = links_of(rt.alloc(), 1, &legs)?;
-    let mut bench = new_bench(rt.alloc(), &links, 0)?;
-    give(&rt, rt.alloc(), &mut bench, &steps)
+    assert_gives(&rt, rt.alloc(), &links, 0, script)
 }
 
 /// The legs of publisher 0, and the one on which endpoint 2 is sent source 258.
@@ -285,24 +303,17 @@ fn have_legs(rt: &impl Abort, links: &Links) {
     assert_eq!(rt; links.leg_to(1, tmmbr_tuple::Ssrc(258)), None);
 }
 
+/// Worker 0 owns the second leg alone.
 #[test]
 fn nothing_of_others(rt: HostRuntime) -> Result<(), Fail> {
-    let rows = [on(1, 1), on(1, 1)];
-    // Worker 0 owns the second leg alone.
-    let steps = [
-        (
-            rows.as_slice(),
-            Packet(8),
-            "send 2 8060000700000bb800000102aabb\n",
-        ),
-        (&rows, Report(0, 1, None), ""),
-        (&rows, Report(1, 0, None), ""),
-        (&rows, Report(1, 2, None), ""),
-        (&rows, Report(9, 1, None), ""),
-        (&rows, Short, ""),
-    ];
-    let links = links_of(rt.alloc(), 2, &[leg(1, 0, 257, 100), leg(2, 0, 258, 7)])?;
+    let script = "1.1 1.1 | packet 8\n\
+        send 2 8060000700000bb800000102aabb\n\
+        1.1 1.1 | report 0 1\n\
+        1.1 1.1 | report 1 0\n\
+        1.1 1.1 | report 1 2\n\
+        1.1 1.1 | report 9 1\n\
+        1.1 1.1 | short\n";
+    let links = links_of(rt.alloc(), 2, &[[1, 0, 257, 100], [2, 0, 258, 7]])?;
     have_legs(&rt, &links);
-    let mut bench = new_bench(rt.alloc(), &links, 0)?;
-    give(&rt, rt.alloc(), &mut bench, &steps)
+    assert_gives(&rt, rt.alloc(), &links, 0, script)
 }

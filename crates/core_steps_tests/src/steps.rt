@@ -79,6 +79,17 @@ fn digit(byte: u8) -> u8
     }
 }
 
+/// The number that these hexadecimal digits spell.
+pub(crate) fn number_of(hex: &str) -> u64 {
+    let mut number: u64 = 0;
+    for byte in hex.as_bytes() {
+        number = number
+            .wrapping_mul(16)
+            .wrapping_add(u64::from(digit(*byte)));
+    }
+    number
+}
+
 /// The bytes that these hexadecimal digits spell.
 pub(crate) fn bytes_of(alloc: Global, hex: &str) -> Result<Vec<u8>, AllocError> {
     let mut bytes = Vec::new(alloc);

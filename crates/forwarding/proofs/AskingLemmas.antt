@@ -1,13 +1,16 @@
 -- What comes of asking a desk.
-use Rattle.std.proofs.Common.{◌≡◌, ℕ, ◌≤◌, List, [], ◌++◌, length, refl, ap, subst, ◌∙◌}
+use Rattle.std.proofs.Common.{◌≡◌, ℕ, ◌≤◌, inl, inr, option_map, List, [], ◌++◌, length, refl, ap, subst, ◌∙◌}
+use Rattle.std.proofs.lemmas.Bool.{cases_Bool, cond-false, cond-true}
+use Rattle.std.proofs.lemmas.Option.{same_Some}
 use Rattle.std.proofs.lemmas.Result.{MatchResult-weaker}
-use Rattle.std.specs.Prelude.{Bool, false, ◌||◌, nat_lt, flat_map, Option, None, Some, Result, Ok, MatchResult, if◌then◌else◌}
+use Rattle.std.specs.Prelude.{Bool, false, ◌||◌, nat_lt, flat_map, IfSome, Option, None, Some, Result, Ok, MatchResult, if◌then◌else◌}
 use Rattle.members.specs.declared.order.Row.{Row}
 use Rattle.tmmbr_tuple.specs.declared.ssrc.Ssrc.{Ssrc}
 use Rattle.desk.specs.declared.effect.Effect.{Effect}
 use Rattle.rate_desk.specs.declared.receipt.Receipt.{Receipt}
 use Rattle.rate_desk.specs.declared.receipt.HouseFault.{HouseFault}
-use Rattle.rate_desk.specs.Shares.{SeatState, Counts, IsReceiptOf, IsFaultOf, IsTold}
+use Rattle.desk.specs.State.{DeskState}
+use Rattle.rate_desk.specs.Shares.{HoldState, IsLastCall, SeatState, Counts, IsReceiptOf, IsFaultOf, IsTold}
 use Rattle.routes.specs.Views.{ReaderView}
 use Rattle.events.specs.declared.job.Job.{Job}
 use Rattle.notices.specs.declared.notification.Notification.{Notification}
@@ -18,7 +21,7 @@ use Rattle.settings.specs.Links.{LinkTable}
 use Rattle.forwarding.specs.declared.done.Forwarded.{Forwarded}
 use Rattle.forwarding.specs.declared.done.ForwardFault.{ForwardFault}
 use Rattle.forwarding.specs.declared.question.Question.{Question}
-use Rattle.forwarding.specs.Asking.{IsAsked, nowhere, unrecorded, IsTelling, GivesUp, Notifies, QuestionOf, Feeds, picture_of}
+use Rattle.forwarding.specs.Asking.{IsAsked, nowhere, unrecorded, IsOfLastCall, IsTelling, GivesUp, Notifies, QuestionOf, Feeds, Asking, Telling, Terms, picture_of}
 use Rattle.forwarding.specs.Forwarding.{NotifierState, ForwarderState}
 use Rattle.outside.specs.Outside.{SinkView}
 use Rattle.forwarding.specs.Handing.{Hands, nothing_done}
@@ -43,39 +46,66 @@ pub asked_recorded : (gap request_ms publishers : ℕ) (q : Question) (seat late
 asked_recorded gap request_ms publishers q seat later receipt effect pending is told counts waits =
     record { reply = Some (record { receipt = receipt; effect = effect }); is = record { receipt = is; told = told }; counted = counts; waits = waits }
 
+-- what waits is what was to be told
+is_waiting : (e : Effect) (n m : Notification)
+    → option_map (pending_with e) (Some n) ≡ (if tells m e then Some (pending_with e m) else None)
+    → pending_with e n ≡ pending_with e m
+is_waiting e n m same =
+    let P : Option Pending = Some (pending_with e m) in
+    elim (cases_Bool (tells m e)) [
+      | inl told ↦ same_Some (pending_with e n) (pending_with e m) (same ∙ cond-true (tells m e) P None told)
+      | inr quiet ↦ absurd (nothing (same ∙ cond-false (tells m e) P None quiet))
+    ]
+  where
+    nothing : Some (pending_with e n) ≡ None → ⊥
+    nothing s = cc
+
+waits_of_last : (hold : HoldState) (receipt : Receipt) (former : DeskState) (asked_by : Option ℕ) (e : Effect) (n m : Notification)
+    → IsLastCall receipt e former hold.desk → m ≡ told_of hold.publisher asked_by receipt.answer
+    → option_map (pending_with e) (Some n) ≡ (if tells m e then Some (pending_with e m) else None)
+    → IsOfLastCall hold (pending_with e n)
+waits_of_last hold receipt former asked_by e n m last told same =
+    record {
+      receipt = receipt;
+      former = former;
+      asked_by = asked_by;
+      last = last;
+      notification = ap (λ (p : Pending). p.notification) (is_waiting e n m same) ∙ told;
+    }
+
+pub told_of_last : (hold : HoldState) (receipt : Receipt) (former : DeskState) (asked_by : Option ℕ) (e : Effect) (waits : Option Notification)
+    (m : Notification) → IsLastCall receipt e former hold.desk → m ≡ told_of hold.publisher asked_by receipt.answer
+    → option_map (pending_with e) waits ≡ (if tells m e then Some (pending_with e m) else None)
+    → IfSome waits (λ n. IsOfLastCall hold (pending_with e n))
+told_of_last hold receipt former asked_by e None m last told same = tt
+told_of_last hold receipt former asked_by e (Some n) m last told same = waits_of_last hold receipt former asked_by e n m last told same
+
 -- ---- what is told
 
-pub notified_all : (gap request_ms publishers legs : ℕ) (n : NotifierState) (q : Question) (seat later : SeatState) (former : List Row)
-    (next : ReaderView) (before after : SinkView) (result : Result Forwarded ForwardFault) (p : Pending)
-    → IsAsked gap request_ms publishers q seat later (Some p) → IsTelling legs n p former next before after result
-    → Notifies gap request_ms publishers legs n (Some q) seat later former next before after result
-notified_all gap request_ms publishers legs n q seat later former next before after result p asked told =
-    record { pending = Some p; asked = asked; told = told }
+pub notified_all : (t : Terms) (n : NotifierState) (q : Question) (a : Asking) (result : Result Forwarded ForwardFault) (p : Pending)
+    → IsAsked t.gap t.request_ms t.publishers q a.seat a.later (Some p) → IsTelling t.legs n p a.telling result
+    → Notifies t n (Some q) a result
+notified_all t n q a result p asked told = record { pending = Some p; asked = asked; told = told }
 
-pub notified_nobody : (gap request_ms publishers legs : ℕ) (n : NotifierState) (q : Question) (seat later : SeatState) (former : List Row)
-    (next : ReaderView) (before after : SinkView) (result : Result Forwarded ForwardFault)
-    → IsAsked gap request_ms publishers q seat later None → result ≡ Ok nothing_done → next.rows ≡ former → after ≡ before
-    → Notifies gap request_ms publishers legs n (Some q) seat later former next before after result
-notified_nobody gap request_ms publishers legs n q seat later former next before after result asked nothing rows same =
+pub notified_nobody : (t : Terms) (n : NotifierState) (q : Question) (a : Asking) (result : Result Forwarded ForwardFault)
+    → IsAsked t.gap t.request_ms t.publishers q a.seat a.later None → result ≡ Ok nothing_done
+    → a.telling.next.rows ≡ a.telling.former → a.telling.after ≡ a.telling.before → Notifies t n (Some q) a result
+notified_nobody t n q a result asked nothing rows same =
     record { pending = None; asked = asked; told = (nothing, rows, same) }
 
-pub nothing_asked : (gap request_ms publishers legs : ℕ) (f : ForwarderState) (job : Job) (seat later : SeatState) (former : List Row)
-    (next : ReaderView) (before after : SinkView) (result : Result Forwarded ForwardFault) → QuestionOf f job None → later ≡ seat
-    → result ≡ Ok nothing_done → next.rows ≡ former → after ≡ before
-    → Feeds gap request_ms publishers legs f job seat later former next before after result
-nothing_asked gap request_ms publishers legs f job seat later former next before after result names unasked nothing rows same =
+pub nothing_asked : (t : Terms) (f : ForwarderState) (job : Job) (a : Asking) (result : Result Forwarded ForwardFault)
+    → QuestionOf f job None → a.later ≡ a.seat → result ≡ Ok nothing_done → a.telling.next.rows ≡ a.telling.former
+    → a.telling.after ≡ a.telling.before → Feeds t f job a result
+nothing_asked t f job a result names unasked nothing rows same =
     record {
       question = None;
       names = names;
       notifies = record { pending = None; asked = (unasked, refl); told = (nothing, rows, same) };
     }
 
-pub something_asked : (gap request_ms publishers legs : ℕ) (f : ForwarderState) (job : Job) (seat later : SeatState) (former : List Row)
-    (next : ReaderView) (before after : SinkView) (result : Result Forwarded ForwardFault) (q : Question) → QuestionOf f job (Some q)
-    → Notifies gap request_ms publishers legs f.notifier (Some q) seat later former next before after result
-    → Feeds gap request_ms publishers legs f job seat later former next before after result
-something_asked gap request_ms publishers legs f job seat later former next before after result q names notifies =
-    record { question = Some q; names = names; notifies = notifies }
+pub something_asked : (t : Terms) (f : ForwarderState) (job : Job) (a : Asking) (result : Result Forwarded ForwardFault) (q : Question)
+    → QuestionOf f job (Some q) → Notifies t f.notifier (Some q) a result → Feeds t f job a result
+something_asked t f job a result q names notifies = record { question = Some q; names = names; notifies = notifies }
 
 -- where nothing changed, a picture that is wanted is all that is told
 pub picture_only : (t : LinkTable) (u : Identity) (rows : List Row) (publisher : ℕ) (e : Effect) → e.lifted.items ≡ [] → e.fresh.items ≡ []
@@ -93,12 +123,12 @@ picture_only t u rows publisher e lifted fresh =
     ∙ ap (λ (outs : List Out). outs ++ picture_upstream t u n) others
 
 -- the same is what was told, or given up
-pub picture_told : (legs : ℕ) (n : NotifierState) (publisher : ℕ) (e : Effect) (former learnt : List Row) (next : ReaderView)
-    (before after : SinkView) (result : Result Forwarded ForwardFault) → e.lifted.items ≡ [] → e.fresh.items ≡ [] → learnt ≡ former
-    → IsTelling legs n (pending_with e (picture_of publisher)) learnt next before after result
-    → MatchResult result (Hands (picture_upstream n.table n.unit (picture_of publisher)) before after) (GivesUp legs former next before after)
-picture_told legs n publisher e former learnt next before after result lifted fresh rows told =
+pub picture_told : (legs : ℕ) (n : NotifierState) (publisher : ℕ) (e : Effect) (learnt : List Row) (t : Telling)
+    (result : Result Forwarded ForwardFault) → e.lifted.items ≡ [] → e.fresh.items ≡ [] → learnt ≡ t.former
+    → IsTelling legs n (pending_with e (picture_of publisher)) (record t { former = learnt }) result
+    → MatchResult result (Hands (picture_upstream n.table n.unit (picture_of publisher)) t.before t.after) (GivesUp legs t)
+picture_told legs n publisher e learnt t result lifted fresh rows told =
     MatchResult-weaker result told
     (λ done both.
-    subst (λ (outs : List Out). Hands outs before after done) (picture_only n.table n.unit next.rows publisher e lifted fresh) both.1)
-    (λ fault gives. subst (λ (l : List Row). GivesUp legs l next before after fault) rows gives)
+    subst (λ (outs : List Out). Hands outs t.before t.after done) (picture_only n.table n.unit t.next.rows publisher e lifted fresh) both.1)
+    (λ fault gives. subst (λ (l : List Row). GivesUp legs (record t { former = l }) fault) rows gives)

@@ -6,7 +6,8 @@ use Rattle.settings.specs.declared.settings.LegSettings.{LegSettings}
 use Rattle.desk.specs.declared.effect.Effect.{Effect}
 use Rattle.rate_desk.specs.declared.receipt.Receipt.{Receipt}
 use Rattle.rate_desk.specs.declared.receipt.HouseFault.{HouseFault}
-use Rattle.rate_desk.specs.Shares.{SeatState, Counts, IsReceiptOf, IsFaultOf, IsTold}
+use Rattle.desk.specs.State.{DeskState}
+use Rattle.rate_desk.specs.Shares.{HoldState, IsLastCall, SeatState, Counts, IsReceiptOf, IsFaultOf, IsTold}
 use Rattle.routes.specs.Views.{ReaderView}
 use Rattle.events.specs.declared.job.Job.{Job}
 use Rattle.events.specs.declared.job.Job.TheVariants.{Packet, Request, Resend, Pli, Report}
@@ -22,6 +23,18 @@ use Rattle.forwarding.specs.declared.question.Question.{Question}
 use Rattle.outside.specs.Outside.{SinkView}
 use Rattle.forwarding.specs.Handing.{Hands, nothing_done}
 use Rattle.forwarding.specs.Forwarding.{NotifierState, ForwarderState, IsView, LeavesRows}
+
+-- what holds of all desks of a house, and of a table of routes: the least time between two PLIs, the age of requests, how many
+-- publishers there are, and how many legs
+pub record Terms : Type 0 where
+  pub gap : ℕ
+  pub request_ms : ℕ
+  pub publishers : ℕ
+  pub legs : ℕ
+
+abbrev pub terms : ℕ → ℕ → ℕ → ℕ → Terms
+terms gap request_ms publishers legs =
+    record { gap = gap; request_ms = request_ms; publishers = publishers; legs = legs }
 
 -- ---- what a desk answers
 
@@ -68,11 +81,19 @@ pub record IsAsked (gap request_ms publishers : ℕ) (q : Question) (seat later 
   pub waits : pending ≡ pending_by q reply
 
 -- the same, where there was anything to ask
-abbrev pub MayBeAsked : ℕ → ℕ → ℕ → Option Question → SeatState → SeatState → Option Pending
-    → Type 0
-MayBeAsked gap request_ms publishers None seat later pending = (later ≡ seat) × (pending ≡ None)
-MayBeAsked gap request_ms publishers (Some q) seat later pending =
-    IsAsked gap request_ms publishers q seat later pending
+abbrev pub MayBeAsked : Terms → Option Question → SeatState → SeatState → Option Pending → Type 0
+MayBeAsked t None seat later pending = (later ≡ seat) × (pending ≡ None)
+MayBeAsked t (Some q) seat later pending =
+    IsAsked t.gap t.request_ms t.publishers q seat later pending
+
+-- What is to be told is of the last call of the desk that is held: it is what that call was answered, and what that call changed
+-- in the set that the desk announces (RFC 5104, section 4.2).
+pub record IsOfLastCall (hold : HoldState) (pending : Pending) : Type 0 where
+  pub receipt : Receipt
+  pub former : DeskState
+  pub asked_by : Option ℕ
+  pub last : IsLastCall receipt pending.effect former hold.desk
+  pub notification : pending.notification ≡ told_of hold.publisher asked_by receipt.answer
 
 -- ---- what is told then
 
@@ -80,37 +101,54 @@ MayBeAsked gap request_ms publishers (Some q) seat later pending =
 abbrev pub picture_of : ℕ → Notification
 picture_of publisher = record { publisher = publisher; asked_by = None; pli = true }
 
--- what waits wasn't told, since there was no view or no memory; the reader had these rows before
-pub record GivesUp (legs : ℕ) (former : List Row) (next : ReaderView) (before after : SinkView)
-    (fault : ForwardFault) : Type 0 where
-  pub handed : after ≡ before
-  pub rows : LeavesRows legs former next fault
+-- the rows of a reader before, and the reader after; what a sink was handed before and after
+pub record Telling : Type 0 where
+  pub former : List Row
+  pub next : ReaderView
+  pub before : SinkView
+  pub after : SinkView
+
+abbrev pub telling : List Row → ReaderView → SinkView → SinkView → Telling
+telling former next before after =
+    record { former = former; next = next; before = before; after = after }
+
+-- what waits wasn't told, since there was no view or no memory
+pub record GivesUp (legs : ℕ) (t : Telling) (fault : ForwardFault) : Type 0 where
+  pub handed : t.after ≡ t.before
+  pub rows : LeavesRows legs t.former t.next fault
 
 -- what waits was told by a view, or given up
-abbrev pub IsTelling : ℕ → NotifierState → Pending → List Row → ReaderView → SinkView → SinkView
-    → Result Forwarded ForwardFault → Type 0
-IsTelling legs n p former next before after result =
+abbrev pub IsTelling : ℕ → NotifierState → Pending → Telling → Result Forwarded ForwardFault
+    → Type 0
+IsTelling legs n p t result =
     MatchResult result
-    (λ done. IsView legs next
-    × Hands (notification_datagrams n.table n.unit next.rows p.notification p.effect) before
-    after done)
-    (GivesUp legs former next before after)
+    (λ done. IsView legs t.next
+    × Hands (notification_datagrams n.table n.unit t.next.rows p.notification p.effect) t.before
+    t.after done)
+    (GivesUp legs t)
 
 -- the same; where nothing waits nobody is told anything
-abbrev pub Tells : ℕ → NotifierState → Option Pending → List Row → ReaderView → SinkView → SinkView
-    → Result Forwarded ForwardFault → Type 0
-Tells legs n None former next before after result =
-    (result ≡ Ok nothing_done) × (next.rows ≡ former) × (after ≡ before)
-Tells legs n (Some p) former next before after result =
-    IsTelling legs n p former next before after result
+abbrev pub Tells : ℕ → NotifierState → Option Pending → Telling → Result Forwarded ForwardFault
+    → Type 0
+Tells legs n None t result =
+    (result ≡ Ok nothing_done) × (t.next.rows ≡ t.former) × (t.after ≡ t.before)
+Tells legs n (Some p) t result = IsTelling legs n p t result
+
+-- a seat before and after, and what was told meanwhile
+pub record Asking : Type 0 where
+  pub seat : SeatState
+  pub later : SeatState
+  pub telling : Telling
+
+abbrev pub asking : SeatState → SeatState → Telling → Asking
+asking seat later told = record { seat = seat; later = later; telling = told }
 
 -- a desk was asked, where there was anything to ask, and then what followed was told
-pub record Notifies (gap request_ms publishers legs : ℕ) (n : NotifierState)
-    (question : Option Question) (seat later : SeatState) (former : List Row) (next : ReaderView)
-    (before after : SinkView) (result : Result Forwarded ForwardFault) : Type 0 where
+pub record Notifies (t : Terms) (n : NotifierState) (question : Option Question) (a : Asking)
+    (result : Result Forwarded ForwardFault) : Type 0 where
   pub pending : Option Pending
-  pub asked : MayBeAsked gap request_ms publishers question seat later pending
-  pub told : Tells legs n pending former next before after result
+  pub asked : MayBeAsked t question a.seat a.later pending
+  pub told : Tells t.legs n pending a.telling result
 
 -- ---- a job that asks a desk
 
@@ -139,10 +177,8 @@ QuestionOf f job question =
     MatchBool (is_asking f job) (AsksOf f.notifier.table job (asks_of question)) (question ≡ None)
 
 -- what the job asks was asked, and what followed was told
-pub record Feeds (gap request_ms publishers legs : ℕ) (f : ForwarderState) (job : Job)
-    (seat later : SeatState) (former : List Row) (next : ReaderView) (before after : SinkView)
+pub record Feeds (t : Terms) (f : ForwarderState) (job : Job) (a : Asking)
     (result : Result Forwarded ForwardFault) : Type 0 where
   pub question : Option Question
   pub names : QuestionOf f job question
-  pub notifies : Notifies gap request_ms publishers legs f.notifier question seat later former next
-      before after result
+  pub notifies : Notifies t f.notifier question a result

@@ -42,7 +42,7 @@ impl Forwarder {
     ghost use mathlib.Core.List.{IsPrefix};
     ghost use Rattle.forwarding.specs.Handing.{Hands};
     ghost use Rattle.forwarding.specs.Forwarding.{new_forwarder, given_by, after_job, IsView, LeavesRows};
-    ghost use Rattle.forwarding.specs.Asking.{Feeds};
+    ghost use Rattle.forwarding.specs.Asking.{Feeds, asking, telling, terms};
 
     /// The worker of these settings with this number, which has sent nothing yet.
     pub fn new(alloc: Global, settings: &Settings, worker: u16) -> Result<Forwarder, AllocError>
@@ -115,9 +115,9 @@ impl Forwarder {
         ensures worker { self.new ≡ self.old }
         ensures known { IsPrefix reader.old.known reader.new.known }
         ensures note { IsPrefix note reader.new.known }
-        ensures feeds { Feeds D.gap D.request_ms C.publishers J.legs self.old job.now
-            seat.old seat.new reader.old.rows reader.new (S.shown sink.old) (S.shown sink.new)
-            result }
+        ensures feeds { Feeds (terms D.gap D.request_ms C.publishers J.legs) self.old job.now
+            (asking seat.old seat.new (telling reader.old.rows reader.new
+            (S.shown sink.old) (S.shown sink.new))) result }
     {
         match self.question(job) {
             Some(question) => self

@@ -1,9 +1,9 @@
 //! A desk of the house is asked, and what follows is sent.
 
-ghost use Rattle.std.specs.Prelude.{◌≡◌, option_map};
+ghost use Rattle.std.specs.Prelude.{◌≡◌, ◌<◌, IfSome, option_map};
 ghost use Rattle.desk.specs.Call.{HasStay};
 ghost use Rattle.notices.specs.Notification.{pending_with};
-ghost use Rattle.forwarding.specs.Asking.{IsAsked, IsTelling};
+ghost use Rattle.forwarding.specs.Asking.{IsAsked, IsOfLastCall, IsTelling, telling};
 ghost use mathlib.Core.List.{IsPrefix};
 
 use crate::done::{ForwardFault, Forwarded};
@@ -12,7 +12,7 @@ use crate::sending::send_all;
 use desk::Effect;
 use notices::{Head, Notification, notification_of, notify, waiting};
 use outside::Sink;
-use rate_desk::{DeskCalls, DeskSeat, House, SeatCalls};
+use rate_desk::{DeskCalls, DeskSeat, Hold, House, SeatCalls};
 use routes::{Naming, RouteNote, RouteReader};
 use settings::{Links, Settings};
 use std::alloc::{AllocError, Global};
@@ -38,11 +38,11 @@ impl Model for Notifier {
 }
 
 impl Notifier {
-    ghost use Rattle.std.specs.Prelude.{◌≡◌, Some, IfOk, MatchResult};
+    ghost use Rattle.std.specs.Prelude.{◌≡◌, ◌<◌, Some, IfOk, MatchResult};
     ghost use mathlib.Core.List.{IsPrefix};
     ghost use Rattle.notices.specs.Notification.{picture_upstream};
     ghost use Rattle.forwarding.specs.Handing.{Hands};
-    ghost use Rattle.forwarding.specs.Asking.{Notifies, GivesUp, picture_of};
+    ghost use Rattle.forwarding.specs.Asking.{Notifies, GivesUp, asking, picture_of, telling, terms};
     ghost use Rattle.forwarding.specs.Forwarding.{new_notifier};
 
     /// A notifier of a unit with these settings.
@@ -57,10 +57,10 @@ impl Notifier {
         })
     }
 
-    /// Asks the publisher's desk, then learns the note, and where there is anything to tell enters and tells it. A call
-    /// that the desk refuses or doesn't record is Ok and tells nothing. After a fault the call stands, and the note is
-    /// learnt; nothing was sent.
-    #[tactic(auto, using(crate::proofs::AskingLemmas::notified_all, crate::proofs::AskingLemmas::notified_nobody))]
+    /// Asks the publisher's desk, then learns the note, and if there is anything to tell enters and tells it, before anybody else
+    /// may call the desk: what is told of a publisher's calls leaves in the order of the calls. A call that the desk refuses or doesn't
+    /// record is Ok and tells nothing. After a fault the call stands, and the note is learnt; nothing was sent.
+    #[tactic(auto, using(crate::proofs::AskingLemmas::asked_nowhere, crate::proofs::AskingLemmas::notified_nobody))]
     pub fn ask<J: Naming, D: DeskCalls, C: SeatCalls, R: Wait, S: Sink>(
         &mut self,
         rt: &R,
@@ -75,17 +75,50 @@ impl Notifier {
         ensures setup { self.new ≡ self.old }
         ensures known { IsPrefix reader.old.known reader.new.known }
         ensures note { IsPrefix note reader.new.known }
-        ensures notifies { Notifies D.gap D.request_ms C.publishers J.legs self.old
-            (Some question.now) seat.old seat.new reader.old.rows reader.new
-            (S.shown sink.old) (S.shown sink.new) result }
+        ensures notifies { Notifies (terms D.gap D.request_ms C.publishers J.legs) self.old
+            (Some question.now) (asking seat.old seat.new (telling reader.old.rows reader.new
+            (S.shown sink.old) (S.shown sink.new))) result }
     {
-        let pending = ask_desk(rt, house, seat, question, &mut self.effect);
+        let at = usize::from(question.publisher);
+        if at >= house.publishers() {
+            reader.learn(note);
+            return Ok(Forwarded::default());
+        }
+        let mut hold = house.hold(rt, at);
+        self.ask_held(rt, house, seat, &mut hold, reader, note, question, sink)
+    }
+
+    /// Asks the desk that is held, and tells what follows while it is.
+    #[tactic(auto, using(crate::proofs::AskingLemmas::notified_all, crate::proofs::AskingLemmas::notified_nobody))]
+    fn ask_held<J: Naming, D: DeskCalls, C: SeatCalls, R: Wait, S: Sink>(
+        &mut self,
+        rt: &R,
+        house: &House<D, C>,
+        seat: &mut DeskSeat<C>,
+        hold: &mut Hold<'_, D>,
+        reader: &mut RouteReader<J>,
+        note: RouteNote<J>,
+        question: &Question,
+        sink: &mut S,
+    ) -> Result<Forwarded, ForwardFault>
+        requires stay { HasStay question.now.call }
+        requires publisher { hold.old.publisher ≡ question.now.publisher }
+        requires there { hold.old.publisher < C.publishers }
+        ensures setup { self.new ≡ self.old }
+        ensures known { IsPrefix reader.old.known reader.new.known }
+        ensures note { IsPrefix note reader.new.known }
+        ensures notifies { Notifies (terms D.gap D.request_ms C.publishers J.legs) self.old
+            (Some question.now) (asking seat.old seat.new (telling reader.old.rows reader.new
+            (S.shown sink.old) (S.shown sink.new))) result }
+    {
+        let pending = ask_desk(rt, house, seat, hold, question, &mut self.effect);
         reader.learn(note);
         match pending {
-            Some(notification) => tell(
+            Some(notification) => tell_held(
                 self.alloc,
                 &self.links,
                 &self.head,
+                hold,
                 reader,
                 &notification,
                 &self.effect,
@@ -110,7 +143,8 @@ impl Notifier {
         ensures told { MatchResult result
             (Hands (picture_upstream self.now.table self.now.unit (picture_of publisher))
             (S.shown sink.old) (S.shown sink.new))
-            (GivesUp J.legs reader.old.rows reader.new (S.shown sink.old) (S.shown sink.new)) }
+            (GivesUp J.legs (telling reader.old.rows reader.new
+            (S.shown sink.old) (S.shown sink.new))) }
     {
         reader.learn(note);
         let notification = Notification {
@@ -131,33 +165,54 @@ impl Notifier {
     }
 }
 
-/// Asks the publisher's desk, where the house has one, and says in `effect` what changed; answers what is to be told.
-#[tactic(auto, using(crate::proofs::AskingLemmas::asked_nowhere, crate::proofs::AskingLemmas::asked_unrecorded, crate::proofs::AskingLemmas::asked_recorded))]
+/// Asks the publisher's desk, which is held, and says in `effect` what changed; answers what is to be told.
+#[tactic(auto, using(crate::proofs::AskingLemmas::asked_unrecorded, crate::proofs::AskingLemmas::asked_recorded))]
 fn ask_desk<D: DeskCalls, C: SeatCalls, R: Wait>(
     rt: &R,
     house: &House<D, C>,
     seat: &mut DeskSeat<C>,
+    hold: &mut Hold<'_, D>,
     question: &Question,
     effect: &mut Effect,
 ) -> Option<Notification>
     requires stay { HasStay question.now.call }
-    ensures { IsAsked D.gap D.request_ms C.publishers question.now seat.old seat.new
+    requires publisher { hold.old.publisher ≡ question.now.publisher }
+    requires there { hold.old.publisher < C.publishers }
+    ensures asked { IsAsked D.gap D.request_ms C.publishers question.now seat.old seat.new
         (option_map (pending_with effect.new) result) }
+    ensures last { IfSome result (λ n. IsOfLastCall hold.new (pending_with effect.new n)) }
 {
     let Question {
         publisher,
         asked_by,
         call,
     } = *question;
-    let at = usize::from(publisher);
-    if at >= house.publishers() {
-        return None;
-    }
-    let Ok(receipt) = house.call(rt, seat, at, call, effect) else {
+    let Ok(receipt) = house.call_held(rt, seat, hold, call, effect) else {
         return None;
     };
     let notification = notification_of(publisher, asked_by, &receipt.answer);
     waiting(notification, effect)
+}
+
+/// Tells what follows from the last call of the desk that is held: nobody called it since, and nobody does meanwhile.
+fn tell_held<J: Naming, D: DeskCalls, S: Sink>(
+    alloc: Global,
+    links: &Links,
+    head: &Head,
+    hold: &Hold<'_, D>,
+    reader: &mut RouteReader<J>,
+    notification: &Notification,
+    effect: &Effect,
+    sink: &mut S,
+) -> Result<Forwarded, ForwardFault>
+    requires last { IsOfLastCall hold.now (pending_with effect.now notification.now) }
+    ensures known { IsPrefix reader.old.known reader.new.known }
+    ensures told { IsTelling J.legs (record { table = links.now; unit = head.now })
+        (pending_with effect.now notification.now)
+        (telling reader.old.rows reader.new (S.shown sink.old) (S.shown sink.new)) result }
+{
+    let _held = hold;
+    tell(alloc, links, head, reader, notification, effect, sink)
 }
 
 /// Tells what follows from a call with this effect, by the rows that are published. Where the table gives no view, or
@@ -173,8 +228,8 @@ pub(crate) fn tell<J: Naming, S: Sink>(
 ) -> Result<Forwarded, ForwardFault>
     ensures known { IsPrefix reader.old.known reader.new.known }
     ensures told { IsTelling J.legs (record { table = links.now; unit = head.now })
-        (pending_with effect.now notification.now) reader.old.rows reader.new (S.shown sink.old)
-        (S.shown sink.new) result }
+        (pending_with effect.now notification.now)
+        (telling reader.old.rows reader.new (S.shown sink.old) (S.shown sink.new)) result }
 {
     if !reader.enter() {
         return Err(ForwardFault::NoView);

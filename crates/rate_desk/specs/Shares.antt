@@ -1,5 +1,5 @@
 -- What a contract sees of a `DeskSeat`, and what a house's calls give.
-use Rattle.std.specs.Prelude.{◌≡◌, ℕ, ◌+◌, ◌*◌, ◌^◌, ◌<◌, ◌≤◌, List, length, get_or, set, replicate}
+use Rattle.std.specs.Prelude.{◌≡◌, ℕ, ◌+◌, ◌*◌, ◌^◌, ◌<◌, ◌≤◌, List, length, get_or, set, replicate, Result, MatchResult}
 use Rattle.bounding_set.specs.State.{announced_of}
 use Rattle.desk.specs.declared.call.Call.{Call}
 use Rattle.desk.specs.declared.effect.Effect.{Effect}
@@ -68,6 +68,16 @@ pub record IsTold (gap request_ms : ℕ) (receipt : Receipt) (effect : Effect) :
   pub recorded : Recorded gap request_ms receipt former desk
   pub changed : IsEffect (announced_of former.bounds) (announced_of desk.bounds) effect
 
+-- a desk that is held: the number of its publisher, and what it is
+pub record HoldState : Type 0 where
+  pub publisher : ℕ
+  pub desk : DeskState
+
+-- the receipt's call is the desk's last one: it made this desk of the former one, and changed this in the announced set
+pub record IsLastCall (receipt : Receipt) (effect : Effect) (former desk : DeskState) : Type 0 where
+  pub records : Records former receipt.call receipt.number receipt.answer desk
+  pub changed : IsEffect (announced_of former.bounds) (announced_of desk.bounds) effect
+
 -- some desk of the house recorded the receipt's call, and announces what it did before
 pub record IsPulsed (gap request_ms : ℕ) (receipt : Receipt) : Type 0 where
   pub former : DeskState
@@ -87,3 +97,12 @@ pub record IsFaultOf (gap request_ms p : ℕ) (call : Call) (seat : SeatState)
   pub desk : DeskState
   pub is : IsDeskOf gap request_ms desk
   pub here : IsFaultAt p call seat desk fault
+
+-- A seat called a publisher's desk. Either a desk of the house recorded that, receipt and effect are handed out, and the seat
+-- counts it; or there is a fault, and the seat is as before.
+abbrev pub MakesCall : ℕ → ℕ → ℕ → Call → SeatState → SeatState
+    → Result (Receipt × Effect) HouseFault → Type 0
+MakesCall gap request_ms p call seat later result =
+    MatchResult result
+    (λ r. IsReceiptOf p call seat r.0 × IsTold gap request_ms r.0 r.1 × Counts p call seat later)
+    (λ fault. IsFaultOf gap request_ms p call seat fault × (later ≡ seat))

@@ -1,10 +1,7 @@
-//! A house that is refused for want of memory, and one whose calls fault.
+//! A desk that has fewer calls than a seat made to it: to come there, desks are exchanged under their locks.
 
 ghost use Rattle.std.specs.Prelude.{◌≡◌, ◌<◌};
 
-use super::gather_tests::call_in_turn;
-use super::house_tests::{by_house, told_by_house};
-use super::tests::{ask, at, of};
 use super::*;
 use std::alloc::Global;
 use std::marker::Brand;
@@ -13,80 +10,90 @@ use std::process::Abort;
 use std::sync::Wait;
 use std::sync::ledger::Blank;
 use std::test::Fail;
-use tmmbr_tuple::Ssrc;
+use tmmbr_tuple::{Ssrc, Tuple};
 
-/// Whether there is no memory for a house of so many publishers and seats.
-fn is_refused<D: DeskCalls, S: SeatCalls>(
-    alloc: Global,
-    recorded: Blank,
-    made: Blank,
-    publishers: usize,
-    seats: usize,
-) -> bool
-    requires names { (recorded.name ≡ D.name) × (made.name ≡ S.name) }
-    requires parts { (recorded.parts ≡ D.parts) × (made.parts ≡ S.parts) }
-    requires publishers { (S.publishers ≡ publishers) × (D.parts ≡ publishers) }
-    requires seats { (S.seats ≡ seats) × (S.parts ≡ seats) }
-    requires numbers { (D.gap ≡ 500) × (D.request_ms ≡ 0) }
-{
-    House::<D, S>::new(alloc, recorded, made, publishers, seats, 500, 0).is_err()
-}
-
-fn refuses(alloc: Global, publishers: usize, seats: usize) -> bool {
-    is_refused::<Brand, Brand>(
-        alloc,
-        Blank::new(publishers as u64),
-        Blank::new(seats as u64),
-        publishers,
-        seats,
-    )
-}
-
-/// A desk has more than 2^15 bytes, and a seat at least 2^4: of either these are more than 2^48, which no process
-/// can have.
-#[test]
-fn refused_without_memory(rt: HostRuntime) {
-    let (many_desks, many_seats) = (1 << 33, 1 << 44);
-    assert!(rt; !refuses(rt.alloc(), 2, 2));
-    for (publishers, seats) in [
-        (many_desks, 2),
-        (2, many_seats),
-        (usize::MAX, 2),
-        (2, usize::MAX),
-    ] {
-        assert!(rt;
-            refuses(rt.alloc(), publishers, seats),
-            "{publishers} publishers, {seats} seats"
-        );
+/// A call of an owner.
+fn of(owner: u32, stay: u64, change: Change) -> Call {
+    Call::Stay {
+        owner: Ssrc(owner),
+        stay,
+        change,
     }
+}
+
+/// A call at the moment 7.
+fn at(signal: Signal) -> Call {
+    Call::Time { moment: 7, signal }
 }
 
 /// The six calls.
 fn each_call() -> [Call; 6] {
     [
         of(18, 2, Change::Arrive),
-        of(17, 1, ask(0x01f4_0028)),
+        of(17, 1, Change::Request(Tuple::from_word(0x01f4_0028))),
         of(17, 1, Change::Depart),
-        at(7, Signal::Pli),
-        at(7, Signal::Tick),
-        at(7, Signal::Expire),
+        at(Signal::Pli),
+        at(Signal::Tick),
+        at(Signal::Expire),
     ]
 }
 
-/// The fault of the call, made by value.
-fn fault_by_value<D: DeskCalls, S: SeatCalls, R: Wait>(
+/// The fault of the call, made by its name.
+fn fault_by_name<D: DeskCalls, S: SeatCalls, R: Wait>(
+    rt: &R,
+    house: &House<D, S>,
+    seat: &mut DeskSeat<S>,
+    publisher: usize,
+    call: Call,
+) -> Option<HouseFault>
+    requires { publisher < S.publishers }
+{
+    match call {
+        Call::Stay { stay: 0, .. } => None,
+        Call::Stay {
+            owner,
+            stay,
+            change: Change::Arrive,
+        } => house.arrive(rt, seat, publisher, owner, stay).err(),
+        Call::Stay {
+            owner,
+            stay,
+            change: Change::Request(tuple),
+        } => house.request(rt, seat, publisher, owner, stay, tuple).err(),
+        Call::Stay {
+            owner,
+            stay,
+            change: Change::Depart,
+        } => house.depart(rt, seat, publisher, owner, stay).err(),
+        Call::Time {
+            moment,
+            signal: Signal::Pli,
+        } => house.pli(rt, seat, publisher, moment).err(),
+        Call::Time {
+            moment,
+            signal: Signal::Tick,
+        } => house.tick(rt, seat, publisher, moment).err(),
+        Call::Time {
+            moment,
+            signal: Signal::Expire,
+        } => house.expire(rt, seat, publisher, moment).err(),
+    }
+}
+
+/// What a house says to the call, made by value.
+fn told_by_value<D: DeskCalls, S: SeatCalls, R: Wait>(
     rt: &R,
     house: &House<D, S>,
     seat: &mut DeskSeat<S>,
     publisher: usize,
     call: Call,
     effect: &mut Effect,
-) -> Option<HouseFault>
+) -> Option<Result<Receipt, HouseFault>>
     requires { publisher < S.publishers }
 {
     match call {
         Call::Stay { stay: 0, .. } => None,
-        _ => house.call(rt, seat, publisher, call, effect).err(),
+        _ => Some(house.call(rt, seat, publisher, call, effect)),
     }
 }
 
@@ -104,10 +111,10 @@ fn assert_faults<D: DeskCalls, S: SeatCalls, R: Wait + Abort>(
     let mut effect = Effect::new();
     effect.lifted.push(Ssrc(99));
     for call in each_call() {
-        let told = told_by_house(rt, house, seat, publisher, call);
-        assert_eq!(rt; told.and_then(Result::err), Some(fault), "{call:?}");
-        let told = fault_by_value(rt, house, seat, publisher, call, &mut effect);
+        let told = fault_by_name(rt, house, seat, publisher, call);
         assert_eq!(rt; told, Some(fault), "{call:?}");
+        let told = told_by_value(rt, house, seat, publisher, call, &mut effect);
+        assert_eq!(rt; told.and_then(Result::err), Some(fault), "{call:?}");
     }
     assert_eq!(rt; house.pulse(rt, seat, publisher, 7).err(), Some(fault));
     assert_eq!(rt; (seat.calls(publisher), seat.words(publisher)), counted);
@@ -125,6 +132,30 @@ fn exchange<D: DeskCalls, S: SeatCalls, R: Wait>(rt: &R, house: &House<D, S>)
     mem::swap(&mut first.publisher, &mut second.publisher);
 }
 
+/// The receipts of three calls of the second publisher, and of one of the first: 17 arrives and asks, and somebody wants a picture.
+fn call_both<D: DeskCalls, S: SeatCalls, R: Wait>(
+    rt: &R,
+    alloc: Global,
+    house: &House<D, S>,
+    seat: &mut DeskSeat<S>,
+) -> Option<Vec<Receipt>>
+    requires { S.publishers ≡ 2 }
+{
+    let mut given = Vec::new(alloc);
+    let mut effect = Effect::new();
+    for call in [
+        of(17, 1, Change::Arrive),
+        of(17, 1, Change::Request(Tuple::from_word(0x0007_d028))),
+        at(Signal::Pli),
+    ] {
+        let told = told_by_value(rt, house, seat, 1, call, &mut effect)?;
+        given.push(told.ok()?).ok()?;
+    }
+    let told = told_by_value(rt, house, seat, 0, at(Signal::Tick), &mut effect)?;
+    given.push(told.ok()?).ok()?;
+    Some(given)
+}
+
 /// Calls of both publishers, and then faults of the second one, whose desk has one call and not three. The
 /// receipts of those that were recorded.
 fn fall_behind<D: DeskCalls, S: SeatCalls, R: Wait + Abort>(
@@ -135,15 +166,13 @@ fn fall_behind<D: DeskCalls, S: SeatCalls, R: Wait + Abort>(
 ) -> Option<Vec<Receipt>>
     requires { S.publishers ≡ 2 }
 {
-    let mut given = call_in_turn(rt, alloc, house, seat, 0)?;
-    let (receipt, _) = by_house(rt, house, seat, 0, at(3, Signal::Tick))?;
-    given.push(receipt).ok()?;
+    let given = call_both(rt, alloc, house, seat)?;
     exchange(rt, house);
     assert_faults(rt, house, seat, 1, HouseFault::Behind(1));
     Some(given)
 }
 
-/// What `gather` says behind these faults: once the desks are where they were, with all receipts; else with none.
+/// What `gather` says after these faults: once the desks are where they were, with all receipts; else with none.
 fn gathered<D: DeskCalls, S: SeatCalls, R: Wait + Abort>(
     rt: &R,
     alloc: Global,
@@ -177,7 +206,6 @@ fn gathers<R: Wait + Abort>(
     gathered::<Brand, Brand, R>(rt, alloc, Blank::new(2), Blank::new(2), are_put_back)
 }
 
-/// A desk that has fewer calls than a seat made to it: to come there, the desks are exchanged.
 #[test]
 fn behind_changes_nothing(rt: HostRuntime) -> Result<(), Fail> {
     assert_eq!(rt; gathers(&rt, rt.alloc(), true)?, None);

@@ -4,13 +4,14 @@ ghost use Rattle.std.specs.Prelude.{◌≡◌, ◌≤◌, replicate, vec_len, ve
 ghost use Rattle.rate_desk.specs.Shares.{new_seat};
 
 use crate::held::HeldDesk;
+use crate::hold::Hold;
 use crate::ledger::{DeskCalls, SeatCalls, Tally};
 use crate::receipt::{HouseFault, Receipt};
 use crate::seat::DeskSeat;
 use desk::{Call, Change, Desk, Effect, Signal};
 use std::alloc::{AllocError, Global};
 use std::sync::ledger::{Blank, Share};
-use std::sync::{Mutex, MutexGuard, Wait};
+use std::sync::{Mutex, Wait};
 use std::thread;
 use tmmbr_tuple::{Ssrc, Tuple};
 
@@ -36,12 +37,11 @@ pub struct House<D: DeskCalls, S: SeatCalls> {
 
 impl<D: DeskCalls, S: SeatCalls> House<D, S> {
     ghost use Rattle.std.specs.Prelude.{◌≡◌, ◌<◌, ◌≤◌, replicate, IfOk, IfErr, OnOk, OnErr};
-    ghost use Rattle.std.specs.Sync.Mutex.{mutex_guard_value};
     ghost use Rattle.desk.specs.declared.call.Call.TheVariants as call;
     ghost use Rattle.desk.specs.declared.call.Change.TheVariants as change;
     ghost use Rattle.desk.specs.declared.call.Signal.TheVariants as signal;
     ghost use Rattle.desk.specs.Call.{HasStay};
-    ghost use Rattle.rate_desk.specs.Shares.{new_seat, Counts, IsReceiptOf, IsFaultOf, IsTold, IsPulsed};
+    ghost use Rattle.rate_desk.specs.Shares.{new_seat, Counts, IsLastCall, IsReceiptOf, IsFaultOf, IsTold, IsPulsed, MakesCall};
 
     /// A house of so many publishers and seats. Each desk sends PLIs upstream at least `gap` milliseconds
     /// apart, and takes requests away that are `request_ms` milliseconds old, never where that is 0. The
@@ -102,14 +102,8 @@ impl<D: DeskCalls, S: SeatCalls> House<D, S> {
     ) -> Result<(Receipt, Effect), HouseFault>
         requires publisher { publisher < S.publishers }
         requires stay { 1 ≤ stay }
-        ensures receipt { IfOk result (λ r. IsReceiptOf publisher
-            (call.Stay owner stay change.Arrive) seat.old r.0) }
-        ensures told { IfOk result (λ r. IsTold D.gap D.request_ms r.0 r.1) }
-        ensures counted { OnOk result (Counts publisher
-            (call.Stay owner stay change.Arrive) seat.old seat.new) }
-        ensures fault { IfErr result (IsFaultOf D.gap D.request_ms publisher
-            (call.Stay owner stay change.Arrive) seat.old) }
-        ensures unchanged { OnErr result (seat.new ≡ seat.old) }
+        ensures { MakesCall D.gap D.request_ms publisher (call.Stay owner stay change.Arrive)
+            seat.old seat.new result }
     {
         self.reply(
             rt,
@@ -135,14 +129,8 @@ impl<D: DeskCalls, S: SeatCalls> House<D, S> {
     ) -> Result<(Receipt, Effect), HouseFault>
         requires publisher { publisher < S.publishers }
         requires stay { 1 ≤ stay }
-        ensures receipt { IfOk result (λ r. IsReceiptOf publisher (call.Stay owner stay
-            (change.Request tuple)) seat.old r.0) }
-        ensures told { IfOk result (λ r. IsTold D.gap D.request_ms r.0 r.1) }
-        ensures counted { OnOk result (Counts publisher (call.Stay owner stay
-            (change.Request tuple)) seat.old seat.new) }
-        ensures fault { IfErr result (IsFaultOf D.gap D.request_ms publisher (call.Stay owner stay
-            (change.Request tuple)) seat.old) }
-        ensures unchanged { OnErr result (seat.new ≡ seat.old) }
+        ensures { MakesCall D.gap D.request_ms publisher
+            (call.Stay owner stay (change.Request tuple)) seat.old seat.new result }
     {
         self.reply(
             rt,
@@ -167,14 +155,8 @@ impl<D: DeskCalls, S: SeatCalls> House<D, S> {
     ) -> Result<(Receipt, Effect), HouseFault>
         requires publisher { publisher < S.publishers }
         requires stay { 1 ≤ stay }
-        ensures receipt { IfOk result (λ r. IsReceiptOf publisher
-            (call.Stay owner stay change.Depart) seat.old r.0) }
-        ensures told { IfOk result (λ r. IsTold D.gap D.request_ms r.0 r.1) }
-        ensures counted { OnOk result (Counts publisher
-            (call.Stay owner stay change.Depart) seat.old seat.new) }
-        ensures fault { IfErr result (IsFaultOf D.gap D.request_ms publisher
-            (call.Stay owner stay change.Depart) seat.old) }
-        ensures unchanged { OnErr result (seat.new ≡ seat.old) }
+        ensures { MakesCall D.gap D.request_ms publisher (call.Stay owner stay change.Depart)
+            seat.old seat.new result }
     {
         self.reply(
             rt,
@@ -198,14 +180,8 @@ impl<D: DeskCalls, S: SeatCalls> House<D, S> {
         moment: u64,
     ) -> Result<(Receipt, Effect), HouseFault>
         requires publisher { publisher < S.publishers }
-        ensures receipt { IfOk result (λ r. IsReceiptOf publisher
-            (call.Time moment signal.Pli) seat.old r.0) }
-        ensures told { IfOk result (λ r. IsTold D.gap D.request_ms r.0 r.1) }
-        ensures counted { OnOk result (Counts publisher (call.Time moment signal.Pli)
-            seat.old seat.new) }
-        ensures fault { IfErr result (IsFaultOf D.gap D.request_ms publisher
-            (call.Time moment signal.Pli) seat.old) }
-        ensures unchanged { OnErr result (seat.new ≡ seat.old) }
+        ensures { MakesCall D.gap D.request_ms publisher (call.Time moment signal.Pli)
+            seat.old seat.new result }
     {
         self.reply(
             rt,
@@ -227,14 +203,8 @@ impl<D: DeskCalls, S: SeatCalls> House<D, S> {
         moment: u64,
     ) -> Result<(Receipt, Effect), HouseFault>
         requires publisher { publisher < S.publishers }
-        ensures receipt { IfOk result (λ r. IsReceiptOf publisher
-            (call.Time moment signal.Tick) seat.old r.0) }
-        ensures told { IfOk result (λ r. IsTold D.gap D.request_ms r.0 r.1) }
-        ensures counted { OnOk result (Counts publisher (call.Time moment signal.Tick)
-            seat.old seat.new) }
-        ensures fault { IfErr result (IsFaultOf D.gap D.request_ms publisher
-            (call.Time moment signal.Tick) seat.old) }
-        ensures unchanged { OnErr result (seat.new ≡ seat.old) }
+        ensures { MakesCall D.gap D.request_ms publisher (call.Time moment signal.Tick)
+            seat.old seat.new result }
     {
         self.reply(
             rt,
@@ -257,14 +227,8 @@ impl<D: DeskCalls, S: SeatCalls> House<D, S> {
         moment: u64,
     ) -> Result<(Receipt, Effect), HouseFault>
         requires publisher { publisher < S.publishers }
-        ensures receipt { IfOk result (λ r. IsReceiptOf publisher
-            (call.Time moment signal.Expire) seat.old r.0) }
-        ensures told { IfOk result (λ r. IsTold D.gap D.request_ms r.0 r.1) }
-        ensures counted { OnOk result (Counts publisher (call.Time moment signal.Expire)
-            seat.old seat.new) }
-        ensures fault { IfErr result (IsFaultOf D.gap D.request_ms publisher
-            (call.Time moment signal.Expire) seat.old) }
-        ensures unchanged { OnErr result (seat.new ≡ seat.old) }
+        ensures { MakesCall D.gap D.request_ms publisher (call.Time moment signal.Expire)
+            seat.old seat.new result }
     {
         self.reply(
             rt,
@@ -295,8 +259,34 @@ impl<D: DeskCalls, S: SeatCalls> House<D, S> {
         ensures fault { IfErr result (IsFaultOf D.gap D.request_ms publisher call seat.old) }
         ensures unchanged { OnErr result ((seat.new ≡ seat.old) × (effect.new ≡ effect.old)) }
     {
-        let mut held = self.desk_of(rt, publisher);
-        seat.call(rt, &mut *held, &self.tally, publisher, call, effect)
+        let mut hold = self.hold(rt, publisher);
+        self.call_held(rt, seat, &mut hold, call, effect)
+    }
+
+    /// Makes any of these calls of a desk that is held, as `call` does, and leaves it held: what follows from the call can be told
+    /// before another call is made. A fault leaves effect, seat and desk as they were.
+    pub fn call_held<R: Wait>(
+        &self,
+        rt: &R,
+        seat: &mut DeskSeat<S>,
+        hold: &mut Hold<'_, D>,
+        call: Call,
+        effect: &mut Effect,
+    ) -> Result<Receipt, HouseFault>
+        requires publisher { hold.old.publisher < S.publishers }
+        requires stays { HasStay call }
+        ensures receipt { IfOk result (IsReceiptOf hold.old.publisher call seat.old) }
+        ensures last { IfOk result (λ r. IsLastCall r effect.new hold.old.desk hold.new.desk) }
+        ensures told { IfOk result (λ r. IsTold D.gap D.request_ms r effect.new) }
+        ensures counted { OnOk result (Counts hold.old.publisher call seat.old seat.new) }
+        ensures fault { IfErr result (IsFaultOf D.gap D.request_ms hold.old.publisher call seat.old) }
+        ensures unchanged { OnErr result ((seat.new ≡ seat.old) × (effect.new ≡ effect.old)
+            × (hold.new ≡ hold.old)) }
+        ensures place { hold.new.publisher ≡ hold.old.publisher }
+    {
+        let held = &mut *hold.guard;
+        let publisher = held.publisher;
+        seat.call(rt, held, &self.tally, publisher, call, effect)
     }
 
     /// A tick, without saying what is announced: a tick doesn't change that. A fault leaves the seat as it
@@ -318,20 +308,20 @@ impl<D: DeskCalls, S: SeatCalls> House<D, S> {
             (call.Time moment signal.Tick) seat.old) }
         ensures unchanged { OnErr result (seat.new ≡ seat.old) }
     {
-        let mut desk = self.desk_of(rt, publisher);
-        seat.pulse(rt, &mut *desk, &self.tally, publisher, moment)
+        let mut held = self.hold(rt, publisher);
+        seat.pulse(rt, &mut *held.guard, &self.tally, publisher, moment)
     }
 
-    /// The publisher's desk, under its lock, as what lies there says. No lock has the desk of another publisher; it would be waited
-    /// for in vain.
-    fn desk_of<R: Wait>(&self, rt: &R, publisher: usize) -> MutexGuard<'_, HeldDesk<D>>
+    /// The publisher's desk, which nobody else calls until the hold is dropped: who waits for it waits so long. It is the one whose
+    /// lock says so. No lock has the desk of another publisher; it would be waited for in vain.
+    pub fn hold<R: Wait>(&self, rt: &R, publisher: usize) -> Hold<'_, D>
         requires { publisher < S.publishers }
-        ensures { (mutex_guard_value result).publisher ≡ publisher }
+        ensures { result.publisher ≡ publisher }
     {
         for _ in rt.forever() {
-            let held = self.desks[publisher].lock(rt);
-            if held.publisher == publisher {
-                return held;
+            let guard = self.desks[publisher].lock(rt);
+            if guard.publisher == publisher {
+                return Hold { guard };
             }
             thread::yield_now();
         }
@@ -348,11 +338,7 @@ impl<D: DeskCalls, S: SeatCalls> House<D, S> {
     ) -> Result<(Receipt, Effect), HouseFault>
         requires publisher { publisher < S.publishers }
         requires stays { HasStay call }
-        ensures receipt { IfOk result (λ r. IsReceiptOf publisher call seat.old r.0) }
-        ensures told { IfOk result (λ r. IsTold D.gap D.request_ms r.0 r.1) }
-        ensures counted { OnOk result (Counts publisher call seat.old seat.new) }
-        ensures fault { IfErr result (IsFaultOf D.gap D.request_ms publisher call seat.old) }
-        ensures unchanged { OnErr result (seat.new ≡ seat.old) }
+        ensures { MakesCall D.gap D.request_ms publisher call seat.old seat.new result }
     {
         let mut effect = Effect::new();
         let receipt = self.call(rt, seat, publisher, call, &mut effect)?;

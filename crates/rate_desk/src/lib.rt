@@ -7,6 +7,7 @@
 
 mod gathering;
 mod held;
+mod hold;
 mod house;
 mod ledger;
 mod receipt;
@@ -16,6 +17,7 @@ pub use desk::{
     Answer, Asked, Base, CALL_LIMIT, Call, Change, Desk, Effect, Entry, HISTORY_LIMIT, HistoryFull,
     KEPT_WORDS, PRESENT_LIMIT, Present, Recorded, Reply, Signal, laws,
 };
+pub use hold::Hold;
 pub use house::House;
 pub use ledger::{DeskCalls, SeatCalls};
 pub use receipt::{GatherFault, HouseFault, Receipt};
@@ -23,17 +25,3 @@ pub use seat::DeskSeat;
 
 #[cfg(test)]
 mod fault_tests;
-#[cfg(test)]
-mod gather_tests;
-#[cfg(test)]
-mod house_tests;
-#[cfg(test)]
-mod random_calls;
-#[cfg(test)]
-mod tests;
-#[cfg(test)]
-mod thread_tests;
-#[cfg(test)]
-mod whole_list;
-#[cfg(test)]
-mod whole_list_tests;

@@ -1,6 +1,6 @@
 //! How many receives failed in a row.
 
-use outside::{MAX_FAULTS, ReceiveFault};
+use outside::{MAX_FAULTS, ReceiveFault, Received};
 use std::marker::Model;
 
 /// How many receives failed since the last one that didn't. Contracts see it as that number.
@@ -29,7 +29,7 @@ impl Faults {
     }
 
     /// One more receive ended so.
-    pub(crate) fn note(&mut self, received: &Result<Option<(u16, usize)>, ReceiveFault>)
+    pub(crate) fn note(&mut self, received: &Result<Received, ReceiveFault>)
         ensures { self.new ≡ faults_after self.old (is_ok received.now) }
     {
         match received {

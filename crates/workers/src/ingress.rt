@@ -2,7 +2,7 @@
 
 ghost use Rattle.std.specs.Prelude.{◌≡◌, ◌<◌, ◌≤◌, ◌++◌, [], IfOk, OnOk, OnErr};
 ghost use Rattle.desk.specs.Call.{HasStay};
-ghost use Rattle.events.specs.declared.event.Event.TheVariants.{Hear, Tick};
+ghost use Rattle.events.specs.declared.event.Event.TheVariants.{Hear, Select, Tick};
 ghost use Rattle.core_steps.specs.Rule.{Does};
 ghost use Rattle.core_steps.specs.Run.{Leaves};
 ghost use Rattle.routes.specs.Rows.{changes_by};
@@ -18,7 +18,7 @@ use events::{Job, Out};
 use forwarding::{ForwardFault, Forwarded, Notifier, Question, send_all};
 use members::Order;
 use notices::stay_call;
-use outside::{Sink, Ticks};
+use outside::{Look, Sink, Ticks, Watch};
 use rate_desk::{DeskCalls, DeskSeat, House, SeatCalls};
 use routes::{Naming, RouteWriter};
 use settings::Settings;
@@ -78,6 +78,18 @@ impl<'a, D: DeskCalls, C: SeatCalls, J: Naming, S: Sink + Drop> Ingress<'a, D, C
         self.do_duties(rt)
     }
 
+    /// The leg is selected or not from now on, and what follows is done. A leg that isn't there is passed over.
+    pub(crate) fn select<R: Wait>(
+        &mut self,
+        rt: &R,
+        moment: u64,
+        leg: u16,
+        on: bool,
+    ) -> Result<(), AllocError> {
+        select_one(&mut self.core, moment, leg, on, &mut self.refusals)?;
+        self.do_duties(rt)
+    }
+
     /// It is this moment: if a tick is due it is made, and what follows is done.
     pub(crate) fn tick<R: Wait>(&mut self, rt: &R, moment: u64) -> Result<(), AllocError> {
         if !self.ticks.take(moment) {
@@ -88,6 +100,20 @@ impl<'a, D: DeskCalls, C: SeatCalls, J: Naming, S: Sink + Drop> Ingress<'a, D, C
         self.do_duties(rt)?;
         self.counts.note_present(self.present);
         Ok(())
+    }
+
+    /// What is wanted of the room. Desks, which lie under locks, aren't shown.
+    pub(crate) fn show_room<W: Watch>(&self, watch: &mut W) {
+        match watch.look() {
+            Look::Nothing => return,
+            Look::Presence => {
+                for endpoint in 0..u16::try_from(self.house.publishers()).unwrap_or(u16::MAX) {
+                    watch.show_endpoint(endpoint, self.core.is_present(endpoint));
+                }
+            }
+            Look::Desk(_) => {}
+        }
+        watch.end_look();
     }
 
     /// Does all that waits.
@@ -265,6 +291,21 @@ fn hear_one(
 {
     refusals.clear();
     core.hear(moment, endpoint, bytes, refusals)
+}
+
+/// The core selects a leg or not; what was refused of it alone is listed.
+fn select_one(
+    core: &mut IngressCore,
+    moment: u64,
+    leg: u16,
+    on: bool,
+    refusals: &mut Vec<Out>,
+) -> Result<(), AllocError>
+    ensures { OnOk result (Leaves (Does core.old (Select moment leg on)) core.old []
+        core.new refusals.new.items) }
+{
+    refusals.clear();
+    core.select(moment, leg, on, refusals)
 }
 
 /// The core ticks; what was refused then alone is listed.

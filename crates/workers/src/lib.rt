@@ -21,7 +21,7 @@ mod worker;
 pub use fault::UnitFault;
 pub use forwarding::{ForwardFault, Forwarded, Forwarder, Notifier, Question};
 pub use outside::{
-    Clock, Datagram, Gate, MAX_DATAGRAM, MAX_FAULTS, Open, ReceiveFault, SendFault, Sink, Source,
-    Status, Unwatched, Watch,
+    Clock, Datagram, Gate, Look, MAX_DATAGRAM, MAX_FAULTS, Open, ReceiveFault, Received, SendFault,
+    Sink, Source, Status, Unwatched, Watch,
 };
 pub use unit::{Outside, Pace, Report, run_unit, run_watched};

@@ -1,11 +1,12 @@
 //! The turns of the ingress: one receive and one tick each.
 
-ghost use Rattle.std.specs.Prelude.{◌≡◌, ◌<◌, vec_len, IfOk};
+ghost use Rattle.std.specs.Prelude.{◌≡◌, ◌<◌, ◌≤◌, List, ℕ, length, vec_len, IfOk};
+ghost use Rattle.outside.specs.Outside.{FitsIn, arrival_of, is_stop};
 
 use crate::fault::UnitFault;
 use crate::faults::Faults;
 use crate::ingress::Ingress;
-use outside::{Clock, MAX_DATAGRAM, Sink, Source, Watch};
+use outside::{Clock, MAX_DATAGRAM, ReceiveFault, Received, Sink, Source, Watch};
 use rate_desk::{DeskCalls, SeatCalls};
 use routes::Naming;
 use std::alloc::{AllocError, Global};
@@ -54,7 +55,8 @@ impl<Src: Source + Drop, Clk: Clock + Drop, W: Watch + Drop> Inlet<Src, Clk, W> 
         }
     }
 
-    /// Makes so many turns, and ends early where memory is wanting or too many receives in a row fail.
+    /// Makes so many turns, fewer if a stop comes: then that turn is the last. Ends early where memory is wanting or too many
+    /// receives in a row fail.
     fn run<D: DeskCalls, C: SeatCalls, J: Naming, S: Sink + Drop, R: Wait>(
         &mut self,
         rt: &R,
@@ -62,31 +64,50 @@ impl<Src: Source + Drop, Clk: Clock + Drop, W: Watch + Drop> Inlet<Src, Clk, W> 
         turns: u64,
     ) -> Result<(), UnitFault> {
         for _turn in 0..turns {
-            self.turn(rt, ingress)?;
+            if self.turn(rt, ingress)? {
+                return Ok(());
+            }
         }
         Ok(())
     }
 
-    /// Hears what was received, then ticks.
+    /// Takes in what was received, then ticks. Says whether a stop came.
     fn turn<D: DeskCalls, C: SeatCalls, J: Naming, S: Sink + Drop, R: Wait>(
         &mut self,
         rt: &R,
         ingress: &mut Ingress<'_, D, C, J, S>,
-    ) -> Result<(), UnitFault> {
+    ) -> Result<bool, UnitFault> {
         let received = self.source.receive(self.buffer.as_mut_slice());
         let moment = self.clock.moment();
         self.faults.note(&received);
-        if let Ok(Some((endpoint, length))) = received {
-            let bytes = &self.buffer.as_slice()[..length];
-            ingress.hear(rt, moment, endpoint, bytes)?;
+        match received {
+            Ok(Received::Datagram { endpoint, length }) => {
+                let bytes = &self.buffer.as_slice()[..length];
+                ingress.hear(rt, moment, endpoint, bytes)?;
+            }
+            Ok(Received::Select { leg, on }) => ingress.select(rt, moment, leg, on)?,
+            Ok(Received::Nothing | Received::Stop) | Err(_) => {}
         }
         ingress.tick(rt, moment)?;
         if self.watch.is_due(moment) {
             self.watch.show(moment, &ingress.counts.status());
         }
+        ingress.show_room(&mut self.watch);
         if self.faults.are_too_many() {
             return Err(UnitFault::Receive);
         }
-        Ok(())
+        Ok(is_stop(received))
+    }
+}
+
+/// Whether the run ends with this turn.
+fn is_stop(received: Result<Received, ReceiveFault>) -> bool
+    ensures { (buffer : List ℕ) → result ≡ is_stop (arrival_of buffer received) }
+{
+    match received {
+        Ok(Received::Stop) => true,
+        Ok(Received::Nothing | Received::Datagram { .. } | Received::Select { .. }) | Err(_) => {
+            false
+        }
     }
 }

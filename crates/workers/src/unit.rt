@@ -46,7 +46,7 @@ pub struct Outside<Src: Drop, Snk: Drop, Clk: Drop, W: Drop> {
 /// How long the unit runs, and how often it ticks.
 #[derive(Clone, Copy, Debug, PartialEq, Eq)]
 pub struct Pace {
-    /// How many turns it makes: as good as no end at `u64::MAX`.
+    /// How many turns it makes, unless it is stopped: as good as no end at `u64::MAX`.
     pub turns: u64,
     /// How many milliseconds the moment rises at least between two ticks, and so between two pulses of a desk.
     pub pulse_ms: u64,
@@ -55,7 +55,8 @@ pub struct Pace {
 /// How many milliseconds the moment rises at least between two ticks.
 const TICK_MS: u64 = 1;
 
-/// Runs the unit for so many turns, each one receive and one tick, with all that follows. Each worker sends on its legs in
+/// Runs the unit for so many turns, each one receive and one tick, with all that follows; a turn in which a stop came is the last.
+/// Each worker sends on its legs in
 /// a thread of its own, and calls the gate before and after each job. Behind the turns each worker does the jobs that wait,
 /// all threads end, and the desks are gathered.
 ///

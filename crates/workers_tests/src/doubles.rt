@@ -109,21 +109,24 @@ impl Source for MemorySource {
 
     ghost given = { λ _. None };
 
-    fn receive(&mut self, out: &mut [u8]) -> Result<Option<(u16, usize)>, ReceiveFault> {
+    fn receive(&mut self, out: &mut [u8]) -> Result<Received, ReceiveFault> {
         let Some(datagram) = self.waiting.pop() else {
-            return Ok(None);
+            return Ok(Received::Nothing);
         };
         let bytes = datagram.bytes.as_slice();
         let length = bytes.len();
         if length > out.len() {
             if self.failures == u64::MAX {
-                return Ok(None);
+                return Ok(Received::Nothing);
             }
             self.failures += 1;
             return Err(ReceiveFault);
         }
         out[..length].copy_from_slice(bytes);
-        Ok(Some((datagram.endpoint, length)))
+        Ok(Received::Datagram {
+            endpoint: datagram.endpoint,
+            length,
+        })
     }
 }
 

@@ -44,9 +44,15 @@ fn doubles_are_what_they_stand_for(rt: HostRuntime) -> Result<(), Fail> {
         bytes: Bytes::copy_of(alloc, b"xyz")?,
     })?;
     let mut out = [0; 4];
-    assert_eq!(rt; source.receive(&mut out), Ok(Some((5, 3))));
+    assert_eq!(rt;
+        source.receive(&mut out),
+        Ok(Received::Datagram {
+            endpoint: 5,
+            length: 3
+        })
+    );
     assert_eq!(rt; out, *b"xyz\0");
-    assert_eq!(rt; source.receive(&mut out), Ok(None));
+    assert_eq!(rt; source.receive(&mut out), Ok(Received::Nothing));
     OpenGate.hold(0);
     OpenGate.done(0);
     assert_eq!(rt; StoppedClock.moment(), 0);

@@ -17,6 +17,8 @@ mod machine_turns;
 #[cfg(test)]
 mod memory_tests;
 #[cfg(test)]
+mod order_tests;
+#[cfg(test)]
 mod random_turns;
 #[cfg(test)]
 mod rooms;

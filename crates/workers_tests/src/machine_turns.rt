@@ -1,6 +1,6 @@
 //! The machine on the turns of a test: what it gives out, by who sends it.
 
-use crate::random_turns::{Turn, WORKERS};
+use crate::random_turns::{Coming, Turn, WORKERS};
 use core_steps::{World, run};
 use events::{Bytes, Event, Out};
 use settings::Settings;
@@ -49,14 +49,19 @@ fn play_turn(alloc: Global, world: &mut World, turn: &Turn, sent: &mut Sent) -> 
 
 /// What comes on this turn.
 fn event_of(alloc: Global, turn: &Turn) -> Result<Option<Event>, AllocError> {
-    let Some((endpoint, bytes)) = &turn.arrival else {
-        return Ok(None);
-    };
-    Ok(Some(Event::Hear {
-        moment: turn.moment,
-        endpoint: *endpoint,
-        bytes: Bytes::copy_of(alloc, bytes.as_slice())?,
-    }))
+    match &turn.arrival {
+        None => Ok(None),
+        Some(Coming::Select { leg, on }) => Ok(Some(Event::Select {
+            moment: turn.moment,
+            leg: *leg,
+            on: *on,
+        })),
+        Some(Coming::Datagram { endpoint, bytes }) => Ok(Some(Event::Hear {
+            moment: turn.moment,
+            endpoint: *endpoint,
+            bytes: Bytes::copy_of(alloc, bytes.as_slice())?,
+        })),
+    }
 }
 
 /// Takes something in, and does what follows; says how many jobs workers did. Refusals aren't sent.

@@ -38,11 +38,18 @@ impl Dice {
     }
 }
 
+/// What comes.
+#[derive(Drop)]
+pub(super) enum Coming {
+    Datagram { endpoint: u16, bytes: Vec<u8> },
+    Select { leg: u16, on: bool },
+}
+
 /// One turn: what comes at which moment, and how many jobs workers have done before.
 #[derive(Drop)]
 pub(super) struct Turn {
     pub(super) moment: u64,
-    pub(super) arrival: Option<(u16, Vec<u8>)>,
+    pub(super) arrival: Option<Coming>,
     pub(super) jobs_before: u64,
 }
 
@@ -162,6 +169,29 @@ fn oddity(alloc: Global, dice: &mut Dice, source: u8) -> Result<Vec<u8>, AllocEr
     }
 }
 
+/// What comes in a turn: mostly a datagram, sometimes a selection of one of the twelve legs, sometimes nothing.
+fn make_coming(
+    alloc: Global,
+    dice: &mut Dice,
+    may_ask: bool,
+) -> Result<Option<Coming>, AllocError> {
+    match dice.below(16) {
+        0 => Ok(None),
+        1 => Ok(Some(Coming::Select {
+            leg: u16::from(dice.below(12) as u8),
+            on: dice.below(3) > 0,
+        })),
+        _ => {
+            let endpoint = dice.below(4) as u8;
+            let bytes = datagram(alloc, dice, endpoint, may_ask)?;
+            Ok(Some(Coming::Datagram {
+                endpoint: u16::from(endpoint),
+                bytes,
+            }))
+        }
+    }
+}
+
 /// The turns, whose jobs before are not counted yet.
 pub(super) fn make_turns(alloc: Global) -> Result<Vec<Turn>, AllocError> {
     let mut dice = Dice { state: 20 };
@@ -172,16 +202,9 @@ pub(super) fn make_turns(alloc: Global) -> Result<Vec<Turn>, AllocError> {
         if rises {
             moment = moment.wrapping_add(1 + u64::from(dice.below(120)));
         }
-        let arrival = if dice.below(8) == 0 {
-            None
-        } else {
-            let endpoint = dice.below(4) as u8;
-            let bytes = datagram(alloc, &mut dice, endpoint, !rises)?;
-            Some((u16::from(endpoint), bytes))
-        };
         turns.push(Turn {
             moment,
-            arrival,
+            arrival: make_coming(alloc, &mut dice, !rises)?,
             jobs_before: 0,
         })?;
     }

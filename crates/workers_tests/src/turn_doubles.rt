@@ -3,7 +3,7 @@
 
 ghost use Rattle.std.specs.Prelude.{◌≡◌, ◌+◌, vec_len, None};
 
-use crate::random_turns::{Turn, WORKERS};
+use crate::random_turns::{Coming, Turn, WORKERS};
 use events::Bytes;
 use rtrb::{Consumer, Producer, RingBuffer};
 use std::alloc::{AllocError, Global};
@@ -33,10 +33,10 @@ impl<'a> Source for Turned<'a> {
 
     ghost given = { λ _. None };
 
-    fn receive(&mut self, out: &mut [u8]) -> Result<Option<(u16, usize)>, ReceiveFault> {
+    fn receive(&mut self, out: &mut [u8]) -> Result<Received, ReceiveFault> {
         let at = self.next;
         if at >= self.turns.len() {
-            return Ok(None);
+            return Ok(Received::Nothing);
         }
         self.next = at + 1;
         let turn = &self.turns[at];
@@ -47,15 +47,21 @@ impl<'a> Source for Turned<'a> {
             thread::yield_now();
         }
         self.now.store(turn.moment, Ordering::SeqCst);
-        let Some((endpoint, bytes)) = &turn.arrival else {
-            return Ok(None);
-        };
-        let length = bytes.len();
-        if length > out.len() {
-            return Ok(None);
+        match &turn.arrival {
+            None => Ok(Received::Nothing),
+            Some(Coming::Select { leg, on }) => Ok(Received::Select { leg: *leg, on: *on }),
+            Some(Coming::Datagram { endpoint, bytes }) => {
+                let length = bytes.len();
+                if length > out.len() {
+                    return Ok(Received::Nothing);
+                }
+                out[..length].copy_from_slice(bytes.as_slice());
+                Ok(Received::Datagram {
+                    endpoint: *endpoint,
+                    length,
+                })
+            }
         }
-        out[..length].copy_from_slice(bytes.as_slice());
-        Ok(Some((*endpoint, length)))
     }
 }
 

@@ -95,6 +95,7 @@ pub(super) fn sinks_of(alloc: Global, count: u64) -> Result<Vec<MemorySink>, All
 #[derive(Debug, Drop)]
 pub(super) enum Arrival {
     Datagram(u16, Vec<u8>),
+    Stop,
     Fault,
 }
 
@@ -125,25 +126,29 @@ impl<'a> Source for Script<'a> {
 
     ghost given = { λ _. None };
 
-    fn receive(&mut self, out: &mut [u8]) -> Result<Option<(u16, usize)>, ReceiveFault> {
+    fn receive(&mut self, out: &mut [u8]) -> Result<Received, ReceiveFault> {
         let at = self.next;
         if at >= self.arrivals.len() {
             self.is_played.store(true, Ordering::SeqCst);
-            return Ok(None);
+            return Ok(Received::Nothing);
         }
         self.next = at + 1;
         match &self.arrivals[at] {
             Arrival::Datagram(endpoint, bytes) => {
                 let length = bytes.len();
                 if length > out.len() {
-                    return Ok(None);
+                    return Ok(Received::Nothing);
                 }
                 out[..length].copy_from_slice(bytes.as_slice());
-                Ok(Some((*endpoint, length)))
+                Ok(Received::Datagram {
+                    endpoint: *endpoint,
+                    length,
+                })
             }
+            Arrival::Stop => Ok(Received::Stop),
             Arrival::Fault => {
                 if self.failures == u64::MAX {
-                    return Ok(None);
+                    return Ok(Received::Nothing);
                 }
                 self.failures += 1;
                 Err(ReceiveFault)
@@ -165,9 +170,9 @@ impl<'a> Source for Quiet<'a> {
 
     ghost given = { λ _. None };
 
-    fn receive(&mut self, _out: &mut [u8]) -> Result<Option<(u16, usize)>, ReceiveFault> {
+    fn receive(&mut self, _out: &mut [u8]) -> Result<Received, ReceiveFault> {
         self.receives.fetch_add(1, Ordering::SeqCst);
-        Ok(None)
+        Ok(Received::Nothing)
     }
 }
 

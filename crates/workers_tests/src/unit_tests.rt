@@ -103,6 +103,24 @@ fn stop_behind_full_ring(rt: HostRuntime) -> Result<(), Fail> {
     Ok(())
 }
 
+/// A stop ends the run: what came before is sent, and what comes after isn't heard.
+#[test]
+fn stops_on_threads(rt: HostRuntime) -> Result<(), Fail> {
+    let alloc = rt.alloc();
+    let settings = settings_of(alloc, 2, 2, &ONE_LINK)?;
+    let mut arrivals = Vec::new(alloc);
+    arrivals.push(Arrival::Datagram(1, receiver_report(alloc, 17)?))?;
+    arrivals.push(Arrival::Datagram(0, media_packet(alloc, 16, 7)?))?;
+    arrivals.push(Arrival::Stop)?;
+    arrivals.push(Arrival::Datagram(0, media_packet(alloc, 16, 8)?))?;
+    let is_played = AtomicBool::new(false);
+    let source = Script::of(arrivals, &is_played);
+    let report = run_script(&rt, alloc, &settings, source, &OpenGate, 200)?;
+    assert_eq!(rt; (report.heard, report.sent, report.lost), (2, 1, 0));
+    assert!(rt; !is_played.load(Ordering::SeqCst));
+    Ok(())
+}
+
 /// So many receives fail, and then a datagram comes.
 fn run_faults<R: Threads + Wait + Sync>(
     rt: &R,

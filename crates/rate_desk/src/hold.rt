@@ -1,0 +1,25 @@
+//! A publisher's desk while one thread has it.
+
+use crate::held::HeldDesk;
+use crate::ledger::DeskCalls;
+use std::marker::Model;
+use std::sync::MutexGuard;
+
+/// A publisher's desk, which nobody else calls until this is dropped. So what its last call changed can be told before another call
+/// changes it again. Contracts see whose desk it is, and the desk.
+#[derive(Drop)]
+pub struct Hold<'a, D: DeskCalls> {
+    pub(crate) guard: MutexGuard<'a, HeldDesk<D>>,
+}
+
+impl<'a, D: DeskCalls> Model for Hold<'a, D> {
+    ghost use Rattle.std.specs.Sync.Mutex.{mutex_guard_value};
+    ghost use Rattle.rate_desk.specs.Shares.{HoldState};
+
+    ghost Value = { HoldState };
+
+    ghost view = { λ h. record {
+      publisher = (mutex_guard_value h.guard).publisher;
+      desk = (mutex_guard_value h.guard).desk;
+    } };
+}
