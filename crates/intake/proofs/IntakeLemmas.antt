@@ -1,7 +1,7 @@
 -- What packets say one behind the other, and what is kept of it.
-use Rattle.std.proofs.Common.{◌≡◌, ◌∙◌, ℕ, zero, suc, ◌+◌, ◌<◌, ◌≤◌, ◌⊎◌, inl, inr, Bool, true, false, List, [], ◌∷◌, ◌++◌, length, map, Option, None, Some, Result, Ok, Err, refl, sym, ap, ap₂, subst, arith, append_assoc, add_assoc, add-zero, zero-add, eqb}
-use Rattle.std.specs.Prelude.{◌==◌, ◌||◌, not, unwrap_or, cond}
-use Rattle.std.specs.List.{find, flat_map, last_or, list_any}
+use Rattle.std.proofs.Common.{◌≡◌, ◌∙◌, ℕ, ◌+◌, ◌≤◌, inr, Bool, true, false, List, [], ◌∷◌, ◌++◌, length, map, Option, None, Some, Result, Ok, Err, refl, sym, ap, ap₂, arith, append_assoc, add_assoc, add-zero, zero-add, eqb}
+use Rattle.std.specs.Prelude.{◌==◌, ◌||◌, not, cond}
+use Rattle.std.specs.List.{flat_map, last_or}
 use Rattle.std.specs.Option.{option_or}
 use Rattle.std.proofs.lemmas.Bool.{cond-false, eq-eqb}
 use Rattle.std.proofs.lemmas.List.Folds.{list_any-append}
@@ -14,7 +14,7 @@ use Rattle.intake.specs.declared.intake.Survey.{Survey}
 use Rattle.intake.specs.declared.intake.Heard.{Heard}
 use Rattle.intake.specs.declared.intake.Heard.TheVariants.{Control}
 use Rattle.intake.specs.Heard.{IsSurveyOf, heard_of}
-use Rattle.intake.specs.Intake.{Gist, PacketSays, PacketsSay, control, joint_gist, leaves, empty_gist, said_by, speaker_of}
+use Rattle.intake.specs.Intake.{Gist, PacketSays, PacketsSay, control, heeded, joint_gist, empty_gist, said_by, speaker_of}
 
 -- ---- gists
 
@@ -114,11 +114,11 @@ kept_of_both own x y z a b sx sy goodbye asking speaker report tmmbns = record {
 
 -- where nobody leaves, what is kept is what is heard
 pub control_said : (own : ℕ) (s : Survey) (g : Gist) → IsSurveyOf own s g → s.goodbye ≡ false
-    → control (speaker_of own g.senders) g.reports g.tmmbns g.asks ≡ said_by own g
+    → control (speaker_of own g.senders) g.reports g.tmmbns (heeded g.asks) ≡ said_by own g
 control_said own s g is stays = sym (cond-false _ _ _ (sym is.goodbye ∙ stays))
 
 pub control_heard : (own : ℕ) (s : Survey) (g : Gist) → IsSurveyOf own s g
-    → ◌≡◌ {A = Heard} (Control s.control) (heard_of (control (speaker_of own g.senders) g.reports g.tmmbns g.asks))
+    → ◌≡◌ {A = Heard} (Control s.control) (heard_of (control (speaker_of own g.senders) g.reports g.tmmbns (heeded g.asks)))
 control_heard own s g is = λ i. Control (record { speaker = record { 0 = is.speaker i }; report = is.report i; tmmbns = is.tmmbns i })
 
 -- ---- the number of packets

@@ -1,2 +1,3 @@
 pub mod IntakeLemmas
+pub mod HeedLemmas
 pub mod OneSaidLemmas

@@ -1,7 +1,7 @@
 -- What a datagram of an endpoint says (RFC 3550, sections 5.1, 6.1 and 6.6; RFC 4585, sections 6.1 to 6.3; RFC 5104,
 -- section 4.2), by the grammars of RTP packets, of RTCP datagrams and of feedback.
-use Rattle.std.specs.Prelude.{◌≡◌, ◌==◌, ◌⊎◌, ◌<◌, ◌≤◌, ℕ, ◌+◌, not, unwrap_or, Option, None, Some, List, [], ◌∷◌, ◌++◌, length, map, slice_index, fold, Result, Ok, Err, if◌then◌else◌}
-use Rattle.std.specs.List.{find, last_or, list_any}
+use Rattle.std.specs.Prelude.{◌≡◌, ◌==◌, ◌⊎◌, ◌<◌, ◌≤◌, ℕ, ◌+◌, not, unwrap_or, List, take, [], ◌∷◌, ◌++◌, length, map, slice_index, fold, Result, Ok, Err, if◌then◌else◌}
+use Rattle.std.specs.List.{find, list_any}
 use Rattle.members.specs.Room.{RoomState, after_report}
 use Rattle.rtp_packet.specs.Fault.{HasRtpFault}
 use Rattle.rtp_packet.specs.Grammar.{RtpPacket, ReadsRtp}
@@ -12,6 +12,7 @@ use Rattle.rtcp_feedback.specs.declared.fault.FbFault.{FbFault}
 use Rattle.rtcp_feedback.specs.declared.fault.FbFault.TheVariants.{Short, OddFci}
 use Rattle.rtcp_feedback.specs.Fault.{HasOddFci}
 use Rattle.rtcp_feedback.specs.Grammar.{Message, ReadsFeedback, nack, pli, tmmbr, tmmbn, unknown}
+use Rattle.intake.specs.declared.intake.TheConstants.{MAX_ENTRIES}
 use Rattle.intake.specs.declared.intake.Ask.{Ask}
 use Rattle.intake.specs.declared.intake.Ask.TheVariants.{Rate, Resend, Picture}
 use Rattle.events.specs.declared.output.Refusal.{Refusal}
@@ -89,6 +90,10 @@ pub data Said : Type 0 where
   leaves : Said
   control : ℕ → List (ℕ × ℕ) → ℕ → List Ask → Said
 
+-- what counts of what a datagram asks for: so many entries, the first
+abbrev pub heeded : List Ask → List Ask
+heeded asks = take MAX_ENTRIES asks
+
 -- the first of the senders that isn't the endpoint's own source, else that
 abbrev pub speaker_of : ℕ → List ℕ → ℕ
 speaker_of own senders = unwrap_or (find (λ s. not (s == own)) senders) own
@@ -96,7 +101,7 @@ speaker_of own senders = unwrap_or (find (λ s. not (s == own)) senders) own
 abbrev pub said_by : ℕ → Gist → Said
 said_by own g =
     if list_any (λ s. s == own) g.goodbyes then leaves
-    else control (speaker_of own g.senders) g.reports g.tmmbns g.asks
+    else control (speaker_of own g.senders) g.reports g.tmmbns (heeded g.asks)
 
 -- The datagram joins packets, which say this together.
 pub record JoinsPackets (datagram : List ℕ) (said : Result Gist FbFault) : Type 0 where

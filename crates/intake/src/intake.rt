@@ -1,12 +1,12 @@
 //! What a datagram of an endpoint says.
 
-ghost use Rattle.std.specs.Prelude.{◌≡◌, ◌==◌, ◌↔◌, ℕ, ◌+◌, ◌^◌, ◌<◌, ◌≤◌, List, length, map, IfOk, IsTrue, Result, Ok};
+ghost use Rattle.std.specs.Prelude.{◌≡◌, ◌==◌, ◌↔◌, ℕ, ◌+◌, ◌^◌, ◌<◌, ◌≤◌, List, ◌++◌, drop, length, map, take, IfOk, IsTrue, Result, Ok};
 ghost use Rattle.std.specs.List.{list_any};
 ghost use Rattle.rtcp_compound.specs.Content.{content_of, sources_left};
 ghost use Rattle.rtcp_compound.specs.Left.{contents_left};
 ghost use Rattle.rtcp_feedback.specs.Reading.{entries_left, message_of, nacks_left};
 ghost use Rattle.intake.specs.Heard.{Appends, Fills, Hears, HearsPackets, HearsRtcp, HearsRtp, IsSurveyOf, Surveys};
-ghost use Rattle.intake.specs.Intake.{Gist, IsRtcp, PacketSays, PacketsSay, Said, Says, gist_of, joint_gist, empty_gist, sent_by};
+ghost use Rattle.intake.specs.Intake.{Gist, heeded, IsRtcp, PacketSays, PacketsSay, Said, Says, gist_of, joint_gist, empty_gist, sent_by};
 ghost use Rattle.intake.specs.declared.intake.Ask.{Ask as Asked};
 ghost use Rattle.events.specs.declared.output.Refusal.{Refusal as RefusedBy};
 
@@ -21,6 +21,9 @@ use tmmbr_tuple::Ssrc;
 const FIRST_RTCP: u8 = 192;
 /// The last packet type of RTCP (RFC 5761, section 4).
 const LAST_RTCP: u8 = 223;
+
+/// How many entries of a datagram's feedback are heeded, the first; a PLI is one.
+pub const MAX_ENTRIES: usize = 256;
 
 /// What an entry of feedback asks for.
 #[derive(Clone, Copy, Debug, PartialEq, Eq)]
@@ -71,8 +74,8 @@ pub enum Unheard {
 
 /// Reads a datagram of the endpoint with this source: RTCP where the second byte is 192 to 223 (RFC
 /// 5761, section 4), else RTP. Answers what it says, and appends what it asks for in the order of packets
-/// and entries; a NACK or a TMMBR without entries asks for nothing. All of it is read before memory is
-/// wanted, so a refusal comes before `NoMemory`. Where the datagram isn't heard, `asks` is as it was.
+/// and entries, the first `MAX_ENTRIES` of them; a NACK or a TMMBR without entries asks for nothing. All of it is read
+/// before memory is wanted, so a refusal comes before `NoMemory`. Where the datagram isn't heard, `asks` is as it was.
 pub fn hear_datagram(datagram: &[u8], own: Ssrc, asks: &mut Vec<Ask>) -> Result<Heard, Unheard>
     ensures { Hears own.0 datagram.now asks.old.items asks.new.items result }
 {
@@ -285,17 +288,31 @@ fn survey_feedback(feedback: Feedback<'_>, own: Ssrc) -> Survey
     }
 }
 
-/// Appends what packets ask for, all of it or nothing.
+/// Appends what is heeded of what packets ask for, all of it or nothing.
 fn collect(packets: Packets<'_>, asks: &mut Vec<Ask>) -> Result<(), AllocError>
     ensures { (gist : Gist) → PacketsSay (contents_left packets.entry) (Ok gist)
-        → Appends asks.old.items asks.new.items gist.asks result }
+        → Appends asks.old.items asks.new.items (heeded gist.asks) result }
 {
     let before = asks.len();
-    let collected = collect_packets(packets, asks);
-    if collected.is_err() {
-        asks.truncate(before);
+    match collect_packets(packets, asks) {
+        Ok(()) => {
+            heed(asks, before);
+            Ok(())
+        }
+        Err(error) => {
+            asks.truncate(before);
+            Err(error)
+        }
     }
-    collected
+}
+
+/// Keeps what is heeded of those from a place on.
+fn heed(asks: &mut Vec<Ask>, first: usize)
+    ensures { asks.new.items ≡ take first asks.old.items ++ heeded (drop first asks.old.items) }
+{
+    if first < asks.len() {
+        asks.truncate(first + MAX_ENTRIES);
+    }
 }
 
 /// Appends what packets ask for, as much of it as there is room for.

@@ -6,4 +6,4 @@
 
 mod intake;
 
-pub use intake::{Ask, Control, Heard, Unheard, hear_datagram, says_one_thing};
+pub use intake::{Ask, Control, Heard, MAX_ENTRIES, Unheard, hear_datagram, says_one_thing};

@@ -26,7 +26,7 @@ use Rattle.one_thread.specs.declared.driver.DriveFault.{DriveFault}
 use Rattle.one_thread.specs.declared.driver.DriveFault.TheVariants.{NoMemory}
 use Rattle.one_thread.specs.Driver.{EndsEarly, HasDriven, LeavesLastHeard, StopsEarly}
 use Rattle.one_thread.specs.Driving.{IsIdle, Drives}
-use Rattle.one_thread.specs.Turns.{HasMade, OutsideView, events_of}
+use Rattle.one_thread.specs.Turns.{HasEnded, OutsideView, events_of}
 use Rattle.one_thread.proofs.DrivingLemmas.{none_lost}
 
 at_desk : (P : DeskState → Type 0) (desks : List DeskState) (p : ℕ) (d : DeskState) → All P desks → slice_get desks p ≡ Some d → P d
@@ -54,7 +54,7 @@ desks_are c w events history new r =
           });
     }
 
-last_heard : (c : Configuration) (start w : WorldState) (events : List Event) (history : List Happening) → IsInRange c → IsNewWorld c start
+pub last_heard : (c : Configuration) (start w : WorldState) (events : List Event) (history : List Happening) → IsInRange c → IsNewWorld c start
     → Runs start events history → w ≡ worlds_after start history → IsIdle w → w.lost ≡ 0 → LeavesLastHeard c start events history w
 last_heard c start w events history range new runs leads idle lost =
     let heard = heard_in start events history runs in
@@ -69,13 +69,13 @@ last_heard c start w events history range new runs leads idle lost =
           }));
     }
 
-pub has_driven : (c : Configuration) (tick_ms count : ℕ) (x y : OutsideView) (start final : WorldState) (first ticks : TicksState)
+pub has_driven : (c : Configuration) (tick_ms count : ℕ) (x y : OutsideView) (start final : WorldState) (first : TicksState)
     (faults : ℕ) (tally : Tally) (report : Report) → IsInRange c → IsNewWorld c start → first ≡ new_ticks tick_ms
-    → HasMade start first count final ticks faults tally x y → faults < MAX_FAULTS → IsIdle final → report.counts ≡ tally
+    → HasEnded start first count final faults tally x y → faults < MAX_FAULTS → IsIdle final → report.counts ≡ tally
     → report.desks.items ≡ final.desks → HasDriven c tick_ms count x y report
-has_driven c tick_ms count x y start final first ticks faults tally report range new opened has few idle counts desks =
-    let made : HasMade start (new_ticks tick_ms) count final ticks faults tally x y =
-    subst (λ (t : TicksState). HasMade start t count final ticks faults tally x y) opened has in
+has_driven c tick_ms count x y start final first faults tally report range new opened has few idle counts desks =
+    let made : HasEnded start (new_ticks tick_ms) count final faults tally x y =
+    subst (λ (t : TicksState). HasEnded start t count final faults tally x y) opened has in
     let d = made.made.drives in
     let lost : final.lost ≡ 0 = none_lost (events_of (new_ticks tick_ms) made.turns) start final [] made.made.outs d new.lost in
     record {
@@ -84,7 +84,7 @@ has_driven c tick_ms count x y start final first ticks faults tally report range
       turns = made.turns;
       tally = tally;
       opens = new;
-      size = made.size;
+      in_time = made.in_time;
       goes_on = made.goes_on;
       few = omega (arith, few, made.faults);
       made = made.made;
@@ -101,10 +101,10 @@ has_driven c tick_ms count x y start final first ticks faults tally report range
       desks = desks;
     }
 
-pub desks_of_run : (c : Configuration) (start final : WorldState) (first ticks : TicksState) (count faults : ℕ) (tally : Tally)
-    (x y : OutsideView) (report : Report) → IsNewWorld c start → HasMade start first count final ticks faults tally x y
+pub desks_of_run : (c : Configuration) (start final : WorldState) (first : TicksState) (count faults : ℕ) (tally : Tally)
+    (x y : OutsideView) (report : Report) → IsNewWorld c start → HasEnded start first count final faults tally x y
     → report.desks.items ≡ final.desks → AreDesksOf c.pli_gap_ms c.request_ms (length c.endpoints) report.desks.items
-desks_of_run c start final first ticks count faults tally x y report new has same =
+desks_of_run c start final first count faults tally x y report new has same =
     let d = has.made.drives in
     subst (λ (ds : List DeskState). AreDesksOf c.pli_gap_ms c.request_ms (length c.endpoints) ds)
     (sym (same ∙ ap (λ (w : WorldState). w.desks) d.run.leads))

@@ -1,5 +1,5 @@
 -- Turns one after the other.
-use Rattle.std.proofs.Common.{◌≡◌, ◌∙◌, ℕ, ◌+◌, ◌<◌, ◌≤◌, List, [], ◌∷◌, ◌++◌, get_or, length, map, take, refl, sym, ap, subst, arith, append_assoc, append-nil, length-append, Option}
+use Rattle.std.proofs.Common.{◌≡◌, ◌∙◌, ℕ, ◌+◌, ◌<◌, ◌≤◌, Bool, true, false, inl, inr, List, [], ◌∷◌, ◌++◌, get_or, length, map, take, refl, sym, ap, subst, arith, append_assoc, append-nil, length-append, Option}
 use Rattle.std.proofs.lemmas.Grind.{flat_map-append}
 use Rattle.std.proofs.lemmas.List.{map-append, take_more}
 use Rattle.std.specs.Prelude.{Result, Ok, Err, OnErr}
@@ -7,7 +7,7 @@ use Rattle.events.specs.declared.event.Event.{Event}
 use Rattle.events.specs.declared.output.Out.{Out}
 use Rattle.outside.specs.declared.datagram.Datagram.{Datagram}
 use Rattle.outside.specs.declared.source.TheConstants.{MAX_FAULTS}
-use Rattle.outside.specs.Outside.{Arrival, came, silence, failure, Grows, SinkView, datagram_in, datagrams_of}
+use Rattle.outside.specs.Outside.{Arrival, came, chosen, stop, silence, failure, is_stop, Grows, SinkView, datagram_in, datagrams_of}
 use Rattle.outside.specs.Ticks.{TicksState, ticks_after}
 use Rattle.outside.proofs.GrowsLemmas.{grows_more, grows_nothing}
 use Rattle.core_steps.specs.Waits.{as_counted}
@@ -15,7 +15,7 @@ use Rattle.core_steps.specs.World.{WorldState}
 use Rattle.one_thread.specs.declared.tally.Tally.{Tally}
 use Rattle.one_thread.specs.Driver.{FailsToReceive, StopsIn}
 use Rattle.one_thread.specs.Driving.{Drives, DrivesSome}
-use Rattle.one_thread.specs.Turns.{BreaksOff, GoesOn, Hands, HandsOver, HasMade, MakesTurn, MakesTurns, OutsideView, Raises, Turn, events_of, faults_over, faults_with, heard_at, heard_count, heard_over, sink_of, tick_at, ticks_over, turn_events, view_of}
+use Rattle.one_thread.specs.Turns.{BreaksOff, EndsInTime, GoesOn, Hands, HandsOver, HasEnded, HasMade, IsStopped, IsWhole, NeverStops, MakesTurn, MakesTurns, OutsideView, Raises, Turn, events_of, faults_over, faults_with, brought_at, heard_count, heard_over, sink_of, tick_at, ticks_over, turn_events, view_of}
 use Rattle.one_thread.proofs.DrivingLemmas.{drives_after, drives_nothing, drives_on}
 
 -- ---- what is handed over
@@ -93,10 +93,10 @@ goes_on_last : (faults : ℕ) (turns : List Turn) (t : Turn) → GoesOn faults t
 goes_on_last faults [] t on few = (few, tt)
 goes_on_last faults (x ∷ turns) t on few = (on.0, goes_on_last (faults_with faults x.arrival) turns t on.1 few)
 
-makes_last : (ticks next : TicksState) (turns : List Turn) (f g : ℕ) (a b c : WorldState) (x y z : OutsideView) (d e : Tally)
-    (made : MakesTurns ticks turns a b x y d) (one : MakesTurn (ticks_over ticks turns) next f g b c y z d e)
+makes_last : (ticks next : TicksState) (turns : List Turn) (f g : ℕ) (stopped : Bool) (a b c : WorldState) (x y z : OutsideView) (d e : Tally)
+    (made : MakesTurns ticks turns a b x y d) (one : MakesTurn (ticks_over ticks turns) next f g stopped b c y z d e)
     → MakesTurns ticks (turns ++ one.turn ∷ []) a c x z e
-makes_last ticks next turns f g a b c x y z d e made one = record {
+makes_last ticks next turns f g stopped a b c x y z d e made one = record {
   outs = made.outs ++ one.outs;
   drives = subst (λ (l : List Event). Drives l a [] c (made.outs ++ one.outs)) (sym (events_last ticks turns one.turn))
       (drives_on (events_of ticks turns) (turn_events (ticks_over ticks turns) one.turn) a b c [] made.outs (made.outs ++ one.outs)
@@ -132,25 +132,65 @@ pub made_nothing : (w : WorldState) (ticks : TicksState) (faults : ℕ) (t : Tal
     → t ≡ record { heard = 0; sent = 0; failed = 0 } → HasMade w ticks 0 w ticks faults t x x
 made_nothing w ticks faults t x zero none = record {
   turns = [];
-  size = refl;
+  whole = record { size = refl; on = tt };
   goes_on = tt;
   made = makes_nothing ticks w x t none;
   noted = refl;
   faults = zero;
 }
 
-pub made_more : (start : WorldState) (ticks : TicksState) (count : ℕ) (w next : WorldState) (t u : TicksState) (f g : ℕ) (d e : Tally)
-    (x y z : OutsideView) → HasMade start ticks count w t f d x y → f < MAX_FAULTS → MakesTurn t u f g w next y z d e
-    → HasMade start ticks (count + 1) next u g e x z
-made_more start ticks count w next t u f g d e x y z made few one =
-    let at : MakesTurn (ticks_over ticks made.turns) u f g w next y z d e =
-    subst (λ (s : TicksState). MakesTurn s u f g w next y z d e) made.noted one in
+never_stops_last : (turns : List Turn) (t : Turn) → NeverStops turns → is_stop t.arrival ≡ false → NeverStops (turns ++ t ∷ [])
+never_stops_last [] t on not = (not, tt)
+never_stops_last (x ∷ turns) t on not = (on.0, never_stops_last turns t on.1 not)
+
+pub made_more : (start : WorldState) (ticks : TicksState) (count : ℕ) (w next : WorldState) (t u : TicksState) (f g : ℕ)
+    (stopped : Bool) (d e : Tally) (x y z : OutsideView) → HasMade start ticks count w t f d x y → f < MAX_FAULTS
+    → MakesTurn t u f g stopped w next y z d e → stopped ≡ false → HasMade start ticks (count + 1) next u g e x z
+made_more start ticks count w next t u f g stopped d e x y z made few one not =
+    let at : MakesTurn (ticks_over ticks made.turns) u f g stopped w next y z d e =
+    subst (λ (s : TicksState). MakesTurn s u f g stopped w next y z d e) made.noted one in
     record {
       turns = made.turns ++ at.turn ∷ [];
-      size = length-append made.turns (at.turn ∷ []) ∙ ap (λ (n : ℕ). n + 1) made.size;
+      whole = record {
+        size = length-append made.turns (at.turn ∷ []) ∙ ap (λ (n : ℕ). n + 1) made.whole.size;
+        on = never_stops_last made.turns at.turn made.whole.on (sym at.stops ∙ not);
+      };
       goes_on = goes_on_last 0 made.turns at.turn made.goes_on (omega (arith, few, made.faults));
-      made = makes_last ticks u made.turns f g start w next x y z d e made.made at;
+      made = makes_last ticks u made.turns f g stopped start w next x y z d e made.made at;
       noted = at.noted ∙ sym (ticks_last ticks made.turns at.turn);
+      faults = at.failing ∙ ap (λ (n : ℕ). faults_with n at.turn.arrival) made.faults ∙ sym (faults_last 0 made.turns at.turn);
+    }
+
+-- ---- how turns end
+
+pub ends_whole : (start : WorldState) (ticks : TicksState) (count : ℕ) (w : WorldState) (t : TicksState) (f : ℕ) (d : Tally)
+    (x y : OutsideView) → HasMade start ticks count w t f d x y → HasEnded start ticks count w f d x y
+ends_whole start ticks count w t f d x y made = record {
+  turns = made.turns;
+  in_time = inl made.whole;
+  goes_on = made.goes_on;
+  made = made.made;
+  faults = made.faults;
+}
+
+pub ends_stopped : (start : WorldState) (ticks : TicksState) (count done : ℕ) (w next : WorldState) (t u : TicksState) (f g : ℕ)
+    (stopped : Bool) (d e : Tally) (x y z : OutsideView) → HasMade start ticks done w t f d x y → f < MAX_FAULTS
+    → MakesTurn t u f g stopped w next y z d e → stopped ≡ true → done < count → HasEnded start ticks count next g e x z
+ends_stopped start ticks count done w next t u f g stopped d e x y z made few one is within =
+    let at : MakesTurn (ticks_over ticks made.turns) u f g stopped w next y z d e =
+    subst (λ (s : TicksState). MakesTurn s u f g stopped w next y z d e) made.noted one in
+    record {
+      turns = made.turns ++ at.turn ∷ [];
+      in_time = inr (record {
+        before = made.turns;
+        last = at.turn;
+        all = refl;
+        on = made.whole.on;
+        stops = sym at.stops ∙ is;
+        size = omega (arith, within, made.whole.size, length-append made.turns (at.turn ∷ []));
+      });
+      goes_on = goes_on_last 0 made.turns at.turn made.goes_on (omega (arith, few, made.faults));
+      made = makes_last ticks u made.turns f g stopped start w next x y z d e made.made at;
       faults = at.failing ∙ ap (λ (n : ℕ). faults_with n at.turn.arrival) made.faults ∙ sym (faults_last 0 made.turns at.turn);
     }
 
@@ -164,18 +204,18 @@ given_more outs i o a b c d e f within before is one =
 
 -- ---- a turn
 
-pub turn_made : (ticks next : TicksState) (faults next_faults : ℕ) (old new : WorldState) (g h : Option (List Arrival))
+pub turn_made : (ticks next : TicksState) (faults next_faults : ℕ) (stopped : Bool) (old new : WorldState) (g h : Option (List Arrival))
     (t u : Option (List ℕ)) (s v : SinkView) (former mid tally : Tally) (arrival : Arrival) (moment : ℕ) (before outs : List Out)
     → before ≡ [] → Grows g (arrival ∷ []) h → Grows t (moment ∷ []) u
-    → Drives (heard_at moment arrival ++ tick_at ticks moment) old before new outs → next ≡ ticks_after ticks moment
-    → next_faults ≡ faults_with faults arrival → Raises former.heard (heard_count arrival) mid.heard → mid.sent ≡ former.sent
+    → Drives (brought_at moment arrival ++ tick_at ticks moment) old before new outs → next ≡ ticks_after ticks moment
+    → next_faults ≡ faults_with faults arrival → stopped ≡ is_stop arrival → Raises former.heard (heard_count arrival) mid.heard → mid.sent ≡ former.sent
     → mid.failed ≡ former.failed → Hands outs s v mid tally
-    → MakesTurn ticks next faults next_faults old new (view_of g t s) (view_of h u v) former tally
-turn_made ticks next faults next_faults old new g h t u s v former mid tally arrival moment before outs none given told drives noted failing heard sent failed hands =
+    → MakesTurn ticks next faults next_faults stopped old new (view_of g t s) (view_of h u v) former tally
+turn_made ticks next faults next_faults stopped old new g h t u s v former mid tally arrival moment before outs none given told drives noted failing stops heard sent failed hands =
     record {
       turn = record { arrival = arrival; moment = moment };
       outs = outs;
-      drives = subst (λ (l : List Out). Drives (heard_at moment arrival ++ tick_at ticks moment) old l new outs) none drives;
+      drives = subst (λ (l : List Out). Drives (brought_at moment arrival ++ tick_at ticks moment) old l new outs) none drives;
       given = given;
       told = told;
       sent = hands.sent;
@@ -186,17 +226,18 @@ turn_made ticks next faults next_faults old new g h t u s v former mid tally arr
       counts_failed = λ n is. hands.counts_failed n (failed ∙ is);
       noted = noted;
       failing = failing;
+      stops = stops;
     }
 
 pub turn_broken : (ticks : TicksState) (old new : WorldState) (g h : Option (List Arrival)) (t u : Option (List ℕ)) (s : SinkView)
     (arrival : Arrival) (moment : ℕ) (before unsent : List Out) → before ≡ [] → Grows g (arrival ∷ []) h → Grows t (moment ∷ []) u
-    → DrivesSome (heard_at moment arrival ++ tick_at ticks moment) old before new unsent
+    → DrivesSome (brought_at moment arrival ++ tick_at ticks moment) old before new unsent
     → BreaksOff ticks old (view_of g t s) (view_of h u s)
 turn_broken ticks old new g h t u s arrival moment before unsent none given told some = record {
   turn = record { arrival = arrival; moment = moment };
   new = new;
   unsent = unsent;
-  drives = subst (λ (l : List Out). DrivesSome (heard_at moment arrival ++ tick_at ticks moment) old l new unsent) none some;
+  drives = subst (λ (l : List Out). DrivesSome (brought_at moment arrival ++ tick_at ticks moment) old l new unsent) none some;
   given = given;
   told = told;
   sink = refl;
@@ -204,6 +245,8 @@ turn_broken ticks old new g h t u s arrival moment before unsent none given told
 
 faults_rise : (faults : ℕ) (a : Arrival) → faults_with faults a ≤ faults + 1
 faults_rise faults (came endpoint bytes) = omega arith
+faults_rise faults (chosen leg on) = omega arith
+faults_rise faults stop = omega arith
 faults_rise faults silence = omega arith
 faults_rise faults failure = omega arith
 
@@ -216,21 +259,32 @@ stops_in start ticks count w t f d x y z made few breaks = record {
   at = w;
   between = y;
   tally = d;
+  on = made.whole.on;
   goes_on = made.goes_on;
   few = omega (arith, few, made.faults);
   made = made.made;
   breaks = subst (λ (s : TicksState). BreaksOff s w y z) made.noted breaks;
 }
 
-pub fails_in : (start : WorldState) (ticks : TicksState) (count : ℕ) (w next : WorldState) (t u : TicksState) (f g : ℕ) (d e : Tally)
-    (x y z : OutsideView) → HasMade start ticks count w t f d x y → f < MAX_FAULTS → MakesTurn t u f g w next y z d e → MAX_FAULTS ≤ g
-    → FailsToReceive start ticks x z
-fails_in start ticks count w next t u f g d e x y z made few one many =
-    let all = made_more start ticks count w next t u f g d e x y z made few one in
+-- a receive that fails is no stop
+no_stop : (faults : ℕ) (a : Arrival) → MAX_FAULTS ≤ faults_with faults a → is_stop a ≡ false
+no_stop faults (came endpoint bytes) many = refl
+no_stop faults (chosen leg on) many = refl
+no_stop faults stop many = absurd (omega (arith, many))
+no_stop faults silence many = refl
+no_stop faults failure many = refl
+
+pub fails_in : (start : WorldState) (ticks : TicksState) (count : ℕ) (w next : WorldState) (t u : TicksState) (f g : ℕ)
+    (stopped : Bool) (d e : Tally) (x y z : OutsideView) → HasMade start ticks count w t f d x y → f < MAX_FAULTS
+    → MakesTurn t u f g stopped w next y z d e → MAX_FAULTS ≤ g → FailsToReceive start ticks x z
+fails_in start ticks count w next t u f g stopped d e x y z made few one many =
+    let enough : MAX_FAULTS ≤ faults_with f one.turn.arrival = omega (arith, many, one.failing) in
+    let all = made_more start ticks count w next t u f g stopped d e x y z made few one (one.stops ∙ no_stop f one.turn.arrival enough) in
     record {
       turns = all.turns;
       final = next;
       tally = e;
+      on = all.whole.on;
       goes_on = all.goes_on;
       many = omega (arith, few, many, all.faults, one.failing, faults_rise f one.turn.arrival);
       made = all.made;

@@ -16,7 +16,7 @@ use Rattle.one_thread.specs.declared.driver.DriveFault.TheVariants.{NoMemory, Re
 use Rattle.one_thread.specs.declared.driver.Report.{Report}
 use Rattle.one_thread.specs.declared.tally.Tally.{Tally}
 use Rattle.one_thread.specs.Driving.{IsIdle}
-use Rattle.one_thread.specs.Turns.{BreaksOff, GoesOn, MakesTurns, OutsideView, Turn, faults_over, ticks_over}
+use Rattle.one_thread.specs.Turns.{BreaksOff, EndsInTime, GoesOn, MakesTurns, NeverStops, OutsideView, Turn, faults_over, ticks_over}
 
 -- it is so after the run, and was so after each event of it
 abbrev pub AfterEach : (List Happening → WorldState → Type 0) → WorldState → List Happening → Type 0
@@ -31,8 +31,8 @@ pub record LeavesLastHeard (c : Configuration) (start : WorldState) (events : Li
   pub live : flat_map (λ (h : Happening). h.unrecorded) history ≡ []
       → LastHeardIsLive c history rates w
 
--- So many turns were made from the new world of these settings, and never did too many receives in a row fail. Nothing waits in the
--- end. What each desk announces, what is told of it, the stays that ended, and what is live are as the machine's laws say.
+-- So many turns were made from the new world of these settings, or fewer if a stop came in the last of them; and never did too many
+-- receives in a row fail. Nothing waits in the end. What each desk announces, what is told of it, the stays that ended, and what is live are as the machine's laws say.
 pub record HasDriven (c : Configuration) (tick_ms count : ℕ) (before after : OutsideView)
     (report : Report) : Type 0 where
   pub start : WorldState
@@ -40,7 +40,7 @@ pub record HasDriven (c : Configuration) (tick_ms count : ℕ) (before after : O
   pub turns : List Turn
   pub tally : Tally
   pub opens : IsNewWorld c start
-  pub size : length turns ≡ count
+  pub in_time : EndsInTime count turns
   pub goes_on : GoesOn 0 turns
   pub few : faults_over 0 turns < MAX_FAULTS
   pub made : MakesTurns (new_ticks tick_ms) turns start final before after tally
@@ -52,24 +52,26 @@ pub record HasDriven (c : Configuration) (tick_ms count : ℕ) (before after : O
   pub counts : report.counts ≡ tally
   pub desks : report.desks.items ≡ final.desks
 
--- Turns were made from this world, and there was no memory in the one after them.
+-- Turns were made from this world, in which no stop came, and there was no memory in the one after them.
 pub record StopsIn (start : WorldState) (ticks : TicksState) (before after : OutsideView) : Type 0
   where
     pub turns : List Turn
     pub at : WorldState
     pub between : OutsideView
     pub tally : Tally
+    pub on : NeverStops turns
     pub goes_on : GoesOn 0 turns
     pub few : faults_over 0 turns < MAX_FAULTS
     pub made : MakesTurns ticks turns start at before between tally
     pub breaks : BreaksOff (ticks_over ticks turns) at between after
 
--- Turns were made from this world, and with the last of them as many receives in a row had failed as end a run.
+-- Turns were made from this world, in which no stop came, and with the last of them as many receives in a row had failed as end a run.
 pub record FailsToReceive (start : WorldState) (ticks : TicksState)
     (before after : OutsideView) : Type 0 where
   pub turns : List Turn
   pub final : WorldState
   pub tally : Tally
+  pub on : NeverStops turns
   pub goes_on : GoesOn 0 turns
   pub many : faults_over 0 turns ≡ MAX_FAULTS
   pub made : MakesTurns ticks turns start final before after tally

@@ -1,11 +1,11 @@
 -- Turns: what a receive gave, and the moment that the clock told then. What comes of them from outside.
-use Rattle.std.specs.Prelude.{◌≡◌, ℕ, ◌+◌, ◌<◌, ◌≤◌, List, [], ◌∷◌, ◌++◌, map, length, Option, if◌then◌else◌}
+use Rattle.std.specs.Prelude.{◌≡◌, ◌⊎◌, ℕ, ◌+◌, ◌<◌, ◌≤◌, Bool, true, false, List, [], ◌∷◌, ◌++◌, map, length, Option, if◌then◌else◌}
 use Rattle.events.specs.declared.event.Event.{Event}
-use Rattle.events.specs.declared.event.Event.TheVariants.{Hear, Tick}
+use Rattle.events.specs.declared.event.Event.TheVariants.{Hear, Tick, Select}
 use Rattle.events.specs.declared.output.Out.{Out}
 use Rattle.outside.specs.declared.datagram.Datagram.{Datagram}
 use Rattle.outside.specs.declared.source.TheConstants.{MAX_FAULTS}
-use Rattle.outside.specs.Outside.{Arrival, came, silence, failure, Grows, SinkView, datagrams_of}
+use Rattle.outside.specs.Outside.{Arrival, came, chosen, stop, silence, failure, is_stop, Grows, SinkView, datagrams_of}
 use Rattle.outside.specs.Ticks.{TicksState, is_due, ticks_after}
 use Rattle.core_steps.specs.Waits.{as_counted}
 use Rattle.core_steps.specs.World.{WorldState}
@@ -18,18 +18,20 @@ pub record Turn : Type 0 where
   pub arrival : Arrival
   pub moment : ℕ
 
--- a datagram is heard at the moment of its turn
-abbrev pub heard_at : ℕ → Arrival → List Event
-heard_at moment (came endpoint bytes) = Hear moment endpoint bytes ∷ []
-heard_at moment silence = []
-heard_at moment failure = []
+-- a datagram is heard, and a leg is selected or not, at the moment of the turn that brought it
+abbrev pub brought_at : ℕ → Arrival → List Event
+brought_at moment (came endpoint bytes) = Hear moment endpoint bytes ∷ []
+brought_at moment (chosen leg on) = Select moment leg on ∷ []
+brought_at moment stop = []
+brought_at moment silence = []
+brought_at moment failure = []
 
 -- a tick is made where one is due
 abbrev pub tick_at : TicksState → ℕ → List Event
 tick_at ticks moment = if is_due ticks moment then Tick moment ∷ [] else []
 
 abbrev pub turn_events : TicksState → Turn → List Event
-turn_events ticks t = heard_at t.moment t.arrival ++ tick_at ticks t.moment
+turn_events ticks t = brought_at t.moment t.arrival ++ tick_at ticks t.moment
 
 -- those of all turns, one after the other
 abbrev pub events_of : TicksState → List Turn → List Event
@@ -46,6 +48,8 @@ ticks_over ticks (t ∷ turns) = ticks_over (ticks_after ticks t.moment) turns
 -- how many receives in a row failed, with this one
 abbrev pub faults_with : ℕ → Arrival → ℕ
 faults_with faults (came endpoint bytes) = 0
+faults_with faults (chosen leg on) = 0
+faults_with faults stop = 0
 faults_with faults silence = 0
 faults_with faults failure = faults + 1
 
@@ -58,10 +62,37 @@ abbrev pub GoesOn : ℕ → List Turn → Type 0
 GoesOn faults [] = Unit {0}
 GoesOn faults (t ∷ turns) = (faults < MAX_FAULTS) × GoesOn (faults_with faults t.arrival) turns
 
+-- ---- when a run stops
+
+-- no stop came in these turns
+abbrev pub NeverStops : List Turn → Type 0
+NeverStops [] = Unit {0}
+NeverStops (t ∷ turns) = (is_stop t.arrival ≡ false) × NeverStops turns
+
+-- so many turns were made, and no stop came
+pub record IsWhole (count : ℕ) (turns : List Turn) : Type 0 where
+  pub size : length turns ≡ count
+  pub on : NeverStops turns
+
+-- a stop came in the last turn, in none before, and there were no more turns than so many
+pub record IsStopped (count : ℕ) (turns : List Turn) : Type 0 where
+  pub before : List Turn
+  pub last : Turn
+  pub all : turns ≡ before ++ last ∷ []
+  pub on : NeverStops before
+  pub stops : is_stop last.arrival ≡ true
+  pub size : length turns ≤ count
+
+-- a run of so many turns makes them all, or ends with the turn in which a stop came
+abbrev pub EndsInTime : ℕ → List Turn → Type 0
+EndsInTime count turns = IsWhole count turns ⊎ IsStopped count turns
+
 -- ---- counts
 
 abbrev pub heard_count : Arrival → ℕ
 heard_count (came endpoint bytes) = 1
+heard_count (chosen leg on) = 0
+heard_count stop = 0
 heard_count silence = 0
 heard_count failure = 0
 
@@ -107,9 +138,9 @@ pub record Hands (outs : List Out) (before after : SinkView) (former tally : Tal
 -- ---- turns that are made
 
 -- Of one turn: what the source gave and the clock told, what was done of it, and what was handed over and counted; how ticks and
--- receives that fail stand then.
-pub record MakesTurn (ticks next_ticks : TicksState) (faults next_faults : ℕ) (old new : WorldState)
-    (before after : OutsideView) (former tally : Tally) : Type 0 where
+-- receives that fail stand then, and whether a stop came.
+pub record MakesTurn (ticks next_ticks : TicksState) (faults next_faults : ℕ) (stopped : Bool)
+    (old new : WorldState) (before after : OutsideView) (former tally : Tally) : Type 0 where
   pub turn : Turn
   pub outs : List Out
   pub drives : Drives (turn_events ticks turn) old [] new outs
@@ -123,6 +154,7 @@ pub record MakesTurn (ticks next_ticks : TicksState) (faults next_faults : ℕ) 
   pub counts_failed : Raises former.failed failed tally.failed
   pub noted : next_ticks ≡ ticks_after ticks turn.moment
   pub failing : next_faults ≡ faults_with faults turn.arrival
+  pub stops : stopped ≡ is_stop turn.arrival
 
 -- These turns were made. The source gave what came in them, and the clock told their moments. The events from outside are those of
 -- the turns, one after the other; each found nothing waiting; no job was given up; the sink was handed the machine's datagrams, in
@@ -152,13 +184,23 @@ pub record BreaksOff (ticks : TicksState) (old : WorldState) (before after : Out
     pub told : Grows before.told (turn.moment ∷ []) after.told
     pub sink : sink_of after ≡ sink_of before
 
--- So many turns were made from the world at the start, and this is how ticks and receives that fail stand then.
+-- So many turns were made from the world at the start, in which no stop came; this is how ticks and receives that fail stand then.
 pub record HasMade (start : WorldState) (ticks : TicksState) (count : ℕ) (now : WorldState)
     (ticks_now : TicksState) (faults_now : ℕ) (tally : Tally) (before after : OutsideView) : Type 0
   where
     pub turns : List Turn
-    pub size : length turns ≡ count
+    pub whole : IsWhole count turns
     pub goes_on : GoesOn 0 turns
     pub made : MakesTurns ticks turns start now before after tally
     pub noted : ticks_now ≡ ticks_over ticks turns
+    pub faults : faults_now ≡ faults_over 0 turns
+
+-- Turns were made from the world at the start, so many unless a stop came; this is how receives that fail stand then.
+pub record HasEnded (start : WorldState) (ticks : TicksState) (count : ℕ) (now : WorldState)
+    (faults_now : ℕ) (tally : Tally) (before after : OutsideView) : Type 0
+  where
+    pub turns : List Turn
+    pub in_time : EndsInTime count turns
+    pub goes_on : GoesOn 0 turns
+    pub made : MakesTurns ticks turns start now before after tally
     pub faults : faults_now ≡ faults_over 0 turns

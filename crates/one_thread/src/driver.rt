@@ -9,7 +9,7 @@ ghost use Rattle.settings.specs.Settings.{IsInRange};
 ghost use Rattle.one_thread.specs.declared.driver.DriveFault.TheVariants.{NoMemory};
 ghost use Rattle.one_thread.specs.Driver.{EndsEarly, HasDriven, StopsEarly};
 ghost use Rattle.one_thread.specs.Driving.{IsIdle};
-ghost use Rattle.one_thread.specs.Turns.{HasMade, view_of};
+ghost use Rattle.one_thread.specs.Turns.{HasEnded, view_of};
 
 use crate::tally::Tally;
 use crate::turn::{Engine, turn};
@@ -23,7 +23,7 @@ use thiserror::Error;
 /// How long the unit runs, and how often it ticks.
 #[derive(Clone, Copy, Debug, PartialEq, Eq)]
 pub struct Pace {
-    /// How many turns it makes: as good as no end at `u64::MAX`.
+    /// How many turns it makes, unless it is stopped: as good as no end at `u64::MAX`.
     pub turns: u64,
     /// How many milliseconds the moment rises at least between two ticks. Whatever comes with time (an endpoint's timeout, a
     /// report, a PLI that waits for its gap, a request that grows too old) may come so much later.
@@ -64,6 +64,7 @@ fn new_engine(alloc: Global, settings: &Settings, tick_ms: u64) -> Result<Engine
         buffer: vec![in alloc; 0; MAX_DATAGRAM]?,
         ticks: Ticks::new(tick_ms),
         faults: 0,
+        is_stopped: false,
         tally: Tally::default(),
     })
 }
@@ -85,8 +86,8 @@ fn open_engine(alloc: Global, settings: &Settings, tick_ms: u64) -> Result<Engin
     }
 }
 
-/// Makes so many turns.
-#[tactic(auto, using(crate::proofs::TurnLemmas::made_nothing, crate::proofs::TurnLemmas::made_more, crate::proofs::TurnLemmas::stops_in, crate::proofs::TurnLemmas::fails_in))]
+/// Makes so many turns, fewer if a stop comes: then that turn is the last.
+#[tactic(auto, using(crate::proofs::TurnLemmas::made_nothing, crate::proofs::TurnLemmas::made_more, crate::proofs::TurnLemmas::ends_whole, crate::proofs::TurnLemmas::ends_stopped, crate::proofs::TurnLemmas::stops_in, crate::proofs::TurnLemmas::fails_in))]
 fn run_turns<Src: Source, Snk: Sink, Clk: Clock, W: Watch>(
     engine: &mut Engine,
     turns: u64,
@@ -100,8 +101,8 @@ fn run_turns<Src: Source, Snk: Sink, Clk: Clock, W: Watch>(
     requires empty { engine.old.outs.items ≡ [] }
     requires faults { engine.old.faults ≡ 0 }
     requires tally { engine.old.tally ≡ record { heard = 0; sent = 0; failed = 0 } }
-    ensures ok { OnOk result (HasMade engine.old.world engine.old.ticks turns
-        engine.new.world engine.new.ticks engine.new.faults engine.new.tally
+    ensures ok { OnOk result (HasEnded engine.old.world engine.old.ticks turns
+        engine.new.world engine.new.faults engine.new.tally
         (view_of (Src.given source.old) (Clk.told clock.old) (Snk.shown sink.old))
         (view_of (Src.given source.new) (Clk.told clock.new) (Snk.shown sink.new))) }
     ensures few { OnOk result (engine.new.faults < MAX_FAULTS) }
@@ -116,6 +117,9 @@ fn run_turns<Src: Source, Snk: Sink, Clk: Clock, W: Watch>(
         };
         if engine.faults >= MAX_FAULTS {
             return Err(DriveFault::Receive);
+        }
+        if engine.is_stopped {
+            return Ok(());
         }
     }
     Ok(())
@@ -134,8 +138,8 @@ fn report_of(engine: Engine) -> Report
 }
 
 /// Runs the unit of these settings in this thread for so many turns, from a new world on. In a turn it receives once and asks the
-/// clock; hears what came, and ticks if a tick is due, each with all that follows from it; and hands what the machine gives out to
-/// the sink, in order. No job is ever given up. What the machine's laws say holds of all that was received (`ok`).
+/// clock; hears a datagram that came, or selects a leg, and ticks if a tick is due, each with all that follows from it; and hands what
+/// the machine gives out to the sink, in order. A turn in which a stop came is the last. No job is ever given up. What the machine's laws say holds of all that was received (`ok`).
 ///
 /// Refused as `NoMemory` where there is no memory, and then what the machine gave out in this turn isn't handed over; as `Receive`
 /// after 100 receives in a row that fail (`err`).

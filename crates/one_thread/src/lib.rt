@@ -6,7 +6,7 @@
 #![tactic(auto)]
 
 mod driver;
-mod settle;
+pub mod settle;
 mod tally;
 mod turn;
 

@@ -15,7 +15,7 @@ const WORKER: u16 = 0;
 
 /// Does one event. Refused for want of memory alone; then nothing was done.
 #[tactic(auto, using(crate::proofs::DrivingLemmas::nothing_run))]
-pub(crate) fn step(world: &mut World, event: Event, outs: &mut Vec<Out>) -> Result<(), AllocError>
+pub fn step(world: &mut World, event: Event, outs: &mut Vec<Out>) -> Result<(), AllocError>
     ensures ok { OnOk result (HasRun (event ∷ []) world.old outs.old.items
         world.new outs.new.items) }
     ensures err { OnErr result (Stays world.old outs.old.items world.new outs.new.items) }
@@ -44,7 +44,7 @@ fn drain_worker(world: &mut World, outs: &mut Vec<Out>) -> Result<(), AllocError
 /// What waits is done: the worker works until it has nothing to do; then, as long as anything waits for the ingress, that does one
 /// step, and the worker works again. So the worker's ring is empty whenever the ingress gives it a job, and none is given up.
 #[tactic(auto, using(crate::proofs::DrivingLemmas::settle_on, crate::proofs::DrivingLemmas::drives_stays, crate::proofs::DrivingLemmas::idle_of, crate::proofs::DrivingLemmas::same_count))]
-pub(crate) fn settle(world: &mut World, outs: &mut Vec<Out>) -> Result<(), AllocError>
+pub fn settle(world: &mut World, outs: &mut Vec<Out>) -> Result<(), AllocError>
     requires one { length world.old.workers ≡ 1 }
     ensures drives { Drives [] world.old outs.old.items world.new outs.new.items }
     ensures idle { OnOk result (IsIdle world.new) }

@@ -1,23 +1,24 @@
 //! A turn: a receive, what came of it, a tick where one is due, and what goes out.
 
-ghost use Rattle.std.specs.Prelude.{◌≡◌, ◌≤◌, ◌<◌, ◌∷◌, ◌++◌, [], List, ℕ, length, IfOk, IfSome, OnOk, OnErr};
-ghost use Rattle.events.specs.declared.event.Event.TheVariants.{Hear};
+ghost use Rattle.std.specs.Prelude.{◌≡◌, ◌≤◌, ◌<◌, ◌∷◌, ◌++◌, [], List, ℕ, length, slice_get, None, Some, MatchOption, IfOk, OnOk, OnErr};
+ghost use Rattle.events.specs.declared.event.Event.TheVariants.{Hear, Select};
 ghost use Rattle.events.specs.declared.output.Out.TheVariants.{Send};
-ghost use Rattle.outside.specs.Outside.{arrival_of};
+ghost use Rattle.outside.specs.Outside.{FitsIn, arrival_in, arrival_of, is_stop};
 ghost use Rattle.outside.specs.Ticks.{ticks_after};
 ghost use Rattle.outside.specs.declared.source.TheConstants.{MAX_FAULTS};
 ghost use Rattle.one_thread.specs.Driving.{Drives, DrivesSome, IsIdle};
-ghost use Rattle.one_thread.specs.Turns.{BreaksOff, Hands, MakesTurn, Raises, faults_with, heard_at, heard_count, tick_at, turn_events, view_of};
+ghost use Rattle.one_thread.specs.Turns.{BreaksOff, Hands, MakesTurn, Raises, faults_with, brought_at, heard_count, tick_at, turn_events, view_of};
 
 use crate::settle::take_in;
 use crate::tally::Tally;
 use core_steps::World;
+use desk::Desk;
 use events::{Bytes, Event, Out};
-use outside::{Clock, ReceiveFault, Sink, Source, Status, Ticks, Watch};
+use outside::{Clock, Look, ReceiveFault, Received, Sink, Source, Status, Ticks, Watch};
 use std::alloc::{AllocError, Global};
 
-/// What a receive gave: the endpoint and how many bytes, or silence, or a failure.
-type Received = Result<Option<(u16, usize)>, ReceiveFault>;
+/// What a receive gave, or that it failed.
+type Receipt = Result<Received, ReceiveFault>;
 
 /// The machine with what comes in and goes out, and the counts of a run.
 #[derive(Drop)]
@@ -31,6 +32,8 @@ pub(crate) struct Engine {
     pub(crate) ticks: Ticks,
     /// How many receives failed since the last one that didn't.
     pub(crate) faults: u64,
+    /// Whether a stop came.
+    pub(crate) is_stopped: bool,
     pub(crate) tally: Tally,
 }
 
@@ -62,31 +65,34 @@ fn hear_datagram(
     take_in(world, event, outs)
 }
 
-/// The datagram that came is heard, where one came.
+/// A datagram that came is heard, and a selection made.
 #[tactic(auto, using(crate::proofs::DrivingLemmas::drives_nothing))]
-fn hear(
+fn take_received(
     alloc: Global,
     world: &mut World,
     moment: u64,
-    received: Received,
+    received: Receipt,
     buffer: &[u8],
     outs: &mut Vec<Out>,
 ) -> Result<(), AllocError>
-    requires within { IfOk received (λ heard. IfSome heard (λ h. h.1 ≤ length buffer.now)) }
+    requires within { IfOk received (FitsIn (length buffer.now)) }
     requires one { length world.old.workers ≡ 1 }
     requires idle { IsIdle world.old }
-    ensures ok { OnOk result (Drives (heard_at moment (arrival_of buffer.now received))
+    ensures ok { OnOk result (Drives (brought_at moment (arrival_of buffer.now received))
         world.old outs.old.items world.new outs.new.items) }
-    ensures err { OnErr result (DrivesSome (heard_at moment (arrival_of buffer.now received))
+    ensures err { OnErr result (DrivesSome (brought_at moment (arrival_of buffer.now received))
         world.old outs.old.items world.new outs.new.items) }
     ensures idle { OnOk result (IsIdle world.new) }
     ensures one { length world.new.workers ≡ 1 }
 {
     match received {
-        Ok(Some((endpoint, length))) => {
+        Ok(Received::Datagram { endpoint, length }) => {
             hear_datagram(alloc, world, moment, endpoint, &buffer[..length], outs)
         }
-        Ok(None) | Err(_) => Ok(()),
+        Ok(Received::Select { leg, on }) => {
+            take_in(world, Event::Select { moment, leg, on }, outs)
+        }
+        Ok(Received::Nothing | Received::Stop) | Err(_) => Ok(()),
     }
 }
 
@@ -115,7 +121,7 @@ fn tick(
 }
 
 /// How many receives in a row failed, with this one.
-fn faults_with(faults: u64, received: Received) -> u64
+fn faults_with(faults: u64, received: Receipt) -> u64
     requires few { faults < MAX_FAULTS }
     ensures { (buffer : List ℕ) → result ≡ faults_with faults (arrival_of buffer received) }
 {
@@ -126,38 +132,50 @@ fn faults_with(faults: u64, received: Received) -> u64
 }
 
 /// The count of datagrams that came, with this receive.
-fn heard_with(heard: u64, received: Received) -> u64
+fn heard_with(heard: u64, received: Receipt) -> u64
     ensures { (buffer : List ℕ) → Raises heard (heard_count (arrival_of buffer received)) result }
 {
     match received {
-        Ok(Some(_)) => heard.saturating_add(1),
-        Ok(None) | Err(_) => heard,
+        Ok(Received::Datagram { .. }) => heard.saturating_add(1),
+        Ok(Received::Nothing | Received::Select { .. } | Received::Stop) | Err(_) => heard,
     }
 }
 
-/// What came is heard, then a tick is made where one is due.
+/// Whether the run ends with this turn.
+fn is_stop(received: Receipt) -> bool
+    ensures { (buffer : List ℕ) → result ≡ is_stop (arrival_of buffer received) }
+{
+    match received {
+        Ok(Received::Stop) => true,
+        Ok(Received::Nothing | Received::Datagram { .. } | Received::Select { .. }) | Err(_) => {
+            false
+        }
+    }
+}
+
+/// What came is taken in, then a tick is made where one is due.
 #[tactic(auto, using(crate::proofs::DrivingLemmas::drives_on, crate::proofs::DrivingLemmas::some_first, crate::proofs::DrivingLemmas::some_after))]
 fn take_turn(
     alloc: Global,
     world: &mut World,
     ticks: &mut Ticks,
     moment: u64,
-    received: Received,
+    received: Receipt,
     buffer: &[u8],
     outs: &mut Vec<Out>,
 ) -> Result<(), AllocError>
-    requires within { IfOk received (λ heard. IfSome heard (λ h. h.1 ≤ length buffer.now)) }
+    requires within { IfOk received (FitsIn (length buffer.now)) }
     requires one { length world.old.workers ≡ 1 }
     requires idle { IsIdle world.old }
-    ensures ok { OnOk result (Drives (heard_at moment (arrival_of buffer.now received)
+    ensures ok { OnOk result (Drives (brought_at moment (arrival_of buffer.now received)
         ++ tick_at ticks.old moment) world.old outs.old.items world.new outs.new.items) }
-    ensures err { OnErr result (DrivesSome (heard_at moment (arrival_of buffer.now received)
+    ensures err { OnErr result (DrivesSome (brought_at moment (arrival_of buffer.now received)
         ++ tick_at ticks.old moment) world.old outs.old.items world.new outs.new.items) }
     ensures noted { OnOk result (ticks.new ≡ ticks_after ticks.old moment) }
     ensures idle { OnOk result (IsIdle world.new) }
     ensures one { length world.new.workers ≡ 1 }
 {
-    hear(alloc, world, moment, received, buffer, outs)?;
+    take_received(alloc, world, moment, received, buffer, outs)?;
     tick(world, moment, ticks, outs)
 }
 
@@ -212,6 +230,37 @@ fn show<W: Watch>(world: &World, moment: u64, tally: &Tally, watch: &mut W) {
     }
 }
 
+/// What is wanted of the room.
+fn show_room<W: Watch>(world: &World, watch: &mut W) {
+    let look = watch.look();
+    match look {
+        Look::Nothing => return,
+        Look::Presence => {
+            for endpoint in 0..u16::try_from(world.publishers()).unwrap_or(u16::MAX) {
+                watch.show_endpoint(endpoint, world.is_present(endpoint));
+            }
+        }
+        Look::Desk(publisher) => {
+            if let Some(desk) = desk_at(world, publisher) {
+                watch.show_desk(publisher, desk);
+            }
+        }
+    }
+    watch.end_look();
+}
+
+/// The desk of the publisher with this number, if it is there.
+fn desk_at(world: &World, publisher: u16) -> Option<&Desk>
+    ensures { MatchOption result (slice_get world.now.desks publisher ≡ None)
+        (λ desk. slice_get world.now.desks publisher ≡ Some desk.now) }
+{
+    if usize::from(publisher) < world.publishers() {
+        Some(world.desk(publisher))
+    } else {
+        None
+    }
+}
+
 /// How many endpoints are present.
 fn count_present(world: &World) -> u64 {
     let mut present: u64 = 0;
@@ -223,7 +272,7 @@ fn count_present(world: &World) -> u64 {
     present
 }
 
-/// Receives once, asks the clock, hears what came and ticks where a tick is due, with all that follows, and hands what comes out to
+/// Receives once, asks the clock, takes in what came and ticks where a tick is due, with all that follows, and hands what comes out to
 /// the sink. For want of memory it stops; then what the machine gave out in this turn isn't handed over.
 pub(crate) fn turn<Src: Source, Snk: Sink, Clk: Clock, W: Watch>(
     engine: &mut Engine,
@@ -237,7 +286,7 @@ pub(crate) fn turn<Src: Source, Snk: Sink, Clk: Clock, W: Watch>(
     requires empty { engine.old.outs.items ≡ [] }
     requires few { engine.old.faults < MAX_FAULTS }
     ensures ok { OnOk result (MakesTurn engine.old.ticks engine.new.ticks engine.old.faults
-        engine.new.faults engine.old.world engine.new.world
+        engine.new.faults engine.new.is_stopped engine.old.world engine.new.world
         (view_of (Src.given source.old) (Clk.told clock.old) (Snk.shown sink.old))
         (view_of (Src.given source.new) (Clk.told clock.new) (Snk.shown sink.new))
         engine.old.tally engine.new.tally) }
@@ -260,9 +309,11 @@ pub(crate) fn turn<Src: Source, Snk: Sink, Clk: Clock, W: Watch>(
         &mut engine.outs,
     )?;
     engine.faults = faults_with(engine.faults, received);
+    engine.is_stopped = is_stop(received);
     engine.tally.heard = heard_with(engine.tally.heard, received);
     give_all(engine.outs.as_slice(), sink, &mut engine.tally);
     engine.outs.clear();
     show(&engine.world, moment, &engine.tally, watch);
+    show_room(&engine.world, watch);
     Ok(())
 }

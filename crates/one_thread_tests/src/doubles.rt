@@ -2,13 +2,15 @@
 //! over, which contracts see for as long as there was room for all of it.
 
 use events::Bytes;
-use outside::{Clock, Datagram, ReceiveFault, SendFault, Sink, Source};
+use outside::{Clock, Datagram, ReceiveFault, Received, SendFault, Sink, Source};
 use std::alloc::{AllocError, Global};
 
 /// What a receive comes to.
 #[derive(Debug, Drop)]
 pub(super) enum Arrival {
     Datagram(u16, Vec<u8>),
+    Select(u16, bool),
+    Stop,
     Fault,
 }
 
@@ -27,24 +29,29 @@ impl Source for Script {
 
     ghost given = { λ _. None };
 
-    fn receive(&mut self, out: &mut [u8]) -> Result<Option<(u16, usize)>, ReceiveFault> {
+    fn receive(&mut self, out: &mut [u8]) -> Result<Received, ReceiveFault> {
         let at = self.next;
         if at >= self.arrivals.len() {
-            return Ok(None);
+            return Ok(Received::Nothing);
         }
         self.next = at + 1;
         match &self.arrivals[at] {
             Arrival::Datagram(endpoint, bytes) => {
                 let length = bytes.len();
                 if length > out.len() {
-                    return Ok(None);
+                    return Ok(Received::Nothing);
                 }
                 out[..length].copy_from_slice(bytes.as_slice());
-                Ok(Some((*endpoint, length)))
+                Ok(Received::Datagram {
+                    endpoint: *endpoint,
+                    length,
+                })
             }
+            Arrival::Select(leg, on) => Ok(Received::Select { leg: *leg, on: *on }),
+            Arrival::Stop => Ok(Received::Stop),
             Arrival::Fault => {
                 if self.failures == u64::MAX {
-                    return Ok(None);
+                    return Ok(Received::Nothing);
                 }
                 self.failures += 1;
                 Err(ReceiveFault)

@@ -103,6 +103,37 @@ fn sends_in_one_thread(rt: HostRuntime) -> Result<(), Fail> {
     Ok(())
 }
 
+/// A leg that is switched off sends nothing, and sends on with the next number once it is on; a stop ends the run with what came
+/// before, and what comes after it isn't heard.
+#[test]
+fn selects_and_stops_in_one_thread(rt: HostRuntime) -> Result<(), Fail> {
+    let alloc = rt.alloc();
+    let mut arrivals = Vec::new(alloc);
+    arrivals.push(Arrival::Datagram(0, receiver_report(alloc, 16)?))?;
+    arrivals.push(Arrival::Datagram(1, receiver_report(alloc, 17)?))?;
+    arrivals.push(Arrival::Datagram(0, media_packet(alloc, 16, 7)?))?;
+    arrivals.push(Arrival::Select(0, false))?;
+    arrivals.push(Arrival::Datagram(0, media_packet(alloc, 16, 8)?))?;
+    arrivals.push(Arrival::Select(0, true))?;
+    arrivals.push(Arrival::Datagram(0, media_packet(alloc, 16, 9)?))?;
+    arrivals.push(Arrival::Stop)?;
+    arrivals.push(Arrival::Datagram(0, media_packet(alloc, 16, 10)?))?;
+    let mut sink = empty_sink(alloc);
+    let run = run_arrivals(alloc, arrivals, 20, &mut sink)?;
+    let Ok(report) = run else {
+        return Err("run".into());
+    };
+    assert_eq!(rt; report.counts.heard, 5);
+    let mut numbers = Vec::new(alloc);
+    for datagram in &sink.handed {
+        if let [0x80, 0x60, high, low, ..] = datagram.bytes.as_slice() {
+            numbers.push(u16::from_be_bytes([*high, *low]))?;
+        }
+    }
+    assert!(rt; numbers.as_slice() == [100, 101].as_slice());
+    Ok(())
+}
+
 /// So many receives fail, and then a datagram comes.
 fn run_faults(alloc: Global, faults: u64) -> Result<Result<Report, DriveFault>, Fail> {
     let mut arrivals = Vec::new(alloc);

@@ -1,9 +1,11 @@
 -- What contracts see of the outside: what a source gave, and what a sink was handed.
-use Rattle.std.specs.Prelude.{◌≡◌, ℕ, List, [], ◌∷◌, ◌++◌, flat_map, take, Option, None, Some, option_map, Result, Ok, Err}
+use Rattle.std.specs.Prelude.{◌≡◌, ◌≤◌, ℕ, Bool, true, false, List, [], ◌∷◌, ◌++◌, flat_map, take, Option, None, Some, option_map, Result, Ok, Err}
 use Rattle.events.specs.declared.output.Out.{Out}
 use Rattle.events.specs.declared.output.Out.TheVariants.{Send, Refused, Busy, Lost, Skip, Miss, Idle}
 use Rattle.outside.specs.declared.datagram.Datagram.{Datagram}
 use Rattle.outside.specs.declared.source.ReceiveFault.{ReceiveFault}
+use Rattle.outside.specs.declared.source.Received.{Received}
+use Rattle.outside.specs.declared.source.Received.TheVariants.{Nothing, Datagram as datagram_of, Select, Stop}
 
 -- These came after those before; or what came isn't known any more.
 abbrev pub Grows : {A : Type 0} → Option (List A) → List A → Option (List A) → Type 0
@@ -12,17 +14,40 @@ Grows before more (Some all) = option_map (λ known. known ++ more) before ≡ S
 
 -- ---- a source
 
--- What a receive gave: a datagram of an endpoint, silence, or a failure.
+-- What a receive gave: a datagram of an endpoint, a leg that is switched on or off, the end of the run, silence, or a failure.
 pub data Arrival : Type 0 where
   came : (endpoint : ℕ) → (bytes : List ℕ) → Arrival
+  chosen : (leg : ℕ) → (on : Bool) → Arrival
+  stop : Arrival
   silence : Arrival
   failure : Arrival
 
+-- a datagram that was received has no more bytes than the buffer
+abbrev pub FitsIn : ℕ → Received → Type 0
+FitsIn size Nothing = Unit {0}
+FitsIn size (datagram_of endpoint count) = count ≤ size
+FitsIn size (Select leg on) = Unit {0}
+FitsIn size Stop = Unit {0}
+
 -- what stands in the buffer after a receive that gave this
-abbrev pub arrival_of : List ℕ → Result (Option (ℕ × ℕ)) ReceiveFault → Arrival
-arrival_of buffer (Ok None) = silence
-arrival_of buffer (Ok (Some heard)) = came heard.0 (take heard.1 buffer)
+abbrev pub arrival_in : List ℕ → Received → Arrival
+arrival_in buffer Nothing = silence
+arrival_in buffer (datagram_of endpoint count) = came endpoint (take count buffer)
+arrival_in buffer (Select leg on) = chosen leg on
+arrival_in buffer Stop = stop
+
+-- the same of one that may have failed
+abbrev pub arrival_of : List ℕ → Result Received ReceiveFault → Arrival
+arrival_of buffer (Ok received) = arrival_in buffer received
 arrival_of buffer (Err fault) = failure
+
+-- whether the run is to end
+abbrev pub is_stop : Arrival → Bool
+is_stop (came endpoint bytes) = false
+is_stop (chosen leg on) = false
+is_stop stop = true
+is_stop silence = false
+is_stop failure = false
 
 -- ---- a sink
 

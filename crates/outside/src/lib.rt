@@ -1,4 +1,4 @@
-//! What a unit needs from outside: where datagrams come from, where they go, what time it is, and who looks at it while it runs.
+//! What a unit needs from outside: what comes to it, where datagrams go, what time it is, and who looks at it while it runs.
 //!
 //! Read `source` and `sink` first, then `clock`. `ticks` says when a tick is due, `watch` who looks at the totals, `gate` who stands
 //! before and after the jobs of workers.
@@ -18,6 +18,6 @@ pub use clock::Clock;
 pub use datagram::Datagram;
 pub use gate::{Gate, Open};
 pub use sink::{SendFault, Sink};
-pub use source::{MAX_DATAGRAM, MAX_FAULTS, ReceiveFault, Source};
+pub use source::{MAX_DATAGRAM, MAX_FAULTS, ReceiveFault, Received, Source};
 pub use ticks::Ticks;
-pub use watch::{Status, Unwatched, Watch};
+pub use watch::{Look, Status, Unwatched, Watch};

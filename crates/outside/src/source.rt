@@ -1,4 +1,4 @@
-//! Where datagrams come from.
+//! What comes from outside.
 
 use thiserror::Error;
 
@@ -13,10 +13,23 @@ pub const MAX_FAULTS: u64 = 100;
 #[error("a receive failed")]
 pub struct ReceiveFault;
 
-/// Where datagrams come from.
+/// What a receive gave.
+#[derive(Clone, Copy, Debug, PartialEq, Eq)]
+pub enum Received {
+    /// Nothing came.
+    Nothing,
+    /// A datagram of the endpoint with this number. So many bytes of it stand at the beginning of the buffer.
+    Datagram { endpoint: u16, length: usize },
+    /// The leg with this number is to be switched on or off.
+    Select { leg: u16, on: bool },
+    /// The run is to end with this turn.
+    Stop,
+}
+
+/// Where datagrams come from, and what else is wished of a unit while it runs.
 pub trait Source {
-    ghost use Rattle.std.specs.Prelude.{◌≡◌, ◌≤◌, ◌+◌, ◌∷◌, [], List, Option, ℕ, length, IfOk, IfSome, OnOk, OnErr};
-    ghost use Rattle.outside.specs.Outside.{Arrival, Grows, arrival_of};
+    ghost use Rattle.std.specs.Prelude.{◌≡◌, ◌+◌, ◌∷◌, [], List, Option, ℕ, length, IfOk, OnOk, OnErr};
+    ghost use Rattle.outside.specs.Outside.{Arrival, FitsIn, Grows, arrival_of};
 
     /// How many receives failed. A count that can't rise any more answers Ok.
     ghost failures: { Self → ℕ };
@@ -24,10 +37,9 @@ pub trait Source {
     /// What each receive gave, in order, where that is known. A socket doesn't know it.
     ghost given: { Self → Option (List Arrival) };
 
-    /// The next datagram, written to the beginning of `out`: the number of the endpoint that it came from, and its
-    /// length in bytes. `None` where nothing came.
-    fn receive(&mut self, out: &mut [u8]) -> Result<Option<(u16, usize)>, ReceiveFault>
-        ensures within { IfOk result (λ heard. IfSome heard (λ h. h.1 ≤ length out.new)) }
+    /// What comes next. The bytes of a datagram are written to the beginning of `out`.
+    fn receive(&mut self, out: &mut [u8]) -> Result<Received, ReceiveFault>
+        ensures within { IfOk result (FitsIn (length out.new)) }
         ensures given { Grows (given self.old) (arrival_of out.new result ∷ []) (given self.new) }
         ensures ok { OnOk result (failures self.new ≡ failures self.old) }
         ensures err { OnErr result (failures self.new ≡ failures self.old + 1) };

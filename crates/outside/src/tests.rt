@@ -1,6 +1,6 @@
 //! When ticks are due, and what nobody does.
 
-use crate::{Gate, Open, Status, Ticks, Unwatched, Watch};
+use crate::{Gate, Look, Open, Status, Ticks, Unwatched, Watch};
 use std::test::Fail;
 
 /// A tick is due at once, then each 10 ms at least; a moment that falls makes none.
@@ -36,6 +36,9 @@ fn nobody_looks(rt: HostRuntime) -> Result<(), Fail> {
     let mut nobody = Unwatched;
     assert!(rt; !nobody.is_due(7));
     nobody.show(7, &status);
+    assert_eq!(rt; nobody.look(), Look::Nothing);
+    nobody.show_endpoint(0, true);
+    nobody.end_look();
     Open.hold(0);
     Open.done(0);
     Ok(())

@@ -1,5 +1,7 @@
 //! Who looks at a unit while it runs.
 
+use desk::Desk;
+
 /// The totals of a unit at one moment. Each stays at `u64::MAX` once there.
 #[derive(Clone, Copy, Debug, PartialEq, Eq)]
 pub struct Status {
@@ -17,7 +19,19 @@ pub struct Status {
     pub dropped: u64,
 }
 
-/// Who looks at the totals of a unit after its turns. The thread that takes in what comes calls it, and goes on when it returns.
+/// What a watch wants to see of the room.
+#[derive(Clone, Copy, Debug, PartialEq, Eq)]
+pub enum Look {
+    /// Nothing.
+    Nothing,
+    /// Of each endpoint whether it is present.
+    Presence,
+    /// The desk of the publisher with this number: what is announced to it, and why.
+    Desk(u16),
+}
+
+/// Who looks at the totals of a unit after its turns, and at its room. The thread that takes in what comes calls it, and goes on when
+/// it returns.
 pub trait Watch {
     /// Whether the totals are to be shown after the turn at this moment, in milliseconds. It is asked after each turn, since
     /// adding up the totals takes time.
@@ -25,6 +39,20 @@ pub trait Watch {
 
     /// The totals after the turn at this moment, in milliseconds.
     fn show(&mut self, moment: u64, status: &Status);
+
+    /// What it wants to see of the room after a turn. It is asked after each.
+    fn look(&self) -> Look {
+        Look::Nothing
+    }
+
+    /// Whether the endpoint with this number is present. Where presence is looked at, each endpoint is shown, by rising number.
+    fn show_endpoint(&mut self, _endpoint: u16, _is_present: bool) {}
+
+    /// The desk of this publisher. Where a desk is looked at that isn't there, none is shown.
+    fn show_desk(&mut self, _publisher: u16, _desk: &Desk) {}
+
+    /// All that was to be seen was shown.
+    fn end_look(&mut self) {}
 }
 
 /// Nobody looks.

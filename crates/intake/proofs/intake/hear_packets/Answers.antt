@@ -1,6 +1,6 @@
-use Rattle.std.proofs.Common.{◌≡◌, ◌∙◌, ◌++◌, sym, ap}
+use Rattle.std.proofs.Common.{◌∙◌, ◌++◌, sym, ap}
 use Rattle.std.proofs.lemmas.List.{append-nil}
-use Rattle.intake.specs.Intake.{control, speaker_of}
+use Rattle.intake.specs.Intake.{control, heeded, speaker_of}
 use Rattle.intake.proofs.IntakeLemmas.{control_heard, control_said, not_true}
 use Rattle.intake.proofs.intake.hear_packets.Goals as goal
 
@@ -11,10 +11,10 @@ returns-then-not-survey c =
     let g = c.in-Ok.ensures.0 in
     let is = c.in-Ok.ensures.2 in
     let before = c.args.asks.now.items in (
-      control (speaker_of own g.senders) g.reports g.tmmbns g.asks,
+      control (speaker_of own g.senders) g.reports g.tmmbns (heeded g.asks),
       (g, c.in-Ok.ensures.1, control_said own survey g is c.if-survey.false),
       control_heard own survey g is,
-      sym (append-nil before) ∙ ap (λ more. before ++ more) (sym (is.asking (not_true survey.asking c.if-not-survey.true))),
+      sym (append-nil before) ∙ ap (λ more. before ++ more) (sym (ap heeded (is.asking (not_true survey.asking c.if-not-survey.true)))),
     )
 
 pub returns-in-Ok-collect : goal.returns-in-Ok-collect
@@ -23,7 +23,7 @@ returns-in-Ok-collect c =
     let survey = c.in-Ok.survey in
     let g = c.in-Ok.ensures.0 in
     let is = c.in-Ok.ensures.2 in (
-      control (speaker_of own g.senders) g.reports g.tmmbns g.asks,
+      control (speaker_of own g.senders) g.reports g.tmmbns (heeded g.asks),
       (g, c.in-Ok.ensures.1, control_said own survey g is c.if-survey.false),
       control_heard own survey g is,
       c.in-Ok-collect.ensures g c.in-Ok.ensures.1,
@@ -36,7 +36,7 @@ returns-in-Err-collect c =
     let g = c.in-Ok.ensures.0 in
     let is = c.in-Ok.ensures.2 in
     let none = c.in-Err-collect.ensures g c.in-Ok.ensures.1 in (
-      control (speaker_of own g.senders) g.reports g.tmmbns g.asks,
+      control (speaker_of own g.senders) g.reports g.tmmbns (heeded g.asks),
       (g, c.in-Ok.ensures.1, control_said own survey g is c.if-survey.false),
       none.0,
       none.1,

@@ -35,12 +35,12 @@ returns-clause-ok g c =
       sent = c.args.engine.now.tally.sent;
       failed = c.args.engine.now.tally.failed;
     } in
-    turn_made c.args.engine.now.ticks c.take_turn.new.ticks c.args.engine.now.faults c.faults_with-engine.result c.args.engine.now.world
+    turn_made c.args.engine.now.ticks c.take_turn.new.ticks c.args.engine.now.faults c.faults_with-engine.result c.is_stop-engine.result c.args.engine.now.world
     c.take_turn.new.world (g.Src.Source.given c.args.source.now) (g.Src.Source.given c.receive-received.new.self)
     (g.Clk.Clock.told c.args.clock.now) (g.Clk.Clock.told c.moment-moment.new.self) (g.Snk.Sink.shown c.args.sink.now)
     (g.Snk.Sink.shown c.give_all.new.sink) c.args.engine.now.tally mid c.give_all.new.tally (arrival_of buffer c.receive-received.result)
     c.moment-moment.result c.args.engine.now.outs.items c.take_turn.new.outs.items c.requires.empty
     (subst P (sym kept) c.receive-received.ensures.given) c.moment-moment.ensures.told c.in_ok-take_turn.ensures.ok
-    c.in_ok-take_turn.ensures.noted (c.faults_with-engine.ensures buffer) (c.heard_with-engine.ensures buffer) refl refl
+    c.in_ok-take_turn.ensures.noted (c.faults_with-engine.ensures buffer) (c.is_stop-engine.ensures buffer) (c.heard_with-engine.ensures buffer) refl refl
     (subst (λ (l : List Out). Hands l (g.Snk.Sink.shown c.args.sink.now) (g.Snk.Sink.shown c.give_all.new.sink) mid c.give_all.new.tally)
     c.as_slice-2.ensures.value c.give_all.ensures)

@@ -1,0 +1,200 @@
+//! The datagrams of a source, screened.
+
+ghost use Rattle.std.specs.Prelude.{◌≡◌, ◌≤◌, length, IfOk, IfSome};
+ghost use Rattle.outside.specs.Outside.{FitsIn};
+
+use crate::feedback::sign;
+use crate::run::Placement;
+use crate::starts::Starts;
+use outside::{MAX_DATAGRAM, ReceiveFault, Received, Source};
+use rtcp_compound::write_bye;
+use rtp_packet::RtpView;
+use std::alloc::{AllocError, Global};
+use std::cell::Cell;
+use tmmbr_tuple::Ssrc;
+
+/// The first packet type of RTCP (RFC 5761, section 4).
+const FIRST_RTCP: u8 = 192;
+/// The last packet type of RTCP (RFC 5761, section 4).
+const LAST_RTCP: u8 = 223;
+
+/// A packet that is given next: the number of the endpoint that it came from, and its length in bytes.
+#[derive(Clone, Copy, Debug)]
+struct Waiting {
+    endpoint: u16,
+    len: usize,
+}
+
+/// What of a source is screened.
+#[derive(Clone, Copy, Debug, PartialEq, Eq)]
+pub struct Rules {
+    /// Whether a source that begins anew is noticed (RFC 3550, appendix A.1).
+    pub new_starts: bool,
+    /// Whether receiver reports and feedback of an endpoint are heard only under the endpoint's own source. If not, they are the
+    /// endpoint's whatever sender they name: some clients make one up.
+    pub strict_ssrc: bool,
+}
+
+impl Rules {
+    ghost use Rattle.std.specs.Prelude.{◌≡◌, false, true};
+
+    /// All is given as it comes.
+    pub fn none() -> Rules
+        ensures { result ≡ record { new_starts = false; strict_ssrc = true } }
+    {
+        Rules {
+            new_starts: false,
+            strict_ssrc: true,
+        }
+    }
+}
+
+/// The datagrams of a source, screened by its rules. A packet that is far from the highest number of its endpoint isn't given, and
+/// counted; before the first packet of an endpoint that began anew a goodbye of it is given (RFC 3550, section 6.6), so that who hears
+/// both takes the endpoint as one that left and came again. Receiver reports and feedback name the endpoint's own source.
+#[derive(Drop)]
+pub struct Screen<'a, S: Source + Drop> {
+    source: S,
+    /// The source (SSRC) of each endpoint, by its number.
+    sources: &'a [Ssrc],
+    rules: Rules,
+    /// The goodbye of each endpoint, by its number.
+    goodbyes: Vec<Vec<u8>>,
+    starts: Starts,
+    /// The packet that comes after a goodbye that was given.
+    waiting: Option<Waiting>,
+    /// Where its bytes stand.
+    bytes: Vec<u8>,
+    /// How many packets were far from the highest number, and weren't given.
+    far: &'a Cell<u64>,
+}
+
+/// A goodbye of each source.
+fn goodbyes_of(alloc: Global, sources: &[Ssrc]) -> Result<Vec<Vec<u8>>, AllocError> {
+    let mut goodbyes = Vec::with_capacity(alloc, sources.len())?;
+    for source in sources {
+        let mut goodbye = Vec::new(alloc);
+        write_bye(&mut goodbye, &[*source])?;
+        goodbyes.push(goodbye)?;
+    }
+    Ok(goodbyes)
+}
+
+impl<'a, S: Source + Drop> Screen<'a, S> {
+    ghost use Rattle.std.specs.Prelude.{◌≡◌, IfOk};
+
+    /// Screens what a source gives from now on, of the endpoints with these sources. Raises `far` for each packet that isn't given.
+    pub fn new(
+        alloc: Global,
+        source: S,
+        sources: &'a [Ssrc],
+        rules: Rules,
+        far: &'a Cell<u64>,
+    ) -> Result<Screen<'a, S>, AllocError>
+        ensures { IfOk result (λ screen. screen.source ≡ source) }
+    {
+        Ok(Screen {
+            source,
+            sources,
+            rules,
+            goodbyes: goodbyes_of(alloc, sources)?,
+            starts: Starts::new(alloc, sources.len())?,
+            waiting: None,
+            bytes: vec![in alloc; 0; MAX_DATAGRAM]?,
+            far,
+        })
+    }
+
+    /// Where a datagram of the endpoint stands: `Near` if it is no RTP packet of the endpoint's own source. The sender of feedback is
+    /// put right, if it may be another's.
+    fn placement(&mut self, endpoint: u16, datagram: &mut [u8]) -> Placement
+        ensures source { self.new.source ≡ self.old.source }
+        ensures length { length datagram.new ≡ length datagram.old }
+    {
+        let Some(own) = self.sources.get(usize::from(endpoint)) else {
+            return Placement::Near;
+        };
+        if is_rtcp(datagram) {
+            if !self.rules.strict_ssrc {
+                sign(datagram, *own);
+            }
+            return Placement::Near;
+        }
+        match RtpView::parse(datagram) {
+            Ok(packet) if self.rules.new_starts && packet.ssrc == *own => {
+                self.starts.note(endpoint, packet.sequence_number)
+            }
+            _ => Placement::Near,
+        }
+    }
+
+    /// Writes the goodbye of the endpoint over the packet at the front of `out`, which is given next. Says how long the goodbye is; if
+    /// there is no room for one or the other, the packet stays, and is given now.
+    fn say_goodbye(&mut self, endpoint: u16, len: usize, out: &mut [u8]) -> usize
+        requires { len ≤ length out.old }
+        ensures source { self.new.source ≡ self.old.source }
+        ensures within { result ≤ length out.new }
+    {
+        let Some(goodbye) = self.goodbyes.get(usize::from(endpoint)) else {
+            return len;
+        };
+        if goodbye.len() > out.len() || len > self.bytes.len() {
+            return len;
+        }
+        self.bytes[..len].copy_from_slice(&out[..len]);
+        out[..goodbye.len()].copy_from_slice(goodbye.as_slice());
+        self.waiting = Some(Waiting { endpoint, len });
+        goodbye.len()
+    }
+
+    /// Gives the packet that waits, if there is room for it.
+    fn give(&self, waiting: Waiting, out: &mut [u8]) -> Received
+        ensures { FitsIn (length out.new) result }
+    {
+        let Waiting { endpoint, len } = waiting;
+        if len > out.len() || len > self.bytes.len() {
+            return Received::Nothing;
+        }
+        out[..len].copy_from_slice(&self.bytes.as_slice()[..len]);
+        Received::Datagram {
+            endpoint,
+            length: len,
+        }
+    }
+}
+
+/// Whether the second byte is a packet type of RTCP.
+fn is_rtcp(datagram: &[u8]) -> bool {
+    matches!(datagram.get(1), Some(FIRST_RTCP..=LAST_RTCP))
+}
+
+impl<S: Source + Drop> Source for Screen<'_, S> {
+    ghost use Rattle.std.specs.Prelude.{None};
+
+    ghost failures = { λ s. S.failures s.source };
+
+    ghost given = { λ _. None };
+
+    fn receive(&mut self, out: &mut [u8]) -> Result<Received, ReceiveFault> {
+        if let Some(waiting) = self.waiting.take() {
+            return Ok(self.give(waiting, out));
+        }
+        let (endpoint, length) = match self.source.receive(out)? {
+            Received::Datagram { endpoint, length } => (endpoint, length),
+            Received::Nothing => return Ok(Received::Nothing),
+            Received::Select { leg, on } => return Ok(Received::Select { leg, on }),
+            Received::Stop => return Ok(Received::Stop),
+        };
+        match self.placement(endpoint, &mut out[..length]) {
+            Placement::Near => Ok(Received::Datagram { endpoint, length }),
+            Placement::Far => {
+                self.far.set(self.far.get().saturating_add(1));
+                Ok(Received::Nothing)
+            }
+            Placement::Anew => {
+                let length = self.say_goodbye(endpoint, length, out);
+                Ok(Received::Datagram { endpoint, length })
+            }
+        }
+    }
+}
