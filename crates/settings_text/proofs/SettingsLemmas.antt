@@ -9,8 +9,8 @@ use Rattle.settings.specs.declared.fault.SettingsFault.TheVariants as fault
 use Rattle.settings.specs.declared.parts.Parts.{Parts}
 use Rattle.settings.specs.Settings.{Configuration, checks, first_fault}
 use Rattle.settings_text.specs.declared.settings_file.SettingsProblem.{SettingsProblem}
-use Rattle.settings_text.specs.declared.settings_file.SettingsProblem.TheVariants.{NoMemory, Toml, Top, Endpoint, Leg, SameSsrc}
-use Rattle.settings_text.specs.SettingsFaults.{Spot, TableGives, checks_spot, earlier, fault_spot, has_tables, is_table, misfit_of, problem_spot}
+use Rattle.settings_text.specs.declared.settings_file.SettingsProblem.TheVariants.{NoMemory, File, Toml, Top, Endpoint, Leg, SameSsrc}
+use Rattle.settings_text.specs.SettingsFaults.{Spot, TableGives, checks_spot, earlier, fault_spot, has_all, misfit_of, problem_spot}
 use Rattle.settings_text.specs.SettingsFile.{ArePartsOf, items_in, list_of}
 
 list_of-items : (ds : List Data) → list_of (items_of ds) ≡ ds
@@ -35,22 +35,22 @@ items_in-array (table ms) = refl
 pub items_listed : (d : Data) (vs : List Value) → Some (items_view vs) ≡ as_array d → map view vs ≡ items_in (Some d)
 items_listed d vs found = sym (items_in-array d ∙ ap (items_or []) (sym found) ∙ list_of-items (map view vs))
 
-abbrev all_or : Bool → Option Items → Bool
-all_or none None = none
-all_or none (Some ds) = list_all is_table (list_of ds)
+abbrev all_or : (Data → Bool) → Option Items → Bool
+all_or is_such None = false
+all_or is_such (Some ds) = list_all is_such (list_of ds)
 
-has_tables-array : (d : Data) → has_tables d ≡ all_or false (as_array d)
-has_tables-array (array ds) = refl
-has_tables-array (string s) = refl
-has_tables-array (integer z) = refl
-has_tables-array (float x) = refl
-has_tables-array (boolean b) = refl
-has_tables-array (datetime t) = refl
-has_tables-array (table ms) = refl
+has_all-array : (is_such : Data → Bool) (d : Data) → has_all is_such d ≡ all_or is_such (as_array d)
+has_all-array is_such (array ds) = refl
+has_all-array is_such (string s) = refl
+has_all-array is_such (integer z) = refl
+has_all-array is_such (float x) = refl
+has_all-array is_such (boolean b) = refl
+has_all-array is_such (datetime t) = refl
+has_all-array is_such (table ms) = refl
 
--- whether a value that is a list holds only tables
-pub tables_listed : (d : Data) (vs : List Value) → Some (items_view vs) ≡ as_array d → list_all is_table (map view vs) ≡ has_tables d
-tables_listed d vs found = sym (has_tables-array d ∙ ap (all_or false) (sym found) ∙ ap (list_all is_table) (list_of-items (map view vs)))
+-- whether a value that is a list holds only such values
+pub all_listed : (is_such : Data → Bool) (d : Data) (vs : List Value) → Some (items_view vs) ≡ as_array d → list_all is_such (map view vs) ≡ has_all is_such d
+all_listed is_such d vs found = sym (has_all-array is_such d ∙ ap (all_or is_such) (sym found) ∙ ap (list_all is_such) (list_of-items (map view vs)))
 
 -- reading the views of values is reading the values
 pub map-view : {B : Type 0} (f : Data → B) (vs : List Value) → map (λ x. f (view x)) vs ≡ map f (map view vs)
@@ -63,6 +63,8 @@ map-view f (v ∷ vs) = ap (λ t. f (view v) ∷ t) (map-view f vs)
 stands_first : (t : Members) (ps : Parts) (s : Spot) (p : SettingsProblem) → ArePartsOf t ps
     → earlier (misfit_of t) (checks_spot (first_fault (checks ps))) ≡ Some s → (p ≡ NoMemory) ⊎ (problem_spot p ≡ Some s) → TableGives t (Err p)
 stands_first t ps s NoMemory found first h = tt
+stands_first t ps s File found first (inl e) = absurd cc
+stands_first t ps s File found first (inr e) = absurd cc
 stands_first t ps s Toml found first (inl e) = absurd cc
 stands_first t ps s Toml found first (inr e) = absurd cc
 stands_first t ps s (Top key) found first (inl e) = absurd cc

@@ -13,7 +13,7 @@ use Rattle.settings.specs.Fault.{key_name}
 use Rattle.settings.specs.Settings.{checks, first_fault}
 use Rattle.settings_text.specs.declared.settings_file.FileSettings.{FileSettings}
 use Rattle.settings_text.specs.declared.settings_file.SettingsProblem.{SettingsProblem}
-use Rattle.settings_text.specs.declared.settings_file.SettingsProblem.TheVariants.{NoMemory, Toml, Top, Endpoint, Leg, SameSsrc}
+use Rattle.settings_text.specs.declared.settings_file.SettingsProblem.TheVariants.{NoMemory, File, Toml, Top, Endpoint, Leg, SameSsrc}
 use Rattle.settings_text.specs.declared.settings_keys.Place.{Place}
 use Rattle.settings_text.specs.declared.settings_keys.Place.TheVariants as place
 use Rattle.settings_text.specs.SettingsFile.{ArePartsOf, HoldsSettings, items_in, list_of}
@@ -65,9 +65,19 @@ earlier (Some a) (Some b) = if is_before b a then Some b else Some a
 abbrev pub is_table : Data → Bool
 is_table value = is_some (as_table value)
 
+abbrev pub is_text : Data → Bool
+is_text value = is_some (as_str value)
+
+-- a list of such values
+abbrev pub has_all : (Data → Bool) → Data → Bool
+has_all is_such (array items) = list_all is_such (list_of items)
+has_all is_such value = false
+
 abbrev pub has_tables : Data → Bool
-has_tables (array items) = list_all is_table (list_of items)
-has_tables value = false
+has_tables value = has_all is_table value
+
+abbrev pub has_texts : Data → Bool
+has_texts value = has_all is_text value
 
 -- a key that has to be there: its value is missed where it isn't of its kind
 abbrev pub is_required : List ℕ → Bool
@@ -82,12 +92,20 @@ takes_top key value =
     if bytes_eq key (codes "endpoint") then has_tables value
     else if bytes_eq key (codes "leg") then has_tables value
     else if bytes_eq key (codes "listen") then is_some (as_str value)
+    else if bytes_eq key (codes "listen_rtcp") then is_some (as_str value)
+    else if bytes_eq key (codes "new_starts") || bytes_eq key (codes "strict_ssrc")
+    then is_some (as_bool value)
     else if bytes_eq key (codes "request_ms") then is_some (as_integer value)
     else is_required key
 
 abbrev pub takes_endpoint : List ℕ → Data → Bool
 takes_endpoint key value =
-    if bytes_eq key (codes "address") then is_some (as_str value) else bytes_eq key (codes "ssrc")
+    if bytes_eq key (codes "address") || bytes_eq key (codes "learn_from")
+    then is_some (as_str value)
+    else if bytes_eq key (codes "fmtp") || bytes_eq key (codes "rtpmap") then has_texts value
+    else if bytes_eq key (codes "receive_only") then is_some (as_bool value)
+    else if bytes_eq key (codes "rtcp_address") then is_some (as_str value)
+    else bytes_eq key (codes "ssrc")
 
 abbrev pub takes_leg : List ℕ → Data → Bool
 takes_leg key value =
@@ -143,6 +161,7 @@ checks_spot (Some f) = fault_spot f
 
 abbrev pub problem_spot : SettingsProblem → Option Spot
 problem_spot NoMemory = None
+problem_spot File = None
 problem_spot Toml = None
 problem_spot (Top key) = Some (top (string_bytes key))
 problem_spot (Endpoint number key) = Some (endpoint number (string_bytes key))
@@ -160,6 +179,7 @@ pub record IsFirstSettingsFault (t : Members) (problem : SettingsProblem) : Type
 abbrev pub TableGives : Members → Result FileSettings SettingsProblem → Type 0
 TableGives t (Ok f) = (misfit_of t ≡ None) × HoldsSettings t f
 TableGives t (Err NoMemory) = Unit {0}
+TableGives t (Err File) = ⊥
 TableGives t (Err Toml) = ⊥
 TableGives t (Err (Top key)) = IsFirstSettingsFault t (Top key)
 TableGives t (Err (Endpoint number key)) = IsFirstSettingsFault t (Endpoint number key)
@@ -179,6 +199,7 @@ pub record IsDocument (text : List ℕ) (r : Result FileSettings SettingsProblem
 abbrev pub TextGives : List ℕ → Result FileSettings SettingsProblem → Type 0
 TextGives text (Ok f) = IsDocument text (Ok f)
 TextGives text (Err NoMemory) = Unit {0}
+TextGives text (Err File) = ⊥
 TextGives text (Err Toml) = IsNoDocument text
 TextGives text (Err (Top key)) = IsDocument text (Err (Top key))
 TextGives text (Err (Endpoint number key)) = IsDocument text (Err (Endpoint number key))

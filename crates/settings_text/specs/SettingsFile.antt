@@ -1,10 +1,11 @@
 -- What a settings file says: a TOML table, as the parts of a room's settings.
-use Rattle.std.specs.Prelude.{◌≡◌, ℕ, ℤ, Bool, List, [], ◌∷◌, map, Option, None, Some, option_map, option_and_then, codes, string_bytes, String}
+use Rattle.std.specs.Prelude.{◌≡◌, ℕ, ℤ, Bool, false, List, [], ◌∷◌, map, Option, None, Some, option_map, option_and_then, unwrap_or, codes, string_bytes, String}
 use Rattle.std.specs.Global.{Global}
 use Rattle.toml.specs.Data.{Data, Items, Members, array, as_bool, as_integer, as_str, get, get_member, item, no_items}
 use Rattle.settings.specs.declared.parts.LegParts.{LegParts}
 use Rattle.settings.specs.declared.parts.Parts.{Parts}
 use Rattle.settings.specs.Settings.{checks, configuration_of, first_fault}
+use Rattle.settings_text.specs.declared.settings_file.ClientText.{ClientText}
 use Rattle.settings_text.specs.declared.settings_file.FileSettings.{FileSettings}
 
 -- ---- what is found
@@ -30,8 +31,36 @@ items_in value = []
 abbrev pub source_in : Data → Option ℤ
 source_in endpoint = integer_in (get (codes "ssrc") endpoint)
 
-abbrev pub address_in : Data → Option (List ℕ)
-address_in endpoint = text_in (get (codes "address") endpoint)
+-- the text that an item is; nothing where it is none
+abbrev pub text_of : Data → List ℕ
+text_of value = unwrap_or (as_str value) []
+
+abbrev pub texts_of : List Data → List (List ℕ)
+texts_of items = map text_of items
+
+-- the texts of a list; none where there is no list
+abbrev pub texts_in : Option Data → List (List ℕ)
+texts_in value = texts_of (items_in value)
+
+-- what an endpoint's table says of its client: the texts of its addresses and of the network that they are learned from, whether it
+-- only listens, and what it publishes
+pub record ClientSays : Type 0 where
+  pub address : Option (List ℕ)
+  pub learn_from : Option (List ℕ)
+  pub rtcp_address : Option (List ℕ)
+  pub receive_only : Bool
+  pub rtpmap : List (List ℕ)
+  pub fmtp : List (List ℕ)
+
+abbrev pub client_in : Data → ClientSays
+client_in endpoint = record {
+  address = text_in (get (codes "address") endpoint);
+  learn_from = text_in (get (codes "learn_from") endpoint);
+  rtcp_address = text_in (get (codes "rtcp_address") endpoint);
+  receive_only = unwrap_or (bool_in (get (codes "receive_only") endpoint)) false;
+  rtpmap = texts_in (get (codes "rtpmap") endpoint);
+  fmtp = texts_in (get (codes "fmtp") endpoint);
+}
 
 abbrev pub leg_in : Data → LegParts
 leg_in leg = record {
@@ -44,6 +73,16 @@ leg_in leg = record {
 
 abbrev pub text_bytes : Option (String Global) → Option (List ℕ)
 text_bytes text = option_map string_bytes text
+
+abbrev pub client_says : ClientText → ClientSays
+client_says client = record {
+  address = text_bytes client.address;
+  learn_from = text_bytes client.learn_from;
+  rtcp_address = text_bytes client.rtcp_address;
+  receive_only = client.receive_only;
+  rtpmap = map string_bytes client.rtpmap.items;
+  fmtp = map string_bytes client.fmtp.items;
+}
 
 -- The parts are what the table has under their keys.
 pub record ArePartsOf (t : Members) (p : Parts) : Type 0 where
@@ -59,12 +98,15 @@ pub record ArePartsOf (t : Members) (p : Parts) : Type 0 where
   pub endpoints : p.endpoints.items ≡ map source_in (items_in (get_member (codes "endpoint") t))
   pub legs : p.legs.items ≡ map leg_in (items_in (get_member (codes "leg") t))
 
--- The table's parts pass every check, and these are their settings; addresses are as the table spells them.
+-- The table's parts pass every check, and these are their settings; what is said of addresses is as the table spells it.
 pub record HoldsSettings (t : Members) (f : FileSettings) : Type 0 where
   pub parts : Parts
   pub found : ArePartsOf t parts
   pub passes : first_fault (checks parts) ≡ None
   pub settings : f.settings ≡ configuration_of parts
   pub listen : text_bytes f.listen ≡ text_in (get_member (codes "listen") t)
-  pub addresses : map text_bytes f.addresses.items
-      ≡ map address_in (items_in (get_member (codes "endpoint") t))
+  pub new_starts : f.new_starts ≡ bool_in (get_member (codes "new_starts") t)
+  pub strict_ssrc : f.strict_ssrc ≡ bool_in (get_member (codes "strict_ssrc") t)
+  pub listen_rtcp : text_bytes f.listen_rtcp ≡ text_in (get_member (codes "listen_rtcp") t)
+  pub clients : map client_says f.clients.items
+      ≡ map client_in (items_in (get_member (codes "endpoint") t))

@@ -3,10 +3,11 @@ use Rattle.std.specs.Prelude.{◌≢◌, ℕ, List, ◌++◌, Option, codes, str
 use Rattle.std.specs.Fmt.{decimal}
 use Rattle.std.specs.Io.KnownBytes.{Appends}
 use Rattle.settings_text.specs.declared.settings_file.SettingsProblem.{SettingsProblem}
-use Rattle.settings_text.specs.declared.settings_file.SettingsProblem.TheVariants.{NoMemory, Toml, Top, Endpoint, Leg, SameSsrc}
+use Rattle.settings_text.specs.declared.settings_file.SettingsProblem.TheVariants.{NoMemory, File, Toml, Top, Endpoint, Leg, SameSsrc}
 
 abbrev pub problem_line : SettingsProblem → List ℕ
 problem_line NoMemory = codes "no memory\n"
+problem_line File = codes "settings: file\n"
 problem_line Toml = codes "settings: toml\n"
 problem_line (Top key) = codes "settings: " ++ (string_bytes key ++ codes "\n")
 problem_line (Endpoint number key) = codes "settings: endpoint "

@@ -8,5 +8,5 @@ mod settings_file;
 mod settings_keys;
 
 pub use problem_text::problem_line;
-pub use settings_file::{FileSettings, SettingsProblem, problem_at, read_settings};
+pub use settings_file::{ClientText, FileSettings, SettingsProblem, problem_at, read_settings};
 pub use settings_keys::{Place, items_at};

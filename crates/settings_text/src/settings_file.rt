@@ -1,12 +1,12 @@
 //! The settings of `sfu replay` and `sfu serve`: a TOML table in a file.
 
-ghost use Rattle.std.specs.Prelude.{◌≡◌, ◌⊎◌, IfOk, Some, codes, map, option_map};
+ghost use Rattle.std.specs.Prelude.{◌≡◌, ◌⊎◌, IfOk, Some, codes, map, option_map, string_bytes};
 ghost use Rattle.toml.specs.Data.{get_member};
 ghost use Rattle.toml.specs.View.{table_view, view};
-ghost use Rattle.settings_text.specs.SettingsFile.{ArePartsOf, address_in, bool_in, integer_in, items_in, leg_in, source_in, text_bytes, text_in};
+ghost use Rattle.settings_text.specs.SettingsFile.{ArePartsOf, bool_in, client_in, client_says, integer_in, items_in, leg_in, source_in, text_bytes, text_in, text_of, texts_in, texts_of};
 ghost use Rattle.settings_text.specs.SettingsFaults.{TableGives, TextGives, earlier, fault_spot, problem_spot, spot_of};
 
-use crate::settings_keys::{Place, first_misfit, items_at};
+use crate::settings_keys::{Place, first_misfit, items_at, items_in};
 use settings::{LegParts, Parts, Settings, SettingsFault};
 use std::alloc::{AllocError, Global};
 use toml::{Table, Value};
@@ -18,8 +18,31 @@ pub struct FileSettings {
     pub settings: Settings,
     /// Where the unit listens, as the file spells it.
     pub listen: Option<String>,
-    /// Where each endpoint is, as the file spells it, by the endpoint's number.
-    pub addresses: Vec<Option<String>>,
+    /// Whether sources that begin anew are noticed, if the file says so.
+    pub new_starts: Option<bool>,
+    /// Whether feedback has to name the endpoint's own source, if the file says so.
+    pub strict_ssrc: Option<bool>,
+    /// Where it listens for RTCP, as the file spells it; where it listens for all where the file says nothing.
+    pub listen_rtcp: Option<String>,
+    /// What the file says of each endpoint's client, by the endpoint's number.
+    pub clients: Vec<ClientText>,
+}
+
+/// What a settings file says of the client that an endpoint is.
+#[derive(Debug, Drop)]
+pub struct ClientText {
+    /// Where its datagrams come from and go to, as the file spells it; or that this is learned.
+    pub address: Option<String>,
+    /// The network from which an address may be learned, as the file spells it.
+    pub learn_from: Option<String>,
+    /// Where its RTCP comes from and goes to, as the file spells it; the same as all else where the file says nothing.
+    pub rtcp_address: Option<String>,
+    /// Whether it only listens, and is present whatever it says.
+    pub receive_only: bool,
+    /// What it publishes, for session descriptions: each payload type with its encoding.
+    pub rtpmap: Vec<String>,
+    /// Each payload type with the parameters of its format.
+    pub fmtp: Vec<String>,
 }
 
 /// Why a text isn't settings: the first fault in the order of `Place`.
@@ -27,6 +50,8 @@ pub struct FileSettings {
 pub enum SettingsProblem {
     /// There is no memory.
     NoMemory,
+    /// The file can't be read.
+    File,
     /// It is no TOML document.
     Toml,
     /// A key that isn't there, isn't known, or has a value of another kind or beyond its range.
@@ -85,13 +110,22 @@ fn file_of(alloc: Global, table: &Table, settings: Settings) -> Result<FileSetti
     ensures settings { IfOk result (λ f. f.settings ≡ settings) }
     ensures listen { IfOk result (λ f. text_bytes f.listen
         ≡ text_in (get_member (codes "listen") (table_view table.now))) }
-    ensures addresses { IfOk result (λ f. map text_bytes f.addresses.items
-        ≡ map address_in (items_in (get_member (codes "endpoint") (table_view table.now)))) }
+    ensures new_starts { IfOk result (λ f. f.new_starts
+        ≡ bool_in (get_member (codes "new_starts") (table_view table.now))) }
+    ensures strict_ssrc { IfOk result (λ f. f.strict_ssrc
+        ≡ bool_in (get_member (codes "strict_ssrc") (table_view table.now))) }
+    ensures listen_rtcp { IfOk result (λ f. text_bytes f.listen_rtcp
+        ≡ text_in (get_member (codes "listen_rtcp") (table_view table.now))) }
+    ensures clients { IfOk result (λ f. map client_says f.clients.items
+        ≡ map client_in (items_in (get_member (codes "endpoint") (table_view table.now)))) }
 {
     Ok(FileSettings {
         settings,
         listen: text_in(alloc, value_at(table, "listen"))?,
-        addresses: addresses_of(alloc, items_at(table, "endpoint"))?,
+        new_starts: bool_at(table, "new_starts"),
+        strict_ssrc: bool_at(table, "strict_ssrc"),
+        listen_rtcp: text_in(alloc, value_at(table, "listen_rtcp"))?,
+        clients: clients_of(alloc, items_at(table, "endpoint"))?,
     })
 }
 
@@ -202,16 +236,62 @@ fn leg_in(leg: &Value) -> LegParts
     }
 }
 
-/// The address of each endpoint.
-fn addresses_of(alloc: Global, endpoints: &[Value]) -> Result<Vec<Option<String>>, AllocError>
+/// What is said of each endpoint's client.
+fn clients_of(alloc: Global, endpoints: &[Value]) -> Result<Vec<ClientText>, AllocError>
     ensures { IfOk result
-        (λ v. map text_bytes v.items ≡ map (λ x. address_in (view x)) endpoints.now) }
+        (λ v. map client_says v.items ≡ map (λ x. client_in (view x)) endpoints.now) }
 {
-    let mut addresses = Vec::new(alloc);
+    let mut clients = Vec::new(alloc);
     for endpoint in endpoints {
-        addresses.push(text_in(alloc, endpoint.get("address"))?)?;
+        clients.push(client_in(alloc, endpoint)?)?;
     }
-    Ok(addresses)
+    Ok(clients)
+}
+
+/// What an endpoint's table says of its client.
+fn client_in(alloc: Global, endpoint: &Value) -> Result<ClientText, AllocError>
+    ensures { IfOk result (λ c. client_says c ≡ client_in (view endpoint.now)) }
+{
+    Ok(ClientText {
+        address: text_in(alloc, endpoint.get("address"))?,
+        learn_from: text_in(alloc, endpoint.get("learn_from"))?,
+        rtcp_address: text_in(alloc, endpoint.get("rtcp_address"))?,
+        receive_only: bool_in(endpoint.get("receive_only")).unwrap_or(false),
+        rtpmap: texts_in(alloc, endpoint.get("rtpmap"))?,
+        fmtp: texts_in(alloc, endpoint.get("fmtp"))?,
+    })
+}
+
+/// The texts of a list; none where there is no list.
+fn texts_in(alloc: Global, value: Option<&Value>) -> Result<Vec<String>, AllocError>
+    ensures { IfOk result (λ texts. map string_bytes texts.items
+        ≡ texts_in (option_map (λ v. view v.now) value.entry)) }
+{
+    match value {
+        Some(value) => texts_of(alloc, items_in(value)),
+        None => Ok(Vec::new(alloc)),
+    }
+}
+
+/// The texts of these items.
+fn texts_of(alloc: Global, items: &[Value]) -> Result<Vec<String>, AllocError>
+    ensures { IfOk result (λ texts. map string_bytes texts.items ≡ texts_of (map view items.now)) }
+{
+    let mut texts = Vec::new(alloc);
+    for item in items {
+        texts.push(String::from_str(alloc, text_of(item))?)?;
+    }
+    Ok(texts)
+}
+
+/// The text that an item is; nothing where it is none.
+fn text_of(item: &Value) -> &str
+    ensures { result.now ≡ text_of (view item.now) }
+{
+    match item.as_str() {
+        Some(text) => text,
+        None => "",
+    }
 }
 
 /// The value at a key of the table.
@@ -225,6 +305,12 @@ fn integer_at(table: &Table, key: &str) -> Option<i64>
     ensures { result ≡ integer_in (get_member key.now (table_view table.now)) }
 {
     integer_in(value_at(table, key))
+}
+
+fn bool_at(table: &Table, key: &str) -> Option<bool>
+    ensures { result ≡ bool_in (get_member key.now (table_view table.now)) }
+{
+    bool_in(value_at(table, key))
 }
 
 /// The integer, where a value is one.

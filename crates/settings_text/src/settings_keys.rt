@@ -5,7 +5,7 @@ ghost use Rattle.std.specs.Prelude.{◌≡◌, Some, map, option_map};
 ghost use Rattle.std.specs.List.{list_all};
 ghost use Rattle.toml.specs.Data.{as_table, get_member};
 ghost use Rattle.toml.specs.View.{table_view, view};
-ghost use Rattle.settings_text.specs.SettingsFaults.{endpoint, has_tables, is_required, is_table, leg, list_misfit, misfit_in, misfit_of, spot_of, table_misfit, takes_endpoint, takes_leg, takes_top};
+ghost use Rattle.settings_text.specs.SettingsFaults.{endpoint, has_tables, has_texts, is_required, is_table, is_text, leg, list_misfit, misfit_in, misfit_of, spot_of, table_misfit, takes_endpoint, takes_leg, takes_top};
 ghost use Rattle.settings_text.specs.SettingsFile.{items_in};
 
 use toml::{Table, Value};
@@ -54,6 +54,8 @@ fn takes_top(key: &str, value: &Value) -> bool
         "endpoint" => has_tables(value),
         "leg" => has_tables(value),
         "listen" => value.is_str(),
+        "listen_rtcp" => value.is_str(),
+        "new_starts" | "strict_ssrc" => value.is_bool(),
         "request_ms" => value.is_integer(),
         _ => is_required(key),
     }
@@ -92,6 +94,28 @@ fn are_tables(items: &[Value]) -> bool
 {
     for item in items {
         if !item.is_table() {
+            return false;
+        }
+    }
+    true
+}
+
+/// Whether the value is a list of texts.
+fn has_texts(value: &Value) -> bool
+    ensures { result ≡ has_texts (view value.now) }
+{
+    match value.as_array() {
+        Some(items) => are_texts(items.as_slice()),
+        None => false,
+    }
+}
+
+/// Whether each of these is a text.
+fn are_texts(items: &[Value]) -> bool
+    ensures { result ≡ list_all is_text (map view items.now) }
+{
+    for item in items {
+        if !item.is_str() {
             return false;
         }
     }
@@ -155,7 +179,10 @@ fn takes_endpoint(key: &str, value: &Value) -> bool
     ensures { result ≡ takes_endpoint key.now (view value.now) }
 {
     match key {
-        "address" => value.is_str(),
+        "address" | "learn_from" => value.is_str(),
+        "fmtp" | "rtpmap" => has_texts(value),
+        "receive_only" => value.is_bool(),
+        "rtcp_address" => value.is_str(),
         "ssrc" => true,
         _ => false,
     }
@@ -184,7 +211,7 @@ pub fn items_at<'a>(table: &'a Table, key: &str) -> &'a [Value]
 }
 
 /// The items of a list; none where the value is none.
-fn items_in(value: &Value) -> &[Value]
+pub(crate) fn items_in(value: &Value) -> &[Value]
     ensures { map view result.now ≡ items_in (Some (view value.now)) }
 {
     match value.as_array() {

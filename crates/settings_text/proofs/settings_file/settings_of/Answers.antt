@@ -18,7 +18,10 @@ returns-in-Ok c = (
     passes = c.in-Ok.ensures.ok.0;
     settings = c.in_ok-file_of-in-None.ensures.settings ∙ c.in-Ok.ensures.ok.1;
     listen = c.in_ok-file_of-in-None.ensures.listen;
-    addresses = c.in_ok-file_of-in-None.ensures.addresses;
+    new_starts = c.in_ok-file_of-in-None.ensures.new_starts;
+    strict_ssrc = c.in_ok-file_of-in-None.ensures.strict_ssrc;
+    listen_rtcp = c.in_ok-file_of-in-None.ensures.listen_rtcp;
+    clients = c.in_ok-file_of-in-None.ensures.clients;
   },
 )
 

@@ -1,0 +1,2 @@
+mod OccupancyLemmas
+mod NetworkLemmas
