@@ -1,0 +1,348 @@
+//! The counts of a unit's endpoints and legs, which the threads of the unit raise.
+
+ghost use Rattle.std.specs.Prelude.{◌≡◌, vec_len, IfOk};
+
+use crate::figures::Numbered;
+use crate::kinds::{Kinds, kinds_of};
+use crate::leg_count::LegCount;
+use rtp_packet::RtpView;
+use settings::{LegSettings, Settings};
+use std::alloc::{AllocError, Global};
+use std::sync::atomic::{AtomicU64, Ordering};
+use tmmbr_tuple::Ssrc;
+
+/// The first packet type of RTCP (RFC 5761, section 4).
+const FIRST_RTCP: u8 = 192;
+/// The last packet type of RTCP (RFC 5761, section 4).
+const LAST_RTCP: u8 = 223;
+
+/// What went in from an endpoint and out to it so far. Each count goes round at 2^64.
+#[derive(Clone, Copy, Debug, PartialEq, Eq)]
+pub struct EndpointCount {
+    /// RTP packets that came from it, RTCP datagrams, and the bytes of both.
+    pub heard_rtp: u64,
+    pub heard_rtcp: u64,
+    pub heard_octets: u64,
+    /// The moment at which the last came, in milliseconds; `None` before the first.
+    pub heard_ms: Option<u64>,
+    /// What it asked for.
+    pub asked: Kinds,
+    /// Datagrams that were sent to it, their bytes, and how many couldn't be sent.
+    pub sent: u64,
+    pub sent_octets: u64,
+    pub failed: u64,
+    /// What it was asked for, and told.
+    pub told: Kinds,
+}
+
+/// The counts of a unit, by endpoint and by leg. What comes is counted by one thread; what is sent by any.
+#[derive(Drop)]
+pub struct Traffic {
+    endpoints: Vec<EndpointCells>,
+    legs: Vec<LegCells>,
+    /// The SSRC that each leg's subscriber sees, rising, and the leg's number.
+    sources: Vec<(Ssrc, u16)>,
+}
+
+/// The cells of an endpoint's counts.
+#[derive(Drop)]
+struct EndpointCells {
+    heard_rtp: AtomicU64,
+    heard_rtcp: AtomicU64,
+    heard_octets: AtomicU64,
+    /// One more than the moment; 0 before the first.
+    heard_after_ms: AtomicU64,
+    asked: KindCells,
+    sent: AtomicU64,
+    sent_octets: AtomicU64,
+    failed: AtomicU64,
+    told: KindCells,
+}
+
+/// The cells of counts of feedback.
+#[derive(Drop)]
+struct KindCells {
+    nacks: AtomicU64,
+    plis: AtomicU64,
+    tmmbrs: AtomicU64,
+    tmmbns: AtomicU64,
+}
+
+/// The cells of a leg's counts, which the worker that owns the leg raises.
+#[derive(Drop)]
+struct LegCells {
+    packets: AtomicU64,
+    octets: AtomicU64,
+    resent: AtomicU64,
+    /// One more than the next number; 0 before the first packet.
+    after_next: AtomicU64,
+}
+
+impl Traffic {
+    ghost use Rattle.std.specs.Prelude.{◌≡◌, ◌≤◌, ◌<◌, length, vec_len, IfOk, MatchOption};
+
+    /// Nothing came or went yet in a unit of these settings. Refused for want of memory alone.
+    pub fn new(alloc: Global, settings: &Settings) -> Result<Traffic, AllocError>
+        ensures endpoints { IfOk result
+            (λ t. vec_len t.endpoints ≡ length settings.now.endpoints) }
+        ensures legs { IfOk result (λ t. vec_len t.legs ≡ length settings.now.legs) }
+    {
+        Ok(Traffic {
+            endpoints: endpoint_cells(alloc, settings.endpoints().len())?,
+            legs: leg_cells(alloc, settings.legs().len())?,
+            sources: sources_of(alloc, settings.legs())?,
+        })
+    }
+
+    /// A datagram came from this endpoint at this moment, in milliseconds.
+    pub fn heard(&self, endpoint: u16, datagram: &[u8], moment: u64) {
+        let Some(cells) = self.endpoints.get(usize::from(endpoint)) else {
+            return;
+        };
+        add(&cells.heard_octets, octets_of(datagram));
+        cells
+            .heard_after_ms
+            .store(moment.saturating_add(1), Ordering::SeqCst);
+        if is_rtcp(datagram) {
+            add(&cells.heard_rtcp, 1);
+            cells.asked.add(kinds_of(datagram));
+        } else {
+            add(&cells.heard_rtp, 1);
+        }
+    }
+
+    /// A datagram was sent to this endpoint.
+    pub fn sent(&self, endpoint: u16, datagram: &[u8]) {
+        let Some(cells) = self.endpoints.get(usize::from(endpoint)) else {
+            return;
+        };
+        add(&cells.sent, 1);
+        add(&cells.sent_octets, octets_of(datagram));
+        if is_rtcp(datagram) {
+            cells.told.add(kinds_of(datagram));
+        } else {
+            self.sent_media(datagram);
+        }
+    }
+
+    /// An RTP packet was sent.
+    fn sent_media(&self, datagram: &[u8]) {
+        let Ok(packet) = RtpView::parse(datagram) else {
+            return;
+        };
+        if let Some(cells) = self.cells_by(packet.ssrc) {
+            let octets = octets_of(packet.payload);
+            cells.set(cells.seen().with(packet.sequence_number, octets));
+        }
+    }
+
+    /// The cells of the leg whose subscriber sees this source.
+    fn cells_by(&self, source: Ssrc) -> Option<&LegCells> {
+        let place = self
+            .sources
+            .as_slice()
+            .binary_search_by_key(&source.0, |it| it.0.0)
+            .ok()?;
+        let (_, leg) = self.sources.get(place)?;
+        self.legs.get(usize::from(*leg))
+    }
+
+    /// A datagram couldn't be sent to this endpoint.
+    pub fn failed(&self, endpoint: u16) {
+        if let Some(cells) = self.endpoints.get(usize::from(endpoint)) {
+            add(&cells.failed, 1);
+        }
+    }
+
+    /// The counts of this endpoint now. `None` exactly if there is no such endpoint.
+    pub fn endpoint(&self, endpoint: u16) -> Option<EndpointCount>
+        ensures { MatchOption result (vec_len self.now.endpoints ≤ endpoint)
+            (λ _. endpoint < vec_len self.now.endpoints) }
+    {
+        let cells = self.endpoints.get(usize::from(endpoint))?;
+        Some(cells.seen())
+    }
+
+    /// The counts of this leg now. `None` exactly if there is no such leg.
+    pub fn leg(&self, leg: u16) -> Option<LegCount>
+        ensures { MatchOption result (vec_len self.now.legs ≤ leg) (λ _. leg < vec_len self.now.legs) }
+    {
+        let cells = self.legs.get(usize::from(leg))?;
+        Some(cells.seen())
+    }
+
+    /// The counts of each endpoint now, by rising number. Those that one thread raises may be older than those of another.
+    pub fn endpoints(&self, alloc: Global) -> Result<Vec<Numbered<EndpointCount>>, AllocError>
+        ensures { IfOk result (λ all. length all.items ≡ vec_len self.now.endpoints) }
+    {
+        let mut all = Vec::new(alloc);
+        for number in 0..self.endpoints.len() {
+            all.push(Numbered {
+                number: u16::try_from(number).unwrap_or(u16::MAX),
+                count: self.endpoints[number].seen(),
+            })?;
+        }
+        Ok(all)
+    }
+
+    /// The counts of each leg now, by rising number.
+    pub fn legs(&self, alloc: Global) -> Result<Vec<Numbered<LegCount>>, AllocError>
+        ensures { IfOk result (λ all. length all.items ≡ vec_len self.now.legs) }
+    {
+        let mut all = Vec::new(alloc);
+        for number in 0..self.legs.len() {
+            all.push(Numbered {
+                number: u16::try_from(number).unwrap_or(u16::MAX),
+                count: self.legs[number].seen(),
+            })?;
+        }
+        Ok(all)
+    }
+}
+
+impl EndpointCells {
+    fn new() -> EndpointCells {
+        EndpointCells {
+            heard_rtp: AtomicU64::new(0),
+            heard_rtcp: AtomicU64::new(0),
+            heard_octets: AtomicU64::new(0),
+            heard_after_ms: AtomicU64::new(0),
+            asked: KindCells::new(),
+            sent: AtomicU64::new(0),
+            sent_octets: AtomicU64::new(0),
+            failed: AtomicU64::new(0),
+            told: KindCells::new(),
+        }
+    }
+
+    fn seen(&self) -> EndpointCount {
+        EndpointCount {
+            heard_rtp: self.heard_rtp.load(Ordering::SeqCst),
+            heard_rtcp: self.heard_rtcp.load(Ordering::SeqCst),
+            heard_octets: self.heard_octets.load(Ordering::SeqCst),
+            heard_ms: self.heard_after_ms.load(Ordering::SeqCst).checked_sub(1),
+            asked: self.asked.seen(),
+            sent: self.sent.load(Ordering::SeqCst),
+            sent_octets: self.sent_octets.load(Ordering::SeqCst),
+            failed: self.failed.load(Ordering::SeqCst),
+            told: self.told.seen(),
+        }
+    }
+}
+
+impl KindCells {
+    fn new() -> KindCells {
+        KindCells {
+            nacks: AtomicU64::new(0),
+            plis: AtomicU64::new(0),
+            tmmbrs: AtomicU64::new(0),
+            tmmbns: AtomicU64::new(0),
+        }
+    }
+
+    fn add(&self, kinds: Kinds) {
+        add(&self.nacks, kinds.nacks);
+        add(&self.plis, kinds.plis);
+        add(&self.tmmbrs, kinds.tmmbrs);
+        add(&self.tmmbns, kinds.tmmbns);
+    }
+
+    fn seen(&self) -> Kinds {
+        Kinds {
+            nacks: self.nacks.load(Ordering::SeqCst),
+            plis: self.plis.load(Ordering::SeqCst),
+            tmmbrs: self.tmmbrs.load(Ordering::SeqCst),
+            tmmbns: self.tmmbns.load(Ordering::SeqCst),
+        }
+    }
+}
+
+impl LegCells {
+    fn new() -> LegCells {
+        LegCells {
+            packets: AtomicU64::new(0),
+            octets: AtomicU64::new(0),
+            resent: AtomicU64::new(0),
+            after_next: AtomicU64::new(0),
+        }
+    }
+
+    fn seen(&self) -> LegCount {
+        LegCount {
+            packets: self.packets.load(Ordering::SeqCst),
+            octets: self.octets.load(Ordering::SeqCst),
+            resent: self.resent.load(Ordering::SeqCst),
+            next: number_before(self.after_next.load(Ordering::SeqCst)),
+        }
+    }
+
+    fn set(&self, count: LegCount) {
+        self.packets.store(count.packets, Ordering::SeqCst);
+        self.octets.store(count.octets, Ordering::SeqCst);
+        self.resent.store(count.resent, Ordering::SeqCst);
+        self.after_next
+            .store(number_after(count.next), Ordering::SeqCst);
+    }
+}
+
+/// Cells for so many endpoints.
+fn endpoint_cells(alloc: Global, count: usize) -> Result<Vec<EndpointCells>, AllocError>
+    ensures { IfOk result (λ all. vec_len all ≡ count) }
+{
+    let mut all = Vec::with_capacity(alloc, count)?;
+    for _cells in 0..count {
+        all.push(EndpointCells::new())?;
+    }
+    Ok(all)
+}
+
+/// Cells for so many legs.
+fn leg_cells(alloc: Global, count: usize) -> Result<Vec<LegCells>, AllocError>
+    ensures { IfOk result (λ all. vec_len all ≡ count) }
+{
+    let mut all = Vec::with_capacity(alloc, count)?;
+    for _cells in 0..count {
+        all.push(LegCells::new())?;
+    }
+    Ok(all)
+}
+
+/// Raises a count.
+fn add(count: &AtomicU64, more: u64) {
+    if more > 0 {
+        let _ = count.fetch_add(more, Ordering::SeqCst);
+    }
+}
+
+/// The number of which this is one more; `None` of 0.
+fn number_before(after: u64) -> Option<u16> {
+    u16::try_from(after.checked_sub(1)?).ok()
+}
+
+/// One more than a number; 0 of none.
+fn number_after(number: Option<u16>) -> u64 {
+    match number {
+        Some(number) => u64::from(number) + 1,
+        None => 0,
+    }
+}
+
+/// How many bytes these are.
+fn octets_of(bytes: &[u8]) -> u64 {
+    bytes.len() as u64
+}
+
+/// Whether the second byte is a packet type of RTCP.
+fn is_rtcp(datagram: &[u8]) -> bool {
+    matches!(datagram.get(1), Some(FIRST_RTCP..=LAST_RTCP))
+}
+
+/// The source that each leg's subscriber sees, rising, and the leg's number.
+fn sources_of(alloc: Global, legs: &[LegSettings]) -> Result<Vec<(Ssrc, u16)>, AllocError> {
+    let mut sources = Vec::new(alloc);
+    for (number, leg) in legs.iter().enumerate() {
+        sources.push((leg.out_ssrc, u16::try_from(number).unwrap_or(u16::MAX)))?;
+    }
+    sources.sort_unstable_by_key(|it| it.0.0);
+    Ok(sources)
+}
