@@ -7,15 +7,20 @@ use Rattle.std.proofs.lemmas.Grind.{flat_map-append}
 use Rattle.std.proofs.lemmas.List.{append-nil, drop_all, length-map, take_more}
 use Rattle.settings.specs.Settings.{Configuration}
 use Rattle.events.specs.declared.event.Event.{Event}
+use Rattle.events.specs.declared.event.Event.TheVariants.{Ingress, Work}
 use Rattle.events.specs.declared.output.Out.{Out}
 use Rattle.core_steps.specs.Opening.{IsNewWorld}
 use Rattle.core_steps.specs.Run.{HasRun}
 use Rattle.core_steps.specs.World.{WorldState}
+use Rattle.core_steps.specs.Rule.{is_busy}
+use Rattle.core_steps.specs.Settling.{ingress_left}
+use Rattle.core_steps.proofs.SettleLemmas.{step_of}
+use Rattle.one_thread.proofs.StepLemmas.{ingress_same, work_aside}
 use Rattle.endings.specs.declared.status.Failure.{Failure}
 use Rattle.endings.specs.declared.status.Failure.TheVariants.{NoMemory, Refused as RefusedLine, Io}
 use Rattle.scripts.specs.declared.script.Reading.TheVariants.{Unreadable}
 use Rattle.request_text.specs.Lines.{lines_of}
-use Rattle.scripts.specs.Replay.{Drains, FailsLine, FailsReplay, IngressDrains, IsOutside, LinePlays, LinesPlay, Prints, PrintsReplay, Settles, StopsReplay, WorkerDrains, WorkersDrain, again, numbers_of, out_line, out_lines, over}
+use Rattle.scripts.specs.Replay.{Drains, FailsLine, FailsReplay, Follows, IngressDrains, IsOutside, LinePlays, LinesPlay, Prints, PrintsReplay, Rounds, Settles, StopsReplay, WorkerDrains, WorkersDrain, again, numbers_of, out_line, out_lines, over, quiet, round}
 use Rattle.scripts.specs.Script.{reading_of}
 use Rattle.request_text.proofs.LineLemmas.{at_line}
 
@@ -216,6 +221,61 @@ settled count workers w mid final old m new (Ok done) same first others = (
     others = others.0;
     ingress = first.1;
     each = subst (λ (n : ℕ). WorkersDrain n 0 mid others.0 final) same others.1;
+    given = refl;
+  },
+  prints_more old m new first.0 others.0 (first.0 ++ others.0) first.2 others.2 refl,
+)
+
+-- ---- rounds
+
+-- a step of a worker leaves as much to the ingress as there was
+pub work_keeps_ingress : (k : ℕ) (w next : WorldState) (outs all : List Out) → HasRun (Work k ∷ []) w outs next all
+    → ingress_left next ≡ ingress_left w
+work_keeps_ingress k w next outs all r =
+    let s = step_of w (Work k) next outs all r in
+    ap ingress_left s.leads ∙ ingress_same w s.happening (work_aside w k s.happening s.does)
+
+-- Rounds that were made so far, and what they gave was printed; whatever is done from here on comes behind it.
+pub record RoundsMade (workers : ℕ) (first w : WorldState) (old new : Option (List ℕ)) : Type 0 where
+  pub outs : List Out
+  pub printed : Appends old new (out_lines outs)
+  pub rest : (others : List Out) (final : WorldState) → Rounds workers w others final → Rounds workers first (outs ++ others) final
+
+pub rounds_from : (workers : ℕ) (w : WorldState) (old : Option (List ℕ)) → RoundsMade workers w w old old
+rounds_from workers w old = record { outs = []; printed = Appends-nil old; rest = λ others final d. d }
+
+pub rounds_on : (workers : ℕ) (first w next behind : WorldState) (old mid late new : Option (List ℕ)) (outs more : List Out)
+    → is_busy w ≡ true → RoundsMade workers first w old mid → HasRun (Ingress ∷ []) w [] next outs → Appends mid late (out_lines outs)
+    → WorkersDrain workers 0 next more behind → Appends late new (out_lines more) → RoundsMade workers first behind old new
+rounds_on workers first w next behind old mid late new outs more busy d run printed drains told = record {
+  outs = d.outs ++ (outs ++ more);
+  printed = prints_more old mid new d.outs (outs ++ more) (d.outs ++ (outs ++ more)) d.printed
+      (prints_more mid late new outs more (outs ++ more) printed told refl) refl;
+  rest = λ others final last.
+      subst (λ (xs : List Out). Rounds workers first xs final) (sym (append_assoc d.outs (outs ++ more) others))
+      (d.rest ((outs ++ more) ++ others) final
+      (subst (λ (xs : List Out). Rounds workers w xs final) (sym (append_assoc outs more others)) (round more behind busy run drains last)));
+}
+
+pub rounds_over : (workers : ℕ) (first w : WorldState) (old new : Option (List ℕ)) → is_busy w ≡ false → RoundsMade workers first w old new
+    → (outs : List Out) × Rounds workers first outs w × Appends old new (out_lines outs)
+rounds_over workers first w old new idle d =
+    (d.outs, subst (λ (xs : List Out). Rounds workers first xs w) (append-nil d.outs) (d.rest [] w (quiet idle)), d.printed)
+
+-- the workers first, then the rounds
+pub followed : {T : Type 0} (count workers : ℕ) (w mid final : WorldState) (old m new : Option (List ℕ)) (r : Result T Failure)
+    → count ≡ workers → Prints (λ outs. WorkersDrain count 0 w outs mid) old m
+    → OnOk r (Prints (λ outs. Rounds count mid outs final) m new)
+    → OnOk r (Prints (λ outs. Follows workers w outs final) old new)
+followed count workers w mid final old m new (Err e) same first others = tt
+followed count workers w mid final old m new (Ok done) same first others = (
+  first.0 ++ others.0,
+  record {
+    next = mid;
+    first = first.0;
+    others = others.0;
+    each = subst (λ (n : ℕ). WorkersDrain n 0 w first.0 mid) same first.1;
+    rounds = subst (λ (n : ℕ). Rounds n mid others.0 final) same others.1;
     given = refl;
   },
   prints_more old m new first.0 others.0 (first.0 ++ others.0) first.2 others.2 refl,

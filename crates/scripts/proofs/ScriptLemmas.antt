@@ -4,7 +4,7 @@ use Rattle.std.specs.Str.Parse.{digits_value}
 use Rattle.clap.specs.ValueTests.{is_numeral}
 use Rattle.std.proofs.lemmas.Bool.{cond-false, ltb-true, ne_eqb}
 use Rattle.scripts.specs.declared.script.Command.{Command}
-use Rattle.scripts.specs.declared.script.Command.TheVariants.{Do, Settle, Show}
+use Rattle.scripts.specs.declared.script.Command.TheVariants.{Do, Settle, Follow, Show}
 use Rattle.scripts.specs.declared.script.Numbers.{Numbers}
 use Rattle.scripts.specs.declared.script.Reading.TheVariants.{Skipped, Command as ACommand}
 use Rattle.events.specs.declared.event.Event.TheVariants.{Ingress}
@@ -80,7 +80,8 @@ among_words n (first ∷ others) =
     (among_if n (bytes_eq first (codes "ingress")) _ _ (among_none n (Do Ingress) others tt)
     (among_if n (bytes_eq first (codes "work")) _ _ (among_work n others)
     (among_if n (bytes_eq first (codes "settle")) _ _ (among_none n Settle others tt)
-    (among_if n (bytes_eq first (codes "show")) _ _ (among_show n others) tt))))))
+    (among_if n (bytes_eq first (codes "follow")) _ _ (among_none n Follow others tt)
+    (among_if n (bytes_eq first (codes "show")) _ _ (among_show n others) tt)))))))
 
 read_among : (n : Numbers) (o : Option Command) (command : Command) → Among n o → command_or_not o ≡ ACommand command → IsAmong n command
 read_among n None command h e = cc

@@ -10,7 +10,6 @@ use Rattle.rtcp_feedback.specs.Fault.{feedback_fault_number as feedback_number}
 use Rattle.settings.specs.Fault.{room_fault_number}
 use Rattle.settings.specs.Settings.{Configuration}
 use Rattle.rewrite.specs.Skip.{skip_number}
-use Rattle.rate_cert.specs.declared.request.Request.{Request}
 use Rattle.bounding_set.specs.State.{announced_of}
 use Rattle.desk.specs.State.{DeskState}
 use Rattle.events.specs.declared.event.Event.{Event}
@@ -29,12 +28,12 @@ use Rattle.endings.specs.declared.status.Failure.{Failure}
 use Rattle.endings.specs.declared.status.Failure.TheVariants.{NoMemory, Refused as RefusedLine, Io}
 use Rattle.request_text.specs.declared.fault.LineFault.TheVariants.{Text}
 use Rattle.scripts.specs.declared.script.Command.{Command}
-use Rattle.scripts.specs.declared.script.Command.TheVariants.{Do, Settle, Show}
+use Rattle.scripts.specs.declared.script.Command.TheVariants.{Do, Settle, Follow, Show}
 use Rattle.scripts.specs.declared.script.Numbers.{Numbers}
 use Rattle.scripts.specs.declared.script.Reading.{Reading}
 use Rattle.scripts.specs.declared.script.Reading.TheVariants.{Skipped, Command as ACommand, Unreadable}
 use Rattle.settings_text.specs.declared.settings_file.FileSettings.{FileSettings}
-use Rattle.request_text.specs.BoundText.{announcement, refused_text, announced_line}
+use Rattle.request_text.specs.BoundText.{refused_text, announced_line}
 use Rattle.request_text.specs.Lines.{lines_of}
 use Rattle.scripts.specs.Script.{reading_of}
 use Rattle.settings_text.specs.SettingsFaults.{TextGives}
@@ -112,6 +111,24 @@ pub record Settles (workers : ℕ) (w : WorldState) (outs : List Out)
   pub each : WorkersDrain workers 0 next others final
   pub given : outs ≡ first ++ others
 
+-- As long as anything waits for the ingress it does one step, and after it each of so many workers until it has nothing to do.
+pub data Rounds : ℕ → WorldState → List Out → WorldState → Type 0 where
+  quiet : {workers : ℕ} {w : WorldState} → is_busy w ≡ false → Rounds workers w [] w
+  round : {workers : ℕ} {w next final : WorldState} {first last : List Out} (others : List Out)
+      (then_on : WorldState) → is_busy w ≡ true → HasRun (Ingress ∷ []) w [] next first
+      → WorkersDrain workers 0 next others then_on → Rounds workers then_on last final
+      → Rounds workers w (first ++ (others ++ last)) final
+
+-- Each of so many workers, and then the rounds.
+pub record Follows (workers : ℕ) (w : WorldState) (outs : List Out)
+    (final : WorldState) : Type 0 where
+  pub next : WorldState
+  pub first : List Out
+  pub others : List Out
+  pub each : WorkersDrain workers 0 w first next
+  pub rounds : Rounds workers next others final
+  pub given : outs ≡ first ++ others
+
 -- the TMMBN of what a publisher's desk announces, with the publisher's source as sender
 pub record IsShown (c : Configuration) (w : WorldState) (p : ℕ) (text : List ℕ) : Type 0 where
   pub desk : DeskState
@@ -124,6 +141,7 @@ pub record IsShown (c : Configuration) (w : WorldState) (p : ℕ) (text : List �
 abbrev pub IsAmong : Numbers → Command → Type 0
 IsAmong n (Do event) = Unit {0}
 IsAmong n Settle = Unit {0}
+IsAmong n Follow = Unit {0}
 IsAmong n (Show p) = p < n.endpoints
 
 -- a command leads to this world, and this is printed
@@ -132,6 +150,8 @@ CommandPlays c w (Do event) next text =
     (outs : List Out) × HasRun (event ∷ []) w [] next outs × (text ≡ out_lines outs)
 CommandPlays c w Settle next text =
     (outs : List Out) × Settles c.workers w outs next × (text ≡ out_lines outs)
+CommandPlays c w Follow next text =
+    (outs : List Out) × Follows c.workers w outs next × (text ≡ out_lines outs)
 CommandPlays c w (Show p) next text = (next ≡ w) × IsShown c w p text
 
 -- ---- a script

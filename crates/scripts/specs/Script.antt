@@ -1,12 +1,12 @@
 -- The lines of a script of `sfu replay`, and what they ask for.
-use Rattle.std.specs.Prelude.{◌==◌, ◌&&◌, ℕ, ◌^◌, nat_lt, Bool, true, false, List, [], ◌∷◌, Option, None, Some, option_map, option_and_then, codes, if◌then◌else◌}
+use Rattle.std.specs.Prelude.{◌==◌, ℕ, ◌^◌, Bool, true, false, List, [], ◌∷◌, Option, None, Some, option_map, option_and_then, codes, if◌then◌else◌}
 use Rattle.std.specs.Result.{result_ok}
 use Rattle.std.specs.Str.{bytes_eq}
 use Rattle.hex.specs.Hex.{decode_of}
 use Rattle.events.specs.declared.event.Event.TheVariants.{Hear, Tick, Select, Ingress, Work}
 use Rattle.request_text.specs.Words.{number_under, words_in}
 use Rattle.scripts.specs.declared.script.Command.{Command}
-use Rattle.scripts.specs.declared.script.Command.TheVariants.{Do, Settle, Show}
+use Rattle.scripts.specs.declared.script.Command.TheVariants.{Do, Settle, Follow, Show}
 use Rattle.scripts.specs.declared.script.Numbers.{Numbers}
 use Rattle.scripts.specs.declared.script.Reading.{Reading}
 use Rattle.scripts.specs.declared.script.Reading.TheVariants.{Skipped, Command as ACommand, Unreadable}
@@ -66,6 +66,7 @@ words_command n (first ∷ others) =
     else if bytes_eq first (codes "ingress") then no_words (Do Ingress) others
     else if bytes_eq first (codes "work") then work_words n others
     else if bytes_eq first (codes "settle") then no_words Settle others
+    else if bytes_eq first (codes "follow") then no_words Follow others
     else if bytes_eq first (codes "show") then show_words n others
     else None
 

@@ -3,8 +3,9 @@
 ghost use Rattle.std.specs.Prelude.{◌≡◌, ◌≢◌, ◌∷◌, ◌<◌, [], Some, length, IfErr, IfSome, OnOk};
 ghost use Rattle.std.specs.Io.KnownBytes.{Appends};
 ghost use Rattle.core_steps.specs.Run.{HasRun};
+ghost use Rattle.core_steps.specs.Settling.{ingress_left};
 ghost use Rattle.endings.specs.Endings.{SaysWhy};
-ghost use Rattle.scripts.specs.Replay.{CommandPlays, FailsLine, FailsReplay, IngressDrains, IsAmong, IsOutside, IsShown, LinePlays, Prints, PrintsReplay, PrintsText, RefusesReplay, Settles, WorkerDrains, WorkersDrain, numbers_of, out_line, out_lines};
+ghost use Rattle.scripts.specs.Replay.{CommandPlays, FailsLine, FailsReplay, Follows, IngressDrains, IsAmong, IsOutside, IsShown, LinePlays, Prints, PrintsReplay, PrintsText, RefusesReplay, Rounds, Settles, WorkerDrains, WorkersDrain, numbers_of, out_line, out_lines};
 
 use crate::out_text::out_line;
 use crate::script::{Command, Numbers, Reading, read_line};
@@ -135,6 +136,7 @@ fn play_command<O: Write>(
     match command {
         Command::Do(event) => step(alloc, world, event, writer),
         Command::Settle => settle(alloc, settings, world, writer),
+        Command::Follow => follow(alloc, settings, world, writer),
         Command::Show(publisher) => show(alloc, settings, world, publisher, writer),
     }
 }
@@ -155,6 +157,44 @@ fn settle<O: Write>(
     drain_ingress(alloc, world, writer)?;
     let numbers = numbers_of(settings);
     drain_workers(alloc, numbers.workers, world, writer)
+}
+
+/// Each worker, by rising number, until it has nothing to do; then, as long as anything waits for the ingress, one step of it, and each
+/// worker again.
+fn follow<O: Write>(
+    alloc: Global,
+    settings: &Settings,
+    world: &mut World,
+    writer: &mut O,
+) -> Result<(), Failure>
+    ensures followed { OnOk result (Prints
+        (λ outs. Follows settings.now.workers world.old outs world.new)
+        (O.contents writer.old) (O.contents writer.new)) }
+    ensures outside { IfErr result IsOutside }
+    ensures desks { OnOk result (length world.new.desks ≡ length world.old.desks) }
+{
+    let workers = numbers_of(settings).workers;
+    drain_workers(alloc, workers, world, writer)?;
+    make_rounds(alloc, workers, world, writer)
+}
+
+/// As long as anything waits for the ingress: one step of it, and then so many workers, one after the other.
+fn make_rounds<O: Write>(
+    alloc: Global,
+    workers: u16,
+    world: &mut World,
+    writer: &mut O,
+) -> Result<(), Failure>
+    ensures made { OnOk result (Prints (λ outs. Rounds workers world.old outs world.new)
+        (O.contents writer.old) (O.contents writer.new)) }
+    ensures outside { IfErr result IsOutside }
+    ensures desks { OnOk result (length world.new.desks ≡ length world.old.desks) }
+{
+    while world.is_busy() {
+        step(alloc, world, Event::Ingress, writer)?;
+        drain_workers(alloc, workers, world, writer)?;
+    }
+    Ok(())
 }
 
 /// The ingress until nothing waits for it.
@@ -180,6 +220,7 @@ fn drain_workers<O: Write>(
     ensures drained { OnOk result (Prints (λ outs. WorkersDrain workers 0 world.old outs world.new)
         (O.contents writer.old) (O.contents writer.new)) }
     ensures outside { IfErr result IsOutside }
+    ensures ingress { OnOk result (ingress_left world.new ≡ ingress_left world.old) }
     ensures desks { OnOk result (length world.new.desks ≡ length world.old.desks) }
 {
     for worker in 0..workers {
@@ -198,6 +239,7 @@ fn drain_worker<O: Write>(
     ensures drained { OnOk result (Prints (λ outs. WorkerDrains worker world.old outs world.new)
         (O.contents writer.old) (O.contents writer.new)) }
     ensures outside { IfErr result IsOutside }
+    ensures ingress { OnOk result (ingress_left world.new ≡ ingress_left world.old) }
     ensures desks { OnOk result (length world.new.desks ≡ length world.old.desks) }
 {
     while world.has_work(worker) {

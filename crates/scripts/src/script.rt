@@ -17,6 +17,9 @@ pub enum Command {
     Do(Event),
     /// `settle`: the ingress until nothing waits for it, then each worker until it has nothing to do.
     Settle,
+    /// `follow`: each worker until it has nothing to do; then, as long as anything waits for the ingress, one step of it, and each
+    /// worker again. A unit with one worker does so after each event.
+    Follow,
     /// `show P`: what is announced to this publisher.
     Show(u16),
 }
@@ -84,6 +87,8 @@ fn read_words(
         Ok(worked(numbers, others))
     } else if is_word(first, b"settle") {
         Ok(alone(others, Command::Settle))
+    } else if is_word(first, b"follow") {
+        Ok(alone(others, Command::Follow))
     } else if is_word(first, b"show") {
         Ok(shown(numbers, others))
     } else {

@@ -10,6 +10,7 @@ loop-worker-preserved g c =
       drained = workers_on c.args.workers c.loop-worker.worker c.args.world.now c.loop-worker.world c.drain_worker.new.world
           (contents c.args.writer.now) (contents c.loop-worker.writer) (contents c.drain_worker.new.writer) drained.0
           c.loop-worker.invariant.drained drained.1 drained.2;
+      ingress = c.in_ok-drain_worker.ensures.ingress ∙ c.loop-worker.invariant.ingress;
     }
 
 pub returns-clause-drained : goal.returns-clause-drained

@@ -1,0 +1,105 @@
+#!/usr/bin/env python3
+"""What recording costs: processor time of `sfu serve` for each packet of 1,200 bytes that it takes in and sends on to one subscriber, with and
+without `--record`.
+
+    cost.py PROGRAM [PACKETS [FOLDER]]
+
+PROGRAM is the built program (crates/sfu_main/out/sfu_main). 50,000 packets a run unless it is said; records stand in FOLDER while it runs,
+else in the system's folder for such files. Runs take turns, three each with one worker and with two, and the least counts: user's and
+system's time of all threads (/proc/PID/task/*/schedstat). Up to 32 packets are under way, and what is lost ends the run.
+"""
+import glob
+import os
+import signal
+import socket
+import subprocess
+import sys
+import tempfile
+
+HOST, UNIT, SENDER, WATCHER = "127.0.0.1", 47200, 47201, 47202
+
+SETTINGS = f"""workers = %d
+ring = 512
+history = 128
+timeout_ms = 60000
+report_ms = 5000
+pli_gap_ms = 500
+unit_ssrc = 9
+cname = "sfu"
+listen = "{HOST}:{UNIT}"
+[[endpoint]]
+ssrc = 16
+address = "{HOST}:{SENDER}"
+[[endpoint]]
+ssrc = 17
+address = "{HOST}:{WATCHER}"
+receive_only = true
+[[leg]]
+subscriber = 1
+publisher = 0
+out_ssrc = 257
+"""
+
+
+def port(number):
+    s = socket.socket(socket.AF_INET, socket.SOCK_DGRAM)
+    s.setsockopt(socket.SOL_SOCKET, socket.SO_RCVBUF, 4 << 20)
+    s.bind((HOST, number))
+    s.settimeout(2)
+    return s
+
+
+def nanoseconds(pid):
+    return sum(int(open(path).read().split()[0]) for path in glob.glob(f"/proc/{pid}/task/*/schedstat"))
+
+
+def run(program, folder, workers, packets, is_recorded):
+    """Nanoseconds for each packet."""
+    file, record = os.path.join(folder, "room.toml"), os.path.join(folder, "record")
+    open(file, "w").write(SETTINGS % workers)
+    if os.path.exists(record):
+        os.unlink(record)
+    words = [program, "serve", file] + (["--record", record, "--record-limit", "4000000000"] if is_recorded else [])
+    sender, watcher = port(SENDER), port(WATCHER)
+    unit = subprocess.Popen(words, stderr=subprocess.PIPE, text=True)
+    try:
+        assert "serving" in unit.stderr.readline()
+        payload = bytes(1188)
+
+        def exchange(first, count):
+            sent = came = first
+            while came < first + count:
+                while sent < first + count and sent - came < 32:
+                    head = bytes([0x80, 96]) + (sent % 65536).to_bytes(2, "big") + sent.to_bytes(4, "big") + (16).to_bytes(4, "big")
+                    sender.sendto(head + payload, (HOST, UNIT))
+                    sent += 1
+                datagram = watcher.recv(2048)
+                if not 192 <= datagram[1] <= 223:
+                    came += 1
+
+        exchange(0, 2000)
+        before = nanoseconds(unit.pid)
+        exchange(2000, packets)
+        return (nanoseconds(unit.pid) - before) / packets, os.path.getsize(record) if is_recorded else 0
+    finally:
+        unit.send_signal(signal.SIGKILL)
+        unit.communicate()
+        sender.close()
+        watcher.close()
+
+
+def main():
+    program = os.path.abspath(sys.argv[1])
+    packets = int(sys.argv[2]) if len(sys.argv) > 2 else 50000
+    with tempfile.TemporaryDirectory(dir=sys.argv[3] if len(sys.argv) > 3 else None) as folder:
+        for workers in (1, 2):
+            least = {}
+            for _turn in range(3):
+                for is_recorded in (False, True):
+                    cost, size = run(program, folder, workers, packets, is_recorded)
+                    least[is_recorded] = min(cost, least.get(is_recorded, cost))
+            without, with_it = least[False] / 1000, least[True] / 1000
+            print(f"workers {workers}: {without:.2f} us without, {with_it:.2f} us recorded, {with_it - without:.2f} us more; {size} bytes", flush=True)
+
+
+main()

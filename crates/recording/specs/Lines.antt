@@ -1,0 +1,42 @@
+-- The lines of a record: of each event that a unit takes in, and of its head.
+use Rattle.std.specs.Prelude.{◌++◌, ℕ, Bool, true, false, List, [], ◌∷◌, codes}
+use Rattle.std.specs.Fmt.{decimal}
+use Rattle.hex.specs.Hex.{encode_lower}
+use Rattle.events.specs.declared.event.Event.{Event}
+use Rattle.events.specs.declared.event.Event.TheVariants.{Hear, Tick, Select, Ingress, Work}
+
+abbrev pub switch_word : Bool → List ℕ
+switch_word true = codes "on"
+switch_word false = codes "off"
+
+-- the end of an event's line, and the line for what follows from it
+abbrev pub follow_line : List ℕ
+follow_line = codes "\nfollow\n"
+
+-- An event from outside, and what follows from it. A datagram without bytes is refused and does nothing, so it has no line; a step of
+-- the machine's own isn't taken in.
+abbrev pub event_lines : Event → List ℕ
+event_lines (Hear moment endpoint []) = []
+event_lines (Hear moment endpoint (b ∷ bytes)) =
+    codes "hear "
+    ++ (decimal moment
+    ++ (codes " "
+    ++ (decimal endpoint ++ (codes " " ++ (encode_lower (b ∷ bytes) ++ follow_line)))))
+event_lines (Tick moment) = codes "tick " ++ (decimal moment ++ follow_line)
+event_lines (Select moment leg on) =
+    codes "select "
+    ++ (decimal moment ++ (codes " " ++ (decimal leg ++ (codes " " ++ (switch_word on ++ follow_line)))))
+event_lines Ingress = []
+event_lines (Work worker) = []
+
+-- the version of the program, and the digest of its settings
+abbrev pub program_part : List ℕ → List ℕ → List ℕ
+program_part version settings =
+    codes "# sfu " ++ (version ++ (codes "\n# settings " ++ (encode_lower settings ++ codes "\n")))
+
+-- what the wall clock said at moment 0
+abbrev pub time_part : ℕ → List ℕ
+time_part began_ms = codes "# moment 0 unix_ms " ++ (decimal began_ms ++ codes "\n")
+
+abbrev pub header_text : List ℕ → List ℕ → ℕ → List ℕ
+header_text version settings began_ms = program_part version settings ++ time_part began_ms

@@ -1,0 +1,15 @@
+//! What a unit took in, as the lines of a script that plays it again.
+//!
+//! Read `line` first, the lines of each event; then `header`, the comment at the head of a record, and `tape`, what is written of a record
+//! and when it ends. All of it is a value: no file, no clock.
+#![tactic(auto)]
+
+mod header;
+mod line;
+mod tape;
+#[cfg(test)]
+mod tests;
+
+pub use header::{Header, header_text};
+pub use line::{heard_lines, selected_lines, ticked_lines};
+pub use tape::{End, Tape, end_name};

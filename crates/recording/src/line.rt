@@ -1,0 +1,48 @@
+//! The lines of each event that a unit takes in: the event, and what follows from it.
+
+ghost use Rattle.std.specs.Prelude.{◌≡◌, IfOk};
+ghost use Rattle.std.specs.String.{string_bytes};
+ghost use Rattle.events.specs.declared.event.Event.TheVariants.{Hear, Tick, Select};
+ghost use Rattle.recording.specs.Lines.{event_lines, switch_word};
+
+use std::alloc::{AllocError, Global};
+
+/// The lines of a datagram that an endpoint's number sent, heard at this moment in milliseconds; none of one without bytes, which does
+/// nothing. Refused for want of memory alone.
+pub fn heard_lines(
+    alloc: Global,
+    moment: u64,
+    endpoint: u16,
+    bytes: &[u8],
+) -> Result<String, AllocError>
+    ensures { IfOk result (λ text. string_bytes text
+        ≡ event_lines (Hear moment endpoint bytes.now)) }
+{
+    if bytes.is_empty() {
+        return Ok(String::new(alloc));
+    }
+    let hex = hex::encode(alloc, bytes)?;
+    format!(in alloc; "hear {moment} {endpoint} {hex}\nfollow\n")
+}
+
+/// The lines of a tick at this moment in milliseconds. Refused for want of memory alone.
+pub fn ticked_lines(alloc: Global, moment: u64) -> Result<String, AllocError>
+    ensures { IfOk result (λ text. string_bytes text ≡ event_lines (Tick moment)) }
+{
+    format!(in alloc; "tick {moment}\nfollow\n")
+}
+
+/// The lines of a leg that is selected or not from this moment in milliseconds on. Refused for want of memory alone.
+pub fn selected_lines(alloc: Global, moment: u64, leg: u16, on: bool) -> Result<String, AllocError>
+    ensures { IfOk result (λ text. string_bytes text ≡ event_lines (Select moment leg on)) }
+{
+    let switch = switch_word(on);
+    format!(in alloc; "select {moment} {leg} {switch}\nfollow\n")
+}
+
+/// `on` or `off`.
+fn switch_word(on: bool) -> &'static str
+    ensures { result.now ≡ switch_word on }
+{
+    if on { "on" } else { "off" }
+}

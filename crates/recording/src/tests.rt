@@ -1,0 +1,66 @@
+//! Lines of each kind, and a record that comes to its end.
+
+use crate::{End, Header, Tape, end_name, header_text, heard_lines, selected_lines, ticked_lines};
+use std::test::Fail;
+
+/// A line for each event that is taken in, and `follow` after it.
+#[test]
+fn lines_of_events(rt: HostRuntime) -> Result<(), Fail> {
+    let alloc = rt.alloc();
+    let heard = heard_lines(alloc, 12, 3, b"\x80\x60\x00\xff").expect(&rt, "memory");
+    assert_eq!(rt; heard.as_str(), "hear 12 3 806000ff\nfollow\n");
+    let empty = heard_lines(alloc, 12, 3, b"").expect(&rt, "memory");
+    assert_eq!(rt; empty.as_str(), "");
+    let ticked = ticked_lines(alloc, 18446744073709551615).expect(&rt, "memory");
+    assert_eq!(rt; ticked.as_str(), "tick 18446744073709551615\nfollow\n");
+    let on = selected_lines(alloc, 0, 65535, true).expect(&rt, "memory");
+    assert_eq!(rt; on.as_str(), "select 0 65535 on\nfollow\n");
+    let off = selected_lines(alloc, 7, 1, false).expect(&rt, "memory");
+    assert_eq!(rt; off.as_str(), "select 7 1 off\nfollow\n");
+    Ok(())
+}
+
+/// The head of a record is comment.
+#[test]
+fn head_of_a_record(rt: HostRuntime) -> Result<(), Fail> {
+    let header = Header {
+        version: "1.2.3",
+        settings: b"\x01\xab",
+        began_ms: 1795654321123,
+    };
+    let text = header_text(rt.alloc(), &header).expect(&rt, "memory");
+    assert_eq!(rt;
+        text.as_str(),
+        "# sfu 1.2.3\n# settings 01ab\n# moment 0 unix_ms 1795654321123\n"
+    );
+    Ok(())
+}
+
+/// Lines are put whole up to the limit; what doesn't fit ends the record.
+#[test]
+fn tape_ends_at_its_limit(rt: HostRuntime) -> Result<(), Fail> {
+    let mut tape = Tape::new(rt.alloc(), 10);
+    tape.put("tick 1\n");
+    assert_eq!(rt; tape.waiting(), 7);
+    assert_eq!(rt; tape.take().as_slice(), b"tick 1\n".as_slice());
+    assert_eq!(rt; tape.waiting(), 0);
+    tape.put("abc");
+    assert_eq!(rt; tape.why_ended(), None);
+    tape.put("d");
+    assert_eq!(rt; tape.why_ended(), Some(End::Limit));
+    tape.put("");
+    tape.end(End::Slow);
+    assert_eq!(rt; tape.why_ended(), Some(End::Limit));
+    assert_eq!(rt; tape.take().as_slice(), b"abc".as_slice());
+    assert_eq!(rt; tape.written(), 10);
+    let names = [
+        (End::Limit, "limit"),
+        (End::Failed, "failed"),
+        (End::Slow, "slow"),
+        (End::Memory, "memory"),
+    ];
+    for (end, name) in names {
+        assert_eq!(rt; end_name(end), name);
+    }
+    Ok(())
+}
