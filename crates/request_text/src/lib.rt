@@ -13,5 +13,5 @@ mod words;
 pub use bound::{Refusal, lines, read_lines};
 pub use entry::{Claim, Entry, MAX_LINES, Reading, read_line};
 pub use fault::LineFault;
-pub use text::{announced_line, answer_text, bound_text, refused_text};
+pub use text::{announced_line, answer_text, bound_text, desk_text, refused_text};
 pub use words::{is_word, number_u16, number_u64, words_of};

@@ -7,6 +7,7 @@ ghost use Rattle.request_text.specs.BoundText.{announced_line, announcement, ans
 
 use crate::fault::LineFault;
 use bounding_set::Bounds;
+use desk::Desk;
 use notices::entries_of;
 use rate_cert::{CertFault, Implied, Kept, Request};
 use rtcp_feedback::{MAX_ENTRIES, write_tmmbn};
@@ -23,6 +24,22 @@ pub fn bound_text(alloc: Global, media: Ssrc, bounds: &Bounds) -> Result<String,
     text.push('\n')?;
     let rows = bounds.rows();
     let cert = bounds.cert();
+    push_kept(alloc, &mut text, rows, cert.kept.as_slice())?;
+    push_implied(alloc, &mut text, rows, cert.implied.as_slice())?;
+    Ok(text)
+}
+
+/// The set that a desk announces as a TMMBN of this sender, and its certificate: the same text for what is live there. Refused for
+/// want of memory alone.
+pub fn desk_text(alloc: Global, media: Ssrc, desk: &Desk) -> Result<String, AllocError>
+    ensures { IfOk result (λ text. string_bytes text ≡ bound_text media.0 desk.now.bounds) }
+{
+    let announced = desk.announced();
+    let packet = tmmbn(alloc, media, announced.as_slice())?;
+    let mut text = hex::encode(alloc, packet.as_slice())?;
+    text.push('\n')?;
+    let rows = desk.live();
+    let cert = desk.cert();
     push_kept(alloc, &mut text, rows, cert.kept.as_slice())?;
     push_implied(alloc, &mut text, rows, cert.implied.as_slice())?;
     Ok(text)

@@ -1,0 +1,190 @@
+#!/usr/bin/env python3
+"""A unit is steered by `sfu ask` while a publisher sends to a subscriber: what it tells has to be what was sent.
+
+    bench/control/room.py SFU
+
+SFU is the built program. With one worker and with two: a leg is switched off and on ten times, and its numbers have no gap; `present`,
+`legs` and `metrics` count the packets that came and went; a NACK brings a packet again, which is counted; a user other than the unit's is
+refused by the system (if this runs as root); and `stop` says goodbye to who is present, and to nobody else. Ends with status 1 at the
+first thing that isn't so. By hand: nothing of it is proved.
+"""
+
+import os
+import socket
+import struct
+import subprocess
+import sys
+import tempfile
+import time
+
+SETTINGS = """workers = {workers}
+ring = 64
+history = 1024
+timeout_ms = 60000
+report_ms = 60000
+pli_gap_ms = 0
+unit_ssrc = 9
+cname = "sfu"
+listen = "127.0.0.1:{unit}"
+
+[[endpoint]]
+ssrc = 16
+address = "127.0.0.1:{publisher}"
+
+[[endpoint]]
+ssrc = 17
+address = "127.0.0.1:{subscriber}"
+
+[[endpoint]]
+ssrc = 18
+address = "127.0.0.1:{absent}"
+
+[[leg]]
+subscriber = 1
+publisher = 0
+out_ssrc = 257
+first_seq = 100
+
+[[leg]]
+subscriber = 2
+publisher = 0
+out_ssrc = 258
+"""
+# RTP packets of a turn; their payload has so many bytes.
+PACKETS, PAYLOAD = 20, 50
+TURNS = 10
+NOBODY = 65534
+
+
+def bound_socket():
+    it = socket.socket(socket.AF_INET, socket.SOCK_DGRAM)
+    it.bind(("127.0.0.1", 0))
+    it.settimeout(0.3)
+    return it
+
+
+def ask(program, path, *words):
+    done = subprocess.run([program, "ask", path, *words], capture_output=True, text=True, timeout=20)
+    if done.returncode:
+        sys.exit(f"ask {' '.join(words)}: status {done.returncode}: {done.stderr}")
+    return done.stdout
+
+
+def received(at):
+    """What comes to a socket until nothing comes for a while."""
+    all_of_it = []
+    try:
+        while True:
+            all_of_it.append(at.recv(4096))
+    except TimeoutError:
+        return all_of_it
+
+
+def is_rtcp(datagram):
+    return 192 <= datagram[1] <= 223
+
+
+def packets_of(compound):
+    """The RTCP packets of a compound: type, count, body (RFC 3550, section 6.4.1)."""
+    while compound:
+        first, kind, words = struct.unpack("!BBH", compound[:4])
+        yield kind, first & 31, compound[4 : 4 + 4 * words]
+        compound = compound[4 + 4 * words :]
+
+
+def wants(what, found, wanted):
+    if found != wanted:
+        sys.exit(f"{what}: {found!r}, and not {wanted!r}")
+
+
+def is_refused(path):
+    """Whether a connection of another user is refused by the system."""
+    child = os.fork()
+    if child == 0:
+        os.setgid(NOBODY)
+        os.setuid(NOBODY)
+        try:
+            socket.socket(socket.AF_UNIX).connect(path)
+        except PermissionError:
+            os._exit(0)
+        os._exit(1)
+    return os.waitstatus_to_exitcode(os.waitpid(child, 0)[1]) == 0
+
+
+def play(program, workers, folder):
+    publisher, subscriber, absent, listener = (bound_socket() for _ in range(4))
+    unit_at = listener.getsockname()
+    listener.close()
+    file, path = os.path.join(folder, f"room{workers}.toml"), os.path.join(folder, f"control{workers}")
+    with open(file, "w") as out:
+        ports = {"publisher": publisher, "subscriber": subscriber, "absent": absent}
+        ports = {name: it.getsockname()[1] for name, it in ports.items()}
+        out.write(SETTINGS.format(workers=workers, unit=unit_at[1], **ports))
+    unit = subprocess.Popen([program, "serve", file, "--control", path], stdout=subprocess.PIPE, stderr=subprocess.PIPE, text=True)
+    try:
+        unit.stderr.readline()
+        wants("never heard", ask(program, path, "present").count(" absent never heard\n"), 3)
+        subscriber.sendto(struct.pack("!BBHI", 0x80, 201, 1, 17), unit_at)
+        seq, came = 7, []
+        for turn in range(TURNS):
+            for on in ("on", "off"):
+                ask(program, path, "select", "0", on)
+                time.sleep(0.05)
+                for _ in range(PACKETS):
+                    publisher.sendto(struct.pack("!BBHII", 0x80, 96, seq % 65536, 3000 * seq, 16) + bytes(PAYLOAD), unit_at)
+                    seq += 1
+                time.sleep(0.05)
+                came += [it for it in received(subscriber) if not is_rtcp(it)]
+        numbers = [struct.unpack("!H", it[2:4])[0] for it in came]
+        wants("numbers", numbers, list(range(100, 100 + TURNS * PACKETS)))
+        # the last packet is asked for again (RFC 4585, section 6.2.1)
+        ask(program, path, "select", "0", "on")
+        last = numbers[-1]
+        subscriber.sendto(struct.pack("!BBHIIHH", 0x81, 205, 3, 17, 257, last, 0), unit_at)
+        again = [it for it in received(subscriber) if not is_rtcp(it)]
+        wants("sent again", [it for it in again], [came[-1]])
+        sent = TURNS * PACKETS + 1
+        legs = ask(program, path, "legs").splitlines()
+        wants("leg 0", legs[0], f"0 from 0 to 1 on packets {sent} octets {sent * PAYLOAD} resent 1 next {last + 1}")
+        wants("leg 1", legs[1], "1 from 0 to 2 on packets 0 octets 0 resent 0 next none")
+        present = ask(program, path, "present").splitlines()
+        for line, state in zip(present, ("present heard", "present heard", "absent never heard")):
+            if state not in line:
+                sys.exit(f"present: {line}")
+        metrics = ask(program, path, "metrics").splitlines()
+        for line in (
+            f'sfu_rtp_packets_received_total{{endpoint="0"}} {2 * TURNS * PACKETS}',
+            f'sfu_received_bytes_total{{endpoint="0"}} {2 * TURNS * PACKETS * (12 + PAYLOAD)}',
+            'sfu_nacks_received_total{endpoint="1"} 1',
+            'sfu_endpoint_present{endpoint="1"} 1',
+            'sfu_endpoint_present{endpoint="2"} 0',
+            f'sfu_leg_packets_sent_total{{leg="0"}} {sent}',
+            'sfu_leg_packets_resent_total{leg="0"} 1',
+        ):
+            if line not in metrics:
+                sys.exit(f"metrics have no {line}")
+        if os.geteuid() == 0:
+            wants("another user is refused", is_refused(path), True)
+        received(publisher)
+        ask(program, path, "stop")
+        printed, _ = unit.communicate(timeout=10)
+        wants("status", unit.returncode, 0)
+        wants("report", printed.splitlines()[0].split()[0], "heard")
+        for name, it, sources in (("subscriber", subscriber, [257, 9]), ("publisher", publisher, [9]), ("absent", absent, None)):
+            byes = [[struct.unpack("!I", body[:4])[0] for kind, _, body in packets_of(d) if kind == 203] for d in received(it) if is_rtcp(d)]
+            wants(f"goodbyes to the {name}", [b for b in byes if b], [] if sources is None else [sources])
+    finally:
+        unit.kill()
+    print(f"workers {workers}: {sent} packets, numbers without a gap over {TURNS} turns, counts and goodbyes as they should be")
+
+
+def main(program):
+    with tempfile.TemporaryDirectory() as folder:
+        # others may enter the folder: what refuses them is the file's mode
+        os.chmod(folder, 0o755)
+        for workers in (1, 2):
+            play(program, workers, folder)
+
+
+if __name__ == "__main__":
+    main(os.path.realpath(sys.argv[1]))

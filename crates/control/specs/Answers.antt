@@ -1,0 +1,55 @@
+-- The texts of answers: lines, of which the last is `ok`, or `refused` and why.
+use Rattle.std.specs.Prelude.{◌≡◌, ◌++◌, ℕ, Bool, true, false, Option, None, Some, List, [], ◌∷◌, codes, if◌then◌else◌}
+use Rattle.std.specs.Fmt.{decimal}
+use Rattle.std.specs.Net.Text.{socket_text}
+use Rattle.std.specs.declared.net.socket_addr.SocketAddr.{SocketAddr}
+use Rattle.outside.specs.declared.watch.Status.{Status}
+use Rattle.control.specs.declared.answer.Refused.{Refused}
+use Rattle.control.specs.declared.answer.Refused.TheVariants.{Unknown, Leg, Publisher, Long, Full, Workers, Memory}
+
+abbrev pub refusal_text : Refused → List ℕ
+refusal_text Unknown = codes "refused unknown\n"
+refusal_text Leg = codes "refused leg\n"
+refusal_text Publisher = codes "refused publisher\n"
+refusal_text Long = codes "refused long\n"
+refusal_text Full = codes "refused full\n"
+refusal_text Workers = codes "refused workers\n"
+refusal_text Memory = codes "refused memory\n"
+
+-- who is present, what came, what was sent, and what couldn't be
+abbrev pub flow_part : Status → List ℕ
+flow_part s =
+    codes "present "
+    ++ (decimal s.present ++ (codes " heard " ++ (decimal s.heard
+    ++ (codes " sent " ++ (decimal s.sent ++ (codes " failed " ++ decimal s.failed))))))
+
+-- what was lost or given up, and what came from strangers
+abbrev pub loss_part : Status → ℕ → List ℕ
+loss_part s strangers =
+    codes " lost "
+    ++ (decimal s.lost ++ (codes " dropped " ++ (decimal s.dropped
+    ++ (codes " strangers " ++ (decimal strangers ++ codes "\n")))))
+
+-- the totals of a unit
+abbrev pub counts_lines : Status → ℕ → List ℕ
+counts_lines s strangers = flow_part s ++ loss_part s strangers
+
+abbrev pub presence_word : Bool → List ℕ
+presence_word true = codes "present"
+presence_word false = codes "absent"
+
+-- an endpoint: its number, its source, its address, and whether it is present
+abbrev pub who_part : ℕ → ℕ → SocketAddr → Bool → List ℕ
+who_part endpoint source address is_present =
+    decimal endpoint
+    ++ (codes " ssrc " ++ (decimal source ++ (codes " at " ++ (socket_text address
+    ++ (codes " " ++ presence_word is_present)))))
+
+-- how many milliseconds ago it was heard last
+abbrev pub heard_part : Option ℕ → List ℕ
+heard_part None = codes " never heard\n"
+heard_part (Some ago_ms) = codes " heard " ++ (decimal ago_ms ++ codes " ms ago\n")
+
+abbrev pub presence_line : ℕ → ℕ → SocketAddr → Bool → Option ℕ → List ℕ
+presence_line endpoint source address is_present heard_ago_ms =
+    who_part endpoint source address is_present ++ heard_part heard_ago_ms

@@ -1,0 +1,5 @@
+pub mod Requests
+pub mod Answers
+pub mod Inboxes
+pub mod Courses
+pub mod Asking

@@ -1,0 +1,52 @@
+//! What a request leads to.
+
+ghost use Rattle.std.specs.Prelude.{◌≡◌};
+ghost use Rattle.control.specs.Courses.{course_for};
+
+use crate::answer::Refused;
+use crate::request::Request;
+use outside::{Look, Received};
+
+/// What a request leads to.
+#[derive(Clone, Copy, Debug, PartialEq, Eq)]
+pub enum Course {
+    /// It is refused.
+    Refuse(Refused),
+    /// It is done by what the unit receives.
+    Do(Received),
+    /// The totals are asked for.
+    Counts,
+    /// The room is looked at.
+    Look(Look),
+    /// What went out on each leg is asked for.
+    Legs,
+    /// The counts of endpoints and of legs are asked for.
+    Metrics,
+}
+
+/// What the request leads to in a room with so many legs and endpoints.
+pub fn course_for(request: Request, legs: u16, endpoints: u16) -> Course
+    ensures { result ≡ course_for request legs endpoints }
+{
+    match request {
+        Request::Select { leg, on } => {
+            if leg < legs {
+                Course::Do(Received::Select { leg, on })
+            } else {
+                Course::Refuse(Refused::Leg)
+            }
+        }
+        Request::Present => Course::Look(Look::Presence),
+        Request::Legs => Course::Legs,
+        Request::Counts => Course::Counts,
+        Request::Metrics => Course::Metrics,
+        Request::Show(publisher) => {
+            if publisher < endpoints {
+                Course::Look(Look::Desk(publisher))
+            } else {
+                Course::Refuse(Refused::Publisher)
+            }
+        }
+        Request::Stop => Course::Do(Received::Stop),
+    }
+}

@@ -1,0 +1,22 @@
+//! How a unit is steered while it runs: what a peer of `sfu serve --control` asks for, and what it is answered.
+//!
+//! There is neither a socket nor a thread here. Read `request` first, what can be asked for; then `answer`, the texts of answers,
+//! `course`, what a request leads to, `inbox`, how lines come out of the bytes of a peer, and `peers`, who is
+//! looked at next. `ask` is the other end, which takes an answer apart.
+#![tactic(auto)]
+
+mod answer;
+mod ask;
+mod course;
+mod inbox;
+mod peers;
+mod request;
+#[cfg(test)]
+mod tests;
+
+pub use answer::{Refused, counts_text, done_text, present_line, refused_text};
+pub use ask::{Answered, read_answer};
+pub use course::{Course, course_for};
+pub use inbox::{Inbox, MAX_INBOX};
+pub use peers::{MAX_PEERS, Peers};
+pub use request::{Request, read_request};
