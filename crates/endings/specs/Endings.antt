@@ -42,6 +42,8 @@ code_of status.Settings = 3
 code_of status.Refused = 4
 code_of status.Io = 5
 code_of status.Socket = 5
+code_of status.Control = 5
+code_of status.Record = 5
 code_of status.UnsaidNoMemory = 1
 code_of status.UnsaidIo = 5
 

@@ -26,6 +26,10 @@ pub enum Status {
     Io,
     /// 5: the unit's socket or its threads can't be had, or failed.
     Socket,
+    /// 5: the socket of its control can't be had, or nobody listens there.
+    Control,
+    /// 5: the file of its record can't be had.
+    Record,
     /// 1: what there was to say couldn't be written to the error output, for want of memory.
     UnsaidNoMemory,
     /// 5: what there was to say couldn't be written to the error output.
@@ -46,7 +50,7 @@ impl Status {
             Status::CommandLine => 2,
             Status::Settings => 3,
             Status::Refused => 4,
-            Status::Io | Status::Socket | Status::UnsaidIo => 5,
+            Status::Io | Status::Socket | Status::Control | Status::Record | Status::UnsaidIo => 5,
         }
     }
 }
