@@ -1,0 +1,3 @@
+pub mod DeliveryLemmas
+pub mod ServedLemmas
+pub mod OpeningLemmas

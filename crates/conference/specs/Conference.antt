@@ -1,0 +1,125 @@
+-- What a conference has served: events from outside, each with all that follows from it, and the datagrams that it gave out.
+use Rattle.std.specs.Prelude.{◌≡◌, ◌≢◌, ℕ, Bool, true, false, List, [], ◌∷◌, ◌++◌, drop, Result, Ok, Err}
+use Rattle.settings.specs.Settings.{Configuration, IsInRange}
+use Rattle.settings_text.specs.declared.settings_file.FileSettings.{FileSettings}
+use Rattle.settings_text.specs.SettingsFaults.{TextGives}
+use Rattle.events.specs.declared.event.Event.{Event}
+use Rattle.events.specs.declared.output.Out.{Out}
+use Rattle.events.specs.declared.output.Out.TheVariants.{Send, Refused, Lost, Skip, Miss, Idle}
+use Rattle.events.specs.declared.output.Out.TheVariants as out
+use Rattle.outside.specs.declared.datagram.Datagram.{Datagram}
+use Rattle.outside.specs.Outside.{datagrams_of}
+use Rattle.core_steps.specs.Opening.{IsNewWorld}
+use Rattle.core_steps.specs.OverRuns.{Announces, EndsStays}
+use Rattle.core_steps.specs.Run.{Stays}
+use Rattle.core_steps.specs.World.{WorldState}
+use Rattle.one_thread.specs.Driver.{AfterEach, LeavesLastHeard}
+use Rattle.one_thread.specs.Driving.{Drives, IsIdle}
+use Rattle.conference.specs.declared.delivery.Delivery.{Delivery}
+use Rattle.conference.specs.declared.fault.OpenFault.{OpenFault}
+use Rattle.conference.specs.declared.fault.OpenFault.TheVariants as open_fault
+use Rattle.conference.specs.declared.fault.EventFault.{EventFault}
+use Rattle.conference.specs.declared.fault.EventFault.TheVariants.{Busy, NoMemory, Unsettled}
+
+-- the machine's world, and the datagrams that weren't taken yet, oldest first
+pub record ConferenceState : Type 0 where
+  pub world : WorldState
+  pub waiting : List Datagram
+
+-- of this world, which gave this out, of which the first so many are done with
+abbrev pub conference_state : WorldState → List Out → ℕ → ConferenceState
+conference_state w outs done = record { world = w; waiting = datagrams_of (drop done outs) }
+
+abbrev pub datagram_of : Delivery → Datagram
+datagram_of d = record { endpoint = d.endpoint; bytes = d.bytes.now }
+
+abbrev pub is_datagram : Out → Bool
+is_datagram (Send endpoint bytes) = true
+is_datagram (Refused refusal) = false
+is_datagram out.Busy = false
+is_datagram (Lost worker) = false
+is_datagram (Skip leg skip) = false
+is_datagram (Miss leg seq) = false
+is_datagram Idle = false
+
+-- ---- what a call does
+
+-- These events from outside were done, each of which found nothing waiting; no job was given up; and the datagrams that were given
+-- out stand after those that waited.
+pub record Serves (outside : List Event) (old new : ConferenceState) : Type 0 where
+  pub outs : List Out
+  pub drives : Drives outside old.world [] new.world outs
+  pub waiting : new.waiting ≡ old.waiting ++ datagrams_of outs
+
+-- Something waited, and nothing was done; there was no memory, and nothing was done; or the events were done, and the rest of what
+-- follows waits.
+abbrev pub LeavesEvents : List Event → ConferenceState → ConferenceState → EventFault → Type 0
+LeavesEvents outside old new Busy = (¬ IsIdle old.world) × (new ≡ old)
+LeavesEvents outside old new NoMemory = new ≡ old
+LeavesEvents outside old new Unsettled = Serves outside old new
+
+-- the same of the machine and what it gave out, where nothing waited
+abbrev pub StopsAfter : List Event → WorldState → List Out → WorldState → List Out → EventFault
+    → Type 0
+StopsAfter outside old outs new all Busy = ⊥
+StopsAfter outside old outs new all NoMemory = Stays old outs new all
+StopsAfter outside old outs new all Unsettled = Drives outside old outs new all
+
+-- ---- what was served since it was opened
+
+-- Since it was opened by these settings a conference was given these events from outside, and these datagrams were taken from it.
+-- Those and the ones that wait are what the machine gave out, in order; no job was given up. What each desk announces, what is told
+-- of it, the stays that ended, and what is live where nothing waits, are as the machine's laws say.
+pub record HasServed (c : Configuration) (outside : List Event) (taken : List Datagram)
+    (s : ConferenceState) : Type 0 where
+  pub range : IsInRange c
+  pub start : WorldState
+  pub opens : IsNewWorld c start
+  pub outs : List Out
+  pub drives : Drives outside start [] s.world outs
+  pub datagrams : datagrams_of outs ≡ taken ++ s.waiting
+  pub lost : s.world.lost ≡ 0
+  pub announces : AfterEach (Announces c) start drives.run.history
+  pub ends : AfterEach (EndsStays c) start drives.run.history
+  pub quiet : IsIdle s.world
+      → LeavesLastHeard c start drives.events drives.run.history s.world
+
+-- Whatever was served before, now these events from outside were served, too.
+abbrev pub ServesOn : List Event → ConferenceState → ConferenceState → Type 0
+ServesOn more old new =
+    (c : Configuration) (outside : List Event) (taken : List Datagram)
+    → HasServed c outside taken old → HasServed c (outside ++ more) taken new
+
+-- whatever was served before, now this datagram was taken, too
+abbrev pub HandsNext : Datagram → ConferenceState → ConferenceState → Type 0
+HandsNext d old new =
+    (c : Configuration) (outside : List Event) (taken : List Datagram)
+    → HasServed c outside taken old → HasServed c outside (taken ++ d ∷ []) new
+
+-- ---- opening
+
+-- nothing was served yet, nothing waits, and nothing is to be sent
+pub record IsNewConference (c : Configuration) (s : ConferenceState) : Type 0 where
+  pub world : IsNewWorld c s.world
+  pub idle : IsIdle s.world
+  pub waiting : s.waiting ≡ []
+  pub served : HasServed c [] [] s
+
+-- the text gives these settings, and they have one worker
+pub record OpensBy (text : List ℕ) (s : ConferenceState) : Type 0 where
+  pub file : FileSettings
+  pub gives : TextGives text (Ok file)
+  pub one : file.settings.workers ≡ 1
+  pub is_new : IsNewConference file.settings s
+
+-- the settings that the text gives have so many workers, and not one
+pub record HasWorkers (text : List ℕ) (count : ℕ) : Type 0 where
+  pub file : FileSettings
+  pub gives : TextGives text (Ok file)
+  pub says : file.settings.workers ≡ count
+  pub several : count ≢ 1
+
+abbrev pub RefusesToOpen : List ℕ → OpenFault → Type 0
+RefusesToOpen text open_fault.NoMemory = Unit {0}
+RefusesToOpen text (open_fault.Settings problem) = TextGives text (Err problem)
+RefusesToOpen text (open_fault.Workers count) = HasWorkers text count

@@ -1,0 +1,232 @@
+//! A conference: the machine of its settings, and what it gave out that wasn't taken yet.
+
+ghost use Rattle.std.specs.Prelude.{◌≡◌, ◌≢◌, ◌≤◌, ◌∷◌, ◌↔◌, [], true, None, Err, length, drop, slice_get, option_map, IfErr, IfOk, IfSome, OnOk};
+ghost use Rattle.bounding_set.specs.State.{announced_of};
+ghost use Rattle.desk.specs.State.{DeskState, HoldsLegalDesk};
+ghost use Rattle.events.specs.declared.event.Event.TheVariants.{Hear, Select, Tick};
+ghost use Rattle.core_steps.specs.Waits.{waiting_in};
+ghost use Rattle.one_thread.specs.Driving.{Drives, IsIdle, is_from_outside};
+ghost use Rattle.conference.specs.declared.fault.EventFault.TheVariants.{Busy};
+ghost use Rattle.conference.specs.Conference.{IsNewConference, LeavesEvents, Serves, StopsAfter, datagram_of, conference_state};
+
+use crate::delivery::{Delivery, next_delivery, place_after};
+use crate::fault::EventFault;
+use arrayvec::ArrayVec;
+use core_steps::{Waiting, World};
+use events::{Bytes, Event, Out};
+use one_thread::settle::{settle, step};
+use rate_cert::{MAX_REQUESTS, Request};
+use settings::Settings;
+use std::alloc::{AllocError, Global};
+use std::marker::Model;
+
+/// A conference. Events from outside (`hear`, `tick`, `select`) are done with all that follows from them; the datagrams that are to
+/// be sent then wait until they are taken (`next`, `take_next`).
+#[derive(Drop)]
+pub struct Conference {
+    alloc: Global,
+    world: World,
+    /// What the machine gave out.
+    outs: Vec<Out>,
+    /// How many of these are done with.
+    taken: usize,
+}
+
+impl Model for Conference {
+    ghost use Rattle.std.specs.Prelude.{◌≡◌, ◌≤◌, drop, length};
+    ghost use Rattle.outside.specs.Outside.{datagrams_of};
+    ghost use Rattle.conference.specs.Conference.{ConferenceState};
+
+    ghost Value = { ConferenceState };
+
+    ghost view = { λ c.
+        record { world = c.world; waiting = datagrams_of (drop c.taken c.outs.items) } };
+
+    ghost invariant = { λ c. (c.taken ≤ length c.outs.items) × (length c.world.workers ≡ 1) };
+}
+
+/// Whether nothing waits.
+fn is_idle(world: &World) -> bool
+    ensures { (result ≡ true) ↔ IsIdle world.now }
+{
+    let waiting = world.waiting();
+    waiting.tasks == 0 && waiting.jobs == 0 && waiting.hands == 0
+}
+
+/// The world of these settings, in which nothing waits if they have one worker.
+fn new_world(alloc: Global, settings: &Settings) -> Result<World, AllocError>
+    requires one { settings.now.workers ≡ 1 }
+    ensures is_new { IfOk result (λ w. IsNewConference settings.now (conference_state w [] 0)) }
+    ensures one { IfOk result (λ w. length w.workers ≡ 1) }
+{
+    let _workers = settings.workers();
+    let world = World::new(alloc, settings)?;
+    Ok(world)
+}
+
+/// A conference of a world that has given out nothing yet.
+fn conference_of(alloc: Global, world: World) -> Conference
+    requires one { length world.workers ≡ 1 }
+    ensures { result ≡ conference_state world [] 0 }
+{
+    Conference {
+        alloc,
+        world,
+        outs: Vec::new(alloc),
+        taken: 0,
+    }
+}
+
+/// An event from outside is done, which finds nothing waiting, and all that follows from it.
+#[tactic(auto, using(one_thread::proofs::DrivingLemmas::taken_in, one_thread::proofs::DrivingLemmas::same_count))]
+fn do_event(world: &mut World, event: Event, outs: &mut Vec<Out>) -> Result<(), EventFault>
+    requires outside { is_from_outside event ≡ true }
+    requires one { length world.old.workers ≡ 1 }
+    requires idle { IsIdle world.old }
+    ensures ok { OnOk result (Drives (event ∷ []) world.old outs.old.items
+        world.new outs.new.items) }
+    ensures idle { OnOk result (IsIdle world.new) }
+    ensures one { length world.new.workers ≡ 1 }
+    ensures err { IfErr result (StopsAfter (event ∷ []) world.old outs.old.items
+        world.new outs.new.items) }
+{
+    if step(world, event, outs).is_err() {
+        return Err(EventFault::NoMemory);
+    }
+    match settle(world, outs) {
+        Ok(()) => Ok(()),
+        Err(_) => Err(EventFault::Unsettled),
+    }
+}
+
+impl Conference {
+    /// The conference of these settings, which have one worker. Refused for want of memory alone.
+    pub fn new(alloc: Global, settings: &Settings) -> Result<Conference, AllocError>
+        requires one { settings.now.workers ≡ 1 }
+        ensures { IfOk result (IsNewConference settings.now) }
+    {
+        let world = new_world(alloc, settings)?;
+        Ok(conference_of(alloc, world))
+    }
+
+    /// Lets go of what was given out, once all of it is done with.
+    #[tactic(auto, using(crate::proofs::DeliveryLemmas::all_done))]
+    fn forget_taken(&mut self)
+        ensures { self.new ≡ self.old }
+    {
+        if self.taken == self.outs.len() {
+            self.outs.clear();
+            self.taken = 0;
+        }
+    }
+
+    /// An event from outside is done, which finds nothing waiting.
+    #[tactic(auto, using(crate::proofs::ServedLemmas::serves_of, crate::proofs::ServedLemmas::still_within, crate::proofs::ServedLemmas::leaves_of))]
+    fn take(&mut self, event: Event) -> Result<(), EventFault>
+        requires outside { is_from_outside event ≡ true }
+        requires idle { IsIdle self.old.world }
+        ensures ok { OnOk result (Serves (event ∷ []) self.old self.new) }
+        ensures settled { OnOk result (IsIdle self.new.world) }
+        ensures err { IfErr result (LeavesEvents (event ∷ []) self.old self.new) }
+    {
+        self.forget_taken();
+        do_event(&mut self.world, event, &mut self.outs)
+    }
+
+    /// A datagram came from this endpoint at this moment, in milliseconds: it is heard, with all that follows. What is to be sent
+    /// waits after what was to be sent before.
+    ///
+    /// Refused as `Busy`, exactly where something waits, and as `NoMemory`: then nothing was done. As `Unsettled` where there is no
+    /// memory for all that follows: then it was heard, and the rest waits for `settle`.
+    pub fn hear(&mut self, moment: u64, endpoint: u16, bytes: &[u8]) -> Result<(), EventFault>
+        ensures ok { OnOk result (Serves (Hear moment endpoint bytes.now ∷ []) self.old self.new) }
+        ensures settled { OnOk result (IsIdle self.new.world) }
+        ensures busy { ¬ IsIdle self.old.world → result ≡ Err Busy }
+        ensures err { IfErr result
+            (LeavesEvents (Hear moment endpoint bytes.now ∷ []) self.old self.new) }
+    {
+        if !is_idle(&self.world) {
+            return Err(EventFault::Busy);
+        }
+        let Ok(bytes) = Bytes::copy_of(self.alloc, bytes) else {
+            return Err(EventFault::NoMemory);
+        };
+        self.take(Event::Hear {
+            moment,
+            endpoint,
+            bytes,
+        })
+    }
+
+    /// It is this moment, in milliseconds: what has come with time is done, with all that follows. Refused as `hear` is.
+    pub fn tick(&mut self, moment: u64) -> Result<(), EventFault>
+        ensures ok { OnOk result (Serves (Tick moment ∷ []) self.old self.new) }
+        ensures settled { OnOk result (IsIdle self.new.world) }
+        ensures busy { ¬ IsIdle self.old.world → result ≡ Err Busy }
+        ensures err { IfErr result (LeavesEvents (Tick moment ∷ []) self.old self.new) }
+    {
+        if !is_idle(&self.world) {
+            return Err(EventFault::Busy);
+        }
+        self.take(Event::Tick { moment })
+    }
+
+    /// The leg of this number is selected from this moment on, in milliseconds, or not, with all that follows. Refused as `hear` is.
+    pub fn select(&mut self, moment: u64, leg: u16, on: bool) -> Result<(), EventFault>
+        ensures ok { OnOk result (Serves (Select moment leg on ∷ []) self.old self.new) }
+        ensures settled { OnOk result (IsIdle self.new.world) }
+        ensures busy { ¬ IsIdle self.old.world → result ≡ Err Busy }
+        ensures err { IfErr result (LeavesEvents (Select moment leg on ∷ []) self.old self.new) }
+    {
+        if !is_idle(&self.world) {
+            return Err(EventFault::Busy);
+        }
+        self.take(Event::Select { moment, leg, on })
+    }
+
+    /// What waits is done. Refused for want of memory alone: then the first of it was done, and the rest waits.
+    #[tactic(auto, using(crate::proofs::ServedLemmas::serves_of, crate::proofs::ServedLemmas::still_within))]
+    pub fn settle(&mut self) -> Result<(), AllocError>
+        ensures serves { Serves [] self.old self.new }
+        ensures settled { OnOk result (IsIdle self.new.world) }
+    {
+        self.forget_taken();
+        settle(&mut self.world, &mut self.outs)
+    }
+
+    /// The datagram that is to be sent next; none, if all were taken.
+    pub fn next(&self) -> Option<Delivery<'_>>
+        ensures { option_map datagram_of result ≡ slice_get self.now.waiting 0 }
+    {
+        next_delivery(self.outs.as_slice(), self.taken)
+    }
+
+    /// The datagram that is to be sent next is taken: from now on it is the one after it. Nothing is done if there is none.
+    pub fn take_next(&mut self)
+        ensures waiting { self.new.waiting ≡ drop 1 self.old.waiting }
+        ensures world { self.new.world ≡ self.old.world }
+    {
+        self.taken = place_after(self.outs.as_slice(), self.taken);
+    }
+
+    /// What is announced for the publisher of this number, by rising overhead: the smallest set of its live requests that permits
+    /// what they together permit. None, if there is no such endpoint.
+    pub fn announced(&self, publisher: u16) -> Option<ArrayVec<Request, MAX_REQUESTS>>
+        ensures none { (result ≡ None) ↔ (length self.now.world.desks ≤ publisher) }
+        ensures some { (d : DeskState) → slice_get self.now.world.desks publisher ≡ Some d
+            → IfSome result (λ set. set.items ≡ announced_of d.bounds) }
+    {
+        if usize::from(publisher) < self.world.publishers() {
+            Some(self.world.desk(publisher).announced())
+        } else {
+            None
+        }
+    }
+
+    /// What waits: nothing, unless a call met no memory.
+    pub fn waiting(&self) -> Waiting
+        ensures { result ≡ waiting_in self.now.world }
+    {
+        self.world.waiting()
+    }
+}

@@ -1,0 +1,34 @@
+//! A conference of a settings text.
+
+ghost use Rattle.std.specs.Prelude.{IfErr, IfOk};
+ghost use Rattle.conference.specs.Conference.{OpensBy, RefusesToOpen};
+
+use crate::conference::Conference;
+use crate::fault::OpenFault;
+use settings_text::{SettingsProblem, read_settings};
+use std::alloc::Global;
+
+impl Conference {
+    /// The conference of the settings that a text spells, as `sfu replay` reads them.
+    ///
+    /// Refused as `NoMemory`; as `Settings`, if the text isn't settings, with its first fault; as `Workers`, if they have more
+    /// workers than one.
+    pub fn open(alloc: Global, text: &[u8]) -> Result<Conference, OpenFault>
+        ensures ok { IfOk result (OpensBy text.now) }
+        ensures err { IfErr result (RefusesToOpen text.now) }
+    {
+        let file = match read_settings(alloc, text) {
+            Ok(file) => file,
+            Err(SettingsProblem::NoMemory) => return Err(OpenFault::NoMemory),
+            Err(problem) => return Err(OpenFault::Settings(problem)),
+        };
+        let workers = file.settings.workers();
+        if workers != 1 {
+            return Err(OpenFault::Workers(workers));
+        }
+        match Conference::new(alloc, &file.settings) {
+            Ok(conference) => Ok(conference),
+            Err(_) => Err(OpenFault::NoMemory),
+        }
+    }
+}

@@ -1,0 +1,4 @@
+pub mod AsBox
+pub mod HeldLemmas
+pub mod ServingLemmas
+pub mod SendingLemmas

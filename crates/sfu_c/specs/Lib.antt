@@ -1,0 +1,5 @@
+pub mod Held
+pub mod Opening
+pub mod Serving
+pub mod Sending
+pub mod Announcing

@@ -1,0 +1,19 @@
+//! One conference, for programs in other languages: a static library that C can call. What comes is given to it, and what is to be
+//! sent is taken from it.
+//!
+//! Read `include/sfu.h` first, then `slot`, what C keeps of a conference, and the functions that C calls: `opening`, `serving`,
+//! `sending`, `announcing` and `standing`.
+#![tactic(auto)]
+
+mod announcing;
+mod faults;
+mod handle;
+mod numbers;
+mod opening;
+mod parts;
+mod sending;
+mod serving;
+mod slot;
+mod standing;
+#[cfg(test)]
+mod tests;

@@ -1,0 +1,135 @@
+//! What comes from outside is given to a conference.
+
+ghost use Rattle.std.specs.Prelude.{◌≡◌, ◌≢◌, ◌↔◌, ◌∷◌, [], None};
+ghost use Rattle.events.specs.declared.event.Event.TheVariants.{Hear, Select, Tick};
+ghost use Rattle.sfu_c.specs.Serving.{AnswersEvents, AnswersSettle, OnHeld, event_answer};
+
+use crate::faults::{BUSY, CLOSED, DONE, NO_MEMORY, UNSETTLED};
+use crate::slot::SfuConference;
+use conference::{Conference, EventFault};
+use std::alloc::Global;
+
+/// The number of what came of an event.
+fn event_answer(done: Result<(), EventFault>) -> u32
+    ensures { result ≡ event_answer done }
+{
+    match done {
+        Ok(()) => DONE,
+        Err(EventFault::Busy) => BUSY,
+        Err(EventFault::NoMemory) => NO_MEMORY,
+        Err(EventFault::Unsettled) => UNSETTLED,
+    }
+}
+
+#[tactic(auto, using(crate::proofs::ServingLemmas::answers_events))]
+fn hear(conference: &mut Conference, moment: u64, endpoint: u16, bytes: &[u8]) -> u32
+    ensures { AnswersEvents (Hear moment endpoint bytes.now ∷ []) result
+        conference.old conference.new }
+{
+    event_answer(conference.hear(moment, endpoint, bytes))
+}
+
+#[tactic(auto, using(crate::proofs::ServingLemmas::answers_events))]
+fn tick(conference: &mut Conference, moment: u64) -> u32
+    ensures { AnswersEvents (Tick moment ∷ []) result conference.old conference.new }
+{
+    event_answer(conference.tick(moment))
+}
+
+#[tactic(auto, using(crate::proofs::ServingLemmas::answers_events))]
+fn select(conference: &mut Conference, moment: u64, leg: u16, on: bool) -> u32
+    ensures { AnswersEvents (Select moment leg on ∷ []) result conference.old conference.new }
+{
+    event_answer(conference.select(moment, leg, on))
+}
+
+#[tactic(auto, using(conference::proofs::ServedLemmas::serves_on))]
+fn settle(conference: &mut Conference) -> u32
+    ensures { AnswersSettle result conference.old conference.new }
+{
+    match conference.settle() {
+        Ok(()) => DONE,
+        Err(_) => UNSETTLED,
+    }
+}
+
+/// A datagram came from this endpoint at this moment, in milliseconds: it is heard, with all that follows. What is to be sent waits
+/// after what was to be sent before.
+///
+/// Refused as `CLOSED`; as `BUSY`, exactly where something waits, and as `NO_MEMORY`: then nothing was done. As `UNSETTLED` where there
+/// is no memory for all that follows: then it was heard, and the rest waits for `sfu_settle`.
+#[unsafe(no_mangle)]
+pub extern "C" fn sfu_hear(
+    alloc: Global,
+    conference: &mut SfuConference,
+    moment: u64,
+    endpoint: u16,
+    bytes: &[u8],
+) -> u32
+    ensures answers { result ≢ CLOSED → OnHeld
+        (AnswersEvents (Hear moment endpoint bytes.now ∷ []) result)
+        conference.old.handle.held conference.new.handle.held }
+    ensures closed { (result ≡ CLOSED) ↔ (conference.old.handle.held ≡ None) }
+    ensures unchanged { result ≡ CLOSED → conference.new.handle.held ≡ None }
+{
+    let Some(mut held) = conference.take(alloc) else {
+        return CLOSED;
+    };
+    let answer = hear(&mut held, moment, endpoint, bytes);
+    conference.put(held);
+    answer
+}
+
+/// It is this moment, in milliseconds: what has come with time is done, with all that follows. Refused as `sfu_hear` is.
+#[unsafe(no_mangle)]
+pub extern "C" fn sfu_tick(alloc: Global, conference: &mut SfuConference, moment: u64) -> u32
+    ensures answers { result ≢ CLOSED → OnHeld (AnswersEvents (Tick moment ∷ []) result)
+        conference.old.handle.held conference.new.handle.held }
+    ensures closed { (result ≡ CLOSED) ↔ (conference.old.handle.held ≡ None) }
+    ensures unchanged { result ≡ CLOSED → conference.new.handle.held ≡ None }
+{
+    let Some(mut held) = conference.take(alloc) else {
+        return CLOSED;
+    };
+    let answer = tick(&mut held, moment);
+    conference.put(held);
+    answer
+}
+
+/// The leg of this number is selected from this moment on, in milliseconds, or not, with all that follows. Refused as `sfu_hear` is.
+#[unsafe(no_mangle)]
+pub extern "C" fn sfu_select(
+    alloc: Global,
+    conference: &mut SfuConference,
+    moment: u64,
+    leg: u16,
+    on: bool,
+) -> u32
+    ensures answers { result ≢ CLOSED → OnHeld (AnswersEvents (Select moment leg on ∷ []) result)
+        conference.old.handle.held conference.new.handle.held }
+    ensures closed { (result ≡ CLOSED) ↔ (conference.old.handle.held ≡ None) }
+    ensures unchanged { result ≡ CLOSED → conference.new.handle.held ≡ None }
+{
+    let Some(mut held) = conference.take(alloc) else {
+        return CLOSED;
+    };
+    let answer = select(&mut held, moment, leg, on);
+    conference.put(held);
+    answer
+}
+
+/// What waits is done. Refused as `CLOSED`; as `UNSETTLED` where there is no memory: then the first of it was done, and the rest waits.
+#[unsafe(no_mangle)]
+pub extern "C" fn sfu_settle(alloc: Global, conference: &mut SfuConference) -> u32
+    ensures answers { result ≢ CLOSED → OnHeld (AnswersSettle result)
+        conference.old.handle.held conference.new.handle.held }
+    ensures closed { (result ≡ CLOSED) ↔ (conference.old.handle.held ≡ None) }
+    ensures unchanged { result ≡ CLOSED → conference.new.handle.held ≡ None }
+{
+    let Some(mut held) = conference.take(alloc) else {
+        return CLOSED;
+    };
+    let answer = settle(&mut held);
+    conference.put(held);
+    answer
+}
