@@ -1,0 +1,168 @@
+-- What the words of a command line ask for. How words name subcommands and values is clap's own statement.
+use Rattle.std.specs.Prelude.{◌≡◌, ◌≢◌, false, [], ◌∷◌, ◌++◌, ◌≤◌, decimal, ℕ, ℤ, List, Option, Some, None, codes, pos, true, ◌<◌, ◌^◌, if◌then◌else◌, option_map, option_and_then}
+use Rattle.std.specs.Str.{bytes_eq}
+use Rattle.std.specs.Str.Parse.{without_leading_plus}
+use Rattle.clap.specs.Words.{App, Row, Rule, Text, new_app, first_of, new_rule, one_of, subcommand_of, with_rule, with_subcommand}
+use Rattle.clap.specs.declared.builder.ArgAction.TheVariants.{Set}
+use Rattle.clap.specs.declared.builder.ValueParser.TheVariants.{Signed}
+use Rattle.clap.specs.declared.builder.command.Command.{Command}
+use Rattle.clap.specs.declared.builder.command.Command.TheViews.{out-Command}
+use Rattle.request_text.specs.Words.{number_under}
+use Rattle.command_line.specs.declared.command_line.Action.{Action}
+use Rattle.command_line.specs.declared.command_line.Action.TheVariants.{Bound, Check, Draw, Replay, Serve}
+
+-- a required option with a number below 2 ^ 32
+abbrev pub number_rule : Text → Rule
+number_rule name = record (new_rule name) {
+  long = Some name;
+  required = true;
+  parser = Some (Signed (pos 0) (pos 4294967295));
+  action = Some Set;
+}
+
+-- none of its arguments is one of a subcommand, too
+abbrev pub HasNoGlobals : Command → Type 0
+HasNoGlobals c = (out-Command c).has_globals ≡ false
+
+-- a subcommand with a media sender
+abbrev pub sender_app : Text → App
+sender_app name = with_rule (new_app name) (number_rule (codes "sender"))
+
+-- a required word
+abbrev pub file_rule : Rule
+file_rule = record (new_rule (codes "FILE")) { required = true; action = Some Set }
+
+-- a subcommand with a file
+abbrev pub file_app : Text → App
+file_app name = with_rule (new_app name) file_rule
+
+-- an option with a number from 1 to the greatest
+abbrev pub optional_rule : Text → ℤ → Rule
+optional_rule name most = record (new_rule name) {
+  long = Some name;
+  parser = Some (Signed (pos 1) most);
+  action = Some Set;
+}
+
+-- an option with a word
+abbrev pub word_rule : Text → Rule
+word_rule name = record (new_rule name) { long = Some name; action = Some Set }
+
+abbrev pub serve_app : App
+serve_app =
+    with_rule (with_rule (with_rule (file_app (codes "serve"))
+    (optional_rule (codes "ticks") (pos 1000000)))
+    (optional_rule (codes "status") (pos 86400)))
+    (word_rule (codes "control"))
+
+abbrev pub sfu_top : App
+sfu_top = record (new_app (codes "sfu")) {
+  top = record (new_app (codes "sfu")).top { subcommand_required = true };
+}
+
+-- the program's command line
+abbrev pub sfu : App
+sfu = with_subcommand
+    (with_subcommand
+    (with_subcommand (with_subcommand (with_subcommand sfu_top (sender_app (codes "bound")).top)
+    (file_app (codes "check")).top) (file_app (codes "replay")).top) serve_app.top)
+    (sender_app (codes "draw")).top
+
+-- what can be asked for
+pub data Request : Type 0 where
+  bound : ℕ → Request
+  check : Text → Request
+  replay : Text → Request
+  serve : Text → Option ℕ → Option ℕ → Option Text → Request
+  draw : ℕ → Request
+
+abbrev pub action_request : Action → Request
+action_request (Bound media) = bound media
+action_request (Check file) = check file.now
+action_request (Replay file) = replay file.now
+action_request (Serve file ticks status control) =
+    serve file.now ticks status (option_map (λ path. path.now) control)
+action_request (Draw media) = draw media
+
+-- the number that a word spells
+abbrev pub number_of : Text → Option ℕ
+number_of text = number_under (2 ^ 32) (without_leading_plus text)
+
+abbrev pub number_in : Text → List Row → Option ℕ
+number_in id rows = option_and_then number_of (one_of id rows)
+
+-- what the subcommand of this name asks for with these values
+abbrev pub asked_named : Text → List Row → Option Request
+asked_named name rows =
+    if bytes_eq name (codes "bound") then option_map bound (number_in (codes "sender") rows)
+    else if bytes_eq name (codes "check") then option_map check (first_of (codes "FILE") rows)
+    else if bytes_eq name (codes "replay") then option_map replay (first_of (codes "FILE") rows)
+    else if bytes_eq name (codes "serve")
+    then option_map
+    (λ file. serve file (number_in (codes "ticks") rows) (number_in (codes "status") rows)
+    (first_of (codes "control") rows))
+    (first_of (codes "FILE") rows)
+    else if bytes_eq name (codes "draw") then option_map draw (number_in (codes "sender") rows)
+    else None
+
+abbrev pub request_found : Option (Text × List Row) → Option Request
+request_found found = option_and_then (λ p. asked_named p.0 p.1) found
+
+-- what the words ask for, by the subcommand and the values that clap finds in them
+abbrev pub asked_for : List Text → Option Request
+asked_for words = request_found (subcommand_of sfu words)
+
+-- an option's words
+abbrev pub option_words : Text → Option ℕ → List Text
+option_words name None = []
+option_words name (Some n) = name ∷ decimal n ∷ []
+
+-- the same of a word
+abbrev pub word_words : Text → Option Text → List Text
+word_words name None = []
+word_words name (Some word) = name ∷ word ∷ []
+
+-- a unit is to be served
+abbrev pub AsksToServe : Option Request → Type 0
+AsksToServe None = ⊥
+AsksToServe (Some (bound media)) = ⊥
+AsksToServe (Some (check file)) = ⊥
+AsksToServe (Some (replay file)) = ⊥
+AsksToServe (Some (serve file ticks status control)) = Unit {0}
+AsksToServe (Some (draw media)) = ⊥
+
+-- the words behind the program's name that ask for it in the plainest way
+abbrev pub words_of : Request → List Text
+words_of (bound media) = codes "bound" ∷ codes "--sender" ∷ decimal media ∷ []
+words_of (check file) = codes "check" ∷ file ∷ []
+words_of (replay file) = codes "replay" ∷ file ∷ []
+words_of (serve file ticks status control) = codes "serve" ∷ file
+    ∷ (option_words (codes "--ticks") ticks
+    ++ (option_words (codes "--status") status ++ word_words (codes "--control") control))
+words_of (draw media) = codes "draw" ∷ codes "--sender" ∷ decimal media ∷ []
+
+-- a file's name that has a first byte, which is no hyphen
+abbrev pub IsFileName : Text → Type 0
+IsFileName [] = ⊥
+IsFileName (b ∷ bs) = b ≢ 45
+
+-- an option's number, where there is one
+abbrev pub IsOption : Option ℕ → ℕ → Type 0
+IsOption None most = Unit {0}
+IsOption (Some n) most = (1 ≤ n) × (n ≤ most)
+
+-- a number below 2 ^ 32; a file's name; one option at most, with a number that it may have, or the name of a file
+abbrev pub IsWritable : Request → Type 0
+IsWritable (bound media) = media < 2 ^ 32
+IsWritable (check file) = IsFileName file
+IsWritable (replay file) = IsFileName file
+IsWritable (serve file ticks None None) = IsFileName file × IsOption ticks 1000000
+IsWritable (serve file None (Some seconds) None) = IsFileName file × IsOption (Some seconds) 86400
+IsWritable (serve file (Some ticks) (Some seconds) None) = ⊥
+IsWritable (serve file None None (Some path)) = IsFileName file × IsFileName path
+IsWritable (serve file (Some ticks) None (Some path)) = ⊥
+IsWritable (serve file ticks (Some seconds) (Some path)) = ⊥
+IsWritable (draw media) = media < 2 ^ 32
+
+abbrev pub Types : List Text → Request → Type 0
+Types words asked = (name : Text) × (words ≡ name ∷ words_of asked) × IsWritable asked
