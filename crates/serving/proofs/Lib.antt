@@ -1,5 +1,4 @@
-mod PlaceLemmas
-pub mod AddressLemmas
+pub mod ClientLemmas
 pub mod ReportLemmas
 pub mod ServeLemmas
 pub mod ServedLemmas

@@ -53,6 +53,8 @@ unsaid_why old new status.Settings is = absurd is
 unsaid_why old new status.Refused is = absurd is
 unsaid_why old new status.Io is = absurd is
 unsaid_why old new status.Socket is = absurd is
+unsaid_why old new status.Control is = absurd is
+unsaid_why old new status.Record is = absurd is
 
 pub not_written : (old new : Option (List ℕ)) (s : Status) → IsUnsaid s → FailsToStart old new s
 not_written = unsaid_why
@@ -70,6 +72,8 @@ no_memory_said old new status.Settings is there = cc
 no_memory_said old new status.Refused is there = cc
 no_memory_said old new status.Io is there = cc
 no_memory_said old new status.Socket is there = cc
+no_memory_said old new status.Control is there = cc
+no_memory_said old new status.Record is there = cc
 no_memory_said old new status.UnsaidNoMemory is there = cc
 no_memory_said old new status.UnsaidIo is there = cc
 
@@ -95,12 +99,17 @@ says_early old new s fails = record {
 
 -- ---- a unit that listens
 
-pub says_behind : (old mid new : Option (List ℕ)) (address : SocketAddr) (s : Status) → Appends old mid (serving_line address) → SaysWhy mid new s → SaysWhyServing old new s
-says_behind old mid new address s there said = record {
-  notice = serving_line address;
-  listened = inr (address, refl);
-  done = λ is empty. cc;
-  said = said_behind old mid new (serving_line address) s there said;
+says_something : (address : SocketAddr) (rtcp : Option SocketAddr) → serving_line address rtcp ≢ []
+says_something address None = λ empty. cc
+says_something address (Some rtcp) = λ empty. cc
+
+pub says_behind : (old mid new : Option (List ℕ)) (address : SocketAddr) (rtcp : Option SocketAddr) (s : Status)
+    → Appends old mid (serving_line address rtcp) → SaysWhy mid new s → SaysWhyServing old new s
+says_behind old mid new address rtcp s there said = record {
+  notice = serving_line address rtcp;
+  listened = inr (address, rtcp, refl);
+  done = λ is. says_something address rtcp;
+  said = said_behind old mid new (serving_line address rtcp) s there said;
 }
 
 pub ends_so : (settings : Configuration) (old new said_old said_new : Option (List ℕ)) (served : Result (Unit {0}) ServeFault) (s : Status)

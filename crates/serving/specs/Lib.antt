@@ -1,6 +1,5 @@
-pub mod Places
-pub mod Addresses
-pub mod AddressFaults
+pub mod Clients
+pub mod Goodbyes
 pub mod ReportText
 pub mod Serving
 pub mod ServedFile

@@ -1,5 +1,5 @@
 -- What `sfu serve` says, and what it leaves where it isn't done.
-use Rattle.std.specs.Prelude.{◌≡◌, ◌≢◌, ◌⊎◌, ◌++◌, ℕ, List, [], Option, codes}
+use Rattle.std.specs.Prelude.{◌≡◌, ◌≢◌, ◌⊎◌, ◌++◌, ℕ, List, [], Option, Some, None, codes}
 use Rattle.std.specs.Io.KnownBytes.{Keeps, append_known}
 use Rattle.std.specs.Net.Text.{socket_text}
 use Rattle.std.specs.declared.net.socket_addr.SocketAddr.{SocketAddr}
@@ -50,14 +50,18 @@ pub record SaysFault (old new : Option (List ℕ)) (s : Status) (fault : ServeFa
   pub fails : FailsToStart old new s
   pub socket : s ≡ status.Socket → fault ≡ Socket
 
--- the line that says where the unit listens
-abbrev pub serving_line : SocketAddr → List ℕ
-serving_line address = codes "serving " ++ (socket_text address ++ codes "\n")
+-- the line that says where the unit listens, and where for RTCP if that is apart
+abbrev pub serving_line : SocketAddr → Option SocketAddr → List ℕ
+serving_line address None = codes "serving " ++ (socket_text address ++ codes "\n")
+serving_line address (Some rtcp) =
+    codes "serving "
+    ++ (socket_text address ++ (codes " rtcp " ++ (socket_text rtcp ++ codes "\n")))
 
 -- What the error output says of a unit that was to be served without lines of counts: where it listens, if it came so far,
 -- and behind that what other commands say.
 pub record SaysWhyServing (old new : Option (List ℕ)) (s : Status) : Type 0 where
   pub notice : List ℕ
-  pub listened : (notice ≡ []) ⊎ ((address : SocketAddr) × (notice ≡ serving_line address))
+  pub listened : (notice ≡ [])
+      ⊎ ((address : SocketAddr) × (rtcp : Option SocketAddr) × (notice ≡ serving_line address rtcp))
   pub done : s ≡ status.Done → notice ≢ []
   pub said : SaysWhy (append_known old notice) new s

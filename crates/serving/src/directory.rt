@@ -1,82 +1,75 @@
-//! Keys in order, each found without a pass over all.
+//! Where datagrams for endpoints go, for each thread that sends.
 
-ghost use Rattle.std.specs.Prelude.{◌≡◌, ◌↔◌, ◌∷◌, ◌++◌, [], Err, OnOk, OnErr, IsSome};
-ghost use Rattle.serving.specs.Places.{place_of};
+ghost use Rattle.std.specs.Prelude.{◌≡◌};
 
+use crate::clients::{Addresses, Client, Location};
+use senders::{Kind, Seat};
 use std::alloc::{AllocError, Global};
-use std::collections::HashMap;
-use std::hash::Hash;
-use std::marker::Model;
+use std::net::SocketAddr;
+use std::sync::RwLock;
 
-/// Keys in order, no two the same. The place of one is found without a pass over all.
+/// So often somebody who sends looks at a seat that is being changed, before the datagram is given up.
+const LOOKS: u32 = 1000;
+
+/// Where each endpoint is, by its number. The thread that receives changes where endpoints were learned to be; all threads that send
+/// look there, and wait for nobody.
 #[derive(Drop)]
-pub struct Directory<K: Copy + Eq + Hash> {
-    keys: Vec<K>,
-    places: HashMap<K, usize>,
+pub struct Directory {
+    entries: Vec<Entry>,
 }
 
-impl<K: Copy + Eq + Hash> Model for Directory<K> {
-    ghost use Rattle.std.specs.Prelude.{◌≡◌, List};
-    ghost use Rattle.std.specs.HashMap.{get};
-    ghost use Rattle.serving.specs.Places.{place_of};
-
-    ghost Value = { List K };
-
-    ghost view = { λ d. d.keys.items };
-
-    ghost invariant = { λ d. (key : K) → get K.eq d.places key ≡ place_of K.eq d.keys.items key };
+/// Where an endpoint is.
+#[derive(Drop)]
+enum Entry {
+    Fixed(Addresses),
+    Learned(RwLock<Seat>),
 }
 
-/// Why a key isn't put into a directory.
-#[derive(Clone, Copy, Debug, PartialEq, Eq)]
-pub enum Refused {
-    /// It stands there.
-    Twice,
-    NoMemory,
-}
+impl Directory {
+    /// The endpoints with these clients. Nothing is learned yet.
+    pub fn new(alloc: Global, clients: &[Client]) -> Result<Directory, AllocError> {
+        let mut entries = Vec::new(alloc);
+        for client in clients {
+            entries.push(match client.location {
+                Location::Fixed(addresses) => Entry::Fixed(addresses),
+                Location::Learned(_) => Entry::Learned(RwLock::new(Seat::empty())),
+            })?;
+        }
+        Ok(Directory { entries })
+    }
 
-impl<K: Copy + Eq + Hash> Directory<K> {
-    /// One without keys.
-    pub fn new(alloc: Global) -> Directory<K>
-        ensures { result ≡ [] }
-    {
-        Directory {
-            keys: Vec::new(alloc),
-            places: HashMap::new(alloc),
+    /// Where what is of this kind goes, if that is known.
+    pub fn address(&self, endpoint: u16, kind: Kind) -> Option<SocketAddr> {
+        match self.entries.get(usize::from(endpoint))? {
+            Entry::Fixed(addresses) => match kind {
+                Kind::Rtp => Some(addresses.media),
+                Kind::Rtcp => Some(addresses.rtcp),
+            },
+            Entry::Learned(seat) => seat_in(seat)?.address(kind),
         }
     }
 
-    /// Puts a key behind the others, unless it stands there. A refusal leaves all as it was.
-    pub fn push(&mut self, key: K) -> Result<(), Refused>
-        ensures ok { OnOk result (self.new ≡ self.old ++ key ∷ []) }
-        ensures unchanged { OnErr result (self.new ≡ self.old) }
-        ensures twice { (result ≡ Err Refused.Twice) ↔ IsSome (place_of K.eq self.old key) }
-    {
-        if self.places.contains_key(&key) {
-            return Err(Refused::Twice);
+    /// The endpoint is there from now on, if its address is learned. Whether all see that: else somebody looked just now.
+    pub fn sit(&self, endpoint: u16, seat: Seat) -> bool {
+        let Some(Entry::Learned(lock)) = self.entries.get(usize::from(endpoint)) else {
+            return false;
+        };
+        match lock.try_write() {
+            Some(mut held) => {
+                *held = seat;
+                true
+            }
+            None => false,
         }
-        let place = self.keys.as_slice().len();
-        let Ok(()) = self.keys.push(key) else {
-            return Err(Refused::NoMemory);
-        };
-        let Ok(_) = self.places.insert(key, place) else {
-            let _ = self.keys.pop();
-            return Err(Refused::NoMemory);
-        };
-        Ok(())
     }
+}
 
-    /// Where the key stands.
-    pub fn find(&self, key: K) -> Option<usize>
-        ensures { result ≡ place_of K.eq self.now key }
-    {
-        self.places.get(&key).copied()
+/// What is known of a seat.
+fn seat_in(lock: &RwLock<Seat>) -> Option<Seat> {
+    for _look in 0..LOOKS {
+        if let Some(seat) = lock.try_read() {
+            return Some(*seat);
+        }
     }
-
-    /// The keys in order.
-    pub fn keys(&self) -> &[K]
-        ensures { result.now ≡ self.now }
-    {
-        self.keys.as_slice()
-    }
+    None
 }

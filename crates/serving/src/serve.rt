@@ -1,6 +1,6 @@
-//! `sfu serve`: the unit on a UDP socket.
+//! `sfu serve`: the unit on UDP sockets.
 
-ghost use Rattle.std.specs.Prelude.{◌≡◌, None, MatchResult, length, IfErr, IfOk, OnOk};
+ghost use Rattle.std.specs.Prelude.{◌≡◌, Option, None, MatchResult, length, string_bytes, IfErr, IfOk, OnOk};
 ghost use Rattle.std.specs.Io.KnownBytes.{Appends};
 ghost use Rattle.settings.specs.Settings.{IsInRange};
 ghost use Rattle.rate_desk.specs.Gathered.{AreDesksOf};
@@ -8,29 +8,34 @@ ghost use Rattle.serving.specs.ReportText.{PrintsReport, report_text};
 ghost use Rattle.endings.specs.Endings.{SaysWhy};
 ghost use Rattle.serving.specs.Serving.{EndsServe, FailsServe, FailsToStart, SaysFault, SaysWhyServing, serving_line};
 
-use crate::addresses::Addresses;
+use crate::arrivals::Arrivals;
+use crate::clients::Client;
+use crate::directory::Directory;
+use crate::gauges::Gauges;
+use crate::goodbyes::say_goodbyes;
+use crate::recorded::{RecordedClock, RecordedSource};
 use crate::report_text::report_text;
 use crate::serve_fault::ServeFault;
 use crate::served_file::ServedSettings;
-use crate::socket::{Gauges, RunClock, SocketSink, SocketSource, socket_sinks};
+use crate::socket::{RunClock, SocketSink, SocketSource, Sockets, socket_sinks};
 use crate::status_lines::StatusLines;
+use crate::steered::{SteeredSource, SteeredWatch};
 use endings::{Status, say, say_no_memory, unsaid};
 use one_thread::run_one_thread;
+use screening::{Rules, Screen};
 use settings::Settings;
-use std::alloc::Global;
-use std::io::Write;
+use std::alloc::{AllocError, Global};
+use std::io::{self, Write};
 use std::net::{Net, SocketAddr, UdpSocket};
 use std::sync::Wait;
 use std::thread::Threads;
-use std::time::{self, Duration};
+use std::time;
+use traffic::Traffic;
 use workers::{Open, Outside, Pace, Report, Unwatched, Watch, run_watched};
-
-/// How long a receive waits, in milliseconds, so that time goes on while nothing comes.
-const RECEIVE_MS: u64 = 10;
 
 /// How far the unit's moment rises at least between two ticks, in milliseconds. A desk records the moment at each, so that it lives
 /// for months.
-const TICK_MS: u64 = 10;
+pub(crate) const TICK_MS: u64 = 10;
 
 /// How long the unit is served, and how often it says how it goes.
 #[derive(Clone, Copy, Debug, PartialEq, Eq)]
@@ -51,11 +56,50 @@ impl Term {
     }
 }
 
-/// Binds the socket that the settings name, says so on the error output, and serves its endpoints.
+/// The sockets that are bound: the one for all, or for RTP, and the one for RTCP, where it has its own.
+#[derive(Drop)]
+struct Bound {
+    media: UdpSocket,
+    control: Option<UdpSocket>,
+}
+
+impl Bound {
+    /// Binds the sockets that the settings name.
+    fn new<R: Net>(rt: &R, file: &ServedSettings) -> io::Result<Bound> {
+        let media = UdpSocket::bind(rt, file.listen.media)?;
+        let control = match file.listen.rtcp {
+            Some(address) => Some(UdpSocket::bind(rt, address)?),
+            None => None,
+        };
+        Ok(Bound { media, control })
+    }
+
+    fn sockets(&self) -> Sockets<'_> {
+        Sockets {
+            media: &self.media,
+            control: self.control.as_ref(),
+        }
+    }
+
+    /// Where they are bound.
+    fn addresses(&self) -> io::Result<(SocketAddr, Option<SocketAddr>)> {
+        let media = self.media.local_addr()?;
+        match &self.control {
+            Some(socket) => {
+                let control = socket.local_addr()?;
+                Ok((media, Some(control)))
+            }
+            None => Ok((media, None)),
+        }
+    }
+}
+
+/// Binds the sockets that the settings name, says so on the error output, and serves the endpoints.
 pub fn serve_file<R: AllocGlobal + Net + Threads + Wait + Sync + time::Clock, O: Write, E: Write>(
     rt: &R,
     file: &ServedSettings,
     term: Term,
+    gauges: &Gauges,
     writer: &mut O,
     errors: &mut E,
 ) -> Status
@@ -64,34 +108,39 @@ pub fn serve_file<R: AllocGlobal + Net + Threads + Wait + Sync + time::Clock, O:
     ensures said { term.status ≡ None
         → SaysWhyServing (E.contents errors.old) (E.contents errors.new) result }
 {
-    match UdpSocket::bind(rt, file.listen) {
-        Ok(socket) => match say_serving(rt.alloc(), &socket, errors) {
-            Ok(()) => serve_bound(rt, &socket, file, term, writer, errors),
+    match Bound::new(rt, file) {
+        Ok(bound) => match say_serving(rt.alloc(), &bound, errors) {
+            Ok(()) => serve_bound(rt, bound.sockets(), file, term, gauges, writer, errors),
             Err(status) => status,
         },
         Err(_) => say_fault(errors, ServeFault::Socket),
     }
 }
 
-/// Says on the error output where the socket is bound; else how the command ends.
-fn say_serving<E: Write>(alloc: Global, socket: &UdpSocket, errors: &mut E) -> Result<(), Status>
-    ensures ok { OnOk result ((address : SocketAddr)
-        × Appends (E.contents errors.old) (E.contents errors.new) (serving_line address)) }
+/// Says on the error output where the sockets are bound; else how the command ends.
+fn say_serving<E: Write>(alloc: Global, bound: &Bound, errors: &mut E) -> Result<(), Status>
+    ensures ok { OnOk result ((address : SocketAddr) × (rtcp : Option SocketAddr)
+        × Appends (E.contents errors.old) (E.contents errors.new) (serving_line address rtcp)) }
     ensures err { IfErr result (FailsToStart (E.contents errors.old) (E.contents errors.new)) }
 {
-    match socket.local_addr() {
-        Ok(address) => say_address(alloc, address, errors),
+    match bound.addresses() {
+        Ok((address, rtcp)) => say_addresses(alloc, address, rtcp, errors),
         Err(_) => Err(say_fault(errors, ServeFault::Socket)),
     }
 }
 
-/// Says that the unit listens at this address; else how the command ends.
-fn say_address<E: Write>(alloc: Global, address: SocketAddr, errors: &mut E) -> Result<(), Status>
+/// Says that the unit listens at this address, and at that one for RTCP; else how the command ends.
+fn say_addresses<E: Write>(
+    alloc: Global,
+    address: SocketAddr,
+    rtcp: Option<SocketAddr>,
+    errors: &mut E,
+) -> Result<(), Status>
     ensures ok { OnOk result (Appends (E.contents errors.old) (E.contents errors.new)
-        (serving_line address)) }
+        (serving_line address rtcp)) }
     ensures err { IfErr result (FailsToStart (E.contents errors.old) (E.contents errors.new)) }
 {
-    match format!(in alloc; "serving {address}\n") {
+    match serving_text(alloc, address, rtcp) {
         Ok(text) => match errors.write_all(text.as_bytes()) {
             Ok(()) => Ok(()),
             Err(error) => Err(unsaid(&error)),
@@ -100,12 +149,27 @@ fn say_address<E: Write>(alloc: Global, address: SocketAddr, errors: &mut E) -> 
     }
 }
 
-/// Serves the endpoints on a socket that is bound, and says on the error output why that failed where it did.
+/// The line that says where the unit listens.
+fn serving_text(
+    alloc: Global,
+    address: SocketAddr,
+    rtcp: Option<SocketAddr>,
+) -> Result<String, AllocError>
+    ensures { IfOk result (λ text. string_bytes text ≡ serving_line address rtcp) }
+{
+    match rtcp {
+        None => format!(in alloc; "serving {address}\n"),
+        Some(rtcp) => format!(in alloc; "serving {address} rtcp {rtcp}\n"),
+    }
+}
+
+/// Serves the endpoints on sockets that are bound, and says on the error output why that failed where it did.
 fn serve_bound<R: AllocGlobal + Threads + Wait + Sync + time::Clock, O: Write, E: Write>(
     rt: &R,
-    socket: &UdpSocket,
+    sockets: Sockets<'_>,
     file: &ServedSettings,
     term: Term,
+    gauges: &Gauges,
     writer: &mut O,
     errors: &mut E,
 ) -> Status
@@ -116,19 +180,23 @@ fn serve_bound<R: AllocGlobal + Threads + Wait + Sync + time::Clock, O: Write, E
 {
     let ServedSettings {
         settings,
-        addresses,
+        clients,
+        rules,
         ..
     } = file;
+    let clients = clients.as_slice();
     let turns = term.turns();
     match term.status {
         Some(seconds) => {
             let served = serve_watched(
-                rt, socket, settings, addresses, turns, seconds, writer, errors,
+                rt, sockets, settings, clients, *rules, turns, seconds, gauges, writer, errors,
             );
             ended(served, errors)
         }
         None => {
-            let served = serve_socket(rt, socket, settings, addresses, turns, writer);
+            let served = serve_socket(
+                rt, sockets, settings, clients, *rules, turns, gauges, writer,
+            );
             ended(served, errors)
         }
     }
@@ -157,36 +225,41 @@ fn say_fault<E: Write>(errors: &mut E, fault: ServeFault) -> Status
     }
 }
 
-/// Serves the endpoints at these addresses on the socket for so many turns, and prints the counts and what is announced to
+/// Serves the endpoints with these clients on the sockets for so many turns, screened by these rules, and prints the counts and what is announced to
 /// each publisher by then.
 ///
 /// Fails as `Socket` where 100 receives in a row fail, no timeout can be set, a thread can't be started or the desks don't
 /// agree with what was counted; then nothing is printed.
 pub fn serve_socket<R: AllocGlobal + Threads + Wait + Sync + time::Clock, O: Write>(
     rt: &R,
-    socket: &UdpSocket,
+    sockets: Sockets<'_>,
     settings: &Settings,
-    addresses: &Addresses,
+    clients: &[Client],
+    rules: Rules,
     ticks: u64,
+    gauges: &Gauges,
     writer: &mut O,
 ) -> Result<(), ServeFault>
     ensures done { OnOk result (PrintsReport settings.now
         (O.contents writer.old) (O.contents writer.new)) }
     ensures refused { IfErr result (FailsServe (O.contents writer.old) (O.contents writer.new)) }
 {
-    let gauges = Gauges::new();
-    let report = run_on(rt, socket, settings, addresses, ticks, &gauges, Unwatched)?;
+    let report = run_on(
+        rt, sockets, settings, clients, rules, ticks, gauges, Unwatched,
+    )?;
     print_report(rt.alloc(), settings, &report, writer)
 }
 
 /// `serve_socket`, with a line of counts on the error output each so many seconds.
 pub fn serve_watched<R: AllocGlobal + Threads + Wait + Sync + time::Clock, O: Write, E: Write>(
     rt: &R,
-    socket: &UdpSocket,
+    sockets: Sockets<'_>,
     settings: &Settings,
-    addresses: &Addresses,
+    clients: &[Client],
+    rules: Rules,
     ticks: u64,
     seconds: u32,
+    gauges: &Gauges,
     writer: &mut O,
     errors: &mut E,
 ) -> Result<(), ServeFault>
@@ -194,9 +267,8 @@ pub fn serve_watched<R: AllocGlobal + Threads + Wait + Sync + time::Clock, O: Wr
         (O.contents writer.old) (O.contents writer.new)) }
     ensures refused { IfErr result (FailsServe (O.contents writer.old) (O.contents writer.new)) }
 {
-    let gauges = Gauges::new();
-    let lines = StatusLines::new(rt.alloc(), errors, u64::from(seconds) * 1000, &gauges);
-    let report = run_on(rt, socket, settings, addresses, ticks, &gauges, lines)?;
+    let lines = StatusLines::new(rt.alloc(), errors, u64::from(seconds) * 1000, gauges);
+    let report = run_on(rt, sockets, settings, clients, rules, ticks, gauges, lines)?;
     print_report(rt.alloc(), settings, &report, writer)
 }
 
@@ -217,12 +289,15 @@ fn print_report<O: Write>(
     Ok(())
 }
 
-/// Runs the unit on the socket for so many turns: in this thread if there is one worker, else with a thread for each.
+/// Runs the unit on the sockets for so many turns: in this thread if there is one worker, else with a thread for each. If somebody has it
+/// stopped, each endpoint that is present is sent a goodbye of the unit and of the legs to it (`goodbye_of`), which isn't counted in the
+/// report.
 pub fn run_on<R: AllocGlobal + Threads + Wait + Sync + time::Clock, W: Watch + Drop>(
     rt: &R,
-    socket: &UdpSocket,
+    sockets: Sockets<'_>,
     settings: &Settings,
-    addresses: &Addresses,
+    clients: &[Client],
+    rules: Rules,
     turns: u64,
     gauges: &Gauges,
     watch: W,
@@ -231,22 +306,108 @@ pub fn run_on<R: AllocGlobal + Threads + Wait + Sync + time::Clock, W: Watch + D
         (length settings.now.endpoints) r.desks.items) }
     ensures range { IfOk result (λ _. IsInRange settings.now) }
 {
-    if !waits_a_little(socket) {
+    if !sockets.waits_a_little() {
         return Err(ServeFault::Socket);
     }
-    if settings.workers() == 1 {
-        run_in_this_thread(rt, socket, settings, addresses, turns, gauges, watch)
-    } else {
-        run_on_threads(rt, socket, settings, addresses, turns, gauges, watch)
+    let alloc = rt.alloc();
+    let common = Common::new(alloc, settings, clients)?;
+    let source = source_on(alloc, sockets, settings, clients, rules, gauges, &common)?;
+    let ends = Ends {
+        sockets,
+        common: &common,
+        source,
+    };
+    let report = run_by_workers(rt, ends, settings, turns, gauges, watch)?;
+    leave(alloc, sockets, settings, gauges, &common);
+    Ok(report)
+}
+
+/// What all threads of a run look at: where endpoints are, and what came and went.
+#[derive(Drop)]
+struct Common {
+    directory: Directory,
+    traffic: Traffic,
+}
+
+impl Common {
+    /// Those of a run that begins.
+    fn new(alloc: Global, settings: &Settings, clients: &[Client]) -> Result<Common, AllocError> {
+        Ok(Common {
+            directory: Directory::new(alloc, clients)?,
+            traffic: Traffic::new(alloc, settings)?,
+        })
     }
 }
 
-/// Runs the machine itself: what it gives out for what comes to the socket goes out there.
+/// What comes to the sockets, screened by these rules.
+fn source_on<'a>(
+    alloc: Global,
+    sockets: Sockets<'a>,
+    settings: &'a Settings,
+    clients: &'a [Client],
+    rules: Rules,
+    gauges: &'a Gauges,
+    common: &'a Common,
+) -> Result<Screen<'a, SocketSource<'a>>, ServeFault> {
+    let Ok(listening) = sockets.listening() else {
+        return Err(ServeFault::Socket);
+    };
+    let Common { directory, traffic } = common;
+    let arrivals = Arrivals::new(
+        alloc, listening, settings, clients, directory, gauges, traffic,
+    )?;
+    let source = SocketSource::new(sockets, arrivals, gauges);
+    let screen = Screen::new(alloc, source, settings.endpoints(), rules, &gauges.far)?;
+    Ok(screen)
+}
+
+/// Says goodbye to who was present when somebody had the unit stopped.
+fn leave(
+    alloc: Global,
+    sockets: Sockets<'_>,
+    settings: &Settings,
+    gauges: &Gauges,
+    common: &Common,
+) {
+    if let Some(present) = gauges.present_at_stop() {
+        let mut sink = SocketSink::new(sockets, &common.directory, &common.traffic);
+        say_goodbyes(alloc, settings, present.as_slice(), &mut sink);
+    }
+}
+
+/// Runs the unit over these ends: in this thread if there is one worker, else with a thread for each.
+fn run_by_workers<R: AllocGlobal + Threads + Wait + Sync + time::Clock, W: Watch + Drop>(
+    rt: &R,
+    ends: Ends<'_>,
+    settings: &Settings,
+    turns: u64,
+    gauges: &Gauges,
+    watch: W,
+) -> Result<Report, ServeFault>
+    ensures report { IfOk result (λ r. AreDesksOf settings.now.pli_gap_ms settings.now.request_ms
+        (length settings.now.endpoints) r.desks.items) }
+    ensures range { IfOk result (λ _. IsInRange settings.now) }
+{
+    if settings.workers() == 1 {
+        run_in_this_thread(rt, ends, settings, turns, gauges, watch)
+    } else {
+        run_on_threads(rt, ends, settings, turns, gauges, watch)
+    }
+}
+
+/// Where datagrams come from and go to.
+#[derive(Drop)]
+struct Ends<'a> {
+    sockets: Sockets<'a>,
+    common: &'a Common,
+    source: Screen<'a, SocketSource<'a>>,
+}
+
+/// Runs the machine itself: what it gives out for what comes to the sockets goes out there.
 fn run_in_this_thread<R: AllocGlobal + time::Clock, W: Watch + Drop>(
     rt: &R,
-    socket: &UdpSocket,
+    ends: Ends<'_>,
     settings: &Settings,
-    addresses: &Addresses,
     turns: u64,
     gauges: &Gauges,
     watch: W,
@@ -255,10 +416,22 @@ fn run_in_this_thread<R: AllocGlobal + time::Clock, W: Watch + Drop>(
     ensures { IfOk result (λ r. AreDesksOf settings.now.pli_gap_ms settings.now.request_ms
         (length settings.now.endpoints) r.desks.items) }
 {
-    let mut source = SocketSource::new(socket, addresses, gauges);
-    let mut sink = SocketSink::new(socket, addresses.keys());
-    let mut clock = RunClock::new(rt, &gauges.moment_ms);
-    let mut watch = watch;
+    let Ends {
+        sockets,
+        common,
+        source,
+    } = ends;
+    let Common { directory, traffic } = common;
+    let source = SteeredSource { source, gauges };
+    let mut source = RecordedSource { source, gauges };
+    let mut sink = SocketSink::new(sockets, directory, traffic);
+    let clock = RunClock::new(rt, &gauges.moment_ms);
+    let mut clock = RecordedClock { clock, gauges };
+    let mut watch = SteeredWatch {
+        watch,
+        gauges,
+        traffic,
+    };
     let pace = one_thread::Pace {
         turns,
         tick_ms: TICK_MS,
@@ -298,9 +471,8 @@ fn report_of(report: one_thread::Report) -> Report
 /// Runs the unit with a thread for each worker.
 fn run_on_threads<R: AllocGlobal + Threads + Wait + Sync + time::Clock, W: Watch + Drop>(
     rt: &R,
-    socket: &UdpSocket,
+    ends: Ends<'_>,
     settings: &Settings,
-    addresses: &Addresses,
     turns: u64,
     gauges: &Gauges,
     watch: W,
@@ -311,11 +483,23 @@ fn run_on_threads<R: AllocGlobal + Threads + Wait + Sync + time::Clock, W: Watch
 {
     let alloc = rt.alloc();
     let count = settings.workers() as usize + 1;
+    let Ends {
+        sockets,
+        common,
+        source,
+    } = ends;
+    let Common { directory, traffic } = common;
+    let source = SteeredSource { source, gauges };
+    let clock = RunClock::new(rt, &gauges.moment_ms);
     let outside = Outside {
-        source: SocketSource::new(socket, addresses, gauges),
-        sinks: socket_sinks(alloc, socket, addresses.keys(), count)?,
-        clock: RunClock::new(rt, &gauges.moment_ms),
-        watch,
+        source: RecordedSource { source, gauges },
+        sinks: socket_sinks(alloc, sockets, directory, traffic, count)?,
+        clock: RecordedClock { clock, gauges },
+        watch: SteeredWatch {
+            watch,
+            gauges,
+            traffic,
+        },
     };
     let pace = Pace {
         turns,
@@ -325,10 +509,4 @@ fn run_on_threads<R: AllocGlobal + Threads + Wait + Sync + time::Clock, W: Watch
         Ok(report) => Ok(report),
         Err(fault) => Err(ServeFault::from(fault)),
     }
-}
-
-/// Has the socket's receives wait no longer than they may, unless the system doesn't.
-fn waits_a_little(socket: &UdpSocket) -> bool {
-    let wait = Duration::from_millis(RECEIVE_MS);
-    socket.set_read_timeout(Some(wait)).is_ok()
 }

@@ -1,12 +1,16 @@
 //! The settings of `sfu serve`: those of the room, and where the unit and its endpoints are.
 
-ghost use Rattle.std.specs.Prelude.{IfOk, IfSome};
-ghost use Rattle.serving.specs.Addresses.{Spells};
-ghost use Rattle.serving.specs.ServedFile.{GivesPlaces, PlacesFile};
+ghost use Rattle.std.specs.Prelude.{◌≡◌, IfOk, IfSome};
+ghost use Rattle.serving.specs.ServedFile.{GivesPlaces, ListensApart, PlacesFile, rules_in};
 
-use crate::addresses::{AddressFault, Addresses, read_addresses};
+use crate::clients::{
+    AddressKey, Client, ClientFault, Listening, address_in, client_in, read_clients,
+};
+use screening::Rules;
 use settings::Settings;
-use settings_text::{FileSettings, Place, SettingsProblem, items_at, problem_at, read_settings};
+use settings_text::{
+    ClientText, FileSettings, Place, SettingsProblem, items_at, problem_at, read_settings,
+};
 use std::alloc::Global;
 use std::net::SocketAddr;
 use toml::{Table, Value};
@@ -17,13 +21,17 @@ pub struct ServedSettings {
     /// The settings of the room.
     pub settings: Settings,
     /// Where the unit listens.
-    pub listen: SocketAddr,
-    /// Where its endpoints are.
-    pub addresses: Addresses,
+    pub listen: Listening,
+    /// What of a datagram is looked at before the machine hears it.
+    pub rules: Rules,
+    /// Where the clients of its endpoints are.
+    pub clients: Vec<Client>,
+    /// What the file says of each client.
+    pub texts: Vec<ClientText>,
 }
 
-/// The settings that a text spells, with all addresses; else its first fault, where an address that is missing, is none or
-/// stands at an earlier endpoint is a fault of its key.
+/// The settings that a text spells, with all addresses; else its first fault, where an address that is missing, is none or can't be
+/// reached is a fault of its key.
 pub fn read_served(alloc: Global, text: &[u8]) -> Result<ServedSettings, SettingsProblem>
     ensures { IfOk result (GivesPlaces ⟦<SocketAddr as PartialEq>⟧.eq text.now) }
 {
@@ -37,29 +45,55 @@ pub fn read_served(alloc: Global, text: &[u8]) -> Result<ServedSettings, Setting
 fn placed(alloc: Global, file: FileSettings) -> Result<ServedSettings, SettingsProblem>
     ensures { IfOk result (PlacesFile ⟦<SocketAddr as PartialEq>⟧.eq file) }
 {
-    let Some(listen) = address_in(&file.listen) else {
+    let Some(media) = address_in(&file.listen) else {
         return Err(problem_at(alloc, Place::Top("listen")));
     };
-    match read_addresses(alloc, file.addresses.as_slice()) {
-        Ok(addresses) => Ok(ServedSettings {
+    let Some(rtcp) = apart_in(media, &file.listen_rtcp) else {
+        return Err(problem_at(alloc, Place::Top("listen_rtcp")));
+    };
+    let listen = Listening { media, rtcp };
+    match read_clients(alloc, listen, file.clients.as_slice()) {
+        Ok(clients) => Ok(ServedSettings {
             settings: file.settings,
             listen,
-            addresses,
+            rules: rules_in(file.new_starts, file.strict_ssrc),
+            clients,
+            texts: file.clients,
         }),
-        Err(AddressFault::NoMemory) => Err(SettingsProblem::NoMemory),
-        Err(AddressFault::Endpoint(number)) => {
-            Err(problem_at(alloc, Place::Endpoint(number, "address")))
+        Err(ClientFault::NoMemory) => Err(SettingsProblem::NoMemory),
+        Err(ClientFault::Endpoint(number, key)) => {
+            Err(problem_at(alloc, Place::Endpoint(number, key.name())))
         }
     }
 }
 
-/// The address that a text spells.
-fn address_in(text: &Option<String>) -> Option<SocketAddr>
-    ensures { IfSome result (Spells text.now) }
+/// What is looked at, where a file says so: sources that begin anew go unnoticed unless it says otherwise, and feedback has to name
+/// the endpoint's own source.
+fn rules_in(new_starts: Option<bool>, strict_ssrc: Option<bool>) -> Rules
+    ensures { result ≡ rules_in new_starts strict_ssrc }
+{
+    Rules {
+        new_starts: new_starts.unwrap_or(false),
+        strict_ssrc: strict_ssrc.unwrap_or(true),
+    }
+}
+
+/// Where RTCP is listened for apart, where a text says so; `None` where the text spells no address, or one of the other version of IP.
+fn apart_in(media: SocketAddr, text: &Option<String>) -> Option<Option<SocketAddr>>
+    ensures { IfSome result (ListensApart media text.now) }
 {
     match text {
-        Some(text) => text.as_str().parse::<SocketAddr>().ok(),
-        None => None,
+        None => Some(None),
+        Some(text) => match text.as_str().parse::<SocketAddr>() {
+            Ok(address) => {
+                if address.is_ipv4() == media.is_ipv4() {
+                    Some(Some(address))
+                } else {
+                    None
+                }
+            }
+            Err(_) => None,
+        },
     }
 }
 
@@ -68,7 +102,7 @@ fn first_problem(alloc: Global, text: &[u8], problem: SettingsProblem) -> Settin
     let Ok(table) = toml::table_from_slice(alloc, text) else {
         return problem;
     };
-    match (misplaced(&table), place_of(&problem)) {
+    match (misplaced(alloc, &table), place_of(&problem)) {
         (Some(place), Some(other)) if place < other => problem_at(alloc, place),
         _ => problem,
     }
@@ -77,7 +111,7 @@ fn first_problem(alloc: Global, text: &[u8], problem: SettingsProblem) -> Settin
 /// Where a problem stands; want of memory and what is no TOML document stand nowhere.
 fn place_of(problem: &SettingsProblem) -> Option<Place<'_>> {
     match problem {
-        SettingsProblem::NoMemory | SettingsProblem::Toml => None,
+        SettingsProblem::NoMemory | SettingsProblem::File | SettingsProblem::Toml => None,
         SettingsProblem::Top(key) => Some(Place::Top(key.as_str())),
         SettingsProblem::Endpoint(number, key) => Some(Place::Endpoint(*number, key.as_str())),
         SettingsProblem::Leg(number, key) => Some(Place::Leg(*number, key.as_str())),
@@ -85,27 +119,53 @@ fn place_of(problem: &SettingsProblem) -> Option<Place<'_>> {
     }
 }
 
-/// The first key of a table where an address is missing, is none, or stands at an earlier endpoint.
-fn misplaced(table: &Table) -> Option<Place<'static>> {
-    if address_at(table.get("listen")).is_none() {
+/// The first key of a table that says wrongly where somebody is.
+fn misplaced(alloc: Global, table: &Table) -> Option<Place<'static>> {
+    let listen = copied(alloc, table.get("listen"));
+    let Some(media) = address_in(&listen) else {
         return Some(Place::Top("listen"));
+    };
+    let listen_rtcp = copied(alloc, table.get("listen_rtcp"));
+    if table.contains_key("listen_rtcp") && listen_rtcp.is_none() {
+        return Some(Place::Top("listen_rtcp"));
     }
-    let endpoints = items_at(table, "endpoint");
-    for (number, endpoint) in endpoints.iter().enumerate() {
-        let address = address_at(endpoint.get("address"));
-        let before = &endpoints[..number];
-        if address.is_none()
-            || before
-                .iter()
-                .any(|e| address_at(e.get("address")) == address)
-        {
-            return Some(Place::Endpoint(number, "address"));
+    let Some(rtcp) = apart_in(media, &listen_rtcp) else {
+        return Some(Place::Top("listen_rtcp"));
+    };
+    for (number, endpoint) in items_at(table, "endpoint").iter().enumerate() {
+        if let Some(key) = misplaced_key(alloc, Listening { media, rtcp }, endpoint) {
+            return Some(Place::Endpoint(number, key.name()));
         }
     }
     None
 }
 
-/// The address that a value spells.
-fn address_at(value: Option<&Value>) -> Option<SocketAddr> {
-    value?.as_str()?.parse::<SocketAddr>().ok()
+/// The first such key of an endpoint's table.
+fn misplaced_key(alloc: Global, listen: Listening, endpoint: &Value) -> Option<AddressKey> {
+    let text = ClientText {
+        address: copied(alloc, endpoint.get("address")),
+        learn_from: copied(alloc, endpoint.get("learn_from")),
+        rtcp_address: copied(alloc, endpoint.get("rtcp_address")),
+        receive_only: truth_of(endpoint.get("receive_only")),
+        rtpmap: Vec::new(alloc),
+        fmtp: Vec::new(alloc),
+    };
+    client_in(listen, &text).err()
+}
+
+/// A copy of the text that a value is. One that memory is wanting for is an empty one, which spells nothing.
+fn copied(alloc: Global, value: Option<&Value>) -> Option<String> {
+    let text = value?.as_str()?;
+    match String::from_str(alloc, text) {
+        Ok(copy) => Some(copy),
+        Err(_) => Some(String::new(alloc)),
+    }
+}
+
+/// The truth value that a value is; false where it is none.
+fn truth_of(value: Option<&Value>) -> bool {
+    match value {
+        Some(value) => value.as_bool().unwrap_or(false),
+        None => false,
+    }
 }

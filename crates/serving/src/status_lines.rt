@@ -1,7 +1,8 @@
 //! The lines of counts that `sfu serve --status` writes while the unit runs.
 
-use crate::socket::Gauges;
+use crate::gauges::Gauges;
 use outside::{Status, Watch};
+use recording::end_name;
 use std::alloc::{AllocError, Global};
 use std::io::Write;
 
@@ -36,17 +37,34 @@ impl<'a, E: Write> StatusLines<'a, E> {
 
     /// Writes one line.
     fn write_line(&mut self, status: &Status) -> Result<(), AllocError> {
+        let recorded = self.recorded_part()?;
         let line = format!(in self.alloc;
-            "present {} heard {} sent {} failed {} lost {} strangers {}\n",
+            "present {} heard {} sent {} failed {} lost {} strangers {} far {}{}\n",
             status.present,
             status.heard,
             status.sent,
             status.failed,
             status.lost,
             self.gauges.strangers.get(),
+            self.gauges.far.get(),
+            recorded.as_str(),
         )?;
         let _ = self.errors.write_all(line.as_bytes());
         Ok(())
+    }
+
+    /// How many bytes were recorded, and why the record ended, if it did; nothing of a run that isn't recorded.
+    fn recorded_part(&self) -> Result<String, AllocError> {
+        let Some((written, end)) = self.gauges.record_state() else {
+            return Ok(String::new(self.alloc));
+        };
+        match end {
+            Some(end) => {
+                let why = end_name(end);
+                format!(in self.alloc; " recorded {written} ended {why}")
+            }
+            None => format!(in self.alloc; " recorded {written}"),
+        }
     }
 }
 

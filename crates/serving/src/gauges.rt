@@ -1,0 +1,136 @@
+//! What a run shows while it goes on, who steers it, and who records it.
+
+use crate::recorder::Recorder;
+use crate::steering::Steering;
+use outside::{Look, Received, Status};
+use recording::End;
+use std::cell::{Cell, RefCell, RefMut};
+use std::net::SocketAddr;
+use traffic::Traffic;
+
+/// What a source and a clock show of a run while it goes on.
+#[derive(Drop)]
+pub struct Gauges {
+    /// How many datagrams, or packets of one, came from nobody; they are let go.
+    pub strangers: Cell<u64>,
+    /// How many packets were far from the highest number of their source, and weren't heard.
+    pub far: Cell<u64>,
+    /// How many milliseconds went by since the run began, at the last turn.
+    pub moment_ms: Cell<u64>,
+    /// Who steers the run, if anybody may.
+    steering: Option<RefCell<Steering>>,
+    /// Who records the run, if anybody does.
+    recorder: Option<RefCell<Recorder>>,
+}
+
+impl Gauges {
+    /// Those of a run that begins.
+    pub fn new() -> Gauges {
+        Gauges {
+            strangers: Cell::new(0),
+            far: Cell::new(0),
+            moment_ms: Cell::new(0),
+            steering: None,
+            recorder: None,
+        }
+    }
+
+    /// Those of a run that begins, and is steered.
+    pub fn steered(steering: Steering) -> Gauges {
+        Gauges {
+            strangers: Cell::new(0),
+            far: Cell::new(0),
+            moment_ms: Cell::new(0),
+            steering: Some(RefCell::new(steering)),
+            recorder: None,
+        }
+    }
+
+    /// The same, of a run that is recorded.
+    pub fn recorded(self, recorder: Recorder) -> Gauges {
+        let mut gauges = self;
+        gauges.recorder = Some(RefCell::new(recorder));
+        gauges
+    }
+
+    /// Who records the run.
+    pub(crate) fn recorder(&self) -> Option<RefMut<'_, Recorder>> {
+        let Some(recorder) = &self.recorder else {
+            return None;
+        };
+        recorder.try_borrow_mut().ok()
+    }
+
+    /// How many bytes were recorded of the run, and why the record ended, if it did.
+    pub(crate) fn record_state(&self) -> Option<(u64, Option<End>)> {
+        match self.recorder() {
+            Some(recorder) => Some(recorder.state()),
+            None => None,
+        }
+    }
+
+    /// The run has ended, and so has its record.
+    pub(crate) fn finish(self) {
+        let Gauges { recorder, .. } = self;
+        if let Some(recorder) = recorder {
+            recorder.into_inner().finish();
+        }
+    }
+
+    /// Who steers the run.
+    pub(crate) fn steering(&self) -> Option<RefMut<'_, Steering>> {
+        let Some(steering) = &self.steering else {
+            return None;
+        };
+        steering.try_borrow_mut().ok()
+    }
+
+    /// The endpoint is at this address by now, as was learned.
+    pub(crate) fn show_moved(&self, endpoint: u16, address: SocketAddr) {
+        if let Some(mut steering) = self.steering() {
+            steering.show_moved(endpoint, address);
+        }
+    }
+
+    /// What peers want by now.
+    pub(crate) fn wished(&self) -> Received {
+        match self.steering() {
+            Some(mut steering) => steering.receive(self.moment_ms.get()),
+            None => Received::Nothing,
+        }
+    }
+
+    /// Whether somebody waits for the totals.
+    pub(crate) fn wants_counts(&self) -> bool {
+        match self.steering() {
+            Some(steering) => steering.wants_counts(),
+            None => false,
+        }
+    }
+
+    /// The totals are shown to who waits for them.
+    pub(crate) fn show_counts(&self, status: &Status) {
+        if let Some(mut steering) = self.steering() {
+            if steering.wants_counts() {
+                steering.show_counts(status, self.strangers.get());
+            }
+        }
+    }
+
+    /// What somebody wants to see of the room. Who waits for counts of endpoints or of legs alone is answered by these.
+    pub(crate) fn look(&self, traffic: &Traffic) -> Look {
+        match self.steering() {
+            Some(mut steering) => {
+                steering.show_legs(traffic);
+                steering.look()
+            }
+            None => Look::Nothing,
+        }
+    }
+
+    /// Which endpoints were present when somebody had the unit stopped, by their numbers; `None` if nobody did.
+    pub(crate) fn present_at_stop(&self) -> Option<Vec<bool>> {
+        let mut steering = self.steering()?;
+        steering.take_present()
+    }
+}

@@ -1,0 +1,44 @@
+//! A source and a clock of a unit that is recorded: each turn of the unit receives once, and then asks the clock once.
+
+use crate::gauges::Gauges;
+use outside::{Clock, ReceiveFault, Received, Source};
+
+/// A source of which is noted what it gives.
+#[derive(Drop)]
+pub(crate) struct RecordedSource<'a, Src: Drop> {
+    pub(crate) source: Src,
+    pub(crate) gauges: &'a Gauges,
+}
+
+impl<Src: Source + Drop> Source for RecordedSource<'_, Src> {
+    ghost failures = { λ s. Src.failures s.source };
+
+    ghost given = { λ s. Src.given s.source };
+
+    fn receive(&mut self, out: &mut [u8]) -> Result<Received, ReceiveFault> {
+        let received = self.source.receive(&mut *out);
+        if let Some(mut recorder) = self.gauges.recorder() {
+            recorder.note(&received, out);
+        }
+        received
+    }
+}
+
+/// A clock at whose moments is written down what came.
+#[derive(Drop)]
+pub(crate) struct RecordedClock<'a, C: Drop> {
+    pub(crate) clock: C,
+    pub(crate) gauges: &'a Gauges,
+}
+
+impl<C: Clock + Drop> Clock for RecordedClock<'_, C> {
+    ghost told = { λ c. C.told c.clock };
+
+    fn moment(&mut self) -> u64 {
+        let moment = self.clock.moment();
+        if let Some(mut recorder) = self.gauges.recorder() {
+            recorder.take_in(moment);
+        }
+        moment
+    }
+}

@@ -1,0 +1,312 @@
+//! The control of a unit that is served: peers at a Unix socket, who are looked at by the thread that receives.
+
+use control::{
+    Course, Peers, Refused, counts_text, course_for, done_text, present_line, refused_text,
+};
+use desk::Desk;
+use outside::{Look, Received, Status};
+use request_text::desk_text;
+use std::alloc::{AllocError, Global};
+use std::net::SocketAddr;
+use std::os::unix::net::{UnixListener, UnixStream};
+use tmmbr_tuple::Ssrc;
+use traffic::{LegLine, Metric, MetricType, Sample, Traffic, leg_line, push_figures, push_metric};
+
+/// So many milliseconds lie at least between two looks at the peers.
+const LOOK_MS: u64 = 10;
+
+/// An endpoint as peers are told of it.
+#[derive(Clone, Copy)]
+pub struct Listed {
+    pub source: Ssrc,
+    pub address: SocketAddr,
+}
+
+/// Who steers the unit: the peers, and what one of them waits for.
+#[derive(Drop)]
+pub struct Steering {
+    alloc: Global,
+    listener: UnixListener,
+    peers: Peers<UnixStream>,
+    legs: Vec<LegLine>,
+    endpoints: Vec<Listed>,
+    /// The moment from which on peers are looked at next.
+    due_ms: u64,
+    /// What was asked and isn't answered yet.
+    asked: Asked,
+    /// The lines of the answer so far; none once memory was wanting.
+    lines: Option<String>,
+    /// Which endpoints are present, by their numbers, as far as that was shown since it was asked.
+    present: Vec<bool>,
+}
+
+/// What a peer waits for.
+#[derive(Clone, Copy, Debug, PartialEq, Eq)]
+enum Asked {
+    Nothing,
+    Counts,
+    Look(Look),
+    Legs,
+    Metrics,
+    /// The unit stops: nobody waits for an answer, and who is present is to be known.
+    Stop,
+}
+
+impl Steering {
+    /// Steers a unit with these legs and these endpoints, by those who come to the listener.
+    pub fn new(
+        alloc: Global,
+        listener: UnixListener,
+        legs: Vec<LegLine>,
+        endpoints: Vec<Listed>,
+    ) -> Steering {
+        Steering {
+            alloc,
+            listener,
+            peers: Peers::new(alloc),
+            legs,
+            endpoints,
+            due_ms: 0,
+            asked: Asked::Nothing,
+            lines: None,
+            present: Vec::new(alloc),
+        }
+    }
+
+    /// What peers want of the unit by this moment. No peer is waited for.
+    pub(crate) fn receive(&mut self, moment: u64) -> Received {
+        if moment < self.due_ms || self.asked != Asked::Nothing {
+            return Received::Nothing;
+        }
+        self.due_ms = moment.saturating_add(LOOK_MS);
+        self.admit(moment);
+        let Some(request) = self.peers.next_request(moment) else {
+            return Received::Nothing;
+        };
+        let endpoints = u16::try_from(self.endpoints.len()).unwrap_or(u16::MAX);
+        let legs = u16::try_from(self.legs.len()).unwrap_or(u16::MAX);
+        match course_for(request, legs, endpoints) {
+            Course::Refuse(why) => {
+                self.refuse(why);
+                Received::Nothing
+            }
+            Course::Do(received) => {
+                self.note(received);
+                self.peers.answer(b"ok\n");
+                received
+            }
+            Course::Counts => self.begin(Asked::Counts),
+            Course::Look(look) => self.begin(Asked::Look(look)),
+            Course::Legs => self.begin(Asked::Legs),
+            Course::Metrics => self.begin(Asked::Metrics),
+        }
+    }
+
+    /// Who came is a peer from now on.
+    fn admit(&mut self, moment: u64) {
+        let Ok((stream, _)) = self.listener.accept() else {
+            return;
+        };
+        if stream.set_nonblocking(true).is_ok() {
+            self.peers.admit(stream, moment);
+        }
+    }
+
+    /// What the unit is to do is noted, as far as it is told of.
+    fn note(&mut self, received: Received) {
+        match received {
+            Received::Select { leg, on } => {
+                if let Some(line) = self.legs.get_mut(usize::from(leg)) {
+                    line.on = on;
+                }
+            }
+            Received::Stop => {
+                let _ = self.begin(Asked::Stop);
+            }
+            Received::Nothing | Received::Datagram { .. } => {}
+        }
+    }
+
+    fn begin(&mut self, asked: Asked) -> Received {
+        self.asked = asked;
+        self.lines = Some(String::new(self.alloc));
+        self.present.clear();
+        Received::Nothing
+    }
+
+    /// One more line of the answer, or more.
+    fn push(&mut self, line: Result<String, AllocError>) {
+        let whole = match (&mut self.lines, line) {
+            (Some(lines), Ok(line)) => lines.push_str(line.as_str()).is_ok(),
+            _ => false,
+        };
+        if !whole {
+            self.lines = None;
+        }
+    }
+
+    /// The endpoint is at this address by now.
+    pub(crate) fn show_moved(&mut self, endpoint: u16, address: SocketAddr) {
+        if let Some(listed) = self.endpoints.as_mut_slice().get_mut(usize::from(endpoint)) {
+            listed.address = address;
+        }
+    }
+
+    /// Whether somebody waits for the totals.
+    pub(crate) fn wants_counts(&self) -> bool {
+        self.asked == Asked::Counts
+    }
+
+    /// What somebody wants to see of the room.
+    pub(crate) fn look(&self) -> Look {
+        match self.asked {
+            Asked::Look(look) => look,
+            Asked::Metrics | Asked::Stop => Look::Presence,
+            Asked::Nothing | Asked::Counts | Asked::Legs => Look::Nothing,
+        }
+    }
+
+    /// The totals are shown to who waits for them.
+    pub(crate) fn show_counts(&mut self, status: &Status, strangers: u64) {
+        let text = counts_text(self.alloc, status, strangers);
+        self.push(text);
+        self.answer();
+    }
+
+    /// Whether this endpoint is present, at this moment.
+    pub(crate) fn show_endpoint(
+        &mut self,
+        endpoint: u16,
+        is_present: bool,
+        traffic: &Traffic,
+        moment: u64,
+    ) {
+        if self.asked == Asked::Look(Look::Presence) {
+            self.push_endpoint(endpoint, is_present, traffic, moment);
+        } else {
+            let _ = self.present.push(is_present);
+        }
+    }
+
+    /// The line of an endpoint.
+    fn push_endpoint(&mut self, endpoint: u16, is_present: bool, traffic: &Traffic, moment: u64) {
+        if let Some(listed) = self.endpoints.get(usize::from(endpoint)) {
+            let Listed { source, address } = *listed;
+            let ago_ms = heard_ago(traffic, endpoint, moment);
+            let line = present_line(self.alloc, endpoint, source, address, is_present, ago_ms);
+            self.push(line);
+        }
+    }
+
+    /// What went out on each leg is told to who waits for it.
+    pub(crate) fn show_legs(&mut self, traffic: &Traffic) {
+        if self.asked != Asked::Legs {
+            return;
+        }
+        for at in 0..self.legs.len() {
+            self.push_leg(at, traffic);
+        }
+        self.answer();
+    }
+
+    /// The line of the leg at this place.
+    fn push_leg(&mut self, at: usize, traffic: &Traffic) {
+        let Some(line) = self.legs.get(at).copied() else {
+            return;
+        };
+        if let Some(count) = traffic.leg(line.leg) {
+            let text = leg_line(self.alloc, line, &count);
+            self.push(text);
+        }
+    }
+
+    /// What is announced to this publisher, and why.
+    pub(crate) fn show_desk(&mut self, publisher: u16, desk: &Desk) {
+        if let Some(listed) = self.endpoints.get(usize::from(publisher)) {
+            let text = desk_text(self.alloc, listed.source, desk);
+            self.push(text);
+        }
+    }
+
+    /// The room was shown: who asked for it is answered.
+    pub(crate) fn end(&mut self, traffic: &Traffic, strangers: u64) {
+        match self.asked {
+            Asked::Stop => {}
+            Asked::Metrics => {
+                let text = metrics_text(self.alloc, self.present.as_slice(), traffic, strangers);
+                self.push(text);
+                self.answer();
+            }
+            Asked::Nothing | Asked::Counts | Asked::Legs | Asked::Look(_) => self.answer(),
+        }
+    }
+
+    /// Which endpoints were present when the unit was stopped; `None` if nobody has stopped it.
+    pub(crate) fn take_present(&mut self) -> Option<Vec<bool>> {
+        if self.asked != Asked::Stop {
+            return None;
+        }
+        Some(std::mem::replace(&mut self.present, Vec::new(self.alloc)))
+    }
+
+    /// All lines are there: who asked is answered.
+    fn answer(&mut self) {
+        let is_desk = matches!(self.look(), Look::Desk(_));
+        self.asked = Asked::Nothing;
+        match self.lines.take() {
+            Some(lines) if is_desk && lines.is_empty() => self.refuse(Refused::Workers),
+            Some(lines) => match done_text(self.alloc, lines.as_str()) {
+                Ok(text) => self.peers.answer(text.as_bytes()),
+                Err(_) => self.refuse(Refused::Memory),
+            },
+            None => self.refuse(Refused::Memory),
+        }
+    }
+
+    fn refuse(&mut self, why: Refused) {
+        self.peers.answer(refused_text(why).as_bytes());
+    }
+}
+
+/// How many milliseconds before this moment the endpoint was heard last, if ever.
+fn heard_ago(traffic: &Traffic, endpoint: u16, moment: u64) -> Option<u64> {
+    let heard_ms = traffic.endpoint(endpoint)?.heard_ms?;
+    Some(moment.saturating_sub(heard_ms))
+}
+
+/// The counts of a unit as metrics.
+fn metrics_text(
+    alloc: Global,
+    present: &[bool],
+    traffic: &Traffic,
+    strangers: u64,
+) -> Result<String, AllocError> {
+    let mut text = String::new(alloc);
+    let mut samples = Vec::new(alloc);
+    for (number, is_present) in present.iter().enumerate() {
+        samples.push(Sample {
+            number: u16::try_from(number).unwrap_or(u16::MAX),
+            value: u64::from(*is_present),
+        })?;
+    }
+    let metric = Metric {
+        name: "sfu_endpoint_present",
+        help: "Whether the endpoint is present.",
+        kind: MetricType::Gauge,
+    };
+    push_metric(&mut text, &metric, "endpoint", samples.as_slice())?;
+    let endpoints = traffic.endpoints(alloc)?;
+    let legs = traffic.legs(alloc)?;
+    push_figures(alloc, &mut text, endpoints.as_slice(), legs.as_slice())?;
+    push_strangers(&mut text, strangers)?;
+    Ok(text)
+}
+
+/// How many datagrams came from nobody.
+fn push_strangers(text: &mut String, strangers: u64) -> Result<(), AllocError> {
+    text.push_str(
+        "# HELP sfu_strangers_total Datagrams, or packets of one, that came from nobody.\n",
+    )?;
+    text.push_str("# TYPE sfu_strangers_total counter\n")?;
+    write!(text, "sfu_strangers_total {strangers}\n")
+}
