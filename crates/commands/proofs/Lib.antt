@@ -1,3 +1,1 @@
-pub mod CommandLineLemmas
 pub mod CommandLemmas
-pub mod SheetLemmas

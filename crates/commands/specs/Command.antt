@@ -5,11 +5,9 @@ use Rattle.std.specs.IoError.{error_kind}
 use Rattle.std.specs.declared.io.Error.{Error}
 use Rattle.std.specs.declared.io.ErrorKind.{ErrorKind}
 use Rattle.std.specs.declared.io.ErrorKind.TheVariants.{OutOfMemory}
-use Rattle.rate_cert.specs.declared.fault.CertFault.{CertFault}
-use Rattle.request_text.specs.declared.fault.LineFault.TheVariants.{Text}
 use Rattle.bounding_set.specs.State.{State, AnnouncesSmallest}
 use Rattle.drawing.specs.Picture.{picture_text}
-use Rattle.request_text.specs.BoundText.{answer_text, bound_text, refused_text}
+use Rattle.request_text.specs.BoundText.{bound_text, refused_text}
 use Rattle.request_text.specs.Lines.{Asked, Refused, AreRowsOf, HoldsLastWords, TextLeaves}
 use Rattle.request_text.specs.declared.bound.Refusal.{Refusal}
 use Rattle.request_text.specs.declared.bound.Refusal.TheVariants.{NoMemory as NoMemoryAtAll, Line}
@@ -53,10 +51,3 @@ FailsBound media input old new Io = Unit {0}
 FailsBound media input old new (RefusedLine line fault) =
     Keeps old new
     × IfSome input (λ text. TextLeaves media text (Err (record { line = line; fault = fault })))
-
--- a no of `check` is printed; or nothing is, and the line that can't be read is on the error output
-abbrev pub SaysNo : Option (List ℕ) → Option (List ℕ) → Option (List ℕ) → Option (List ℕ) → Type 0
-SaysNo old new errors_old errors_new =
-    ((fault : CertFault) × Appends old new (answer_text (Err fault)))
-    ⊎ ((line : ℕ) × Keeps old new
-    × Appends errors_old errors_new (refused_text (record { line = line; fault = Text })))

@@ -2,8 +2,9 @@
 
 ghost use Rattle.std.specs.Prelude.{◌≡◌, ◌≢◌, ℕ, List, Option, map, None, Some, Ok, Err, IfSome, IfOk, IfErr, OnOk, codes};
 ghost use Rattle.std.specs.Io.KnownBytes.{Appends, Keeps};
-ghost use Rattle.commands.specs.CommandLine.{AsksToServe, Request, Types, asked_for, bound, check, draw, replay, serve};
-ghost use Rattle.commands.specs.Command.{FailsBound, PrintsBound, PrintsPicture, RefusesBound, SaysNo};
+ghost use Rattle.command_line.specs.CommandLine.{AsksToServe, Request, Types, asked_for, bound, check, draw, replay, serve};
+ghost use Rattle.commands.specs.Command.{FailsBound, PrintsBound, PrintsPicture, RefusesBound};
+ghost use Rattle.checking.specs.Sheet.{SaysNo};
 ghost use Rattle.endings.specs.Endings.{SaysWhy};
 ghost use Rattle.scripts.specs.Replay.{PrintsByFile, RefusesByFile};
 ghost use Rattle.settings.specs.Settings.{Configuration};
@@ -12,16 +13,23 @@ ghost use Rattle.serving.specs.Serving.{SaysWhyServing};
 ghost use Rattle.settings_text.specs.SettingsFaults.{TextGives};
 ghost use Rattle.settings_text.specs.SettingsText.{SaysProblem};
 
-use crate::check_file::check_lines;
-use crate::command_line::{Action, read_words};
+use checking::check_lines;
+use command_line::{Action, read_words};
 use drawing::set_picture;
-use endings::{Failure, Status, refuse_words, report, report_settings, unreadable};
+use endings::{
+    Failure, Status, refuse_words, report, report_settings, say, say_no_memory, unreadable,
+};
 use request_text::{bound_text, read_lines};
 use scripts::replay_lines;
-use serving::{ServedSettings, Term, read_served, serve_file};
+use serving::{
+    ControlFault, Gauges, RecordFault, ServedSettings, Term, close_control, close_record,
+    open_control, open_record, read_served, serve_file,
+};
 use settings_text::{FileSettings, SettingsProblem, read_settings};
+use sha2::{Digest, Sha256};
 use std::alloc::Global;
 use std::convert::AsStr;
+use std::fs::File;
 use std::io::{self, Read, Write};
 use std::net::Net;
 use std::rt::Files;
@@ -29,12 +37,27 @@ use std::sync::Wait;
 use std::thread::Threads;
 use std::{fs, time};
 use tmmbr_tuple::Ssrc;
+
+/// Where a unit is recorded, and how many bytes the record has at most.
+#[derive(Clone, Copy, Debug)]
+pub struct Record<'a> {
+    pub path: &'a str,
+    pub limit: u64,
+}
+
+/// Where a unit is steered and recorded.
+#[derive(Clone, Copy)]
+struct Paths<'a> {
+    control: Option<&'a str>,
+    record: Option<Record<'a>>,
+}
+
 /// Runs the command that the words ask for, of which the first is the program's name.
 ///
 /// Nothing is done before the input was read to its end. What is printed goes to the writer, and why
 /// a command isn't done to the error output.
 pub fn run_command<
-    R: AllocGlobal + Files + Net + Threads + Wait + Sync + time::Clock,
+    R: AllocGlobal + Files<File = File> + Net + Threads + Wait + Sync + time::Clock,
     S: AsStr,
     I: Read,
     O: Write,
@@ -65,15 +88,15 @@ pub fn run_command<
         → IfSome (I.remaining reader.old) (λ script.
         RefusesByFile script (O.contents writer.old) (O.contents writer.new) (E.contents errors.old)
         (E.contents errors.new)) }
-    ensures serve_done { (file : List ℕ) (ticks status : Option ℕ)
-        → asked_for (map S.text words.now) ≡ Some (serve file ticks status)
+    ensures serve_done { (file : List ℕ) (ticks status : Option ℕ) (control : Option (List ℕ))
+        → asked_for (map S.text words.now) ≡ Some (serve file ticks status control)
         → result ≡ Status.Done
         → (c : Configuration) × PrintsReport c (O.contents writer.old) (O.contents writer.new) }
-    ensures serve_failed { (file : List ℕ) (ticks status : Option ℕ)
-        → asked_for (map S.text words.now) ≡ Some (serve file ticks status)
+    ensures serve_failed { (file : List ℕ) (ticks status : Option ℕ) (control : Option (List ℕ))
+        → asked_for (map S.text words.now) ≡ Some (serve file ticks status control)
         → result ≡ Status.Socket → Keeps (O.contents writer.old) (O.contents writer.new) }
-    ensures serve_said { (file : List ℕ) (ticks : Option ℕ)
-        → asked_for (map S.text words.now) ≡ Some (serve file ticks None)
+    ensures serve_said { (file : List ℕ) (ticks : Option ℕ) (control : Option (List ℕ))
+        → asked_for (map S.text words.now) ≡ Some (serve file ticks None control)
         → SaysWhyServing (E.contents errors.old) (E.contents errors.new) result }
     ensures draw_done { (media : ℕ) → asked_for (map S.text words.now) ≡ Some (draw media)
         → result ≡ Status.Done
@@ -107,10 +130,55 @@ pub fn run_command<
                 file,
                 ticks,
                 status,
+                control,
             },
-        ) => run_serve(rt, file, Term { ticks, status }, writer, errors),
+        ) => {
+            let paths = Paths {
+                control,
+                record: None,
+            };
+            run_serve(rt, file, Term { ticks, status }, paths, writer, errors)
+        }
         Ok(Action::Draw { media }) => run_draw(alloc, Ssrc(media), reader, writer, errors),
         Err(error) => refuse_words(alloc, errors, &error),
+    }
+}
+
+/// Runs the unit that the words ask for, of which the first is the program's name, and records what it takes in. Words that ask for
+/// another command are refused, since nothing else is recorded.
+pub fn run_recorded<
+    R: AllocGlobal + Files<File = File> + Net + Threads + Wait + Sync + time::Clock,
+    S: AsStr,
+    O: Write,
+    E: Write,
+>(rt: &R, words: &[S], record: Record<'_>, writer: &mut O, errors: &mut E) -> Status
+    ensures done { result ≡ Status.Done
+        → (c : Configuration) × PrintsReport c (O.contents writer.old) (O.contents writer.new) }
+    ensures failed { result ≡ Status.Socket
+        → Keeps (O.contents writer.old) (O.contents writer.new) }
+{
+    match read_words(rt.alloc(), words) {
+        Ok(
+            Action::Serve {
+                file,
+                ticks,
+                status,
+                control,
+            },
+        ) => {
+            let paths = Paths {
+                control,
+                record: Some(record),
+            };
+            run_serve(rt, file, Term { ticks, status }, paths, writer, errors)
+        }
+        Ok(
+            Action::Bound { .. }
+            | Action::Check { .. }
+            | Action::Replay { .. }
+            | Action::Draw { .. },
+        ) => say(errors, b"only serve is recorded\n", Status::CommandLine),
+        Err(error) => refuse_words(rt.alloc(), errors, &error),
     }
 }
 
@@ -162,10 +230,10 @@ fn run_replay<R: AllocGlobal + Files, I: Read, O: Write, E: Write>(
 
 /// `sfu serve`: serves the endpoints that the settings of the file name.
 fn run_serve<
-    R: AllocGlobal + Files + Net + Threads + Wait + Sync + time::Clock,
+    R: AllocGlobal + Files<File = File> + Net + Threads + Wait + Sync + time::Clock,
     O: Write,
     E: Write,
->(rt: &R, file: &str, term: Term, writer: &mut O, errors: &mut E) -> Status
+>(rt: &R, file: &str, term: Term, paths: Paths<'_>, writer: &mut O, errors: &mut E) -> Status
     ensures done { result ≡ Status.Done
         → (c : Configuration) × PrintsReport c (O.contents writer.old) (O.contents writer.new) }
     ensures failed { result ≡ Status.Socket
@@ -178,16 +246,136 @@ fn run_serve<
         → SaysWhyServing (E.contents errors.old) (E.contents errors.new) result }
 {
     match served_in(rt, file) {
-        Ok(file) => serve_file(rt, &file, term, writer, errors),
+        Ok(file) => serve_steered(rt, &file, term, paths, writer, errors),
         Err(problem) => report_settings(rt.alloc(), errors, &problem),
     }
 }
 
-/// The settings that a file holds, with all addresses. One that can't be opened or read holds no TOML document.
-fn served_in<R: AllocGlobal + Files>(
+/// Serves the endpoints, and does what is asked at the path of `--control`, if there is one.
+#[tactic(auto, using(serving::proofs::ServeLemmas::says_alone))]
+fn serve_steered<
+    R: AllocGlobal + Files<File = File> + Net + Threads + Wait + Sync + time::Clock,
+    O: Write,
+    E: Write,
+>(rt: &R, file: &ServedFile, term: Term, paths: Paths<'_>, writer: &mut O, errors: &mut E) -> Status
+    ensures done { result ≡ Status.Done
+        → (c : Configuration) × PrintsReport c (O.contents writer.old) (O.contents writer.new) }
+    ensures failed { result ≡ Status.Socket
+        → Keeps (O.contents writer.old) (O.contents writer.new) }
+    ensures understood { (result ≢ Status.CommandLine) × (result ≢ Status.Refused)
+        × (result ≢ Status.Settings) }
+    ensures said { term.status ≡ None
+        → SaysWhyServing (E.contents errors.old) (E.contents errors.new) result }
+{
+    match gauges_for(rt, file, paths.control) {
+        Ok(gauges) => {
+            let status = serve_recorded(rt, file, term, paths, gauges, writer, errors);
+            close_control_at(rt, paths.control);
+            status
+        }
+        Err(fault) => say_control(errors, fault),
+    }
+}
+
+/// Serves the endpoints, and records what the unit takes in at the path of `--record`, if there is one.
+#[tactic(auto, using(serving::proofs::ServeLemmas::says_alone))]
+fn serve_recorded<
+    R: AllocGlobal + Files<File = File> + Net + Threads + Wait + Sync + time::Clock,
+    O: Write,
+    E: Write,
+>(
+    rt: &R,
+    file: &ServedFile,
+    term: Term,
+    paths: Paths<'_>,
+    gauges: Gauges,
+    writer: &mut O,
+    errors: &mut E,
+) -> Status
+    ensures done { result ≡ Status.Done
+        → (c : Configuration) × PrintsReport c (O.contents writer.old) (O.contents writer.new) }
+    ensures failed { result ≡ Status.Socket
+        → Keeps (O.contents writer.old) (O.contents writer.new) }
+    ensures understood { (result ≢ Status.CommandLine) × (result ≢ Status.Refused)
+        × (result ≢ Status.Settings) }
+    ensures said { term.status ≡ None
+        → SaysWhyServing (E.contents errors.old) (E.contents errors.new) result }
+{
+    let Some(Record { path, limit }) = paths.record else {
+        return serve_file(rt, &file.settings, term, &gauges, writer, errors);
+    };
+    match open_record(rt, path, limit, file.digest.as_slice()) {
+        Ok((recorder, scribe)) => {
+            let gauges = gauges.recorded(recorder);
+            let status = serve_file(rt, &file.settings, term, &gauges, writer, errors);
+            close_record(rt, gauges, scribe);
+            status
+        }
+        Err(fault) => say_record(errors, fault),
+    }
+}
+
+/// What a run shows that is steered at the path, if there is one.
+fn gauges_for<R: AllocGlobal + Files + Net>(
+    rt: &R,
+    file: &ServedFile,
+    control: Option<&str>,
+) -> Result<Gauges, ControlFault> {
+    match control {
+        Some(path) => open_control(rt, path, &file.settings),
+        None => Ok(Gauges::new()),
+    }
+}
+
+/// Takes the socket's file away from the path, if there is one.
+fn close_control_at<R: Files>(rt: &R, control: Option<&str>) {
+    if let Some(path) = control {
+        close_control(rt, path);
+    }
+}
+
+/// Says on the error output why a unit can't be recorded.
+fn say_record<E: Write>(errors: &mut E, fault: RecordFault) -> Status
+    ensures failed { (result ≢ Status.Done) × (result ≢ Status.Refused)
+        × (result ≢ Status.CommandLine) × (result ≢ Status.Settings) × (result ≢ Status.Socket) }
+    ensures exists { result ≡ Status.Record → fault ≡ RecordFault.Exists
+        → Appends (E.contents errors.old) (E.contents errors.new) (codes "record: exists\n") }
+    ensures said { SaysWhy (E.contents errors.old) (E.contents errors.new) result }
+{
+    match fault {
+        RecordFault::Exists => say(errors, b"record: exists\n", Status::Record),
+        RecordFault::Failed => say(errors, b"record: failed\n", Status::Record),
+        RecordFault::NoMemory => say_no_memory(errors),
+    }
+}
+
+/// Says on the error output why a unit can't be steered.
+fn say_control<E: Write>(errors: &mut E, fault: ControlFault) -> Status
+    ensures failed { (result ≢ Status.Done) × (result ≢ Status.Refused)
+        × (result ≢ Status.CommandLine) × (result ≢ Status.Settings) × (result ≢ Status.Socket) }
+    ensures in_use { result ≡ Status.Control → fault ≡ ControlFault.InUse
+        → Appends (E.contents errors.old) (E.contents errors.new) (codes "control: in use\n") }
+    ensures said { SaysWhy (E.contents errors.old) (E.contents errors.new) result }
+{
+    match fault {
+        ControlFault::InUse => say(errors, b"control: in use\n", Status::Control),
+        ControlFault::Failed => say(errors, b"control: failed\n", Status::Control),
+        ControlFault::NoMemory => say_no_memory(errors),
+    }
+}
+
+/// The settings of a file, and the SHA-256 of its bytes.
+#[derive(Drop)]
+pub(crate) struct ServedFile {
+    pub(crate) settings: ServedSettings,
+    digest: [u8; 32],
+}
+
+/// The settings that a file holds, with all addresses.
+pub(crate) fn served_in<R: AllocGlobal + Files>(
     rt: &R,
     file: &str,
-) -> Result<ServedSettings, SettingsProblem> {
+) -> Result<ServedFile, SettingsProblem> {
     match fs::open(rt, file) {
         Ok(mut file) => served_from(rt.alloc(), &mut file),
         Err(error) => Err(unreadable_settings(&error)),
@@ -195,15 +383,18 @@ fn served_in<R: AllocGlobal + Files>(
 }
 
 /// The settings that a reader holds, with all addresses.
-fn served_from<I: Read>(alloc: Global, file: &mut I) -> Result<ServedSettings, SettingsProblem> {
+fn served_from<I: Read>(alloc: Global, file: &mut I) -> Result<ServedFile, SettingsProblem> {
     let mut text = Vec::new(alloc);
     match file.read_to_end(&mut text) {
-        Ok(_) => read_served(alloc, text.as_slice()),
+        Ok(_) => Ok(ServedFile {
+            settings: read_served(alloc, text.as_slice())?,
+            digest: Sha256::digest(text.as_slice()),
+        }),
         Err(error) => Err(unreadable_settings(&error)),
     }
 }
 
-/// The settings that a file holds. One that can't be opened or read holds no TOML document.
+/// The settings that a file holds.
 fn settings_in<R: AllocGlobal + Files>(rt: &R, file: &str) -> Result<FileSettings, SettingsProblem>
     ensures { IfOk result (λ f. (text : List ℕ) × TextGives text (Ok f)) }
 {
@@ -231,7 +422,7 @@ fn unreadable_settings(error: &io::Error) -> SettingsProblem {
     if error.kind() == io::ErrorKind::OutOfMemory {
         SettingsProblem::NoMemory
     } else {
-        SettingsProblem::Toml
+        SettingsProblem::File
     }
 }
 

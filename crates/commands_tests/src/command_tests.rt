@@ -1,90 +1,79 @@
-//! Commands whose streams fail, and words that ask for nothing, through the public calls.
-use super::test_commands::run_words;
-use super::test_streams::{Broken, Starved};
-use commands::{Failure, Status, report, report_words, run_command};
-use std::io;
+//! `run_command` on streams that hold lists of bytes, or fail.
+use crate::stream::Stream;
+use commands::{Status, run_command};
+use std::fs::File;
+use std::io::ErrorKind;
+use std::net::Net;
+use std::process::Abort;
+use std::rt::Files;
+use std::sync::Wait;
 use std::test::Fail;
+use std::thread::Threads;
+use std::time::Clock;
+
+/// Which of the three streams fail, and how: the input, the output, the error output.
+type Faults = [Option<ErrorKind>; 3];
+
+/// How `sfu bound --sender 1` ends on this input, what it prints, and what it says.
+fn bound(
+    rt: &(impl AllocGlobal + Files<File = File> + Net + Threads + Wait + Sync + Clock),
+    faults: Faults,
+    given: &str,
+) -> Result<(Status, [String; 2]), Fail> {
+    let [input, output, errors] = faults;
+    let alloc = rt.alloc();
+    let mut input = Stream::new(alloc, given, input);
+    let mut output = Stream::new(alloc, "", output);
+    let mut errors = Stream::new(alloc, "", errors);
+    let words = ["sfu", "bound", "--sender", "1"];
+    let status = run_command(rt, words.as_slice(), &mut input, &mut output, &mut errors);
+    Ok((status, [output.text()?, errors.text()?]))
+}
+
+/// That it ends so.
+fn assert_ends(
+    rt: &(impl AllocGlobal + Abort + Files<File = File> + Net + Threads + Wait + Sync + Clock),
+    faults: Faults,
+    given: &str,
+    wanted: (Status, u8, [&str; 2]),
+) -> Result<(), Fail> {
+    let (status, [printed, said]) = bound(rt, faults, given)?;
+    let (wanted, code, [to_print, to_say]) = wanted;
+    assert_eq!(rt; status, wanted);
+    assert_eq!(rt; status.code(), code);
+    assert_eq!(rt; printed.as_str(), to_print);
+    assert_eq!(rt; said.as_str(), to_say);
+    Ok(())
+}
+
+/// Example 1.
+#[test]
+fn runs_bound(rt: HostRuntime) -> Result<(), Fail> {
+    let printed = "84cd00040000000100000000000000110007d028\nkept 17 0007d028 pair 1000 1001 321\n";
+    let line = "83cd00040000001100000000000000010007d028\n";
+    assert_ends(&rt, [None; 3], line, (Status::Done, 0, [printed, ""]))
+}
 
 #[test]
 fn failing_streams(rt: HostRuntime) -> Result<(), Fail> {
-    let words = ["sfu", "bound", "--sender", "1"];
-    let mut printed = Vec::new(rt.alloc());
-    let mut said = Vec::new(rt.alloc());
-    let status = run_command(&rt, words.as_slice(), &mut Broken, &mut printed, &mut said);
-    assert_eq!(rt; status, Status::Io);
-    assert_eq!(rt; said.as_slice(), b"io\n".as_slice());
-    assert_eq!(rt; printed.len(), 0);
-
-    let mut input = b"".as_slice();
-    let mut said = Vec::new(rt.alloc());
-    let status = run_command(&rt, words.as_slice(), &mut input, &mut Broken, &mut said);
-    assert_eq!(rt; status.code(), 5);
-    assert_eq!(rt; said.as_slice(), b"io\n".as_slice());
-    Ok(())
+    let other = Some(ErrorKind::Other);
+    let wanted = (Status::Io, 5, ["", "io\n"]);
+    assert_ends(&rt, [other, None, None], "", wanted)?;
+    assert_ends(&rt, [None, other, None], "", wanted)
 }
 
 #[test]
 fn says_no_memory(rt: HostRuntime) -> Result<(), Fail> {
-    let words = ["sfu", "bound", "--sender", "1"];
-    let mut printed = Vec::new(rt.alloc());
-    let mut said = Vec::new(rt.alloc());
-    let status = run_command(&rt, words.as_slice(), &mut Starved, &mut printed, &mut said);
-    assert_eq!(rt; status.code(), 1);
-    assert_eq!(rt; printed.len(), 0);
-    assert_eq!(rt; said.as_slice(), b"no memory\n".as_slice());
-
-    let mut input = b"".as_slice();
-    let mut said = Vec::new(rt.alloc());
-    let status = run_command(&rt, words.as_slice(), &mut input, &mut Starved, &mut said);
-    assert_eq!(rt; status, Status::NoMemory);
-    assert_eq!(rt; said.as_slice(), b"no memory\n".as_slice());
-
-    let mut said = Vec::new(rt.alloc());
-    let error = io::Error::from(io::ErrorKind::OutOfMemory);
-    assert_eq!(rt; report_words(&mut said, &error).code(), 1);
-    assert_eq!(rt; said.as_slice(), b"no memory\n".as_slice());
-
-    let mut said = Vec::new(rt.alloc());
-    let error = io::Error::from(io::ErrorKind::InvalidData);
-    assert_eq!(rt; report_words(&mut said, &error).code(), 2);
-    assert_eq!(rt; said.as_slice(), b"a word is no text\n".as_slice());
-
-    let mut said = Vec::new(rt.alloc());
-    let status = report(rt.alloc(), &mut said, Failure::NoMemory);
-    assert_eq!(rt; status, Status::NoMemory);
-    assert_eq!(rt; said.as_slice(), b"no memory\n".as_slice());
-    Ok(())
+    let starved = Some(ErrorKind::OutOfMemory);
+    let wanted = (Status::NoMemory, 1, ["", "no memory\n"]);
+    assert_ends(&rt, [starved, None, None], "", wanted)?;
+    assert_ends(&rt, [None, starved, None], "", wanted)
 }
 
-/// Where the error output fails, the status says so, and not what it was to say.
+/// If the error output fails, the status says so, and not what it was to say.
 #[test]
-fn failing_error_output(rt: HostRuntime) {
-    let words = ["sfu", "bound", "--sender", "1"];
-    let mut input = b"83c\n".as_slice();
-    let mut printed = Vec::new(rt.alloc());
-    let status = run_command(&rt, words.as_slice(), &mut input, &mut printed, &mut Broken);
-    assert_eq!(rt; status, Status::UnsaidIo);
-    assert_eq!(rt; status.code(), 5);
-    let status = report(rt.alloc(), &mut Starved, Failure::Io);
-    assert_eq!(rt; status, Status::UnsaidNoMemory);
-    assert_eq!(rt; status.code(), 1);
-}
-
-#[test]
-fn refuses_words(rt: HostRuntime) -> Result<(), Fail> {
-    let lists = [
-        ["sfu", "bound", "--sender", "4294967296"],
-        ["sfu", "bound", "--sender", "x"],
-        ["sfu", "dance", "--sender", "1"],
-        ["sfu", "bound", "--help", "1"],
-        ["sfu", "check", "a", "b"],
-        ["sfu", "check", "--sender", "1"],
-    ];
-    for words in lists {
-        let (printed, said, status) = run_words(&rt, words.as_slice(), "")?;
-        assert_eq!(rt; status.code(), 2);
-        assert_eq!(rt; printed.as_str(), "");
-        assert!(rt; !said.is_empty());
-    }
-    Ok(())
+fn failing_error_output(rt: HostRuntime) -> Result<(), Fail> {
+    let other = Some(ErrorKind::Other);
+    let wanted = (Status::UnsaidIo, 5, ["", ""]);
+    assert_ends(&rt, [None, None, other], "83c\n", wanted)
 }

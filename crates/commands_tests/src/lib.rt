@@ -1,33 +1,20 @@
-//! The tests of `commands`, in a crate of their own so that the commands aren't proved a second time with them.
+//! The tests of `commands` and of the crates that it is made of, of what `.ci/cases` can't see from outside: values, and streams that
+//! fail. They stand apart so that these crates aren't proved a second time with them.
 //!
-//! `test_commands` runs a command over lists of bytes; `test_streams` has readers and writers that fail.
+//! `stream` is a reader and a writer that fails when it is to.
 #![tactic(auto)]
 
 #[cfg(test)]
-mod bound_tests;
-#[cfg(test)]
-mod check_tests;
-#[cfg(test)]
 mod command_tests;
 #[cfg(test)]
-mod draw_tests;
+mod ending_tests;
 #[cfg(test)]
-mod exchange_tests;
+mod line_tests;
 #[cfg(test)]
-mod replay_fault_tests;
+mod record_tests;
 #[cfg(test)]
 mod replay_tests;
 #[cfg(test)]
-mod serve_tests;
-#[cfg(test)]
-mod served_file_tests;
-#[cfg(test)]
-mod settings_read_tests;
-#[cfg(test)]
 mod settings_tests;
 #[cfg(test)]
-mod several_tests;
-#[cfg(test)]
-mod test_commands;
-#[cfg(test)]
-mod test_streams;
+mod stream;

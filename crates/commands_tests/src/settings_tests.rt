@@ -1,268 +1,152 @@
-//! What is said of settings files that hold no settings.
-use super::test_streams::{Broken, Starved};
-use commands::{SettingsProblem, Status, read_settings, report_settings};
-use std::alloc::Global;
+//! What settings files give, up to the largest room.
+use commands::{ClientText, FileSettings, read_settings};
+use settings::Settings;
+use std::alloc::{AllocError, Global};
 use std::test::Fail;
 
 /// The settings of the examples: two endpoints, and a leg from the first to the second.
-pub(crate) const TOP: &str =
-    "workers = 2\nring = 8\nhistory = 128\ntimeout_ms = 1000\nreport_ms = 60000\npli_gap_ms = 500\nunit_ssrc = 9\ncname = \"sfu\"\n";
+pub(crate) const ROOM: &str =
+    "workers = 2\nring = 8\nhistory = 128\ntimeout_ms = 1000\nreport_ms = 60000\npli_gap_ms = 500\nunit_ssrc = 9\ncname = \"sfu\"\n[[endpoint]]\nssrc = 16\n[[endpoint]]\nssrc = 17\n[[leg]]\nsubscriber = 1\npublisher = 0\nout_ssrc = 257\nfirst_seq = 100\n";
 
-pub(crate) const ENDPOINTS: &str = "[[endpoint]]\nssrc = 16\n[[endpoint]]\nssrc = 17\n";
-
-pub(crate) const LEG: &str =
-    "[[leg]]\nsubscriber = 1\npublisher = 0\nout_ssrc = 257\nfirst_seq = 100\n";
-
-/// What is said of these settings; nothing where they are settings.
-pub(crate) fn said(alloc: Global, text: &str) -> Result<String, Fail> {
+/// The settings that a text holds.
+fn read(alloc: Global, text: &str) -> Result<FileSettings, Fail> {
     match read_settings(alloc, text.as_bytes()) {
-        Ok(_) => Ok(String::new(alloc)),
-        Err(problem) => {
-            let mut said = Vec::new(alloc);
-            let status = report_settings(alloc, &mut said, &problem);
-            if status.code() != 3 {
-                return Err(Fail::from("status"));
-            }
-            Ok(String::from_utf8(said).map_err(|_| Fail::from("text"))?)
-        }
+        Ok(file) => Ok(file),
+        Err(_) => Err(Fail::from("settings")),
     }
 }
 
-/// Texts that stand in front of the endpoints of the examples in place of a line of theirs, and what is said.
-const TOP_FAULTS: [(&str, &str, &str); 30] = [
-    ("workers = 2\n", "", "settings: workers\n"),
-    ("workers = 2\n", "workers = 0\n", "settings: workers\n"),
-    ("workers = 2\n", "workers = 9\n", "settings: workers\n"),
-    ("workers = 2\n", "workers = \"2\"\n", "settings: workers\n"),
-    ("workers = 2\n", "workers = 2.0\n", "settings: workers\n"),
-    ("ring = 8\n", "ring = 513\n", "settings: ring\n"),
-    ("history = 128\n", "history = 127\n", "settings: history\n"),
-    (
-        "history = 128\n",
-        "history = 65537\n",
-        "settings: history\n",
-    ),
-    (
-        "timeout_ms = 1000\n",
-        "timeout_ms = 0\n",
-        "settings: timeout_ms\n",
-    ),
-    (
-        "report_ms = 60000\n",
-        "report_ms = 86400001\n",
-        "settings: report_ms\n",
-    ),
-    (
-        "pli_gap_ms = 500\n",
-        "pli_gap_ms = -1\n",
-        "settings: pli_gap_ms\n",
-    ),
-    (
-        "unit_ssrc = 9\n",
-        "unit_ssrc = 4294967296\n",
-        "settings: unit_ssrc\n",
-    ),
-    ("cname = \"sfu\"\n", "cname = \"\"\n", "settings: cname\n"),
-    (
-        "cname = \"sfu\"\n",
-        "cname = \"\u{e9}\"\n",
-        "settings: cname\n",
-    ),
-    ("cname = \"sfu\"\n", "cname = 1\n", "settings: cname\n"),
-    // What may be absent, has the wrong kind or stands out of range.
-    (
-        "ring = 8\n",
-        "ring = 8\nrequest_ms = \"0\"\n",
-        "settings: request_ms\n",
-    ),
-    (
-        "ring = 8\n",
-        "ring = 8\nrequest_ms = 86400001\n",
-        "settings: request_ms\n",
-    ),
-    (
-        "ring = 8\n",
-        "ring = 8\nlisten = 9000\n",
-        "settings: listen\n",
-    ),
-    ("ring = 8\n", "ring = 8\nleg = 3\n", "settings: toml\n"),
-    // Unknown keys; names differ in case.
-    ("ring = 8\n", "ring = 8\nrings = 8\n", "settings: rings\n"),
-    ("ring = 8\n", "Ring = 8\n", "settings: Ring\n"),
-    ("ring = 8\n", "ring = 8\nroom = {}\n", "settings: room\n"),
-    // The first by name, whether missing, unknown or out of range.
-    ("workers = 2\nring = 8\n", "", "settings: ring\n"),
-    (
-        "workers = 2\nring = 8\n",
-        "workers = 2\nring = 0\nzone = 1\n",
-        "settings: ring\n",
-    ),
-    (
-        "workers = 2\nring = 8\n",
-        "workers = 0\nring = 8\nwheel = 1\n",
-        "settings: wheel\n",
-    ),
-    (
-        "workers = 2\nring = 8\n",
-        "workers = 0\nring = 8\nworkers_more = 1\n",
-        "settings: workers\n",
-    ),
-    ("timeout_ms = 1000\n", "listen = 1\n", "settings: listen\n"),
-    // No TOML.
-    ("ring = 8\n", "ring = \n", "settings: toml\n"),
-    ("ring = 8\n", "ring = 8\nring = 8\n", "settings: toml\n"),
-    (
-        "ring = 8\n",
-        "ring = 9223372036854775808\n",
-        "settings: toml\n",
-    ),
-];
+/// The numbers of settings, and their endpoints and legs, a line for each.
+fn numbers(alloc: Global, settings: &Settings) -> Result<String, Fail> {
+    let cname = String::from_utf8(settings.cname().to_vec(alloc)?).map_err(|_| Fail::from(
+        "cname",
+    ))?;
+    let mut text = format!(in alloc;
+        "workers {} ring {} history {} timeout {} report {} request {} gap {} unit {} cname {}\n",
+        settings.workers(),
+        settings.ring(),
+        settings.history(),
+        settings.timeout_ms(),
+        settings.report_ms(),
+        settings.request_ms(),
+        settings.pli_gap_ms(),
+        settings.unit_ssrc().0,
+        cname
+    )?;
+    push_legs(alloc, settings, &mut text)?;
+    Ok(text)
+}
 
-#[test]
-fn faults_of_the_table(rt: HostRuntime) -> Result<(), Fail> {
-    let alloc = rt.alloc();
-    for (old, new, wanted) in TOP_FAULTS {
-        let top = TOP.replace(alloc, old, new)?;
-        let text = format!(in alloc; "{top}{ENDPOINTS}{LEG}")?;
-        assert_eq!(rt; said(alloc, text.as_str())?.as_str(), wanted);
+/// Puts a line for each endpoint and leg of settings after a text.
+fn push_legs(alloc: Global, settings: &Settings, text: &mut String) -> Result<(), AllocError> {
+    for endpoint in settings.endpoints() {
+        text.push_str(format!(in alloc; "endpoint {}\n", endpoint.0)?.as_str())?;
+    }
+    for leg in settings.legs() {
+        let line = format!(in alloc;
+            "leg from {} to {} as {} first {} on {}\n",
+            leg.publisher, leg.subscriber, leg.out_ssrc.0, leg.first_seq, leg.on
+        )?;
+        text.push_str(line.as_str())?;
     }
     Ok(())
 }
 
-/// Endpoints and legs, and what is said of them.
-const LIST_FAULTS: [(&str, &str); 32] = [
-    // No endpoint, and lists that are none.
-    ("", "settings: endpoint\n"),
-    ("endpoint = 3\n", "settings: endpoint\n"),
-    ("endpoint = [{ ssrc = 16 }, 17]\n", "settings: endpoint\n"),
-    ("leg = 3\n[[endpoint]]\nssrc = 16\n", "settings: leg\n"),
-    ("leg = [1]\n[[endpoint]]\nssrc = 16\n", "settings: leg\n"),
-    // An endpoint's keys.
-    (
-        "[[endpoint]]\nssrc = 16\n[[endpoint]]\n",
-        "settings: endpoint 1 ssrc\n",
-    ),
-    ("[[endpoint]]\nssrc = -1\n", "settings: endpoint 0 ssrc\n"),
-    (
-        "[[endpoint]]\nssrc = 4294967296\n",
-        "settings: endpoint 0 ssrc\n",
-    ),
-    (
-        "[[endpoint]]\nssrc = 16\naddress = 1\n",
-        "settings: endpoint 0 address\n",
-    ),
-    (
-        "[[endpoint]]\naddress = 1\n",
-        "settings: endpoint 0 address\n",
-    ),
-    (
-        "[[endpoint]]\nssrc = true\nzone = 1\n",
-        "settings: endpoint 0 ssrc\n",
-    ),
-    (
-        "[[endpoint]]\nname = 1\nssrc = true\n",
-        "settings: endpoint 0 name\n",
-    ),
-    (
-        "[[endpoint]]\nssrc = true\n[[endpoint]]\naddress = 1\n",
-        "settings: endpoint 0 ssrc\n",
-    ),
-    // A leg's keys.
-    (
-        "E[[leg]]\npublisher = 0\nout_ssrc = 257\n",
-        "settings: leg 0 subscriber\n",
-    ),
-    (
-        "E[[leg]]\nsubscriber = 2\npublisher = 0\nout_ssrc = 257\n",
-        "settings: leg 0 subscriber\n",
-    ),
-    (
-        "E[[leg]]\nsubscriber = 1\nout_ssrc = 257\n",
-        "settings: leg 0 publisher\n",
-    ),
-    (
-        "E[[leg]]\nsubscriber = 1\npublisher = 2\nout_ssrc = 257\n",
-        "settings: leg 0 publisher\n",
-    ),
-    (
-        "E[[leg]]\nsubscriber = 1\npublisher = 1\nout_ssrc = 257\n",
-        "settings: leg 0 publisher\n",
-    ),
-    (
-        "E[[leg]]\nsubscriber = 1\npublisher = 0\n",
-        "settings: leg 0 out_ssrc\n",
-    ),
-    ("EL first_seq = 65536\n", "settings: leg 0 first_seq\n"),
-    ("EL first_seq = \"1\"\n", "settings: leg 0 first_seq\n"),
-    ("EL on = 1\n", "settings: leg 0 on\n"),
-    ("EL onto = 1\n", "settings: leg 0 onto\n"),
-    // The first key by name, of the first leg: the publisher stands before what is out of range behind it.
-    (
-        "E[[leg]]\nsubscriber = 2\npublisher = 2\nout_ssrc = 257\nqueue = 1\n",
-        "settings: leg 0 publisher\n",
-    ),
-    (
-        "E[[leg]]\nsubscriber = 2\npublisher = 0\nout_ssrc = 257\nqueue = 1\n",
-        "settings: leg 0 queue\n",
-    ),
-    (
-        "E[[leg]]\nsubscriber = 1\npublisher = 0\nout_ssrc = -1\non = 1\n",
-        "settings: leg 0 on\n",
-    ),
-    (
-        "EL [[leg]]\nsubscriber = 1\npublisher = 0\nout_ssrc = 258\n",
-        "settings: leg 1 publisher\n",
-    ),
-    (
-        "EL [[leg]]\nsubscriber = 0\npublisher = 1\nout_ssrc = 258\non = 1\n[[leg]]\n",
-        "settings: leg 1 on\n",
-    ),
-    // An endpoint's fault stands before a leg's, and a source that is there twice behind all.
-    (
-        "[[endpoint]]\nssrc = 16\n[[endpoint]]\nssrc = 17\nleg = 1\n[[leg]]\n",
-        "settings: endpoint 1 leg\n",
-    ),
-    (
-        "[[endpoint]]\nssrc = 16\n[[endpoint]]\nssrc = 16\n",
-        "settings: ssrc\n",
-    ),
-    ("[[endpoint]]\nssrc = 9\n", "settings: ssrc\n"),
-    (
-        "[[endpoint]]\nssrc = 16\n[[endpoint]]\nssrc = 16\nzone = 1\n",
-        "settings: endpoint 1 zone\n",
-    ),
-];
+/// An address that may be absent.
+fn shown(address: &Option<String>) -> &str {
+    address.as_deref().unwrap_or("none")
+}
 
-#[test]
-fn faults_of_endpoints_and_legs(rt: HostRuntime) -> Result<(), Fail> {
-    let alloc = rt.alloc();
-    for (lists, wanted) in LIST_FAULTS {
-        let lists = lists.replace(alloc, "E", ENDPOINTS)?;
-        let leg = "[[leg]]\nsubscriber = 1\npublisher = 0\nout_ssrc = 257\n";
-        let lists = lists.as_str().replace(alloc, "L ", leg)?;
-        let text = format!(in alloc; "{TOP}{lists}")?;
-        assert_eq!(rt; said(alloc, text.as_str())?.as_str(), wanted);
+/// Where the unit listens, and where the clients are, a line for each.
+fn addresses(
+    alloc: Global,
+    file: &FileSettings,
+    clients: &[ClientText],
+) -> Result<String, AllocError> {
+    let mut text = format!(in alloc;
+        "listen {} rtcp {}\n",
+        shown(&file.listen),
+        shown(&file.listen_rtcp)
+    )?;
+    for client in clients {
+        let line = format!(in alloc;
+            "client {} rtcp {} receives only {}\n",
+            shown(&client.address),
+            shown(&client.rtcp_address),
+            client.receive_only
+        )?;
+        text.push_str(line.as_str())?;
     }
+    Ok(text)
+}
+
+/// Each number stands where it belongs; what may be absent is 0, on or nothing.
+#[test]
+fn reads_each_key(rt: HostRuntime) -> Result<(), Fail> {
+    let alloc = rt.alloc();
+    let file = read(alloc, ROOM)?;
+    assert_eq!(rt;
+        numbers(alloc, &file.settings)?.as_str(),
+        "workers 2 ring 8 history 128 timeout 1000 report 60000 request 0 gap 500 unit 9 cname sfu\nendpoint 16\nendpoint 17\nleg from 0 to 1 as 257 first 100 on true\n"
+    );
+    assert_eq!(rt;
+        addresses(alloc, &file, file.clients.as_slice())?.as_str(),
+        "listen none rtcp none\nclient none rtcp none receives only false\nclient none rtcp none receives only false\n"
+    );
     Ok(())
 }
 
-/// A file that isn't text is no TOML.
+/// A file that says where the unit listens and where endpoints are.
+const SERVED: &str =
+    "listen = \"[::1]:9000\"\nlisten_rtcp = \"[::1]:9001\"\nrequest_ms = 86400000\nworkers = 2\nring = 8\nhistory = 128\ntimeout_ms = 1000\nreport_ms = 60000\npli_gap_ms = 500\nunit_ssrc = 9\ncname = \"sfu\"\n[[endpoint]]\nssrc = 16\nrtcp_address = \"[::1]:7\"\n[[endpoint]]\nssrc = 17\naddress = \"127.0.0.1:5004\"\nreceive_only = true\n[[leg]]\nsubscriber = 1\npublisher = 0\nout_ssrc = 257\non = false\n";
+
+/// Where the unit listens and where endpoints are is kept as it is spelled.
 #[test]
-fn refuses_other_bytes(rt: HostRuntime) {
-    match read_settings(rt.alloc(), b"cname = \"\xff\"\n") {
-        Err(SettingsProblem::Toml) => {}
-        _ => assert!(rt; false),
+fn keeps_addresses(rt: HostRuntime) -> Result<(), Fail> {
+    let alloc = rt.alloc();
+    let file = read(alloc, SERVED)?;
+    assert_eq!(rt;
+        addresses(alloc, &file, file.clients.as_slice())?.as_str(),
+        "listen [::1]:9000 rtcp [::1]:9001\nclient none rtcp [::1]:7 receives only false\nclient 127.0.0.1:5004 rtcp none receives only true\n"
+    );
+    assert_eq!(rt;
+        numbers(alloc, &file.settings)?.as_str(),
+        "workers 2 ring 8 history 128 timeout 1000 report 60000 request 86400000 gap 500 unit 9 cname sfu\nendpoint 16\nendpoint 17\nleg from 0 to 1 as 257 first 0 on false\n"
+    );
+    Ok(())
+}
+
+/// The settings of the largest room: 256 endpoints, and legs from each to sixteen others.
+fn crowd(alloc: Global) -> Result<String, AllocError> {
+    let mut text = String::from_str(
+        alloc,
+        "workers = 2\nring = 8\nhistory = 128\ntimeout_ms = 1000\nreport_ms = 60000\npli_gap_ms = 500\nunit_ssrc = 9\ncname = \"sfu\"\n",
+    )?;
+    for source in 1000..1256_u32 {
+        text.push_str(format!(in alloc; "[[endpoint]]\nssrc = {source}\n")?.as_str())?;
     }
+    for number in 0..4096_u32 {
+        let publisher = number / 16;
+        let step = number % 16 + 1;
+        let subscriber = publisher.wrapping_add(step) & 255;
+        let source = number.wrapping_add(10_001);
+        let line = format!(in alloc;
+            "[[leg]]\nsubscriber = {subscriber}\npublisher = {publisher}\nout_ssrc = {source}\n"
+        )?;
+        text.push_str(line.as_str())?;
+    }
+    Ok(text)
 }
 
 #[test]
-fn says_no_memory_for_settings(rt: HostRuntime) {
-    let mut said = Vec::new(rt.alloc());
-    let status = report_settings(rt.alloc(), &mut said, &SettingsProblem::NoMemory);
-    assert_eq!(rt; status, Status::NoMemory);
-    assert_eq!(rt; said.as_slice(), b"no memory\n".as_slice());
-    let status = report_settings(rt.alloc(), &mut Broken, &SettingsProblem::Toml);
-    assert_eq!(rt; status, Status::UnsaidIo);
-    let status = report_settings(rt.alloc(), &mut Starved, &SettingsProblem::SameSsrc);
-    assert_eq!(rt; status, Status::UnsaidNoMemory);
+fn accepts_the_largest_room(rt: HostRuntime) -> Result<(), Fail> {
+    let text = crowd(rt.alloc())?;
+    let file = read(rt.alloc(), text.as_str())?;
+    assert_eq!(rt; file.settings.endpoints().len(), 256);
+    let legs = file.settings.legs();
+    assert_eq!(rt; legs.len(), 4096);
+    assert_eq!(rt; legs[4095].subscriber, 15);
+    assert_eq!(rt; legs[4095].publisher, 255);
+    assert_eq!(rt; legs[4095].out_ssrc.0, 14_096);
+    Ok(())
 }

@@ -1,9 +1,18 @@
 //! `sfu`, the program of the unit.
 #![tactic(auto)]
 
-use commands::{report_words, run_command};
+mod record_words;
+
+use commands::{Status, explain, report_words, run_ask, run_command, run_recorded, run_sdp};
+use record_words::record_in;
+use std::fs::File;
+use std::io::{Read, Write};
+use std::net::Net;
 use std::process::ExitCode;
-use std::rt::Env;
+use std::rt::{Env, Files};
+use std::sync::Wait;
+use std::thread::Threads;
+use std::time::Clock;
 use std::{env, io};
 
 fn main(rt: HostRuntime) -> ExitCode {
@@ -12,11 +21,44 @@ fn main(rt: HostRuntime) -> ExitCode {
         Ok(words) => {
             let mut reader = rt.reader();
             let mut writer = io::writer(&rt);
-            run_command(&rt, words.as_slice(), &mut reader, &mut writer, &mut errors)
+            match words.as_slice() {
+                [_, ask, path, request @ ..] if ask.as_str() == "ask" => {
+                    run_ask(&rt, path.as_str(), request, &mut writer, &mut errors)
+                }
+                [_, sdp, file, endpoints @ ..] if sdp.as_str() == "sdp" => {
+                    let status = run_sdp(&rt, file.as_str(), endpoints, &mut writer, &mut errors);
+                    explain(&rt, words.as_slice(), status, &mut errors);
+                    status
+                }
+                all => {
+                    let status = run_words(&rt, all, &mut reader, &mut writer, &mut errors);
+                    explain(&rt, all, status, &mut errors);
+                    status
+                }
+            }
         }
         Err(error) => report_words(&mut errors, &error),
     };
     ExitCode::from(status.code())
+}
+
+/// Runs the command that the words ask for, and records a unit where they say so.
+fn run_words<
+    R: AllocGlobal + Files<File = File> + Net + Threads + Wait + Sync + Clock,
+    I: Read,
+    O: Write,
+    E: Write,
+>(rt: &R, words: &[String], reader: &mut I, writer: &mut O, errors: &mut E) -> Status {
+    match record_in(rt.alloc(), words) {
+        Ok(Some(recorded)) => run_recorded(
+            rt,
+            recorded.words.as_slice(),
+            recorded.record,
+            writer,
+            errors,
+        ),
+        Ok(None) | Err(_) => run_command(rt, words, reader, writer, errors),
+    }
 }
 
 /// The words of the command line, the program's name first.

@@ -1,0 +1,136 @@
+//! `sfu ask PATH WORD..`: a unit that runs is asked, and what it answers is printed.
+
+ghost use Rattle.std.specs.Prelude.{◌≡◌, ◌≢◌, ◌++◌, ℕ, List, Some, codes, IfOk, OnOk};
+ghost use Rattle.std.specs.Io.KnownBytes.{Appends, Keeps};
+ghost use Rattle.std.specs.String.{string_bytes};
+ghost use Rattle.control.specs.Asking.{answered_by, done, refused};
+
+use control::{Answered, read_answer};
+use endings::{Status, say, say_no_memory};
+use std::alloc::{AllocError, Global};
+use std::convert::AsStr;
+use std::io::{ErrorKind, Read, Write};
+use std::net::Net;
+use std::os::unix::net::UnixStream;
+use std::rt::Files;
+use std::time::Duration;
+
+/// So many seconds the unit may take to go on with its answer.
+const PATIENCE_S: u64 = 5;
+
+/// So many bytes are read at a time.
+const PIECE: usize = 4_096;
+
+/// So many pieces an answer may come in.
+const MAX_PIECES: u32 = 4_096;
+
+/// Why there is no answer.
+#[derive(Clone, Copy, Debug, PartialEq, Eq)]
+enum AskFault {
+    NoMemory,
+    /// Nobody listens at the path.
+    Nobody,
+    /// The answer didn't come, or not all of it.
+    Io,
+}
+
+impl From<AllocError> for AskFault {
+    fn from(_e: AllocError) -> AskFault {
+        AskFault::NoMemory
+    }
+}
+
+/// Asks the unit that is steered at the path, with these words as a line. Prints the answer without its last line; why it was refused
+/// goes to the error output.
+///
+/// Ends as `Refused` if the unit refused it, as `Control` if nobody listens at the path, and as `Io` if no whole answer came in time.
+pub fn run_ask<R: AllocGlobal + Files + Net, S: AsStr, O: Write, E: Write>(
+    rt: &R,
+    path: &str,
+    words: &[S],
+    writer: &mut O,
+    errors: &mut E,
+) -> Status
+    ensures refused { result ≡ Status.Refused
+        → Keeps (O.contents writer.old) (O.contents writer.new) }
+    ensures control { result ≡ Status.Control
+        → Keeps (O.contents writer.old) (O.contents writer.new)
+        × Appends (E.contents errors.old) (E.contents errors.new) (codes "nobody listens\n") }
+{
+    match ask_at(rt, path, words) {
+        Ok(text) => print_answer(text.as_slice(), writer, errors),
+        Err(AskFault::NoMemory) => say_no_memory(errors),
+        Err(AskFault::Nobody) => say(errors, b"nobody listens\n", Status::Control),
+        Err(AskFault::Io) => say(errors, b"io\n", Status::Io),
+    }
+}
+
+/// The whole answer of the unit at the path.
+fn ask_at<R: AllocGlobal + Files + Net, S: AsStr>(
+    rt: &R,
+    path: &str,
+    words: &[S],
+) -> Result<Vec<u8>, AskFault> {
+    let line = line_of(rt.alloc(), words)?;
+    let Ok(mut stream) = UnixStream::connect(rt, path) else {
+        return Err(AskFault::Nobody);
+    };
+    let patience = Some(Duration::from_secs(PATIENCE_S));
+    if stream.set_read_timeout(patience).is_err() || stream.write_all(line.as_bytes()).is_err() {
+        return Err(AskFault::Io);
+    }
+    read_whole(rt.alloc(), &mut stream)
+}
+
+/// The words with single spaces between them, and the end of the line.
+fn line_of<S: AsStr>(alloc: Global, words: &[S]) -> Result<String, AllocError> {
+    let mut line = String::new(alloc);
+    for (number, word) in words.iter().enumerate() {
+        if number > 0 {
+            line.push(' ')?;
+        }
+        line.push_str(word.as_str())?;
+    }
+    line.push('\n')?;
+    Ok(line)
+}
+
+/// What comes from the stream until an answer is whole.
+fn read_whole<I: Read>(alloc: Global, stream: &mut I) -> Result<Vec<u8>, AskFault> {
+    let mut text = Vec::new(alloc);
+    let mut piece = [0; PIECE];
+    for _piece in 0..MAX_PIECES {
+        match stream.read(&mut piece) {
+            Ok(0) => return Err(AskFault::Io),
+            Ok(count) => text.extend_from_slice(&piece[..count.min(PIECE)])?,
+            Err(error) if error.kind() == ErrorKind::Interrupted => {}
+            Err(_) => return Err(AskFault::Io),
+        }
+        if read_answer(text.as_slice()).is_some() {
+            return Ok(text);
+        }
+    }
+    Err(AskFault::Io)
+}
+
+/// Prints the lines of an answer, or says why it was refused.
+fn print_answer<O: Write, E: Write>(text: &[u8], writer: &mut O, errors: &mut E) -> Status
+    ensures done { result ≡ Status.Done → (lines : List ℕ)
+        × (answered_by text.now ≡ Some (done lines))
+        × Appends (O.contents writer.old) (O.contents writer.new) lines }
+    ensures refused { result ≡ Status.Refused
+        → Keeps (O.contents writer.old) (O.contents writer.new) }
+    ensures understood { result ≢ Status.Control }
+{
+    match read_answer(text) {
+        Some(Answered::Done(lines)) => match writer.write_all(lines) {
+            Ok(()) => Status::Done,
+            Err(_) => say(errors, b"io\n", Status::Io),
+        },
+        Some(Answered::Refused(why)) => match errors.write_all(why) {
+            Ok(()) => say(errors, b"\n", Status::Refused),
+            Err(_) => Status::UnsaidIo,
+        },
+        None => say(errors, b"io\n", Status::Io),
+    }
+}
