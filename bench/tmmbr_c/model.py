@@ -370,4 +370,5 @@ def main():
         print(f"{call}: fault {fault} {count} times, as the definitions say")
 
 
-main()
+if __name__ == "__main__":
+    main()

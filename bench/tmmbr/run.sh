@@ -1,0 +1,31 @@
+#!/usr/bin/env bash
+# libtmmbr beside the heuristic of RFC 5104, section 3.5.4.2, on the same random sets; and many random sets through libtmmbr,
+# bench/tmmbr_c's model and `sfu bound`. By hand; wants rt, gcc, g++ and python3, and for the last part the program that ./sfu makes.
+#
+#     bench/tmmbr/run.sh [SETS [SEED [RUNS]]]
+#
+# So many sets go through the model, 20000 if nothing else is said, and the first RUNS of them through `sfu bound`, 1000 if nothing
+# else is said. 1000000 take a quarter hour in the model, and some half an hour as runs of the program.
+set -euo pipefail
+here=$(cd "$(dirname "$0")" && pwd)
+top=$(cd "$here/../.." && pwd)
+crate=$top/crates/tmmbr_c
+sets=${1:-20000}
+seed=${2:-1}
+runs=${3:-1000}
+at=$(mktemp -d)
+trap 'rm -rf "$at"' EXIT
+
+(cd "$crate" && rt lib) >"$at/log" 2>&1 || { cat "$at/log" >&2; exit 1; }
+library=$crate/out/libtmmbr_c.a
+g++ -std=c++17 -O2 -Wall -Wextra -Werror -I "$crate/include" -o "$at/compare" "$here/compare.cc" "$library"
+"$at/compare" 10000 "$seed"
+
+gcc -O2 -std=c99 -I "$crate/include" -o "$at/driver" "$top/bench/tmmbr_c/driver.c" "$library"
+"$here/sets.py" make "$seed" "$sets" >"$at/sets"
+"$at/driver" <"$at/sets" >"$at/out"
+"$here/sets.py" model "$at/sets" "$at/out"
+program=$top/crates/sfu_main/out/sfu_main
+if [ -x "$program" ]; then
+    "$here/sets.py" program "$at/sets" "$at/out" "$program" "$runs"
+fi
