@@ -29,6 +29,8 @@ MOST_JOBS = 4
 LEAST, EACH_LINE, EACH_LINE_BELOW, EACH_JOB = 1_200_000_000, 100_000, 25_000, 1_000_000_000
 # The statuses of an rt whose check was killed, as it is for want of memory, though it had one job.
 KILLED = (-signal.SIGKILL, 256 - signal.SIGKILL, 128 + signal.SIGKILL)
+# What a line costs by where it stands: a body is what takes time, and a proof by hand is read in little.
+EACH_LINE_COSTS = {"src": 4, "specs": 1, "proofs": 1}
 # Seconds between two looks at what runs.
 LOOK_EACH = 0.2
 
@@ -120,9 +122,11 @@ class Crate:
         self.folder = f"{TOP}/crates/{self.name}"
         self.out, self.log = f"{self.folder}/out", f"{self.folder}/out/build.log"
         self.below, self.above, self.jobs = [], [], 1
-        # The lines of its sources, and of the longest chain of crates from this one up.
-        self.lines = self.chain = 0
+        # The lines of its sources; what its check costs, by them; and the same of the longest chain of crates from this one up.
+        self.lines = self.cost = self.chain = 0
         self.rt = self.lock = None
+        # Seconds of processor time that its check took.
+        self.worked = 0
         self.is_done = self.is_told = self.is_alone = self.waits = False
 
     def count_lines(self):
@@ -130,7 +134,9 @@ class Crate:
             for at, _, names in os.walk(f"{self.folder}/{part}"):
                 for name in names:
                     with open(f"{at}/{name}", "rb") as it:
-                        self.lines += it.read().count(b"\n")
+                        lines = it.read().count(b"\n")
+                    self.lines += lines
+                    self.cost += lines * EACH_LINE_COSTS[part]
 
     def need(self, jobs):
         below = sum(it.lines for it in self.below)
@@ -147,8 +153,17 @@ class Crate:
             how = {"stdin": subprocess.DEVNULL, "stdout": log, "stderr": subprocess.STDOUT}
             self.rt = subprocess.Popen(["rt", *words], cwd=folder, **how)
 
+    def has_ended(self):
+        """Whether rt has ended; then its status and its processor time are noted."""
+        if self.rt.returncode is None:
+            pid, status, used = os.wait4(self.rt.pid, os.WNOHANG)
+            if pid:
+                self.rt.returncode = os.waitstatus_to_exitcode(status)
+                self.worked = used.ru_utime + used.ru_stime
+        return self.rt.returncode is not None
+
     def took(self):
-        return clock(time.monotonic() - self.began)
+        return f"{clock(time.monotonic() - self.began)}, {clock(self.worked)} of processor time"
 
     def said(self):
         with open(self.log, encoding="utf-8", errors="replace") as it:
@@ -162,6 +177,8 @@ class Crate:
         if self.lock is None:
             return False
         here = f"{room}/crates/{self.name}"
+        if os.path.islink(here):
+            shutil.rmtree(room)
         left = locked(here) if os.path.isdir(here) else None
         if os.path.isdir(here) and left is None:
             self.release()
@@ -188,6 +205,9 @@ class Crate:
         for part in MADE:
             move(part, f"{room}/crates/{self.name}/out", self.out)
         shutil.rmtree(room, ignore_errors=True)
+        # rt tells other copies of the repository on this machine that the work lies in the room.
+        os.makedirs(f"{room}/crates", exist_ok=True)
+        os.symlink(self.folder, f"{room}/crates/{self.name}")
 
     def release(self):
         os.close(self.lock)
@@ -215,7 +235,7 @@ def crates_for(name):
         sys.exit(f"sfu: crates.txt has no crate {name}")
     visit(found[name])
     for crate in reversed(order):
-        crate.chain = crate.lines + max((it.chain for it in crate.above), default=0)
+        crate.chain = crate.cost + max((it.chain for it in crate.above), default=0)
     is_program = os.path.isfile(f"{found[name].folder}/src/main.rt")
     return (order[:-1], order[-1]) if is_program else (order, None)
 
@@ -290,7 +310,7 @@ class Build:
                 time.sleep(LOOK_EACH)
                 for library in [*self.running]:
                     self.tell(library)
-                    if library.rt.poll() is None:
+                    if not library.has_ended():
                         continue
                     self.running.remove(library)
                     library.leave(self.room(library))
@@ -318,12 +338,12 @@ class Build:
         it.start(it.folder, "run", "--jobs", str(min(self.lanes, MOST_JOBS)), "--", "bound", "--sender", "0")
         self.say(f"{it.name} is being proved and compiled")
         try:
-            while it.rt.poll() is None:
+            while not it.has_ended():
                 time.sleep(LOOK_EACH)
                 if any(line.startswith("rt: waiting for") for line in it.said()[-2:]):
                     self.says_waiting(it)
         finally:
-            if it.rt.poll() is None:
+            if not it.has_ended():
                 it.rt.terminate()
                 it.rt.wait()
         if it.rt.returncode:
@@ -365,7 +385,8 @@ def main(name):
     if build.program:
         say("for a look before any proof, in another shell: ./sfu --unproved COMMAND ARGS..")
     is_built = build.prove_libraries() and (build.program is None or build.build_program())
-    shutil.rmtree(rooms, ignore_errors=True)
+    if not os.path.isdir(f"{TOP}/.git"):
+        shutil.rmtree(rooms, ignore_errors=True)
     return 0 if is_built else 1
 
 
