@@ -22,8 +22,8 @@ use endings::{
 use request_text::{bound_text, read_lines};
 use scripts::replay_lines;
 use serving::{
-    ControlFault, Gauges, RecordFault, ServedSettings, Term, close_control, close_record,
-    open_control, open_record, read_served, serve_file,
+    ControlFault, ErrorOutput, Gauges, RecordFault, ServedSettings, Term, close_control,
+    close_record, open_control, open_record, read_served, serve_file,
 };
 use settings_text::{FileSettings, SettingsProblem, read_settings};
 use sha2::{Digest, Sha256};
@@ -57,7 +57,7 @@ struct Paths<'a> {
 /// Nothing is done before the input was read to its end. What is printed goes to the writer, and why
 /// a command isn't done to the error output.
 pub fn run_command<
-    R: AllocGlobal + Files<File = File> + Net + Threads + Wait + Sync + time::Clock,
+    R: AllocGlobal + ErrorOutput + Files<File = File> + Net + Threads + Wait + Sync + time::Clock,
     S: AsStr,
     I: Read,
     O: Write,
@@ -95,8 +95,8 @@ pub fn run_command<
     ensures serve_failed { (file : List ℕ) (ticks status : Option ℕ) (control : Option (List ℕ))
         → asked_for (map S.text words.now) ≡ Some (serve file ticks status control)
         → result ≡ Status.Socket → Keeps (O.contents writer.old) (O.contents writer.new) }
-    ensures serve_said { (file : List ℕ) (ticks : Option ℕ) (control : Option (List ℕ))
-        → asked_for (map S.text words.now) ≡ Some (serve file ticks None control)
+    ensures serve_said { (file : List ℕ) (ticks status : Option ℕ) (control : Option (List ℕ))
+        → asked_for (map S.text words.now) ≡ Some (serve file ticks status control)
         → SaysWhyServing (E.contents errors.old) (E.contents errors.new) result }
     ensures draw_done { (media : ℕ) → asked_for (map S.text words.now) ≡ Some (draw media)
         → result ≡ Status.Done
@@ -147,7 +147,7 @@ pub fn run_command<
 /// Runs the unit that the words ask for, of which the first is the program's name, and records what it takes in. Words that ask for
 /// another command are refused, since nothing else is recorded.
 pub fn run_recorded<
-    R: AllocGlobal + Files<File = File> + Net + Threads + Wait + Sync + time::Clock,
+    R: AllocGlobal + ErrorOutput + Files<File = File> + Net + Threads + Wait + Sync + time::Clock,
     S: AsStr,
     O: Write,
     E: Write,
@@ -229,8 +229,9 @@ fn run_replay<R: AllocGlobal + Files, I: Read, O: Write, E: Write>(
 }
 
 /// `sfu serve`: serves the endpoints that the settings of the file name.
+#[tactic(auto, using(serving::proofs::ServeLemmas::says_alone))]
 fn run_serve<
-    R: AllocGlobal + Files<File = File> + Net + Threads + Wait + Sync + time::Clock,
+    R: AllocGlobal + ErrorOutput + Files<File = File> + Net + Threads + Wait + Sync + time::Clock,
     O: Write,
     E: Write,
 >(rt: &R, file: &str, term: Term, paths: Paths<'_>, writer: &mut O, errors: &mut E) -> Status
@@ -242,8 +243,7 @@ fn run_serve<
         → Keeps (O.contents writer.old) (O.contents writer.new)
         × SaysProblem (E.contents errors.old) (E.contents errors.new) }
     ensures understood { (result ≢ Status.CommandLine) × (result ≢ Status.Refused) }
-    ensures said { term.status ≡ None
-        → SaysWhyServing (E.contents errors.old) (E.contents errors.new) result }
+    ensures said { SaysWhyServing (E.contents errors.old) (E.contents errors.new) result }
 {
     match served_in(rt, file) {
         Ok(file) => serve_steered(rt, &file, term, paths, writer, errors),
@@ -254,7 +254,7 @@ fn run_serve<
 /// Serves the endpoints, and does what is asked at the path of `--control`, if there is one.
 #[tactic(auto, using(serving::proofs::ServeLemmas::says_alone))]
 fn serve_steered<
-    R: AllocGlobal + Files<File = File> + Net + Threads + Wait + Sync + time::Clock,
+    R: AllocGlobal + ErrorOutput + Files<File = File> + Net + Threads + Wait + Sync + time::Clock,
     O: Write,
     E: Write,
 >(rt: &R, file: &ServedFile, term: Term, paths: Paths<'_>, writer: &mut O, errors: &mut E) -> Status
@@ -264,8 +264,7 @@ fn serve_steered<
         → Keeps (O.contents writer.old) (O.contents writer.new) }
     ensures understood { (result ≢ Status.CommandLine) × (result ≢ Status.Refused)
         × (result ≢ Status.Settings) }
-    ensures said { term.status ≡ None
-        → SaysWhyServing (E.contents errors.old) (E.contents errors.new) result }
+    ensures said { SaysWhyServing (E.contents errors.old) (E.contents errors.new) result }
 {
     match gauges_for(rt, file, paths.control) {
         Ok(gauges) => {
@@ -280,7 +279,7 @@ fn serve_steered<
 /// Serves the endpoints, and records what the unit takes in at the path of `--record`, if there is one.
 #[tactic(auto, using(serving::proofs::ServeLemmas::says_alone))]
 fn serve_recorded<
-    R: AllocGlobal + Files<File = File> + Net + Threads + Wait + Sync + time::Clock,
+    R: AllocGlobal + ErrorOutput + Files<File = File> + Net + Threads + Wait + Sync + time::Clock,
     O: Write,
     E: Write,
 >(
@@ -298,8 +297,7 @@ fn serve_recorded<
         → Keeps (O.contents writer.old) (O.contents writer.new) }
     ensures understood { (result ≢ Status.CommandLine) × (result ≢ Status.Refused)
         × (result ≢ Status.Settings) }
-    ensures said { term.status ≡ None
-        → SaysWhyServing (E.contents errors.old) (E.contents errors.new) result }
+    ensures said { SaysWhyServing (E.contents errors.old) (E.contents errors.new) result }
 {
     let Some(Record { path, limit }) = paths.record else {
         return serve_file(rt, &file.settings, term, &gauges, writer, errors);

@@ -1,7 +1,7 @@
 //! The commands of `sfu`: the words that ask for them, and what each does with which file.
 //!
 //! Read `command` first, `run_command` and `run_recorded`, which the program calls, `ask`, which is `sfu ask`, and `description`, `sfu
-//! sdp`; `explaining` says to people what was wrong. The words are `command_line`; what `sfu
+//! sdp`; `explaining` says to people what was wrong, and `version` which program this is. The words are `command_line`; what `sfu
 //! bound` reads and prints is `request_text`, what `sfu draw` prints `drawing`, `sfu check` is `checking`; `sfu replay` is `settings_text`
 //! and `scripts`, `sfu serve` is `serving`, and how a command ends is `endings`. What callers need of these is handed on.
 #![tactic(auto)]
@@ -10,6 +10,7 @@ mod ask;
 mod command;
 mod description;
 mod explaining;
+mod version;
 
 pub use ask::run_ask;
 pub use checking::check_lines;
@@ -20,7 +21,9 @@ pub use explaining::explain;
 pub use request_text::LineFault;
 pub use scripts::replay_lines;
 pub use serving::{
-    AddressKey, Addresses, Client, ClientFault, Gauges, Listening, Location, Rules, ServeFault,
-    ServedSettings, Sockets, read_clients, read_served, run_on, serve_socket, serve_watched,
+    AddressKey, Addresses, Client, ClientFault, ErrorOutput, Gauges, Listening, Location, Rules,
+    ServeFault, ServedSettings, Sockets, read_clients, read_served, run_on, serve_socket,
+    serve_watched,
 };
 pub use settings_text::{ClientText, FileSettings, SettingsProblem, problem_line, read_settings};
+pub use version::run_version;

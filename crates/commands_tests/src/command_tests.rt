@@ -1,6 +1,6 @@
 //! `run_command` on streams that hold lists of bytes, or fail.
 use crate::stream::Stream;
-use commands::{Status, run_command};
+use commands::{ErrorOutput, Status, run_command};
 use std::fs::File;
 use std::io::ErrorKind;
 use std::net::Net;
@@ -16,7 +16,14 @@ type Faults = [Option<ErrorKind>; 3];
 
 /// How `sfu bound --sender 1` ends on this input, what it prints, and what it says.
 fn bound(
-    rt: &(impl AllocGlobal + Files<File = File> + Net + Threads + Wait + Sync + Clock),
+    rt: &(impl AllocGlobal
+        + ErrorOutput
+        + Files<File = File>
+        + Net
+        + Threads
+        + Wait
+        + Sync
+        + Clock),
     faults: Faults,
     given: &str,
 ) -> Result<(Status, [String; 2]), Fail> {
@@ -32,7 +39,15 @@ fn bound(
 
 /// That it ends so.
 fn assert_ends(
-    rt: &(impl AllocGlobal + Abort + Files<File = File> + Net + Threads + Wait + Sync + Clock),
+    rt: &(impl AllocGlobal
+        + Abort
+        + ErrorOutput
+        + Files<File = File>
+        + Net
+        + Threads
+        + Wait
+        + Sync
+        + Clock),
     faults: Faults,
     given: &str,
     wanted: (Status, u8, [&str; 2]),

@@ -4,15 +4,18 @@
 //! unit needs from outside, on one socket or two; `arrivals` says who sent what came, and makes reports for who only listens;
 //! `report_text` and `status_lines` are what is printed of a run, and while it goes on (`gauges`). `control_socket` is where a unit is
 //! steered, `steering` who does that, `steered` how what they want comes to the unit. `recorder` writes down what the unit takes in,
-//! `recorded` how that comes to it, and `record_file` is the thread that writes the file.
+//! `recorded` how that comes to it, and `record_file` is the file. `courier` is a thread that writes what nobody waits for: that file, and
+//! the lines of counts (`lines`).
 #![tactic(auto)]
 
 mod arrivals;
 mod clients;
 mod control_socket;
+mod courier;
 mod directory;
 mod gauges;
 mod goodbyes;
+mod lines;
 mod record_file;
 mod recorded;
 mod recorder;
@@ -28,6 +31,7 @@ mod steering;
 pub use clients::{AddressKey, Addresses, Client, ClientFault, Listening, Location, read_clients};
 pub use control_socket::{ControlFault, close_control, open_control};
 pub use gauges::Gauges;
+pub use lines::ErrorOutput;
 pub use record_file::{RecordFault, Scribe, close_record, open_record};
 pub use recorder::Recorder;
 pub use screening::Rules;

@@ -1,13 +1,9 @@
 //! Who writes down what a unit takes in: it makes the lines, and hands them on to the thread that writes the file.
 
+use crate::courier::Outlet;
 use outside::{ReceiveFault, Received, Ticks};
 use recording::{End, Tape, heard_lines, selected_lines, ticked_lines};
-use rtrb::Producer;
 use std::alloc::{AllocError, Global};
-use std::io::Write;
-use std::os::unix::net::UnixStream;
-use std::sync::Arc;
-use std::sync::atomic::{AtomicBool, Ordering};
 
 /// From so many bytes on what waits is handed on.
 const BLOCK: usize = 65_536;
@@ -35,18 +31,8 @@ pub struct Recorder {
     ticks: Ticks,
     /// The moment from which on what waits is handed on.
     due_ms: u64,
+    /// The way to the thread that writes the file: blocks of whole lines.
     outlet: Outlet,
-}
-
-/// The way to the thread that writes the file.
-#[derive(Drop)]
-pub(crate) struct Outlet {
-    /// Blocks of whole lines.
-    pub(crate) blocks: Producer<Vec<u8>, Global>,
-    /// Rings there for each block.
-    pub(crate) bell: UnixStream,
-    /// Whether the file couldn't be written.
-    pub(crate) has_failed: Arc<AtomicBool, Global>,
 }
 
 impl Recorder {
@@ -137,7 +123,7 @@ impl Recorder {
 
     /// Hands on what waits. Nobody is waited for: where the ring is full, the disk is too slow, and the record ends.
     fn hand_on(&mut self) {
-        if self.outlet.has_failed.load(Ordering::SeqCst) {
+        if self.outlet.has_failed() {
             self.tape.end(End::Failed);
             return;
         }
@@ -145,10 +131,9 @@ impl Recorder {
             return;
         }
         let block = self.tape.take();
-        if self.outlet.blocks.push(block).is_err() {
+        if !self.outlet.hand_on(block) {
             self.tape.end(End::Slow);
         }
-        let _ = self.outlet.bell.write(b"\n");
     }
 
     /// How many bytes were written down, and why the record ended, if it did.

@@ -13,6 +13,7 @@ use crate::clients::Client;
 use crate::directory::Directory;
 use crate::gauges::Gauges;
 use crate::goodbyes::say_goodbyes;
+use crate::lines::{ErrorOutput, Lines};
 use crate::recorded::{RecordedClock, RecordedSource};
 use crate::report_text::report_text;
 use crate::serve_fault::ServeFault;
@@ -94,8 +95,13 @@ impl Bound {
     }
 }
 
-/// Binds the sockets that the settings name, says so on the error output, and serves the endpoints.
-pub fn serve_file<R: AllocGlobal + Net + Threads + Wait + Sync + time::Clock, O: Write, E: Write>(
+/// Binds the sockets that the settings name, says so on the error output, and serves the endpoints. Lines of counts go to the runtime's
+/// error output by a thread of their own, so that nobody waits for who reads them.
+pub fn serve_file<
+    R: AllocGlobal + ErrorOutput + Net + Threads + Wait + Sync + time::Clock,
+    O: Write,
+    E: Write,
+>(
     rt: &R,
     file: &ServedSettings,
     term: Term,
@@ -105,8 +111,7 @@ pub fn serve_file<R: AllocGlobal + Net + Threads + Wait + Sync + time::Clock, O:
 ) -> Status
     ensures ends { EndsServe file.now.settings (O.contents writer.old)
         (O.contents writer.new) result }
-    ensures said { term.status ≡ None
-        → SaysWhyServing (E.contents errors.old) (E.contents errors.new) result }
+    ensures said { SaysWhyServing (E.contents errors.old) (E.contents errors.new) result }
 {
     match Bound::new(rt, file) {
         Ok(bound) => match say_serving(rt.alloc(), &bound, errors) {
@@ -164,7 +169,11 @@ fn serving_text(
 }
 
 /// Serves the endpoints on sockets that are bound, and says on the error output why that failed where it did.
-fn serve_bound<R: AllocGlobal + Threads + Wait + Sync + time::Clock, O: Write, E: Write>(
+fn serve_bound<
+    R: AllocGlobal + ErrorOutput + Net + Threads + Wait + Sync + time::Clock,
+    O: Write,
+    E: Write,
+>(
     rt: &R,
     sockets: Sockets<'_>,
     file: &ServedSettings,
@@ -175,8 +184,7 @@ fn serve_bound<R: AllocGlobal + Threads + Wait + Sync + time::Clock, O: Write, E
 ) -> Status
     ensures ends { EndsServe file.now.settings (O.contents writer.old)
         (O.contents writer.new) result }
-    ensures said { term.status ≡ None
-        → SaysWhy (E.contents errors.old) (E.contents errors.new) result }
+    ensures said { SaysWhy (E.contents errors.old) (E.contents errors.new) result }
 {
     let ServedSettings {
         settings,
@@ -187,12 +195,17 @@ fn serve_bound<R: AllocGlobal + Threads + Wait + Sync + time::Clock, O: Write, E
     let clients = clients.as_slice();
     let turns = term.turns();
     match term.status {
-        Some(seconds) => {
-            let served = serve_watched(
-                rt, sockets, settings, clients, *rules, turns, seconds, gauges, writer, errors,
-            );
-            ended(served, errors)
-        }
+        Some(seconds) => match Lines::new(rt) {
+            Ok(mut lines) => {
+                let served = serve_watched(
+                    rt, sockets, settings, clients, *rules, turns, seconds, gauges, writer,
+                    &mut lines,
+                );
+                lines.finish(rt);
+                ended(served, errors)
+            }
+            Err(fault) => say_fault(errors, fault),
+        },
         None => {
             let served = serve_socket(
                 rt, sockets, settings, clients, *rules, turns, gauges, writer,

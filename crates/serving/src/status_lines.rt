@@ -6,7 +6,7 @@ use recording::end_name;
 use std::alloc::{AllocError, Global};
 use std::io::Write;
 
-/// Writes a line of counts each so many milliseconds. A line that can't be written is left out.
+/// Writes a line of counts each so many milliseconds. A line that can't be written is left out, and counted.
 #[derive(Drop)]
 pub struct StatusLines<'a, E: Write> {
     alloc: Global,
@@ -15,6 +15,8 @@ pub struct StatusLines<'a, E: Write> {
     every_ms: u64,
     /// The moment from which on the next line is due, in milliseconds.
     due_ms: u64,
+    /// How many lines were left out.
+    unsaid: u64,
     gauges: &'a Gauges,
 }
 
@@ -31,15 +33,16 @@ impl<'a, E: Write> StatusLines<'a, E> {
             errors,
             every_ms,
             due_ms: every_ms,
+            unsaid: 0,
             gauges,
         }
     }
 
     /// Writes one line.
     fn write_line(&mut self, status: &Status) -> Result<(), AllocError> {
-        let recorded = self.recorded_part()?;
+        let (recorded, unsaid) = (self.recorded_part()?, self.unsaid_part()?);
         let line = format!(in self.alloc;
-            "present {} heard {} sent {} failed {} lost {} strangers {} far {}{}\n",
+            "present {} heard {} sent {} failed {} lost {} strangers {} far {}{}{}\n",
             status.present,
             status.heard,
             status.sent,
@@ -48,9 +51,20 @@ impl<'a, E: Write> StatusLines<'a, E> {
             self.gauges.strangers.get(),
             self.gauges.far.get(),
             recorded.as_str(),
+            unsaid.as_str(),
         )?;
-        let _ = self.errors.write_all(line.as_bytes());
+        if self.errors.write_all(line.as_bytes()).is_err() {
+            self.unsaid = self.unsaid.saturating_add(1);
+        }
         Ok(())
+    }
+
+    /// How many lines were left out before this one, if any.
+    fn unsaid_part(&self) -> Result<String, AllocError> {
+        match self.unsaid {
+            0 => Ok(String::new(self.alloc)),
+            lines => format!(in self.alloc; " unsaid {lines}"),
+        }
     }
 
     /// How many bytes were recorded, and why the record ended, if it did; nothing of a run that isn't recorded.

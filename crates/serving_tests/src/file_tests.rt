@@ -2,8 +2,8 @@
 use crate::loopback::ANY_PORT;
 use endings::Status;
 use serving::{
-    AddressKey, Addresses, Client, ClientFault, Gauges, Listening, Location, Term, read_clients,
-    read_served, serve_file,
+    AddressKey, Addresses, Client, ClientFault, ErrorOutput, Gauges, Listening, Location, Term,
+    read_clients, read_served, serve_file,
 };
 use settings_text::ClientText;
 use std::alloc::{AllocError, Global};
@@ -15,7 +15,7 @@ use std::time::Clock;
 
 /// Serves the unit of these settings for two turns, and shows how it ends, what is printed and what is said.
 fn ends(
-    rt: &(impl AllocGlobal + Net + Threads + Wait + Sync + Clock),
+    rt: &(impl AllocGlobal + ErrorOutput + Net + Threads + Wait + Sync + Clock),
     text: &str,
 ) -> Result<(Status, [String; 2]), Fail> {
     let Ok(file) = read_served(rt.alloc(), text.as_bytes()) else {

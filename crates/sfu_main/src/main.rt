@@ -3,7 +3,10 @@
 
 mod record_words;
 
-use commands::{Status, explain, report_words, run_ask, run_command, run_recorded, run_sdp};
+use commands::{
+    ErrorOutput, Status, explain, report_words, run_ask, run_command, run_recorded, run_sdp,
+    run_version,
+};
 use record_words::record_in;
 use std::fs::File;
 use std::io::{Read, Write};
@@ -25,6 +28,9 @@ fn main(rt: HostRuntime) -> ExitCode {
                 [_, ask, path, request @ ..] if ask.as_str() == "ask" => {
                     run_ask(&rt, path.as_str(), request, &mut writer, &mut errors)
                 }
+                [_, version] if version.as_str() == "--version" => {
+                    run_version(&mut writer, &mut errors)
+                }
                 [_, sdp, file, endpoints @ ..] if sdp.as_str() == "sdp" => {
                     let status = run_sdp(&rt, file.as_str(), endpoints, &mut writer, &mut errors);
                     explain(&rt, words.as_slice(), status, &mut errors);
@@ -44,7 +50,7 @@ fn main(rt: HostRuntime) -> ExitCode {
 
 /// Runs the command that the words ask for, and records a unit where they say so.
 fn run_words<
-    R: AllocGlobal + Files<File = File> + Net + Threads + Wait + Sync + Clock,
+    R: AllocGlobal + ErrorOutput + Files<File = File> + Net + Threads + Wait + Sync + Clock,
     I: Read,
     O: Write,
     E: Write,

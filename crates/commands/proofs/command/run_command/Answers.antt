@@ -20,7 +20,7 @@ returns-in-Ok-clause-bound_done g c = λ media asked is.
     shown_set _ media _ _ _ same c.in-Ok.ensures.done
 
 pub returns-in-Err-clause-serve_said : goal.returns-in-Err-clause-serve_said
-returns-in-Err-clause-serve_said g c = λ file ticks control asked. says_alone _ _ _ c.refuse_words.ensures.done c.refuse_words.ensures.said
+returns-in-Err-clause-serve_said g c = λ file ticks status control asked. says_alone _ _ _ c.refuse_words.ensures.done c.refuse_words.ensures.said
 
 pub returns-in-Ok-Draw-clause-draw_done : goal.returns-in-Ok-Draw-clause-draw_done
 returns-in-Ok-Draw-clause-draw_done g c = λ media asked is.
