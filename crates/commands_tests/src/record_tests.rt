@@ -2,7 +2,7 @@
 use crate::replay_tests::played;
 use crate::stream::Stream;
 use commands::{Record, Status, run_recorded};
-use recording::{heard_lines, selected_lines, ticked_lines};
+use recording::{heard_lines, made_lines, selected_lines, ticked_lines};
 use std::alloc::Global;
 use std::test::Fail;
 use std::{fs, process};
@@ -19,7 +19,7 @@ const REPORT: &[u8] = b"\x80\xc9\x00\x01\x00\x00\x00\x11";
 fn recorded(alloc: Global) -> Result<String, Fail> {
     let mut script = String::new(alloc);
     let lines = [
-        heard_lines(alloc, 1, 1, REPORT)?,
+        made_lines(alloc, 1, 1, REPORT)?,
         heard_lines(alloc, 2, 0, packet(7).as_slice())?,
         selected_lines(alloc, 3, 0, false)?,
         heard_lines(alloc, 4, 0, packet(8).as_slice())?,
@@ -87,8 +87,9 @@ fn records_what_it_hears(rt: HostRuntime) -> Result<(), Fail> {
     let text = fs::read_to_string(&rt, path.as_str())?;
     assert!(rt; text.as_str().starts_with("# sfu "));
     assert!(rt;
-        text.as_str()
-            .contains("\nhear 0 0 80c9000100000010\nfollow\ntick 0\nfollow\n")
+        text.as_str().contains(
+            "\n# made in its name\nhear 0 0 80c9000100000010\nfollow\ntick 0\nfollow\n"
+        )
     );
     fs::remove_file(&rt, file.as_str())?;
     fs::remove_file(&rt, path.as_str())?;

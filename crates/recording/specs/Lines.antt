@@ -29,6 +29,10 @@ event_lines (Select moment leg on) =
 event_lines Ingress = []
 event_lines (Work worker) = []
 
+-- the comment before a report that the unit made in the name of an endpoint that only listens
+abbrev pub made_mark : List ℕ
+made_mark = codes "# made in its name\n"
+
 -- the version of the program, and the digest of its settings
 abbrev pub program_part : List ℕ → List ℕ → List ℕ
 program_part version settings =

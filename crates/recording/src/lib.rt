@@ -11,5 +11,5 @@ mod tape;
 mod tests;
 
 pub use header::{Header, header_text};
-pub use line::{heard_lines, selected_lines, ticked_lines};
+pub use line::{heard_lines, made_lines, selected_lines, ticked_lines};
 pub use tape::{End, Tape, end_name};

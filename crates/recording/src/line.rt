@@ -1,9 +1,9 @@
 //! The lines of each event that a unit takes in: the event, and what follows from it.
 
-ghost use Rattle.std.specs.Prelude.{◌≡◌, IfOk};
+ghost use Rattle.std.specs.Prelude.{◌≡◌, ◌++◌, IfOk};
 ghost use Rattle.std.specs.String.{string_bytes};
 ghost use Rattle.events.specs.declared.event.Event.TheVariants.{Hear, Tick, Select};
-ghost use Rattle.recording.specs.Lines.{event_lines, switch_word};
+ghost use Rattle.recording.specs.Lines.{event_lines, made_mark, switch_word};
 
 use std::alloc::{AllocError, Global};
 
@@ -23,6 +23,21 @@ pub fn heard_lines(
     }
     let hex = hex::encode(alloc, bytes)?;
     format!(in alloc; "hear {moment} {endpoint} {hex}\nfollow\n")
+}
+
+/// The lines of a report that the unit made in the name of an endpoint that only listens: those of a datagram that it sent, after a
+/// comment that says so. Refused for want of memory alone.
+pub fn made_lines(
+    alloc: Global,
+    moment: u64,
+    endpoint: u16,
+    bytes: &[u8],
+) -> Result<String, AllocError>
+    ensures { IfOk result (λ text. string_bytes text
+        ≡ made_mark ++ event_lines (Hear moment endpoint bytes.now)) }
+{
+    let heard = heard_lines(alloc, moment, endpoint, bytes)?;
+    format!(in alloc; "# made in its name\n{heard}")
 }
 
 /// The lines of a tick at this moment in milliseconds. Refused for want of memory alone.

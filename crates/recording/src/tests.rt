@@ -1,6 +1,8 @@
 //! Lines of each kind, and a record that comes to its end.
 
-use crate::{End, Header, Tape, end_name, header_text, heard_lines, selected_lines, ticked_lines};
+use crate::{
+    End, Header, Tape, end_name, header_text, heard_lines, made_lines, selected_lines, ticked_lines,
+};
 use std::test::Fail;
 
 /// A line for each event that is taken in, and `follow` after it.
@@ -11,6 +13,11 @@ fn lines_of_events(rt: HostRuntime) -> Result<(), Fail> {
     assert_eq!(rt; heard.as_str(), "hear 12 3 806000ff\nfollow\n");
     let empty = heard_lines(alloc, 12, 3, b"").expect(&rt, "memory");
     assert_eq!(rt; empty.as_str(), "");
+    let made = made_lines(alloc, 500, 1, b"\x80\xc9").expect(&rt, "memory");
+    assert_eq!(rt;
+        made.as_str(),
+        "# made in its name\nhear 500 1 80c9\nfollow\n"
+    );
     let ticked = ticked_lines(alloc, 18446744073709551615).expect(&rt, "memory");
     assert_eq!(rt; ticked.as_str(), "tick 18446744073709551615\nfollow\n");
     let on = selected_lines(alloc, 0, 65535, true).expect(&rt, "memory");

@@ -188,6 +188,7 @@ impl<'a> Arrivals<'a> {
         let endpoint = u16::try_from(number).ok()?;
         let source = self.sources.get(number).copied()?;
         let length = written(&empty_report(source), out)?;
+        self.gauges.made.set(true);
         Some((endpoint, length))
     }
 

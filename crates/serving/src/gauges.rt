@@ -17,6 +17,8 @@ pub struct Gauges {
     pub far: Cell<u64>,
     /// How many milliseconds went by since the run began, at the last turn.
     pub moment_ms: Cell<u64>,
+    /// Whether what was received last is a report that was made in the name of an endpoint that only listens.
+    pub made: Cell<bool>,
     /// Who steers the run, if anybody may.
     steering: Option<RefCell<Steering>>,
     /// Who records the run, if anybody does.
@@ -30,6 +32,7 @@ impl Gauges {
             strangers: Cell::new(0),
             far: Cell::new(0),
             moment_ms: Cell::new(0),
+            made: Cell::new(false),
             steering: None,
             recorder: None,
         }
@@ -41,6 +44,7 @@ impl Gauges {
             strangers: Cell::new(0),
             far: Cell::new(0),
             moment_ms: Cell::new(0),
+            made: Cell::new(false),
             steering: Some(RefCell::new(steering)),
             recorder: None,
         }

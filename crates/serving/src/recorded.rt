@@ -16,9 +16,10 @@ impl<Src: Source + Drop> Source for RecordedSource<'_, Src> {
     ghost given = { λ s. Src.given s.source };
 
     fn receive(&mut self, out: &mut [u8]) -> Result<Received, ReceiveFault> {
+        self.gauges.made.set(false);
         let received = self.source.receive(&mut *out);
         if let Some(mut recorder) = self.gauges.recorder() {
-            recorder.note(&received, out);
+            recorder.note(&received, out, self.gauges.made.get());
         }
         received
     }

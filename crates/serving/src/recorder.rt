@@ -2,7 +2,7 @@
 
 use crate::courier::Outlet;
 use outside::{ReceiveFault, Received, Ticks};
-use recording::{End, Tape, heard_lines, selected_lines, ticked_lines};
+use recording::{End, Tape, heard_lines, made_lines, selected_lines, ticked_lines};
 use std::alloc::{AllocError, Global};
 
 /// From so many bytes on what waits is handed on.
@@ -15,8 +15,15 @@ const FLUSH_MS: u64 = 1000;
 #[derive(Clone, Copy, Debug)]
 enum Came {
     Nothing,
-    Datagram(u16),
-    Select { leg: u16, on: bool },
+    Datagram {
+        endpoint: u16,
+        /// Whether the unit made it, in the endpoint's name.
+        made: bool,
+    },
+    Select {
+        leg: u16,
+        on: bool,
+    },
 }
 
 /// Writes down what a unit takes in, each event with the moment at which the unit takes it in.
@@ -57,14 +64,19 @@ impl Recorder {
         }
     }
 
-    /// A receive gave this; the bytes of a datagram are the beginning of `out`.
-    pub(crate) fn note(&mut self, received: &Result<Received, ReceiveFault>, out: &[u8]) {
+    /// A receive gave this; the bytes of a datagram are the beginning of `out`. The unit made it itself, or not.
+    pub(crate) fn note(
+        &mut self,
+        received: &Result<Received, ReceiveFault>,
+        out: &[u8],
+        made: bool,
+    ) {
         if self.tape.why_ended().is_some() {
             return;
         }
         self.came = match received {
             Ok(Received::Datagram { endpoint, length }) => match out.get(..*length) {
-                Some(bytes) => self.keep(*endpoint, bytes),
+                Some(bytes) => self.keep(*endpoint, bytes, made),
                 None => Came::Nothing,
             },
             Ok(Received::Select { leg, on }) => Came::Select { leg: *leg, on: *on },
@@ -73,10 +85,10 @@ impl Recorder {
     }
 
     /// A copy of a datagram is kept until the moment is told.
-    fn keep(&mut self, endpoint: u16, bytes: &[u8]) -> Came {
+    fn keep(&mut self, endpoint: u16, bytes: &[u8], made: bool) -> Came {
         self.bytes.clear();
         match self.bytes.extend_from_slice(bytes) {
-            Ok(()) => Came::Datagram(endpoint),
+            Ok(()) => Came::Datagram { endpoint, made },
             Err(_) => {
                 self.tape.end(End::Memory);
                 Came::Nothing
@@ -107,8 +119,13 @@ impl Recorder {
         self.came = Came::Nothing;
         match came {
             Came::Nothing => Ok(String::new(self.alloc)),
-            Came::Datagram(endpoint) => {
-                heard_lines(self.alloc, moment, endpoint, self.bytes.as_slice())
+            Came::Datagram { endpoint, made } => {
+                let bytes = self.bytes.as_slice();
+                if made {
+                    made_lines(self.alloc, moment, endpoint, bytes)
+                } else {
+                    heard_lines(self.alloc, moment, endpoint, bytes)
+                }
             }
             Came::Select { leg, on } => selected_lines(self.alloc, moment, leg, on),
         }
