@@ -10,6 +10,7 @@ first thing that isn't so. By hand: nothing of it is proved.
 """
 
 import os
+import re
 import socket
 import struct
 import subprocess
@@ -143,10 +144,13 @@ def play(program, workers, folder):
         subscriber.sendto(struct.pack("!BBHIIHH", 0x81, 205, 3, 17, 257, last, 0), unit_at)
         again = [it for it in received(subscriber) if not is_rtcp(it)]
         wants("sent again", [it for it in again], [came[-1]])
+        # and one that was never sent, before the first
+        subscriber.sendto(struct.pack("!BBHIIHH", 0x81, 205, 3, 17, 257, 99, 0), unit_at)
+        wants("what was never sent", [it for it in received(subscriber) if not is_rtcp(it)], [])
         sent = TURNS * PACKETS + 1
-        legs = ask(program, path, "legs").splitlines()
-        wants("leg 0", legs[0], f"0 from 0 to 1 on packets {sent} octets {sent * PAYLOAD} resent 1 next {last + 1}")
-        wants("leg 1", legs[1], "1 from 0 to 2 on packets 0 octets 0 resent 0 next none")
+        legs = [re.sub(r" stay \d+ ", " stay S ", it) for it in ask(program, path, "legs").splitlines()]
+        wants("leg 0", legs[0], f"0 from 0 to 1 on stay S packets {sent} octets {sent * PAYLOAD} resent 1 missed 1 next {last + 1}")
+        wants("leg 1", legs[1], "1 from 0 to 2 on stay none packets 0 octets 0 resent 0 missed 0 next none")
         present = ask(program, path, "present").splitlines()
         for line, state in zip(present, ("present heard", "present heard", "absent never heard")):
             if state not in line:
@@ -155,7 +159,8 @@ def play(program, workers, folder):
         for line in (
             f'sfu_rtp_packets_received_total{{endpoint="0"}} {2 * TURNS * PACKETS}',
             f'sfu_received_bytes_total{{endpoint="0"}} {2 * TURNS * PACKETS * (12 + PAYLOAD)}',
-            'sfu_nacks_received_total{endpoint="1"} 1',
+            'sfu_nacks_received_total{endpoint="1"} 2',
+            'sfu_leg_packets_missed_total{leg="0"} 1',
             'sfu_endpoint_present{endpoint="1"} 1',
             'sfu_endpoint_present{endpoint="2"} 0',
             f'sfu_leg_packets_sent_total{{leg="0"}} {sent}',

@@ -15,6 +15,7 @@ use crate::runner::busy;
 use crate::seed::job_of;
 use crate::tasks::{FollowUp, NextTask, Tasks};
 use crate::ticking::tick;
+use crate::world::standing;
 use desk::Effect;
 use events::{Bytes, Job, Out};
 use legs::Plan;
@@ -56,8 +57,9 @@ impl Model for IngressCore {
 }
 
 impl IngressCore {
-    ghost use Rattle.std.specs.Prelude.{◌≡◌, IfOk, OnOk, OnErr};
+    ghost use Rattle.std.specs.Prelude.{◌≡◌, ◌≢◌, IfOk, OnOk, OnErr, MatchOption};
     ghost use Rattle.members.specs.Presence.{is_present_at};
+    ghost use Rattle.members.specs.Room.{leg_at};
     ghost use Rattle.events.specs.declared.event.Event.TheVariants.{Hear, Tick, Select};
     ghost use Rattle.core_steps.specs.Duties.{new_ingress, HandsOut, Reports};
     ghost use Rattle.core_steps.specs.Rule.{Does};
@@ -178,6 +180,14 @@ impl IngressCore {
         ensures { result ≡ is_present_at self.now.room.endpoints endpoint }
     {
         self.machine.room.is_present(endpoint)
+    }
+
+    /// The stay that stands for this leg; `None` where none does.
+    pub fn stay(&self, leg: u16) -> Option<u64>
+        ensures { MatchOption result ((leg_at self.now.room.legs leg).stay ≡ 0)
+            (λ s. (s ≢ 0) × ((leg_at self.now.room.legs leg).stay ≡ s)) }
+    {
+        standing(self.machine.room.stay(leg))
     }
 
     /// The legs.

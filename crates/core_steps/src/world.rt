@@ -1,6 +1,6 @@
 //! The unit as one machine.
 
-ghost use Rattle.std.specs.Prelude.{◌≡◌, ◌≤◌, ◌<◌, All, length, map, sum_by, IfOk, slice_get, Some};
+ghost use Rattle.std.specs.Prelude.{◌≡◌, ◌≢◌, ◌≤◌, ◌<◌, All, length, map, sum_by, IfOk, slice_get, Some, MatchOption};
 ghost use Rattle.routes.specs.Rows.{opening_rows};
 ghost use Rattle.desk.specs.declared.effect.Effect.{Effect as EffectValue};
 ghost use Rattle.settings.specs.declared.settings.TheConstants.{MAX_WORKERS};
@@ -184,8 +184,16 @@ fn hands_full(workers: &[Worker]) -> usize
     hands
 }
 
+/// The stay that a leg's number names: 0 is none.
+pub(crate) fn standing(stay: u64) -> Option<u64>
+    ensures { MatchOption result (stay ≡ 0) (λ s. (s ≢ 0) × (stay ≡ s)) }
+{
+    if stay == 0 { None } else { Some(stay) }
+}
+
 impl World {
     ghost use Rattle.members.specs.Presence.{is_present_at};
+    ghost use Rattle.members.specs.Room.{leg_at};
     ghost use Rattle.core_steps.specs.Rule.{is_busy};
     ghost use Rattle.core_steps.specs.Waits.{has_work, waiting_in};
 
@@ -227,6 +235,14 @@ impl World {
         ensures { result ≡ is_present_at self.now.room.endpoints endpoint }
     {
         self.machine.room.is_present(endpoint)
+    }
+
+    /// The stay that stands for this leg; `None` where none does.
+    pub fn stay(&self, leg: u16) -> Option<u64>
+        ensures { MatchOption result ((leg_at self.now.room.legs leg).stay ≡ 0)
+            (λ s. (s ≢ 0) × ((leg_at self.now.room.legs leg).stay ≡ s)) }
+    {
+        standing(self.machine.room.stay(leg))
     }
 
     /// The published rows, one for each leg.

@@ -250,6 +250,7 @@ fn a_flood_loses_what_the_ring_has_no_room_for(rt: HostRuntime) -> Result<(), Fa
     assert_eq!(rt; stage.outs.len(), 1);
     assert!(rt; matches!(stage.outs.last(), Some(Out::Lost(1))));
     assert_eq!(rt; stage.world.lost(), 1);
+    assert_eq!(rt; [stage.world.stay(0), stage.world.stay(9)], [Some(1), None]);
     assert_eq!(rt; stage.world.waiting().jobs, 1024);
     let sent = sent(rt.alloc(), &mut stage)?;
     assert_eq!(rt; stage.outs.len(), 1024);

@@ -48,7 +48,10 @@ fn give_planned<S: Sink>(legs: &Legs, planned: &Planned, sink: &mut S, done: &mu
         },
         Planned::Report { endpoint, bytes } => hand_over(sink, *endpoint, bytes.as_slice(), done),
         Planned::Skip { .. } => done.skipped += 1,
-        Planned::Miss { .. } => done.missed += 1,
+        Planned::Miss { leg, .. } => {
+            sink.missed(*leg);
+            done.missed += 1;
+        }
     }
 }
 
@@ -62,7 +65,10 @@ fn give<S: Sink>(out: &Out, sink: &mut S, done: &mut Forwarded)
     match out {
         Out::Send { endpoint, bytes } => hand_over(sink, *endpoint, bytes.as_slice(), done),
         Out::Skip { .. } => done.skipped += 1,
-        Out::Miss { .. } => done.missed += 1,
+        Out::Miss { leg, .. } => {
+            sink.missed(*leg);
+            done.missed += 1;
+        }
         Out::Refused(_) | Out::Busy | Out::Lost(_) | Out::Idle => {}
     }
 }

@@ -197,12 +197,8 @@ fn give<S: Sink>(out: &Out, sink: &mut S, tally: &mut Tally)
 {
     match out {
         Out::Send { endpoint, bytes } => hand_over(sink, *endpoint, bytes.as_slice(), tally),
-        Out::Refused(_)
-        | Out::Busy
-        | Out::Lost(_)
-        | Out::Skip { .. }
-        | Out::Miss { .. }
-        | Out::Idle => {}
+        Out::Miss { leg, .. } => sink.missed(*leg),
+        Out::Refused(_) | Out::Busy | Out::Lost(_) | Out::Skip { .. } | Out::Idle => {}
     }
 }
 
@@ -238,6 +234,11 @@ fn show_room<W: Watch>(world: &World, watch: &mut W) {
         Look::Presence => {
             for endpoint in 0..u16::try_from(world.publishers()).unwrap_or(u16::MAX) {
                 watch.show_endpoint(endpoint, world.is_present(endpoint));
+            }
+        }
+        Look::Stays => {
+            for leg in 0..u16::try_from(world.rows().len()).unwrap_or(u16::MAX) {
+                watch.show_stay(leg, world.stay(leg));
             }
         }
         Look::Desk(publisher) => {

@@ -22,4 +22,9 @@ pub trait Sink {
             (record { endpoint = endpoint; bytes = bytes.now } ∷ []) (shown self.new).handed }
         ensures ok { OnOk result ((shown self.new).failures ≡ (shown self.old).failures) }
         ensures err { OnErr result ((shown self.new).failures ≡ (shown self.old).failures + 1) };
+
+    /// A packet was asked for again on the leg with this number, and isn't kept any more (RFC 4585, section 6.2.1): nothing is sent.
+    fn missed(&mut self, _leg: u16)
+        ensures { shown self.new ≡ shown self.old }
+    {}
 }

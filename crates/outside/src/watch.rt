@@ -26,6 +26,8 @@ pub enum Look {
     Nothing,
     /// Of each endpoint whether it is present.
     Presence,
+    /// Of each leg the stay that stands.
+    Stays,
     /// The desk of the publisher with this number: what is announced to it, and why.
     Desk(u16),
 }
@@ -47,6 +49,9 @@ pub trait Watch {
 
     /// Whether the endpoint with this number is present. Where presence is looked at, each endpoint is shown, by rising number.
     fn show_endpoint(&mut self, _endpoint: u16, _is_present: bool) {}
+
+    /// The stay of the leg with this number; `None` if none stands. Where stays are looked at, each leg is shown, by rising number.
+    fn show_stay(&mut self, _leg: u16, _stay: Option<u64>) {}
 
     /// The desk of this publisher. Where a desk is looked at that isn't there, none is shown.
     fn show_desk(&mut self, _publisher: u16, _desk: &Desk) {}

@@ -6,7 +6,6 @@ use outside::{Look, Received, Status};
 use recording::End;
 use std::cell::{Cell, RefCell, RefMut};
 use std::net::SocketAddr;
-use traffic::Traffic;
 
 /// What a source and a clock show of a run while it goes on.
 #[derive(Drop)]
@@ -121,13 +120,10 @@ impl Gauges {
         }
     }
 
-    /// What somebody wants to see of the room. Who waits for counts of endpoints or of legs alone is answered by these.
-    pub(crate) fn look(&self, traffic: &Traffic) -> Look {
+    /// What somebody wants to see of the room.
+    pub(crate) fn look(&self) -> Look {
         match self.steering() {
-            Some(mut steering) => {
-                steering.show_legs(traffic);
-                steering.look()
-            }
+            Some(steering) => steering.look(),
             None => Look::Nothing,
         }
     }

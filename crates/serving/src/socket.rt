@@ -215,6 +215,10 @@ impl Sink for SocketSink<'_> {
         self.failures += 1;
         Err(SendFault)
     }
+
+    fn missed(&mut self, leg: u16) {
+        self.traffic.missed(leg);
+    }
 }
 
 /// Sends these bytes to the endpoint's client, and says whether the system took them: RTCP from the socket for it to the address for

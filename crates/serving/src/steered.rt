@@ -49,13 +49,19 @@ impl<W: Watch + Drop> Watch for SteeredWatch<'_, W> {
     }
 
     fn look(&self) -> Look {
-        self.gauges.look(self.traffic)
+        self.gauges.look()
     }
 
     fn show_endpoint(&mut self, endpoint: u16, is_present: bool) {
         if let Some(mut steering) = self.gauges.steering() {
             let moment = self.gauges.moment_ms.get();
             steering.show_endpoint(endpoint, is_present, self.traffic, moment);
+        }
+    }
+
+    fn show_stay(&mut self, leg: u16, stay: Option<u64>) {
+        if let Some(mut steering) = self.gauges.steering() {
+            steering.show_stay(leg, stay, self.traffic);
         }
     }
 

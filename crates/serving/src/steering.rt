@@ -162,7 +162,8 @@ impl Steering {
         match self.asked {
             Asked::Look(look) => look,
             Asked::Metrics | Asked::Stop => Look::Presence,
-            Asked::Nothing | Asked::Counts | Asked::Legs => Look::Nothing,
+            Asked::Legs => Look::Stays,
+            Asked::Nothing | Asked::Counts => Look::Nothing,
         }
     }
 
@@ -198,24 +199,13 @@ impl Steering {
         }
     }
 
-    /// What went out on each leg is told to who waits for it.
-    pub(crate) fn show_legs(&mut self, traffic: &Traffic) {
-        if self.asked != Asked::Legs {
-            return;
-        }
-        for at in 0..self.legs.len() {
-            self.push_leg(at, traffic);
-        }
-        self.answer();
-    }
-
-    /// The line of the leg at this place.
-    fn push_leg(&mut self, at: usize, traffic: &Traffic) {
-        let Some(line) = self.legs.get(at).copied() else {
+    /// The stay that stands for this leg, and what went out on it.
+    pub(crate) fn show_stay(&mut self, leg: u16, stay: Option<u64>, traffic: &Traffic) {
+        let Some(line) = self.legs.get(usize::from(leg)).copied() else {
             return;
         };
         if let Some(count) = traffic.leg(line.leg) {
-            let text = leg_line(self.alloc, line, &count);
+            let text = leg_line(self.alloc, line, stay, &count);
             self.push(text);
         }
     }

@@ -14,5 +14,6 @@ count_with count seq octets = record {
   packets = risen count.packets 1;
   octets = risen count.octets octets;
   resent = if is_new count.next seq then count.resent else risen count.resent 1;
+  missed = count.missed;
   next = if is_new count.next seq then Some ((seq + 1) % 65536) else count.next;
 }

@@ -20,13 +20,19 @@ ends_part l =
     ++ (codes " from " ++ (decimal l.publisher
     ++ (codes " to " ++ (decimal l.subscriber ++ (codes " " ++ switch_word l.on)))))
 
+-- the stay that stands for it, if one does
+abbrev pub stay_part : Option ℕ → List ℕ
+stay_part None = codes " stay none"
+stay_part (Some stay) = codes " stay " ++ decimal stay
+
 -- what went out on it
 abbrev pub flow_part : LegCount → List ℕ
 flow_part c =
     codes " packets "
     ++ (decimal c.packets ++ (codes " octets " ++ (decimal c.octets
     ++ (codes " resent " ++ (decimal c.resent
-    ++ (codes " next " ++ (next_word c.next ++ codes "\n")))))))
+    ++ (codes " missed " ++ (decimal c.missed
+    ++ (codes " next " ++ (next_word c.next ++ codes "\n")))))))))
 
-abbrev pub line_of_leg : LegLine → LegCount → List ℕ
-line_of_leg l c = ends_part l ++ flow_part c
+abbrev pub line_of_leg : LegLine → Option ℕ → LegCount → List ℕ
+line_of_leg l stay c = ends_part l ++ (stay_part stay ++ flow_part c)

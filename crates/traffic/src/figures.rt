@@ -34,6 +34,7 @@ pub enum LegFigure {
     Packets,
     Bytes,
     Resent,
+    Missed,
 }
 
 /// The figures of an endpoint, in the order in which they are told.
@@ -54,7 +55,12 @@ const ENDPOINT_FIGURES: [EndpointFigure; 13] = [
 ];
 
 /// Those of a leg.
-const LEG_FIGURES: [LegFigure; 3] = [LegFigure::Packets, LegFigure::Bytes, LegFigure::Resent];
+const LEG_FIGURES: [LegFigure; 4] = [
+    LegFigure::Packets,
+    LegFigure::Bytes,
+    LegFigure::Resent,
+    LegFigure::Missed,
+];
 
 impl EndpointFigure {
     /// What it is of this endpoint.
@@ -134,6 +140,7 @@ impl LegFigure {
             LegFigure::Packets => count.packets,
             LegFigure::Bytes => count.octets,
             LegFigure::Resent => count.resent,
+            LegFigure::Missed => count.missed,
         }
     }
 
@@ -145,6 +152,7 @@ impl LegFigure {
             LegFigure::Packets => "sfu_leg_packets_sent_total",
             LegFigure::Bytes => "sfu_leg_payload_bytes_sent_total",
             LegFigure::Resent => "sfu_leg_packets_resent_total",
+            LegFigure::Missed => "sfu_leg_packets_missed_total",
         }
     }
 
@@ -156,6 +164,7 @@ impl LegFigure {
             LegFigure::Packets => "RTP packets that were sent on the leg, repeated ones too.",
             LegFigure::Bytes => "Payload bytes that were sent on the leg.",
             LegFigure::Resent => "RTP packets that were sent on the leg once more.",
+            LegFigure::Missed => "RTP packets that were asked for on the leg and not kept.",
         }
     }
 }

@@ -15,6 +15,8 @@ pub struct LegCount {
     pub octets: u64,
     /// How many of the packets had gone out before.
     pub resent: u64,
+    /// How many packets were asked for again and weren't kept any more.
+    pub missed: u64,
     /// The sequence number after the newest; `None` before the first packet.
     pub next: Option<u16>,
 }
@@ -25,12 +27,13 @@ impl LegCount {
 
     /// Nothing went out.
     pub fn new() -> LegCount
-        ensures { result ≡ record { packets = 0; octets = 0; resent = 0; next = None } }
+        ensures { result ≡ record { packets = 0; octets = 0; resent = 0; missed = 0; next = None } }
     {
         LegCount {
             packets: 0,
             octets: 0,
             resent: 0,
+            missed: 0,
             next: None,
         }
     }
@@ -49,6 +52,7 @@ impl LegCount {
             } else {
                 self.resent.saturating_add(1)
             },
+            missed: self.missed,
             next: if is_new {
                 Some(seq.wrapping_add(1))
             } else {

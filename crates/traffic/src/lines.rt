@@ -2,7 +2,7 @@
 
 ghost use Rattle.std.specs.Prelude.{◌≡◌, ◌++◌, IfOk, OnOk};
 ghost use Rattle.std.specs.String.{string_bytes};
-ghost use Rattle.traffic.specs.Lines.{ends_part, flow_part, line_of_leg, next_word};
+ghost use Rattle.traffic.specs.Lines.{ends_part, flow_part, line_of_leg, next_word, stay_part};
 
 use crate::leg_count::LegCount;
 use std::alloc::{AllocError, Global};
@@ -20,11 +20,18 @@ pub struct LegLine {
     pub on: bool,
 }
 
-/// The line of a leg: who is sent on to whom, whether it is on, and what went out on it. Refused for want of memory alone.
-pub fn leg_line(alloc: Global, line: LegLine, count: &LegCount) -> Result<String, AllocError>
-    ensures { IfOk result (λ text. string_bytes text ≡ line_of_leg line count.now) }
+/// The line of a leg: who is sent on to whom, whether it is on, the number of the stay that stands, and what went out on it. Refused for
+/// want of memory alone.
+pub fn leg_line(
+    alloc: Global,
+    line: LegLine,
+    stay: Option<u64>,
+    count: &LegCount,
+) -> Result<String, AllocError>
+    ensures { IfOk result (λ text. string_bytes text ≡ line_of_leg line stay count.now) }
 {
     let mut text = ends_of(alloc, line)?;
+    push_stay(&mut text, stay)?;
     push_flow(&mut text, count)?;
     Ok(text)
 }
@@ -40,14 +47,24 @@ fn ends_of(alloc: Global, line: LegLine) -> Result<String, AllocError>
     )
 }
 
+/// The stay that stands for it.
+fn push_stay(text: &mut String, stay: Option<u64>) -> Result<(), AllocError>
+    ensures { OnOk result (string_bytes text.new ≡ string_bytes text.old ++ stay_part stay) }
+{
+    match stay {
+        Some(stay) => write!(text, " stay {stay}"),
+        None => text.push_str(" stay none"),
+    }
+}
+
 /// What went out on it.
 fn push_flow(text: &mut String, count: &LegCount) -> Result<(), AllocError>
     ensures { OnOk result (string_bytes text.new ≡ string_bytes text.old ++ flow_part count.now) }
 {
     write!(
         text,
-        " packets {} octets {} resent {} next ",
-        count.packets, count.octets, count.resent,
+        " packets {} octets {} resent {} missed {} next ",
+        count.packets, count.octets, count.resent, count.missed,
     )?;
     push_next(text, count.next)?;
     text.push_str("\n")

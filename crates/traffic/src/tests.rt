@@ -16,6 +16,7 @@ fn counts_of_a_leg(rt: HostRuntime) -> Result<(), Fail> {
         packets: 7,
         octets: 700,
         resent: 2,
+        missed: 0,
         next: Some(4),
     };
     assert_eq!(rt; count, wanted);
@@ -25,16 +26,17 @@ fn counts_of_a_leg(rt: HostRuntime) -> Result<(), Fail> {
         subscriber: 12,
         on: true,
     };
-    let text = leg_line(rt.alloc(), line, &count)?;
+    let count = LegCount { missed: 5, ..count };
+    let text = leg_line(rt.alloc(), line, Some(9), &count)?;
     assert_eq!(rt;
         text.as_str(),
-        "3 from 0 to 12 on packets 7 octets 700 resent 2 next 4\n"
+        "3 from 0 to 12 on stay 9 packets 7 octets 700 resent 2 missed 5 next 4\n"
     );
     let line = LegLine { on: false, ..line };
-    let text = leg_line(rt.alloc(), line, &LegCount::new())?;
+    let text = leg_line(rt.alloc(), line, None, &LegCount::new())?;
     assert_eq!(rt;
         text.as_str(),
-        "3 from 0 to 12 off packets 0 octets 0 resent 0 next none\n"
+        "3 from 0 to 12 off stay none packets 0 octets 0 resent 0 missed 0 next none\n"
     );
     Ok(())
 }

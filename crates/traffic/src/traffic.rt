@@ -74,6 +74,7 @@ struct LegCells {
     packets: AtomicU64,
     octets: AtomicU64,
     resent: AtomicU64,
+    missed: AtomicU64,
     /// One more than the next number; 0 before the first packet.
     after_next: AtomicU64,
 }
@@ -145,6 +146,13 @@ impl Traffic {
             .ok()?;
         let (_, leg) = self.sources.get(place)?;
         self.legs.get(usize::from(*leg))
+    }
+
+    /// A packet was asked for again on this leg, and isn't kept any more.
+    pub fn missed(&self, leg: u16) {
+        if let Some(cells) = self.legs.get(usize::from(leg)) {
+            add(&cells.missed, 1);
+        }
     }
 
     /// A datagram couldn't be sent to this endpoint.
@@ -263,6 +271,7 @@ impl LegCells {
             packets: AtomicU64::new(0),
             octets: AtomicU64::new(0),
             resent: AtomicU64::new(0),
+            missed: AtomicU64::new(0),
             after_next: AtomicU64::new(0),
         }
     }
@@ -272,6 +281,7 @@ impl LegCells {
             packets: self.packets.load(Ordering::SeqCst),
             octets: self.octets.load(Ordering::SeqCst),
             resent: self.resent.load(Ordering::SeqCst),
+            missed: self.missed.load(Ordering::SeqCst),
             next: number_before(self.after_next.load(Ordering::SeqCst)),
         }
     }
@@ -280,6 +290,7 @@ impl LegCells {
         self.packets.store(count.packets, Ordering::SeqCst);
         self.octets.store(count.octets, Ordering::SeqCst);
         self.resent.store(count.resent, Ordering::SeqCst);
+        self.missed.store(count.missed, Ordering::SeqCst);
         self.after_next
             .store(number_after(count.next), Ordering::SeqCst);
     }

@@ -111,6 +111,11 @@ impl<'a, D: DeskCalls, C: SeatCalls, J: Naming, S: Sink + Drop> Ingress<'a, D, C
                     watch.show_endpoint(endpoint, self.core.is_present(endpoint));
                 }
             }
+            Look::Stays => {
+                for leg in 0..u16::try_from(self.core.links().legs().len()).unwrap_or(u16::MAX) {
+                    watch.show_stay(leg, self.core.stay(leg));
+                }
+            }
             Look::Desk(_) => {}
         }
         watch.end_look();
