@@ -23,4 +23,5 @@ pub mod UnspliceLemmas
 pub mod PutBackLemmas
 pub mod MemberLemmas
 pub mod DropLemmas
+pub mod LastLemmas
 pub mod BoundsLemmas

@@ -1,11 +1,11 @@
 //! The live requests of one media sender.
 
-ghost use Rattle.std.specs.Prelude.{◌≡◌, ◌≢◌, ◌<◌, ◌≤◌, ◌↔◌, [], length, All, Some, None, IsTrue, IsOk, IsErr, IfOk, OnOk, OnErr, OnSome, IfNone, IsNone, ◌+◌, ◌*◌};
+ghost use Rattle.std.specs.Prelude.{◌≡◌, ◌≢◌, ◌<◌, ◌≤◌, ◌↔◌, [], length, All, Some, None, Err, IsTrue, IsOk, IsErr, IfOk, OnOk, OnErr, OnSome, IfNone, IsNone, ◌+◌, ◌*◌};
 
 use crate::announced::{announce, remember};
 use crate::certificate::chosen;
-use crate::live::replace;
-use crate::rows::{Full, LIVE_LIMIT, asked_by, is_asked, take};
+use crate::live::{put_all, replace};
+use crate::rows::{Full, LIVE_LIMIT, RowsFault, asked_by, check_rows, is_asked, take};
 use crate::unsplice::unsplice;
 use crate::zero_rates::{MAX_STOPS, update_stops};
 use arrayvec::ArrayVec;
@@ -124,6 +124,35 @@ impl Bounds {
         Ok(stops_changed || lines_changed && self.stops.is_empty())
     }
 
+    /// Makes these requests, which are given by rising owner, the live ones in place of those that were.
+    /// What is announced, with its certificate, is as if each had been put by `set`, but the certificate
+    /// is made once. `steps` counts the tests of all together.
+    ///
+    /// Refused as `TooMany` exactly where they are more than may be live, else as `NotRising` exactly
+    /// where their owners don't rise; then nothing changed.
+    pub fn set_all(&mut self, requests: &[Request]) -> Result<(), RowsFault>
+        ensures too_many { (result ≡ Err RowsFault.TooMany) ↔ (LIVE_LIMIT < length requests.now) }
+        ensures not_rising { (result ≡ Err RowsFault.NotRising)
+            ↔ ((length requests.now ≤ LIVE_LIMIT) × (¬ HasRisingOwners requests.now)) }
+        ensures unchanged { OnErr result (self.new ≡ self.old) }
+        ensures rows { OnOk result (self.new.rows ≡ requests.now) }
+        ensures announced { OnOk result (AnnouncesSmallest self.new) }
+        ensures each_more { All (λ r. ¬ StopsMedia r) requests.now
+            → OnOk result (length (announced_of self.new) ≤ self.new.steps + 1) }
+        ensures few { OnOk result (self.new.steps ≤ 5 * length requests.now) }
+    {
+        check_rows(requests)?;
+        self.rows.clear();
+        self.lines.clear();
+        self.steps = 0;
+        put_all(requests, &mut self.rows, &mut self.lines, &mut self.steps);
+        let rows = self.rows.as_slice();
+        update_stops(rows, &mut self.stops, true);
+        let (lines, stops) = (self.lines.as_slice(), self.stops.as_slice());
+        announce(rows, &[], lines, stops, &mut self.cert);
+        Ok(())
+    }
+
     /// Removes the owner's request, and answers what it asked for. `None` where it has none; then
     /// nothing changed.
     pub fn remove(&mut self, owner: Ssrc) -> Option<Tuple>
@@ -183,8 +212,8 @@ impl Bounds {
         chosen(self.rows.as_slice(), &self.cert)
     }
 
-    /// How often the last `set` or `remove` asked whether two lines imply a third, of those that weren't
-    /// refused; 0 before. A `remove` of an owner that isn't live counts as refused.
+    /// How often the last `set`, `set_all` or `remove` asked whether two lines imply a third, of those that
+    /// weren't refused; 0 before. A `remove` of an owner that isn't live counts as refused.
     pub fn steps(&self) -> u32
         ensures value { result ≡ self.now.steps }
     {

@@ -23,4 +23,4 @@ mod unsplice;
 mod zero_rates;
 
 pub use bounds::Bounds;
-pub use rows::{Full, LIVE_LIMIT};
+pub use rows::{Full, LIVE_LIMIT, RowsFault};

@@ -1,6 +1,6 @@
 //! Changes of the live rows together with their envelope.
 
-ghost use Rattle.std.specs.Prelude.{◌≡◌, ◌≢◌, ◌+◌, ◌*◌, ◌^◌, ◌<◌, ◌≤◌, ◌↔◌, length, Any, Some, None, IsTrue, false};
+ghost use Rattle.std.specs.Prelude.{◌≡◌, ◌≢◌, ◌+◌, ◌*◌, ◌^◌, ◌<◌, ◌≤◌, ◌↔◌, [], ◌∷◌, ◌++◌, length, All, Any, Some, None, IsTrue, false};
 ghost use Rattle.bounding_set.specs.Rows.{HasRisingOwners, Puts, tuple_of, count_with};
 ghost use Rattle.bounding_set.specs.Envelope.{IsEnvelopeOf};
 ghost use Rattle.bounding_set.specs.State.{dropped_count};
@@ -40,6 +40,51 @@ pub fn replace(
     let was_line = take_out(rows, lines, x.owner, count);
     let is_line = put_in(rows, lines, x, count);
     was_line || is_line
+}
+
+/// Makes rows and an envelope of requests by rising owner; both are empty before.
+pub fn put_all(
+    requests: &[Request],
+    rows: &mut ArrayVec<Request, MAX_REQUESTS>,
+    lines: &mut ArrayVec<Request, MAX_REQUESTS>,
+    count: &mut u32,
+)
+    requires rising { HasRisingOwners requests.now }
+    requires within { length requests.now ≤ MAX_REQUESTS }
+    requires no_row { rows.old.items ≡ [] }
+    requires no_line { lines.old.items ≡ [] }
+    requires uncounted { count.old ≡ 0 }
+    ensures rows { rows.new.items ≡ requests.now }
+    ensures envelope { IsEnvelopeOf requests.now lines.new.items }
+    ensures each { length lines.new.items ≤ count.new + 1 }
+    ensures few { count.new ≤ 5 * length requests.now }
+{
+    for request in requests {
+        put_last(rows, lines, request, count);
+    }
+}
+
+/// Adds the row of an owner that is above all that are live.
+fn put_last(
+    rows: &mut ArrayVec<Request, MAX_REQUESTS>,
+    lines: &mut ArrayVec<Request, MAX_REQUESTS>,
+    x: &Request,
+    count: &mut u32,
+)
+    requires rising { HasRisingOwners rows.old.items }
+    requires above { All (λ r. r.owner.0 < x.now.owner.0) rows.old.items }
+    requires room { length rows.old.items < MAX_REQUESTS }
+    requires envelope { IsEnvelopeOf rows.old.items lines.old.items }
+    requires countable { count.old ≤ MAX_REQUESTS * (MAX_REQUESTS + 4) }
+    ensures put { rows.new.items ≡ rows.old.items ++ x.now ∷ [] }
+    ensures envelope { IsEnvelopeOf rows.new.items lines.new.items }
+    ensures one_more { length lines.new.items ≤ length lines.old.items + 1 }
+    ensures tested { 0 < length lines.old.items
+        → length lines.new.items + count.old ≤ length lines.old.items + count.new }
+    ensures each_few { count.new + length lines.new.items ≤ count.old + length lines.old.items + 5 }
+    ensures counted { count.old ≤ count.new }
+{
+    let _is_line = put_in(rows, lines, x, count);
 }
 
 /// Takes the owner's row out, where it has one. True where it was a line of the envelope.
@@ -90,6 +135,9 @@ fn put_in(
     ensures each { count.old + dropped_count lines.old.items lines.new.items ≤ count.new + 1 }
     ensures few { count.new ≤ count.old + dropped_count lines.old.items lines.new.items + 4 }
     ensures one_more { length lines.new.items ≤ length lines.old.items + 1 }
+    ensures tested { 0 < length lines.old.items
+        → length lines.new.items + count.old ≤ length lines.old.items + count.new }
+    ensures each_few { count.new + length lines.new.items ≤ count.old + length lines.old.items + 5 }
     ensures counted { count.old ≤ count.new }
     ensures bounded { count.new ≤ count.old + MAX_REQUESTS + 4 }
 {

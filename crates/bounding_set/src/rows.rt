@@ -1,6 +1,6 @@
 //! Rows of live requests, by rising owner.
 
-ghost use Rattle.std.specs.Prelude.{◌≡◌, ◌+◌, ◌<◌, ◌↔◌, length, None, Some, IfNone, OnSome, IsTrue, IfOk, IfErr};
+ghost use Rattle.std.specs.Prelude.{◌≡◌, ◌+◌, ◌<◌, ◌≤◌, ◌↔◌, length, None, Some, Err, IfNone, OnSome, OnOk, IsTrue, IfOk, IfErr};
 ghost use Rattle.bounding_set.specs.Rows.{HasRisingOwners, IsRowOf, IsGapFor, Puts, tuple_of};
 
 use arrayvec::ArrayVec;
@@ -15,6 +15,45 @@ pub const LIVE_LIMIT: usize = MAX_REQUESTS;
 #[derive(Clone, Copy, Debug, PartialEq, Eq, Error)]
 #[error("as many requests are live as may be")]
 pub struct Full;
+
+/// Why a list of requests can't be the live ones.
+#[derive(Clone, Copy, Debug, PartialEq, Eq, Error)]
+pub enum RowsFault {
+    /// They are more than `LIVE_LIMIT`.
+    #[error("more requests than may be live")]
+    TooMany,
+    /// An owner isn't above the one before it.
+    #[error("requests that aren't by rising owner")]
+    NotRising,
+}
+
+/// Whether requests can be the live ones: by rising owner, and no more than may be.
+pub fn check_rows(requests: &[Request]) -> Result<(), RowsFault>
+    ensures rows { OnOk result (HasRisingOwners requests.now × (length requests.now ≤ LIVE_LIMIT)) }
+    ensures too_many { (result ≡ Err RowsFault.TooMany) ↔ (LIVE_LIMIT < length requests.now) }
+    ensures not_rising { (result ≡ Err RowsFault.NotRising)
+        ↔ ((length requests.now ≤ LIVE_LIMIT) × (¬ HasRisingOwners requests.now)) }
+{
+    if requests.len() > LIVE_LIMIT {
+        return Err(RowsFault::TooMany);
+    }
+    if !owners_rise(requests) {
+        return Err(RowsFault::NotRising);
+    }
+    Ok(())
+}
+
+/// Whether each owner is above the one before it.
+fn owners_rise(requests: &[Request]) -> bool
+    ensures { IsTrue result ↔ HasRisingOwners requests.now }
+{
+    for place in 1..requests.len() {
+        if requests[place].owner.0 <= requests[place - 1].owner.0 {
+            return false;
+        }
+    }
+    true
+}
 
 /// What the owner asks for, where it is live.
 pub fn asked_by(rows: &[Request], owner: Ssrc) -> Option<Tuple>

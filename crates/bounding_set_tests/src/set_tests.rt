@@ -5,7 +5,7 @@ use crate::examples::{
 use crate::lists::{Generator, KINDS};
 use crate::slow::canonical_places;
 use crate::slow_certificate::certificate;
-use bounding_set::{Bounds, Full};
+use bounding_set::{Bounds, Full, LIVE_LIMIT, RowsFault};
 use rate_cert::{Request, check};
 use std::alloc::{AllocError, Global};
 use std::process::Abort;
@@ -283,9 +283,73 @@ fn one_more_is_refused(rt: HostRuntime) -> Result<(), Fail> {
     assert_as_defined(&rt, rt.alloc(), &bounds)
 }
 
+/// The requests of these bounds, taken all at once, are shown as the definition says.
+fn assert_same_at_once(
+    rt: &impl Abort,
+    alloc: Global,
+    bounds: &Bounds,
+    at_once: &mut Bounds,
+) -> Result<(), Fail> {
+    assert_eq!(rt; at_once.set_all(bounds.rows()), Ok(()));
+    assert_eq!(rt; at_once.rows(), bounds.rows());
+    assert_as_defined(rt, alloc, at_once)
+}
+
+/// The same bounds take one list after the other, with rates of 0 and without: each in place of the one before.
+#[test]
+fn examples_at_once(rt: HostRuntime) -> Result<(), Fail> {
+    let mut at_once = Bounds::new();
+    for example in EXAMPLES.iter().chain(&STOPS) {
+        let bounds = set_in_order(example)?;
+        assert_eq!(&rt; at_once.set_all(bounds.rows()), Ok(()));
+        assert_shows(&rt, rt.alloc(), &at_once, example)?;
+    }
+    assert_eq!(rt; at_once.set_all(&[]), Ok(()));
+    assert_shows(&rt, rt.alloc(), &at_once, &NO_REQUEST)?;
+    // What comes after a list is put as after any call.
+    let steps = [Step::Set(17, Tuple::from_word(0x0007_d028), Ok(true))];
+    play(&rt, &mut at_once, &steps);
+    assert_shows(&rt, rt.alloc(), &at_once, &EXAMPLES[0])
+}
+
+#[test]
+fn all_live_at_once(rt: HostRuntime) -> Result<(), Fail> {
+    let bounds = all_live()?;
+    let mut at_once = Bounds::new();
+    assert_eq!(rt; at_once.set_all(bounds.rows()), Ok(()));
+    // Of each but the first it is asked whether the last line implies it, and whether it makes that line needless.
+    assert_eq!(rt; at_once.steps(), 2 * 255);
+    let lines = printed(rt.alloc(), &at_once)?;
+    assert_eq!(rt; lines.len(), 256);
+    assert_eq!(rt; lines[0].as_str(), "kept 1 01ffba01 pair 3 589486 9");
+    assert_eq!(rt;
+        lines[255].as_str(),
+        "kept 256 03ffb900 pair 131547 1761 2056"
+    );
+    assert_eq!(rt; check(at_once.rows(), at_once.cert()), Ok(()));
+    Ok(())
+}
+
+/// Too many requests, or two of one owner, or owners that fall: refused, and nothing changes.
+#[test]
+fn refused_at_once(rt: HostRuntime) -> Result<(), Fail> {
+    let mut at_once = set_in_order(&EXAMPLE_4)?;
+    let mut many: Vec<Request> = Vec::new(rt.alloc());
+    for owner in 0..=LIVE_LIMIT as u32 {
+        many.push(request(owner, 0x0007_d028))?;
+    }
+    assert_eq!(rt; at_once.set_all(many.as_slice()), Err(RowsFault::TooMany));
+    for owners in [[17, 17, 18], [17, 19, 19], [18, 17, 19]] {
+        let asked = owners.map(|owner| request(owner, 0x0007_d028));
+        assert_eq!(rt; at_once.set_all(&asked), Err(RowsFault::NotRising));
+    }
+    assert_shows(&rt, rt.alloc(), &at_once, &EXAMPLE_4)
+}
+
 #[test]
 fn lists_as_defined(rt: HostRuntime) -> Result<(), Fail> {
     let mut generator = Generator::new();
+    let mut at_once = Bounds::new();
     for number in 0..1000_usize {
         let kind = KINDS[number % 5];
         let mut bounds = Bounds::new();
@@ -300,6 +364,7 @@ fn lists_as_defined(rt: HostRuntime) -> Result<(), Fail> {
             let _removed = bounds.remove(gone.owner);
         }
         assert_as_defined(&rt, rt.alloc(), &bounds)?;
+        assert_same_at_once(&rt, rt.alloc(), &bounds, &mut at_once)?;
     }
     Ok(())
 }
