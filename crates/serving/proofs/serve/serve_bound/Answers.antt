@@ -1,8 +1,8 @@
 use Rattle.serving.proofs.ServeLemmas.{ends_so}
 use Rattle.serving.proofs.serve.serve_bound.Goals as goal
 
-pub returns-in-Some-clause-ends : goal.returns-in-Some-clause-ends
-returns-in-Some-clause-ends g c =
+pub returns-in-Ok-clause-ends : goal.returns-in-Ok-clause-ends
+returns-in-Ok-clause-ends g c =
     ends_so _ _ _ _ _ c.serve_watched-served.result c.ended.result c.serve_watched-served.ensures.done c.serve_watched-served.ensures.refused c.ended.ensures.ends
 
 pub returns-in-None-clause-ends : goal.returns-in-None-clause-ends
