@@ -47,8 +47,8 @@ FFMPEG_CODEC = {
     "VP8": ["-c:v", "libvpx", "-deadline", "realtime", "-cpu-used", "8", "-g", "15", "-b:v", "300k", "-payload_type", "96"],
 }
 GST_ENCODE = {
-    "H.264": "x264enc tune=zerolatency speed-preset=ultrafast key-int-max=15 ! rtph264pay config-interval=-1 pt=96",
-    "VP8": "vp8enc deadline=1 cpu-used=8 keyframe-max-dist=15 ! rtpvp8pay pt=96",
+    "H.264": "x264enc tune=zerolatency speed-preset=ultrafast key-int-max={keys} ! rtph264pay config-interval=-1 pt=96",
+    "VP8": "vp8enc deadline=1 cpu-used=8 keyframe-max-dist={keys} ! rtpvp8pay pt=96",
 }
 GST_DECODE = {"H.264": "rtph264depay ! h264parse ! avdec_h264", "VP8": "rtpvp8depay ! vp8dec"}
 
@@ -107,8 +107,8 @@ class Run:
         with open(f"{self.room}/{name}.log", "rb") as file:
             return file.read().decode(errors="replace")
 
-    def serve(self, file):
-        self.start("unit", [PROGRAM, "serve", file, "--status", "1"])
+    def serve(self, file, *more):
+        self.start("unit", [PROGRAM, "serve", file, "--status", "1", *more])
         for _ in range(200):
             if "serving" in self.log("unit"):
                 return
@@ -164,16 +164,17 @@ def gst_frames(log):
     return len(re.findall(r"last-message = .?chain ", log))
 
 
-def gst_send(run, codec, source=SOURCE):
-    """A publisher with rtpbin: RTP from 46000, reports from and to 46001."""
-    gst(run, "publisher", f"rtpbin name=b videotestsrc is-live=true num-buffers={FRAMES} ! video/x-raw,width=320,height=240,framerate={RATE}/1 ! {GST_ENCODE[codec]} ssrc={source} ! b.send_rtp_sink_0 b.send_rtp_src_0 ! udpsink host={HOST} port={UNIT} bind-port=46000 sync=false b.send_rtcp_src_0 ! udpsink host={HOST} port={UNIT + 1} bind-port=46001 sync=false async=false")
+def gst_send(run, codec, frames=FRAMES, rate=RATE, keys=15, reports=UNIT + 1):
+    """A publisher with rtpbin: RTP from 46000, reports from and to 46001; a key frame each so many frames."""
+    encode = GST_ENCODE[codec].format(keys=keys)
+    gst(run, "publisher", f"rtpbin name=b rtp-profile=avpf videotestsrc is-live=true num-buffers={frames} ! video/x-raw,width=320,height=240,framerate={rate}/1 ! {encode} ssrc={SOURCE} ! b.send_rtp_sink_0 b.send_rtp_src_0 ! udpsink host={HOST} port={UNIT} bind-port=46000 sync=false b.send_rtcp_src_0 ! udpsink host={HOST} port={reports} bind-port=46001 sync=false async=false udpsrc port=46001 reuse=true ! b.recv_rtcp_sink_0")
 
 
 def gst_receive(run, codec, port, name="receiver", feedback="", reports=UNIT + 1):
     """A receiver with rtpbin: RTP at the port, reports from and to the next."""
     encoding = {"H.264": "H264", "VP8": "VP8"}[codec]
     caps = f"application/x-rtp,media=video,clock-rate=90000,encoding-name={encoding},payload=96{feedback}"
-    gst(run, name, f"rtpbin name=b rtp-profile=avpf do-retransmission=true latency=400 udpsrc port={port} caps={caps} ! b.recv_rtp_sink_0 b. ! {GST_DECODE[codec]} ! fakesink silent=false sync=false b.send_rtcp_src_0 ! udpsink host={HOST} port={reports} bind-port={port + 1} sync=false async=false")
+    gst(run, name, f"rtpbin name=b rtp-profile=avpf do-retransmission=true latency=400 udpsrc port={port} caps={caps} ! b.recv_rtp_sink_0 b. ! {GST_DECODE[codec]} ! fakesink silent=false sync=false b.send_rtcp_src_0 ! udpsink host={HOST} port={reports} bind-port={port + 1} sync=false async=false udpsrc port={port + 1} reuse=true ! b.recv_rtcp_sink_0")
 
 
 class Lossy(threading.Thread):
@@ -285,7 +286,7 @@ def ffmpeg_sound():
         row("FFmpeg to FFmpeg, Opus, two ports", "4 s", times[-1] if times else "nothing", run)
 
 
-def gst_to_gst(codec, loss=False):
+def gst_to_gst(codec, loss=False, frames=FRAMES, rate=RATE):
     with Run() as run:
         file = settings(run.room, PUBLISHER, [ONLY.format(46012, 46013) if loss else ONLY.format(46002, 46003)], codec, two_ports=True)
         run.sniff()
@@ -299,24 +300,39 @@ def gst_to_gst(codec, loss=False):
         else:
             gst_receive(run, codec, 46002)
         time.sleep(2)
-        gst_send(run, codec)
-        wait_for(run.running[-1][0])
+        gst_send(run, codec, frames, rate)
+        wait_for(run.running[-1][0], frames / rate + 30)
         time.sleep(2)
         more = ""
         if lossy:
             lossy.over = True
             more = f"{lossy.lost} lost, {lossy.nacks} NACKs, {lossy.resent} resent"
-        row(f"GStreamer to GStreamer, {codec}, two ports" + (", 2 % lost" if loss else ""), FRAMES, gst_frames(run.log("receiver")), run, more)
+        row(f"GStreamer to GStreamer, {codec}, two ports" + (", 2 % lost" if loss else ""), frames, gst_frames(run.log("receiver")), run, more)
 
 
-def gst_sound_and_picture():
-    """Sound and picture of one client from one port; they come to a port each."""
+def gst_by_sdp(codec):
+    """GStreamer opens what `sfu sdp` prints, as it is."""
+    with Run() as run:
+        file = settings(run.room, PUBLISHER, [ONLY.format(46002, 46003)], codec, two_ports=True)
+        run.sniff()
+        run.serve(file)
+        gst(run, "receiver", f"filesrc location={run.sdp(file, 1)} ! sdpdemux latency=400 ! {GST_DECODE[codec]} ! fakesink silent=false sync=false")
+        time.sleep(2)
+        gst_send(run, codec)
+        wait_for(run.running[-1][0], FRAMES / RATE + 30)
+        time.sleep(2)
+        row(f"GStreamer to GStreamer by its session description, {codec}, two ports", FRAMES, gst_frames(run.log("receiver")), run)
+
+
+def gst_sound_and_picture(one_port=False):
+    """Sound and picture of one client from one port; they come to a port each, or to one."""
     with Run() as run:
         text = TOP.format(workers=1) + 'listen_rtcp = "127.0.0.1:45005"\n'
         for number, (ssrc, codec) in enumerate([(16, "VP8"), (17, "Opus")]):
             text += f'[[endpoint]]\nssrc = {ssrc}\n{PUBLISHER}\nrtpmap = ["{CODECS[codec][0]}"]\n'
         for number in range(2):
-            text += f"[[endpoint]]\nssrc = {18 + number}\n{ONLY.format(46002 + 2 * number, 46003 + 2 * number)}\n"
+            port = 46002 if one_port else 46002 + 2 * number
+            text += f"[[endpoint]]\nssrc = {18 + number}\n{ONLY.format(port, port + 1)}\n"
         for number in range(2):
             text += f"[[leg]]\nsubscriber = {2 + number}\npublisher = {number}\nout_ssrc = {OUT + number}\n"
         file = f"{run.room}/room.toml"
@@ -324,15 +340,25 @@ def gst_sound_and_picture():
             out.write(text)
         run.sniff()
         run.serve(file)
-        gst_receive(run, "VP8", 46002)
         caps = "application/x-rtp,media=audio,clock-rate=48000,encoding-name=OPUS,payload=111"
-        gst(run, "sound", f"rtpbin name=b latency=400 udpsrc port=46004 caps={caps} ! b.recv_rtp_sink_0 b. ! rtpopusdepay ! fakesink silent=false sync=false b.send_rtcp_src_0 ! udpsink host={HOST} port={UNIT + 1} bind-port=46005 sync=false async=false")
+        if one_port:
+            picture = "application/x-rtp,media=video,clock-rate=90000,encoding-name=VP8,payload=96"
+            gst(run, "receiver", f"udpsrc port=46002 caps=application/x-rtp,clock-rate=90000 ! rtpptdemux name=d d.src_96 ! capssetter replace=true caps={picture} ! rtpjitterbuffer latency=400 ! {GST_DECODE['VP8']} ! filesink buffer-mode=unbuffered location=picture d.src_111 ! capssetter replace=true caps={caps} ! rtpjitterbuffer latency=400 ! rtpopusdepay ! opusdec ! audio/x-raw,rate=48000,channels=1 ! filesink buffer-mode=unbuffered location=sound")
+        else:
+            gst_receive(run, "VP8", 46002)
+            gst(run, "sound", f"rtpbin name=b latency=400 udpsrc port=46004 caps={caps} ! b.recv_rtp_sink_0 b. ! rtpopusdepay ! fakesink silent=false sync=false b.send_rtcp_src_0 ! udpsink host={HOST} port={UNIT + 1} bind-port=46005 sync=false async=false")
         time.sleep(2)
-        gst(run, "publisher", f"rtpbin name=b funnel name=f ! udpsink host={HOST} port={UNIT} bind-port=46000 sync=false funnel name=g ! udpsink host={HOST} port={UNIT + 1} bind-port=46001 sync=false async=false videotestsrc is-live=true num-buffers={FRAMES} ! video/x-raw,width=320,height=240,framerate={RATE}/1 ! {GST_ENCODE['VP8']} ssrc=16 ! b.send_rtp_sink_0 b.send_rtp_src_0 ! f. b.send_rtcp_src_0 ! g. audiotestsrc is-live=true num-buffers=200 samplesperbuffer=960 ! audio/x-raw,rate=48000,channels=1 ! opusenc ! rtpopuspay pt=111 ssrc=17 ! b.send_rtp_sink_1 b.send_rtp_src_1 ! f. b.send_rtcp_src_1 ! g.")
+        gst(run, "publisher", f"rtpbin name=b funnel name=f ! udpsink host={HOST} port={UNIT} bind-port=46000 sync=false funnel name=g ! udpsink host={HOST} port={UNIT + 1} bind-port=46001 sync=false async=false videotestsrc is-live=true num-buffers={FRAMES} ! video/x-raw,width=320,height=240,framerate={RATE}/1 ! {GST_ENCODE['VP8'].format(keys=15)} ssrc=16 ! b.send_rtp_sink_0 b.send_rtp_src_0 ! f. b.send_rtcp_src_0 ! g. audiotestsrc is-live=true num-buffers=200 samplesperbuffer=960 ! audio/x-raw,rate=48000,channels=1 ! opusenc ! rtpopuspay pt=111 ssrc=17 ! b.send_rtp_sink_1 b.send_rtp_src_1 ! f. b.send_rtcp_src_1 ! g.")
         wait_for(run.running[-1][0])
         time.sleep(2)
-        decoded = f"{gst_frames(run.log('receiver'))}, {gst_frames(run.log('sound'))} of sound"
-        row("GStreamer to GStreamer, VP8 and Opus from one port", f"{FRAMES}, 200 of sound", decoded, run)
+        if one_port:
+            # (YUV 4:2:0 of 320 by 240; 20 ms of 16-bit sound)
+            picture, sound = (os.path.getsize(f"{run.room}/{it}") / size for it, size in (("picture", 115200), ("sound", 1920)))
+            picture, sound = f"{picture:g}", f"{sound:g}"
+        else:
+            picture, sound = (gst_frames(run.log(it)) for it in ("receiver", "sound"))
+        to = ", to one port" if one_port else ""
+        row(f"GStreamer to GStreamer, VP8 and Opus from one port{to}", f"{FRAMES}, 200 of sound", f"{picture}, {sound} of sound", run)
 
 
 def ffmpeg_to_gst(codec):
@@ -372,7 +398,7 @@ def gst_to_vlc():
 
 
 def plis_of_three():
-    """Three receivers ask for a picture at once, and the publisher is asked once."""
+    """Three receivers ask for a picture at once, twice: the first of them goes up at once, and those that wait for the gap are one."""
     with Run() as run:
         file = settings(run.room, 'address = "127.0.0.1:46000"', [f'address = "127.0.0.1:{46002 + n}"' for n in range(3)], "H.264")
         run.serve(file)
@@ -388,16 +414,27 @@ def plis_of_three():
         for number, it in enumerate(receivers):
             it.sendto(report(SOURCE + 1 + number), (HOST, UNIT))
         time.sleep(2)
-        publisher.settimeout(0.5)
-        drain(publisher)
-        for number, it in enumerate(receivers):
-            pli = bytes([0x81, 206, 0, 2]) + (SOURCE + 1 + number).to_bytes(4, "big") + (OUT + number).to_bytes(4, "big")
-            it.sendto(report(SOURCE + 1 + number) + pli, (HOST, UNIT))
-        publisher.settimeout(0.15)
-        at_once = sum(plis_in(d) for d in drain(publisher))
-        publisher.settimeout(1)
-        later = sum(plis_in(d) for d in drain(publisher))
-        row("three PLIs at once", 3, at_once, run, f"PLIs at the publisher within 150 ms; behind the gap of 300 ms {later} more")
+
+        def ask(who):
+            for number in who:
+                pli = bytes([0x81, 206, 0, 2]) + (SOURCE + 1 + number).to_bytes(4, "big") + (OUT + number).to_bytes(4, "big")
+                receivers[number].sendto(report(SOURCE + 1 + number) + pli, (HOST, UNIT))
+
+        def came(seconds):
+            plis, end = 0, time.monotonic() + seconds
+            publisher.settimeout(0.02)
+            while time.monotonic() < end:
+                plis += sum(plis_in(d) for d in drain(publisher))
+            return plis
+
+        came(0.1)
+        ask(range(3))
+        at_once, later = came(0.15), came(1)
+        row("three PLIs at once", 3, at_once, run, f"PLIs at the publisher within 150 ms; when the gap of 300 ms has passed {later} more, of the two that waited")
+        ask([0])
+        first = came(0.1)
+        ask(range(3))
+        row("one PLI, and three within its gap", f"{first} and 3", came(1), run, "PLIs at the publisher of the three")
 
 
 def learned(workers):
@@ -453,8 +490,12 @@ ROWS = {
     "ffmpeg-opus": ffmpeg_sound,
     "gst-h264": lambda: gst_to_gst("H.264"),
     "gst-vp8": lambda: gst_to_gst("VP8"),
+    "gst-sdp-h264": lambda: gst_by_sdp("H.264"),
+    "gst-sdp-vp8": lambda: gst_by_sdp("VP8"),
     "gst-loss": lambda: gst_to_gst("VP8", loss=True),
+    "gst-loss-long": lambda: gst_to_gst("VP8", loss=True, frames=3000, rate=50),
     "gst-both": gst_sound_and_picture,
+    "gst-both-one-port": lambda: gst_sound_and_picture(one_port=True),
     "ffmpeg-gst": lambda: ffmpeg_to_gst("H.264"),
     "gst-vlc": gst_to_vlc,
     "plis": plis_of_three,
