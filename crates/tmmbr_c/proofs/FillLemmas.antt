@@ -1,113 +1,42 @@
--- Live requests that come by rising owner.
-use Rattle.std.proofs.Common.{◌≡◌, ℕ, zero, ◌<◌, ◌≤◌, List, [], ◌∷◌, ◌++◌, length, get_or, take, Bool, Option, Some, None, Result, Ok, Err, refl, sym, ap, ◌∙◌, subst, inl, inr, arith}
-use Rattle.std.specs.Prelude.{All, OnOk, IsErr, IsNone}
+-- The requests of owners, in the order of these.
+use Rattle.std.proofs.Common.{◌≡◌, ℕ, ◌<◌, ◌≤◌, List, length, get_or, Result, Ok, Err, refl, ap, ◌∙◌, arith}
+use Rattle.std.specs.Prelude.{All, OnOk}
 use Rattle.std.specs.List.{HoldsAt}
-use Rattle.std.proofs.lemmas.Bool.{cases_lt, cases_eq}
-use Rattle.std.proofs.lemmas.Bool.Decides.{nat_tests}
-use Rattle.std.proofs.lemmas.List.{get_or-map, get_or-take, length-map, length-take-le}
-use Rattle.std.proofs.lemmas.List.Elements.{All-cons, All-tail}
-use Rattle.tmmbr_tuple.specs.declared.tuple.Tuple.{Tuple}
+use Rattle.std.proofs.lemmas.List.{get_or-map, length-map}
 use Rattle.rate_cert.specs.declared.request.Request.{Request}
-use Rattle.rate_cert.specs.Owners.{OwnersRise, with_row}
-use Rattle.rate_cert.proofs.OwnerLemmas.{rising_tail, rising_head, above_lesser, value_for-above, value_for-head, value_for-behind, value_for-with, value_for-with_other, rising-with}
+use Rattle.rate_cert.specs.Owners.{OwnersRise}
 use Rattle.bounding_set.specs.declared.rows.TheConstants.{LIVE_LIMIT}
-use Rattle.bounding_set.specs.declared.rows.Full.{Full}
-use Rattle.bounding_set.specs.Rows.{HasRisingOwners, Puts, tuple_of}
-use Rattle.bounding_set.proofs.RowLemmas.{row_owner, row_tuple}
+use Rattle.bounding_set.specs.declared.rows.RowsFault.{RowsFault}
+use Rattle.bounding_set.specs.declared.rows.RowsFault.TheVariants.{TooMany, NotRising}
+use Rattle.bounding_set.specs.Rows.{HasRisingOwners}
 use Rattle.tmmbr_c.specs.declared.order.OwnerPlace.{OwnerPlace}
 use Rattle.tmmbr_c.specs.Order.{ordered}
 
--- what an owner below all rows asks for
-none_below : (x : Request) (rows : List Request) (owner : ℕ) → HasRisingOwners (x ∷ rows) → owner < x.owner.0 → tuple_of (x ∷ rows) owner ≡ None
-none_below x rows owner rising below =
-    let Above : Request → Type 0 = λ r. owner < r.owner.0 in
-    value_for-above row_owner row_tuple (x ∷ rows) owner
-    (All-cons Above x rows below (above_lesser row_owner x.owner.0 owner rows below (rising_head row_owner x rows rising)))
+module _ (requests : List Request) (order : List OwnerPlace) (d : Request) where
+  abbrev at : OwnerPlace → Request
+  at o = get_or requests o.place d
 
-none_some : (t : Tuple) (o : Option Tuple) → o ≡ None → o ≡ Some t → ⊥
-none_some t o none some = let e : None ≡ Some t = sym none ∙ some in cc
+  pub length-ordered : length (ordered requests d order) ≡ length order
+  length-ordered = length-map order at
 
--- rows by rising owner that ask for the same are the same rows
-same_rows : (xs ys : List Request) → HasRisingOwners xs → HasRisingOwners ys → ((owner : ℕ) → tuple_of xs owner ≡ tuple_of ys owner) → xs ≡ ys
-same_rows [] [] rising_xs rising_ys same = refl
-same_rows [] (y ∷ ys) rising_xs rising_ys same =
-    absurd (none_some y.tuple (tuple_of [] y.owner.0) refl (same y.owner.0 ∙ value_for-head row_owner row_tuple y ys y.owner.0 refl))
-same_rows (x ∷ xs) [] rising_xs rising_ys same =
-    absurd (none_some x.tuple (tuple_of [] x.owner.0) refl (sym (same x.owner.0) ∙ value_for-head row_owner row_tuple x xs x.owner.0 refl))
-same_rows (x ∷ xs) (y ∷ ys) rising_xs rising_ys same =
-    let of_x = value_for-head row_owner row_tuple x xs x.owner.0 refl in
-    let of_y = value_for-head row_owner row_tuple y ys y.owner.0 refl in
-    elim (cases_lt x.owner.0 y.owner.0) [
-      | inl less ↦ absurd (none_some x.tuple (tuple_of (y ∷ ys) x.owner.0) (none_below y ys x.owner.0 rising_ys less) (sym (same x.owner.0) ∙ of_x))
-      | inr not_less ↦
-          elim (cases_lt y.owner.0 x.owner.0) [
-            | inl more ↦ absurd (none_some y.tuple (tuple_of (x ∷ xs) y.owner.0) (none_below x xs y.owner.0 rising_xs more) (same y.owner.0 ∙ of_y))
-            | inr not_more ↦
-                let owner : x.owner.0 ≡ y.owner.0 = omega arith in
-                let asked : Some x.tuple ≡ Some y.tuple =
-                sym of_x ∙ same x.owner.0 ∙ value_for-head row_owner row_tuple y ys x.owner.0 (sym owner) in
-                let tuple : x.tuple ≡ y.tuple = cc in
-                let first : x ≡ y = λ i. record { owner = record { 0 = owner i }; tuple = tuple i } in
-                let tail_x = rising_tail row_owner x xs rising_xs in
-                let tail_y = rising_tail row_owner y ys rising_ys in
-                let others : (o : ℕ) → tuple_of xs o ≡ tuple_of ys o = λ o.
-                elim (cases_eq x.owner.0 o) [
-                  | inl is ↦
-                      value_for-above row_owner row_tuple xs o (subst (λ n. All (λ r. n < r.owner.0) xs) is (rising_head row_owner x xs rising_xs))
-                      ∙ sym (value_for-above row_owner row_tuple ys o
-                      (subst (λ n. All (λ r. n < r.owner.0) ys) (sym owner ∙ is) (rising_head row_owner y ys rising_ys)))
-                  | inr differs ↦
-                      sym (value_for-behind row_owner row_tuple x xs o differs)
-                      ∙ same o
-                      ∙ value_for-behind row_owner row_tuple y ys o (λ is. differs (owner ∙ is))
-                ] in
-                ap (λ z. z ∷ xs) first ∙ ap (λ zs. y ∷ zs) (same_rows xs ys tail_x tail_y others)
-          ]
-    ]
+  -- the request at a place is its owner's
+  owner_there : All (λ o. HoldsAt (λ r. r.owner.0 ≡ o.ssrc) requests o.place) order → (k : ℕ) (e : Request) (o : OwnerPlace) → k < length order
+      → (get_or (ordered requests d order) k e).owner.0 ≡ (get_or order k o).ssrc
+  owner_there owns k e o below = ap (λ (r : Request). r.owner.0) (get_or-map at order k o e below) ∙ owns k o below d
 
--- a row whose owner is above the others goes behind them
-with_row-last : (rows : List Request) (r : Request) → All (λ x. x.owner.0 < r.owner.0) rows → with_row row_owner rows r ≡ rows ++ r ∷ []
-with_row-last [] r above = refl
-with_row-last (x ∷ rows) r above =
-    let head : x.owner.0 < r.owner.0 = above zero x (omega arith) in
-    let rest = with_row-last rows r (All-tail (λ y. y.owner.0 < r.owner.0) x rows above) in
-    let step : with_row row_owner (x ∷ rows) r ≡ x ∷ with_row row_owner rows r = grind (arith, nat_tests, head) in
-    step ∙ ap (λ ys. x ∷ ys) rest
+  -- where owners rise, so do those of their requests
+  pub ordered-rises : OwnersRise (λ o. o.ssrc) order → All (λ o. HoldsAt (λ r. r.owner.0 ≡ o.ssrc) requests o.place) order
+      → HasRisingOwners (ordered requests d order)
+  ordered-rises rising owns i j e before below =
+      let o : OwnerPlace = record { ssrc = 0; place = 0 } in
+      let in_j : j < length order = omega (arith, length-ordered) in
+      let in_i : i < length order = omega arith in
+      omega (arith, owner_there owns i e o in_i, owner_there owns j e o in_j, rising i j o before in_j)
 
--- what a call leaves that isn't refused, since there is room
-pub put_last-is : (old new : List Request) (r : Request) (result : Result Bool Full) → HasRisingOwners old → HasRisingOwners new
-    → All (λ x. x.owner.0 < r.owner.0) old → length old < LIVE_LIMIT
-    → (IsErr result → IsNone (tuple_of old r.owner.0) × (length old ≡ LIVE_LIMIT)) → OnOk result (Puts old new r.owner.0 (Some r.tuple))
-    → new ≡ old ++ r ∷ []
-put_last-is old new r (Err full) rising_old rising_new above room refused puts =
-    absurd (omega (arith, room, (refused refl).1))
-put_last-is old new r (Ok changed) rising_old rising_new above room refused puts =
-    let with_r = with_row row_owner old r in
-    let same : (o : ℕ) → tuple_of new o ≡ tuple_of with_r o = λ o.
-    elim (cases_eq o r.owner.0) [
-      | inl is ↦
-          ap (tuple_of new) is ∙ puts.changed ∙ sym (value_for-with row_owner row_tuple old r) ∙ ap (tuple_of with_r) (sym is)
-      | inr differs ↦ puts.others o differs ∙ sym (value_for-with_other row_owner row_tuple old r o differs)
-    ] in
-    same_rows new with_r rising_new (rising-with row_owner old r rising_old) same ∙ with_row-last old r above
-
--- the owners that come before one are below it
-pub ordered-below : (requests : List Request) (order : List OwnerPlace) (i : ℕ) (d x : Request) (o : OwnerPlace) → i < length order
-    → OwnersRise (λ o. o.ssrc) order → All (λ o. HoldsAt (λ r. r.owner.0 ≡ o.ssrc) requests o.place) order
-    → x ≡ get_or requests (get_or order i o).place x
-    → All (λ r. r.owner.0 < x.owner.0) (ordered requests d (take i order))
-ordered-below requests order i d x o below rising owns is =
-    let within : i ≤ length order = omega arith in
-    let at : OwnerPlace → Request = λ o. get_or requests o.place d in
-    let mine : x.owner.0 ≡ (get_or order i o).ssrc = ap (λ (r : Request). r.owner.0) is ∙ owns i o below x in
-    λ k e in_list.
-    let short : k < i = omega (arith, length-map (take i order) at, length-take-le i order within) in
-    let taken : k < length (take i order) = omega (arith, length-take-le i order within) in
-    let there : get_or (ordered requests d (take i order)) k e ≡ at (get_or order k o) =
-    get_or-map at (take i order) k o e taken ∙ ap at (get_or-take i order k o short) in
-    let theirs : (at (get_or order k o)).owner.0 ≡ (get_or order k o).ssrc = owns k o (omega arith) d in
-    omega (arith, ap (λ (r : Request). r.owner.0) there, theirs, mine, rising k i o short below)
-
-pub length-ordered : (requests : List Request) (order : List OwnerPlace) (i : ℕ) (d : Request) → i ≤ length order
-    → length (ordered requests d (take i order)) ≡ i
-length-ordered requests order i d within = length-map (take i order) (λ o. get_or requests o.place d) ∙ length-take-le i order within
+-- a call that isn't refused, since they rise and there is room, leaves them as the rows
+pub put_all-is : (requests rows : List Request) (result : Result Unit RowsFault) → HasRisingOwners requests → length requests ≤ LIVE_LIMIT
+    → (result ≡ Err TooMany → LIVE_LIMIT < length requests)
+    → (result ≡ Err NotRising → (length requests ≤ LIVE_LIMIT) × (HasRisingOwners requests → ⊥)) → OnOk result (rows ≡ requests) → rows ≡ requests
+put_all-is requests rows (Ok done) rising few too_many not_rising is = is
+put_all-is requests rows (Err TooMany) rising few too_many not_rising is = absurd (omega (arith, few, too_many refl))
+put_all-is requests rows (Err NotRising) rising few too_many not_rising is = absurd ((not_rising refl).1 rising)

@@ -1,26 +1,17 @@
-use Rattle.std.proofs.Common.{◌≡◌, ◌<◌, ◌∙◌, get_or, length, ap, sym, subst, arith}
-use Rattle.std.specs.Prelude.{All}
-use Rattle.tmmbr_c.specs.declared.order.OwnerPlace.{OwnerPlace}
-use Rattle.tmmbr_c.proofs.FillLemmas.{ordered-below, length-ordered}
+use Rattle.std.proofs.Common.{◌≡◌, length, sym, ap, ◌∙◌, subst, arith}
+use Rattle.bounding_set.specs.Rows.{HasRisingOwners}
+use Rattle.tmmbr_c.specs.Order.{ordered}
+use Rattle.tmmbr_c.proofs.FillLemmas.{length-ordered, ordered-rises, put_all-is}
 use Rattle.tmmbr_c.proofs.filling.put_requests.Goals as goal
 
-none : OwnerPlace
-none = record { ssrc = 0; place = 0 }
-
-pub put_last-requires-clause-room : goal.put_last-requires-clause-room
-put_last-requires-clause-room c =
-    let x = c.index-requests-from.result in
-    let within = c.loop-owner.auto.owner-index-end in
-    let count = ap length (c.loop-owner.invariant.1 x) ∙ length-ordered c.args.requests.now c.args.order.now c.loop-owner.owner-index x within in
-    omega (arith, count, c.requires.few, c.loop-owner-test.true)
-
-pub put_last-requires-clause-above : goal.put_last-requires-clause-above
-unfolding none
-put_last-requires-clause-above c =
-    let x = c.index-requests-from.result in
-    let i = c.loop-owner.owner-index in
+pub returns : goal.returns
+returns c = λ d.
+    let requests = c.args.requests.now in
     let order = c.args.order.now in
-    let is : x ≡ get_or c.args.requests.now (get_or order i none).place x =
-    subst (λ p. x ≡ get_or c.args.requests.now p x) c.from.ensures c.index-requests-from.is in
-    subst (All (λ r. r.owner.0 < x.owner.0)) (sym (c.loop-owner.invariant.1 x))
-    (ordered-below c.args.requests.now order i x x none c.loop-owner-test.true c.requires.rising c.requires.owns is)
+    let said = c.set_all-put.ensures in
+    let rows = c.as_slice.result.now in
+    let are : rows ≡ ordered requests d order = c.as_slice.ensures.value ∙ c.put_in_order.ensures d in
+    let rising : HasRisingOwners rows = subst HasRisingOwners (sym are) (ordered-rises requests order d c.requires.rising c.requires.owns) in
+    put_all-is rows c.set_all-put.new.self.rows c.set_all-put.result rising
+    (omega (arith, ap length are, length-ordered requests order d, c.requires.few)) said.too_many.0 said.not_rising.0 said.rows
+    ∙ are
