@@ -5,7 +5,7 @@ use Rattle.std.specs.Net.Text.{socket_text}
 use Rattle.std.specs.declared.net.socket_addr.SocketAddr.{SocketAddr}
 use Rattle.outside.specs.declared.watch.Status.{Status}
 use Rattle.control.specs.declared.answer.Refused.{Refused}
-use Rattle.control.specs.declared.answer.Refused.TheVariants.{Unknown, Leg, Publisher, Long, Full, Workers, Memory}
+use Rattle.control.specs.declared.answer.Refused.TheVariants.{Unknown, Leg, Publisher, Long, Full, Memory}
 
 abbrev pub refusal_text : Refused → List ℕ
 refusal_text Unknown = codes "refused unknown\n"
@@ -13,7 +13,6 @@ refusal_text Leg = codes "refused leg\n"
 refusal_text Publisher = codes "refused publisher\n"
 refusal_text Long = codes "refused long\n"
 refusal_text Full = codes "refused full\n"
-refusal_text Workers = codes "refused workers\n"
 refusal_text Memory = codes "refused memory\n"
 
 -- who is present, what came, what was sent, and what couldn't be

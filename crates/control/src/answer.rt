@@ -22,8 +22,6 @@ pub enum Refused {
     Long,
     /// There are as many peers as there may be; this one is let go.
     Full,
-    /// With several workers desks aren't shown.
-    Workers,
     /// There is no memory for the answer.
     Memory,
 }
@@ -38,7 +36,6 @@ pub fn refused_text(refused: Refused) -> &'static str
         Refused::Publisher => "refused publisher\n",
         Refused::Long => "refused long\n",
         Refused::Full => "refused full\n",
-        Refused::Workers => "refused workers\n",
         Refused::Memory => "refused memory\n",
     }
 }

@@ -1,7 +1,10 @@
 //! A publisher's desk while one thread has it.
 
+ghost use Rattle.std.specs.Prelude.{◌≡◌};
+
 use crate::held::HeldDesk;
 use crate::ledger::DeskCalls;
+use desk::{CALL_LIMIT, Desk};
 use std::marker::Model;
 use std::sync::MutexGuard;
 
@@ -22,4 +25,18 @@ impl<'a, D: DeskCalls> Model for Hold<'a, D> {
       publisher = (mutex_guard_value h.guard).publisher;
       desk = (mutex_guard_value h.guard).desk;
     } };
+}
+
+impl<'a, D: DeskCalls> Hold<'a, D> {
+    ghost use Rattle.rate_desk.specs.Shares.{IsDeskOf};
+
+    /// The desk that is held: a legal one, with the house's gap and age of requests.
+    pub fn desk(&self) -> &Desk
+        ensures value { result.now ≡ self.now.desk }
+        ensures legal { IsDeskOf D.gap D.request_ms result.now }
+    {
+        let held = &*self.guard;
+        prove!(held.desk.calls() <= CALL_LIMIT);
+        &held.desk
+    }
 }

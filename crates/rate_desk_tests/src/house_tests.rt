@@ -217,7 +217,10 @@ fn hold_and_call<D: DeskCalls, S: SeatCalls, R: Wait + Abort>(
     let seat = seats.last_mut().ok_or("a seat")?;
     let mut desk = Desk::new(alloc, 500, 1000)?;
     let mut hold = house.hold(rt, 1);
-    call_held_all(rt, house, seat, &mut hold, &mut desk)
+    call_held_all(rt, house, seat, &mut hold, &mut desk)?;
+    assert_eq!(rt; hold.desk().live(), desk.live());
+    assert_eq!(rt; hold.desk().announced(), desk.announced());
+    Ok(())
 }
 
 fn held_beside_desk<D: DeskCalls, S: SeatCalls, R: Wait + Abort>(

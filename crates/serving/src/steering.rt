@@ -241,10 +241,8 @@ impl Steering {
 
     /// All lines are there: who asked is answered.
     fn answer(&mut self) {
-        let is_desk = matches!(self.look(), Look::Desk(_));
         self.asked = Asked::Nothing;
         match self.lines.take() {
-            Some(lines) if is_desk && lines.is_empty() => self.refuse(Refused::Workers),
             Some(lines) => match done_text(self.alloc, lines.as_str()) {
                 Ok(text) => self.peers.answer(text.as_bytes()),
                 Err(_) => self.refuse(Refused::Memory),

@@ -102,8 +102,8 @@ impl<'a, D: DeskCalls, C: SeatCalls, J: Naming, S: Sink + Drop> Ingress<'a, D, C
         Ok(())
     }
 
-    /// What is wanted of the room. Desks, which lie under locks, aren't shown.
-    pub(crate) fn show_room<W: Watch>(&self, watch: &mut W) {
+    /// What is wanted of the room. Who calls a desk that is shown waits until it has been.
+    pub(crate) fn show_room<R: Wait, W: Watch>(&self, rt: &R, watch: &mut W) {
         match watch.look() {
             Look::Nothing => return,
             Look::Presence => {
@@ -116,7 +116,12 @@ impl<'a, D: DeskCalls, C: SeatCalls, J: Naming, S: Sink + Drop> Ingress<'a, D, C
                     watch.show_stay(leg, self.core.stay(leg));
                 }
             }
-            Look::Desk(_) => {}
+            Look::Desk(publisher) => {
+                let place = usize::from(publisher);
+                if place < self.house.publishers() {
+                    watch.show_desk(publisher, self.house.hold(rt, place).desk());
+                }
+            }
         }
         watch.end_look();
     }

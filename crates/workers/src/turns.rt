@@ -92,7 +92,7 @@ impl<Src: Source + Drop, Clk: Clock + Drop, W: Watch + Drop> Inlet<Src, Clk, W> 
         if self.watch.is_due(moment) {
             self.watch.show(moment, &ingress.counts.status());
         }
-        ingress.show_room(&mut self.watch);
+        ingress.show_room(rt, &mut self.watch);
         if self.faults.are_too_many() {
             return Err(UnitFault::Receive);
         }
