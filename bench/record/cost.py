@@ -2,16 +2,19 @@
 """What recording costs: processor time of `sfu serve` for each packet of 1,200 bytes that it takes in and sends on to one subscriber, with and
 without `--record`.
 
-    cost.py PROGRAM [PACKETS [FOLDER]]
+    cost.py PROGRAM [PACKETS [FOLDER [PAIRS]]]
 
 PROGRAM is the built program (crates/sfu_main/out/sfu_main). 50,000 packets a run unless it is said; records stand in FOLDER while it runs,
-else in the system's folder for such files. Runs take turns, three each with one worker and with two, and the least counts: user's and
-system's time of all threads (/proc/PID/task/*/schedstat). Up to 32 packets are under way, and what is lost ends the run.
+else in the system's folder for such files. Runs come in pairs, one without and one with a record, every other pair the other way round: 7
+pairs with one worker and 7 with two unless it is said. What counts is user's and system's time of all threads
+(/proc/PID/task/*/schedstat), the median of the pairs' differences; their least and greatest say how much other work on the machine
+disturbs. Up to 32 packets are under way, and what is lost ends the run.
 """
 import glob
 import os
 import signal
 import socket
+import statistics
 import subprocess
 import sys
 import tempfile
@@ -88,18 +91,29 @@ def run(program, folder, workers, packets, is_recorded):
         watcher.close()
 
 
+def spread(values):
+    return f"{statistics.median(values):.2f} us ({min(values):.2f} to {max(values):.2f})"
+
+
 def main():
     program = os.path.abspath(sys.argv[1])
     packets = int(sys.argv[2]) if len(sys.argv) > 2 else 50000
+    pairs = int(sys.argv[4]) if len(sys.argv) > 4 else 7
     with tempfile.TemporaryDirectory(dir=sys.argv[3] if len(sys.argv) > 3 else None) as folder:
         for workers in (1, 2):
-            least = {}
-            for _turn in range(3):
-                for is_recorded in (False, True):
+            costs = {False: [], True: []}
+            for pair in range(pairs):
+                for is_recorded in (False, True) if pair % 2 == 0 else (True, False):
                     cost, size = run(program, folder, workers, packets, is_recorded)
-                    least[is_recorded] = min(cost, least.get(is_recorded, cost))
-            without, with_it = least[False] / 1000, least[True] / 1000
-            print(f"workers {workers}: {without:.2f} us without, {with_it:.2f} us recorded, {with_it - without:.2f} us more; {size} bytes", flush=True)
+                    costs[is_recorded].append(cost / 1000)
+                    if is_recorded:
+                        record = size
+            more = [with_it - without for without, with_it in zip(costs[False], costs[True])]
+            print(
+                f"workers {workers}, {pairs} pairs: {spread(costs[False])} without, {spread(costs[True])} recorded, {spread(more)} more;"
+                f" {record} bytes",
+                flush=True,
+            )
 
 
 main()

@@ -22,7 +22,7 @@ sfu - selective forwarding unit for RTP, and the sets of rates that it announces
 
 ```
 sfu serve FILE [--ticks N] [--status SECONDS]
-sfu replay FILE < SCRIPT
+sfu replay FILE [--only-leg N] [--only-endpoint N] [--from MOMENT] [--events] < SCRIPT
 sfu bound --sender N < LINES
 sfu check FILE
 {draw}sfu --help

@@ -12,7 +12,7 @@ use Rattle.clap.specs.Lexer.{strip_byte}
 use Rattle.clap.specs.Matches.{ReadsOne}
 use Rattle.clap.specs.Words.{Row, Text, first_of, first_value, rows_of, subcommand_of, takes}
 use Rattle.clap.specs.declared.parser.matches.Found.{Found}
-use Rattle.clap.specs.declared.parser.matches.ValueSource.TheVariants.{CommandLine}
+use Rattle.clap.specs.declared.parser.matches.ValueSource.TheVariants.{CommandLine, DefaultValue}
 use Rattle.clap.specs.declared.builder.value_parser.Reading.{Reading}
 use Rattle.clap.specs.declared.builder.value_parser.Reading.TheVariants.{AsWritten, WithoutMinus}
 use Rattle.clap.specs.ValueTests.{accepts, is_numeral}
@@ -22,40 +22,46 @@ use Rattle.clap.proofs.WalkLemmas.{both, first_value-rows}
 use Rattle.clap.specs.declared.builder.ValueParser.{ValueParser}
 use Rattle.clap.specs.declared.builder.ValueParser.TheVariants as vp
 use Rattle.std.proofs.lemmas.Fmt.{decimal_is_IsNumeral}
+use Rattle.request_text.specs.Words.{number_under}
 use Rattle.request_text.proofs.DigitLemmas.{digits_back, digits_from}
-use Rattle.command_line.specs.CommandLine.{IsWritable, Types, words_of, Request, asked_for, request_found, asked_named, bound, check, replay, sfu, number_of, serve, number_in, option_words, draw}
+use Rattle.command_line.specs.CommandLine.{IsWritable, Types, words_of, Request, asked_for, request_found, asked_named, bound, check, replay, sfu, number_of, serve, number_in, moment_in, is_set, is_yes, option_words, draw}
 
 -- ---- reading a number
 
-abbrev fits_u32 : List ℕ → Bool
-fits_u32 ds = is_numeral ds && nat_lt (digits_value 10 ds) (2 ^ 32)
+-- a numeral of a number of so many bits
+abbrev fits_in : ℕ → List ℕ → Bool
+fits_in bits ds = is_numeral ds && nat_lt (digits_value 10 ds) (2 ^ bits)
 
-is_fit : (ds : List ℕ) → IsNumeral 10 ds → digits_value 10 ds < 2 ^ 32 → fits_u32 ds ≡ true
-is_fit ds numeral fits = rw (lt-ltb _ _ numeral.0, digits_back ds numeral.1, lt-ltb _ _ fits) refl
+abbrev number_of_bits : ℕ → Text → Option ℕ
+number_of_bits bits text = number_under (2 ^ bits) (without_leading_plus text)
 
-fit_is : (ds : List ℕ) → fits_u32 ds ≡ true → IsNumeral 10 ds × (digits_value 10 ds < 2 ^ 32)
-fit_is ds e =
+is_fit : (bits : ℕ) (ds : List ℕ) → IsNumeral 10 ds → digits_value 10 ds < 2 ^ bits → fits_in bits ds ≡ true
+is_fit bits ds numeral fits = rw (lt-ltb _ _ numeral.0, digits_back ds numeral.1, lt-ltb _ _ fits) refl
+
+fit_is : (bits : ℕ) (ds : List ℕ) → fits_in bits ds ≡ true → IsNumeral 10 ds × (digits_value 10 ds < 2 ^ bits)
+fit_is bits ds e =
     let parts = both _ _ e in
     let numeral = both _ _ parts.0 in
     ((ltb-true _ _ numeral.0, digits_from ds numeral.1), ltb-true _ _ parts.1)
 
-u32_at : (E : Type 0) (text : Text) (r : Result ℕ E) → ParsesUnsigned 32 10 text r → result_ok r ≡ number_of text
-u32_at E text (Ok v) h = ap Some h.1 ∙ sym (cond-true (fits_u32 (without_leading_plus text)) _ _ (is_fit _ h.0.0 h.0.1))
-u32_at E text (Err x) h = go (fits_u32 (without_leading_plus text)) refl
+number_at : (bits : ℕ) (E : Type 0) (text : Text) (r : Result ℕ E) → ParsesUnsigned bits 10 text r → result_ok r ≡ number_of_bits bits text
+number_at bits E text (Ok v) h = ap Some h.1 ∙ sym (cond-true (fits_in bits (without_leading_plus text)) _ _ (is_fit bits _ h.0.0 h.0.1))
+number_at bits E text (Err x) h = go (fits_in bits (without_leading_plus text)) refl
   where
-    go : (b : Bool) → fits_u32 (without_leading_plus text) ≡ b → None ≡ number_of text
-    go true e = absurd (h (fit_is _ e))
-    go false e = sym (cond-false (fits_u32 (without_leading_plus text)) _ _ e)
+    go : (b : Bool) → fits_in bits (without_leading_plus text) ≡ b → None ≡ number_of_bits bits text
+    go true e = absurd (h (fit_is bits _ e))
+    go false e = sym (cond-false (fits_in bits (without_leading_plus text)) _ _ e)
 
-reads_u32 : (E : Type 0) (G : List ℕ → Result ℕ E → Type 0) (t : Text) (r : Option ℕ) → ((u : Text) (x : Result ℕ E) → G u x → ParsesUnsigned 32 10 u x)
-    → ReadsOne G t r → r ≡ number_of t
-reads_u32 E G t (Some v) only h = u32_at E t (Ok v) (only t (Ok v) h)
-reads_u32 E G t None only h = u32_at E t (Err h.0) (only t (Err h.0) h.1)
+reads_number : (bits : ℕ) (E : Type 0) (G : List ℕ → Result ℕ E → Type 0) (t : Text) (r : Option ℕ)
+    → ((u : Text) (x : Result ℕ E) → G u x → ParsesUnsigned bits 10 u x) → ReadsOne G t r → r ≡ number_of_bits bits t
+reads_number bits E G t (Some v) only h = number_at bits E t (Ok v) (only t (Ok v) h)
+reads_number bits E G t None only h = number_at bits E t (Err h.0) (only t (Err h.0) h.1)
 
-pub one_read : (E : Type 0) (G : List ℕ → Result ℕ E → Type 0) (o : Option Text) (r : Option ℕ) → ((u : Text) (x : Result ℕ E) → G u x → ParsesUnsigned 32 10 u x)
-    → (o ≡ None → r ≡ None) → ((t : Text) → o ≡ Some t → ReadsOne G t r) → r ≡ option_and_then number_of o
-one_read E G None r only none value = none refl
-one_read E G (Some t) r only none value = reads_u32 E G t r only (value t refl)
+pub one_read : (bits : ℕ) (E : Type 0) (G : List ℕ → Result ℕ E → Type 0) (o : Option Text) (r : Option ℕ)
+    → ((u : Text) (x : Result ℕ E) → G u x → ParsesUnsigned bits 10 u x) → (o ≡ None → r ≡ None) → ((t : Text) → o ≡ Some t → ReadsOne G t r)
+    → r ≡ option_and_then (number_of_bits bits) o
+one_read bits E G None r only none value = none refl
+one_read bits E G (Some t) r only none value = reads_number bits E G t r only (value t refl)
 
 -- ---- the words of each subcommand
 
@@ -76,6 +82,16 @@ row id how value = record {
   count = None;
   source = Some CommandLine;
   reading = how;
+}
+
+-- an option without a value that isn't there
+abbrev unset : Text → Row
+unset id = record {
+  id = id;
+  values = codes "false" ∷ [];
+  count = None;
+  source = Some DefaultValue;
+  reading = AsWritten;
 }
 
 bound_found : (name : Text) (d : ℕ) (ds : Text) → (d == 45) ≡ false
@@ -122,12 +138,12 @@ unfolding clap_on_literals
 check_taken name d ds e = rw (e, no_hyphen d ds e) refl
 
 replay_found : (name : Text) (d : ℕ) (ds : Text) → (d == 45) ≡ false
-    → subcommand_of sfu (name ∷ codes "replay" ∷ (d ∷ ds) ∷ []) ≡ Some (codes "replay", row (codes "FILE") AsWritten (d ∷ ds) ∷ [])
+    → subcommand_of sfu (name ∷ codes "replay" ∷ (d ∷ ds) ∷ []) ≡ Some (codes "replay", row (codes "FILE") AsWritten (d ∷ ds) ∷ unset (codes "events") ∷ [])
 unfolding clap_on_literals
 replay_found name d ds e = rw (e, no_hyphen d ds e) refl
 
 replay_asked : (name : Text) (d : ℕ) (ds : Text) → (d == 45) ≡ false
-    → asked_for (name ∷ codes "replay" ∷ (d ∷ ds) ∷ []) ≡ Some (replay (d ∷ ds))
+    → asked_for (name ∷ codes "replay" ∷ (d ∷ ds) ∷ []) ≡ Some (replay (d ∷ ds) None None None false)
 replay_asked name d ds e = ap request_found (replay_found name d ds e)
 
 replay_taken : (name : Text) (d : ℕ) (ds : Text) → (d == 45) ≡ false → takes sfu (name ∷ codes "replay" ∷ (d ∷ ds) ∷ []) ≡ true
@@ -198,12 +214,23 @@ control_taken : (name : Text) (d : ℕ) (ds : Text) (a : ℕ) (others : Text) �
 unfolding clap_on_literals
 control_taken name d ds a others e f = rw (e, no_hyphen d ds e, f, no_hyphen a others f) refl
 
+-- whether an option without a value is there, by its text
+pub set_read : (f : Found) (id : Text) (text : Option Text) → text ≡ first_value f id → is_yes text ≡ is_set id (rows_of f)
+set_read f id text is = ap is_yes (is ∙ first_value-rows f id)
+
 -- the file that the typed getter finds
 pub asked_check : (f : Found) (file : Option Text) → file ≡ first_value f (codes "FILE") → option_map check file ≡ asked_named (codes "check") (rows_of f)
 asked_check f file is = ap (option_map check) (is ∙ first_value-rows f (codes "FILE"))
 
-pub asked_replay : (f : Found) (file : Option Text) → file ≡ first_value f (codes "FILE") → option_map replay file ≡ asked_named (codes "replay") (rows_of f)
-asked_replay f file is = ap (option_map replay) (is ∙ first_value-rows f (codes "FILE"))
+pub asked_replay : (f : Found) (file : Option Text) (leg endpoint from : Option ℕ) (events : Bool) → file ≡ first_value f (codes "FILE")
+    → leg ≡ number_in (codes "only-leg") (rows_of f) → endpoint ≡ number_in (codes "only-endpoint") (rows_of f)
+    → from ≡ moment_in (codes "from") (rows_of f) → events ≡ is_set (codes "events") (rows_of f)
+    → option_map (λ t. replay t leg endpoint from events) file ≡ asked_named (codes "replay") (rows_of f)
+asked_replay f file leg endpoint from events is at_leg at_endpoint at_from at_events =
+    rw (at_leg, at_endpoint, at_from, at_events)
+    (ap (option_map (λ t. replay t (number_in (codes "only-leg") (rows_of f)) (number_in (codes "only-endpoint") (rows_of f))
+    (moment_in (codes "from") (rows_of f)) (is_set (codes "events") (rows_of f))))
+    (is ∙ first_value-rows f (codes "FILE")))
 
 pub asked_serve : (f : Found) (file : Option Text) (ticks status : Option ℕ) (control : Option Text) → file ≡ first_value f (codes "FILE")
     → ticks ≡ number_in (codes "ticks") (rows_of f) → status ≡ number_in (codes "status") (rows_of f) → control ≡ first_value f (codes "control")
@@ -237,7 +264,7 @@ numeral_number (d ∷ ds) n numeral is fits =
       ds = ds;
       is = refl;
       plain = minus;
-      read = ap (λ (t : Text). cond (fits_u32 t) (Some (digits_value 10 t)) None) whole ∙ cond-true (fits_u32 (d ∷ ds)) _ _ (is_fit (d ∷ ds) numeral small) ∙ ap Some is;
+      read = ap (λ (t : Text). cond (fits_in 32 t) (Some (digits_value 10 t)) None) whole ∙ cond-true (fits_in 32 (d ∷ ds)) _ _ (is_fit 32 (d ∷ ds) numeral small) ∙ ap Some is;
       passes = Accepts-accepts false u32_parser (d ∷ ds) (rw (minus, plus) (numeral, record { sfits = omega (arith, small) }, omega (arith, ints), omega (arith, ints, small)));
     }
 
@@ -270,7 +297,7 @@ numeral_option (d ∷ ds) n most numeral is low high small =
       ds = ds;
       is = refl;
       plain = minus;
-      read = ap (λ (t : Text). cond (fits_u32 t) (Some (digits_value 10 t)) None) whole ∙ cond-true (fits_u32 (d ∷ ds)) _ _ (is_fit (d ∷ ds) numeral fits) ∙ ap Some is;
+      read = ap (λ (t : Text). cond (fits_in 32 t) (Some (digits_value 10 t)) None) whole ∙ cond-true (fits_in 32 (d ∷ ds)) _ _ (is_fit 32 (d ∷ ds) numeral fits) ∙ ap Some is;
       passes = Accepts-accepts false (option_parser most) (d ∷ ds)
           (rw (minus, plus) (numeral, record { sfits = omega (arith, fits) }, omega (arith, ints, least), omega (arith, ints, greatest)));
     }
@@ -292,8 +319,12 @@ read_at words (check []) name is fits = absurd fits
 read_at words (check (d ∷ ds)) name is fits =
     let plain : (d == 45) ≡ false = ne_eqb d 45 fits in
     (check_asked name d ds plain, check_taken name d ds plain)
-read_at words (replay []) name is fits = absurd fits
-read_at words (replay (d ∷ ds)) name is fits =
+read_at words (replay file (Some leg) endpoint from events) name is fits = absurd fits
+read_at words (replay file None (Some endpoint) from events) name is fits = absurd fits
+read_at words (replay file None None (Some from) events) name is fits = absurd fits
+read_at words (replay file None None None true) name is fits = absurd fits
+read_at words (replay [] None None None false) name is fits = absurd fits
+read_at words (replay (d ∷ ds) None None None false) name is fits =
     let plain : (d == 45) ≡ false = ne_eqb d 45 fits in
     (replay_asked name d ds plain, replay_taken name d ds plain)
 read_at words (serve [] ticks None None) name is fits = absurd fits.0

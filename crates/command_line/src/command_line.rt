@@ -2,7 +2,7 @@
 
 ghost use Rattle.std.specs.Prelude.{◌≡◌, ◌∷◌, ◌<◌, ◌^◌, ℕ, List, [], IfErr, IfOk, MatchResult, Some, codes, map, true, option_map, false};
 ghost use Rattle.clap.specs.Words.{app_of, found_of, kind_of, rows_of, rule_of, subcommand_rows_of, takes};
-ghost use Rattle.command_line.specs.CommandLine.{HasNoGlobals, Request, Types, asked_for, file_app, request_found, asked_named, file_rule, number_in, number_rule, optional_rule, action_request, sender_app, serve_app, sfu, sfu_top, word_rule};
+ghost use Rattle.command_line.specs.CommandLine.{HasNoGlobals, Request, Types, action_request, asked_for, asked_named, choosing_app, file_app, file_rule, flag_rule, is_set, moment_in, moment_rule, number_in, number_rule, number_to_rule, optional_rule, replay_app, request_found, sender_app, serve_app, sfu, sfu_top, word_rule};
 
 use clap::builder::ValueParser;
 use clap::error::ErrorKind;
@@ -21,9 +21,14 @@ pub enum Action<'a> {
     Check {
         file: &'a str,
     },
-    /// `sfu replay FILE`: what the machine gives out for a script, by the file's settings.
+    /// `sfu replay FILE`: what the machine gives out for a script, by the file's settings; of it only what goes out on a leg, or to an
+    /// endpoint, by their numbers; only from a moment on, in milliseconds; with the lines of the events, or without.
     Replay {
         file: &'a str,
+        only_leg: Option<u32>,
+        only_endpoint: Option<u32>,
+        from: Option<u64>,
+        events: bool,
     },
     /// `sfu serve FILE`: the unit on a socket, by the file's settings; for so many turns, or until it is stopped; with a line
     /// of counts each so many seconds, or without; steered at a path, or not.
@@ -38,6 +43,9 @@ pub enum Action<'a> {
         media: u32,
     },
 }
+
+/// The greatest number that a leg or an endpoint may have.
+const MAX_NUMBER: i64 = 65_535;
 
 /// How many turns `--ticks` may name.
 const MAX_TICKS: i64 = 1_000_000;
@@ -66,6 +74,14 @@ const ROOM_HELP: &str = "The room's settings, in TOML";
 const SERVED_HELP: &str = "The room's settings and everybody's address, in TOML";
 
 const SENDER_HELP: &str = "The SSRC of the media sender whose requests count, in decimal";
+
+const LEG_HELP: &str = "Prints datagrams of this leg alone: 0 to 65,535";
+
+const ENDPOINT_HELP: &str = "Prints datagrams to this endpoint alone: 0 to 65,535";
+
+const FROM_HELP: &str = "Prints nothing that follows from an event before this millisecond";
+
+const EVENTS_HELP: &str = "Prints the line of an event before what follows from it";
 
 const TICKS_HELP: &str = "Ends after so many turns, of at most 10 ms each: 1 to 1,000,000";
 
@@ -110,7 +126,7 @@ fn command<'a>(alloc: Global) -> Result<Command<'a>, AllocError>
     top_command(alloc)
         .subcommand(sender_command(alloc, "bound", BOUND_HELP)?)?
         .subcommand(file_command(alloc, "check", CHECK_HELP, CERTIFICATE_HELP)?)?
-        .subcommand(file_command(alloc, "replay", REPLAY_HELP, ROOM_HELP)?)?
+        .subcommand(replay_command(alloc)?)?
         .subcommand(serve_command(alloc)?)?
         .subcommand(sender_command(alloc, "draw", DRAW_HELP)?)
 }
@@ -151,6 +167,26 @@ fn file_command<'a>(
     Command::new(alloc, name)
         .about(about)
         .arg(file(alloc, file_help))
+}
+
+/// `replay FILE`, with what is printed.
+fn replay_command<'a>(alloc: Global) -> Result<Command<'a>, AllocError>
+    ensures app { IfOk result (λ c. app_of c ≡ replay_app) }
+    ensures local { IfOk result HasNoGlobals }
+{
+    choosing_command(alloc)?
+        .arg(moment(alloc, "from", FROM_HELP))?
+        .arg(flag(alloc, "events", EVENTS_HELP))
+}
+
+/// `replay FILE`, with the leg and the endpoint of which something is printed.
+fn choosing_command<'a>(alloc: Global) -> Result<Command<'a>, AllocError>
+    ensures app { IfOk result (λ c. app_of c ≡ choosing_app) }
+    ensures local { IfOk result HasNoGlobals }
+{
+    file_command(alloc, "replay", REPLAY_HELP, ROOM_HELP)?
+        .arg(number_to(alloc, "only-leg", LEG_HELP, MAX_NUMBER))?
+        .arg(number_to(alloc, "only-endpoint", ENDPOINT_HELP, MAX_NUMBER))
 }
 
 /// `serve FILE`, with how many turns, how many seconds between lines of counts, and where it is steered.
@@ -200,6 +236,41 @@ fn optional_number<'a>(alloc: Global, name: &'a str, help: &'a str, most: i64) -
         .action(ArgAction::Set)
 }
 
+/// An option with a number from 0 to `most`; the help says this about it.
+fn number_to<'a>(alloc: Global, name: &'a str, help: &'a str, most: i64) -> Arg<'a>
+    ensures rule { rule_of result ≡ number_to_rule name.entry.now most }
+    ensures local { result.global ≡ false }
+{
+    Arg::new(alloc, name)
+        .long(name)
+        .help(help)
+        .value_parser(ValueParser::Signed(0, most))
+        .action(ArgAction::Set)
+}
+
+/// An option with a moment; the help says this about it.
+fn moment<'a>(alloc: Global, name: &'a str, help: &'a str) -> Arg<'a>
+    ensures rule { rule_of result ≡ moment_rule name.entry.now }
+    ensures local { result.global ≡ false }
+{
+    Arg::new(alloc, name)
+        .long(name)
+        .help(help)
+        .value_parser(ValueParser::Unsigned(0, u64::MAX))
+        .action(ArgAction::Set)
+}
+
+/// An option without a value; the help says this about it.
+fn flag<'a>(alloc: Global, name: &'a str, help: &'a str) -> Arg<'a>
+    ensures rule { rule_of result ≡ flag_rule name.entry.now }
+    ensures local { result.global ≡ false }
+{
+    Arg::new(alloc, name)
+        .long(name)
+        .help(help)
+        .action(ArgAction::SetTrue)
+}
+
 /// An option with a word; the help says this about it.
 fn optional_word<'a>(alloc: Global, name: &'a str, help: &'a str) -> Arg<'a>
     ensures rule { rule_of result ≡ word_rule name.entry.now }
@@ -231,6 +302,10 @@ fn action_named<'a>(name: &str, matches: &ArgMatches<'a>) -> Option<Action<'a>>
         }),
         "replay" => Some(Action::Replay {
             file: matches.get_str("FILE")?,
+            only_leg: number_in(matches, "only-leg"),
+            only_endpoint: number_in(matches, "only-endpoint"),
+            from: moment_in(matches, "from"),
+            events: is_set(matches, "events"),
         }),
         "serve" => Some(Action::Serve {
             file: matches.get_str("FILE")?,
@@ -249,4 +324,20 @@ fn number_in(matches: &ArgMatches<'_>, id: &str) -> Option<u32>
     ensures { result ≡ number_in id.now (rows_of (found_of matches.now)) }
 {
     matches.get_one::<u32>(id)
+}
+
+fn moment_in(matches: &ArgMatches<'_>, id: &str) -> Option<u64>
+    ensures { result ≡ moment_in id.now (rows_of (found_of matches.now)) }
+{
+    matches.get_one::<u64>(id)
+}
+
+/// Whether an option without a value is there.
+fn is_set(matches: &ArgMatches<'_>, id: &str) -> bool
+    ensures { result ≡ is_set id.now (rows_of (found_of matches.now)) }
+{
+    match matches.get_str(id) {
+        Some(text) => text == "true",
+        None => false,
+    }
 }

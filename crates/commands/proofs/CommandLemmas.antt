@@ -9,6 +9,7 @@ use Rattle.endings.specs.declared.status.Failure.TheVariants.{NoMemory, Refused,
 use Rattle.endings.specs.declared.status.Status.TheVariants as status
 use Rattle.commands.specs.Command.{FailsBound, PrintsBound, PrintsPicture, RefusesBound}
 use Rattle.endings.specs.Endings.{ShowsLine, status_of}
+use Rattle.scripts.specs.declared.shown.Shown.{Shown}
 use Rattle.scripts.specs.Replay.{PrintsByFile, PrintsReplay, RefusesByFile, RefusesReplay}
 use Rattle.settings_text.specs.SettingsFaults.{TextGives}
 use Rattle.settings_text.specs.declared.settings_file.FileSettings.{FileSettings}
@@ -44,14 +45,14 @@ shown_fault asked media input old new errors_old errors_new same refused =
     subst (λ (n : ℕ). IfSome input (λ text. Keeps old new × RefusesBound n text errors_old errors_new)) same refused
 
 -- what a replay prints, by the settings that a file holds
-pub printed_by_file : (f : FileSettings) (input old new : Option (List ℕ)) → (text : List ℕ) × TextGives text (Ok f)
-    → IfSome input (λ script. PrintsReplay f.settings script old new) → IfSome input (λ script. PrintsByFile script old new)
-printed_by_file f None old new held printed = tt
-printed_by_file f (Some script) old new held printed = record { file = held.0; settings = f; gives = held.1; prints = printed }
+pub printed_by_file : (f : FileSettings) (s : Shown) (input old new : Option (List ℕ)) → (text : List ℕ) × TextGives text (Ok f)
+    → IfSome input (λ script. PrintsReplay f.settings s script old new) → IfSome input (λ script. PrintsByFile s script old new)
+printed_by_file f s None old new held printed = tt
+printed_by_file f s (Some script) old new held printed = record { file = held.0; settings = f; gives = held.1; prints = printed }
 
-pub refused_by_file : (f : FileSettings) (input old new errors_old errors_new : Option (List ℕ)) → (text : List ℕ) × TextGives text (Ok f)
-    → IfSome input (λ script. RefusesReplay f.settings script old new errors_old errors_new)
-    → IfSome input (λ script. RefusesByFile script old new errors_old errors_new)
-refused_by_file f None old new errors_old errors_new held refused = tt
-refused_by_file f (Some script) old new errors_old errors_new held refused =
+pub refused_by_file : (f : FileSettings) (s : Shown) (input old new errors_old errors_new : Option (List ℕ)) → (text : List ℕ) × TextGives text (Ok f)
+    → IfSome input (λ script. RefusesReplay f.settings s script old new errors_old errors_new)
+    → IfSome input (λ script. RefusesByFile s script old new errors_old errors_new)
+refused_by_file f s None old new errors_old errors_new held refused = tt
+refused_by_file f s (Some script) old new errors_old errors_new held refused =
     record { file = held.0; settings = f; gives = held.1; refuses = refused }

@@ -1,18 +1,19 @@
 //! The commands of the program, over a reader and writers.
 
-ghost use Rattle.std.specs.Prelude.{◌≡◌, ◌≢◌, ℕ, List, Option, map, None, Some, Ok, Err, IfSome, IfOk, IfErr, OnOk, codes};
+ghost use Rattle.std.specs.Prelude.{◌≡◌, ◌≢◌, ◌⊎◌, Bool, ℕ, List, Option, map, None, Some, Ok, Err, IfSome, IfOk, IfErr, OnOk, codes};
 ghost use Rattle.std.specs.Io.KnownBytes.{Appends, Keeps};
 ghost use Rattle.command_line.specs.CommandLine.{AsksToServe, Request, Types, asked_for, bound, check, draw, replay, serve};
 ghost use Rattle.commands.specs.Command.{FailsBound, PrintsBound, PrintsPicture, RefusesBound};
+ghost use Rattle.commands.specs.Replaying.{NamesNobody, shown_by};
 ghost use Rattle.checking.specs.Sheet.{SaysNo};
 ghost use Rattle.endings.specs.Endings.{SaysWhy};
 ghost use Rattle.scripts.specs.Replay.{PrintsByFile, RefusesByFile};
 ghost use Rattle.settings.specs.Settings.{Configuration};
 ghost use Rattle.serving.specs.ReportText.{PrintsReport};
 ghost use Rattle.serving.specs.Serving.{SaysWhyServing};
-ghost use Rattle.settings_text.specs.SettingsFaults.{TextGives};
 ghost use Rattle.settings_text.specs.SettingsText.{SaysProblem};
 
+use crate::replaying::run_replay;
 use checking::check_lines;
 use command_line::{Action, read_words};
 use drawing::set_picture;
@@ -20,12 +21,12 @@ use endings::{
     Failure, Status, refuse_words, report, report_settings, say, say_no_memory, unreadable,
 };
 use request_text::{bound_text, read_lines};
-use scripts::replay_lines;
+use scripts::Shown;
 use serving::{
     ControlFault, ErrorOutput, Gauges, RecordFault, ServedSettings, Term, close_control,
     close_record, open_control, open_record, read_served, serve_file,
 };
-use settings_text::{FileSettings, SettingsProblem, read_settings};
+use settings_text::SettingsProblem;
 use sha2::{Digest, Sha256};
 use std::alloc::Global;
 use std::convert::AsStr;
@@ -79,15 +80,20 @@ pub fn run_command<
         → result ≡ Status.Refused
         → SaysNo (O.contents writer.old) (O.contents writer.new) (E.contents errors.old)
         (E.contents errors.new) }
-    ensures replay_done { (file : List ℕ) → asked_for (map S.text words.now) ≡ Some (replay file)
+    ensures replay_done { (file : List ℕ) (leg endpoint from : Option ℕ) (events : Bool)
+        → asked_for (map S.text words.now) ≡ Some (replay file leg endpoint from events)
         → result ≡ Status.Done
         → IfSome (I.remaining reader.old) (λ script.
-        PrintsByFile script (O.contents writer.old) (O.contents writer.new)) }
-    ensures replay_refused { (file : List ℕ) → asked_for (map S.text words.now) ≡ Some (replay file)
+        PrintsByFile (shown_by leg endpoint from events) script (O.contents writer.old)
+        (O.contents writer.new)) }
+    ensures replay_refused { (file : List ℕ) (leg endpoint from : Option ℕ) (events : Bool)
+        → asked_for (map S.text words.now) ≡ Some (replay file leg endpoint from events)
         → result ≡ Status.Refused
-        → IfSome (I.remaining reader.old) (λ script.
-        RefusesByFile script (O.contents writer.old) (O.contents writer.new) (E.contents errors.old)
-        (E.contents errors.new)) }
+        → NamesNobody (shown_by leg endpoint from events) (O.contents writer.old)
+        (O.contents writer.new) (E.contents errors.old) (E.contents errors.new)
+        ⊎ IfSome (I.remaining reader.old) (λ script.
+        RefusesByFile (shown_by leg endpoint from events) script (O.contents writer.old)
+        (O.contents writer.new) (E.contents errors.old) (E.contents errors.new)) }
     ensures serve_done { (file : List ℕ) (ticks status : Option ℕ) (control : Option (List ℕ))
         → asked_for (map S.text words.now) ≡ Some (serve file ticks status control)
         → result ≡ Status.Done
@@ -124,7 +130,23 @@ pub fn run_command<
             Err(failure) => report(alloc, errors, failure),
         },
         Ok(Action::Check { file }) => run_check(rt, file, writer, errors),
-        Ok(Action::Replay { file }) => run_replay(rt, file, reader, writer, errors),
+        Ok(
+            Action::Replay {
+                file,
+                only_leg,
+                only_endpoint,
+                from,
+                events,
+            },
+        ) => {
+            let shown = Shown {
+                only_leg,
+                only_endpoint,
+                from_ms: from.unwrap_or(0),
+                events,
+            };
+            run_replay(rt, file, shown, reader, writer, errors)
+        }
         Ok(
             Action::Serve {
                 file,
@@ -200,31 +222,6 @@ fn run_check<R: AllocGlobal + Files, O: Write, E: Write>(
     match fs::open(rt, file) {
         Ok(mut file) => check_lines(rt.alloc(), &mut file, writer, errors),
         Err(error) => report(rt.alloc(), errors, unreadable(&error)),
-    }
-}
-
-/// `sfu replay`: plays the script of the input by the settings of the file.
-fn run_replay<R: AllocGlobal + Files, I: Read, O: Write, E: Write>(
-    rt: &R,
-    file: &str,
-    reader: &mut I,
-    writer: &mut O,
-    errors: &mut E,
-) -> Status
-    ensures done { result ≡ Status.Done → IfSome (I.remaining reader.old) (λ script.
-        PrintsByFile script (O.contents writer.old) (O.contents writer.new)) }
-    ensures refused { result ≡ Status.Refused → IfSome (I.remaining reader.old) (λ script.
-        RefusesByFile script (O.contents writer.old) (O.contents writer.new) (E.contents errors.old)
-        (E.contents errors.new)) }
-    ensures settings { result ≡ Status.Settings
-        → Keeps (O.contents writer.old) (O.contents writer.new)
-        × SaysProblem (E.contents errors.old) (E.contents errors.new) }
-    ensures understood { result ≢ Status.CommandLine }
-    ensures said { SaysWhy (E.contents errors.old) (E.contents errors.new) result }
-{
-    match settings_in(rt, file) {
-        Ok(file) => replay_lines(rt.alloc(), &file.settings, reader, writer, errors),
-        Err(problem) => report_settings(rt.alloc(), errors, &problem),
     }
 }
 
@@ -392,31 +389,8 @@ fn served_from<I: Read>(alloc: Global, file: &mut I) -> Result<ServedFile, Setti
     }
 }
 
-/// The settings that a file holds.
-fn settings_in<R: AllocGlobal + Files>(rt: &R, file: &str) -> Result<FileSettings, SettingsProblem>
-    ensures { IfOk result (λ f. (text : List ℕ) × TextGives text (Ok f)) }
-{
-    match fs::open(rt, file) {
-        Ok(mut file) => settings_from(rt.alloc(), &mut file),
-        Err(error) => Err(unreadable_settings(&error)),
-    }
-}
-
-/// The settings that a reader holds.
-fn settings_from<I: Read>(alloc: Global, file: &mut I) -> Result<FileSettings, SettingsProblem>
-    ensures some { IfOk result (λ f. (text : List ℕ) × TextGives text (Ok f)) }
-    ensures whole { IfOk result (λ f.
-        IfSome (I.remaining file.old) (λ text. TextGives text (Ok f))) }
-{
-    let mut text = Vec::new(alloc);
-    match file.read_to_end(&mut text) {
-        Ok(_) => read_settings(alloc, text.as_slice()),
-        Err(error) => Err(unreadable_settings(&error)),
-    }
-}
-
 /// Why there are no settings in a file that can't be opened or read.
-fn unreadable_settings(error: &io::Error) -> SettingsProblem {
+pub(crate) fn unreadable_settings(error: &io::Error) -> SettingsProblem {
     if error.kind() == io::ErrorKind::OutOfMemory {
         SettingsProblem::NoMemory
     } else {

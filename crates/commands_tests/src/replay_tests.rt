@@ -1,7 +1,7 @@
 //! `replay_lines` on streams that hold lists of bytes, or fail.
 use crate::settings_tests::ROOM;
 use crate::stream::Stream;
-use commands::{FileSettings, Status, read_settings, replay_lines};
+use commands::{FileSettings, Shown, Status, read_settings, replay_lines};
 use settings::Settings;
 use std::alloc::Global;
 use std::io::ErrorKind;
@@ -27,7 +27,14 @@ pub(crate) fn played(
     let mut printed = Stream::new(alloc, "", output);
     let mut said = Stream::new(alloc, "", None);
     let room = settings(alloc)?;
-    let status = replay_lines(alloc, &room, &mut input, &mut printed, &mut said);
+    let status = replay_lines(
+        alloc,
+        &room,
+        Shown::all(),
+        &mut input,
+        &mut printed,
+        &mut said,
+    );
     Ok((status, [printed.text()?, said.text()?]))
 }
 

@@ -20,108 +20,129 @@ use Rattle.endings.specs.declared.status.Failure.{Failure}
 use Rattle.endings.specs.declared.status.Failure.TheVariants.{NoMemory, Refused as RefusedLine, Io}
 use Rattle.scripts.specs.declared.script.Reading.TheVariants.{Unreadable}
 use Rattle.request_text.specs.Lines.{lines_of}
-use Rattle.scripts.specs.Replay.{Drains, FailsLine, FailsReplay, Follows, IngressDrains, IsOutside, LinePlays, LinesPlay, Prints, PrintsReplay, Rounds, Settles, StopsReplay, WorkerDrains, WorkersDrain, again, numbers_of, out_line, out_lines, over, quiet, round}
+use Rattle.scripts.specs.Replay.{Drains, FailsLine, FailsReplay, Follows, GivesOut, IngressDrains, IsOutside, LinePlays, LinesPlay, PrintsGiven, PrintsLine, PrintsReplay, Rounds, Settles, StopsReplay, WorkerDrains, WorkersDrain, again, cause_behind, numbers_of, over, quiet, round}
+use Rattle.scripts.specs.Shown.{Cause, Given, Told, cause_of, given_at, no_cause, shown_text}
+use Rattle.scripts.specs.declared.replay.Progress.{Progress}
+use Rattle.scripts.specs.declared.shown.Shown.{Shown}
+use Rattle.scripts.proofs.ShownLemmas.{more_printed, none_printed}
 use Rattle.scripts.specs.Script.{reading_of}
 use Rattle.request_text.proofs.LineLemmas.{at_line}
 
--- ---- what is printed
+-- ---- what is given out
 
--- text behind text
-pub prints_more : (a b c : Option (List ℕ)) (first second both : List Out) → Appends a b (out_lines first) → Appends b c (out_lines second)
-    → both ≡ first ++ second → Appends a c (out_lines both)
-prints_more a b c first second both p q is =
-    subst (Appends a c) (sym (flat_map-append out_line first second) ∙ ap out_lines (sym is)) (Appends-trans a b c (out_lines first) (out_lines second) p q)
-
--- one line more
-pub prints_next : (a b c : Option (List ℕ)) (outs : List Out) (i : ℕ) (d : Out) → i < length outs → Appends a b (out_lines (take i outs))
-    → Appends b c (out_line (get_or outs i d)) → Appends a c (out_lines (take (i + 1) outs))
-prints_next a b c outs i d below p q =
-    let line : out_line (get_or outs i d) ≡ out_lines (get_or outs i d ∷ []) = sym (append-nil (out_line (get_or outs i d))) in
-    prints_more a b c (take i outs) (get_or outs i d ∷ []) (take (i + 1) outs) p (subst (Appends b c) line q) (take_more outs i d below)
+-- outs behind outs
+pub joined : (old mid new first second : List Out) → mid ≡ old ++ first → new ≡ mid ++ second → new ≡ old ++ (first ++ second)
+joined old mid new first second p q = q ∙ (ap (λ (xs : List Out). xs ++ second) p ∙ append_assoc old first second)
 
 -- ---- lines
 
 abbrev texts : List (Bor (List ℕ)) → List (List ℕ)
 texts lines = map (λ (x : Bor (List ℕ)). x.now) lines
 
--- behind the last line nothing is printed
-pub played_out : (c : Configuration) (i : ℕ) (lines : List (Bor (List ℕ))) (w : WorldState) → length lines ≤ i
-    → LinesPlay c (i + 1) (drop i (texts lines)) w [] None
-played_out c i lines w past =
+-- behind the last line nothing is given
+pub played_out : (c : Configuration) (i : ℕ) (cause : Cause) (lines : List (Bor (List ℕ))) (w : WorldState) → length lines ≤ i
+    → LinesPlay c (i + 1) cause (drop i (texts lines)) w [] None
+played_out c i cause lines w past =
     let all : length (texts lines) ≤ i = rw length-map past in
-    subst (λ (ls : List (List ℕ)). LinesPlay c (i + 1) ls w [] None) (sym (drop_all i (texts lines) all)) (refl, refl)
+    subst (λ (ls : List (List ℕ)). LinesPlay c (i + 1) cause ls w [] None) (sym (drop_all i (texts lines) all)) (refl, refl)
 
-pub plays_on : (c : Configuration) (i : ℕ) (lines : List (Bor (List ℕ))) (d : Bor (List ℕ)) (w next : WorldState) (first others : List ℕ)
-    (stopped : Option ℕ) → i < length lines → LinePlays c (get_or lines i d).now w next first
-    → LinesPlay c (i + 1 + 1) (drop (i + 1) (texts lines)) next others stopped
-    → LinesPlay c (i + 1) (drop i (texts lines)) w (first ++ others) stopped
-plays_on c i lines d w next first others stopped below line rest =
-    subst (λ (ls : List (List ℕ)). LinesPlay c (i + 1) ls w (first ++ others) stopped) (sym (at_line i lines d below))
-    (inl (next, first, others, line, rest, refl))
+pub plays_on : (c : Configuration) (i : ℕ) (here there : Cause) (lines : List (Bor (List ℕ))) (d : Bor (List ℕ)) (w next : WorldState)
+    (told : List Told) (others : List Given) (stopped : Option ℕ) → i < length lines → there ≡ cause_behind c (i + 1) (get_or lines i d).now here
+    → LinePlays c (get_or lines i d).now w next told → LinesPlay c (i + 1 + 1) there (drop (i + 1) (texts lines)) next others stopped
+    → LinesPlay c (i + 1) here (drop i (texts lines)) w (given_at there told ++ others) stopped
+plays_on c i here there lines d w next told others stopped below is line rest =
+    subst (λ (ls : List (List ℕ)). LinesPlay c (i + 1) here ls w (given_at there told ++ others) stopped) (sym (at_line i lines d below))
+    (inl (
+      next,
+      told,
+      others,
+      line,
+      subst (λ (k : Cause). LinesPlay c (i + 1 + 1) k (drop (i + 1) (texts lines)) next others stopped) is rest,
+      ap (λ (k : Cause). given_at k told ++ others) is,
+    ))
 
-pub stops_at : (c : Configuration) (i : ℕ) (lines : List (Bor (List ℕ))) (d : Bor (List ℕ)) (w : WorldState) → i < length lines
-    → reading_of (numbers_of c) (get_or lines i d).now ≡ Unreadable → LinesPlay c (i + 1) (drop i (texts lines)) w [] (Some (i + 1))
-stops_at c i lines d w below unreadable =
-    subst (λ (ls : List (List ℕ)). LinesPlay c (i + 1) ls w [] (Some (i + 1))) (sym (at_line i lines d below))
+pub stops_at : (c : Configuration) (i : ℕ) (cause : Cause) (lines : List (Bor (List ℕ))) (d : Bor (List ℕ)) (w : WorldState) → i < length lines
+    → reading_of (numbers_of c) (get_or lines i d).now ≡ Unreadable → LinesPlay c (i + 1) cause (drop i (texts lines)) w [] (Some (i + 1))
+stops_at c i cause lines d w below unreadable =
+    subst (λ (ls : List (List ℕ)). LinesPlay c (i + 1) cause ls w [] (Some (i + 1))) (sym (at_line i lines d below))
     (inr (unreadable, refl, refl))
 
--- What was played so far: from a new world, and this was printed; whatever the lines from here on print comes behind it.
-pub record Played (c : Configuration) (script : List ℕ) (i : ℕ) (lines : List (List ℕ)) (w : WorldState) (old new : Option (List ℕ)) : Type 0 where
+-- What was played so far: from a new world, and what is shown of what it gave was printed; whatever the lines from here on give comes
+-- behind it.
+pub record Played (c : Configuration) (s : Shown) (script : List ℕ) (i : ℕ) (lines : List (List ℕ)) (w : WorldState) (here : Progress)
+    (old new : Option (List ℕ)) : Type 0 where
   pub first : WorldState
   pub opened : IsNewWorld c first
-  pub text : List ℕ
-  pub printed : Appends old new text
-  pub rest : (others : List ℕ) (stopped : Option ℕ) → LinesPlay c (i + 1) (drop i lines) w others stopped
-      → LinesPlay c 1 (lines_of script) first (text ++ others) stopped
+  pub given : List Given
+  pub printed : PrintsGiven c s 0 given here.said old new
+  pub rest : (others : List Given) (stopped : Option ℕ) → LinesPlay c (i + 1) (cause_of here.latest) (drop i lines) w others stopped
+      → LinesPlay c 1 no_cause (lines_of script) first (given ++ others) stopped
 
-pub opens : (c : Configuration) (script : List ℕ) (lines : List (List ℕ)) (w : WorldState) (old : Option (List ℕ)) → IsNewWorld c w
-    → lines ≡ lines_of script → Played c script 0 lines w old old
-opens c script lines w old new is = record {
+pub opens : (c : Configuration) (s : Shown) (script : List ℕ) (lines : List (List ℕ)) (w : WorldState) (here : Progress) (old : Option (List ℕ))
+    → IsNewWorld c w → lines ≡ lines_of script → cause_of here.latest ≡ no_cause → here.said ≡ 0 → Played c s script 0 lines w here old old
+opens c s script lines w here old new is none unsaid = record {
   first = w;
   opened = new;
-  text = [];
-  printed = Appends-nil old;
-  rest = λ others stopped play. subst (λ (ls : List (List ℕ)). LinesPlay c 1 ls w others stopped) is play;
-}
-
-pub goes_on : (c : Configuration) (script : List ℕ) (i : ℕ) (lines : List (Bor (List ℕ))) (d : Bor (List ℕ)) (w next : WorldState)
-    (old mid new : Option (List ℕ)) (said : List ℕ) → i < length lines → Played c script i (texts lines) w old mid
-    → LinePlays c (get_or lines i d).now w next said → Appends mid new said → Played c script (i + 1) (texts lines) next old new
-goes_on c script i lines d w next old mid new said below played line printed = record {
-  first = played.first;
-  opened = played.opened;
-  text = played.text ++ said;
-  printed = Appends-trans old mid new played.text said played.printed printed;
+  given = [];
+  printed = subst (λ (n : ℕ). PrintsGiven c s 0 [] n old old) (sym unsaid) (none_printed c s 0 old);
   rest = λ others stopped play.
-      subst (λ (t : List ℕ). LinesPlay c 1 (lines_of script) played.first t stopped) (sym (append_assoc played.text said others))
-      (played.rest (said ++ others) stopped (plays_on c i lines d w next said others stopped below line play));
+      subst (λ (ls : List (List ℕ)). LinesPlay c 1 no_cause ls w others stopped) is
+      (subst (λ (k : Cause). LinesPlay c 1 k lines w others stopped) none play);
 }
 
-pub ends : (c : Configuration) (script : List ℕ) (i : ℕ) (lines : List (Bor (List ℕ))) (w : WorldState) (old new : Option (List ℕ))
-    → length lines ≤ i → Played c script i (texts lines) w old new → PrintsReplay c script old new
-ends c script i lines w old new past played = record {
-  text = played.text ++ [];
-  plays = record { world = played.first; opened = played.opened; lines = played.rest [] None (played_out c i lines w past) };
-  printed = subst (Appends old new) (sym (append-nil played.text)) played.printed;
+pub goes_on : (c : Configuration) (s : Shown) (script : List ℕ) (i number : ℕ) (lines : List (Bor (List ℕ))) (d : Bor (List ℕ)) (w next : WorldState)
+    (here there : Progress) (old mid new : Option (List ℕ)) → i < length lines → number ≡ i → Played c s script i (texts lines) w here old mid
+    → PrintsLine c s (number + 1) (get_or lines i d).now w next here there mid new
+    → Played c s script (i + 1) (texts lines) next there old new
+goes_on c s script i number lines d w next here there old mid new below counted played told =
+    let k = cause_of there.latest in
+    let line = subst (λ (n : ℕ). PrintsLine c s (n + 1) (get_or lines i d).now w next here there mid new) counted told in record {
+      first = played.first;
+      opened = played.opened;
+      given = played.given ++ given_at k line.told;
+      printed = more_printed c s 0 here.said there.said played.given (given_at k line.told) old mid new played.printed line.printed;
+      rest = λ others stopped play.
+          subst (λ (t : List Given). LinesPlay c 1 no_cause (lines_of script) played.first t stopped)
+          (sym (append_assoc played.given (given_at k line.told) others))
+          (played.rest (given_at k line.told ++ others) stopped
+          (plays_on c i (cause_of here.latest) k lines d w next line.told others stopped below line.latest line.plays play));
+    }
+
+-- the text of what was given so far
+whole : (c : Configuration) (s : Shown) (given : List Given) (said : ℕ) (old new : Option (List ℕ)) → PrintsGiven c s 0 given said old new
+    → Appends old new (shown_text c s (given ++ []))
+whole c s given said old new printed = subst (λ (gs : List Given). Appends old new (shown_text c s gs)) (sym (append-nil given)) printed.printed
+
+pub ends : (c : Configuration) (s : Shown) (script : List ℕ) (i : ℕ) (lines : List (Bor (List ℕ))) (w : WorldState) (here : Progress)
+    (old new : Option (List ℕ)) → length lines ≤ i → Played c s script i (texts lines) w here old new → PrintsReplay c s script old new
+ends c s script i lines w here old new past played = record {
+  given = played.given ++ [];
+  plays = record {
+    world = played.first;
+    opened = played.opened;
+    lines = played.rest [] None (played_out c i (cause_of here.latest) lines w past);
+  };
+  printed = whole c s played.given here.said old new played.printed;
 }
 
-pub fails : (c : Configuration) (script : List ℕ) (i number : ℕ) (lines : List (Bor (List ℕ))) (d : Bor (List ℕ)) (w : WorldState)
-    (old mid new : Option (List ℕ)) (failure : Failure) → i < length lines → number ≡ i → Played c script i (texts lines) w old mid
-    → FailsLine c (number + 1) (get_or lines i d).now mid new failure → FailsReplay c (Some script) old new failure
-fails c script i number lines d w old mid new NoMemory below counted played f = tt
-fails c script i number lines d w old mid new Io below counted played f = tt
-fails c script i number lines d w old mid new (RefusedLine n fault) below counted played f =
+pub fails : (c : Configuration) (s : Shown) (script : List ℕ) (i number : ℕ) (lines : List (Bor (List ℕ))) (d : Bor (List ℕ)) (w : WorldState)
+    (here : Progress) (old mid new : Option (List ℕ)) (failure : Failure) → i < length lines → number ≡ i
+    → Played c s script i (texts lines) w here old mid → FailsLine c (number + 1) (get_or lines i d).now mid new failure
+    → FailsReplay c s (Some script) old new failure
+fails c s script i number lines d w here old mid new NoMemory below counted played f = tt
+fails c s script i number lines d w here old mid new Io below counted played f = tt
+fails c s script i number lines d w here old mid new (RefusedLine n fault) below counted played f =
     let place : n ≡ i + 1 = f.0 ∙ ap (λ (k : ℕ). k + 1) counted in
-    let stop = played.rest [] (Some (i + 1)) (stops_at c i lines d w below f.2) in (
+    let stop = played.rest [] (Some (i + 1)) (stops_at c i (cause_of here.latest) lines d w below f.2) in (
       f.1,
       record {
-        text = played.text ++ [];
+        given = played.given ++ [];
         plays = record {
           world = played.first;
           opened = played.opened;
-          lines = subst (λ (k : ℕ). LinesPlay c 1 (lines_of script) played.first (played.text ++ []) (Some k)) (sym place) stop;
+          lines = subst (λ (k : ℕ). LinesPlay c 1 no_cause (lines_of script) played.first (played.given ++ []) (Some k)) (sym place) stop;
         };
-        printed = subst (Appends old new) (sym (append-nil played.text)) (Appends-kept old mid new played.text played.printed f.3);
+        printed = Appends-kept old mid new (shown_text c s (played.given ++ [])) (whole c s played.given here.said old mid played.printed) f.3;
       },
     )
 
@@ -132,86 +153,86 @@ outside_line c number line old new Io o = tt
 outside_line c number line old new (RefusedLine n fault) o = absurd o
 
 -- of a script that is read whole
-pub of_whole : (c : Configuration) (script : Option (List ℕ)) (text : List ℕ) (old new : Option (List ℕ)) (failure : Failure)
-    → IfSome script (λ xs. text ≡ xs) → FailsReplay c (Some text) old new failure → FailsReplay c script old new failure
-of_whole c script text old new NoMemory is f = tt
-of_whole c script text old new Io is f = tt
-of_whole c None text old new (RefusedLine n fault) is f = (f.0, tt)
-of_whole c (Some xs) text old new (RefusedLine n fault) is f =
-    (f.0, subst (λ (t : List ℕ). StopsReplay c t n old new) is f.1)
+pub of_whole : (c : Configuration) (s : Shown) (script : Option (List ℕ)) (text : List ℕ) (old new : Option (List ℕ)) (failure : Failure)
+    → IfSome script (λ xs. text ≡ xs) → FailsReplay c s (Some text) old new failure → FailsReplay c s script old new failure
+of_whole c s script text old new NoMemory is f = tt
+of_whole c s script text old new Io is f = tt
+of_whole c s None text old new (RefusedLine n fault) is f = (f.0, tt)
+of_whole c s (Some xs) text old new (RefusedLine n fault) is f =
+    (f.0, subst (λ (t : List ℕ). StopsReplay c s t n old new) is f.1)
 
-pub whole_printed : (c : Configuration) (script : Option (List ℕ)) (text : List ℕ) (old new : Option (List ℕ))
-    → IfSome script (λ xs. text ≡ xs) → PrintsReplay c text old new → IfSome script (λ t. PrintsReplay c t old new)
-whole_printed c None text old new is p = tt
-whole_printed c (Some xs) text old new is p = subst (λ (t : List ℕ). PrintsReplay c t old new) is p
+pub whole_printed : (c : Configuration) (s : Shown) (script : Option (List ℕ)) (text : List ℕ) (old new : Option (List ℕ))
+    → IfSome script (λ xs. text ≡ xs) → PrintsReplay c s text old new → IfSome script (λ t. PrintsReplay c s t old new)
+whole_printed c s None text old new is p = tt
+whole_printed c s (Some xs) text old new is p = subst (λ (t : List ℕ). PrintsReplay c s t old new) is p
 
 -- ---- settling
 
--- What was done so far, and was printed; whatever is done from here on comes behind it.
-pub record Drained (waits : WorldState → Bool) (event : Event) (first w : WorldState) (old new : Option (List ℕ)) : Type 0 where
+-- What was done so far, and was given out; whatever is done from here on comes behind it.
+pub record Drained (waits : WorldState → Bool) (event : Event) (first w : WorldState) (old new : List Out) : Type 0 where
   pub outs : List Out
-  pub printed : Appends old new (out_lines outs)
+  pub given : new ≡ old ++ outs
   pub rest : (others : List Out) (final : WorldState) → Drains waits event w others final → Drains waits event first (outs ++ others) final
 
-pub drains_from : (waits : WorldState → Bool) (event : Event) (w : WorldState) (old : Option (List ℕ)) → Drained waits event w w old old
-drains_from waits event w old = record { outs = []; printed = Appends-nil old; rest = λ others final d. d }
+pub drains_from : (waits : WorldState → Bool) (event : Event) (w : WorldState) (old : List Out) → Drained waits event w w old old
+drains_from waits event w old = record { outs = []; given = sym (append-nil old); rest = λ others final d. d }
 
-pub drains_on : (waits : WorldState → Bool) (event : Event) (first w next : WorldState) (old mid new : Option (List ℕ)) (outs : List Out)
-    → waits w ≡ true → Drained waits event first w old mid → HasRun (event ∷ []) w [] next outs → Appends mid new (out_lines outs)
+pub drains_on : (waits : WorldState → Bool) (event : Event) (first w next : WorldState) (old mid new : List Out) (outs : List Out)
+    → waits w ≡ true → Drained waits event first w old mid → HasRun (event ∷ []) w [] next outs → new ≡ mid ++ outs
     → Drained waits event first next old new
-drains_on waits event first w next old mid new outs busy d run printed = record {
+drains_on waits event first w next old mid new outs busy d run given = record {
   outs = d.outs ++ outs;
-  printed = prints_more old mid new d.outs outs (d.outs ++ outs) d.printed printed refl;
+  given = joined old mid new d.outs outs d.given given;
   rest = λ others final more.
       subst (λ (xs : List Out). Drains waits event first xs final) (sym (append_assoc d.outs outs others))
       (d.rest (outs ++ others) final (again busy run more));
 }
 
-pub is_drained : (waits : WorldState → Bool) (event : Event) (first w : WorldState) (old new : Option (List ℕ)) → waits w ≡ false
+pub is_drained : (waits : WorldState → Bool) (event : Event) (first w : WorldState) (old new : List Out) → waits w ≡ false
     → Drained waits event first w old new
-    → (outs : List Out) × Drains waits event first outs w × Appends old new (out_lines outs)
+    → (outs : List Out) × Drains waits event first outs w × (new ≡ old ++ outs)
 is_drained waits event first w old new idle d =
-    (d.outs, subst (λ (xs : List Out). Drains waits event first xs w) (append-nil d.outs) (d.rest [] w (over idle)), d.printed)
+    (d.outs, subst (λ (xs : List Out). Drains waits event first xs w) (append-nil d.outs) (d.rest [] w (over idle)), d.given)
 
 -- the same of workers, of which so many are to come
-pub record WorkersDrained (count k : ℕ) (first w : WorldState) (old new : Option (List ℕ)) : Type 0 where
+pub record WorkersDrained (count k : ℕ) (first w : WorldState) (old new : List Out) : Type 0 where
   pub outs : List Out
-  pub printed : Appends old new (out_lines outs)
+  pub given : new ≡ old ++ outs
   pub rest : (left : ℕ) (others : List Out) (final : WorldState) → left + k ≡ count → WorkersDrain left k w others final
       → WorkersDrain count 0 first (outs ++ others) final
 
-pub workers_from : (count : ℕ) (w : WorldState) (old : Option (List ℕ)) → WorkersDrained count 0 w w old old
+pub workers_from : (count : ℕ) (w : WorldState) (old : List Out) → WorkersDrained count 0 w w old old
 workers_from count w old = record {
   outs = [];
-  printed = Appends-nil old;
+  given = sym (append-nil old);
   rest = λ left others final is d.
       let same : left ≡ count = omega (arith, is) in
       subst (λ (n : ℕ). WorkersDrain n 0 w others final) same d;
 }
 
-pub workers_on : (count k : ℕ) (first w next : WorldState) (old mid new : Option (List ℕ)) (outs : List Out)
-    → WorkersDrained count k first w old mid → WorkerDrains k w outs next → Appends mid new (out_lines outs)
+pub workers_on : (count k : ℕ) (first w next : WorldState) (old mid new : List Out) (outs : List Out)
+    → WorkersDrained count k first w old mid → WorkerDrains k w outs next → new ≡ mid ++ outs
     → WorkersDrained count (k + 1) first next old new
-workers_on count k first w next old mid new outs d drains printed = record {
+workers_on count k first w next old mid new outs d drains given = record {
   outs = d.outs ++ outs;
-  printed = prints_more old mid new d.outs outs (d.outs ++ outs) d.printed printed refl;
+  given = joined old mid new d.outs outs d.given given;
   rest = λ left others final is more.
       let total : suc left + k ≡ count = omega (arith, is) in
       subst (λ (xs : List Out). WorkersDrain count 0 first xs final) (sym (append_assoc d.outs outs others))
       (d.rest (suc left) (outs ++ others) final total (next, outs, others, drains, more, refl));
 }
 
-pub workers_over : (count k : ℕ) (first w : WorldState) (old new : Option (List ℕ)) → count ≡ k → WorkersDrained count k first w old new
-    → (outs : List Out) × WorkersDrain count 0 first outs w × Appends old new (out_lines outs)
+pub workers_over : (count k : ℕ) (first w : WorldState) (old new : List Out) → count ≡ k → WorkersDrained count k first w old new
+    → (outs : List Out) × WorkersDrain count 0 first outs w × (new ≡ old ++ outs)
 workers_over count k first w old new all d =
     let none : zero + k ≡ count = omega (arith, all) in
-    (d.outs, subst (λ (xs : List Out). WorkersDrain count 0 first xs w) (append-nil d.outs) (d.rest zero [] w none (refl, refl)), d.printed)
+    (d.outs, subst (λ (xs : List Out). WorkersDrain count 0 first xs w) (append-nil d.outs) (d.rest zero [] w none (refl, refl)), d.given)
 
 -- the ingress first, then the workers
-pub settled : {T : Type 0} (count workers : ℕ) (w mid final : WorldState) (old m new : Option (List ℕ)) (r : Result T Failure)
-    → count ≡ workers → Prints (λ outs. IngressDrains w outs mid) old m
-    → OnOk r (Prints (λ outs. WorkersDrain count 0 mid outs final) m new)
-    → OnOk r (Prints (λ outs. Settles workers w outs final) old new)
+pub settled : {T E : Type 0} (count workers : ℕ) (w mid final : WorldState) (old m new : List Out) (r : Result T E)
+    → count ≡ workers → GivesOut (λ outs. IngressDrains w outs mid) old m
+    → OnOk r (GivesOut (λ outs. WorkersDrain count 0 mid outs final) m new)
+    → OnOk r (GivesOut (λ outs. Settles workers w outs final) old new)
 settled count workers w mid final old m new (Err e) same first others = tt
 settled count workers w mid final old m new (Ok done) same first others = (
   first.0 ++ others.0,
@@ -223,7 +244,7 @@ settled count workers w mid final old m new (Ok done) same first others = (
     each = subst (λ (n : ℕ). WorkersDrain n 0 mid others.0 final) same others.1;
     given = refl;
   },
-  prints_more old m new first.0 others.0 (first.0 ++ others.0) first.2 others.2 refl,
+  joined old m new first.0 others.0 first.2 others.2,
 )
 
 -- ---- rounds
@@ -235,38 +256,37 @@ work_keeps_ingress k w next outs all r =
     let s = step_of w (Work k) next outs all r in
     ap ingress_left s.leads ∙ ingress_same w s.happening (work_aside w k s.happening s.does)
 
--- Rounds that were made so far, and what they gave was printed; whatever is done from here on comes behind it.
-pub record RoundsMade (workers : ℕ) (first w : WorldState) (old new : Option (List ℕ)) : Type 0 where
+-- Rounds that were made so far, and what they gave; whatever is done from here on comes behind it.
+pub record RoundsMade (workers : ℕ) (first w : WorldState) (old new : List Out) : Type 0 where
   pub outs : List Out
-  pub printed : Appends old new (out_lines outs)
+  pub given : new ≡ old ++ outs
   pub rest : (others : List Out) (final : WorldState) → Rounds workers w others final → Rounds workers first (outs ++ others) final
 
-pub rounds_from : (workers : ℕ) (w : WorldState) (old : Option (List ℕ)) → RoundsMade workers w w old old
-rounds_from workers w old = record { outs = []; printed = Appends-nil old; rest = λ others final d. d }
+pub rounds_from : (workers : ℕ) (w : WorldState) (old : List Out) → RoundsMade workers w w old old
+rounds_from workers w old = record { outs = []; given = sym (append-nil old); rest = λ others final d. d }
 
-pub rounds_on : (workers : ℕ) (first w next behind : WorldState) (old mid late new : Option (List ℕ)) (outs more : List Out)
-    → is_busy w ≡ true → RoundsMade workers first w old mid → HasRun (Ingress ∷ []) w [] next outs → Appends mid late (out_lines outs)
-    → WorkersDrain workers 0 next more behind → Appends late new (out_lines more) → RoundsMade workers first behind old new
-rounds_on workers first w next behind old mid late new outs more busy d run printed drains told = record {
+pub rounds_on : (workers : ℕ) (first w next behind : WorldState) (old mid late new : List Out) (outs more : List Out)
+    → is_busy w ≡ true → RoundsMade workers first w old mid → HasRun (Ingress ∷ []) w [] next outs → late ≡ mid ++ outs
+    → WorkersDrain workers 0 next more behind → new ≡ late ++ more → RoundsMade workers first behind old new
+rounds_on workers first w next behind old mid late new outs more busy d run given drains told = record {
   outs = d.outs ++ (outs ++ more);
-  printed = prints_more old mid new d.outs (outs ++ more) (d.outs ++ (outs ++ more)) d.printed
-      (prints_more mid late new outs more (outs ++ more) printed told refl) refl;
+  given = joined old mid new d.outs (outs ++ more) d.given (joined mid late new outs more given told);
   rest = λ others final last.
       subst (λ (xs : List Out). Rounds workers first xs final) (sym (append_assoc d.outs (outs ++ more) others))
       (d.rest ((outs ++ more) ++ others) final
       (subst (λ (xs : List Out). Rounds workers w xs final) (sym (append_assoc outs more others)) (round more behind busy run drains last)));
 }
 
-pub rounds_over : (workers : ℕ) (first w : WorldState) (old new : Option (List ℕ)) → is_busy w ≡ false → RoundsMade workers first w old new
-    → (outs : List Out) × Rounds workers first outs w × Appends old new (out_lines outs)
+pub rounds_over : (workers : ℕ) (first w : WorldState) (old new : List Out) → is_busy w ≡ false → RoundsMade workers first w old new
+    → (outs : List Out) × Rounds workers first outs w × (new ≡ old ++ outs)
 rounds_over workers first w old new idle d =
-    (d.outs, subst (λ (xs : List Out). Rounds workers first xs w) (append-nil d.outs) (d.rest [] w (quiet idle)), d.printed)
+    (d.outs, subst (λ (xs : List Out). Rounds workers first xs w) (append-nil d.outs) (d.rest [] w (quiet idle)), d.given)
 
 -- the workers first, then the rounds
-pub followed : {T : Type 0} (count workers : ℕ) (w mid final : WorldState) (old m new : Option (List ℕ)) (r : Result T Failure)
-    → count ≡ workers → Prints (λ outs. WorkersDrain count 0 w outs mid) old m
-    → OnOk r (Prints (λ outs. Rounds count mid outs final) m new)
-    → OnOk r (Prints (λ outs. Follows workers w outs final) old new)
+pub followed : {T E : Type 0} (count workers : ℕ) (w mid final : WorldState) (old m new : List Out) (r : Result T E)
+    → count ≡ workers → GivesOut (λ outs. WorkersDrain count 0 w outs mid) old m
+    → OnOk r (GivesOut (λ outs. Rounds count mid outs final) m new)
+    → OnOk r (GivesOut (λ outs. Follows workers w outs final) old new)
 followed count workers w mid final old m new (Err e) same first others = tt
 followed count workers w mid final old m new (Ok done) same first others = (
   first.0 ++ others.0,
@@ -278,5 +298,5 @@ followed count workers w mid final old m new (Ok done) same first others = (
     rounds = subst (λ (n : ℕ). Rounds n mid others.0 final) same others.1;
     given = refl;
   },
-  prints_more old m new first.0 others.0 (first.0 ++ others.0) first.2 others.2 refl,
+  joined old m new first.0 others.0 first.2 others.2,
 )

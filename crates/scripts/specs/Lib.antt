@@ -1,2 +1,4 @@
-pub mod Script
+pub mod OutText
 pub mod Replay
+pub mod Script
+pub mod Shown

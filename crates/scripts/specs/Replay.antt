@@ -1,24 +1,13 @@
 -- What a script of `sfu replay` prints: its lines are played from a new world, one after the other.
-use Rattle.std.specs.Prelude.{◌≡◌, ◌⊎◌, ℕ, ◌+◌, ◌<◌, zero, suc, Bool, true, false, List, [], ◌∷◌, ◌++◌, length, flat_map, slice_get, Option, None, Some, IfSome, Ok, codes}
-use Rattle.std.specs.Fmt.{decimal}
+use Rattle.std.specs.Prelude.{◌≡◌, ◌⊎◌, ℕ, ◌+◌, ◌<◌, zero, suc, Bool, true, false, List, [], ◌∷◌, ◌++◌, length, map, slice_get, Option, None, Some, IfSome, Ok, string_bytes}
 use Rattle.std.specs.Io.KnownBytes.{Appends, Keeps}
-use Rattle.hex.specs.Hex.{encode_lower}
 use Rattle.tmmbr_tuple.specs.declared.ssrc.Ssrc.{Ssrc}
-use Rattle.rtp_packet.specs.Fault.{rtp_number}
-use Rattle.rtcp_compound.specs.Fault.{rtcp_fault_number as rtcp_number}
-use Rattle.rtcp_feedback.specs.Fault.{feedback_fault_number as feedback_number}
-use Rattle.settings.specs.Fault.{room_fault_number}
 use Rattle.settings.specs.Settings.{Configuration}
-use Rattle.rewrite.specs.Skip.{skip_number}
 use Rattle.bounding_set.specs.State.{announced_of}
 use Rattle.desk.specs.State.{DeskState}
 use Rattle.events.specs.declared.event.Event.{Event}
 use Rattle.events.specs.declared.event.Event.TheVariants.{Ingress, Work}
 use Rattle.events.specs.declared.output.Out.{Out}
-use Rattle.events.specs.declared.output.Out.TheVariants.{Send, Refused, Busy, Lost, Skip, Miss, Idle}
-use Rattle.events.specs.declared.output.Refusal.{Refusal}
-use Rattle.events.specs.declared.output.Refusal.TheVariants.{Rtp, Rtcp, Feedback, Room, Desk}
-use Rattle.events.specs.Refusals.{desk_number}
 use Rattle.core_steps.specs.World.{WorldState}
 use Rattle.core_steps.specs.Opening.{IsNewWorld}
 use Rattle.core_steps.specs.Rule.{is_busy}
@@ -27,6 +16,9 @@ use Rattle.core_steps.specs.Waits.{has_work}
 use Rattle.endings.specs.declared.status.Failure.{Failure}
 use Rattle.endings.specs.declared.status.Failure.TheVariants.{NoMemory, Refused as RefusedLine, Io}
 use Rattle.request_text.specs.declared.fault.LineFault.TheVariants.{Text}
+use Rattle.scripts.specs.declared.replay.Gives.{Gives}
+use Rattle.scripts.specs.declared.replay.Gives.TheVariants.{Outs, Set}
+use Rattle.scripts.specs.declared.replay.Progress.{Progress}
 use Rattle.scripts.specs.declared.script.Command.{Command}
 use Rattle.scripts.specs.declared.script.Command.TheVariants.{Do, Settle, Follow, Show}
 use Rattle.scripts.specs.declared.script.Numbers.{Numbers}
@@ -36,43 +28,22 @@ use Rattle.settings_text.specs.declared.settings_file.FileSettings.{FileSettings
 use Rattle.request_text.specs.BoundText.{refused_text, announced_line}
 use Rattle.request_text.specs.Lines.{lines_of}
 use Rattle.scripts.specs.Script.{reading_of}
+use Rattle.scripts.specs.Shown.{Cause, Given, Told, a_set, an_out, cause_after, cause_of, given_at, lines_behind, no_cause, said_behind, shown_of, shown_text}
+use Rattle.scripts.specs.declared.shown.Shown.{Shown}
 use Rattle.settings_text.specs.SettingsFaults.{TextGives}
 
--- ---- what is printed
+-- ---- what is given out and printed
 
--- what was refused, and the number of the cause
-abbrev pub refusal_line : Refusal → List ℕ
-refusal_line (Rtp fault) = codes "refused rtp " ++ (decimal (rtp_number fault) ++ codes "\n")
-refusal_line (Rtcp fault) = codes "refused rtcp " ++ (decimal (rtcp_number fault) ++ codes "\n")
-refusal_line (Feedback fault) =
-    codes "refused feedback " ++ (decimal (feedback_number fault) ++ codes "\n")
-refusal_line (Room fault) =
-    codes "refused room " ++ (decimal (room_fault_number fault) ++ codes "\n")
-refusal_line (Desk refusal) = codes "refused desk " ++ (decimal (desk_number refusal) ++ codes "\n")
+-- these were given out, behind those that were given out before
+abbrev pub GivesOut : (List Out → Type 0) → List Out → List Out → Type 0
+GivesOut P old new = (outs : List Out) × P outs × (new ≡ old ++ outs)
 
--- the line for one thing that the machine gives out
-abbrev pub out_line : Out → List ℕ
-out_line (Send endpoint bytes) =
-    codes "send " ++ (decimal endpoint ++ (codes " " ++ (encode_lower bytes ++ codes "\n")))
-out_line (Refused refusal) = refusal_line refusal
-out_line Busy = codes "busy\n"
-out_line (Lost worker) = codes "lost " ++ (decimal worker ++ codes "\n")
-out_line (Skip leg skip) =
-    codes "skip " ++ (decimal leg ++ (codes " " ++ (decimal (skip_number skip) ++ codes "\n")))
-out_line (Miss leg seq) =
-    codes "miss " ++ (decimal leg ++ (codes " " ++ (decimal seq ++ codes "\n")))
-out_line Idle = codes "idle\n"
-
-abbrev pub out_lines : List Out → List ℕ
-out_lines outs = flat_map out_line outs
-
--- these things were given out, and their lines are printed
-abbrev pub Prints : (List Out → Type 0) → Option (List ℕ) → Option (List ℕ) → Type 0
-Prints P old new = (outs : List Out) × P outs × Appends old new (out_lines outs)
-
--- this text is printed
-abbrev pub PrintsText : (List ℕ → Type 0) → Option (List ℕ) → Option (List ℕ) → Type 0
-PrintsText P old new = (text : List ℕ) × P text × Appends old new text
+-- What is shown of this is printed; what stands before it follows from the event of one number, and it ends with what follows from
+-- that of another.
+pub record PrintsGiven (c : Configuration) (s : Shown) (said : ℕ) (given : List Given) (behind : ℕ)
+    (old new : Option (List ℕ)) : Type 0 where
+  pub printed : Appends old new (lines_behind s said (shown_of c s given))
+  pub ends : behind ≡ said_behind said (shown_of c s given)
 
 -- ---- what a command does
 
@@ -144,69 +115,89 @@ IsAmong n Settle = Unit {0}
 IsAmong n Follow = Unit {0}
 IsAmong n (Show p) = p < n.endpoints
 
--- a command leads to this world, and this is printed
-abbrev pub CommandPlays : Configuration → WorldState → Command → WorldState → List ℕ → Type 0
-CommandPlays c w (Do event) next text =
-    (outs : List Out) × HasRun (event ∷ []) w [] next outs × (text ≡ out_lines outs)
-CommandPlays c w Settle next text =
-    (outs : List Out) × Settles c.workers w outs next × (text ≡ out_lines outs)
-CommandPlays c w Follow next text =
-    (outs : List Out) × Follows c.workers w outs next × (text ≡ out_lines outs)
-CommandPlays c w (Show p) next text = (next ≡ w) × IsShown c w p text
+-- a command leads to this world, and this is told
+abbrev pub CommandPlays : Configuration → WorldState → Command → WorldState → List Told → Type 0
+CommandPlays c w (Do event) next told =
+    (outs : List Out) × HasRun (event ∷ []) w [] next outs × (told ≡ map an_out outs)
+CommandPlays c w Settle next told =
+    (outs : List Out) × Settles c.workers w outs next × (told ≡ map an_out outs)
+CommandPlays c w Follow next told =
+    (outs : List Out) × Follows c.workers w outs next × (told ≡ map an_out outs)
+CommandPlays c w (Show p) next told =
+    (text : List ℕ) × IsShown c w p text × (next ≡ w) × (told ≡ a_set text ∷ [])
+
+-- what a command gives, as it is told
+abbrev pub told_in : Gives → List Told
+told_in (Outs outs) = map an_out outs.items
+told_in (Set text) = a_set (string_bytes text) ∷ []
 
 -- ---- a script
 
 abbrev pub numbers_of : Configuration → Numbers
 numbers_of c = record { endpoints = length c.endpoints; workers = c.workers }
 
--- a line that can be read leads to this world, and this is printed
-abbrev pub ReadingPlays : Configuration → WorldState → Reading → WorldState → List ℕ → Type 0
-ReadingPlays c w Skipped next text = (next ≡ w) × (text ≡ [])
-ReadingPlays c w (ACommand command) next text = CommandPlays c w command next text
-ReadingPlays c w Unreadable next text = ⊥
+-- a line that can be read leads to this world, and this is told
+abbrev pub ReadingPlays : Configuration → WorldState → Reading → WorldState → List Told → Type 0
+ReadingPlays c w Skipped next told = (next ≡ w) × (told ≡ [])
+ReadingPlays c w (ACommand command) next told = CommandPlays c w command next told
+ReadingPlays c w Unreadable next told = ⊥
 
-abbrev pub LinePlays : Configuration → List ℕ → WorldState → WorldState → List ℕ → Type 0
-LinePlays c line w next text = ReadingPlays c w (reading_of (numbers_of c) line) next text
+abbrev pub LinePlays : Configuration → List ℕ → WorldState → WorldState → List Told → Type 0
+LinePlays c line w next told = ReadingPlays c w (reading_of (numbers_of c) line) next told
 
--- Lines, of which the first has this number, print this; they are played to their end, or up to the line of the number that
--- can't be read.
-abbrev pub LinesPlay : Configuration → ℕ → List (List ℕ) → WorldState → List ℕ → Option ℕ → Type 0
-LinesPlay c n [] w text stopped = (text ≡ []) × (stopped ≡ None)
-LinesPlay c n (line ∷ lines) w text stopped =
-    ((next : WorldState) × (first others : List ℕ) × LinePlays c line w next first
-    × LinesPlay c (n + 1) lines next others stopped
-    × (text ≡ first ++ others))
-    ⊎ ((reading_of (numbers_of c) line ≡ Unreadable) × (text ≡ []) × (stopped ≡ Some n))
+-- the latest event once the line of this number is read
+abbrev pub cause_behind : Configuration → ℕ → List ℕ → Cause → Cause
+cause_behind c n line before = cause_after n line (reading_of (numbers_of c) line) before
 
--- A script is played from a new world of the settings.
-pub record Plays (c : Configuration) (script text : List ℕ) (stopped : Option ℕ) : Type 0 where
+-- A line leads to this world, and what is shown of what it gives is printed: from here to there.
+pub record PrintsLine (c : Configuration) (s : Shown) (n : ℕ) (line : List ℕ) (w next : WorldState)
+    (here there : Progress) (old new : Option (List ℕ)) : Type 0 where
+  pub told : List Told
+  pub plays : LinePlays c line w next told
+  pub latest : cause_of there.latest ≡ cause_behind c n line (cause_of here.latest)
+  pub printed : PrintsGiven c s here.said (given_at (cause_of there.latest) told) there.said old new
+
+-- Lines, of which the first has this number, give this, behind the latest event before them; they are played to their end, or up to
+-- the line of the number that can't be read.
+abbrev pub LinesPlay : Configuration → ℕ → Cause → List (List ℕ) → WorldState → List Given
+    → Option ℕ → Type 0
+LinesPlay c n cause [] w given stopped = (given ≡ []) × (stopped ≡ None)
+LinesPlay c n cause (line ∷ lines) w given stopped =
+    ((next : WorldState) × (told : List Told) × (others : List Given) × LinePlays c line w next told
+    × LinesPlay c (n + 1) (cause_behind c n line cause) lines next others stopped
+    × (given ≡ given_at (cause_behind c n line cause) told ++ others))
+    ⊎ ((reading_of (numbers_of c) line ≡ Unreadable) × (given ≡ []) × (stopped ≡ Some n))
+
+-- A script is played from a new world of the settings, and gives this.
+pub record Plays (c : Configuration) (script : List ℕ) (given : List Given)
+    (stopped : Option ℕ) : Type 0 where
   pub world : WorldState
   pub opened : IsNewWorld c world
-  pub lines : LinesPlay c 1 (lines_of script) world text stopped
+  pub lines : LinesPlay c 1 no_cause (lines_of script) world given stopped
 
 -- ---- what the program prints
 
--- The whole script was played, and what that gives is printed.
-pub record PrintsReplay (c : Configuration) (script : List ℕ)
+-- The whole script was played, and the text of what is shown of that is printed.
+pub record PrintsReplay (c : Configuration) (s : Shown) (script : List ℕ)
     (old new : Option (List ℕ)) : Type 0 where
-  pub text : List ℕ
-  pub plays : Plays c script text None
-  pub printed : Appends old new text
+  pub given : List Given
+  pub plays : Plays c script given None
+  pub printed : Appends old new (shown_text c s given)
 
--- The script was played up to its first line that can't be read: what that gives is printed.
-pub record StopsReplay (c : Configuration) (script : List ℕ) (line : ℕ)
+-- The script was played up to its first line that can't be read: the text of what is shown of that is printed.
+pub record StopsReplay (c : Configuration) (s : Shown) (script : List ℕ) (line : ℕ)
     (old new : Option (List ℕ)) : Type 0 where
-  pub text : List ℕ
-  pub plays : Plays c script text (Some line)
-  pub printed : Appends old new text
+  pub given : List Given
+  pub plays : Plays c script given (Some line)
+  pub printed : Appends old new (shown_text c s given)
 
 -- where a script isn't played to its end, one of its lines can't be read, or memory is wanting, or a read or a write failed
-abbrev pub FailsReplay : Configuration → Option (List ℕ) → Option (List ℕ) → Option (List ℕ)
-    → Failure → Type 0
-FailsReplay c script old new NoMemory = Unit {0}
-FailsReplay c script old new Io = Unit {0}
-FailsReplay c script old new (RefusedLine line fault) =
-    (fault ≡ Text) × IfSome script (λ text. StopsReplay c text line old new)
+abbrev pub FailsReplay : Configuration → Shown → Option (List ℕ) → Option (List ℕ)
+    → Option (List ℕ) → Failure → Type 0
+FailsReplay c s script old new NoMemory = Unit {0}
+FailsReplay c s script old new Io = Unit {0}
+FailsReplay c s script old new (RefusedLine line fault) =
+    (fault ≡ Text) × IfSome script (λ text. StopsReplay c s text line old new)
 
 -- where a line isn't played, it can't be read and prints nothing, or memory is wanting, or a write failed
 abbrev pub FailsLine : Configuration → ℕ → List ℕ → Option (List ℕ) → Option (List ℕ) → Failure
@@ -223,22 +214,22 @@ IsOutside Io = Unit {0}
 IsOutside (RefusedLine line fault) = ⊥
 
 -- The error output has the number of the line that can't be read.
-pub record RefusesReplay (c : Configuration) (script : List ℕ)
+pub record RefusesReplay (c : Configuration) (s : Shown) (script : List ℕ)
     (old new errors_old errors_new : Option (List ℕ)) : Type 0 where
   pub line : ℕ
-  pub stops : StopsReplay c script line old new
+  pub stops : StopsReplay c s script line old new
   pub shown : Appends errors_old errors_new (refused_text (record { line = line; fault = Text }))
 
 -- The script was played by the settings of a file.
-pub record PrintsByFile (script : List ℕ) (old new : Option (List ℕ)) : Type 0 where
+pub record PrintsByFile (s : Shown) (script : List ℕ) (old new : Option (List ℕ)) : Type 0 where
   pub file : List ℕ
   pub settings : FileSettings
   pub gives : TextGives file (Ok settings)
-  pub prints : PrintsReplay settings.settings script old new
+  pub prints : PrintsReplay settings.settings s script old new
 
-pub record RefusesByFile (script : List ℕ)
+pub record RefusesByFile (s : Shown) (script : List ℕ)
     (old new errors_old errors_new : Option (List ℕ)) : Type 0 where
   pub file : List ℕ
   pub settings : FileSettings
   pub gives : TextGives file (Ok settings)
-  pub refuses : RefusesReplay settings.settings script old new errors_old errors_new
+  pub refuses : RefusesReplay settings.settings s script old new errors_old errors_new

@@ -4,8 +4,12 @@
 //! that comes out.
 #![tactic(auto)]
 
+mod latest;
 mod out_text;
+mod printing;
 mod replay;
 mod script;
+mod shown;
 
 pub use replay::replay_lines;
+pub use shown::{Shown, Unknown};

@@ -1,7 +1,7 @@
 //! The text that `sfu replay` prints.
 
 ghost use Rattle.std.specs.Prelude.{◌≡◌, IfOk, string_bytes};
-ghost use Rattle.scripts.specs.Replay.{out_line, refusal_line};
+ghost use Rattle.scripts.specs.OutText.{out_line, refusal_line};
 
 use events::{Out, Refusal};
 use std::alloc::{AllocError, Global};

@@ -18,7 +18,7 @@ mod tests;
 
 pub use learners::{Arrived, Learner, Learners};
 pub use listeners::{Listeners, Standing};
-pub use naming::{is_control, source_named};
+pub use naming::{first_size, is_control, source_named};
 pub use network::{Network, read_network};
 pub use occupancy::{Occupancy, Occupants};
 pub use reports::{EMPTY_REPORT, empty_report, says_goodbye};

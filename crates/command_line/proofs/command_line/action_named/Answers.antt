@@ -12,10 +12,10 @@ returns-in_ok-get_str-in-check c = rw c.in-check.is (asked_check (found_of c.arg
 
 pub returns-in_err-get_str-in-replay : goal.returns-in_err-get_str-in-replay
 returns-in_err-get_str-in-replay c =
-    rw (c.from_residual-in_err-get_str-in-replay.ensures, c.in-replay.is) (asked_replay (found_of c.args.matches.now) None c.in_err-get_str-in-replay.ensures)
+    rw (c.from_residual-in_err-get_str-in-replay.ensures, c.in-replay.is) (asked_replay (found_of c.args.matches.now) None _ _ _ _ c.in_err-get_str-in-replay.ensures refl refl refl refl)
 
 pub returns-in_ok-get_str-in-replay : goal.returns-in_ok-get_str-in-replay
-returns-in_ok-get_str-in-replay c = rw c.in-replay.is (asked_replay (found_of c.args.matches.now) (Some c.in_ok-get_str-in-replay.field-0.now) c.in_ok-get_str-in-replay.ensures)
+returns-in_ok-get_str-in-replay c = rw c.in-replay.is (asked_replay (found_of c.args.matches.now) (Some c.in_ok-get_str-in-replay.field-0.now) _ _ _ _ c.in_ok-get_str-in-replay.ensures c.number_in-in-replay.ensures c.number_in-in-replay-2.ensures c.moment_in.ensures c.is_set.ensures)
 
 pub returns-in_err-get_str-in-serve : goal.returns-in_err-get_str-in-serve
 returns-in_err-get_str-in-serve c =

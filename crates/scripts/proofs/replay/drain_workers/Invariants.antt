@@ -4,8 +4,8 @@ use Rattle.scripts.proofs.ReplayLemmas.{WorkersDrained}
 use Rattle.scripts.proofs.replay.drain_workers.Given as goal
 
 abbrev pub invariant-loop-worker : goal.invariant-loop-worker
-invariant-loop-worker g l = record {
+invariant-loop-worker l = record {
   desks : length l.world.desks ≡ length l.fn.world.desks;
-  drained : WorkersDrained l.workers l.worker l.fn.world l.world (g.O.Write.contents l.fn.writer) (g.O.Write.contents l.writer);
+  drained : WorkersDrained l.workers l.worker l.fn.world l.world l.fn.outs.items l.outs.items;
   ingress : ingress_left l.world ≡ ingress_left l.fn.world;
 }

@@ -4,25 +4,23 @@ use Rattle.core_steps.proofs.SettleLemmas.{ingress_falls}
 use Rattle.scripts.proofs.ReplayLemmas.{rounds_on, rounds_over}
 use Rattle.scripts.proofs.replay.make_rounds.Goals as goal
 
-pub loop-alloc-preserved : goal.loop-alloc-preserved
-loop-alloc-preserved g c =
-    let contents = g.O.Write.contents in
+pub loop-world-preserved : goal.loop-world-preserved
+loop-world-preserved c =
     let done = c.in_ok-step.ensures.done in
     let drained = c.in_ok-drain_workers.ensures.drained in record {
-      desks = c.in_ok-drain_workers.ensures.desks ∙ (c.in_ok-step.ensures.desks ∙ c.loop-alloc.invariant.desks);
-      made = rounds_on c.args.workers c.args.world.now c.loop-alloc.world c.step.new.world c.drain_workers.new.world
-          (contents c.args.writer.now) (contents c.loop-alloc.writer) (contents c.step.new.writer) (contents c.drain_workers.new.writer)
-          done.0 drained.0 (sym c.is_busy.ensures ∙ c.loop-alloc-test.true) c.loop-alloc.invariant.made done.1 done.2 drained.1 drained.2;
+      desks = c.in_ok-drain_workers.ensures.desks ∙ (c.in_ok-step.ensures.desks ∙ c.loop-world.invariant.desks);
+      made = rounds_on c.args.workers c.args.world.now c.loop-world.world c.step.new.world c.drain_workers.new.world
+          c.args.outs.now.items c.loop-world.outs.items c.step.new.outs.items c.drain_workers.new.outs.items
+          done.0 drained.0 (sym c.is_busy.ensures ∙ c.loop-world-test.true) c.loop-world.invariant.made done.1 done.2 drained.1 drained.2;
     }
 
 pub returns-clause-made : goal.returns-clause-made
-returns-clause-made g c =
-    let contents = g.O.Write.contents in
-    rounds_over c.args.workers c.args.world.now c.loop-alloc.world (contents c.args.writer.now) (contents c.loop-alloc.writer)
-    (sym c.is_busy.ensures ∙ c.loop-alloc-test.false) c.loop-alloc.invariant.made
+returns-clause-made c =
+    rounds_over c.args.workers c.args.world.now c.loop-world.world c.args.outs.now.items c.loop-world.outs.items
+    (sym c.is_busy.ensures ∙ c.loop-world-test.false) c.loop-world.invariant.made
 
-pub loop-alloc-smaller : goal.loop-alloc-smaller
-loop-alloc-smaller g c =
+pub loop-world-smaller : goal.loop-world-smaller
+loop-world-smaller c =
     let done = c.in_ok-step.ensures.done in
-    subst (λ (n : ℕ). n < ingress_left c.loop-alloc.world) (sym c.in_ok-drain_workers.ensures.ingress)
-    (ingress_falls c.loop-alloc.world c.step.new.world [] done.0 (sym c.is_busy.ensures ∙ c.loop-alloc-test.true) done.1)
+    subst (λ (n : ℕ). n < ingress_left c.loop-world.world) (sym c.in_ok-drain_workers.ensures.ingress)
+    (ingress_falls c.loop-world.world c.step.new.world [] done.0 (sym c.is_busy.ensures ∙ c.loop-world-test.true) done.1)

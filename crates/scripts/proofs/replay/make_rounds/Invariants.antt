@@ -3,11 +3,11 @@ use Rattle.core_steps.specs.Settling.{ingress_left}
 use Rattle.scripts.proofs.ReplayLemmas.{RoundsMade}
 use Rattle.scripts.proofs.replay.make_rounds.Given as goal
 
-abbrev pub invariant-loop-alloc : goal.invariant-loop-alloc
-invariant-loop-alloc g l = record {
+abbrev pub invariant-loop-world : goal.invariant-loop-world
+invariant-loop-world l = record {
   desks : length l.world.desks ≡ length l.fn.world.desks;
-  made : RoundsMade l.workers l.fn.world l.world (g.O.Write.contents l.fn.writer) (g.O.Write.contents l.writer);
+  made : RoundsMade l.workers l.fn.world l.world l.fn.outs.items l.outs.items;
 }
 
-abbrev pub decreases-loop-alloc : goal.decreases-loop-alloc
-decreases-loop-alloc g l = ingress_left l.world
+abbrev pub decreases-loop-world : goal.decreases-loop-world
+decreases-loop-world l = ingress_left l.world

@@ -5,6 +5,7 @@ use Rattle.scripts.proofs.replay.play_lines.Given as goal
 abbrev pub invariant-loop-line : goal.invariant-loop-line
 invariant-loop-line g l = record {
   counted : l.number ≡ l.line-index;
-  desks : length l.world.desks ≡ length l.settings.endpoints;
-  played : Played l.settings l.text l.line-index (map (λ x. x.now) l.line-items) l.world (g.O.Write.contents l.fn.writer) (g.O.Write.contents l.writer);
+  desks : length l.world.desks ≡ length l.choice.settings.now.endpoints;
+  played : Played l.choice.settings.now l.choice.shown l.text l.line-index (map (λ x. x.now) l.line-items) l.world l.progress
+      (g.O.Write.contents l.fn.writer) (g.O.Write.contents l.writer);
 }

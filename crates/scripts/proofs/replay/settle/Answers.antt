@@ -4,8 +4,7 @@ use Rattle.scripts.proofs.ReplayLemmas.{settled}
 use Rattle.scripts.proofs.replay.settle.Goals as goal
 
 pub returns-clause-settled : goal.returns-clause-settled
-returns-clause-settled g c =
-    let contents = g.O.Write.contents in
+returns-clause-settled c =
     settled c.numbers_of-numbers.result.workers c.args.settings.now.workers c.args.world.now c.drain_ingress.new.world c.drain_workers.new.world
-    (contents c.args.writer.now) (contents c.drain_ingress.new.writer) (contents c.drain_workers.new.writer) c.drain_workers.result
+    c.args.outs.now.items c.drain_ingress.new.outs.items c.drain_workers.new.outs.items c.drain_workers.result
     (ap (λ (n : Numbers). n.workers) c.numbers_of-numbers.ensures) c.in_ok-drain_ingress.ensures.drained c.drain_workers.ensures.drained

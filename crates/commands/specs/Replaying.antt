@@ -1,0 +1,32 @@
+-- What `sfu replay` prints by which words.
+use Rattle.std.specs.Prelude.{◌≡◌, ℕ, Bool, List, Option, Some, Ok, codes, unwrap_or}
+use Rattle.std.specs.Io.KnownBytes.{Appends, Keeps}
+use Rattle.scripts.specs.Shown.{unknown_in}
+use Rattle.scripts.specs.declared.shown.Shown.{Shown}
+use Rattle.scripts.specs.declared.shown.Unknown.{Unknown}
+use Rattle.scripts.specs.declared.shown.Unknown.TheVariants as unknown
+use Rattle.settings_text.specs.SettingsFaults.{TextGives}
+use Rattle.settings_text.specs.declared.settings_file.FileSettings.{FileSettings}
+
+-- what is to be shown by `--only-leg`, `--only-endpoint`, `--from` and `--events`
+abbrev pub shown_by : Option ℕ → Option ℕ → Option ℕ → Bool → Shown
+shown_by leg endpoint from events = record {
+  only_leg = leg;
+  only_endpoint = endpoint;
+  from_ms = unwrap_or from 0;
+  events = events;
+}
+
+abbrev pub unknown_text : Unknown → List ℕ
+unknown_text unknown.Endpoint = codes "refused endpoint\n"
+unknown_text unknown.Leg = codes "refused leg\n"
+
+-- The settings of a file lack the endpoint, or the leg, that is to be shown: nothing is printed, and the error output says which.
+pub record NamesNobody (s : Shown) (old new errors_old errors_new : Option (List ℕ)) : Type 0 where
+  pub file : List ℕ
+  pub settings : FileSettings
+  pub gives : TextGives file (Ok settings)
+  pub whom : Unknown
+  pub lacks : unknown_in settings.settings s ≡ Some whom
+  pub kept : Keeps old new
+  pub said : Appends errors_old errors_new (unknown_text whom)
