@@ -17,6 +17,7 @@ use std::sync::Wait;
 use std::thread::Threads;
 use std::time::Clock;
 use std::{env, io};
+use web::run_page;
 
 fn main(rt: HostRuntime) -> ExitCode {
     let mut errors = rt.stderr();
@@ -27,6 +28,9 @@ fn main(rt: HostRuntime) -> ExitCode {
             match words.as_slice() {
                 [_, ask, path, request @ ..] if ask.as_str() == "ask" => {
                     run_ask(&rt, path.as_str(), request, &mut writer, &mut errors)
+                }
+                [_, page, place @ ..] if page.as_str() == "page" => {
+                    run_page(&rt, place, &mut errors)
                 }
                 [_, version] if version.as_str() == "--version" => {
                     run_version(&mut writer, &mut errors)

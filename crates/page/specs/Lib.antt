@@ -1,0 +1,5 @@
+pub mod Words
+pub mod State
+pub mod Ends
+pub mod Html
+pub mod Answers

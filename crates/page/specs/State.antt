@@ -1,0 +1,118 @@
+-- What a unit is like, as JSON: the words of its answers to `present`, `legs` and `counts`, by their places.
+use Rattle.std.specs.Prelude.{◌≡◌, ℕ, ◌^◌, Option, None, Some, Result, OnOk, List, [], ◌∷◌, ◌++◌, codes, decimal, flat_map, if◌then◌else◌}
+use Rattle.std.specs.Str.{bytes_eq}
+use Rattle.json.specs.Token.{Token, begin_object, end_object, begin_array, end_array, key, string, number, boolean, null}
+use Rattle.json.specs.Written.{Written}
+use Rattle.request_text.specs.Lines.{lines_of}
+use Rattle.request_text.specs.Words.{number_under, words_in}
+use Rattle.page.specs.declared.state.Rows.{Rows}
+use Rattle.page.specs.declared.state.Rows.TheVariants.{Endpoints, Legs, Totals}
+use Rattle.page.specs.Words.{plain_word, word_at}
+
+-- these tokens come behind those that were written
+abbrev pub Tells : {E : Type 0} → Result (Unit {0}) E → Written → Written → List Token → Type 0
+Tells r old new tokens = OnOk r ((new.before ≡ old.before) × (new.tokens ≡ old.tokens ++ tokens))
+
+-- ---- members
+
+abbrev pub number_or_null : Option ℕ → Token
+number_or_null (Some n) = number (decimal n)
+number_or_null None = null
+
+unfoldable pub number_member : List ℕ → List ℕ → List Token
+number_member name word = key name ∷ (number_or_null (number_under (2 ^ 64) word) ∷ [])
+
+unfoldable pub text_member : List ℕ → List ℕ → List Token
+text_member name word = key name ∷ (string (plain_word word) ∷ [])
+
+unfoldable pub switch_member : List ℕ → List ℕ → List ℕ → List Token
+switch_member name word wanted = key name ∷ (boolean (bytes_eq word wanted) ∷ [])
+
+-- ---- N ssrc SSRC at ADDRESS present heard M ms ago
+
+unfoldable pub endpoint_members : List (List ℕ) → List Token
+endpoint_members words =
+    number_member (codes "number") (word_at words 0)
+    ++ (number_member (codes "ssrc") (word_at words 2)
+    ++ (text_member (codes "address") (word_at words 4)
+    ++ (switch_member (codes "present") (word_at words 5) (codes "present")
+    ++ number_member (codes "heard_ago_ms") (word_at words 7))))
+
+abbrev pub endpoint_words : List (List ℕ) → List Token
+endpoint_words words = if bytes_eq (word_at words 1) (codes "ssrc")
+    then begin_object ∷ (endpoint_members words ++ end_object ∷ []) else []
+
+-- ---- N from P to S on stay T packets K octets O resent R missed M next Q
+
+unfoldable pub leg_members : List (List ℕ) → List Token
+leg_members words =
+    number_member (codes "leg") (word_at words 0)
+    ++ (number_member (codes "publisher") (word_at words 2)
+    ++ (number_member (codes "subscriber") (word_at words 4)
+    ++ (switch_member (codes "on") (word_at words 5) (codes "on")
+    ++ number_member (codes "stay") (word_at words 7))))
+
+unfoldable pub flow_members : List (List ℕ) → List Token
+flow_members words =
+    number_member (codes "packets") (word_at words 9)
+    ++ (number_member (codes "octets") (word_at words 11)
+    ++ (number_member (codes "resent") (word_at words 13)
+    ++ (number_member (codes "missed") (word_at words 15)
+    ++ number_member (codes "next") (word_at words 17))))
+
+abbrev pub leg_words : List (List ℕ) → List Token
+leg_words words = if bytes_eq (word_at words 1) (codes "from")
+    then begin_object ∷ (leg_members words ++ (flow_members words ++ end_object ∷ [])) else []
+
+-- ---- present P heard H sent S failed F lost L dropped D strangers T
+
+unfoldable pub totals_members : List (List ℕ) → List Token
+totals_members words =
+    number_member (codes "present") (word_at words 1)
+    ++ (number_member (codes "heard") (word_at words 3)
+    ++ (number_member (codes "sent") (word_at words 5)
+    ++ number_member (codes "failed") (word_at words 7)))
+
+unfoldable pub losses_members : List (List ℕ) → List Token
+losses_members words =
+    number_member (codes "lost") (word_at words 9)
+    ++ (number_member (codes "dropped") (word_at words 11)
+    ++ number_member (codes "strangers") (word_at words 13))
+
+abbrev pub totals_words : List (List ℕ) → List Token
+totals_words words = if bytes_eq (word_at words 0) (codes "present")
+    then totals_members words ++ losses_members words else []
+
+-- ---- lines
+
+abbrev pub words_tokens : Rows → List (List ℕ) → List Token
+words_tokens Endpoints words = endpoint_words words
+words_tokens Legs words = leg_words words
+words_tokens Totals words = totals_words words
+
+abbrev pub line_tokens : Rows → List ℕ → List Token
+line_tokens rows line = words_tokens rows (words_in line)
+
+unfoldable pub array_begun : List ℕ → List Token
+array_begun name = key name ∷ (begin_array ∷ [])
+
+unfoldable pub array_member : List ℕ → Rows → List ℕ → List Token
+array_member name rows text =
+    array_begun name ++ (flat_map (line_tokens rows) (lines_of text) ++ end_array ∷ [])
+
+unfoldable pub counts_begun : List Token
+counts_begun = key (codes "counts") ∷ (begin_object ∷ [])
+
+unfoldable pub counts_member : List ℕ → List Token
+counts_member text =
+    counts_begun ++ (flat_map (line_tokens Totals) (lines_of text) ++ end_object ∷ [])
+
+-- ---- the whole
+
+unfoldable pub state_parts : List ℕ → List ℕ → List ℕ → List Token
+state_parts present legs counts =
+    array_member (codes "endpoints") Endpoints present
+    ++ (array_member (codes "legs") Legs legs ++ counts_member counts)
+
+abbrev pub state_tokens : List ℕ → List ℕ → List ℕ → List Token
+state_tokens present legs counts = begin_object ∷ (state_parts present legs counts ++ end_object ∷ [])

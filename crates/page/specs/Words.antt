@@ -1,0 +1,19 @@
+-- The words of the unit's lines, by their places.
+use Rattle.std.specs.Prelude.{ℕ, ◌==◌, ◌&&◌, ◌||◌, nat_le, Bool, List, [], ◌∷◌, get_or, codes, if◌then◌else◌}
+use Rattle.std.specs.List.{list_all}
+
+-- none is there: no byte
+abbrev pub word_at : List (List ℕ) → ℕ → List ℕ
+word_at words place = get_or words place []
+
+-- a small letter, a digit, a dot, a slash, a colon or a bracket: nothing that HTML or JSON reads as more than itself
+abbrev pub is_plain_byte : ℕ → Bool
+is_plain_byte b =
+    nat_le b 122 && (nat_le 97 b || ((nat_le 46 b && nat_le b 58) || ((b == 91) || (b == 93))))
+
+abbrev pub is_plain : List ℕ → Bool
+is_plain word = list_all is_plain_byte word
+
+-- a word is shown as it is if it is plain
+abbrev pub plain_word : List ℕ → List ℕ
+plain_word word = if is_plain word then word else codes "?"

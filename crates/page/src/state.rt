@@ -1,0 +1,275 @@
+//! What a unit is like, as JSON (RFC 8259).
+
+ghost use Rattle.std.specs.Prelude.{◌≡◌, IfOk, codes, flat_map, map};
+ghost use Rattle.json.specs.Print.{print};
+ghost use Rattle.request_text.specs.Lines.{lines_of};
+ghost use Rattle.page.specs.State.{Tells, array_begun, array_member, counts_begun, counts_member, endpoint_members, endpoint_words, flow_members, leg_members, leg_words, line_tokens, losses_members, number_member, state_parts, state_tokens, switch_member, text_member, totals_members, totals_words, words_tokens};
+
+use crate::words::{plain_word, word_at};
+use json::Writer;
+use request_text::{is_word, lines, number_u64, words_of};
+use std::alloc::{AllocError, Global};
+
+/// What a unit is like, by its answers to `present`, `legs` and `counts`, as a JSON object: `endpoints` and `legs` are arrays of
+/// objects, `counts` is an object, each number is one, and what is no number where one should stand is null. A line that tells of none
+/// of these is passed over. Refused for want of memory alone.
+pub fn state_text(
+    alloc: Global,
+    present: &[u8],
+    legs: &[u8],
+    counts: &[u8],
+) -> Result<Vec<u8>, AllocError>
+    ensures { IfOk result
+        (λ text. text.items ≡ print (state_tokens present.now legs.now counts.now)) }
+{
+    let mut writer = Writer::new(Vec::new(alloc));
+    push_state(alloc, &mut writer, present, legs, counts)?;
+    Ok(writer.into_inner())
+}
+
+/// What the lines of an answer tell of.
+#[derive(Clone, Copy)]
+enum Rows {
+    Endpoints,
+    Legs,
+    Totals,
+}
+
+fn push_state(
+    alloc: Global,
+    writer: &mut Writer,
+    present: &[u8],
+    legs: &[u8],
+    counts: &[u8],
+) -> Result<(), AllocError>
+    ensures { Tells result writer.old writer.new (state_tokens present.now legs.now counts.now) }
+{
+    writer.begin_object()?;
+    push_parts(alloc, writer, present, legs, counts)?;
+    writer.end_object()
+}
+
+#[tactic(auto, unfolding(crate::specs::State::state_parts))]
+fn push_parts(
+    alloc: Global,
+    writer: &mut Writer,
+    present: &[u8],
+    legs: &[u8],
+    counts: &[u8],
+) -> Result<(), AllocError>
+    ensures { Tells result writer.old writer.new (state_parts present.now legs.now counts.now) }
+{
+    push_array(alloc, writer, "endpoints", Rows::Endpoints, present)?;
+    push_array(alloc, writer, "legs", Rows::Legs, legs)?;
+    push_counts(alloc, writer, counts)
+}
+
+/// A member that is an array, with an object for each line that tells of one.
+#[tactic(auto, unfolding(crate::specs::State::array_member))]
+fn push_array(
+    alloc: Global,
+    writer: &mut Writer,
+    name: &str,
+    rows: Rows,
+    text: &[u8],
+) -> Result<(), AllocError>
+    ensures { Tells result writer.old writer.new (array_member name.now rows text.now) }
+{
+    begin_array(writer, name)?;
+    push_rows(alloc, writer, rows, text)?;
+    writer.end_array()
+}
+
+#[tactic(auto, unfolding(crate::specs::State::array_begun))]
+fn begin_array(writer: &mut Writer, name: &str) -> Result<(), AllocError>
+    ensures { Tells result writer.old writer.new (array_begun name.now) }
+{
+    writer.key(name)?;
+    writer.begin_array()
+}
+
+/// `counts`.
+#[tactic(auto, unfolding(crate::specs::State::counts_member))]
+fn push_counts(alloc: Global, writer: &mut Writer, text: &[u8]) -> Result<(), AllocError>
+    ensures { Tells result writer.old writer.new (counts_member text.now) }
+{
+    begin_counts(writer)?;
+    push_rows(alloc, writer, Rows::Totals, text)?;
+    writer.end_object()
+}
+
+#[tactic(auto, unfolding(crate::specs::State::counts_begun))]
+fn begin_counts(writer: &mut Writer) -> Result<(), AllocError>
+    ensures { Tells result writer.old writer.new counts_begun }
+{
+    writer.key("counts")?;
+    writer.begin_object()
+}
+
+/// What each line of a text tells of.
+fn push_rows(alloc: Global, writer: &mut Writer, rows: Rows, text: &[u8]) -> Result<(), AllocError>
+    ensures { Tells result writer.old writer.new (flat_map (line_tokens rows) (lines_of text.now)) }
+{
+    let lines = lines(alloc, text)?;
+    push_lines(alloc, writer, rows, lines.as_slice())
+}
+
+fn push_lines(
+    alloc: Global,
+    writer: &mut Writer,
+    rows: Rows,
+    lines: &[&[u8]],
+) -> Result<(), AllocError>
+    ensures { Tells result writer.old writer.new
+        (flat_map (λ x. line_tokens rows x.now) lines.now) }
+{
+    for line in lines {
+        push_line(alloc, writer, rows, line)?;
+    }
+    Ok(())
+}
+
+/// What a line tells of.
+fn push_line(alloc: Global, writer: &mut Writer, rows: Rows, line: &[u8]) -> Result<(), AllocError>
+    ensures { Tells result writer.old writer.new (line_tokens rows line.now) }
+{
+    let words = words_of(alloc, line)?;
+    push_words(writer, rows, words.as_slice())
+}
+
+/// What these words tell of.
+fn push_words(writer: &mut Writer, rows: Rows, words: &[&[u8]]) -> Result<(), AllocError>
+    ensures { Tells result writer.old writer.new
+        (words_tokens rows (map (λ x. x.now) words.now)) }
+{
+    match rows {
+        Rows::Endpoints => push_endpoint(writer, words),
+        Rows::Legs => push_leg(writer, words),
+        Rows::Totals => push_total(writer, words),
+    }
+}
+
+/// The object of the endpoint that these words tell of.
+fn push_endpoint(writer: &mut Writer, words: &[&[u8]]) -> Result<(), AllocError>
+    ensures { Tells result writer.old writer.new (endpoint_words (map (λ x. x.now) words.now)) }
+{
+    if !is_word(word_at(words, 1), b"ssrc") {
+        return Ok(());
+    }
+    writer.begin_object()?;
+    push_endpoint_members(writer, words)?;
+    writer.end_object()
+}
+
+#[tactic(auto, unfolding(crate::specs::State::endpoint_members))]
+fn push_endpoint_members(writer: &mut Writer, words: &[&[u8]]) -> Result<(), AllocError>
+    ensures { Tells result writer.old writer.new (endpoint_members (map (λ x. x.now) words.now)) }
+{
+    push_number(writer, "number", word_at(words, 0))?;
+    push_number(writer, "ssrc", word_at(words, 2))?;
+    push_text(writer, "address", word_at(words, 4))?;
+    push_switch(writer, "present", word_at(words, 5), b"present")?;
+    push_number(writer, "heard_ago_ms", word_at(words, 7))
+}
+
+/// The object of the leg that these words tell of.
+fn push_leg(writer: &mut Writer, words: &[&[u8]]) -> Result<(), AllocError>
+    ensures { Tells result writer.old writer.new (leg_words (map (λ x. x.now) words.now)) }
+{
+    if !is_word(word_at(words, 1), b"from") {
+        return Ok(());
+    }
+    writer.begin_object()?;
+    push_leg_members(writer, words)?;
+    push_flow_members(writer, words)?;
+    writer.end_object()
+}
+
+#[tactic(auto, unfolding(crate::specs::State::leg_members))]
+fn push_leg_members(writer: &mut Writer, words: &[&[u8]]) -> Result<(), AllocError>
+    ensures { Tells result writer.old writer.new (leg_members (map (λ x. x.now) words.now)) }
+{
+    push_number(writer, "leg", word_at(words, 0))?;
+    push_number(writer, "publisher", word_at(words, 2))?;
+    push_number(writer, "subscriber", word_at(words, 4))?;
+    push_switch(writer, "on", word_at(words, 5), b"on")?;
+    push_number(writer, "stay", word_at(words, 7))
+}
+
+/// What went out on a leg.
+#[tactic(auto, unfolding(crate::specs::State::flow_members))]
+fn push_flow_members(writer: &mut Writer, words: &[&[u8]]) -> Result<(), AllocError>
+    ensures { Tells result writer.old writer.new (flow_members (map (λ x. x.now) words.now)) }
+{
+    push_number(writer, "packets", word_at(words, 9))?;
+    push_number(writer, "octets", word_at(words, 11))?;
+    push_number(writer, "resent", word_at(words, 13))?;
+    push_number(writer, "missed", word_at(words, 15))?;
+    push_number(writer, "next", word_at(words, 17))
+}
+
+/// The members of the totals that these words tell of.
+fn push_total(writer: &mut Writer, words: &[&[u8]]) -> Result<(), AllocError>
+    ensures { Tells result writer.old writer.new (totals_words (map (λ x. x.now) words.now)) }
+{
+    if !is_word(word_at(words, 0), b"present") {
+        return Ok(());
+    }
+    push_totals_members(writer, words)?;
+    push_losses_members(writer, words)
+}
+
+#[tactic(auto, unfolding(crate::specs::State::totals_members))]
+fn push_totals_members(writer: &mut Writer, words: &[&[u8]]) -> Result<(), AllocError>
+    ensures { Tells result writer.old writer.new (totals_members (map (λ x. x.now) words.now)) }
+{
+    push_number(writer, "present", word_at(words, 1))?;
+    push_number(writer, "heard", word_at(words, 3))?;
+    push_number(writer, "sent", word_at(words, 5))?;
+    push_number(writer, "failed", word_at(words, 7))
+}
+
+/// What was lost, and what came from nobody.
+#[tactic(auto, unfolding(crate::specs::State::losses_members))]
+fn push_losses_members(writer: &mut Writer, words: &[&[u8]]) -> Result<(), AllocError>
+    ensures { Tells result writer.old writer.new (losses_members (map (λ x. x.now) words.now)) }
+{
+    push_number(writer, "lost", word_at(words, 9))?;
+    push_number(writer, "dropped", word_at(words, 11))?;
+    push_number(writer, "strangers", word_at(words, 13))
+}
+
+/// A member that is the number that a word spells, or null.
+#[tactic(auto, unfolding(crate::specs::State::number_member))]
+fn push_number(writer: &mut Writer, name: &str, word: &[u8]) -> Result<(), AllocError>
+    ensures { Tells result writer.old writer.new (number_member name.now word.now) }
+{
+    writer.key(name)?;
+    match number_u64(word) {
+        Some(number) => writer.u64(number),
+        None => writer.null(),
+    }
+}
+
+/// A member that is a text.
+#[tactic(auto, unfolding(crate::specs::State::text_member))]
+fn push_text(writer: &mut Writer, name: &str, word: &[u8]) -> Result<(), AllocError>
+    ensures { Tells result writer.old writer.new (text_member name.now word.now) }
+{
+    writer.key(name)?;
+    writer.string(plain_word(word))
+}
+
+/// A member that says whether the word is this one.
+#[tactic(auto, unfolding(crate::specs::State::switch_member))]
+fn push_switch(
+    writer: &mut Writer,
+    name: &str,
+    word: &[u8],
+    wanted: &[u8],
+) -> Result<(), AllocError>
+    ensures { Tells result writer.old writer.new (switch_member name.now word.now wanted.now) }
+{
+    writer.key(name)?;
+    writer.boolean(is_word(word, wanted))
+}

@@ -1,0 +1,42 @@
+//! The words of the unit's lines, by their places.
+
+ghost use Rattle.std.specs.Prelude.{◌≡◌, ◌<◌, map};
+ghost use Rattle.std.specs.List.{list_all};
+ghost use Rattle.page.specs.Words.{is_plain, is_plain_byte, plain_word, word_at};
+
+/// The word at a place from 0 on; an empty one where there is none.
+pub(crate) fn word_at<'a>(words: &[&'a [u8]], place: usize) -> &'a [u8]
+    ensures { result.now ≡ word_at (map (λ x. x.now) words.now) place }
+{
+    match words.get(place) {
+        Some(word) => word,
+        None => b"",
+    }
+}
+
+/// The word, if it is plain, else a question mark. What is plain has small letters, digits, dots, slashes, colons and brackets
+/// alone: it stands in HTML and in JSON as it is.
+pub(crate) fn plain_word(word: &[u8]) -> &str
+    ensures { result.now ≡ plain_word word.now }
+{
+    if !is_plain(word) {
+        return "?";
+    }
+    match str::from_utf8(word) {
+        Ok(text) => text,
+        Err(_) => "?",
+    }
+}
+
+/// Whether each byte is plain.
+fn is_plain(word: &[u8]) -> bool
+    ensures { result ≡ is_plain word.now }
+{
+    word.iter().all(|byte| is_plain_byte(*byte))
+}
+
+fn is_plain_byte(byte: u8) -> bool
+    ensures { result ≡ is_plain_byte byte }
+{
+    byte <= b'z' && (byte >= b'a' || (byte >= b'.' && byte <= b':') || byte == b'[' || byte == b']')
+}

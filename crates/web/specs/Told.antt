@@ -1,0 +1,54 @@
+-- What a client is sent: the answer of `page`, as a response of HTTP.
+use Rattle.std.specs.Prelude.{◌≡◌, ℕ, Option, List, [], ◌∷◌, ◌++◌, codes}
+use Rattle.http.specs.declared.request.Request.{Request}
+use Rattle.http.specs.Request.{head_of}
+use Rattle.http1.specs.Fields.{Header}
+use Rattle.http_server.specs.declared.response.Response.{Response}
+use Rattle.http_server.specs.Response.{IsResponse}
+use Rattle.http_uri.specs.Uri.{uri_path}
+use Rattle.page.specs.declared.answer.Kind.{Kind}
+use Rattle.page.specs.declared.answer.Kind.TheVariants as kind
+use Rattle.page.specs.declared.answer.Said.{Said}
+use Rattle.page.specs.declared.answer.Verdict.{Verdict}
+use Rattle.page.specs.declared.answer.Verdict.TheVariants.{Fine, Absent, Unallowed, Silent}
+use Rattle.page.specs.Answers.{Seen, answer_for, asked_by}
+use Rattle.web.specs.declared.teller.TheConstants.{POLICY}
+
+-- RFC 9110, section 15
+abbrev pub status_number : Verdict → ℕ
+status_number Fine = 200
+status_number Absent = 404
+status_number Unallowed = 405
+status_number Silent = 503
+
+abbrev pub kind_text : Kind → List ℕ
+kind_text kind.Html = codes "text/html; charset=utf-8"
+kind_text kind.Metrics = codes "text/plain; version=0.0.4; charset=utf-8"
+kind_text kind.Json = codes "application/json"
+kind_text kind.Plain = codes "text/plain; charset=utf-8"
+
+-- one answer a connection
+abbrev pub kind_fields : List ℕ → List Header
+kind_fields text = (codes "content-type", text) ∷ ((codes "connection", codes "close") ∷ [])
+
+-- RFC 9110, section 15.5.6; RFC 9111, section 5.2.2.5
+abbrev pub handling_fields : List Header
+handling_fields = (codes "allow", codes "GET, HEAD") ∷ ((codes "cache-control", codes "no-store") ∷ [])
+
+abbrev pub guard_fields : List Header
+guard_fields =
+    (codes "content-security-policy", POLICY.now)
+    ∷ ((codes "x-content-type-options", codes "nosniff") ∷ [])
+
+abbrev pub fields_for : Kind → List Header
+fields_for k = kind_fields (kind_text k) ++ (handling_fields ++ guard_fields)
+
+-- the response has the status, the kind and the body of the answer
+abbrev pub IsSent : Seen → Response → Type 0
+IsSent seen response =
+    IsResponse (status_number seen.verdict) (fields_for seen.kind) seen.body response
+
+-- the response is the answer to the method and the path of the request, by what the unit said last
+abbrev pub IsTold : Option Said → Request (List ℕ) → Response → Type 0
+IsTold said request response =
+    IsSent (answer_for (asked_by (head_of request).method (uri_path (head_of request).uri)) said) response

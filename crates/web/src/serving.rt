@@ -1,0 +1,242 @@
+//! `sfu page PATH ADDRESS`: the loop that asks a unit and answers those who come, in one thread.
+
+use crate::inquiry::{Inquiry, Step};
+use crate::teller::Teller;
+use crate::visitors::Visitors;
+use endings::{Status, say, say_no_memory, unsaid};
+use std::alloc::Global;
+use std::convert::AsStr;
+use std::hash::RandomState;
+use std::io::Write;
+use std::net::{Net, SocketAddr, TcpListener, TcpStream};
+use std::os::unix::net::UnixStream;
+use std::random::RandomSource;
+use std::sync::Wait;
+use std::thread;
+use std::time::{Clock, Duration, Instant};
+
+/// So many milliseconds lie between two inquiries.
+const ASK_EACH_MS: u64 = 1_000;
+
+/// So many milliseconds lie between two looks at all that may have come.
+const LOOK_EACH_MS: u64 = 5;
+
+/// So many visitors are admitted at one look.
+const ADMITTED: u32 = 16;
+
+/// Why there is no page.
+#[derive(Clone, Copy)]
+enum PageFault {
+    /// The words aren't `PATH ADDRESS`, or `PATH ADDRESS --anyone`.
+    Words,
+    /// The address is no loopback address, and `--anyone` isn't there.
+    Anyone,
+    /// The address can't be had.
+    Socket,
+}
+
+/// What a page is of, and where it is.
+#[derive(Clone, Copy)]
+struct Place<'a> {
+    /// Where the unit is steered.
+    path: &'a str,
+    address: SocketAddr,
+}
+
+/// Serves a page of the unit that is steered at a path: the words are `PATH ADDRESS`, and `--anyone` if the address is no loopback
+/// address. Says `page ADDRESS` on the error output once it listens, and doesn't return then.
+pub fn run_page<
+    R: AllocGlobal + Net<Listener = TcpListener, Stream = TcpStream> + Wait + Clock + RandomSource,
+    S: AsStr,
+    E: Write,
+>(rt: &R, words: &[S], errors: &mut E) -> Status {
+    match place_in(words) {
+        Ok(place) => serve(rt, place, errors),
+        Err(fault) => say_fault(errors, fault),
+    }
+}
+
+/// What the words ask for.
+fn place_in<S: AsStr>(words: &[S]) -> Result<Place<'_>, PageFault> {
+    let (path, address, anyone) = match words {
+        [path, address] => (path, address, false),
+        [path, address, word] if word.as_str() == "--anyone" => (path, address, true),
+        _ => return Err(PageFault::Words),
+    };
+    let Ok(address) = address.as_str().parse::<SocketAddr>() else {
+        return Err(PageFault::Words);
+    };
+    if !anyone && !address.ip().is_loopback() {
+        return Err(PageFault::Anyone);
+    }
+    Ok(Place {
+        path: path.as_str(),
+        address,
+    })
+}
+
+/// Why there is no page, on the error output.
+fn say_fault<E: Write>(errors: &mut E, fault: PageFault) -> Status {
+    match fault {
+        PageFault::Words => say(
+            errors,
+            b"usage: sfu page PATH ADDRESS [--anyone]\n",
+            Status::CommandLine,
+        ),
+        PageFault::Anyone => say(
+            errors,
+            b"page: not a loopback address; with --anyone whoever reaches it may look\n",
+            Status::CommandLine,
+        ),
+        PageFault::Socket => say(errors, b"socket\n", Status::Socket),
+    }
+}
+
+/// Listens, and serves.
+fn serve<
+    R: AllocGlobal + Net<Listener = TcpListener, Stream = TcpStream> + Wait + Clock + RandomSource,
+    E: Write,
+>(rt: &R, place: Place<'_>, errors: &mut E) -> Status {
+    let Ok(listener) = TcpListener::bind(rt, place.address) else {
+        return say_fault(errors, PageFault::Socket);
+    };
+    match (listener.set_nonblocking(true), listener.local_addr()) {
+        (Ok(()), Ok(address)) => match say_address(rt.alloc(), errors, address) {
+            Ok(()) => {
+                serve_at(rt, place.path, &listener);
+                say(errors, b"io\n", Status::Io)
+            }
+            Err(status) => status,
+        },
+        _ => say_fault(errors, PageFault::Socket),
+    }
+}
+
+/// Says where it listens; else how the command ends.
+fn say_address<E: Write>(alloc: Global, errors: &mut E, address: SocketAddr) -> Result<(), Status> {
+    match format!(in alloc; "page {address}\n") {
+        Ok(text) => match errors.write_all(text.as_bytes()) {
+            Ok(()) => Ok(()),
+            Err(error) => Err(unsaid(&error)),
+        },
+        Err(_) => Err(say_no_memory(errors)),
+    }
+}
+
+/// A page that is served: what the unit says, and those who came.
+#[derive(Drop)]
+struct Page {
+    alloc: Global,
+    start: Instant,
+    inquiry: Option<Inquiry<UnixStream>>,
+    /// The moment from which on the unit is asked again.
+    due_ms: u64,
+    teller: Teller,
+    visitors: Visitors<TcpStream>,
+}
+
+/// A page that begins; `None` where there is no clock or no random source.
+fn begin<R: AllocGlobal + Clock + RandomSource>(rt: &R) -> Option<Page> {
+    let start = Instant::now(rt).ok()?;
+    let keys = RandomState::new(rt).ok()?;
+    let alloc = rt.alloc();
+    Some(Page {
+        alloc,
+        start,
+        inquiry: None,
+        due_ms: 0,
+        teller: Teller::new(alloc),
+        visitors: Visitors::new(alloc, keys),
+    })
+}
+
+/// Asks the unit and answers those who come, turn by turn. Ends only where the clock or the random source fails.
+fn serve_at<R: AllocGlobal + Net + Wait + Clock + RandomSource>(
+    rt: &R,
+    path: &str,
+    listener: &TcpListener,
+) {
+    let Some(mut page) = begin(rt) else {
+        return;
+    };
+    for _ in rt.forever() {
+        if !page.turn(rt, path, listener) {
+            return;
+        }
+        thread::sleep(rt, Duration::from_millis(LOOK_EACH_MS));
+    }
+    unreachable!()
+}
+
+impl Page {
+    /// Admits those who came, goes on asking the unit, and looks at each visitor. Says whether there is a clock.
+    fn turn<R: Net + Clock>(&mut self, rt: &R, path: &str, listener: &TcpListener) -> bool {
+        let Some(moment) = self.moment(rt) else {
+            return false;
+        };
+        self.admit(listener, moment);
+        self.ask(rt, path, moment);
+        self.visitors.look(&mut self.teller, moment);
+        true
+    }
+
+    /// How many milliseconds went by since it began.
+    fn moment<R: Clock>(&self, rt: &R) -> Option<u64> {
+        let now = Instant::now(rt).ok()?;
+        u64::try_from(now.saturating_duration_since(self.start).as_millis()).ok()
+    }
+
+    /// Those who came are visitors from now on.
+    fn admit(&mut self, listener: &TcpListener, moment: u64) {
+        for _visitor in 0..ADMITTED {
+            let Ok((stream, _)) = listener.accept() else {
+                return;
+            };
+            if stream.set_nonblocking(true).is_ok() {
+                self.visitors.admit(stream, moment);
+            }
+        }
+    }
+
+    /// Goes on with the inquiry, or begins one that is due; what was heard is told from then on.
+    fn ask<R: Net>(&mut self, rt: &R, path: &str, moment: u64) {
+        match &mut self.inquiry {
+            Some(inquiry) => {
+                let step = inquiry.step(moment);
+                self.note(step);
+            }
+            None => {
+                if moment >= self.due_ms {
+                    self.due_ms = moment.saturating_add(ASK_EACH_MS);
+                    self.begin_inquiry(rt, path, moment);
+                }
+            }
+        }
+    }
+
+    fn begin_inquiry<R: Net>(&mut self, rt: &R, path: &str, moment: u64) {
+        match connected(rt, path) {
+            Some(stream) => self.inquiry = Some(Inquiry::new(self.alloc, stream, moment)),
+            None => self.teller.hear(None),
+        }
+    }
+
+    /// The inquiry came so far.
+    fn note(&mut self, step: Step) {
+        if matches!(step, Step::Asking) {
+            return;
+        }
+        let said = match self.inquiry.take() {
+            Some(inquiry) if matches!(step, Step::Answered) => Some(inquiry.into_said()),
+            _ => None,
+        };
+        self.teller.hear(said);
+    }
+}
+
+/// A stream to the unit at the path, for which nobody waits.
+fn connected<R: Net>(rt: &R, path: &str) -> Option<UnixStream> {
+    let stream = UnixStream::connect(rt, path).ok()?;
+    stream.set_nonblocking(true).ok()?;
+    Some(stream)
+}

@@ -1,0 +1,153 @@
+//! Who answers a request by what the unit said last.
+
+ghost use Rattle.std.specs.Prelude.{◌≡◌, [], ◌∷◌, ◌++◌, IsTrue, OnOk};
+ghost use Rattle.http_header.specs.FieldValue.{is_visible_text};
+ghost use Rattle.http_header.specs.FieldName.{is_header_name};
+ghost use Rattle.http_server.specs.Response.{IsBlank, fields_of};
+ghost use Rattle.page.specs.Answers.{answer_seen};
+ghost use Rattle.web.specs.Told.{IsSent, fields_for, guard_fields, handling_fields, kind_fields, kind_text, status_number};
+
+use bytes::{BufMut, Bytes};
+use http::{HeaderName, HeaderValue, Request, StatusCode};
+use http_server::{Response, Service};
+use page::{Answer, Kind, Said, Verdict, answer_to, asked_for};
+use std::alloc::{AllocError, Global};
+
+/// What a browser may do with the page: it runs the page's own script, by its SHA-256, and loads nothing from elsewhere.
+const POLICY: &str = "default-src 'none'; style-src 'unsafe-inline'; \
+    script-src 'sha256-PPs51WdLNGXXcE6+qZvWpd7KZd/DLdYWCXYwX5uYnbc='; connect-src 'self'; img-src 'self'";
+
+/// Answers requests by what a unit said last.
+#[derive(Drop)]
+pub struct Teller {
+    alloc: Global,
+    said: Option<Said>,
+}
+
+impl Teller {
+    ghost use Rattle.std.specs.Prelude.{◌≡◌, None, Some};
+
+    /// Of a unit that said nothing yet.
+    pub fn new(alloc: Global) -> Teller
+        ensures { result.said ≡ None }
+    {
+        Teller { alloc, said: None }
+    }
+
+    /// The unit said this; `None` if it says nothing any more.
+    pub fn hear(&mut self, said: Option<Said>)
+        ensures { self.new.said ≡ said }
+    {
+        self.said = said;
+    }
+}
+
+impl Service for Teller {
+    ghost use Rattle.std.specs.Prelude.{◌≡◌};
+    ghost use Rattle.web.specs.Told.{IsTold};
+
+    ghost answers = { λ old request response new. (new ≡ old) × IsTold old.said request response };
+
+    fn call(
+        &mut self,
+        request: &Request<Bytes>,
+        response: &mut Response,
+    ) -> Result<(), AllocError> {
+        let path = request.uri().path().as_bytes();
+        let asked = asked_for(request.method().as_str().as_bytes(), path);
+        let answer = answer_to(self.alloc, asked, &self.said)?;
+        tell(response, &answer)
+    }
+}
+
+/// Fills the response with an answer.
+fn tell(response: &mut Response, answer: &Answer) -> Result<(), AllocError>
+    requires { IsBlank response.old }
+    ensures { OnOk result (IsSent (answer_seen answer.now) response.new) }
+{
+    response.status = status_of(answer.verdict);
+    push_fields(response, answer.kind)?;
+    response.body.put_slice(answer.body.as_slice())
+}
+
+/// The header fields of an answer of this kind.
+fn push_fields(response: &mut Response, kind: Kind) -> Result<(), AllocError>
+    ensures fields { OnOk result
+        (fields_of response.new ≡ fields_of response.old ++ fields_for kind) }
+    ensures status { response.new.status ≡ response.old.status }
+    ensures body { response.new.body ≡ response.old.body }
+{
+    push_kind(response, kind_text(kind))?;
+    push_handling(response)?;
+    push_guards(response)
+}
+
+/// What it is, and that no other comes after it.
+fn push_kind(response: &mut Response, kind: &'static str) -> Result<(), AllocError>
+    requires { IsTrue (is_visible_text kind.now) }
+    ensures fields { OnOk result (fields_of response.new ≡ fields_of response.old ++ kind_fields kind.now) }
+    ensures status { response.new.status ≡ response.old.status }
+    ensures body { response.new.body ≡ response.old.body }
+{
+    add(response, "content-type", kind)?;
+    add(response, "connection", "close")
+}
+
+/// By which methods it is had, and that it is kept nowhere.
+fn push_handling(response: &mut Response) -> Result<(), AllocError>
+    ensures fields { OnOk result (fields_of response.new ≡ fields_of response.old ++ handling_fields) }
+    ensures status { response.new.status ≡ response.old.status }
+    ensures body { response.new.body ≡ response.old.body }
+{
+    add(response, "allow", "GET, HEAD")?;
+    add(response, "cache-control", "no-store")
+}
+
+/// That it loads nothing from elsewhere, and is of the kind that it says.
+fn push_guards(response: &mut Response) -> Result<(), AllocError>
+    ensures fields { OnOk result (fields_of response.new ≡ fields_of response.old ++ guard_fields) }
+    ensures status { response.new.status ≡ response.old.status }
+    ensures body { response.new.body ≡ response.old.body }
+{
+    add(response, "content-security-policy", POLICY)?;
+    add(response, "x-content-type-options", "nosniff")
+}
+
+/// A header field.
+fn add(response: &mut Response, name: &'static str, value: &'static str) -> Result<(), AllocError>
+    requires name { IsTrue (is_header_name name.now) }
+    requires value { IsTrue (is_visible_text value.now) }
+    ensures fields { OnOk result
+        (fields_of response.new ≡ fields_of response.old ++ (name.now, value.now) ∷ []) }
+    ensures status { response.new.status ≡ response.old.status }
+    ensures body { response.new.body ≡ response.old.body }
+{
+    response.add_header(
+        HeaderName::from_static(name),
+        HeaderValue::from_static(value),
+    )
+}
+
+fn status_of(verdict: Verdict) -> StatusCode
+    ensures { result ≡ status_number verdict }
+{
+    match verdict {
+        Verdict::Fine => StatusCode::OK,
+        Verdict::Absent => StatusCode::NOT_FOUND,
+        Verdict::Unallowed => StatusCode::METHOD_NOT_ALLOWED,
+        Verdict::Silent => StatusCode::SERVICE_UNAVAILABLE,
+    }
+}
+
+/// The media type of a kind.
+fn kind_text(kind: Kind) -> &'static str
+    ensures text { result.now ≡ kind_text kind }
+    ensures visible { IsTrue (is_visible_text result.now) }
+{
+    match kind {
+        Kind::Html => "text/html; charset=utf-8",
+        Kind::Metrics => "text/plain; version=0.0.4; charset=utf-8",
+        Kind::Json => "application/json",
+        Kind::Plain => "text/plain; charset=utf-8",
+    }
+}
