@@ -1,5 +1,6 @@
 /*
- * Plays a script of `sfu replay` over libsfu, as examples/rust's replay does, and prints the same:
+ * Plays a script of `sfu replay` over libsfu, as examples/rust's replay does, and prints the same: what is sent, and for each `show` the
+ * set, what is live, and the certificate.
  *
  *     driver SETTINGS [NUMBER] < SCRIPT
  *
@@ -36,15 +37,62 @@ void *__wrap_realloc(void *at, size_t size) { return fails() ? NULL : __real_rea
 static void closed(sfu_conference *slot) {
     uint8_t room[4] = {1, 2, 3, 4};
     sfu_request request = {1, 2, 3, 4};
+    sfu_kept kept = {.place = 7};
+    sfu_implied implied = {.place = 7};
     assert(sfu_hear(slot, 0, 0, room, 4) == SFU_IS_CLOSED && sfu_tick(slot, 0) == SFU_IS_CLOSED);
     assert(sfu_select(slot, 0, 0, true) == SFU_IS_CLOSED && sfu_settle(slot) == SFU_IS_CLOSED);
     assert(sfu_next_out(slot, room, 4).fault == SFU_IS_CLOSED && room[0] == 1);
     assert(sfu_announced(slot, 0, &request, 1).fault == SFU_IS_CLOSED && request.ssrc == 1);
+    assert(sfu_certified(slot, 0, &request, 1, &kept, 1, &implied, 1).fault == SFU_IS_CLOSED && request.ssrc == 1);
+    assert(kept.place == 7 && implied.place == 7);
     assert(sfu_waiting(slot).fault == SFU_IS_CLOSED && sfu_close(slot) == SFU_IS_CLOSED);
 }
 
 static unsigned long word(const sfu_request *r) {
     return (unsigned long)r->exponent << 26 | (unsigned long)r->mantissa << 9 | r->overhead;
+}
+
+/* Memory for so many elements; of none, too. */
+static void *room_of(size_t count, size_t size) {
+    void *at = calloc(count + !count, size);
+    assert(at);
+    return at;
+}
+
+/* Prints what is live, and the certificate. Each array is just as long as it has to be, after one that is an element too short. */
+static void certify(sfu_conference *slot, unsigned endpoint) {
+    uint16_t number = (uint16_t)endpoint;
+    sfu_request no_request;
+    sfu_kept no_kept;
+    sfu_implied no_implied;
+    sfu_certificate told = sfu_certified(slot, number, &no_request, 0, &no_kept, 0, &no_implied, 0);
+    size_t count = told.live, keeps = told.kept, implies = told.implied;
+    sfu_request *live = room_of(count, sizeof *live);
+    sfu_kept *kept = room_of(keeps, sizeof *kept);
+    sfu_implied *implied = room_of(implies, sizeof *implied);
+    assert(told.fault == (count ? SFU_NO_ROOM : SFU_DONE) && keeps + implies == count);
+    if (count)
+        assert(sfu_certified(slot, number, live, count - 1, kept, keeps, implied, implies).fault == SFU_NO_ROOM);
+    if (keeps)
+        assert(sfu_certified(slot, number, live, count, kept, keeps - 1, implied, implies).fault == SFU_NO_ROOM);
+    if (implies)
+        assert(sfu_certified(slot, number, live, count, kept, keeps, implied, implies - 1).fault == SFU_NO_ROOM);
+    told = sfu_certified(slot, number, live, count, kept, keeps, implied, implies);
+    assert(told.fault == SFU_DONE && told.live == count && told.kept == keeps && told.implied == implies);
+    printf("live");
+    for (size_t k = 0; k < count; k++)
+        printf(" %08lx %08lx", (unsigned long)live[k].ssrc, word(&live[k]));
+    printf("\n");
+    for (size_t k = 0; k < keeps; k++)
+        printf("kept %lu %016llx%016llx %016llx%016llx %lu\n", (unsigned long)kept[k].place, (unsigned long long)kept[k].packets_high,
+               (unsigned long long)kept[k].packets_low, (unsigned long long)kept[k].bits_high, (unsigned long long)kept[k].bits_low,
+               (unsigned long)kept[k].seconds);
+    for (size_t k = 0; k < implies; k++)
+        printf("implied %lu %lu %lu %lu %lu %lu\n", (unsigned long)implied[k].place, (unsigned long)implied[k].a,
+               (unsigned long)implied[k].b, (unsigned long)implied[k].p, (unsigned long)implied[k].q, (unsigned long)implied[k].r);
+    free(live);
+    free(kept);
+    free(implied);
 }
 
 static void show(sfu_conference *slot, unsigned endpoint) {
@@ -64,6 +112,8 @@ static void show(sfu_conference *slot, unsigned endpoint) {
         printf(" %08lx %08lx", (unsigned long)room[k].ssrc, word(&room[k]));
     printf("\n");
     free(room);
+    if (set.fault == SFU_DONE)
+        certify(slot, endpoint);
 }
 
 /* Prints what is to be sent. Each buffer is just as long as the datagram, after one that is a byte too short. */

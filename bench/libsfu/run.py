@@ -19,6 +19,9 @@ import time
 from pathlib import Path
 
 HERE = Path(__file__).resolve().parent
+sys.path.insert(0, str(HERE.parent / "tmmbr_c"))
+import model  # noqa: E402
+
 TOP = HERE.parent.parent
 CRATE = TOP / "crates/sfu_c"
 SFU = os.environ.get("SFU", str(TOP / "sfu")).split()
@@ -175,7 +178,29 @@ def told_by_replay(text):
 
 
 def told_by_caller(text):
-    return [re.sub(r"^set \d+", "set", line).strip() for line in text.splitlines() if line != "begin"]
+    """The same, as the caller printed it, and the certificates that stand beside the sets."""
+    lines, certificates = [], []
+    for line in text.splitlines():
+        if line.startswith(("live", "kept", "implied")):
+            certificates.append(line)
+        elif line != "begin":
+            lines.append(re.sub(r"^set \d+", "set", line).strip())
+    return lines, certificates
+
+
+def wanted_certificates(text):
+    """For what is live the certificate that bench/tmmbr_c's model finds by the definitions, as callers print it."""
+    lines = []
+    for line in text.splitlines():
+        if not line.startswith("live"):
+            continue
+        numbers = [int(number, 16) for number in line.split()[1:]]
+        live = [(ssrc, word >> 26, word >> 9 & 0x1FFFF, word & 0x1FF) for ssrc, word in zip(numbers[::2], numbers[1::2])]
+        kept, implied = model.certificate(live, model.announced(live))
+        lines.append(line)
+        lines += [f"kept {place} {packets:032x} {bits:032x} {seconds}" for (packets, bits, seconds), place in kept]
+        lines += [" ".join(map(str, ["implied", *entry])) for entry in implied]
+    return lines
 
 
 def compare_replay(at, scripts, seed):
@@ -185,22 +210,27 @@ def compare_replay(at, scripts, seed):
     one.write_text((TOP / "examples/room.toml").read_text().replace("workers = 2", "workers = 1"))
     rng = random.Random(seed)
     cases = [(one, (TOP / "examples/room.script").read_text())] + [(settings, some_script(rng, 200)) for _ in range(scripts)]
-    sends = sets = 0
+    sends = sets = shown = 0
     for number, (at_settings, script) in enumerate(cases):
         wanted = told_by_replay(output(*SFU, "replay", at_settings, input=script))
         callers = [[at / "driver"], [at / "driver_asan"]] + [[at / "replay"]] * (at / "replay").exists()
         if number < 3 and shutil.which("valgrind"):
             callers.append(["valgrind", "-q", "--error-exitcode=9", "--leak-check=full", at / "driver"])
         for caller in callers:
-            told = told_by_caller(output(*caller, at_settings, input=script))
+            text = output(*caller, at_settings, input=script)
+            told, certificates = told_by_caller(text)
+            if certificates != wanted_certificates(text):
+                sys.exit(f"script {number}, {caller}: not the certificates of the model")
             if told != wanted:
                 (at / "wanted").write_text("\n".join(wanted))
                 (at / "told").write_text("\n".join(told))
                 sys.exit(f"script {number}, {caller}: not what `sfu replay` printed: {at}")
         sends += sum(line.startswith("send") for line in wanted)
+        shown += len(certificates)
         sets += sum(line.startswith("set") for line in wanted)
     names = "C, with the sanitizers, and Rust" if (at / "replay").exists() else "C, and with the sanitizers"
     print(f"{len(cases)} scripts: {sends} datagrams and {sets} sets, in {names}, are those of `sfu replay`")
+    print(f"{shown} lines of certificates are the model's")
 
 
 def compare_stack(at, seed):

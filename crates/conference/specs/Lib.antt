@@ -1,1 +1,2 @@
 pub mod Conference
+pub mod Certified

@@ -7,8 +7,10 @@ ghost use Rattle.events.specs.declared.event.Event.TheVariants.{Hear, Select, Ti
 ghost use Rattle.core_steps.specs.Waits.{waiting_in};
 ghost use Rattle.one_thread.specs.Driving.{Drives, IsIdle, is_from_outside};
 ghost use Rattle.conference.specs.declared.fault.EventFault.TheVariants.{Busy};
+ghost use Rattle.conference.specs.Certified.{Shows};
 ghost use Rattle.conference.specs.Conference.{IsNewConference, LeavesEvents, Serves, StopsAfter, datagram_of, conference_state};
 
+use crate::certified::{Certified, certified_by};
 use crate::delivery::{Delivery, next_delivery, place_after};
 use crate::fault::EventFault;
 use arrayvec::ArrayVec;
@@ -218,6 +220,20 @@ impl Conference {
     {
         if usize::from(publisher) < self.world.publishers() {
             Some(self.world.desk(publisher).announced())
+        } else {
+            None
+        }
+    }
+
+    /// What is live for the publisher of this number, and the certificate of what is announced for it. None, if there is no such
+    /// endpoint.
+    pub fn certified(&self, publisher: u16) -> Option<Certified<'_>>
+        ensures none { (result ≡ None) ↔ (length self.now.world.desks ≤ publisher) }
+        ensures some { (d : DeskState) → slice_get self.now.world.desks publisher ≡ Some d
+            → IfSome result (λ shown. Shows d.bounds shown) }
+    {
+        if usize::from(publisher) < self.world.publishers() {
+            Some(certified_by(self.world.desk(publisher)))
         } else {
             None
         }

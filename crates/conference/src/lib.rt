@@ -5,12 +5,14 @@
 //! of a settings text, `delivery` finds what is to be sent, `laws` says what holds over several calls.
 #![tactic(auto)]
 
+mod certified;
 mod conference;
 mod delivery;
 mod fault;
 pub mod laws;
 mod opening;
 
+pub use certified::Certified;
 pub use conference::Conference;
 pub use delivery::Delivery;
 pub use fault::{EventFault, OpenFault};

@@ -75,6 +75,14 @@ fn announces(conference: &Conference, publisher: u16, count: usize) -> bool {
     }
 }
 
+/// Whether so many requests are live for the publisher, all of which its certificate keeps.
+fn certifies(conference: &Conference, publisher: u16, count: usize) -> bool {
+    match conference.certified(publisher) {
+        Some(shown) => shown.live.len() == count && shown.cert.kept.len() == count,
+        None => false,
+    }
+}
+
 /// Whether nothing is left to do or to be sent, once the leg is switched off and a moment has passed.
 fn ends(conference: &mut Conference) -> bool {
     let selected = conference.select(40, 0, false).is_ok();
@@ -96,6 +104,8 @@ fn asks(conference: &mut Conference) -> bool {
 /// Then a packet goes on.
 fn sends_on(conference: &mut Conference) -> bool {
     announces(conference, 0, 1)
+        && certifies(conference, 0, 1)
+        && conference.certified(2).is_none()
         && hears(conference, 30, 0, PACKET.as_slice())
         && takes(conference, 1, SENT_ON.as_slice(), SENT_ON.as_slice())
 }

@@ -118,6 +118,41 @@ typedef struct sfu_set {
     size_t count;   /* how many requests are announced: also with SFU_NO_ROOM; else 0 */
 } sfu_set;
 
+/*
+ * An entry of a certificate for a request that is announced, with a pair that this request forbids and every other announced one
+ * permits: so many packets with so many bits of net media in so many seconds. Packets and bits are below 2^100, and come in two halves:
+ * the number is high * 2^64 + low.
+ */
+typedef struct sfu_kept {
+    uint64_t packets_high;
+    uint64_t packets_low;
+    uint64_t bits_high;
+    uint64_t bits_low;
+    uint32_t seconds; /* 1 to 16383 */
+    uint32_t place;   /* the request's place in the array of live ones, from 0 */
+} sfu_kept;
+
+/*
+ * An entry for a request that isn't announced: p times what the request at place a asks for, and q times that of the one at b, both
+ * announced, make r times its own, or a stricter one (docs/FORMATS.md, "The certificate"). Each number is below 65536.
+ */
+typedef struct sfu_implied {
+    uint32_t place; /* the request's place in the array of live ones, from 0 */
+    uint32_t a;     /* the places of two announced requests, or twice that of one */
+    uint32_t b;
+    uint32_t p; /* how often the requests at a, at b and at place count */
+    uint32_t q;
+    uint32_t r;
+} sfu_implied;
+
+/* What sfu_certified answers. */
+typedef struct sfu_certificate {
+    uint32_t fault; /* SFU_DONE, or why nothing is told */
+    size_t live;    /* how many requests are live, how many of them are announced, and how many aren't: */
+    size_t kept;    /* also with SFU_NO_ROOM; else 0 */
+    size_t implied;
+} sfu_certificate;
+
 /* What sfu_waiting answers. */
 typedef struct sfu_wait {
     uint32_t fault; /* SFU_DONE or SFU_IS_CLOSED */
@@ -189,6 +224,22 @@ sfu_next sfu_next_out(sfu_conference *conference, uint8_t *room, size_t room_siz
  * Refused as SFU_IS_CLOSED; as SFU_NO_ENDPOINT; as SFU_NO_ROOM: then the answer says how many there are. A refusal leaves room as it was.
  */
 sfu_set sfu_announced(sfu_conference *conference, uint16_t endpoint, sfu_request *room, size_t room_size);
+
+/*
+ * Tells which rate requests are live for an endpoint's media, and shows that what is announced for it is right: by a certificate, whose
+ * places count these requests. Its kept entries are those of the announced ones. It holds, and anybody can check it: the structs have
+ * the members of those in tmmbr.h, whose tmmbr_check takes the same numbers, and `sfu check` reads the same as text.
+ *
+ *   endpoint                the number of the endpoint that sends the media
+ *   live, live_room         where the requests go, by rising SSRC, and how many fit
+ *   kept, kept_room         where the entries of the announced ones go, by rising overhead, and how many fit
+ *   implied, implied_room   where those of the others go, by rising place, and how many fit
+ *
+ * SFU_MAX_REQUESTS are always enough for each. Refused as SFU_IS_CLOSED; as SFU_NO_ENDPOINT; as SFU_NO_ROOM, if one of the three has no
+ * room: then the answer says how many there are of each. A refusal leaves the arrays as they were.
+ */
+sfu_certificate sfu_certified(sfu_conference *conference, uint16_t endpoint, sfu_request *live, size_t live_room, sfu_kept *kept,
+                              size_t kept_room, sfu_implied *implied, size_t implied_room);
 
 /* Tells what waits: nothing, unless a call met no memory. Refused as SFU_IS_CLOSED. */
 sfu_wait sfu_waiting(sfu_conference *conference);

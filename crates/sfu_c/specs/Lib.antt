@@ -3,3 +3,4 @@ pub mod Opening
 pub mod Serving
 pub mod Sending
 pub mod Announcing
+pub mod Certifying

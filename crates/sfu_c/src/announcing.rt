@@ -26,7 +26,7 @@ fn told_request(request: &Request) -> SfuRequest
 }
 
 /// Writes the numbers of these requests to the front.
-fn write_requests(set: &[Request], room: &mut [SfuRequest])
+pub fn write_requests(set: &[Request], room: &mut [SfuRequest])
     requires { length set.now ≤ length room.old }
     ensures written { take (length set.now) room.new ≡ map told_request set.now }
     ensures rest { drop (length set.now) room.new ≡ drop (length set.now) room.old }

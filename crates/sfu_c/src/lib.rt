@@ -2,10 +2,11 @@
 //! sent is taken from it.
 //!
 //! Read `include/sfu.h` first, then `slot`, what C keeps of a conference, and the functions that C calls: `opening`, `serving`,
-//! `sending`, `announcing` and `standing`.
+//! `sending`, `announcing`, `certifying` and `standing`.
 #![tactic(auto)]
 
 mod announcing;
+mod certifying;
 mod faults;
 mod handle;
 mod numbers;

@@ -39,6 +39,53 @@ pub struct SfuAnnounced {
     pub count: usize,
 }
 
+/// An entry of a certificate for a request that is announced, with a pair that it forbids and every other announced one permits: so
+/// many packets and bits of net media in so many seconds (RFC 5104, section 2.2).
+#[repr(C)]
+#[derive(Clone, Copy, Debug, Default, PartialEq, Eq)]
+pub struct SfuKept {
+    /// The upper 64 bits of the pair's packets.
+    pub packets_high: u64,
+    /// The lower 64 bits.
+    pub packets_low: u64,
+    /// The upper 64 bits of the pair's bits of net media.
+    pub bits_high: u64,
+    /// The lower 64 bits.
+    pub bits_low: u64,
+    pub seconds: u32,
+    /// The request's place among the live ones, from 0.
+    pub place: u32,
+}
+
+/// An entry for a request that isn't announced, with two announced ones that imply it: `p` times the one and `q` times the other are
+/// at least as strict as `r` times this one.
+#[repr(C)]
+#[derive(Clone, Copy, Debug, Default, PartialEq, Eq)]
+pub struct SfuImplied {
+    /// The request's place among the live ones, from 0.
+    pub place: u32,
+    /// The place of the one.
+    pub a: u32,
+    /// The place of the other, which may be the one again.
+    pub b: u32,
+    pub p: u32,
+    pub q: u32,
+    pub r: u32,
+}
+
+/// What `sfu_certified` answers.
+#[repr(C)]
+#[derive(Clone, Copy, Debug, PartialEq, Eq)]
+pub struct SfuCertified {
+    pub fault: u32,
+    /// How many requests are live; 0 where there is no such endpoint.
+    pub live: usize,
+    /// How many of them are announced; 0 where there is no such endpoint.
+    pub kept: usize,
+    /// How many aren't; 0 where there is no such endpoint.
+    pub implied: usize,
+}
+
 /// What `sfu_waiting` answers.
 #[repr(C)]
 #[derive(Clone, Copy, Debug, PartialEq, Eq)]

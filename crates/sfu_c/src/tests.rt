@@ -1,5 +1,6 @@
 //! Each call by the bytes of example 21, and each of its refusals that can be had.
 use crate::announcing::sfu_announced;
+use crate::certifying::sfu_certified;
 use crate::faults::*;
 use crate::numbers::*;
 use crate::opening::{sfu_close, sfu_open};
@@ -43,6 +44,16 @@ const LIMIT: SfuRequest = SfuRequest {
     exponent: 0,
     mantissa: 1000,
     overhead: 40,
+};
+
+/// Its entry in the certificate of example 1.
+const KEPT: SfuKept = SfuKept {
+    packets_high: 0,
+    packets_low: 1000,
+    bits_high: 0,
+    bits_low: 1001,
+    seconds: 321,
+    place: 0,
 };
 
 /// How many bytes a compound has that ends in one of those.
@@ -101,6 +112,72 @@ fn announces(alloc: Global, conference: &mut SfuConference) -> bool {
         && short.count == 1
 }
 
+/// What `sfu_certified` answers of one request, which is announced.
+const fn one_kept(fault: u32) -> SfuCertified {
+    SfuCertified {
+        fault,
+        live: 1,
+        kept: 1,
+        implied: 0,
+    }
+}
+
+/// Whether so much room is answered with this number and the sizes, and nothing is written.
+fn is_too_short(alloc: Global, conference: &mut SfuConference, live: usize, kept: usize) -> bool {
+    let mut requests = [SfuRequest::default(); 1];
+    let mut entries = [SfuKept::default(); 1];
+    if live > 1 || kept > 1 {
+        return false;
+    }
+    let answer = sfu_certified(
+        alloc,
+        conference,
+        0,
+        &mut requests[..live],
+        &mut entries[..kept],
+        [].as_mut_slice(),
+    );
+    answer == one_kept(NO_ROOM)
+        && requests[0] == SfuRequest::default()
+        && entries[0] == SfuKept::default()
+}
+
+/// It is live, and the certificate shows it.
+fn certifies(alloc: Global, conference: &mut SfuConference) -> bool {
+    let mut live = [SfuRequest::default(); 2];
+    let mut kept = [SfuKept::default(); 2];
+    let (requests, entries) = (live.as_mut_slice(), kept.as_mut_slice());
+    let answer = sfu_certified(alloc, conference, 0, requests, entries, [].as_mut_slice());
+    answer == one_kept(DONE)
+        && live[0] == LIMIT
+        && kept[0] == KEPT
+        && is_too_short(alloc, conference, 0, 1)
+        && is_too_short(alloc, conference, 1, 0)
+        && certifies_none(alloc, conference, 2, NO_ENDPOINT)
+}
+
+/// Nothing is told of this endpoint, by an answer with this number.
+fn certifies_none(
+    alloc: Global,
+    conference: &mut SfuConference,
+    endpoint: u16,
+    fault: u32,
+) -> bool {
+    sfu_certified(
+        alloc,
+        conference,
+        endpoint,
+        [].as_mut_slice(),
+        [].as_mut_slice(),
+        [].as_mut_slice(),
+    ) == SfuCertified {
+        fault,
+        live: 0,
+        kept: 0,
+        implied: 0,
+    }
+}
+
 /// Then a packet goes on, and nothing is left to do or to be sent once the leg is switched off and a moment has passed.
 fn ends(alloc: Global, conference: &mut SfuConference) -> bool {
     sfu_hear(alloc, conference, 30, 0, PACKET.as_slice()) == DONE
@@ -131,6 +208,7 @@ fn serves_a_conference(rt: HostRuntime) {
     let again = sfu_open(alloc, &mut conference, ROOM.as_bytes());
     let is_so = asks(alloc, &mut conference)
         && announces(alloc, &mut conference)
+        && certifies(alloc, &mut conference)
         && ends(alloc, &mut conference);
     let closed = sfu_close(alloc, &mut conference);
     assert!(rt; opened.fault == DONE && again.fault == OPEN);
@@ -147,6 +225,7 @@ fn is_closed(alloc: Global, conference: &mut SfuConference) -> bool {
         && sfu_settle(alloc, conference) == CLOSED
         && sfu_next_out(alloc, conference, [].as_mut_slice()).fault == CLOSED
         && sfu_announced(alloc, conference, 0, [].as_mut_slice()).fault == CLOSED
+        && certifies_none(alloc, conference, 0, CLOSED)
         && waits(alloc, conference, CLOSED)
 }
 

@@ -3,7 +3,8 @@
 //!     replay SETTINGS < SCRIPT
 //!
 //! Each event is done with all that follows from it, so each `hear`, `tick` and `select` of the script has a `settle` after it. Of
-//! `show P` the requests are printed, as `set P SSRC WORD..`.
+//! `show P` the requests are printed, as `set P SSRC WORD..`; then what is live, as `live SSRC WORD..`; then the certificate, whose places
+//! count these: `kept PLACE PACKETS BITS SECONDS`, hexadecimal but for the place and the seconds, and `implied PLACE A B P Q R`.
 use sfu::{Conference, Request};
 use std::error::Error;
 use std::io::{self, BufRead};
@@ -30,6 +31,15 @@ fn play(conference: &mut Conference, line: &str) -> Result<(), Box<dyn Error>> {
             let set = conference.announced(endpoint.parse()?)?;
             let told: String = set.iter().map(|r| format!(" {:08x} {:08x}", r.ssrc, word(r))).collect();
             println!("set {endpoint}{told}");
+            let shown = conference.certified(endpoint.parse()?)?;
+            let live: String = shown.live.iter().map(|r| format!(" {:08x} {:08x}", r.ssrc, word(r))).collect();
+            println!("live{live}");
+            for k in &shown.kept {
+                println!("kept {} {:032x} {:032x} {}", k.place, k.packets(), k.bits(), k.seconds);
+            }
+            for i in &shown.implied {
+                println!("implied {} {} {} {} {} {}", i.place, i.a, i.b, i.p, i.q, i.r);
+            }
         }
         _ => return Err(format!("no line of a script: {line}").into()),
     }

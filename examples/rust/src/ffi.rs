@@ -63,6 +63,53 @@ pub struct Set {
     pub count: usize,
 }
 
+/// An entry of a certificate for a request that is announced.
+#[repr(C)]
+#[derive(Clone, Copy, Debug, Default, PartialEq, Eq)]
+pub struct Kept {
+    packets_high: u64,
+    packets_low: u64,
+    bits_high: u64,
+    bits_low: u64,
+    /// The seconds of the pair that it forbids and every other announced request permits.
+    pub seconds: u32,
+    /// The request's place among the live ones, from 0.
+    pub place: u32,
+}
+
+impl Kept {
+    /// The packets of the pair.
+    pub fn packets(&self) -> u128 {
+        u128::from(self.packets_high) << 64 | u128::from(self.packets_low)
+    }
+
+    /// The bits of net media of the pair.
+    pub fn bits(&self) -> u128 {
+        u128::from(self.bits_high) << 64 | u128::from(self.bits_low)
+    }
+}
+
+/// An entry for a request that isn't announced: `p` times the one at `a` and `q` times the one at `b` are as strict as `r` times it.
+#[repr(C)]
+#[derive(Clone, Copy, Debug, Default, PartialEq, Eq)]
+pub struct Implied {
+    /// The request's place among the live ones, from 0.
+    pub place: u32,
+    pub a: u32,
+    pub b: u32,
+    pub p: u32,
+    pub q: u32,
+    pub r: u32,
+}
+
+#[repr(C)]
+pub struct Certificate {
+    pub fault: u32,
+    pub live: usize,
+    pub kept: usize,
+    pub implied: usize,
+}
+
 #[repr(C)]
 pub struct Wait {
     pub fault: u32,
@@ -79,6 +126,16 @@ extern "C" {
     pub fn sfu_settle(conference: *mut Slot) -> u32;
     pub fn sfu_next_out(conference: *mut Slot, room: *mut u8, room_size: usize) -> NextOut;
     pub fn sfu_announced(conference: *mut Slot, endpoint: u16, room: *mut Request, room_size: usize) -> Set;
+    pub fn sfu_certified(
+        conference: *mut Slot,
+        endpoint: u16,
+        live: *mut Request,
+        live_room: usize,
+        kept: *mut Kept,
+        kept_room: usize,
+        implied: *mut Implied,
+        implied_room: usize,
+    ) -> Certificate;
     pub fn sfu_waiting(conference: *mut Slot) -> Wait;
     pub fn sfu_close(conference: *mut Slot) -> u32;
 }

@@ -98,8 +98,19 @@ pub struct Next<'a> {
     pub bytes: &'a [u8],
 }
 
-/// A rate request by the parts of its word (RFC 5104, section 4.2.1.1).
-pub use ffi::Request;
+/// A rate request by the parts of its word (RFC 5104, section 4.2.1.1), and the entries of a certificate.
+pub use ffi::{Implied, Kept, Request};
+
+/// The requests that are live for an endpoint's media, with the certificate of what is announced for it: its places count these.
+#[derive(Clone, Debug, Default, PartialEq, Eq)]
+pub struct Certified {
+    /// By rising SSRC.
+    pub live: Vec<Request>,
+    /// By rising overhead: those that are announced.
+    pub kept: Vec<Kept>,
+    /// By rising place: the others.
+    pub implied: Vec<Implied>,
+}
 
 /// What waits since a call met no memory.
 #[derive(Clone, Copy, Debug, Default, PartialEq, Eq)]
@@ -166,6 +177,30 @@ impl Conference {
         done(set.fault, set.count as u64)?;
         room.truncate(set.count);
         Ok(room)
+    }
+
+    /// What is live for the endpoint's media, and the certificate of what is announced for it.
+    pub fn certified(&mut self, endpoint: u16) -> Result<Certified, Fault> {
+        let mut live = vec![Request::default(); ffi::MAX_REQUESTS];
+        let mut kept = vec![Kept::default(); ffi::MAX_REQUESTS];
+        let mut implied = vec![Implied::default(); ffi::MAX_REQUESTS];
+        let told = unsafe {
+            ffi::sfu_certified(
+                &mut self.slot,
+                endpoint,
+                live.as_mut_ptr(),
+                live.len(),
+                kept.as_mut_ptr(),
+                kept.len(),
+                implied.as_mut_ptr(),
+                implied.len(),
+            )
+        };
+        done(told.fault, told.live as u64)?;
+        live.truncate(told.live);
+        kept.truncate(told.kept);
+        implied.truncate(told.implied);
+        Ok(Certified { live, kept, implied })
     }
 
     /// What waits.
