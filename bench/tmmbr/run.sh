@@ -1,11 +1,12 @@
 #!/usr/bin/env bash
 # libtmmbr beside the heuristic of RFC 5104, section 3.5.4.2, on the same random sets; and many random sets through libtmmbr,
-# bench/tmmbr_c's model and `sfu bound`. By hand; wants rt, gcc, g++ and python3, and for the last part the program that ./sfu makes.
+# bench/tmmbr_c's model and `sfu bound`. By hand; wants rt, gcc, g++ and python3, and for the last part the program that ./sfu makes,
+# or another one that SFU names.
 #
 #     bench/tmmbr/run.sh [SETS [SEED [RUNS]]]
 #
 # So many sets go through the model, 20000 if nothing else is said, and the first RUNS of them through `sfu bound`, 1000 if nothing
-# else is said. 1000000 take a quarter hour in the model, and some half an hour as runs of the program.
+# else is said: a run of the program for each, two at a time. 1000000 take a quarter hour in the model, and as long as runs.
 set -euo pipefail
 here=$(cd "$(dirname "$0")" && pwd)
 top=$(cd "$here/../.." && pwd)
@@ -25,7 +26,8 @@ gcc -O2 -std=c99 -I "$crate/include" -o "$at/driver" "$top/bench/tmmbr_c/driver.
 "$here/sets.py" make "$seed" "$sets" >"$at/sets"
 "$at/driver" <"$at/sets" >"$at/out"
 "$here/sets.py" model "$at/sets" "$at/out"
-program=$top/crates/sfu_main/out/sfu_main
+program=${SFU:-$top/crates/sfu_main/out/sfu_main}
 if [ -x "$program" ]; then
-    "$here/sets.py" program "$at/sets" "$at/out" "$program" "$runs"
+    gcc -O2 -std=gnu99 -Wall -Wextra -Werror -I "$crate/include" -o "$at/bound" "$here/bound.c" "$library"
+    "$at/bound" "$at/sets" "$program" "$runs" 2
 fi
