@@ -287,7 +287,8 @@ def main():
     wait_for(lambda: get(port, "/")[0] == 503)
     for path in ("/metrics", "/state.json"):
         expect(port, path, 503)
-    unit = subprocess.Popen([program, "serve", settings, "--control", control], stderr=subprocess.PIPE)
+    unit = subprocess.Popen([program, "serve", settings, "--control", control],
+                            stdout=subprocess.DEVNULL, stderr=subprocess.PIPE)
     try:
         unit.stderr.readline()
         clients = Clients(ports["unit"], ports["first"], ports["second"])

@@ -32,9 +32,10 @@ impl Read for FakeUnit {
 
 impl Write for FakeUnit {
     fn write(&mut self, buf: &[u8]) -> io::Result<usize> {
-        if let Some((answer, others)) = self.answers.split_first() {
-            self.left = answer;
-            self.answers = others;
+        let answers = self.answers;
+        if !answers.is_empty() {
+            self.left = answers[0];
+            self.answers = &answers[1..];
         }
         Ok(buf.len())
     }
