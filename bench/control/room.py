@@ -168,6 +168,13 @@ def play(program, workers, folder):
         ):
             if line not in metrics:
                 sys.exit(f"metrics have no {line}")
+        # a request of the subscriber for 1,000 bits per second with 40 bytes of header (RFC 5104, section 4.2.1)
+        subscriber.sendto(struct.pack("!BBHIIII", 0x83, 205, 4, 17, 0, 257, 0x0007d028), unit_at)
+        time.sleep(0.2)
+        shown = ask(program, path, "show", "0")
+        wants("what is announced", [it.split()[:3] for it in shown.splitlines() if it.startswith("kept")], [["kept", "17", "0007d028"]])
+        checked = subprocess.run([program, "check", "/dev/stdin"], input=shown, capture_output=True, text=True)
+        wants("what sfu check says of it", (checked.returncode, checked.stdout), (0, "yes\n"))
         if os.geteuid() == 0:
             wants("another user is refused", is_refused(path), True)
         received(publisher)

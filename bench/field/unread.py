@@ -24,7 +24,7 @@ HOST, UNIT, PUBLISHER, SUBSCRIBER = "127.0.0.1", 45104, 46100, 46102
 SETTINGS = f"""workers = 1
 ring = 8
 history = 128
-timeout_ms = 60000
+timeout_ms = 86400000
 report_ms = 60000
 pli_gap_ms = 500
 unit_ssrc = 9

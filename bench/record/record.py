@@ -213,6 +213,16 @@ def control_of(datagrams):
     return [b for b in datagrams if len(b) < 12 or 192 <= b[1] <= 223]
 
 
+def says_goodbye(datagram):
+    """Whether a packet of this compound is a BYE (RFC 3550, section 6.6); the unit sends none but at its end."""
+    place = 0
+    while datagram in control_of([datagram]) and place + 4 <= len(datagram):
+        if datagram[place + 1] == 203:
+            return True
+        place += 4 * (int.from_bytes(datagram[place + 2:place + 4], "big") + 1)
+    return False
+
+
 def first_difference(a, b):
     for place, (x, y) in enumerate(zip(a, b)):
         if x != y:
@@ -254,16 +264,16 @@ def whole(program, folder, workers, count, seed, pace, rest):
     last = [line for line in errors.splitlines() if line.startswith("present")][-1:]
     print(f"  {''.join(last)}; {os.path.getsize(unit.record)} bytes")
     for client in clients:
-        replay = sent[client.number]
+        # (the goodbye of `stop` is the socket's, and follows from no event)
+        came, replay = [datagram for datagram in client.came if not says_goodbye(datagram)], sent[client.number]
         if workers == 1:
-            say(f"{name}: all {len(client.came)} datagrams to endpoint {client.number}, in order", client.came == replay,
-                first_difference(client.came, replay))
+            say(f"{name}: all {len(came)} datagrams to endpoint {client.number}, in order", came == replay, first_difference(came, replay))
             continue
-        legs, others = by_leg(client.came), by_leg(replay)
+        legs, others = by_leg(came), by_leg(replay)
         for leg in sorted(set(legs) | set(others)):
             a, b = legs.get(leg, []), others.get(leg, [])
             say(f"{name}: the {len(a)} packets of leg {leg - OUT}, in order", a == b, first_difference(a, b))
-        a, b = control_of(client.came), control_of(replay)
+        a, b = control_of(came), control_of(replay)
         say(f"{name}: the {len(a)} datagrams of RTCP to endpoint {client.number}, in any order", sorted(a) == sorted(b),
             f"{len(a)} were sent, {len(b)} are replayed")
 
