@@ -30,4 +30,6 @@ program=${SFU:-$top/crates/sfu_main/out/sfu_main}
 if [ -x "$program" ]; then
     gcc -O2 -std=gnu99 -Wall -Wextra -Werror -I "$crate/include" -o "$at/bound" "$here/bound.c" "$library"
     "$at/bound" "$at/sets" "$program" "$runs" 2
+    gcc -O2 -std=c99 -pedantic -Wall -Wextra -Werror -I "$crate/include" -o "$at/announcer" "$top/examples/c/announcer.c" "$library"
+    "$here/announcer.py" "$at/announcer" "$program" 300 "$seed"
 fi
