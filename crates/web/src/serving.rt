@@ -1,5 +1,7 @@
 //! `sfu page PATH ADDRESS`: the loop that asks a unit and answers those who come, in one thread.
 
+ghost use Rattle.std.specs.Prelude.{◌≢◌, IfErr};
+
 use crate::inquiry::{Inquiry, Step};
 use crate::teller::Teller;
 use crate::visitors::Visitors;
@@ -44,12 +46,16 @@ struct Place<'a> {
 }
 
 /// Serves a page of the unit that is steered at a path: the words are `PATH ADDRESS`, and `--anyone` if the address is no loopback
-/// address. Says `page ADDRESS` on the error output once it listens, and doesn't return then.
+/// address. Says `page ADDRESS` on the error output once it listens, and returns then only if the clock or the random source fails. It is
+/// never done: `CommandLine` if the words are others, `Socket` if the address can't be had.
 pub fn run_page<
     R: AllocGlobal + Net<Listener = TcpListener, Stream = TcpStream> + Wait + Clock + RandomSource,
     S: AsStr,
     E: Write,
->(rt: &R, words: &[S], errors: &mut E) -> Status {
+>(rt: &R, words: &[S], errors: &mut E) -> Status
+    ensures never { result ≢ Status.Done }
+    ensures read { (result ≢ Status.Settings) × (result ≢ Status.Refused) }
+{
     match place_in(words) {
         Ok(place) => serve(rt, place, errors),
         Err(fault) => say_fault(errors, fault),
@@ -76,7 +82,10 @@ fn place_in<S: AsStr>(words: &[S]) -> Result<Place<'_>, PageFault> {
 }
 
 /// Why there is no page, on the error output.
-fn say_fault<E: Write>(errors: &mut E, fault: PageFault) -> Status {
+fn say_fault<E: Write>(errors: &mut E, fault: PageFault) -> Status
+    ensures never { result ≢ Status.Done }
+    ensures read { (result ≢ Status.Settings) × (result ≢ Status.Refused) }
+{
     match fault {
         PageFault::Words => say(
             errors,
@@ -96,7 +105,10 @@ fn say_fault<E: Write>(errors: &mut E, fault: PageFault) -> Status {
 fn serve<
     R: AllocGlobal + Net<Listener = TcpListener, Stream = TcpStream> + Wait + Clock + RandomSource,
     E: Write,
->(rt: &R, place: Place<'_>, errors: &mut E) -> Status {
+>(rt: &R, place: Place<'_>, errors: &mut E) -> Status
+    ensures never { result ≢ Status.Done }
+    ensures read { (result ≢ Status.Settings) × (result ≢ Status.Refused) }
+{
     let Ok(listener) = TcpListener::bind(rt, place.address) else {
         return say_fault(errors, PageFault::Socket);
     };
@@ -113,7 +125,10 @@ fn serve<
 }
 
 /// Says where it listens; else how the command ends.
-fn say_address<E: Write>(alloc: Global, errors: &mut E, address: SocketAddr) -> Result<(), Status> {
+fn say_address<E: Write>(alloc: Global, errors: &mut E, address: SocketAddr) -> Result<(), Status>
+    ensures { IfErr result (λ s. (s ≢ Status.Done) × (s ≢ Status.Settings)
+        × (s ≢ Status.Refused)) }
+{
     match format!(in alloc; "page {address}\n") {
         Ok(text) => match errors.write_all(text.as_bytes()) {
             Ok(()) => Ok(()),
