@@ -373,14 +373,16 @@ def ffmpeg_to_gst(codec):
         row(f"FFmpeg to GStreamer, {codec}, two ports", FRAMES, gst_frames(run.log("receiver")), run)
 
 
-def gst_to_vlc():
-    """VLC as Debian has it is without live555: it reads no payload types that a session description names, but MPEG-TS at a port."""
+def gst_to_vlc(by_sdp=False):
+    """VLC as Debian has it is without live555: of a session description it takes the address alone, and reads MPEG-TS there. The stream is
+    a second item after the description's, which a run without a window comes to with --loop."""
     with Run() as run:
         file = settings(run.room, PUBLISHER, [ONLY.format(46002, 46003)], "MPEG-TS", two_ports=True)
         run.sniff()
         run.serve(file)
         seen = f"{run.room}/seen.ts"
-        words = ["cvlc", "-v", "--no-audio", "--vout", "dummy", "rtp://@127.0.0.1:46002", f"--sout=#std{{access=file,mux=ts,dst={seen}}}"]
+        media = ["--loop", run.sdp(file, 1)] if by_sdp else ["rtp://@127.0.0.1:46002"]
+        words = ["cvlc", "-v", "--no-audio", "--vout", "dummy", *media, f"--sout=#std{{access=file,mux=ts,dst={seen}}}"]
         if os.geteuid() == 0:
             os.chmod(run.room, 0o777)
             words = ["setpriv", "--reuid=65534", "--regid=65534", "--clear-groups", "env", f"HOME={run.room}", *words]
@@ -394,7 +396,8 @@ def gst_to_vlc():
             words = ["ffprobe", "-v", "error", "-count_frames", "-select_streams", "v", "-show_entries", "stream=nb_read_frames", "-of", "csv=p=0", seen]
             out = re.findall(rb"\d+", subprocess.run(words, capture_output=True).stdout)
             frames = int(out[0]) if out else 0
-        row("GStreamer to VLC, H.264 in MPEG-TS, two ports", FRAMES, frames, run)
+        how = " by its session description" if by_sdp else ""
+        row(f"GStreamer to VLC{how}, H.264 in MPEG-TS, two ports", FRAMES, frames, run)
 
 
 def plis_of_three():
@@ -498,6 +501,7 @@ ROWS = {
     "gst-both-one-port": lambda: gst_sound_and_picture(one_port=True),
     "ffmpeg-gst": lambda: ffmpeg_to_gst("H.264"),
     "gst-vlc": gst_to_vlc,
+    "gst-vlc-sdp": lambda: gst_to_vlc(by_sdp=True),
     "plis": plis_of_three,
     "learned": lambda: learned(1),
     "learned-threads": lambda: learned(2),
