@@ -25,7 +25,7 @@ fn wanted_top(key: &str) -> Option<&'static str> {
         "listen_rtcp" => Some(
             "IP address and port of the version of listen, as \"192.0.2.1:5005\"",
         ),
-        "new_starts" | "strict_ssrc" => Some("true or false"),
+        "early_pictures" | "leg_goodbyes" | "new_starts" | "strict_ssrc" => Some("true or false"),
         "endpoint" => Some("list of 1 to 256 tables, each under [[endpoint]]"),
         "leg" => Some("list of up to 4096 tables, each under [[leg]]"),
         _ => None,
@@ -66,7 +66,7 @@ pub(crate) fn keys(place: Place<'_>) -> &'static str {
         }
         Place::Leg(_, _) => "first_seq, on, out_ssrc, publisher and subscriber",
         Place::Top(_) | Place::Sources => {
-            "cname, history, listen, listen_rtcp, new_starts, pli_gap_ms, report_ms, request_ms, ring, strict_ssrc, timeout_ms, unit_ssrc and workers"
+            "cname, early_pictures, history, leg_goodbyes, listen, listen_rtcp, new_starts, pli_gap_ms, report_ms, request_ms, ring, strict_ssrc, timeout_ms, unit_ssrc and workers"
         }
     }
 }

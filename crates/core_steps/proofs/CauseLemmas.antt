@@ -1,14 +1,14 @@
 -- How the parts of a happening hang together: the orders among the tasks that it made are those of the room's calls; and it asked the
 -- desk that the task or the job which it did asks.
 use Rattle.std.proofs.Common.{◌≡◌, ℕ, List, [], ◌∷◌, ◌++◌, Bool, true, false, Option, None, Some, refl, ap, sym, ◌∙◌, append-nil}
-use Rattle.std.specs.Prelude.{◌==◌, slice_get, map, if◌then◌else◌}
+use Rattle.std.specs.Prelude.{◌==◌, ◌&&◌, slice_get, map, if◌then◌else◌}
 use Rattle.std.specs.List.{flat_map, filter_map, cons_option, last_or, enumerate_from}
 use Rattle.std.specs.Option.{option_map_or}
 use Rattle.std.proofs.lemmas.Grind.{flat_map-append}
 use Rattle.members.specs.declared.order.Order.{Order}
 use Rattle.members.specs.declared.order.Order.TheVariants.{Arrive, Depart, Route}
 use Rattle.settings.specs.declared.settings.LegSettings.{LegSettings}
-use Rattle.members.specs.Room.{RoomState, reception_at}
+use Rattle.members.specs.Room.{RoomState, Step, reception_at}
 use Rattle.members.specs.Stream.{timestamps_of}
 use Rattle.members.specs.Calls.{Report as SenderReport, orders_after}
 use Rattle.tmmbr_tuple.specs.declared.tuple.Tuple.{Tuple}
@@ -20,10 +20,10 @@ use Rattle.desk.specs.declared.call.Signal.TheVariants as signal
 use Rattle.desk.specs.State.{DeskState}
 use Rattle.intake.specs.declared.intake.Ask.{Ask}
 use Rattle.events.specs.declared.job.Job.{Job}
-use Rattle.events.specs.declared.job.Job.TheVariants.{Packet, Request, Resend, Pli, Report}
+use Rattle.events.specs.declared.job.Job.TheVariants.{Packet, Request, Resend, Pli, Report, Goodbye}
 use Rattle.notices.specs.DeskCalls.{stay_call, picture_call}
 use Rattle.core_steps.specs.Happening.{Happening, RecordedCall, Worked}
-use Rattle.core_steps.specs.Hearing.{receptions, jobs_of, task_on, task_for, owner_of, job_by, leg_stay, media_of, serving, expires, reports, is_report_due, leg_report, present_endpoints}
+use Rattle.core_steps.specs.Hearing.{receptions, jobs_of, is_left, task_after, tasks_after, task_on, task_for, owner_of, job_by, leg_stay, media_of, serving, expires, reports, is_report_due, leg_report, present_endpoints}
 use Rattle.intake.specs.Intake.{Said, media, leaves, control}
 use Rattle.settings.specs.Links.{LinkTable, leg_to, worker_of}
 use Rattle.core_steps.specs.Rule.{Replies}
@@ -46,6 +46,7 @@ abbrev pub AskedByJob : WorldState → Job → Option (ℕ × DeskCall) → Type
 AskedByJob w (Packet publisher bytes) who = who ≡ None
 AskedByJob w (Resend leg stay nack) who = who ≡ None
 AskedByJob w (Report leg stay sr) who = who ≡ None
+AskedByJob w (Goodbye leg) who = who ≡ None
 AskedByJob w (Request leg stay word) who =
     (tuple : Tuple) × (word_of tuple ≡ word) × (who ≡ stay_call w.setup.table leg stay (change.Request tuple))
 AskedByJob w (Pli leg moment) who = who ≡ picture_call w.setup.table leg moment
@@ -129,7 +130,7 @@ drop_none xs ys none = orders_in-append xs ys ∙ ap (λ (os : List Order). orde
 pub orders_first : (os : List Order) (ts : List Task) → orders_in ts ≡ [] → orders_in (map order os ++ ts) ≡ os ++ []
 orders_first os ts none = drop_none (map order os) ts none ∙ orders_in-orders os ∙ sym (append-nil os)
 
-none_append : (xs ys : List Task) → orders_in xs ≡ [] → orders_in ys ≡ [] → orders_in (xs ++ ys) ≡ []
+pub none_append : (xs ys : List Task) → orders_in xs ≡ [] → orders_in ys ≡ [] → orders_in (xs ++ ys) ≡ []
 none_append xs ys none more = orders_in-append xs ys ∙ ap (λ (os : List Order). os ++ orders_in ys) none ∙ more
 
 none_map : {X : Type 0} (f : X → Task) (xs : List X) → ((x : X) → order_in (f x) ≡ []) → orders_in (map f xs) ≡ []
@@ -174,6 +175,16 @@ none_heard t r endpoint bytes leaves = refl
 none_heard t r endpoint bytes (control speaker said tmmbns asks) =
     none_filter (task_for t r endpoint) asks (λ a. none_on t r a (leg_to t endpoint (media_of a)))
 
+none_after_one : (s : Setup) (r : RoomState) (o : Order) → orders_maybe (task_after s r o) ≡ []
+none_after_one s r (Arrive leg stay) = refl
+none_after_one s r (Depart leg stay) =
+    maybe_if (s.rules.leg_goodbyes && is_left s.table r leg) (Some (push (owner_of s.table leg) (Goodbye leg))) None refl refl
+none_after_one s r (Route leg stay turn on) =
+    maybe_if (on && s.rules.early_pictures) (Some (push (owner_of s.table leg) (Pli leg r.moment))) None refl refl
+
+pub none_after : (s : Setup) (step : Step) → orders_in (tasks_after s step) ≡ []
+none_after s step = none_filter (task_after s step.room) step.orders (none_after_one s step.room)
+
 none_expires : (s : Setup) (r : RoomState) → orders_in (expires s r) ≡ []
 none_expires s r =
     none_if (s.request_ms == 0) [] (map expire (present_endpoints s.table r)) refl (none_map expire (present_endpoints s.table r) (λ p. refl))
@@ -192,13 +203,18 @@ none_reports w r =
     (none_flat (leg_report w.setup.table r) (enumerate_from 0 w.setup.table.legs) (none_leg w.setup.table r))
     ) refl
 
-pub orders_ticked : (w : WorldState) (r : RoomState) (os : List Order)
-    → orders_in (map order os ++ map pulse (present_endpoints w.setup.table r) ++ expires w.setup r ++ reports w r) ≡ os ++ []
-orders_ticked w r os =
+pub orders_ticked : (w : WorldState) (s : Step)
+    → orders_in (map order s.orders ++ tasks_after w.setup s ++ map pulse (present_endpoints w.setup.table s.room) ++ expires w.setup s.room
+    ++ reports w s.room) ≡ s.orders ++ []
+orders_ticked w s =
+    let os : List Order = s.orders in
+    let r : RoomState = s.room in
+    let more : List Task = tasks_after w.setup s in
     let pulses : List Task = map pulse (present_endpoints w.setup.table r) in
-    drop_none (map order os ++ pulses ++ expires w.setup r) (reports w r) (none_reports w r)
-    ∙ drop_none (map order os ++ pulses) (expires w.setup r) (none_expires w.setup r)
-    ∙ orders_first os pulses (none_map pulse (present_endpoints w.setup.table r) (λ p. refl))
+    drop_none (map order os ++ more ++ pulses ++ expires w.setup r) (reports w r) (none_reports w r)
+    ∙ drop_none (map order os ++ more ++ pulses) (expires w.setup r) (none_expires w.setup r)
+    ∙ drop_none (map order os ++ more) pulses (none_map pulse (present_endpoints w.setup.table r) (λ p. refl))
+    ∙ orders_first os more (none_after w.setup s)
 
 -- what is received gives no order
 pub none_received : (r : RoomState) (endpoint : ℕ) (said : Said) → orders_after r (receptions endpoint said) ≡ []

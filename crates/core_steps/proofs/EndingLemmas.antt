@@ -22,7 +22,7 @@ use Rattle.desk.specs.declared.call.Signal.TheVariants as signal
 use Rattle.desk.specs.State.{DeskState, HoldsLegalDesk}
 use Rattle.events.specs.declared.event.Event.{Event}
 use Rattle.events.specs.declared.job.Job.{Job}
-use Rattle.events.specs.declared.job.Job.TheVariants.{Packet, Request, Resend, Pli, Report}
+use Rattle.events.specs.declared.job.Job.TheVariants.{Packet, Request, Resend, Pli, Report, Goodbye}
 use Rattle.notices.specs.DeskCalls.{source_of, stay_call, picture_call}
 use Rattle.core_steps.specs.Happening.{Happening, RecordedCall, world_after, desks_by}
 use Rattle.settings.specs.Links.{LinkTable, table_of}
@@ -88,6 +88,7 @@ job_no_arrive : (w : WorldState) (n : ℕ) (j : Job) (p : ℕ) (call : DeskCall)
 job_no_arrive w n (Packet publisher bytes) p call e = absurd (cc)
 job_no_arrive w n (Resend leg stay nack) p call e = absurd (cc)
 job_no_arrive w n (Report leg stay sr) p call e = absurd (cc)
+job_no_arrive w n (Goodbye leg) p call e = absurd (cc)
 job_no_arrive w n (Request leg stay word) p call e =
     let is = stay_call_is w.setup.table leg stay (change.Request e.0) p call e.2 in no_arrive_of n call _ is.1 tt
 job_no_arrive w n (Pli leg moment) p call e = no_arrive_of n call _ (picture_call_is w.setup.table leg moment p call e) tt

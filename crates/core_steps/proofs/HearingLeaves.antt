@@ -6,8 +6,8 @@ use Rattle.std.specs.List.{last_or, enumerate_from, filter_map, flat_map}
 use Rattle.std.specs.Option.{option_map_or}
 use Rattle.settings.specs.declared.fault.RoomFault.{RoomFault}
 use Rattle.members.specs.declared.order.Order.{Order}
-use Rattle.members.specs.Room.{RoomState, Step, Answers, hear_step, tick_step, after_packet}
-use Rattle.members.specs.Calls.{Call as RoomCall, Hear, Receive, Report as SenderReport, room_after, room_of}
+use Rattle.members.specs.Room.{RoomState, Step, Answers, bye_step, hear_step, select_step, tick_step, after_packet}
+use Rattle.members.specs.Calls.{Call as RoomCall, Bye, Hear, Receive, Select, Report as SenderReport, room_after, room_of}
 use Rattle.tmmbr_tuple.specs.declared.ssrc.Ssrc.{Ssrc}
 use Rattle.core_steps.specs.declared.ticking.Due.TheVariants as due
 use Rattle.intake.specs.declared.intake.Ask.{Ask}
@@ -21,16 +21,16 @@ use Rattle.events.specs.declared.output.Out.TheVariants.{Refused}
 use Rattle.events.specs.declared.output.Refusal.{Refusal}
 use Rattle.core_steps.specs.declared.tasks.FollowUp.{FollowUp}
 use Rattle.notices.specs.DeskCalls.{source_of}
-use Rattle.core_steps.specs.FollowUps.{due_to, packet_to, report_to, follow_up_for, refusal_unless, room_with_report}
+use Rattle.core_steps.specs.FollowUps.{follow_up_after, due_to, packet_to, report_to, follow_up_for, refusal_unless, room_with_report}
 use Rattle.core_steps.specs.Happening.{giving, capped_count}
 use Rattle.intake.specs.Heard.{HearsBy, heard_of, asks_of}
-use Rattle.core_steps.specs.Hearing.{IsHearing, hearing, hearing_by, ticking, numbers_below, leg_report, reports, expires, present_endpoints, is_report_due, refusals_of, jobs_of, receptions}
+use Rattle.core_steps.specs.Hearing.{IsHearing, hearing, hearing_by, selecting, selecting_by, ticking, numbers_below, leg_report, task_after, tasks_after, reports, expires, present_endpoints, is_report_due, refusals_of, jobs_of, receptions}
 use Rattle.intake.specs.Intake.{Said, media, leaves, control, Says}
 use Rattle.core_steps.specs.Machine.{task_of}
 use Rattle.core_steps.specs.Rule.{is_busy}
 use Rattle.core_steps.specs.Run.{Leaves}
 use Rattle.core_steps.specs.World.{WorldState, Task, order, pulse, expire, report}
-use Rattle.core_steps.proofs.HearingLemmas.{accepted, idle, took, taken_in, ticks, uncounted, asks_follow, asks_refused, pulses_follow, expires_follow, reports_follow, packets_follow, leg_reports_follow}
+use Rattle.core_steps.proofs.HearingLemmas.{accepted, after_follows, idle, took, taken_in, ticks, uncounted, asks_follow, asks_refused, pulses_follow, expires_follow, reports_follow, packets_follow, leg_reports_follow}
 
 -- ---- a moment
 
@@ -46,14 +46,15 @@ if_mapped_then f false xs ys e = refl
 
 abbrev pub ticked_by : WorldState → RoomState → List Order → List Task
 ticked_by w r orders =
-    map order orders ++ map pulse (present_endpoints w.setup.table r) ++ expires w.setup r ++ reports w r
+    map order orders ++ filter_map (task_after w.setup r) orders ++ map pulse (present_endpoints w.setup.table r) ++ expires w.setup r
+    ++ reports w r
 
 abbrev pub reported_by : WorldState → RoomState → ℕ
 reported_by w r = if is_report_due w r then r.moment else w.reported
 
 -- what follows from a moment, in the ingress's list
-pub record FollowsTick (w : WorldState) (r : RoomState) (n : ℕ) (is_due : Bool) (f0 f1 f2 f3 : List FollowUp) : Type 0 where
-  pub none : f0 ≡ []
+pub record FollowsTick (w : WorldState) (r : RoomState) (orders : List Order) (n : ℕ) (is_due : Bool) (f0 f1 f2 f3 : List FollowUp) : Type 0 where
+  pub first : f0 ≡ filter_map (follow_up_after w.setup r) orders
   pub count : n ≡ length w.setup.table.endpoints
   pub says_due : is_due ≡ is_report_due w r
   pub pulses : f1 ≡ f0 ++ filter_map (due_to r due.Pulse) (numbers_below n)
@@ -66,29 +67,32 @@ pub record FollowsTick (w : WorldState) (r : RoomState) (n : ℕ) (is_due : Bool
       else [])
 
 follows_tick : (w : WorldState) (r : RoomState) (n : ℕ) (is_due : Bool) (f0 f1 f2 f3 : List FollowUp) (bits : List ℕ) (orders : List Order)
-    → FollowsTick w r n is_due f0 f1 f2 f3 → map order orders ++ map (task_of bits) f3 ≡ ticked_by w r orders
+    → FollowsTick w r orders n is_due f0 f1 f2 f3 → map order orders ++ map (task_of bits) f3 ≡ ticked_by w r orders
 follows_tick w r n is_due f0 f1 f2 f3 bits orders f =
     let m = length w.setup.table.endpoints in
     let t = w.setup.table in
+    let A : List FollowUp = filter_map (follow_up_after w.setup r) orders in
     let P : List FollowUp = filter_map (due_to r due.Pulse) (numbers_below m) in
     let E : List FollowUp = if w.setup.request_ms == 0 then [] else filter_map (due_to r due.Expire) (numbers_below m) in
     let R : List FollowUp =
     if is_report_due w r
     then filter_map (due_to r due.Report) (numbers_below m) ++ filter_map (report_to t r) (enumerate_from 0 t.legs)
     else [] in
-    let p1 : f1 ≡ P =
+    let p1 : f1 ≡ A ++ P =
     f.pulses
-    ∙ ap₂ (λ (l : List FollowUp) (k : ℕ). l ++ filter_map (due_to r due.Pulse) (numbers_below k)) f.none f.count in
-    let p2 : f2 ≡ P ++ E =
+    ∙ ap₂ (λ (l : List FollowUp) (k : ℕ). l ++ filter_map (due_to r due.Pulse) (numbers_below k)) f.first f.count in
+    let p2 : f2 ≡ A ++ P ++ E =
     f.expiring
     ∙ ap₂ (λ (l : List FollowUp) (k : ℕ). l ++ (if w.setup.request_ms == 0 then [] else filter_map (due_to r due.Expire) (numbers_below k))) p1 f.count in
     let F : List FollowUp → ℕ → Bool → List FollowUp = λ l k b. l
     ++ (if b
     then filter_map (due_to r due.Report) (numbers_below k) ++ filter_map (report_to t r) (enumerate_from 0 t.legs)
     else []) in
-    let p3 : f3 ≡ (P ++ E) ++ R =
-    f.reporting ∙ ap₂ (λ (l : List FollowUp) (k : ℕ). F l k is_due) p2 f.count ∙ ap (λ (b : Bool). F (P ++ E) m b) f.says_due in
+    let p3 : f3 ≡ (A ++ P ++ E) ++ R =
+    f.reporting ∙ ap₂ (λ (l : List FollowUp) (k : ℕ). F l k is_due) p2 f.count ∙ ap (λ (b : Bool). F (A ++ P ++ E) m b) f.says_due in
     let g = task_of bits in
+    let T : List Task = filter_map (task_after w.setup r) orders in
+    let eA : map g A ≡ T = after_follows bits w.setup r orders in
     let eP : map g P ≡ map pulse (present_endpoints t r) = pulses_follow bits r (numbers_below m) in
     let eE : map g E ≡ expires w.setup r =
     if_mapped g (w.setup.request_ms == 0) (filter_map (due_to r due.Expire) (numbers_below m))
@@ -101,17 +105,21 @@ follows_tick w r n is_due f0 f1 f2 f3 bits orders f =
     if_mapped_then g (is_report_due w r)
     (filter_map (due_to r due.Report) (numbers_below m) ++ filter_map (report_to t r) (enumerate_from 0 t.legs))
     (map report (present_endpoints t r) ++ flat_map (leg_report t r) (enumerate_from 0 t.legs)) both in
-    let all : map g f3 ≡ (map pulse (present_endpoints t r) ++ expires w.setup r) ++ reports w r =
-    ap (map g) p3 ∙ map-append g (P ++ E) R ∙ ap (λ (l : List Task). l ++ map g R) (map-append g P E)
-    ∙ ap₂ (λ (a b : List Task). a ++ b) (ap₂ (λ (a b : List Task). a ++ b) eP eE) eR in
+    let pulses : List Task = map pulse (present_endpoints t r) in
+    let all : map g f3 ≡ (T ++ pulses ++ expires w.setup r) ++ reports w r =
+    ap (map g) p3 ∙ map-append g (A ++ P ++ E) R
+    ∙ ap (λ (l : List Task). l ++ map g R) (map-append g (A ++ P) E ∙ ap (λ (l : List Task). l ++ map g E) (map-append g A P))
+    ∙ ap₂ (λ (a b : List Task). a ++ b) (ap₂ (λ (a b : List Task). a ++ b) (ap₂ (λ (a b : List Task). a ++ b) eA eP) eE) eR in
     ap (λ (l : List Task). map order orders ++ l) all
-    ∙ sym (append_assoc (map order orders) (map pulse (present_endpoints t r) ++ expires w.setup r) (reports w r))
-    ∙ ap (λ (l : List Task). l ++ reports w r) (sym (append_assoc (map order orders) (map pulse (present_endpoints t r)) (expires w.setup r)))
+    ∙ sym (append_assoc (map order orders) (T ++ pulses ++ expires w.setup r) (reports w r))
+    ∙ ap (λ (l : List Task). l ++ reports w r)
+    (sym (append_assoc (map order orders) (T ++ pulses) (expires w.setup r))
+    ∙ ap (λ (l : List Task). l ++ expires w.setup r) (sym (append_assoc (map order orders) T pulses)))
 
 pub ticks_so : (w : WorldState) (moment : ℕ) (outs : List Out) (room : RoomState) (before after : List Order) (n : ℕ) (is_due : Bool)
     (f0 f1 f2 f3 : List FollowUp) (bits : List ℕ) (tasks : List Task) (reported : ℕ) → is_busy w ≡ false → w.lost < 2 ^ 64
     → w.tmmbns < 2 ^ 64 → before ≡ [] → room ≡ (tick_step w.room moment).room → after ≡ before ++ (tick_step w.room moment).orders
-    → FollowsTick w room n is_due f0 f1 f2 f3 → tasks ≡ map order after ++ map (task_of bits) f3
+    → FollowsTick w room after n is_due f0 f1 f2 f3 → tasks ≡ map order after ++ map (task_of bits) f3
     → reported ≡ (if is_due then room.moment else w.reported)
     → Leaves (λ h. h ≡ ticking w moment) w outs (taken_in w room tasks reported w.tmmbns) outs
 ticks_so w moment outs room before after n is_due f0 f1 f2 f3 bits tasks reported h lost tmmbns eb er eo f et eq =
@@ -123,16 +131,27 @@ ticks_so w moment outs room before after n is_due f0 f1 f2 f3 bits tasks reporte
     eq ∙ ap (λ (b : Bool). if b then room.moment else w.reported) f.says_due ∙ ap (λ (r : RoomState). reported_by w r) er in
     ticks w moment outs room tasks reported h lost tmmbns er here then_at
 
+-- ---- what follows from the orders
+
+first_follows : (w : WorldState) (s : Step) (bits : List ℕ) (room : RoomState) (after : List Order) (f0 f1 : List FollowUp)
+    → room ≡ s.room → after ≡ s.orders → f0 ≡ [] → f1 ≡ f0 ++ filter_map (follow_up_after w.setup room) after
+    → map (task_of bits) f1 ≡ tasks_after w.setup s
+first_follows w s bits room after f0 f1 er orders e0 e1 =
+    ap (map (task_of bits)) (e1 ∙ ap (λ (l : List FollowUp). l ++ filter_map (follow_up_after w.setup room) after) e0)
+    ∙ after_follows bits w.setup room after
+    ∙ ap₂ (λ (r : RoomState) (o : List Order). filter_map (task_after w.setup r) o) er orders
+
 -- ---- an RTP packet
 
 pub medias : (w : WorldState) (moment endpoint : ℕ) (bytes bits : List ℕ) (ssrc seq timestamp n : ℕ) (outs all : List Out) (before after : List Order)
-    (room room' : RoomState) (f0 f1 : List FollowUp) (tasks : List Task) → all ≡ outs → is_busy w ≡ false → w.lost < 2 ^ 64 → w.tmmbns < 2 ^ 64
+    (room room' : RoomState) (f0 f1 f2 : List FollowUp) (tasks : List Task) → all ≡ outs → is_busy w ≡ false → w.lost < 2 ^ 64 → w.tmmbns < 2 ^ 64
     → Answers w.room before (hear_step w.room moment endpoint ssrc) (Ok tt) room after → before ≡ [] → bits ≡ bytes
-    → n ≡ w.setup.table.workers → f0 ≡ [] → f1 ≡ f0 ++ filter_map (packet_to w.setup.table room endpoint) (numbers_below n)
-    → room' ≡ after_packet room endpoint seq timestamp → tasks ≡ map order after ++ map (task_of bits) f1
+    → n ≡ w.setup.table.workers → f0 ≡ [] → f1 ≡ f0 ++ filter_map (follow_up_after w.setup room) after
+    → f2 ≡ f1 ++ filter_map (packet_to w.setup.table room endpoint) (numbers_below n)
+    → room' ≡ after_packet room endpoint seq timestamp → tasks ≡ map order after ++ map (task_of bits) f2
     → Leaves (λ h. h ≡ hearing w moment endpoint bytes (Ok (media ssrc seq timestamp))) w outs
     (taken_in w room' tasks w.reported w.tmmbns) all
-medias w moment endpoint bytes bits ssrc seq timestamp n outs all before after room room' f0 f1 tasks ea h lost tmmbns a eb ed en e0 e1 er' et =
+medias w moment endpoint bytes bits ssrc seq timestamp n outs all before after room room' f0 f1 f2 tasks ea h lost tmmbns a eb ed en e0 e1 e2 er' et =
     let (s, is, er, eo) = accepted w.room before (hear_step w.room moment endpoint ssrc) room after a in
     let said : Said = media ssrc seq timestamp in
     let t = w.setup.table in
@@ -141,17 +160,20 @@ medias w moment endpoint bytes bits ssrc seq timestamp n outs all before after r
     let here : room' ≡ room_after w.room calls =
     er' ∙ ap (λ (r : RoomState). after_packet r endpoint seq timestamp) er
     ∙ ap (λ (x : Result Step RoomFault). room_after (room_of w.room x) (Receive endpoint seq timestamp ∷ [])) (sym is) in
-    let follow : f1 ≡ filter_map (packet_to t room endpoint) (numbers_below t.workers) =
-    e1 ∙ ap₂ (λ (l : List FollowUp) (k : ℕ). l ++ filter_map (packet_to t room endpoint) (numbers_below k)) e0 en in
-    let jobs : map (task_of bits) f1 ≡ jobs_of t s.room endpoint bytes said =
-    ap (map (task_of bits)) follow ∙ packets_follow bits t room endpoint (numbers_below t.workers)
+    let packets : List FollowUp = filter_map (packet_to t room endpoint) (numbers_below t.workers) in
+    let follow : f2 ≡ f1 ++ packets = e2 ∙ ap (λ (k : ℕ). f1 ++ filter_map (packet_to t room endpoint) (numbers_below k)) en in
+    let jobs : map (task_of bits) packets ≡ jobs_of t s.room endpoint bytes said =
+    packets_follow bits t room endpoint (numbers_below t.workers)
     ∙ ap₂ (λ (d : List ℕ) (r : RoomState). jobs_of t r endpoint d said) ed er in
-    let made : tasks ≡ map order s.orders ++ jobs_of t s.room endpoint bytes said =
-    et ∙ ap₂ (λ (o : List Order) (l : List Task). map order o ++ l) orders jobs in
+    let all_made : map (task_of bits) f2 ≡ tasks_after w.setup s ++ jobs_of t s.room endpoint bytes said =
+    ap (map (task_of bits)) follow ∙ map-append (task_of bits) f1 packets
+    ∙ ap₂ (λ (x y : List Task). x ++ y) (first_follows w s bits room after f0 f1 er orders e0 e1) jobs in
+    let made : tasks ≡ map order s.orders ++ (tasks_after w.setup s ++ jobs_of t s.room endpoint bytes said) =
+    et ∙ ap₂ (λ (o : List Order) (l : List Task). map order o ++ l) orders all_made in
     record {
       happening = hearing_by w moment endpoint bytes said (Ok s);
       allowed = ap (hearing_by w moment endpoint bytes said) (sym is);
-      leads = took w [] calls (map order s.orders ++ jobs_of t s.room endpoint bytes said) w.reported 0 room' tasks w.tmmbns h lost here made
+      leads = took w [] calls (map order s.orders ++ (tasks_after w.setup s ++ jobs_of t s.room endpoint bytes said)) w.reported 0 room' tasks w.tmmbns h lost here made
           (uncounted w.tmmbns tmmbns);
       given = ea ∙ sym (append-nil outs);
     }
@@ -164,15 +186,16 @@ noted_is r endpoint None = refl
 noted_is r endpoint (Some p) = refl
 
 pub controls : (w : WorldState) (moment endpoint : ℕ) (bytes bits : List ℕ) (speaker : ℕ) (reports : List (ℕ × ℕ)) (tmmbns : ℕ) (asks asks' : List Ask)
-    (outs all : List Out) (before after : List Order) (room room' : RoomState) (f0 f1 : List FollowUp) (tasks : List Task) (count : ℕ)
+    (outs all : List Out) (before after : List Order) (room room' : RoomState) (f0 f1 f2 : List FollowUp) (tasks : List Task) (count : ℕ)
     (noting : Option (ℕ × ℕ)) → is_busy w ≡ false → w.lost < 2 ^ 64
     → Answers w.room before (hear_step w.room moment endpoint speaker) (Ok tt) room after → before ≡ [] → noting ≡ last_or None reports
-    → asks' ≡ asks → f0 ≡ [] → f1 ≡ f0 ++ filter_map (follow_up_for w.setup.table room endpoint) asks'
+    → asks' ≡ asks → f0 ≡ [] → f1 ≡ f0 ++ filter_map (follow_up_after w.setup room) after
+    → f2 ≡ f1 ++ filter_map (follow_up_for w.setup.table room endpoint) asks'
     → all ≡ outs ++ flat_map (λ a. refusal_unless (follow_up_for w.setup.table room endpoint a)) asks'
-    → room' ≡ room_with_report room endpoint noting → tasks ≡ map order after ++ map (task_of bits) f1 → count ≡ capped_count w.tmmbns tmmbns
+    → room' ≡ room_with_report room endpoint noting → tasks ≡ map order after ++ map (task_of bits) f2 → count ≡ capped_count w.tmmbns tmmbns
     → Leaves (λ h. h ≡ hearing w moment endpoint bytes (Ok (control speaker reports tmmbns asks))) w outs
     (taken_in w room' tasks w.reported count) all
-controls w moment endpoint bytes bits speaker reports tmmbns asks asks' outs all before after room room' f0 f1 tasks count noting h lost a eb en ea e0 e1 eout er' et ec =
+controls w moment endpoint bytes bits speaker reports tmmbns asks asks' outs all before after room room' f0 f1 f2 tasks count noting h lost a eb en ea e0 e1 e2 eout er' et ec =
     let (s, is, er, eo) = accepted w.room before (hear_step w.room moment endpoint speaker) room after a in
     let said : Said = control speaker reports tmmbns asks in
     let t = w.setup.table in
@@ -182,13 +205,15 @@ controls w moment endpoint bytes bits speaker reports tmmbns asks asks' outs all
     let here : room' ≡ room_after w.room calls =
     er' ∙ ap₂ (λ (r : RoomState) (o : Option (ℕ × ℕ)). room_with_report r endpoint o) er en ∙ noted_is s.room endpoint (last_or None reports)
     ∙ ap (λ (x : Result Step RoomFault). room_after (room_of w.room x) notes) (sym is) in
-    let follow : f1 ≡ filter_map (follow_up_for t room endpoint) asks =
-    e1 ∙ ap₂ (λ (l : List FollowUp) (k : List Ask). l ++ filter_map (follow_up_for t room endpoint) k) e0 ea in
-    let jobs : map (task_of bits) f1 ≡ jobs_of t s.room endpoint bytes said =
-    ap (map (task_of bits)) follow ∙ asks_follow bits t room endpoint asks
-    ∙ ap (λ (r : RoomState). jobs_of t r endpoint bytes said) er in
-    let made : tasks ≡ map order s.orders ++ jobs_of t s.room endpoint bytes said =
-    et ∙ ap₂ (λ (o : List Order) (l : List Task). map order o ++ l) orders jobs in
+    let entries : List FollowUp = filter_map (follow_up_for t room endpoint) asks in
+    let follow : f2 ≡ f1 ++ entries = e2 ∙ ap (λ (k : List Ask). f1 ++ filter_map (follow_up_for t room endpoint) k) ea in
+    let jobs : map (task_of bits) entries ≡ jobs_of t s.room endpoint bytes said =
+    asks_follow bits t room endpoint asks ∙ ap (λ (r : RoomState). jobs_of t r endpoint bytes said) er in
+    let all_made : map (task_of bits) f2 ≡ tasks_after w.setup s ++ jobs_of t s.room endpoint bytes said =
+    ap (map (task_of bits)) follow ∙ map-append (task_of bits) f1 entries
+    ∙ ap₂ (λ (x y : List Task). x ++ y) (first_follows w s bits room after f0 f1 er orders e0 e1) jobs in
+    let made : tasks ≡ map order s.orders ++ (tasks_after w.setup s ++ jobs_of t s.room endpoint bytes said) =
+    et ∙ ap₂ (λ (o : List Order) (l : List Task). map order o ++ l) orders all_made in
     let told : all ≡ outs ++ refusals_of t s.room endpoint said =
     eout ∙ ap (λ (k : List Ask). outs ++ flat_map (λ (x : Ask). refusal_unless (follow_up_for t room endpoint x)) k) ea
     ∙ ap (λ (l : List Out). outs ++ l) (asks_refused t room endpoint asks)
@@ -196,9 +221,55 @@ controls w moment endpoint bytes bits speaker reports tmmbns asks asks' outs all
     record {
       happening = hearing_by w moment endpoint bytes said (Ok s);
       allowed = ap (hearing_by w moment endpoint bytes said) (sym is);
-      leads = took w (refusals_of t s.room endpoint said) calls (map order s.orders ++ jobs_of t s.room endpoint bytes said) w.reported tmmbns
+      leads = took w (refusals_of t s.room endpoint said) calls (map order s.orders ++ (tasks_after w.setup s ++ jobs_of t s.room endpoint bytes said)) w.reported tmmbns
           room' tasks count h lost here made ec;
       given = told;
+    }
+
+-- ---- a goodbye
+
+pub goodbyes : (w : WorldState) (moment endpoint : ℕ) (bytes bits : List ℕ) (outs all : List Out) (before after : List Order) (room : RoomState)
+    (f0 f1 : List FollowUp) (tasks : List Task) → all ≡ outs → is_busy w ≡ false → w.lost < 2 ^ 64 → w.tmmbns < 2 ^ 64
+    → Answers w.room before (bye_step w.room moment endpoint) (Ok tt) room after → before ≡ [] → f0 ≡ []
+    → f1 ≡ f0 ++ filter_map (follow_up_after w.setup room) after → tasks ≡ map order after ++ map (task_of bits) f1
+    → Leaves (λ h. h ≡ hearing w moment endpoint bytes (Ok leaves)) w outs (taken_in w room tasks w.reported w.tmmbns) all
+goodbyes w moment endpoint bytes bits outs all before after room f0 f1 tasks ea h lost tmmbns a eb e0 e1 et =
+    let (s, is, er, eo) = accepted w.room before (bye_step w.room moment endpoint) room after a in
+    let orders : after ≡ s.orders = eo ∙ ap (λ (l : List Order). l ++ s.orders) eb in
+    let calls = Bye moment endpoint ∷ [] in
+    let here : room ≡ room_after w.room calls = er ∙ ap (λ (x : Result Step RoomFault). room_of w.room x) (sym is) in
+    let all_made : map (task_of bits) f1 ≡ tasks_after w.setup s ++ [] =
+    first_follows w s bits room after f0 f1 er orders e0 e1 ∙ sym (append-nil (tasks_after w.setup s)) in
+    let made : tasks ≡ map order s.orders ++ (tasks_after w.setup s ++ []) =
+    et ∙ ap₂ (λ (o : List Order) (l : List Task). map order o ++ l) orders all_made in
+    record {
+      happening = hearing_by w moment endpoint bytes leaves (Ok s);
+      allowed = ap (hearing_by w moment endpoint bytes leaves) (sym is);
+      leads = took w [] calls (map order s.orders ++ (tasks_after w.setup s ++ [])) w.reported 0 room tasks w.tmmbns h lost here made
+          (uncounted w.tmmbns tmmbns);
+      given = ea ∙ sym (append-nil outs);
+    }
+
+-- ---- a selection
+
+pub selects : (w : WorldState) (moment leg : ℕ) (on : Bool) (bits : List ℕ) (outs all : List Out) (before after : List Order) (room : RoomState)
+    (f0 f1 : List FollowUp) (tasks : List Task) → all ≡ outs → is_busy w ≡ false → w.lost < 2 ^ 64 → w.tmmbns < 2 ^ 64
+    → Answers w.room before (select_step w.room moment leg on) (Ok tt) room after → before ≡ [] → f0 ≡ []
+    → f1 ≡ f0 ++ filter_map (follow_up_after w.setup room) after → tasks ≡ map order after ++ map (task_of bits) f1
+    → Leaves (λ h. h ≡ selecting w moment leg on) w outs (taken_in w room tasks w.reported w.tmmbns) all
+selects w moment leg on bits outs all before after room f0 f1 tasks ea h lost tmmbns a eb e0 e1 et =
+    let (s, is, er, eo) = accepted w.room before (select_step w.room moment leg on) room after a in
+    let orders : after ≡ s.orders = eo ∙ ap (λ (l : List Order). l ++ s.orders) eb in
+    let calls = Select moment leg on ∷ [] in
+    let here : room ≡ room_after w.room calls = er ∙ ap (λ (x : Result Step RoomFault). room_of w.room x) (sym is) in
+    let made : tasks ≡ map order s.orders ++ tasks_after w.setup s =
+    et ∙ ap₂ (λ (o : List Order) (l : List Task). map order o ++ l) orders (first_follows w s bits room after f0 f1 er orders e0 e1) in
+    record {
+      happening = selecting_by w moment leg on (Ok s);
+      allowed = ap (selecting_by w moment leg on) (sym is);
+      leads = took w [] calls (map order s.orders ++ tasks_after w.setup s) w.reported 0 room tasks w.tmmbns h lost here made
+          (uncounted w.tmmbns tmmbns);
+      given = ea ∙ sym (append-nil outs);
     }
 
 -- ---- a datagram

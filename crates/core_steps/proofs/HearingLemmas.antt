@@ -1,13 +1,14 @@
 -- What the ingress takes in: the happening of each leaf, and the world behind it.
-use Rattle.std.proofs.Common.{◌≡◌, ◌∙◌, ◌==◌, ℕ, ◌+◌, ◌^◌, ◌<◌, List, [], ◌∷◌, ◌++◌, length, map, drop, take, get_or, Bool, true, false, cond, Result, Ok, Err, refl, sym, ap, ap₂, arith, add-zero}
+use Rattle.std.proofs.Common.{◌≡◌, ◌∙◌, ◌==◌, ℕ, ◌+◌, ◌^◌, ◌<◌, List, [], ◌∷◌, ◌++◌, length, map, drop, take, get_or, Bool, true, false, cond, Result, Ok, Err, refl, sym, ap, ap₂, subst, arith, add-zero, ◌≤◌}
 use Rattle.std.proofs.lemmas.List.{append-nil, length-replicate, take_more, append_assoc, length-take}
 use Rattle.std.proofs.lemmas.List.Elements.{filter_map-append}
 use Rattle.std.proofs.lemmas.Grind.{replicate_next, flat_map-append}
-use Rattle.std.specs.Prelude.{not, ◌||◌, filter, replicate, Option, None, Some, option_map, is_some, if◌then◌else◌}
+use Rattle.std.specs.Prelude.{not, ◌||◌, filter, replicate, Option, None, Some, option_map, is_some, IfOk, ◌&&◌, if◌then◌else◌}
 use Rattle.std.specs.List.{enumerate_from, filter_map, flat_map, cons_option}
 use Rattle.std.specs.Option.{option_to_list}
 use Rattle.settings.specs.declared.fault.RoomFault.{RoomFault}
 use Rattle.members.specs.declared.order.Order.{Order}
+use Rattle.members.specs.declared.order.Order.TheVariants.{Arrive, Depart, Route}
 use Rattle.settings.specs.declared.settings.LegSettings.{LegSettings}
 use Rattle.members.specs.Presence.{is_present_at}
 use Rattle.members.specs.Room.{RoomState, Step, Answers, tick_step, reception_at}
@@ -23,14 +24,14 @@ use Rattle.core_steps.specs.declared.tasks.FollowUp.{FollowUp}
 use Rattle.core_steps.specs.declared.tasks.FollowUp.TheVariants.{Push}
 use Rattle.core_steps.specs.declared.seed.Seed.TheVariants as seed
 use Rattle.core_steps.specs.Seed.{job_of}
-use Rattle.core_steps.specs.FollowUps.{due_at, due_to, packet_to, report_to, seed_by, follow_up_on, follow_up_for, refusal_unless}
+use Rattle.core_steps.specs.FollowUps.{due_at, due_to, packet_to, report_to, seed_by, follow_up_after, follow_up_on, follow_up_for, refusal_unless}
 use Rattle.core_steps.specs.Happening.{Happening, giving, capped_count, world_after}
-use Rattle.core_steps.specs.Hearing.{ticking, numbers_below, leg_stay, owner_of, is_served_by, media_of, leg_report, task_for, task_on, refusal_for, job_by}
+use Rattle.core_steps.specs.Hearing.{ticking, numbers_below, leg_stay, owner_of, is_served_by, media_of, leg_report, is_left, task_after, task_for, task_on, refusal_for, job_by}
 use Rattle.settings.specs.Links.{LinkTable, leg_to, worker_of}
 use Rattle.core_steps.specs.Machine.{task_of}
 use Rattle.core_steps.specs.Rule.{is_busy, is_empty}
 use Rattle.core_steps.specs.Run.{Leaves}
-use Rattle.core_steps.specs.World.{WorldState, Task, order, push, pulse, expire, report}
+use Rattle.core_steps.specs.World.{Setup, WorldState, Task, order, push, pulse, expire, report}
 use Rattle.notices.specs.Notification.{Pending}
 
 -- ---- the room
@@ -40,6 +41,15 @@ pub accepted : (old : RoomState) (before : List Order) (step : Result Step RoomF
     → Answers old before step (Ok tt) new after → (s : Step) × (step ≡ Ok s) × (new ≡ s.room) × (after ≡ before ++ s.orders)
 accepted old before (Ok s) new after a = (s, refl, a.ok.0, a.ok.1)
 accepted old before (Err fault) new after a = let no : ◌≡◌ {A = Result (Unit {0}) RoomFault} (Ok tt) (Err fault) = a.refused in absurd (cc)
+
+-- its orders are few, as those of each call
+pub few_given : (old : RoomState) (before : List Order) (step : Result Step RoomFault) (new : RoomState) (after : List Order) (n : ℕ)
+    → Answers old before step (Ok tt) new after → before ≡ [] → IfOk step (λ s. length s.orders ≤ n) → length after ≤ n
+few_given old before step new after n a eb most =
+    let (s, is, er, eo) = accepted old before step new after a in
+    let few : length s.orders ≤ n = subst (λ (x : Result Step RoomFault). IfOk x (λ s. length s.orders ≤ n)) is most in
+    let orders : after ≡ s.orders = eo ∙ ap (λ (l : List Order). l ++ s.orders) eb in
+    subst (λ (l : List Order). length l ≤ n) (sym orders) few
 
 -- ---- nothing waits
 
@@ -224,6 +234,24 @@ some_unless : {Y Z : Type 0} (f : Y → Z) (b : Bool) (y : Y) (z : Z) → f y �
     → option_map f (if b then None else Some y) ≡ (if b then None else Some z)
 some_unless f true y z e = refl
 some_unless f false y z e = ap Some e
+
+some_if : {Y Z : Type 0} (f : Y → Z) (b : Bool) (y : Y) (z : Z) → f y ≡ z
+    → option_map f (if b then Some y else None) ≡ (if b then Some z else None)
+some_if f true y z e = ap Some e
+some_if f false y z e = refl
+
+after_is : (bits : List ℕ) (s : Setup) (r : RoomState) (o : Order) → option_map (task_of bits) (follow_up_after s r o) ≡ task_after s r o
+after_is bits s r (Arrive leg stay) = refl
+after_is bits s r (Depart leg stay) =
+    some_if (task_of bits) (s.rules.leg_goodbyes && is_left s.table r leg) (Push (owner_of s.table leg) (seed.Goodbye leg))
+    (push (owner_of s.table leg) (job.Goodbye leg)) refl
+after_is bits s r (Route leg stay turn on) =
+    some_if (task_of bits) (on && s.rules.early_pictures) (Push (owner_of s.table leg) (seed.Pli leg r.moment))
+    (push (owner_of s.table leg) (job.Pli leg r.moment)) refl
+
+pub after_follows : (bits : List ℕ) (s : Setup) (r : RoomState) (os : List Order)
+    → map (task_of bits) (filter_map (follow_up_after s r) os) ≡ filter_map (task_after s r) os
+after_follows bits s r os = map_filter (task_of bits) (follow_up_after s r) (task_after s r) (after_is bits s r) os
 
 follow_is : (bits : List ℕ) (t : LinkTable) (r : RoomState) (a : Ask) (o : Option ℕ)
     → option_map (task_of bits) (follow_up_on t r a o) ≡ task_on t r a o

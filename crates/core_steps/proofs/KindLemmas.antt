@@ -18,20 +18,20 @@ use Rattle.desk.specs.State.{DeskState}
 use Rattle.events.specs.declared.event.Event.{Event}
 use Rattle.events.specs.declared.event.Event.TheVariants.{Hear, Tick, Select, Ingress, Work}
 use Rattle.events.specs.declared.job.Job.{Job}
-use Rattle.events.specs.declared.job.Job.TheVariants.{Packet, Request, Resend, Pli, Report}
+use Rattle.events.specs.declared.job.Job.TheVariants.{Packet, Request, Resend, Pli, Report, Goodbye}
 use Rattle.events.specs.declared.output.Out.{Out}
 use Rattle.events.specs.declared.output.Refusal.{Refusal}
 use Rattle.events.specs.declared.output.Out.TheVariants.{Busy, Lost}
 use Rattle.core_steps.specs.declared.ring.TheConstants.{JOB_LIMIT}
 use Rattle.core_steps.specs.Happening.{Happening, RecordedCall, GivenUp, Worked, giving}
 use Rattle.core_steps.specs.Laws.{TellsLegalDesk, IsGivenUpFull}
-use Rattle.core_steps.specs.Hearing.{IsHearing, hearing, hearing_by, ticking, room_call, receptions, selecting_by, jobs_of}
+use Rattle.core_steps.specs.Hearing.{IsHearing, hearing, hearing_by, ticking, room_call, receptions, selecting_by, jobs_of, tasks_after}
 use Rattle.intake.specs.Intake.{Said}
 use Rattle.legs.specs.Legs.{legs_after}
 use Rattle.core_steps.specs.Rule.{Does, DoesNext, DoesTask, DoesJob, Works, WorksOn, is_busy, Replies, IngressAsks, OrderAsks, JobAsks, WorkerAsks, ingress_asked, worker_asked, pushing, putting, done_task, taking, working, with_hand, forwarding, hand_of, pending_of}
 use Rattle.core_steps.specs.World.{WorldState, WorkerState, Task, order, push, pulse, expire, report, Hand, free, doing, telling}
 use Rattle.notices.specs.Notification.{Pending}
-use Rattle.core_steps.proofs.CauseLemmas.{AsksAsDone, AsksThere, AskedByJob, Causes, asked_by_task, finished_in, in_hand, orders_in, orders_in-orders, orders_first, orders_ticked, none_heard, none_received}
+use Rattle.core_steps.proofs.CauseLemmas.{AsksAsDone, AsksThere, AskedByJob, Causes, asked_by_task, finished_in, in_hand, orders_in, orders_in-orders, orders_first, orders_ticked, none_after, none_append, none_heard, none_received}
 
 -- What was done at a worker: it is there, it took its oldest jobs, and there was room for those that it was given; it finished what
 -- it had in hand, and has in hand what it took; its legs are as the jobs that it finished leave them.
@@ -117,7 +117,9 @@ hearing_kind_by : (w : WorldState) (moment endpoint : ℕ) (bytes : List ℕ) (s
     → step_of w.room (room_call moment endpoint said) ≡ r → IsKind w (hearing_by w moment endpoint bytes said r)
 hearing_kind_by w moment endpoint bytes said (Ok step) e =
     idle_kind w _ refl refl refl refl refl (
-    orders_first step.orders (jobs_of w.setup.table step.room endpoint bytes said) (none_heard w.setup.table step.room endpoint bytes said)
+    orders_first step.orders (tasks_after w.setup step ++ jobs_of w.setup.table step.room endpoint bytes said)
+    (none_append (tasks_after w.setup step) (jobs_of w.setup.table step.room endpoint bytes said) (none_after w.setup step)
+    (none_heard w.setup.table step.room endpoint bytes said))
     ∙ sym (
     ap (λ (x : Result Step RoomFault). orders_of x ++ orders_after (room_of w.room x) (receptions endpoint said)) e
     ∙ ap (λ (os : List Order). step.orders ++ os) (none_received step.room endpoint said)
@@ -135,13 +137,14 @@ ticking_kind : (w : WorldState) (moment : ℕ) → IsKind w (ticking w moment)
 ticking_kind w moment =
     let step : Step = tick_step w.room moment in
     idle_kind w (ticking w moment) refl refl refl refl refl
-    (orders_ticked w step.room step.orders)
+    (orders_ticked w step)
 
 selecting_kind : (w : WorldState) (moment leg : ℕ) (on : Bool) (r : Result Step RoomFault) → select_step w.room moment leg on ≡ r
     → IsKind w (selecting_by w moment leg on r)
 selecting_kind w moment leg on (Ok step) e =
     idle_kind w _ refl refl refl refl refl (
-    orders_in-orders step.orders ∙ sym (append-nil step.orders) ∙ sym (ap (λ (x : Result Step RoomFault). orders_of x ++ []) e)
+    orders_first step.orders (tasks_after w.setup step) (none_after w.setup step)
+    ∙ sym (ap (λ (x : Result Step RoomFault). orders_of x ++ []) e)
     )
 selecting_kind w moment leg on (Err fault) e = giving_kind w _
 
@@ -335,6 +338,7 @@ job_kind : (w : WorldState) (k : ℕ) (s : WorkerState) (job : Job) (h : Happeni
 job_kind w k s (Packet publisher bytes) h f held r = along w h _ r (forward_kind w k s _ f held refl)
 job_kind w k s (Resend leg stay nack) h f held r = along w h _ r (forward_kind w k s _ f held refl)
 job_kind w k s (Report leg stay sr) h f held r = along w h _ r (forward_kind w k s _ f held refl)
+job_kind w k s (Goodbye leg) h f held r = along w h _ r (forward_kind w k s _ f held refl)
 job_kind w k s (Request leg stay word) h f held r =
     job_asks_kind w k s _ f held (sym (map-id s.legs)) (Some leg) _ h (r.0, r.1, refl) r.2
 job_kind w k s (Pli leg moment) h f held r = job_asks_kind w k s _ f held (sym (map-id s.legs)) None _ h refl r

@@ -19,7 +19,7 @@ use Rattle.rewrite.specs.Leg.{Held, new_leg, held_with, held_after}
 use Rattle.rtcp_feedback.specs.Nack.{lost_numbers}
 use Rattle.events.specs.declared.event.Event.{Event}
 use Rattle.events.specs.declared.job.Job.{Job}
-use Rattle.events.specs.declared.job.Job.TheVariants.{Packet, Request, Resend, Pli, Report}
+use Rattle.events.specs.declared.job.Job.TheVariants.{Packet, Request, Resend, Pli, Report, Goodbye}
 use Rattle.legs.specs.declared.leg.LegState.{LegState}
 use Rattle.core_steps.specs.Happening.{Happening, Worked, no_worker, worker_after, workers_by, world_after}
 use Rattle.legs.specs.Legs.{new_state, owned_by, new_legs, takes, row_of, stands, answer_on, packet_after, resent, leg_after, legs_after}
@@ -161,6 +161,7 @@ goes : (rows : List Row) (job : Job) (s : LegState) → Goes (packets_taken_by s
 goes rows (Packet publisher bytes) s = goes_if rows bytes s (takes rows publisher bytes s)
 goes rows (Resend leg stay nack) s = resend_if s (lost_numbers nack) (stands rows leg stay s)
 goes rows (Report leg stay sr) s = goes_none s s refl refl refl refl
+goes rows (Goodbye leg) s = goes_none s s refl refl refl refl
 goes rows (Request leg stay word) s = goes_none s s refl refl refl refl
 goes rows (Pli leg moment) s = goes_none s s refl refl refl refl
 

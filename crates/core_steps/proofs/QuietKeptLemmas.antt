@@ -29,7 +29,7 @@ use Rattle.desk.specs.Places.{IsArriveOf, IsRequestOf, IsDepartOf, IsExpire}
 use Rattle.desk.specs.State.{DeskState, now_of}
 use Rattle.desk.specs.Trace.{base_after, empty_base}
 use Rattle.events.specs.declared.job.Job.{Job}
-use Rattle.events.specs.declared.job.Job.TheVariants.{Packet, Request, Resend, Pli, Report}
+use Rattle.events.specs.declared.job.Job.TheVariants.{Packet, Request, Resend, Pli, Report, Goodbye}
 use Rattle.notices.specs.DeskCalls.{source_of, stay_call}
 use Rattle.core_steps.specs.Happening.{RecordedCall, Worked, desks_by, workers_by, worker_after, no_worker}
 use Rattle.core_steps.specs.Hearing.{owner_of}
@@ -50,6 +50,7 @@ IsPlaced c k (Request leg stay word) = owner_of (table_of c) leg ≡ k
 IsPlaced c k (Resend leg stay nack) = Unit {0}
 IsPlaced c k (Pli leg moment) = Unit {0}
 IsPlaced c k (Report leg stay sr) = Unit {0}
+IsPlaced c k (Goodbye leg) = Unit {0}
 
 abbrev pub IsPlacedHand : Configuration → ℕ → Hand → Type 0
 IsPlacedHand c k free = Unit {0}

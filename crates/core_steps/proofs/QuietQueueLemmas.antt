@@ -8,7 +8,7 @@ use Rattle.std.proofs.lemmas.Grind.{flat_map-append}
 use Rattle.members.specs.declared.order.Order.{Order}
 use Rattle.members.specs.declared.order.Order.TheVariants.{Arrive, Depart, Route}
 use Rattle.events.specs.declared.job.Job.{Job}
-use Rattle.events.specs.declared.job.Job.TheVariants.{Packet, Request, Resend, Pli, Report}
+use Rattle.events.specs.declared.job.Job.TheVariants.{Packet, Request, Resend, Pli, Report, Goodbye}
 use Rattle.core_steps.specs.Quiet.{HeardRate, words_heard}
 use Rattle.core_steps.specs.World.{Task, order, push, pulse, expire, report, Hand, free, doing, telling}
 use Rattle.core_steps.proofs.QuietRoomLemmas.{Follows}
@@ -24,6 +24,7 @@ job_asks n (Request leg stay word) = asks_if (leg == n) stay word
 job_asks n (Resend leg stay nack) = []
 job_asks n (Pli leg moment) = []
 job_asks n (Report leg stay sr) = []
+job_asks n (Goodbye leg) = []
 
 abbrev pub hand_asks : ℕ → Hand → List (ℕ × ℕ)
 hand_asks n free = []

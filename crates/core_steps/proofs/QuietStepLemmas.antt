@@ -21,14 +21,14 @@ use Rattle.desk.specs.State.{DeskState}
 use Rattle.events.specs.declared.event.Event.{Event}
 use Rattle.events.specs.declared.event.Event.TheVariants.{Hear, Tick, Select, Ingress, Work}
 use Rattle.events.specs.declared.job.Job.{Job}
-use Rattle.events.specs.declared.job.Job.TheVariants.{Packet, Request, Resend, Pli, Report}
+use Rattle.events.specs.declared.job.Job.TheVariants.{Packet, Request, Resend, Pli, Report, Goodbye}
 use Rattle.events.specs.declared.output.Out.TheVariants.{Busy}
 use Rattle.events.specs.declared.output.Refusal.{Refusal}
 use Rattle.core_steps.specs.declared.ring.TheConstants.{JOB_LIMIT}
 use Rattle.notices.specs.DeskCalls.{stay_call}
 use Rattle.core_steps.specs.Happening.{Happening, RecordedCall, Worked, giving, world_after, worker_after, workers_by, desks_by}
 use Rattle.intake.specs.Heard.{asks_of}
-use Rattle.core_steps.specs.Hearing.{IsHearing, hearing, hearing_by, room_call, receptions, jobs_of, ticking, selecting_by, present_endpoints, expires, reports}
+use Rattle.core_steps.specs.Hearing.{IsHearing, hearing, hearing_by, room_call, receptions, jobs_of, tasks_after, ticking, selecting_by, present_endpoints, expires, reports}
 use Rattle.intake.specs.Intake.{Said}
 use Rattle.legs.specs.Legs.{legs_after}
 use Rattle.settings.specs.Links.{LinkTable, table_of}
@@ -42,7 +42,7 @@ use Rattle.core_steps.proofs.QuietDeskLemmas.{NotBy}
 use Rattle.core_steps.proofs.QuietLegLemmas.{asker, IsByLeg}
 use Rattle.core_steps.proofs.QuietQueueLemmas.{hand_asks, jobs_asks, job_asks, task_asks, Tracks, IsWaiting, waiting_taken}
 use Rattle.core_steps.proofs.QuietKeptLemmas.{IsPlaced, IsPlacedHand, IsPlacedWorker, stay_at, IsKept, desk_there, IsLegCall, IfLegCall, leg_call}
-use Rattle.core_steps.proofs.QuietTakenLemmas.{IsFollowUp, silent-none, silent-moment, datagram_follows, received-like, kept-like, low_then, kept_taken}
+use Rattle.core_steps.proofs.QuietTakenLemmas.{IsFollowUp, follow-append, silent-after, silent-append, silent-none, silent-moment, datagram_follows, received-like, kept-like, low_then, kept_taken}
 use Rattle.core_steps.proofs.QuietTaskLemmas.{kept_pop, kept_told, kept_arrived, kept_departed, kept_unput, kept_put}
 use Rattle.core_steps.proofs.QuietTurnLemmas.{kept_turned, kept_turned_told, kept_requested, kept_unasked}
 
@@ -115,8 +115,11 @@ module _ (c : Configuration) (range : IsInRange c) (w : WorldState) (setup : w.s
         = subst (λ (t : LinkTable). IsFollowUp c step.room (jobs_of t step.room endpoint bytes said) (flat_map (rate_of t step.room endpoint) (asks_of said)))
         (sym table) (datagram_follows c step.room (low_then c w.room call step w.desks w.workers rates asked e kept_idle) endpoint bytes said) in
         let more : List HeardRate = flat_map (rate_of w.setup.table step.room endpoint) (asks_of said) in
-        let made : List Task = map order step.orders ++ jobs_of w.setup.table step.room endpoint bytes said in
-        let new = kept_taken c w.room call step w.desks w.workers rates asked e kept_idle (jobs_of w.setup.table step.room endpoint bytes said) more follow in
+        let jobs : List Task = jobs_of w.setup.table step.room endpoint bytes said in
+        let first : List Task = tasks_after w.setup step in
+        let made : List Task = map order step.orders ++ (first ++ jobs) in
+        let new = kept_taken c w.room call step w.desks w.workers rates asked e kept_idle (first ++ jobs) more
+        (follow-append c step.room first jobs more (silent-after c step.room w.setup step.room step.orders) follow) in
         let received = kept-like c step.room (room_after step.room (receptions endpoint said)) made w.desks w.workers (rates ++ more) asked
         (received-like step.room endpoint said) new in
         subst (λ (x : Result Step RoomFault).
@@ -134,11 +137,16 @@ module _ (c : Configuration) (range : IsInRange c) (w : WorldState) (setup : w.s
     ticked moment u g =
         let step = tick_step w.room moment in
         let pulses : List Task = map pulse (present_endpoints w.setup.table step.room) in
-        let rest : List Task = pulses ++ (expires w.setup step.room ++ reports w step.room) in
-        let new = kept_taken c w.room (RoomTick moment) step w.desks w.workers rates asked refl kept_idle rest [] (silent-moment c w step.room) in
-        let joins : map order step.orders ++ rest ≡ ((map order step.orders ++ pulses) ++ expires w.setup step.room) ++ reports w step.room
-        = sym (append_assoc (map order step.orders ++ pulses) (expires w.setup step.room) (reports w step.room)
-        ∙ append_assoc (map order step.orders) pulses (expires w.setup step.room ++ reports w step.room)) in
+        let first : List Task = tasks_after w.setup step in
+        let due : List Task = pulses ++ (expires w.setup step.room ++ reports w step.room) in
+        let rest : List Task = first ++ due in
+        let new = kept_taken c w.room (RoomTick moment) step w.desks w.workers rates asked refl kept_idle rest []
+        (silent-append c step.room first due (silent-after c step.room w.setup step.room step.orders) (silent-moment c w step.room)) in
+        let joins : map order step.orders ++ rest
+        ≡ (((map order step.orders ++ first) ++ pulses) ++ expires w.setup step.room) ++ reports w step.room
+        = sym (append_assoc ((map order step.orders ++ first) ++ pulses) (expires w.setup step.room) (reports w step.room)
+        ∙ append_assoc (map order step.orders ++ first) pulses (expires w.setup step.room ++ reports w step.room)
+        ∙ append_assoc (map order step.orders) first due) in
         subst (λ (ts : List Task). IsKept c step.room.endpoints step.room.legs step.room.next (w.tasks ++ ts) w.desks w.workers (rates ++ []) (asked ++ []))
         joins (taken step.room (map order step.orders ++ rest) [] new)
 
@@ -146,13 +154,13 @@ module _ (c : Configuration) (range : IsInRange c) (w : WorldState) (setup : w.s
         → Keeps [] (selecting_by w moment leg on r)
     selected_by moment leg on (Err fault) e u g = still
     selected_by moment leg on (Ok step) e u g =
-        let new = kept_taken c w.room (RoomSelect moment leg on) step w.desks w.workers rates asked e kept_idle [] [] (silent-none c step.room) in
+        let first : List Task = tasks_after w.setup step in
+        let new = kept_taken c w.room (RoomSelect moment leg on) step w.desks w.workers rates asked e kept_idle first []
+        (silent-after c step.room w.setup step.room step.orders) in
         subst (λ (x : Result Step RoomFault).
-        IsKept c (room_of w.room x).endpoints (room_of w.room x).legs (room_of w.room x).next (w.tasks ++ map order step.orders) w.desks w.workers
+        IsKept c (room_of w.room x).endpoints (room_of w.room x).legs (room_of w.room x).next (w.tasks ++ (map order step.orders ++ first)) w.desks w.workers
         (rates ++ []) (asked ++ [])) (sym e)
-        (taken step.room (map order step.orders) []
-        (subst (λ (ts : List Task). IsKept c step.room.endpoints step.room.legs step.room.next ts w.desks w.workers (rates ++ []) asked)
-        (append-nil (map order step.orders)) new))
+        (taken step.room (map order step.orders ++ first) [] new)
 
   -- ---- the ingress
 
@@ -401,6 +409,7 @@ module _ (c : Configuration) (range : IsInRange c) (w : WorldState) (setup : w.s
     does_job (Packet publisher bytes) h held r = forwards (Packet publisher bytes) h held (λ n. refl) r
     does_job (Resend leg stay nack) h held r = forwards (Resend leg stay nack) h held (λ n. refl) r
     does_job (Report leg stay sr) h held r = forwards (Report leg stay sr) h held (λ n. refl) r
+    does_job (Goodbye leg) h held r = forwards (Goodbye leg) h held (λ n. refl) r
     does_job (Request m stay word) h held r =
         does_request m stay word r.0 (stay_call (table_of c) m stay (change.Request r.0)) h held r.1 (leg_call c m stay (change.Request r.0))
         (subst (λ (t : LinkTable). JobAsks w k s (Request m stay word) (Some m) (stay_call t m stay (change.Request r.0)) h) table r.2)

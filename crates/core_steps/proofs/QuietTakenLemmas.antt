@@ -1,10 +1,11 @@
 -- What a datagram, a moment or a selection that is taken in keeps, for the quiet law.
 use Rattle.std.proofs.Common.{◌≡◌, ℕ, ◌<◌, List, [], ◌∷◌, ◌++◌, map, refl, sym, ap, subst, ◌∙◌, Option, Some, None, Bool, true, false, cond, Result, Ok}
-use Rattle.std.specs.Prelude.{◌==◌, flat_map, filter_map}
+use Rattle.std.specs.Prelude.{◌==◌, ◌&&◌, flat_map, filter_map}
 use Rattle.std.specs.List.{AllByRecursion, enumerate_from, last_or, cons_option}
 use Rattle.std.specs.Option.{option_map_or}
 use Rattle.settings.specs.declared.fault.RoomFault.{RoomFault}
 use Rattle.members.specs.declared.order.Order.{Order}
+use Rattle.members.specs.declared.order.Order.TheVariants.{Arrive, Depart, Route}
 use Rattle.members.specs.declared.presence.Endpoint.{Endpoint}
 use Rattle.settings.specs.declared.settings.LegSettings.{LegSettings}
 use Rattle.members.specs.declared.stays.LegStay.{LegStay}
@@ -16,14 +17,14 @@ use Rattle.members.proofs.EndedLemmas.{Once, IfOnce, once_call, once_past, once_
 use Rattle.members.proofs.StandLemmas.{StandsIn, IfStands, stands}
 use Rattle.intake.specs.declared.intake.Ask.{Ask}
 use Rattle.intake.specs.declared.intake.Ask.TheVariants.{Rate, Resend as Again, Picture}
-use Rattle.events.specs.declared.job.Job.TheVariants.{Packet, Report as LegReport}
+use Rattle.events.specs.declared.job.Job.TheVariants.{Packet, Pli, Report as LegReport, Goodbye}
 use Rattle.core_steps.specs.Happening.{RecordedCall}
 use Rattle.intake.specs.Heard.{asks_of}
-use Rattle.core_steps.specs.Hearing.{leg_stay, owner_of, receptions, serving, jobs_of, task_on, task_for, job_by, present_endpoints, expires, reports, is_report_due, leg_report}
+use Rattle.core_steps.specs.Hearing.{leg_stay, owner_of, receptions, serving, jobs_of, task_on, task_for, job_by, present_endpoints, expires, reports, is_report_due, leg_report, is_left, task_after}
 use Rattle.intake.specs.Intake.{Said, media, leaves, control}
 use Rattle.settings.specs.Links.{LinkTable, leg_to, table_of, worker_of}
 use Rattle.core_steps.specs.Quiet.{HeardRate, rate_of, rate_on}
-use Rattle.core_steps.specs.World.{WorldState, WorkerState, Task, order, push, pulse, expire, report}
+use Rattle.core_steps.specs.World.{Setup, WorldState, WorkerState, Task, order, push, pulse, expire, report}
 use Rattle.desk.specs.State.{DeskState}
 use Rattle.core_steps.proofs.QuietRoomLemmas.{Passes, IfPasses, passes}
 use Rattle.core_steps.proofs.QuietQueueLemmas.{tasks_asks, rates_asks, tasks_asks-append, asks_if, hand_asks, jobs_asks, AllBelow, NoOrders, no_orders-append, orders_first, waiting_more}
@@ -60,6 +61,35 @@ silent-append c r xs ys a b = record {
 silent-if : (c : Configuration) (r : RoomState) (b : Bool) (xs ys : List Task) → IsSilent c r xs → IsSilent c r ys → IsSilent c r (cond b xs ys)
 silent-if c r true xs ys a b = a
 silent-if c r false xs ys a b = b
+
+-- what asks for no rate comes before what does
+pub follow-append : (c : Configuration) (r : RoomState) (xs ys : List Task) (more : List HeardRate) → IsSilent c r xs → IsFollowUp c r ys more
+    → IsFollowUp c r (xs ++ ys) more
+follow-append c r xs ys more a b = record {
+  none = no_orders-append xs ys a.none b.none;
+  placed = placed-append c xs ys a.placed b.placed;
+  asks = λ n. tasks_asks-append n xs ys ∙ (ap (λ (zs : List (ℕ × ℕ)). zs ++ tasks_asks n ys) (a.asks n) ∙ b.asks n);
+  low = b.low;
+}
+
+-- what follows from orders asks for no rate
+pub silent-after : (c : Configuration) (r : RoomState) (s : Setup) (q : RoomState) (os : List Order)
+    → IsSilent c r (filter_map (task_after s q) os)
+silent-after c r s q [] = silent-none c r
+silent-after c r s q (Arrive leg stay ∷ os) = silent-after c r s q os
+silent-after c r s q (Depart leg stay ∷ os) =
+    step (s.rules.leg_goodbyes && is_left s.table q leg) (silent-after c r s q os)
+  where
+    step : (b : Bool) → IsSilent c r (filter_map (task_after s q) os)
+        → IsSilent c r (cons_option (cond b (Some (push (owner_of s.table leg) (Goodbye leg))) None) (filter_map (task_after s q) os))
+    step true h = record { none = h.none; placed = (tt, h.placed); asks = h.asks; low = λ n. tt }
+    step false h = h
+silent-after c r s q (Route leg stay turn on ∷ os) = step (on && s.rules.early_pictures) (silent-after c r s q os)
+  where
+    step : (b : Bool) → IsSilent c r (filter_map (task_after s q) os)
+        → IsSilent c r (cons_option (cond b (Some (push (owner_of s.table leg) (Pli leg q.moment))) None) (filter_map (task_after s q) os))
+    step true h = record { none = h.none; placed = (tt, h.placed); asks = h.asks; low = λ n. tt }
+    step false h = h
 
 silent-packets : (c : Configuration) (r : RoomState) (endpoint : ℕ) (bytes ws : List ℕ)
     → IsSilent c r (map (λ (w : ℕ). push w (Packet endpoint bytes)) ws)

@@ -18,7 +18,7 @@ use Rattle.desk.specs.declared.call.Change.TheVariants as change
 use Rattle.desk.specs.Call.{is_done}
 use Rattle.desk.specs.State.{DeskState}
 use Rattle.events.specs.declared.job.Job.{Job}
-use Rattle.events.specs.declared.job.Job.TheVariants.{Packet, Request, Resend, Pli, Report}
+use Rattle.events.specs.declared.job.Job.TheVariants.{Packet, Request, Resend, Pli, Report, Goodbye}
 use Rattle.notices.specs.DeskCalls.{source_of}
 use Rattle.core_steps.specs.Happening.{RecordedCall, desks_by, workers_by}
 use Rattle.core_steps.specs.Hearing.{owner_of}
@@ -249,6 +249,7 @@ module _ (c : Configuration) (range : IsInRange c) (es : List Endpoint) (ls : Li
   placed_asks k (Resend leg stay nack) n l at placed differs = refl
   placed_asks k (Pli leg moment) n l at placed differs = refl
   placed_asks k (Report leg stay sr) n l at placed differs = refl
+  placed_asks k (Goodbye leg) n l at placed differs = refl
   placed_asks k (Request leg stay word) n l at placed differs = step (leg == n) refl
     where
       step : (b : Bool) → (leg == n) ≡ b → asks_if b stay word ≡ []

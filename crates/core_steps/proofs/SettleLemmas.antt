@@ -12,7 +12,7 @@ use Rattle.desk.specs.State.{DeskState}
 use Rattle.events.specs.declared.event.Event.{Event}
 use Rattle.events.specs.declared.event.Event.TheVariants.{Ingress, Work}
 use Rattle.events.specs.declared.job.Job.{Job}
-use Rattle.events.specs.declared.job.Job.TheVariants.{Packet, Request, Resend, Pli, Report}
+use Rattle.events.specs.declared.job.Job.TheVariants.{Packet, Request, Resend, Pli, Report, Goodbye}
 use Rattle.events.specs.declared.output.Out.{Out}
 use Rattle.events.specs.declared.output.Out.TheVariants.{Lost}
 use Rattle.core_steps.specs.declared.ring.TheConstants.{JOB_LIMIT}
@@ -177,6 +177,7 @@ job_done : (w : WorldState) (k : ℕ) (s : WorkerState) (job : Job) (h : Happeni
 job_done w k s (Packet publisher bytes) h hand r = lessens_along k s h _ r (other_hand k s _ _ refl refl refl refl (omega (arith, hand)))
 job_done w k s (Resend leg stay nack) h hand r = lessens_along k s h _ r (other_hand k s _ _ refl refl refl refl (omega (arith, hand)))
 job_done w k s (Report leg stay sr) h hand r = lessens_along k s h _ r (other_hand k s _ _ refl refl refl refl (omega (arith, hand)))
+job_done w k s (Goodbye leg) h hand r = lessens_along k s h _ r (other_hand k s _ _ refl refl refl refl (omega (arith, hand)))
 job_done w k s (Request leg stay word) h hand r =
     job_asks w k s (Request leg stay word) (Some leg) (stay_call w.setup.table leg stay (change.Request r.0)) h hand r.2
 job_done w k s (Pli leg moment) h hand r = job_asks w k s (Pli leg moment) None (picture_call w.setup.table leg moment) h hand r

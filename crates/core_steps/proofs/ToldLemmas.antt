@@ -15,7 +15,7 @@ use Rattle.desk.specs.State.{DeskState}
 use Rattle.events.specs.declared.event.Event.{Event}
 use Rattle.events.specs.declared.event.Event.TheVariants.{Hear, Tick, Select, Ingress, Work}
 use Rattle.events.specs.declared.job.Job.{Job}
-use Rattle.events.specs.declared.job.Job.TheVariants.{Packet, Request, Resend, Pli, Report}
+use Rattle.events.specs.declared.job.Job.TheVariants.{Packet, Request, Resend, Pli, Report, Goodbye}
 use Rattle.events.specs.declared.output.Refusal.{Refusal}
 use Rattle.events.specs.declared.output.Out.TheVariants.{Busy}
 use Rattle.core_steps.specs.declared.ring.TheConstants.{JOB_LIMIT}
@@ -155,6 +155,7 @@ job_leaves : (w : WorldState) (k : ℕ) (s : WorkerState) (job : Job) (h : Happe
 job_leaves w k s (Packet publisher bytes) h r = along w h _ r (empty_hand w _ _ refl refl refl)
 job_leaves w k s (Resend leg stay nack) h r = along w h _ r (empty_hand w _ _ refl refl refl)
 job_leaves w k s (Report leg stay sr) h r = along w h _ r (empty_hand w _ _ refl refl refl)
+job_leaves w k s (Goodbye leg) h r = along w h _ r (empty_hand w _ _ refl refl refl)
 job_leaves w k s (Request leg stay word) h r = job_asks_leaves w k s _ (Some leg) _ h r.2
 job_leaves w k s (Pli leg moment) h r = job_asks_leaves w k s _ None _ h r
 

@@ -11,7 +11,7 @@ use Rattle.desk.specs.declared.call.Call.{Call as DeskCall}
 use Rattle.desk.specs.declared.call.Change.TheVariants as change
 use Rattle.desk.specs.State.{DeskState}
 use Rattle.events.specs.declared.job.Job.{Job}
-use Rattle.events.specs.declared.job.Job.TheVariants.{Packet, Request, Resend, Pli, Report}
+use Rattle.events.specs.declared.job.Job.TheVariants.{Packet, Request, Resend, Pli, Report, Goodbye}
 use Rattle.core_steps.specs.declared.machine.Worker.{Worker}
 use Rattle.events.specs.declared.output.Out.{Out}
 use Rattle.events.specs.declared.output.Out.TheVariants.{Idle}
@@ -128,6 +128,7 @@ unfolding AsksBy
 does-job v k s (Packet publisher bytes) h asks is does = subst (AsksBy v k s (Packet publisher bytes) h) is does
 does-job v k s (Resend leg stay nack) h asks is does = subst (AsksBy v k s (Resend leg stay nack) h) is does
 does-job v k s (Report leg stay sr) h asks is does = subst (AsksBy v k s (Report leg stay sr) h) is does
+does-job v k s (Goodbye leg) h asks is does = subst (AsksBy v k s (Goodbye leg) h) is does
 does-job v k s (Request leg stay word) h asks is does =
     (is.0, is.1, job-asks v k s (Request leg stay word) h (Some leg) (stay_call v.setup.table leg stay (change.Request is.0)) (subst (AsksBy v k s (Request leg stay word) h) is.2 does))
 does-job v k s (Pli leg moment) h asks is does = job-asks v k s (Pli leg moment) h None (picture_call v.setup.table leg moment) (subst (AsksBy v k s (Pli leg moment) h) is does)

@@ -1,5 +1,5 @@
 -- What follows from a datagram or a moment, as the ingress keeps it.
-use Rattle.std.specs.Prelude.{◌==◌, ℕ, List, [], ◌∷◌, Option, None, Some, if◌then◌else◌}
+use Rattle.std.specs.Prelude.{◌==◌, ◌&&◌, ℕ, Bool, List, [], ◌∷◌, Option, None, Some, if◌then◌else◌}
 use Rattle.settings.specs.declared.fault.RoomFault.TheVariants.{UnknownLeg}
 use Rattle.settings.specs.declared.settings.LegSettings.{LegSettings}
 use Rattle.members.specs.Presence.{is_present_at}
@@ -17,12 +17,33 @@ use Rattle.core_steps.specs.declared.tasks.FollowUp.TheVariants.{Push, Pulse, Ex
 use Rattle.core_steps.specs.declared.seed.Seed.{Seed}
 use Rattle.core_steps.specs.declared.seed.Seed.TheVariants as seed
 use Rattle.settings.specs.Links.{LinkTable, leg_to, worker_of}
-use Rattle.core_steps.specs.Hearing.{leg_stay, owner_of, is_served_by, media_of}
+use Rattle.core_steps.specs.Hearing.{leg_stay, owner_of, is_served_by, is_left, media_of}
+use Rattle.core_steps.specs.World.{Setup}
+use Rattle.members.specs.declared.order.Order.{Order}
+use Rattle.members.specs.declared.order.Order.TheVariants.{Arrive, Depart, Route}
 
 abbrev pub due_at : Due → ℕ → FollowUp
 due_at due.Pulse endpoint = Pulse endpoint
 due_at due.Expire endpoint = Expire endpoint
 due_at due.Report endpoint = Report endpoint
+
+-- a leg that is sent from now on asks for a picture, if the settings say so
+abbrev pub picture_after : Setup → RoomState → ℕ → Bool → Option FollowUp
+picture_after s r leg on =
+    if on && s.rules.early_pictures
+    then Some (Push (owner_of s.table leg) (seed.Pli leg r.moment)) else None
+
+-- the subscriber of a leg that is left behind is told so, if the settings say so
+abbrev pub goodbye_after : Setup → RoomState → ℕ → Option FollowUp
+goodbye_after s r leg =
+    if s.rules.leg_goodbyes && is_left s.table r leg
+    then Some (Push (owner_of s.table leg) (seed.Goodbye leg)) else None
+
+-- what follows from an order
+abbrev pub follow_up_after : Setup → RoomState → Order → Option FollowUp
+follow_up_after s r (Arrive leg stay) = None
+follow_up_after s r (Depart leg stay) = goodbye_after s r leg
+follow_up_after s r (Route leg stay turn on) = picture_after s r leg on
 
 -- what is due to an endpoint, where it is present
 abbrev pub due_to : RoomState → Due → ℕ → Option FollowUp

@@ -5,13 +5,14 @@ use Rattle.std.specs.List.{last_or, list_any, enumerate_from, filter_map, flat_m
 use Rattle.settings.specs.declared.fault.RoomFault.{RoomFault}
 use Rattle.settings.specs.declared.fault.RoomFault.TheVariants.{UnknownLeg}
 use Rattle.members.specs.declared.order.Order.{Order}
+use Rattle.members.specs.declared.order.Order.TheVariants.{Arrive, Depart, Route}
 use Rattle.settings.specs.declared.settings.LegSettings.{LegSettings}
 use Rattle.members.specs.Presence.{is_present_at}
 use Rattle.members.specs.Room.{RoomState, Step, leg_at, tick_step, select_step, reception_at}
 use Rattle.members.specs.Calls.{Call as RoomCall, Hear, Bye, Tick, Select, Receive, Report as SenderReport, step_of}
 use Rattle.members.specs.Stream.{timestamps_of}
 use Rattle.events.specs.declared.job.Job.{Job}
-use Rattle.events.specs.declared.job.Job.TheVariants.{Packet, Request, Resend, Pli, Report}
+use Rattle.events.specs.declared.job.Job.TheVariants.{Packet, Request, Resend, Pli, Report, Goodbye}
 use Rattle.intake.specs.declared.intake.Ask.{Ask}
 use Rattle.intake.specs.declared.intake.Ask.TheVariants.{Rate, Resend as Again, Picture}
 use Rattle.events.specs.declared.output.Out.{Out}
@@ -58,6 +59,37 @@ numbers_below n = map (λ (p : ℕ × ℕ). p.0) (enumerate_from 0 (replicate n 
 
 abbrev pub serving : LinkTable → RoomState → ℕ → List ℕ
 serving t r publisher = filter (is_served_by t r publisher) (numbers_below t.workers)
+
+-- ---- what follows from the orders of the room themselves
+
+-- a leg that is sent from now on asks for a picture at once, if the settings say so (RFC 4585, section 6.3.1)
+abbrev pub picture_task : Setup → RoomState → ℕ → Bool → Option Task
+picture_task s r leg on =
+    if on && s.rules.early_pictures
+    then Some (push (owner_of s.table leg) (Pli leg r.moment)) else None
+
+-- the leg's publisher is gone, and its subscriber is there
+abbrev pub is_left : LinkTable → RoomState → ℕ → Bool
+is_left t r leg =
+    option_map_or (λ (l : LegSettings). not (is_present_at r.endpoints l.publisher)
+    && is_present_at r.endpoints l.subscriber) (slice_get t.legs leg) false
+
+-- the subscriber of a leg that is left behind is told so, if the settings say so (RFC 3550, section 6.6)
+abbrev pub goodbye_task : Setup → RoomState → ℕ → Option Task
+goodbye_task s r leg =
+    if s.rules.leg_goodbyes && is_left s.table r leg
+    then Some (push (owner_of s.table leg) (Goodbye leg)) else None
+
+abbrev pub task_after : Setup → RoomState → Order → Option Task
+task_after s r (Arrive leg stay) = None
+task_after s r (Depart leg stay) = goodbye_task s r leg
+task_after s r (Route leg stay turn on) = picture_task s r leg on
+
+-- what follows from the orders of a step, in their order
+abbrev pub tasks_after : Setup → Step → List Task
+tasks_after s step = filter_map (task_after s step.room) step.orders
+
+-- ---- what follows from a datagram
 
 -- whose media an ask is about
 abbrev pub media_of : Ask → ℕ
@@ -110,7 +142,8 @@ hearing_by w moment endpoint bytes said (Err fault) = room_refuses w fault
 hearing_by w moment endpoint bytes said (Ok step) =
     record (giving w (refusals_of w.setup.table step.room endpoint said)) {
       calls = room_call moment endpoint said ∷ receptions endpoint said;
-      made = map order step.orders ++ jobs_of w.setup.table step.room endpoint bytes said;
+      made = map order step.orders
+          ++ (tasks_after w.setup step ++ jobs_of w.setup.table step.room endpoint bytes said);
       tmmbns = tmmbns_of said;
     }
 
@@ -155,8 +188,9 @@ reports w r =
 abbrev pub ticking_by : WorldState → ℕ → Step → Happening
 ticking_by w moment step = record (giving w []) {
   calls = Tick moment ∷ [];
-  made = map order step.orders ++ map pulse (present_endpoints w.setup.table step.room)
-      ++ expires w.setup step.room ++ reports w step.room;
+  made = map order step.orders ++ tasks_after w.setup step
+      ++ map pulse (present_endpoints w.setup.table step.room) ++ expires w.setup step.room
+      ++ reports w step.room;
   reported = if is_report_due w step.room then step.room.moment else w.reported;
 }
 
@@ -168,7 +202,10 @@ ticking w moment = ticking_by w moment (tick_step w.room moment)
 abbrev pub selecting_by : WorldState → ℕ → ℕ → Bool → Result Step RoomFault → Happening
 selecting_by w moment leg on (Err fault) = room_refuses w fault
 selecting_by w moment leg on (Ok step) =
-    record (giving w []) { calls = Select moment leg on ∷ []; made = map order step.orders }
+    record (giving w []) {
+      calls = Select moment leg on ∷ [];
+      made = map order step.orders ++ tasks_after w.setup step;
+    }
 
 abbrev pub selecting : WorldState → ℕ → ℕ → Bool → Happening
 selecting w moment leg on = selecting_by w moment leg on (select_step w.room moment leg on)

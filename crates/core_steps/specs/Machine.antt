@@ -42,7 +42,13 @@ worker_state w = record { jobs = w.jobs; hand = hand_in w.effect w.hand; legs = 
 
 abbrev pub setup_of : SetupParts → Setup
 setup_of s =
-    record { table = s.links; unit = s.head; request_ms = s.request_ms; report_ms = s.report_ms }
+    record {
+      table = s.links;
+      unit = s.head;
+      request_ms = s.request_ms;
+      report_ms = s.report_ms;
+      rules = s.rules;
+    }
 
 abbrev pub state_of : Machine → WorldState
 state_of m = record {

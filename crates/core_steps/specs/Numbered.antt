@@ -10,7 +10,7 @@ use Rattle.rewrite.specs.Leg.{Held, new_leg, held_after, history_of}
 use Rattle.rewrite.specs.Numbering.{IncomingPacket as Incoming, Entry as Numbered}
 use Rattle.members.specs.Stays.{opening_row}
 use Rattle.events.specs.declared.job.Job.{Job}
-use Rattle.events.specs.declared.job.Job.TheVariants.{Packet, Request, Resend, Pli, Report}
+use Rattle.events.specs.declared.job.Job.TheVariants.{Packet, Request, Resend, Pli, Report, Goodbye}
 use Rattle.legs.specs.declared.leg.LegState.{LegState}
 use Rattle.core_steps.specs.Happening.{Happening, Worked, no_worker, world_after}
 use Rattle.legs.specs.Rtp.{is_rtp, sequence_number, readdressed_bytes}
@@ -57,6 +57,7 @@ packets_taken_by number l rows (Request leg stay word) = []
 packets_taken_by number l rows (Resend leg stay nack) = []
 packets_taken_by number l rows (Pli leg moment) = []
 packets_taken_by number l rows (Report leg stay sr) = []
+packets_taken_by number l rows (Goodbye leg) = []
 
 abbrev pub taken_on : ℕ → LegSettings → List Finished → List Taken
 taken_on number l jobs = flat_map (λ (f : Finished). packets_taken_by number l f.rows f.job) jobs

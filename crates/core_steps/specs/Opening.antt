@@ -15,6 +15,7 @@ setup_by c = record {
   unit = record { ssrc = c.unit_ssrc.0; cname = c.cname };
   request_ms = c.request_ms;
   report_ms = c.report_ms;
+  rules = c.rules;
 }
 
 -- no call was recorded

@@ -24,7 +24,7 @@ use Rattle.routes.specs.Rows.{changes_by}
 use Rattle.events.specs.declared.event.Event.{Event}
 use Rattle.events.specs.declared.event.Event.TheVariants.{Hear, Tick, Select, Ingress, Work}
 use Rattle.events.specs.declared.job.Job.{Job}
-use Rattle.events.specs.declared.job.Job.TheVariants.{Packet, Request, Resend, Pli, Report}
+use Rattle.events.specs.declared.job.Job.TheVariants.{Packet, Request, Resend, Pli, Report, Goodbye}
 use Rattle.notices.specs.declared.notification.Notification.{Notification}
 use Rattle.events.specs.declared.output.Out.{Out}
 use Rattle.events.specs.declared.output.Out.TheVariants.{Refused, Busy, Idle, Lost}
@@ -218,6 +218,7 @@ abbrev pub DoesJob : WorldState → ℕ → WorkerState → Job → Happening �
 DoesJob w k s (Packet publisher bytes) h = h ≡ forwarding w k s (Packet publisher bytes)
 DoesJob w k s (Resend leg stay nack) h = h ≡ forwarding w k s (Resend leg stay nack)
 DoesJob w k s (Report leg stay sr) h = h ≡ forwarding w k s (Report leg stay sr)
+DoesJob w k s (Goodbye leg) h = h ≡ forwarding w k s (Goodbye leg)
 DoesJob w k s (Request leg stay word) h =
     (tuple : Tuple) × (word_of tuple ≡ word)
     × JobAsks w k s (Request leg stay word) (Some leg)

@@ -9,15 +9,18 @@ use Rattle.events.specs.declared.job.Job.{Job}
 use Rattle.notices.specs.declared.notification.Notification.{Notification}
 use Rattle.notices.specs.Head.{Identity}
 use Rattle.settings.specs.Links.{LinkTable}
+use Rattle.settings.specs.declared.rules.LegRules.{LegRules}
 use Rattle.legs.specs.declared.leg.LegState.{LegState}
 use Rattle.notices.specs.Notification.{Pending}
 
--- what the settings say once and for all: the legs, the unit's own source and name, and the times in milliseconds
+-- what the settings say once and for all: the legs, the unit's own source and name, the times in milliseconds, and what is done of
+-- its own accord as legs begin and end
 pub record Setup : Type 0 where
   pub table : LinkTable
   pub unit : Identity
   pub request_ms : ℕ
   pub report_ms : ℕ
+  pub rules : LegRules
 
 -- what waits for the ingress: an order of the room; a job for a worker; a moment to be told to a publisher's desk, for its PLIs
 -- or for requests that are too old; a report to a publisher

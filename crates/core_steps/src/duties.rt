@@ -74,6 +74,7 @@ impl IngressCore {
             head: Head::new(alloc, settings.unit_ssrc(), settings.cname())?,
             request_ms: settings.request_ms(),
             report_ms: settings.report_ms(),
+            rules: settings.rules(),
         };
         let room = Room::new(alloc, settings)?;
         Ok(IngressCore {

@@ -54,7 +54,7 @@ fn is_served_by(links: &Links, room: &Room, publisher: u16, worker: u16) -> bool
 }
 
 /// The worker that owns the leg of this number.
-fn owner_of(links: &Links, leg: u16) -> u16
+pub(crate) fn owner_of(links: &Links, leg: u16) -> u16
     ensures { result ≡ owner_of links.now leg }
 {
     match links.leg(leg) {

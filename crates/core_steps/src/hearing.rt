@@ -14,6 +14,7 @@ ghost use Rattle.core_steps.specs.Run.{Leaves, Stays};
 
 use crate::follow_ups::{push_asks, push_packet};
 use crate::machine::Machine;
+use crate::order_follow_ups::push_after;
 use events::{Out, Refusal};
 use intake::{Control, Heard, Unheard, hear_datagram};
 use members::Room;
@@ -87,10 +88,17 @@ fn hear_media(
         return refuse(fault, outs);
     }
     let workers = m.setup.links.workers();
-    m.tasks.prepare(usize::from(workers))?;
+    m.tasks
+        .prepare(m.room.most_orders() + usize::from(workers))?;
     m.tasks.take_datagram(bytes)?;
     match m.room.hear(moment, endpoint, ssrc, &mut m.tasks.orders) {
         Ok(()) => {
+            push_after(
+                &m.setup,
+                &m.room,
+                m.tasks.orders.as_slice(),
+                &mut m.tasks.follow_ups,
+            );
             push_packet(
                 &m.setup.links,
                 &m.room,
@@ -121,9 +129,17 @@ fn hear_goodbye(
 {
     m.knows_counts();
     outs.reserve(1)?;
-    m.tasks.prepare(0)?;
+    m.tasks.prepare(m.room.most_orders())?;
     match m.room.bye(moment, endpoint, &mut m.tasks.orders) {
-        Ok(()) => Ok(()),
+        Ok(()) => {
+            push_after(
+                &m.setup,
+                &m.room,
+                m.tasks.orders.as_slice(),
+                &mut m.tasks.follow_ups,
+            );
+            Ok(())
+        }
         Err(fault) => refuse(fault, outs),
     }
 }
@@ -150,12 +166,18 @@ fn hear_control(
     if let Some(fault) = m.room.refuses(endpoint, control.speaker) {
         return refuse(fault, outs);
     }
-    m.tasks.prepare(m.asks.len())?;
+    m.tasks.prepare(m.room.most_orders() + m.asks.len())?;
     match m
         .room
         .hear(moment, endpoint, control.speaker, &mut m.tasks.orders)
     {
         Ok(()) => {
+            push_after(
+                &m.setup,
+                &m.room,
+                m.tasks.orders.as_slice(),
+                &mut m.tasks.follow_ups,
+            );
             push_asks(
                 &m.setup.links,
                 &m.room,
@@ -197,9 +219,17 @@ pub(crate) fn select(
 {
     m.knows_counts();
     outs.reserve(1)?;
-    m.tasks.prepare(0)?;
+    m.tasks.prepare(m.room.most_orders())?;
     match m.room.select(moment, leg, on, &mut m.tasks.orders) {
-        Ok(()) => Ok(()),
+        Ok(()) => {
+            push_after(
+                &m.setup,
+                &m.room,
+                m.tasks.orders.as_slice(),
+                &mut m.tasks.follow_ups,
+            );
+            Ok(())
+        }
         Err(fault) => refuse(fault, outs),
     }
 }

@@ -14,6 +14,7 @@ mod hearing;
 mod ingress;
 pub mod laws;
 mod machine;
+mod order_follow_ups;
 pub mod quiet;
 mod ring;
 mod runner;

@@ -10,7 +10,7 @@ use intake::Ask;
 use legs::{Legs, Plan};
 use members::{Room, Row};
 use notices::{Head, Notification};
-use settings::Links;
+use settings::{LegRules, Links};
 use std::alloc::Global;
 
 /// The machine's parts. Contracts see them as `state_of` says.
@@ -49,6 +49,7 @@ pub(crate) struct Setup {
     /// 0 where requests never grow too old.
     pub(crate) request_ms: u64,
     pub(crate) report_ms: u64,
+    pub(crate) rules: LegRules,
 }
 
 /// A worker.

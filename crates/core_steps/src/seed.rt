@@ -32,6 +32,9 @@ pub(crate) enum Seed {
         stay: u64,
         sr: Option<(u64, u32)>,
     },
+    Goodbye {
+        leg: u16,
+    },
 }
 
 /// The job of this seed, if the datagram has these bytes; a packet takes a copy of them.
@@ -47,5 +50,6 @@ pub(crate) fn job_of(alloc: Global, datagram: &[u8], seed: Seed) -> Result<Job, 
         Seed::Resend { leg, stay, nack } => Job::Resend { leg, stay, nack },
         Seed::Pli { leg, moment } => Job::Pli { leg, moment },
         Seed::Report { leg, stay, sr } => Job::Report { leg, stay, sr },
+        Seed::Goodbye { leg } => Job::Goodbye { leg },
     })
 }

@@ -11,6 +11,7 @@ ghost use Rattle.core_steps.specs.Run.{Leaves};
 
 use crate::follow_ups::push_some;
 use crate::machine::{Machine, Setup};
+use crate::order_follow_ups::push_after;
 use crate::seed::Seed;
 use crate::tasks::FollowUp;
 use members::Room;
@@ -29,8 +30,15 @@ pub(crate) fn tick(m: &mut Machine, moment: u64) -> Result<(), AllocError>
     m.knows_counts();
     let endpoints = m.setup.links.endpoints().len() as u16;
     let legs = m.setup.links.legs().len();
-    m.tasks.prepare(3 * usize::from(endpoints) + legs)?;
+    let most = m.room.most_orders() + 3 * usize::from(endpoints) + legs;
+    m.tasks.prepare(most)?;
     m.room.tick(moment, &mut m.tasks.orders)?;
+    push_after(
+        &m.setup,
+        &m.room,
+        m.tasks.orders.as_slice(),
+        &mut m.tasks.follow_ups,
+    );
     push_due(&m.room, endpoints, Due::Pulse, &mut m.tasks.follow_ups);
     push_expiring(&m.setup, &m.room, endpoints, &mut m.tasks.follow_ups);
     let is_due = is_report_due(&m.setup, &m.room, m.reported);

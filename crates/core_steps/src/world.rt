@@ -118,6 +118,7 @@ fn new_setup(alloc: Global, settings: &Settings) -> Result<Setup, AllocError>
         head: Head::new(alloc, settings.unit_ssrc(), settings.cname())?,
         request_ms: settings.request_ms(),
         report_ms: settings.report_ms(),
+        rules: settings.rules(),
     })
 }
 

@@ -136,6 +136,9 @@ fn job_of(alloc: Global, name: &str, words: &str) -> Option<Job> {
         }),
         "resend" => resend_of(words),
         "report" => report_of(words),
+        "goodbye" => Some(Job::Goodbye {
+            leg: words.parse().ok()?,
+        }),
         _ => None,
     }
 }
@@ -247,6 +250,18 @@ fn jobs_of_example_22(rt: HostRuntime) -> Result<(), Fail> {
         send 1 80c8000600000101010203040506070800000bb8000000020000000481ca0003000001010103736675000000\n\
         1.1 | report 0 1\n\
         send 1 80c900010000010181ca0003000001010103736675000000\n";
+    let links = links_of(rt.alloc(), 2, &[[1, 0, 257, 100]])?;
+    assert_gives(&rt, rt.alloc(), &links, 1, script)
+}
+
+/// A leg that nobody has says none.
+#[test]
+fn goodbye_of_a_leg(rt: HostRuntime) -> Result<(), Fail> {
+    let script = "- | goodbye 0\n\
+        send 1 80c900010000010181ca000300000101010373667500000081cb000100000101\n\
+        - | goodbye 1\n\
+        - | counts\n\
+        0 packets, 0 octets\n";
     let links = links_of(rt.alloc(), 2, &[[1, 0, 257, 100]])?;
     assert_gives(&rt, rt.alloc(), &links, 1, script)
 }

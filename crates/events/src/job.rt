@@ -36,4 +36,8 @@ pub enum Job {
         stay: u64,
         sr: Option<(u64, u32)>,
     },
+    /// The subscriber of the leg is told that the leg's source is gone, since its publisher is (RFC 3550, section 6.6).
+    Goodbye {
+        leg: u16,
+    },
 }

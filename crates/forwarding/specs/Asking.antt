@@ -10,7 +10,7 @@ use Rattle.desk.specs.State.{DeskState}
 use Rattle.rate_desk.specs.Shares.{HoldState, IsLastCall, SeatState, Counts, IsReceiptOf, IsFaultOf, IsTold}
 use Rattle.routes.specs.Views.{ReaderView}
 use Rattle.events.specs.declared.job.Job.{Job}
-use Rattle.events.specs.declared.job.Job.TheVariants.{Packet, Request, Resend, Pli, Report}
+use Rattle.events.specs.declared.job.Job.TheVariants.{Packet, Request, Resend, Pli, Report, Goodbye}
 use Rattle.notices.specs.declared.notification.Notification.{Notification}
 use Rattle.notices.specs.declared.calls.Asks.{Asks}
 use Rattle.notices.specs.declared.calls.Asks.TheVariants.{Desk, Nobody}
@@ -165,6 +165,7 @@ is_asking f (Request leg stay word) = is_owned f leg
 is_asking f (Resend leg stay nack) = false
 is_asking f (Pli leg moment) = is_owned f leg
 is_asking f (Report leg stay sr) = false
+is_asking f (Goodbye leg) = false
 
 abbrev pub asks_of : Option Question → Asks
 asks_of None = Nobody

@@ -154,7 +154,8 @@ impl Forwarder {
     {
         match job {
             Job::Request { leg, .. } | Job::Pli { leg, .. } => self.owns(*leg),
-            Job::Packet { .. } | Job::Resend { .. } | Job::Report { .. } => false,
+            Job::Packet { .. } | Job::Resend { .. } | Job::Report { .. } | Job::Goodbye { .. } =>
+                false,
         }
     }
 

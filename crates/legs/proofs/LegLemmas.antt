@@ -20,11 +20,11 @@ use Rattle.events.specs.declared.job.Job.TheVariants as job
 use Rattle.legs.specs.declared.leg.LegState.{LegState}
 use Rattle.legs.specs.declared.plan.Planned.{Planned}
 use Rattle.legs.specs.declared.plan.Planned.TheVariants.{Forward, Resend, Report, Skip, Miss}
-use Rattle.legs.specs.Legs.{takes, stands, row_of, answer_on, leg_report_bytes, owned_by, new_legs, new_state, leg_after_packet, handed_out}
+use Rattle.legs.specs.Legs.{takes, stands, row_of, answer_on, leg_report_bytes, leg_goodbye_bytes, owned_by, new_legs, new_state, leg_after_packet, handed_out}
 use Rattle.settings.specs.Links.{LinkTable, IsLinkTable, numbered_legs, worker_of}
 use Rattle.settings.specs.Places.{Sources}
 use Rattle.legs.specs.Plan.{changed_at, applied_one, legs_after_plan}
-use Rattle.legs.specs.Planning.{packet_planned, resends, leg_plan, job_plan, plan_by, plan_of, publisher_places, leg_place, ListsPlaces, FindsPlaces, IsRising, AreFound, IsNowhere, IsStandingAt}
+use Rattle.legs.specs.Planning.{packet_planned, resends, leg_plan, job_plan, plan_by, plan_of, publisher_places, leg_place, ListsPlaces, FindsPlaces, IsRising, AreFound, HasNoNumber, IsNowhere, IsNumbered, IsStandingAt}
 use Rattle.legs.specs.Rtp.{is_rtp, sequence_number}
 use Rattle.legs.proofs.PlanLemmas.{at_behind}
 
@@ -122,6 +122,23 @@ standing_report cname rows leg stay place sr legs s h =
     (λ k t other. off _ _ _ (stands_only rows leg stay s t h.stands_here other))
     ∙ ap (λ (k : ℕ). leg_plan cname rows (job.Report leg stay sr) (k, s)) (zero-add place)
     ∙ on _ _ _ h.stands_here
+
+-- ---- goodbyes
+
+-- where no leg has the number, its goodbye plans nothing
+pub nowhere_goodbye : (cname : List ℕ) (rows : List Row) (leg : ℕ) (legs : List LegState) → HasNoNumber leg legs
+    → job_plan cname rows legs (job.Goodbye leg) ≡ []
+nowhere_goodbye cname rows leg legs h =
+    silent cname rows (job.Goodbye leg) (λ s. (s.number == leg) ≡ false) 0 legs (λ k s quiet. off _ _ _ quiet) h
+
+-- where a leg has it, its goodbye is planned
+pub numbered_goodbye : (cname : List ℕ) (rows : List Row) (leg : ℕ) (legs : List LegState) (s : LegState) → IsNumbered leg legs s
+    → job_plan cname rows legs (job.Goodbye leg) ≡ Report s.link.subscriber (leg_goodbye_bytes cname s) ∷ []
+numbered_goodbye cname rows leg legs s h =
+    only cname rows (job.Goodbye leg) s 0 h.place legs h.rising h.at
+    (λ k t other. off _ _ _ (no_number t.number leg (λ e. other (e ∙ sym h.is_number))))
+    ∙ ap (λ (k : ℕ). leg_plan cname rows (job.Goodbye leg) (k, s)) (zero-add h.place)
+    ∙ on _ _ _ (is_number s.number leg h.is_number)
 
 -- ---- a packet
 
@@ -225,6 +242,11 @@ no_place number n (s ∷ legs) none =
     ap (λ (b : Bool). if b then Some n else leg_place number (enumerate_from (n + 1) legs)) h.0 in
     All-cons (λ t. t.number ≢ number) s legs h.1 (no_place number (n + 1) legs (sym later ∙ none)))
     (eqb_tells s.number number)
+
+-- where no place is found, none has the number
+pub none_numbered : (number : ℕ) (legs : List LegState) → leg_place number (enumerate_from 0 legs) ≡ None → HasNoNumber number legs
+none_numbered number legs none = λ k d below.
+    no_number (slice_index_or legs k d).number number (no_place number 0 legs none k d below)
 
 -- the stay stands nowhere where no leg has the number
 pub nowhere_without : (rows : List Row) (number stay : ℕ) (legs : List LegState) → leg_place number (enumerate_from 0 legs) ≡ None

@@ -4,7 +4,7 @@ use Rattle.std.proofs.lemmas.Grind.{flat_map-append}
 use Rattle.std.proofs.lemmas.List.Sums.{fold-append}
 use Rattle.std.proofs.lemmas.Option.{slice_get-get_or}
 use Rattle.circular_buffer.proofs.Places.{slice_get-append_right}
-use Rattle.std.specs.Prelude.{Option, None, Some, Result, Ok, Err, slice_get, option_and_then, map, fold, if◌then◌else◌}
+use Rattle.std.specs.Prelude.{◌==◌, Option, None, Some, Result, Ok, Err, slice_get, option_and_then, map, fold, if◌then◌else◌}
 use Rattle.std.specs.List.{flat_map, enumerate_from}
 use Rattle.members.specs.declared.order.Row.{Row}
 use Rattle.resend_ring.specs.Kept.{Kept, last_kept_with}
@@ -17,7 +17,7 @@ use Rattle.events.specs.declared.output.Out.{Out}
 use Rattle.events.specs.declared.output.Out.TheVariants as out
 use Rattle.legs.specs.declared.plan.Planned.{Planned}
 use Rattle.legs.specs.declared.plan.Planned.TheVariants.{Report}
-use Rattle.legs.specs.Legs.{takes, stands, row_of, answer_on, leg_report_bytes, packet_outs, packet_after, resend_outs, resent, leg_datagrams, leg_after, job_datagrams, legs_after, leg_after_packet, handed_out}
+use Rattle.legs.specs.Legs.{takes, stands, row_of, answer_on, leg_report_bytes, leg_goodbye_bytes, packet_outs, packet_after, resend_outs, resent, leg_datagrams, leg_after, job_datagrams, legs_after, leg_after_packet, handed_out}
 use Rattle.legs.specs.Plan.{kept_at, sent_out, out_of, plan_outs, changed_at, applied_one, legs_after_plan}
 use Rattle.legs.specs.Planning.{packet_planned, resend_planned, resends, leg_plan, job_plan}
 
@@ -97,6 +97,8 @@ outs_here cname rows (job.Packet publisher bytes) whole n s at =
 outs_here cname rows (job.Resend leg stay nack) whole n s at = resend_out whole n s (lost_numbers nack) (stands rows leg stay s) at
 outs_here cname rows (job.Report leg stay sr) whole n s at =
     report_out whole s.link.subscriber (leg_report_bytes cname s sr) (stands rows leg stay s)
+outs_here cname rows (job.Goodbye leg) whole n s at =
+    report_out whole s.link.subscriber (leg_goodbye_bytes cname s) (s.number == leg)
 outs_here cname rows (job.Request leg stay word) whole n s at = refl
 outs_here cname rows (job.Pli leg moment) whole n s at = refl
 
@@ -170,6 +172,8 @@ applied_here cname rows (job.Resend leg stay nack) front n s rest e =
     resend_applied front n s rest (lost_numbers nack) (stands rows leg stay s) e
 applied_here cname rows (job.Report leg stay sr) front n s rest e =
     report_applied (front ++ s ∷ rest) s.link.subscriber (leg_report_bytes cname s sr) (stands rows leg stay s)
+applied_here cname rows (job.Goodbye leg) front n s rest e =
+    report_applied (front ++ s ∷ rest) s.link.subscriber (leg_goodbye_bytes cname s) (s.number == leg)
 applied_here cname rows (job.Request leg stay word) front n s rest e = refl
 applied_here cname rows (job.Pli leg moment) front n s rest e = refl
 

@@ -9,10 +9,10 @@ use Rattle.rewrite.specs.declared.skip.Skip.{Skip as Cause}
 use Rattle.rewrite.specs.Leg.{Held, new_leg, answer_to, held_with}
 use Rattle.members.specs.Stays.{opening_row}
 use Rattle.rtcp_compound.specs.Grammar.{packet_bytes}
-use Rattle.rtcp_compound.specs.Written.{sr_packet, rr_packet, cname_packet}
+use Rattle.rtcp_compound.specs.Written.{sr_packet, rr_packet, cname_packet, bye_packet}
 use Rattle.rtcp_feedback.specs.Nack.{lost_numbers}
 use Rattle.events.specs.declared.job.Job.{Job}
-use Rattle.events.specs.declared.job.Job.TheVariants.{Packet, Request, Resend, Pli, Report}
+use Rattle.events.specs.declared.job.Job.TheVariants.{Packet, Request, Resend, Pli, Report, Goodbye}
 use Rattle.legs.specs.declared.leg.LegState.{LegState}
 use Rattle.events.specs.declared.output.Out.{Out}
 use Rattle.events.specs.declared.output.Out.TheVariants.{Send, Skip, Miss}
@@ -117,6 +117,12 @@ abbrev pub leg_report_bytes : List ℕ → LegState → Option (ℕ × ℕ) → 
 leg_report_bytes cname s sr =
     report_packet s sr ++ packet_bytes (cname_packet s.link.out_ssrc.0 cname)
 
+-- a goodbye of the leg's source, in a compound with an empty receiver report and the unit's canonical name (RFC 3550,
+-- sections 6.1 and 6.6)
+abbrev pub leg_goodbye_bytes : List ℕ → LegState → List ℕ
+leg_goodbye_bytes cname s =
+    leg_report_bytes cname s None ++ packet_bytes (bye_packet (s.link.out_ssrc.0 ∷ []))
+
 -- ---- jobs
 
 abbrev pub leg_datagrams : List ℕ → List Row → Job → LegState → List Out
@@ -128,6 +134,8 @@ leg_datagrams cname rows (Resend leg stay nack) s =
     else []
 leg_datagrams cname rows (Report leg stay sr) s =
     if stands rows leg stay s then Send s.link.subscriber (leg_report_bytes cname s sr) ∷ [] else []
+leg_datagrams cname rows (Goodbye leg) s =
+    if s.number == leg then Send s.link.subscriber (leg_goodbye_bytes cname s) ∷ [] else []
 leg_datagrams cname rows (Request leg stay word) s = []
 leg_datagrams cname rows (Pli leg moment) s = []
 
@@ -139,6 +147,7 @@ leg_after rows (Resend leg stay nack) s =
     then fold (λ t seq. resent t (last_kept_with t.kept.items seq)) s (lost_numbers nack)
     else s
 leg_after rows (Report leg stay sr) s = s
+leg_after rows (Goodbye leg) s = s
 leg_after rows (Request leg stay word) s = s
 leg_after rows (Pli leg moment) s = s
 

@@ -13,7 +13,7 @@ use Rattle.events.specs.declared.job.Job.TheVariants as job
 use Rattle.legs.specs.declared.leg.LegState.{LegState}
 use Rattle.legs.specs.declared.plan.Planned.{Planned}
 use Rattle.legs.specs.declared.plan.Planned.TheVariants.{Forward, Resend, Report, Skip, Miss}
-use Rattle.legs.specs.Legs.{takes, stands, row_of, answer_on, outgoing_bytes, leg_report_bytes}
+use Rattle.legs.specs.Legs.{takes, stands, row_of, answer_on, outgoing_bytes, leg_report_bytes, leg_goodbye_bytes}
 use Rattle.settings.specs.Places.{Sources}
 use Rattle.legs.specs.Rtp.{sequence_number, payload_octets}
 
@@ -43,6 +43,8 @@ leg_plan cname rows (job.Resend leg stay nack) (place, s) =
 leg_plan cname rows (job.Report leg stay sr) (place, s) =
     if stands rows leg stay s then Report s.link.subscriber (leg_report_bytes cname s sr) ∷ []
     else []
+leg_plan cname rows (job.Goodbye leg) (place, s) =
+    if s.number == leg then Report s.link.subscriber (leg_goodbye_bytes cname s) ∷ [] else []
 leg_plan cname rows (job.Request leg stay word) (place, s) = []
 leg_plan cname rows (job.Pli leg moment) (place, s) = []
 
@@ -96,6 +98,17 @@ pub record AreFound (lists : List (Vec ℕ)) (places : Sources) (legs : List Leg
   pub publishers : All (λ s. s.link.publisher < length lists) legs
   pub lists_places : ListsPlaces lists (length lists) legs
   pub finds_places : FindsPlaces places legs
+
+-- none of these legs has the number
+abbrev pub HasNoNumber : ℕ → List LegState → Type 0
+HasNoNumber number legs = All (λ s. (s.number == number) ≡ false) legs
+
+-- the leg is the one of these that has the number
+pub record IsNumbered (number : ℕ) (legs : List LegState) (s : LegState) : Type 0 where
+  pub place : ℕ
+  pub at : slice_get legs place ≡ Some s
+  pub is_number : s.number ≡ number
+  pub rising : IsRising legs
 
 -- on none of these legs does the stay stand
 abbrev pub IsNowhere : List Row → ℕ → ℕ → List LegState → Type 0

@@ -9,7 +9,7 @@ ghost use Rattle.legs.specs.Planning.{publisher_places, plan_of, ListsPlaces, Fi
 
 use crate::leg::LegState;
 use crate::plan::Plan;
-use crate::planning::{plan_packet, plan_report, plan_resends};
+use crate::planning::{plan_goodbye, plan_packet, plan_report, plan_resends};
 use events::Job;
 use members::Row;
 use resend_ring::MAX_CAPACITY;
@@ -168,8 +168,9 @@ impl Legs {
     ghost use Rattle.std.specs.Prelude.{option_copied, MatchOption};
     ghost use Rattle.legs.specs.Legs.{job_datagrams, legs_after};
     ghost use Rattle.legs.specs.Plan.{kept_at, plan_outs, legs_after_plan};
-    ghost use Rattle.legs.specs.Planning.{job_plan, IsNowhere, IsStandingAt};
+    ghost use Rattle.legs.specs.Planning.{job_plan, HasNoNumber, IsNowhere, IsNumbered, IsStandingAt};
     ghost use Rattle.events.specs.declared.job.Job.TheVariants as job;
+    ghost use Rattle.members.specs.declared.order.Row.{Row};
 
     /// The legs that this worker owns, none of which has sent a packet yet. Each keeps so many packets.
     pub fn new(alloc: Global, links: &Links, ring: usize, worker: u16) -> Result<Legs, AllocError>
@@ -260,6 +261,7 @@ impl Legs {
             Job::Report { leg, stay, sr } => {
                 self.plan_reported(alloc, cname, rows, *leg, *stay, *sr, plan)
             }
+            Job::Goodbye { leg } => self.plan_left(alloc, cname, *leg, plan),
             Job::Request { .. } => Ok(()),
             Job::Pli { .. } => Ok(()),
         }
@@ -326,6 +328,39 @@ impl Legs {
         };
         let planned = plan_report(leg, alloc, cname, sr)?;
         plan.push(planned)
+    }
+
+    /// Appends a goodbye.
+    fn plan_left(
+        &self,
+        alloc: Global,
+        cname: &[u8],
+        leg: u16,
+        plan: &mut Plan,
+    ) -> Result<(), AllocError>
+        requires { length cname.now ≤ CNAME_LIMIT }
+        ensures { (rows : List Row) → OnOk result (plan.new
+            ≡ plan.old ++ job_plan cname.now rows self.now (job.Goodbye leg)) }
+    {
+        let Some(leg) = self.numbered(leg) else {
+            return Ok(());
+        };
+        let planned = plan_goodbye(leg, alloc, cname)?;
+        plan.push(planned)
+    }
+
+    /// The leg with this number.
+    fn numbered(&self, number: u16) -> Option<&LegState>
+        ensures { MatchOption result (HasNoNumber number self.now)
+            (λ leg. IsNumbered number self.now leg.now) }
+    {
+        let Some(place) = self.places.get(&number) else {
+            return None;
+        };
+        let Some(leg) = self.legs.get(usize::from(*place)) else {
+            return None;
+        };
+        Some(leg)
     }
 
     /// The leg with this number and its place, where this stay stands on it.

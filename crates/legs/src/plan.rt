@@ -31,7 +31,7 @@ pub enum Planned {
         seq: u16,
         octets: u64,
     },
-    /// A report of the leg's source goes out.
+    /// A report of the leg's source goes out, or its goodbye.
     Report {
         endpoint: u16,
         bytes: Bytes,

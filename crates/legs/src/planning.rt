@@ -3,14 +3,14 @@
 ghost use Rattle.std.specs.Prelude.{◌≡◌, ◌≤◌, ◌++◌, ◌∷◌, [], length, IfOk, OnOk};
 ghost use Rattle.rewrite.specs.Leg.{answer_to};
 ghost use Rattle.resend_ring.specs.Kept.{last_kept_with};
-ghost use Rattle.legs.specs.Legs.{leg_report_bytes};
+ghost use Rattle.legs.specs.Legs.{leg_goodbye_bytes, leg_report_bytes};
 ghost use Rattle.legs.specs.Planning.{packet_planned, resend_planned, resends};
 ghost use Rattle.legs.specs.Rtp.{sequence_number, payload_octets, readdressed_bytes};
 
 use crate::leg::LegState;
 use crate::plan::{Plan, Planned};
 use events::Bytes;
-use rtcp_compound::{CNAME_LIMIT, write_rr, write_sdes_cname, write_sr};
+use rtcp_compound::{CNAME_LIMIT, write_bye, write_rr, write_sdes_cname, write_sr};
 use rtp_packet::{RtpView, SEQ_CYCLE};
 use std::alloc::{AllocError, Global};
 use tmmbr_tuple::Ssrc;
@@ -136,6 +136,23 @@ pub fn plan_report(
         None => write_rr(&mut bytes, source, &[])?,
     }
     write_sdes_cname(&mut bytes, source, cname)?;
+    Ok(Planned::Report {
+        endpoint: leg.link.subscriber,
+        bytes: Bytes::new(bytes),
+    })
+}
+
+/// The goodbye of the leg's source.
+pub fn plan_goodbye(leg: &LegState, alloc: Global, cname: &[u8]) -> Result<Planned, AllocError>
+    requires { length cname.now ≤ CNAME_LIMIT }
+    ensures { IfOk result (λ planned. planned
+        ≡ Planned.Report leg.now.link.subscriber (leg_goodbye_bytes cname.now leg.now)) }
+{
+    let source = leg.link.out_ssrc;
+    let mut bytes = Vec::new(alloc);
+    write_rr(&mut bytes, source, &[])?;
+    write_sdes_cname(&mut bytes, source, cname)?;
+    write_bye(&mut bytes, &[source])?;
     Ok(Planned::Report {
         endpoint: leg.link.subscriber,
         bytes: Bytes::new(bytes),

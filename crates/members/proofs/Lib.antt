@@ -3,6 +3,7 @@ pub mod DrawnLemmas
 pub mod EndedLemmas
 pub mod LastLemmas
 pub mod NumberLemmas
+pub mod OrderCountLemmas
 pub mod ReceivedLemmas
 pub mod ReceptionLemmas
 pub mod StandLemmas

@@ -69,10 +69,12 @@ impl Model for Room {
 }
 
 impl Room {
-    ghost use Rattle.std.specs.Prelude.{◌≡◌, ◌<◌, ◌++◌, ◌↔◌, ℕ, max, true, Err, IsTrue, IsOk, IsNone, IfNone, IfSome, IfOk, OnOk, OnErr, length};
+    ghost use Rattle.std.specs.Prelude.{◌≡◌, ◌<◌, ◌≤◌, ◌+◌, ◌*◌, ◌++◌, ◌↔◌, ℕ, max, true, Err, IsTrue, IsOk, IsNone, IfNone, IfSome, IfOk, OnOk, OnErr, length};
     ghost use Rattle.members.specs.Presence.{NobodyOverdue, is_present_at, source_at};
     ghost use Rattle.members.specs.Room.{new_room, tick_step, bye_step, hear_step, heard_step, select_step, after_leaving, leg_at, Answers, ChangesNothing, IsCalm, TakesStep};
     ghost use Rattle.members.specs.Room.{reception_at, after_packet, after_report, after_block};
+    ghost use Rattle.members.specs.Calls.{Call, step_of};
+    ghost use Rattle.settings.specs.declared.settings.TheConstants.{MAX_LEGS};
     ghost use Rattle.members.specs.Stream.{IsBlockAnswer, timestamps_of};
 
     /// The room of these settings: nobody is present, its moment is 0.
@@ -122,6 +124,15 @@ impl Room {
             Some(leg) => leg.stay,
             None => 0,
         }
+    }
+
+    /// No call gives more orders: a leg ends and begins once at most in it, by two orders each, and a selection gives one.
+    pub fn most_orders(&self) -> usize
+        ensures most { (call : Call) → IfOk (step_of self.now call)
+            (λ step. length step.orders ≤ result) }
+        ensures few { result ≤ 4 * MAX_LEGS + 1 }
+    {
+        4 * self.held.legs.as_slice().len() + 1
     }
 
     /// Whether no endpoint is overdue at this moment, and the moment isn't the last of all. Goes over the

@@ -36,6 +36,14 @@ pub const fn route(leg: u16, stay: u64, turn: u64, on: bool) -> Order {
     }
 }
 
+/// A leg: its row and the end of its stay, the beginning of one and its row; and the row of one that is selected.
+#[test]
+fn most_orders_of_a_room(rt: HostRuntime) -> Result<(), Fail> {
+    let room = small_room(rt.alloc())?;
+    assert_eq!(rt; room.most_orders(), 5);
+    Ok(())
+}
+
 /// A call of a room: an endpoint and a source, an endpoint, nothing, or a leg and its selection.
 #[derive(Clone, Copy, Debug)]
 enum Call {

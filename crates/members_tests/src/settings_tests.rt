@@ -75,6 +75,20 @@ fn settings_of_the_examples(rt: HostRuntime) -> Result<(), Fail> {
     Ok(())
 }
 
+#[test]
+fn rules_of_legs(rt: HostRuntime) -> Result<(), Fail> {
+    let mut parts = found_parts(rt.alloc())?;
+    let rules = Settings::new(rt.alloc(), &parts)?.rules();
+    assert_eq!(rt; [rules.early_pictures, rules.leg_goodbyes], [false, false]);
+    parts.early_pictures = Some(true);
+    let rules = Settings::new(rt.alloc(), &parts)?.rules();
+    assert_eq!(rt; [rules.early_pictures, rules.leg_goodbyes], [true, false]);
+    parts.leg_goodbyes = Some(true);
+    let rules = Settings::new(rt.alloc(), &parts)?.rules();
+    assert_eq!(rt; [rules.early_pictures, rules.leg_goodbyes], [true, true]);
+    Ok(())
+}
+
 /// The keys of numbers in the order of their names, each with a number that is out of its range, and one within.
 const NUMBERS: [(Key, Option<i64>, i64); 8] = [
     (Key::History, Some(127), 65_536),

@@ -12,7 +12,7 @@ use Rattle.tmmbr_tuple.specs.declared.tuple.Tuple.{Tuple}
 use Rattle.tmmbr_tuple.specs.Tuple.{word_of}
 use Rattle.desk.specs.Call.{HasStay}
 use Rattle.events.specs.declared.job.Job.{Job}
-use Rattle.events.specs.declared.job.Job.TheVariants.{Packet, Request, Resend, Pli, Report}
+use Rattle.events.specs.declared.job.Job.TheVariants.{Packet, Request, Resend, Pli, Report, Goodbye}
 use Rattle.notices.specs.declared.calls.Asks.{Asks}
 use Rattle.notices.specs.declared.calls.Asks.TheVariants.{Desk, Nobody, Legs}
 
@@ -43,6 +43,7 @@ abbrev pub AsksOf : LinkTable → Job → Asks → Type 0
 AsksOf t (Packet publisher bytes) asks = asks ≡ Legs
 AsksOf t (Resend leg stay nack) asks = asks ≡ Legs
 AsksOf t (Report leg stay sr) asks = asks ≡ Legs
+AsksOf t (Goodbye leg) asks = asks ≡ Legs
 AsksOf t (Request leg stay word) asks =
     (tuple : Tuple) × (word_of tuple ≡ word)
     × (asks ≡ asks_by (Some leg) (stay_call t leg stay (change.Request tuple)))

@@ -36,6 +36,7 @@ pub fn asked_by(links: &Links, job: &Job) -> Asks
         Job::Packet { .. } => Asks::Legs,
         Job::Resend { .. } => Asks::Legs,
         Job::Report { .. } => Asks::Legs,
+        Job::Goodbye { .. } => Asks::Legs,
     }
 }
 

@@ -10,7 +10,7 @@ use Rattle.desk.specs.State.{DeskState}
 use Rattle.events.specs.declared.event.Event.{Event}
 use Rattle.events.specs.declared.event.Event.TheVariants.{Work}
 use Rattle.events.specs.declared.job.Job.{Job}
-use Rattle.events.specs.declared.job.Job.TheVariants.{Packet, Request, Resend, Pli, Report}
+use Rattle.events.specs.declared.job.Job.TheVariants.{Packet, Request, Resend, Pli, Report, Goodbye}
 use Rattle.core_steps.specs.declared.ring.TheConstants.{JOB_LIMIT}
 use Rattle.notices.specs.DeskCalls.{stay_call, picture_call}
 use Rattle.core_steps.specs.Happening.{GivenUp, Happening, RecordedCall, Worked, no_worker, worker_after, workers_by, world_after}
@@ -63,6 +63,7 @@ job_aside : (w : WorldState) (k : ℕ) (s : WorkerState) (job : Job) (h : Happen
 job_aside w k s (Packet publisher bytes) h r = aside_along w h _ r (record { did = refl; made = refl; pending = refl; kept = refl })
 job_aside w k s (Resend leg stay nack) h r = aside_along w h _ r (record { did = refl; made = refl; pending = refl; kept = refl })
 job_aside w k s (Report leg stay sr) h r = aside_along w h _ r (record { did = refl; made = refl; pending = refl; kept = refl })
+job_aside w k s (Goodbye leg) h r = aside_along w h _ r (record { did = refl; made = refl; pending = refl; kept = refl })
 job_aside w k s (Request leg stay word) h r =
     job_asks_aside w k s (Request leg stay word) (Some leg) (stay_call w.setup.table leg stay (change.Request r.0)) h r.2
 job_aside w k s (Pli leg moment) h r = job_asks_aside w k s (Pli leg moment) None (picture_call w.setup.table leg moment) h r

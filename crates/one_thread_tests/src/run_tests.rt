@@ -32,6 +32,8 @@ fn settings_of(alloc: Global) -> Result<Settings, Fail> {
         pli_gap_ms: Some(500),
         unit_ssrc: Some(9),
         cname: Some(String::from_str(alloc, "sfu")?),
+        early_pictures: None,
+        leg_goodbyes: None,
         endpoints: sources,
         legs,
     };

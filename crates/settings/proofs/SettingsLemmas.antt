@@ -13,7 +13,7 @@ use Rattle.tmmbr_tuple.specs.declared.ssrc.Ssrc.{Ssrc}
 use Rattle.settings.specs.declared.settings.LegSettings.{LegSettings}
 use Rattle.settings.specs.declared.parts.Parts.{Parts}
 use Rattle.settings.specs.declared.fault.SettingsFault.{SettingsFault}
-use Rattle.settings.specs.Settings.{Check, check, checks, top_checks, endpoint_checks, leg_checks, first_fault, are_distinct, sources, number_or_zero, number_within, is_cname, name_of, ssrc_of, leg_of, number_below, or_zero, is_same, has_pair, is_publisher, AreNumbersOf, IsInRange, IsLegAmong, HasOtherEnds}
+use Rattle.settings.specs.Settings.{Check, check, checks, top_checks, endpoint_checks, leg_checks, first_fault, are_distinct, sources, number_or_zero, number_within, is_cname, name_of, rules_of, ssrc_of, leg_of, number_below, or_zero, is_same, has_pair, is_publisher, AreNumbersOf, IsInRange, IsLegAmong, HasOtherEnds}
 use Rattle.settings.specs.declared.checks.Numbers.{Numbers}
 use Rattle.settings.specs.declared.fault.SettingsFault.TheVariants.{SameSsrc}
 use Rattle.rtcp_compound.specs.declared.writer.TheConstants.{CNAME_LIMIT}
@@ -395,6 +395,7 @@ pub in_range : (p : Parts) (n : Numbers) → AreNumbersOf p n → first_fault (c
       pli_gap_ms = n.pli_gap_ms;
       unit_ssrc = ssrc_of p.unit_ssrc;
       cname = name_of p.cname;
+      rules = rules_of p;
       endpoints = map ssrc_of p.endpoints.items;
       legs = map (leg_of (length p.endpoints.items)) p.legs.items;
     })

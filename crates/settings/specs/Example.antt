@@ -14,5 +14,7 @@ pub record AreExamples (p : Parts) : Type 0 where
   pub gap : p.pli_gap_ms ≡ Some (pos 500)
   pub unit : p.unit_ssrc ≡ Some (pos 9)
   pub cname : name_of p.cname ≡ codes "sfu"
+  pub pictures : p.early_pictures ≡ None
+  pub goodbyes : p.leg_goodbyes ≡ None
   pub endpoints : p.endpoints.items ≡ []
   pub legs : p.legs.items ≡ []

@@ -6,6 +6,7 @@ use Rattle.rtcp_compound.specs.declared.writer.TheConstants.{CNAME_LIMIT}
 use Rattle.tmmbr_tuple.specs.declared.ssrc.Ssrc.{Ssrc}
 use Rattle.settings.specs.declared.parts.Parts.{Parts}
 use Rattle.settings.specs.declared.parts.LegParts.{LegParts}
+use Rattle.settings.specs.declared.rules.LegRules.{LegRules}
 use Rattle.settings.specs.declared.settings.LegSettings.{LegSettings}
 use Rattle.settings.specs.declared.checks.Numbers.{Numbers}
 use Rattle.settings.specs.declared.settings.TheConstants.{MAX_ENDPOINTS, MAX_LEGS, MAX_WORKERS, MAX_RING, LEAST_HISTORY, MAX_HISTORY, MAX_PERIOD_MS, SSRCS}
@@ -135,6 +136,7 @@ pub record Configuration : Type 0 where
   pub pli_gap_ms : ℕ
   pub unit_ssrc : Ssrc
   pub cname : List ℕ
+  pub rules : LegRules
   pub endpoints : List Ssrc
   pub legs : List LegSettings
 
@@ -150,6 +152,13 @@ leg_of endpoints l = record {
   on = unwrap_or l.on true;
 }
 
+-- legs begin and end without a word, unless the parts say otherwise
+abbrev pub rules_of : Parts → LegRules
+rules_of p = record {
+  early_pictures = unwrap_or p.early_pictures false;
+  leg_goodbyes = unwrap_or p.leg_goodbyes false;
+}
+
 -- the settings that these parts spell, where they pass every check
 abbrev pub configuration_of : Parts → Configuration
 configuration_of p = record {
@@ -162,6 +171,7 @@ configuration_of p = record {
   pli_gap_ms = unwrap_or (number_within p.pli_gap_ms 0 MAX_PERIOD_MS) 0;
   unit_ssrc = ssrc_of p.unit_ssrc;
   cname = name_of p.cname;
+  rules = rules_of p;
   endpoints = map ssrc_of p.endpoints.items;
   legs = map (leg_of (length p.endpoints.items)) p.legs.items;
 }

@@ -8,9 +8,11 @@ mod checks;
 mod fault;
 mod links;
 mod parts;
+mod rules;
 mod settings;
 
 pub use fault::{Key, RoomFault, SettingsFault};
 pub use links::Links;
 pub use parts::{LegParts, Parts};
+pub use rules::LegRules;
 pub use settings::{LegSettings, MAX_ENDPOINTS, MAX_LEGS, Settings};

@@ -23,6 +23,10 @@ pub struct Parts {
     pub unit_ssrc: Option<i64>,
     /// The unit's canonical name (RFC 3550, section 6.5.1), 1 to 255 bytes of ASCII.
     pub cname: Option<String>,
+    /// Whether a leg that begins asks for a picture at once; false where absent.
+    pub early_pictures: Option<bool>,
+    /// Whether a leg's subscriber is told when its publisher is gone; false where absent.
+    pub leg_goodbyes: Option<bool>,
     /// The source of each endpoint, 32 bits.
     pub endpoints: Vec<Option<i64>>,
     /// The legs.
@@ -48,6 +52,8 @@ impl Parts {
             pli_gap_ms: Some(500),
             unit_ssrc: Some(9),
             cname: Some(String::from_str(alloc, "sfu")?),
+            early_pictures: None,
+            leg_goodbyes: None,
             endpoints: Vec::new(alloc),
             legs: Vec::new(alloc),
         })

@@ -1,11 +1,12 @@
 //! The settings of a room, each number in its range.
 
 ghost use Rattle.std.specs.Prelude.{◌≡◌, ◌≤◌, length, map, IfOk, OnErr, None, Err, string_bytes};
-ghost use Rattle.settings.specs.Settings.{name_of, first_fault, ssrc_of, leg_of, configuration_of, AreNumbersOf, checks};
+ghost use Rattle.settings.specs.Settings.{name_of, first_fault, rules_of, ssrc_of, leg_of, configuration_of, AreNumbersOf, checks};
 
 use crate::checks::{Numbers, checked, number_or_none};
 use crate::fault::SettingsFault;
 use crate::parts::{LegParts, Parts};
+use crate::rules::LegRules;
 use rtp_packet::SEQ_CYCLE;
 use std::alloc::{AllocError, Global};
 use std::marker::Model;
@@ -56,6 +57,7 @@ pub struct Settings {
     numbers: Numbers,
     unit_ssrc: Ssrc,
     cname: String,
+    rules: LegRules,
     endpoints: Vec<Ssrc>,
     legs: Vec<LegSettings>,
 }
@@ -76,6 +78,7 @@ impl Model for Settings {
       pli_gap_ms = s.numbers.pli_gap_ms;
       unit_ssrc = s.unit_ssrc;
       cname = string_bytes s.cname;
+      rules = s.rules;
       endpoints = s.endpoints.items;
       legs = s.legs.items;
     } };
@@ -90,6 +93,7 @@ impl Model for Settings {
       pli_gap_ms = s.numbers.pli_gap_ms;
       unit_ssrc = s.unit_ssrc;
       cname = string_bytes s.cname;
+      rules = s.rules;
       endpoints = s.endpoints.items;
       legs = s.legs.items;
     }) };
@@ -114,6 +118,16 @@ fn leg_settings(leg: &LegParts, endpoints: u64) -> LegSettings
         out_ssrc: source_of(leg.out_ssrc),
         first_seq: number_or_none(leg.first_seq, SEQ_CYCLE) as u16,
         on: leg.on.unwrap_or(true),
+    }
+}
+
+/// What the parts say of legs that begin and end.
+fn rules_in(parts: &Parts) -> LegRules
+    ensures { result ≡ rules_of parts.now }
+{
+    LegRules {
+        early_pictures: parts.early_pictures.unwrap_or(false),
+        leg_goodbyes: parts.leg_goodbyes.unwrap_or(false),
     }
 }
 
@@ -163,6 +177,7 @@ fn copied(alloc: Global, parts: &Parts, numbers: Numbers) -> Result<Settings, Al
         numbers,
         unit_ssrc: source_of(parts.unit_ssrc),
         cname,
+        rules: rules_in(parts),
         endpoints,
         legs,
     })
@@ -244,6 +259,13 @@ impl Settings {
         ensures range { IsInRange self.now }
     {
         self.numbers.pli_gap_ms
+    }
+
+    /// What the unit does of its own accord as legs begin and end.
+    pub fn rules(&self) -> LegRules
+        ensures { result ≡ self.now.rules }
+    {
+        self.rules
     }
 
     /// The unit's own source.

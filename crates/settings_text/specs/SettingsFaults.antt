@@ -93,6 +93,8 @@ takes_top key value =
     else if bytes_eq key (codes "leg") then has_tables value
     else if bytes_eq key (codes "listen") then is_some (as_str value)
     else if bytes_eq key (codes "listen_rtcp") then is_some (as_str value)
+    else if bytes_eq key (codes "early_pictures") || bytes_eq key (codes "leg_goodbyes")
+    then is_some (as_bool value)
     else if bytes_eq key (codes "new_starts") || bytes_eq key (codes "strict_ssrc")
     then is_some (as_bool value)
     else if bytes_eq key (codes "request_ms") then is_some (as_integer value)

@@ -95,6 +95,8 @@ pub record ArePartsOf (t : Members) (p : Parts) : Type 0 where
   pub pli_gap_ms : p.pli_gap_ms ≡ integer_in (get_member (codes "pli_gap_ms") t)
   pub unit_ssrc : p.unit_ssrc ≡ integer_in (get_member (codes "unit_ssrc") t)
   pub cname : text_bytes p.cname ≡ text_in (get_member (codes "cname") t)
+  pub early_pictures : p.early_pictures ≡ bool_in (get_member (codes "early_pictures") t)
+  pub leg_goodbyes : p.leg_goodbyes ≡ bool_in (get_member (codes "leg_goodbyes") t)
   pub endpoints : p.endpoints.items ≡ map source_in (items_in (get_member (codes "endpoint") t))
   pub legs : p.legs.items ≡ map leg_in (items_in (get_member (codes "leg") t))
 

@@ -190,6 +190,8 @@ fn parts_of(alloc: Global, table: &Table) -> Result<Parts, AllocError>
         pli_gap_ms: integer_at(table, "pli_gap_ms"),
         unit_ssrc: integer_at(table, "unit_ssrc"),
         cname: text_in(alloc, value_at(table, "cname"))?,
+        early_pictures: bool_at(table, "early_pictures"),
+        leg_goodbyes: bool_at(table, "leg_goodbyes"),
         endpoints: sources_of(alloc, items_at(table, "endpoint"))?,
         legs: legs_of(alloc, items_at(table, "leg"))?,
     })

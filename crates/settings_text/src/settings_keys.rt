@@ -55,6 +55,7 @@ fn takes_top(key: &str, value: &Value) -> bool
         "leg" => has_tables(value),
         "listen" => value.is_str(),
         "listen_rtcp" => value.is_str(),
+        "early_pictures" | "leg_goodbyes" => value.is_bool(),
         "new_starts" | "strict_ssrc" => value.is_bool(),
         "request_ms" => value.is_integer(),
         _ => is_required(key),

@@ -66,9 +66,8 @@ impl<'a, D: DeskCalls, C: SeatCalls, J: Naming, S: Sink + Drop, G: Gate> Worker<
             Job::Request { .. } | Job::Pli { .. } => self
                 .forwarder
                 .feedback(rt, self.house, seat, reader, note, job, sink),
-            Job::Packet { .. } | Job::Resend { .. } | Job::Report { .. } => {
-                self.forwarder.forward(reader, note, job, sink)
-            }
+            Job::Packet { .. } | Job::Resend { .. } | Job::Report { .. } | Job::Goodbye { .. } =>
+                self.forwarder.forward(reader, note, job, sink),
         }
     }
 }

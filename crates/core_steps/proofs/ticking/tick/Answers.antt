@@ -1,7 +1,14 @@
-use Rattle.std.proofs.Common.{ℕ, ◌∙◌, List, length, ap}
+use Rattle.std.proofs.Common.{◌≡◌, ◌≤◌, ℕ, ◌∙◌, ◌++◌, List, length, ap, arith, subst, sym}
 use Rattle.std.specs.Prelude.{if◌then◌else◌}
+use Rattle.std.specs.List.{filter_map}
+use Rattle.members.specs.declared.order.Order.{Order}
+use Rattle.members.specs.Calls.{Tick}
+use Rattle.members.specs.Room.{tick_step}
+use Rattle.settings.specs.declared.settings.LegSettings.{LegSettings}
 use Rattle.tmmbr_tuple.specs.declared.ssrc.Ssrc.{Ssrc}
-use Rattle.core_steps.specs.Machine.{state_of}
+use Rattle.core_steps.specs.declared.tasks.FollowUp.{FollowUp}
+use Rattle.core_steps.specs.FollowUps.{follow_up_after}
+use Rattle.core_steps.specs.Machine.{setup_of, state_of}
 use Rattle.core_steps.proofs.HearingLeaves.{ticks_so}
 use Rattle.core_steps.proofs.HearingLemmas.{tasks_from}
 use Rattle.core_steps.proofs.ticking.tick.Goals as goal
@@ -9,12 +16,15 @@ use Rattle.core_steps.proofs.ticking.tick.Goals as goal
 pub returns-clause-ok : goal.returns-clause-ok
 returns-clause-ok c =
     λ outs. ticks_so (state_of c.args.m.now) c.args.moment outs c.tick.new.self c.prepare.new.self.orders.items c.tick.new.orders.items
-    (length c.endpoints.result.now) c.is_report_due-is_due.result c.prepare.new.self.follow_ups.items c.push_due.new.follow_ups.items
+    (length c.endpoints.result.now) c.is_report_due-is_due.result c.push_after.new.follow_ups.items c.push_due.new.follow_ups.items
     c.push_expiring.new.follow_ups.items c.push_reports.new.follow_ups.items c.prepare.new.self.datagram.items _ _ c.requires
     c.knows_counts.ensures.lost c.knows_counts.ensures.tmmbns c.in_ok-prepare.ensures.orders c.in_ok-tick.ensures.ok.0
     c.in_ok-tick.ensures.ok.1
     (record {
-      none = c.in_ok-prepare.ensures.follow_ups;
+      first = c.push_after.ensures.items
+          ∙ ap (λ (l : List FollowUp). l ++ filter_map (follow_up_after (setup_of c.args.m.now.setup) c.tick.new.self) c.as_slice.result.now)
+          c.in_ok-prepare.ensures.follow_ups
+          ∙ ap (λ (os : List Order). filter_map (follow_up_after (setup_of c.args.m.now.setup) c.tick.new.self) os) c.as_slice.ensures.value;
       count = ap (λ (l : List Ssrc). length l) c.endpoints.ensures.value;
       says_due = c.is_report_due-is_due.ensures;
       pulses = c.push_due.ensures.items;
@@ -25,3 +35,54 @@ returns-clause-ok c =
     c.prepare.new.self.orders_done c.prepare.new.self.follow_ups_done c.in_ok-prepare.ensures.orders_done
     c.in_ok-prepare.ensures.follow_ups_done)
     (c.reported_after-m.ensures ∙ ap (λ (n : ℕ). if c.is_report_due-is_due.result then n else c.args.m.now.reported) c.moment.ensures)
+
+pub push_after-requires : goal.push_after-requires
+push_after-requires c =
+    let p = c.in_ok-prepare.ensures in
+    let step = tick_step c.args.m.now.room c.args.moment in
+    let orders : c.tick.new.orders.items ≡ step.orders =
+    c.in_ok-tick.ensures.ok.1 ∙ ap (λ (l : List Order). l ++ step.orders) p.orders in
+    let few : length c.as_slice.result.now ≤ c.most_orders.result =
+    subst (λ (l : List Order). length l ≤ c.most_orders.result) (sym (c.as_slice.ensures.value ∙ orders))
+    (c.most_orders.ensures.most (Tick c.args.moment)) in
+    omega (arith, few, p.len, p.room)
+
+pub push_due-requires : goal.push_due-requires
+push_due-requires c =
+    let p = c.in_ok-prepare.ensures in
+    let step = tick_step c.args.m.now.room c.args.moment in
+    let orders : c.tick.new.orders.items ≡ step.orders =
+    c.in_ok-tick.ensures.ok.1 ∙ ap (λ (l : List Order). l ++ step.orders) p.orders in
+    let few : length c.as_slice.result.now ≤ c.most_orders.result =
+    subst (λ (l : List Order). length l ≤ c.most_orders.result) (sym (c.as_slice.ensures.value ∙ orders))
+    (c.most_orders.ensures.most (Tick c.args.moment)) in
+    let a = c.push_after.ensures in
+    omega (arith, few, p.len, p.room, a.len, a.capacity, c.from.ensures)
+
+pub push_expiring-requires : goal.push_expiring-requires
+push_expiring-requires c =
+    let p = c.in_ok-prepare.ensures in
+    let step = tick_step c.args.m.now.room c.args.moment in
+    let orders : c.tick.new.orders.items ≡ step.orders =
+    c.in_ok-tick.ensures.ok.1 ∙ ap (λ (l : List Order). l ++ step.orders) p.orders in
+    let few : length c.as_slice.result.now ≤ c.most_orders.result =
+    subst (λ (l : List Order). length l ≤ c.most_orders.result) (sym (c.as_slice.ensures.value ∙ orders))
+    (c.most_orders.ensures.most (Tick c.args.moment)) in
+    let a = c.push_after.ensures in
+    let b = c.push_due.ensures in
+    omega (arith, few, p.len, p.room, a.len, a.capacity, b.len, b.capacity, c.from.ensures)
+
+pub push_reports-requires : goal.push_reports-requires
+push_reports-requires c =
+    let p = c.in_ok-prepare.ensures in
+    let step = tick_step c.args.m.now.room c.args.moment in
+    let orders : c.tick.new.orders.items ≡ step.orders =
+    c.in_ok-tick.ensures.ok.1 ∙ ap (λ (l : List Order). l ++ step.orders) p.orders in
+    let few : length c.as_slice.result.now ≤ c.most_orders.result =
+    subst (λ (l : List Order). length l ≤ c.most_orders.result) (sym (c.as_slice.ensures.value ∙ orders))
+    (c.most_orders.ensures.most (Tick c.args.moment)) in
+    let a = c.push_after.ensures in
+    let b = c.push_due.ensures in
+    let e = c.push_expiring.ensures in
+    let legs = ap (λ (l : List LegSettings). length l) c.legs-legs.ensures.value in
+    omega (arith, few, legs, p.len, p.room, a.len, a.capacity, b.len, b.capacity, e.len, e.capacity, c.from.ensures)

@@ -9,5 +9,5 @@ copied_legs-requires-clause-most c = (endpoint_bounds c.args.parts.now (top_of c
 
 pub invariant_of-result : goal.invariant_of-result
 invariant_of-result c =
-    rw (c.in_ok-cname.ensures, c.in_ok-endpoints.ensures, c.in_ok-legs.ensures, c.source_of.ensures)
+    rw (c.in_ok-cname.ensures, c.in_ok-endpoints.ensures, c.in_ok-legs.ensures, c.source_of.ensures, c.rules_in.ensures)
     (in_range c.args.parts.now c.args.numbers c.requires.numbers c.requires.passes)

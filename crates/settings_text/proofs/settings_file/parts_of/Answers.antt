@@ -14,6 +14,8 @@ returns c = record {
   pli_gap_ms = c.integer_at-7.ensures;
   unit_ssrc = c.integer_at-8.ensures;
   cname = c.in_ok-text_in.ensures ∙ ap text_in c.value_at.ensures;
+  early_pictures = c.bool_at.ensures;
+  leg_goodbyes = c.bool_at-2.ensures;
   endpoints = c.in_ok-sources_of.ensures ∙ map-view source_in c.items_at.result.now ∙ ap (map source_in) c.items_at.ensures;
   legs = c.in_ok-legs_of.ensures ∙ map-view leg_in c.items_at-2.result.now ∙ ap (map leg_in) c.items_at-2.ensures;
 }

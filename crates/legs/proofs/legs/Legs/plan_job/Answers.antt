@@ -25,3 +25,8 @@ pub returns-in-Pli : goal.returns-in-Pli
 returns-in-Pli c =
     unplanned _ _ (ap (job_plan c.args.cname.now c.args.rows.now c.args.self.now) c.in-Pli.is
     ∙ desk_pli c.args.cname.now c.args.rows.now c.args.self.now c.in-Pli.leg c.in-Pli.moment)
+
+pub returns-in-Goodbye : goal.returns-in-Goodbye
+returns-in-Goodbye c =
+    moved c.plan_left.result c.plan_left.new.plan c.args.plan.now _ _
+    (ap (job_plan c.args.cname.now c.args.rows.now c.args.self.now) (sym c.in-Goodbye.is)) (c.plan_left.ensures c.args.rows.now)
