@@ -18,7 +18,8 @@ at=$(mktemp -d)
 trap 'rm -rf "$at"' EXIT
 
 (cd "$crate" && rt lib) >"$at/log" 2>&1 || { cat "$at/log" >&2; exit 1; }
-library=$crate/out/libtmmbr_c.a
+library=$at/libtmmbr.a
+"$top/crates/sfu_c/pack" "$crate/out/libtmmbr_c.a" "$library"
 g++ -std=c++17 -O2 -Wall -Wextra -Werror -I "$crate/include" -o "$at/compare" "$here/compare.cc" "$library"
 "$at/compare" 10000 "$seed"
 

@@ -3,22 +3,26 @@
 # finds it by the definitions; then prints times. By hand; wants rt, gcc, g++ and python3 on the path, and takes valgrind and
 # rustc if they are there.
 #
-#     bench/tmmbr_c/run.sh [CASES [SEED]]     so many random cases, 20000 if nothing else is said
+#     bench/tmmbr_c/run.sh [CASES [SEED [STEPS]]]     so many random cases, 20000 if nothing else is said, and changes, 200000
 set -euo pipefail
 here=$(cd "$(dirname "$0")" && pwd)
 top=$(cd "$here/../.." && pwd)
 crate=$top/crates/tmmbr_c
 cases=${1:-20000}
 seed=${2:-1}
+steps=${3:-200000}
 at=$(mktemp -d)
 trap 'rm -rf "$at"' EXIT
 
 (cd "$crate" && rt lib) >"$at/log" 2>&1 || { cat "$at/log" >&2; exit 1; }
-cp "$crate/out/libtmmbr_c.a" "$at/libtmmbr.a"
+"$top/crates/sfu_c/pack" "$crate/out/libtmmbr_c.a" "$at/libtmmbr.a"
 flags=(-O2 -Wall -Wextra -Werror -I "$crate/include")
 
-# The library asks the C library for nothing but to move and to fill memory.
-nm -u "$at/libtmmbr.a" | awk 'NF == 2 && $2 !~ /^mem(cpy|move|set)$/ { print "the library wants " $2; bad = 1 } END { exit bad }'
+# The library asks the C library for nothing but to move and to fill memory, and to allocate it.
+nm "$at/libtmmbr.a" | awk 'NF == 3 { has[$3] = 1 } NF == 2 && $1 == "U" { wants[$2] = 1 } END {
+    for (name in wants)
+        if (!(name in has) && name !~ /^(mem(cpy|move|set)|malloc|realloc|free)$/) { print "the library wants " name; bad = 1 }
+    exit bad }'
 
 # Its numbers are those of the header.
 awk '/pub const [A-Z_]+: (u32|usize) = [0-9]+;/ { sub(":", "", $3); sub(";", "", $6); print "TMMBR_" $3, $6 }' \
@@ -60,5 +64,22 @@ if command -v valgrind >/dev/null; then
     echo "with valgrind: the same, and no error"
 fi
 
+# A state, changed step by step.
+gcc "${flags[@]}" -std=c99 -pedantic -o "$at/standing" "$here/standing.c" "$at/libtmmbr.a"
+gcc "${flags[@]}" -std=c99 -g -fsanitize=address,undefined -o "$at/standing_asan" "$here/standing.c" "$at/libtmmbr.a"
+"$here/steps.py" steps "$seed" "$steps" >"$at/steps"
+"$at/standing" <"$at/steps" >"$at/stood"
+"$here/steps.py" compare "$at/steps" "$at/stood"
+"$at/standing_asan" <"$at/steps" | cmp - "$at/stood"
+echo "a state with the address sanitizer in the caller: the same"
+if command -v valgrind >/dev/null; then
+    head -n 2000 "$at/steps" >"$at/some"
+    valgrind -q --error-exitcode=9 --leak-check=full "$at/standing" <"$at/some" >"$at/some_stood"
+    head -n "$(grep -c . "$at/some_stood")" "$at/stood" | cmp - "$at/some_stood"
+    echo "a state with valgrind: the same, no error, and all memory given back"
+fi
+
+gcc "${flags[@]}" -std=gnu99 -o "$at/changes" "$here/changes.c" "$at/libtmmbr.a"
+"$at/changes"
 gcc "${flags[@]}" -std=gnu99 -o "$at/times" "$here/times.c" "$at/libtmmbr.a" -lpthread
 "$at/times"

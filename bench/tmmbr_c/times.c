@@ -117,5 +117,5 @@ int main(void)
                    time_of(announce), time_of(check));
         }
     printf("stack: %zu bytes at most\n", most);
-    return most > 96 * 1024;
+    return most > 128 * 1024;
 }

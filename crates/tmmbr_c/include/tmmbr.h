@@ -18,10 +18,17 @@
  *   - Each array has as many elements as the count beside it says, set by the caller where they are read; it is aligned as C
  *     aligns its type, and overlaps no other array of the call. Until the call returns nobody writes to what it reads, and
  *     nobody touches what it writes.
- *   - A call takes up to 96 KiB of stack.
+ *   - A state (tmmbr_state) is TMMBR_NO_STATE before its first call. From then on only the library writes to it. It may be moved,
+ *     but of two copies of an open state only one is ever used again: a copy that is used after the other was closed isn't found
+ *     out. One call at a time has a state, and a state stays on the thread that opened it. One that is open when it is let go
+ *     keeps its memory: tmmbr_close gives it back.
+ *   - malloc, realloc and free, which tmmbr_open and tmmbr_close call, are those of one allocator, which aligns to 16 bytes what is
+ *     of 16 bytes or more.
+ *   - A call takes up to 128 KiB of stack.
  *
- * Each call returns. It allocates nothing, keeps nothing, and reads and writes nothing but its arrays: any number of threads
- * may call at once.
+ * Each call returns. tmmbr_announced and tmmbr_check allocate nothing, keep nothing, and read and write nothing but their arrays: any
+ * number of threads may call at once. A state keeps the live requests of one media sender from call to call, with what is announced for
+ * them, in some 32 KiB that tmmbr_open allocates; changes of it allocate nothing. States share nothing.
  */
 #ifndef TMMBR_H
 #define TMMBR_H
@@ -41,7 +48,7 @@ extern "C" {
  * on are refusals.
  */
 enum tmmbr_fault {
-    /* The set is announced; the certificate holds. */
+    /* It is done: the set is announced; the certificate holds; the state is changed. */
     TMMBR_DONE = 0,
     /* A place is beyond the requests or named twice, or a neighbour (a, b) is the place of no kept entry. */
     TMMBR_PLACE = 1,
@@ -64,7 +71,17 @@ enum tmmbr_fault {
     /* A number of the kept entry at the place is out of range. */
     TMMBR_KEPT_RANGE = 10,
     /* A number of the implied entry at the place is out of range. */
-    TMMBR_IMPLIED_RANGE = 11
+    TMMBR_IMPLIED_RANGE = 11,
+    /* The state isn't open: it was never opened, or was closed. */
+    TMMBR_CLOSED = 12,
+    /* The state is open, so it isn't opened again. */
+    TMMBR_OPEN = 13,
+    /* There was no memory. */
+    TMMBR_NO_MEMORY = 14,
+    /* TMMBR_MAX_REQUESTS are live, and none of them is the owner's. */
+    TMMBR_FULL = 15,
+    /* The owner has no live request. */
+    TMMBR_NOT_LIVE = 16
 };
 
 /*
@@ -157,6 +174,77 @@ tmmbr_answer tmmbr_announced(const tmmbr_request *asked, size_t asked_count, tmm
  */
 tmmbr_verdict tmmbr_check(const tmmbr_request *asked, size_t asked_count, const tmmbr_kept *kept, size_t kept_count,
                           const tmmbr_implied *implied, size_t implied_count);
+
+/* ---- a state: the live requests of one media sender, one at most of each SSRC, changed one by one */
+
+typedef struct tmmbr_state {
+    uint32_t is_open; /* the library's own */
+    void *at;
+} tmmbr_state;
+
+/* A state before its first call. */
+#define TMMBR_NO_STATE {0, NULL}
+
+/* What tmmbr_set answers. */
+typedef struct tmmbr_change {
+    uint32_t fault;   /* TMMBR_DONE, or why the request is refused */
+    uint32_t changed; /* 1 where the announced set changed: other requests in it, or another spelling of one; else 0 */
+} tmmbr_change;
+
+/* What tmmbr_live answers. */
+typedef struct tmmbr_live_count {
+    uint32_t fault; /* TMMBR_DONE, or why nothing is written */
+    uint32_t count; /* how many requests are live: also with TMMBR_NO_ROOM; else 0 */
+} tmmbr_live_count;
+
+/*
+ * Opens a state: no request is live.
+ *
+ * Refused as TMMBR_OPEN; as TMMBR_NO_MEMORY. Then it is as it was.
+ */
+uint32_t tmmbr_open(tmmbr_state *state);
+
+/*
+ * Puts a request among the live ones, in place of its owner's if that has one. The others stay as they are.
+ *
+ *   asked   the request
+ *
+ * Refused, in this order: TMMBR_CLOSED, TMMBR_REQUEST_RANGE, TMMBR_FULL. Then nothing changed.
+ */
+tmmbr_change tmmbr_set(tmmbr_state *state, const tmmbr_request *asked);
+
+/*
+ * Removes the live request of an owner. The others stay as they are.
+ *
+ *   ssrc    the owner
+ *
+ * Refused, in this order: TMMBR_CLOSED, TMMBR_NOT_LIVE. Then nothing changed.
+ */
+uint32_t tmmbr_remove(tmmbr_state *state, uint32_t ssrc);
+
+/*
+ * Tells which requests are live, by rising SSRC.
+ *
+ *   live, live_room   where they go, and how many fit: TMMBR_MAX_REQUESTS are always enough
+ *
+ * What stands behind them in the array is left as it was. Refused, in this order: TMMBR_CLOSED, TMMBR_NO_ROOM. Then the array is as it
+ * was.
+ */
+tmmbr_live_count tmmbr_live(tmmbr_state *state, tmmbr_request *live, size_t live_room);
+
+/*
+ * Announces the smallest set of the live requests that permits what all of them together permit: what tmmbr_announced answers for them,
+ * given by rising SSRC as tmmbr_live gives them, which the places count.
+ *
+ *   kept, kept_room         where the kept entries go, and how many fit
+ *   implied, implied_room   where the implied entries go, and how many fit
+ *
+ * Refused, in this order: TMMBR_CLOSED, TMMBR_NO_ROOM. Then both arrays are as they were. The answer's place is 0.
+ */
+tmmbr_answer tmmbr_of(tmmbr_state *state, tmmbr_kept *kept, size_t kept_room, tmmbr_implied *implied, size_t implied_room);
+
+/* Closes a state: its memory is given back. Refused as TMMBR_CLOSED, so a second time, too. It may be opened again. */
+uint32_t tmmbr_close(tmmbr_state *state);
 
 #ifdef __cplusplus
 }

@@ -6,3 +6,6 @@ pub mod FillLemmas
 pub mod FirstLemmas
 pub mod AnnounceLemmas
 pub mod CheckLemmas
+pub mod AsBox
+pub mod HeldLemmas
+pub mod StandingLemmas

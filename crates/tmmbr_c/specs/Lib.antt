@@ -4,3 +4,5 @@ pub mod Order
 pub mod Renumbering
 pub mod Answer
 pub mod Verdict
+pub mod Held
+pub mod Standing

@@ -104,7 +104,7 @@ fn announce(
 
 /// Writes a certificate, whose places are numbers of owners, for the places that their requests have
 /// in the list.
-fn write_cert(
+pub fn write_cert(
     cert: &Cert,
     order: &[OwnerPlace],
     kept: &mut [TmmbrKept],

@@ -1,6 +1,6 @@
 //! The numbers of what is answered.
 
-/// The set is announced, or the certificate holds.
+/// It is done: the set is announced, or the certificate holds.
 pub const DONE: u32 = 0;
 /// The certificate's first condition fails: a place is beyond the requests or stands twice, or a
 /// neighbour is no kept place.
@@ -25,3 +25,13 @@ pub const NO_ROOM: u32 = 9;
 pub const KEPT_RANGE: u32 = 10;
 /// Refused: a number of the implied entry at the place is out of range.
 pub const IMPLIED_RANGE: u32 = 11;
+/// Refused: the state isn't open.
+pub const CLOSED: u32 = 12;
+/// Refused: the state is open.
+pub const OPEN: u32 = 13;
+/// Refused: there is no memory.
+pub const NO_MEMORY: u32 = 14;
+/// Refused: as many other requests are live as may be.
+pub const FULL: u32 = 15;
+/// Refused: the owner has no live request.
+pub const NOT_LIVE: u32 = 16;

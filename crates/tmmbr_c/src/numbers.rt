@@ -80,3 +80,23 @@ pub struct TmmbrVerdict {
     /// none is shown.
     pub place: u32,
 }
+
+/// What `tmmbr_set` answers.
+#[repr(C)]
+#[derive(Clone, Copy)]
+pub struct TmmbrChange {
+    /// 0 where it is done; else the number of the refusal.
+    pub fault: u32,
+    /// 1 where the announced set changed; else 0.
+    pub changed: u32,
+}
+
+/// What `tmmbr_live` answers.
+#[repr(C)]
+#[derive(Clone, Copy)]
+pub struct TmmbrLive {
+    /// 0 where it is done; else the number of the refusal.
+    pub fault: u32,
+    /// How many requests are live; also where there is no room for them.
+    pub count: u32,
+}
