@@ -7,8 +7,6 @@
 mod advice;
 mod finding;
 mod reaching;
-#[cfg(test)]
-mod tests;
 mod wanted;
 
 pub use advice::{bind_advice, file_advice, settings_advice};

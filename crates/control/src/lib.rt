@@ -11,8 +11,6 @@ mod course;
 mod inbox;
 mod peers;
 mod request;
-#[cfg(test)]
-mod tests;
 
 pub use answer::{Refused, counts_text, done_text, present_line, refused_text};
 pub use ask::{Answered, read_answer};

@@ -9,8 +9,6 @@ mod ends;
 mod html;
 mod state;
 mod style;
-#[cfg(test)]
-mod tests;
 mod words;
 
 pub use answer::{Answer, Asked, Kind, Said, Verdict, View, answer_to, asked_for};

@@ -7,8 +7,6 @@
 mod header;
 mod line;
 mod tape;
-#[cfg(test)]
-mod tests;
 
 pub use header::{Header, header_text};
 pub use line::{heard_lines, made_lines, selected_lines, ticked_lines};

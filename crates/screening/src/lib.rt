@@ -9,8 +9,6 @@ pub mod laws;
 mod run;
 mod screen;
 mod starts;
-#[cfg(test)]
-mod tests;
 
 pub use run::{MAX_DROPOUT, MAX_MISORDER, Placement, Run};
 pub use screen::{Rules, Screen};

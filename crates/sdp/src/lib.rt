@@ -6,8 +6,6 @@
 mod encoding;
 mod session;
 mod stream;
-#[cfg(test)]
-mod tests;
 
 pub use encoding::{is_video, payload_type};
 pub use session::{Session, session_text};

@@ -13,8 +13,6 @@ mod occupancy;
 mod reports;
 mod seat;
 mod senders;
-#[cfg(test)]
-mod tests;
 
 pub use learners::{Arrived, Learner, Learners};
 pub use listeners::{Listeners, Standing};

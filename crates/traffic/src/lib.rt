@@ -10,8 +10,6 @@ mod kinds;
 mod leg_count;
 mod lines;
 mod metrics;
-#[cfg(test)]
-mod tests;
 mod traffic;
 
 pub use figures::{EndpointFigure, LegFigure, Numbered, push_figures};

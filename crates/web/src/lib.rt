@@ -7,8 +7,6 @@
 mod inquiry;
 mod serving;
 mod teller;
-#[cfg(test)]
-mod tests;
 mod visitors;
 
 pub use inquiry::{Inquiry, Step};

@@ -1,6 +1,6 @@
 //! Requests, answers and lines, as docs/FORMATS.md has them.
 
-use crate::{
+use control::{
     Answered, Course, Inbox, MAX_PEERS, Peers, Refused, Request, counts_text, course_for,
     done_text, present_line, read_answer, read_request, refused_text,
 };

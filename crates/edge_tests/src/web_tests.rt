@@ -1,10 +1,10 @@
 //! Units that answer, and visitors of each kind.
 
-use crate::{Inquiry, MAX_VISITORS, Step, Teller, Visitors};
 use std::alloc::Global;
 use std::hash::RandomState;
 use std::io::{self, ErrorKind, Read, Write};
 use std::test::Fail;
+use web::{Inquiry, MAX_VISITORS, Step, Teller, Visitors};
 
 /// A unit that gives an answer for each line that it is asked, a few bytes at a time; then nothing comes, or the end.
 #[derive(Drop)]

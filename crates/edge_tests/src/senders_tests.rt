@@ -1,6 +1,6 @@
 //! Who sent what, and when reports are made.
 
-use crate::{
+use senders::{
     Arrived, Front, Kind, Learners, Listeners, Occupancy, Occupants, Origin, Seat, Senders,
     empty_report, is_control, read_network, says_goodbye, source_named,
 };

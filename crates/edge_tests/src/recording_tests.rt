@@ -1,6 +1,6 @@
 //! Lines of each kind, and a record that comes to its end.
 
-use crate::{
+use recording::{
     End, Header, Tape, end_name, header_text, heard_lines, made_lines, selected_lines, ticked_lines,
 };
 use std::test::Fail;

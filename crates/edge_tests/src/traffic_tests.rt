@@ -1,9 +1,9 @@
 //! Numbers across the wrap, feedback of a compound, and what is told of both.
 
-use crate::{
+use std::test::Fail;
+use traffic::{
     Kinds, LegCount, LegLine, Metric, MetricType, Sample, kinds_of, leg_line, push_metric,
 };
-use std::test::Fail;
 
 /// Numbers rise across the wrap; what went out before, or is older than the newest, is counted as sent again.
 #[test]

@@ -1,6 +1,6 @@
 //! Session descriptions word for word.
 
-use crate::{Session, Stream, is_video, payload_type, session_text};
+use sdp::{Session, Stream, is_video, payload_type, session_text};
 use std::net::SocketAddr;
 use std::test::Fail;
 

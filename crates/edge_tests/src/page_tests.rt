@@ -1,6 +1,6 @@
 //! What is asked for, and what is answered, as docs/FORMATS.md has it.
 
-use crate::{Kind, Said, Verdict, answer_to, asked_for};
+use page::{Kind, Said, Verdict, answer_to, asked_for};
 use std::test::Fail;
 
 const PRESENT: &[u8] = b"0 ssrc 16 at 127.0.0.1:5004 present heard 340 ms ago\n\

@@ -1,7 +1,7 @@
 //! A source that goes on, odd packets of it, and a source that begins anew.
 
-use crate::{Placement, Rules, Screen, Starts};
 use outside::{ReceiveFault, Received, Source};
+use screening::{Placement, Rules, Screen, Starts};
 use std::alloc::{AllocError, Global};
 use std::cell::Cell;
 use std::test::Fail;

@@ -1,6 +1,6 @@
 //! Twenty mistakes, and the line for each.
 
-use crate::{bind_advice, file_advice, settings_advice};
+use advice::{bind_advice, file_advice, settings_advice};
 use settings_text::{SettingsProblem, read_settings};
 use std::alloc::Global;
 use std::io::ErrorKind;
