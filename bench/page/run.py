@@ -121,6 +121,39 @@ def get(port, path, method="GET"):
     return answer.status, answer.getheaders(), body
 
 
+def under(port, host):
+    """The status for a client that calls the page by this name."""
+    it = http.client.HTTPConnection("127.0.0.1", port, timeout=5)
+    it.putrequest("GET", "/", skip_host=True)
+    it.putheader("Host", host)
+    it.endheaders()
+    status = it.getresponse().status
+    it.close()
+    return status
+
+
+def hosts(port):
+    """Under which names it is looked at."""
+    for host in ("127.0.0.1", f"127.0.0.1:{port}", "localhost", f"localhost:{port}", "[::1]", "10.0.0.1"):
+        if under(port, host) not in (200, 503):
+            fail(f"{host} isn't known")
+    for host in ("evil.example", f"evil.example:{port}", "localhost.evil.example", "127.0.0.1.evil.example"):
+        if under(port, host) != 421:
+            fail(f"{host} is known")
+
+
+def check_metrics(port):
+    """What promtool says of the metrics, if it is there."""
+    promtool = shutil.which("promtool")
+    if promtool is None:
+        print("no promtool: the metrics aren't checked")
+        return
+    it = subprocess.run([promtool, "check", "metrics"], input=expect(port, "/metrics", 200), capture_output=True, timeout=20)
+    if it.returncode or it.stdout or it.stderr:
+        fail(f"promtool says {it.stdout} {it.stderr}")
+    print("promtool finds nothing")
+
+
 def expect(port, path, status, method="GET", within=None):
     given, _, body = get(port, path, method)
     if given != status:
@@ -172,6 +205,15 @@ def look(port, program, control):
     status, fields, body = get(port, "/state.json", "HEAD")
     if status != 200 or body or int(dict(fields)["content-length"]) < 100:
         fail("HEAD isn't as GET without its body")
+    for number in (0, 1):
+        expect(port, f"/publishers/{number}.svg", 200, within=f"Asked of media sender {16 + number}<".encode())
+        expect(port, "/", 200, within=f'src="/publishers/{number}.svg"'.encode())
+    if b'src="/publishers/2.svg"' in expect(port, "/", 200):
+        fail("one who sends nothing has an image")
+    for number in ("3", "65536", "x", ""):
+        expect(port, f"/publishers/{number}.svg", 404)
+    hosts(port)
+    check_metrics(port)
     before = packets(port)
     wait_for(lambda: packets(port) > before)
 
@@ -215,7 +257,7 @@ def raw(port, text, reads):
 def attack(port):
     """Everything that a visitor may do wrong; after each the page still answers."""
     held = []
-    for text in (b"", b"GET /metr", b"GET / HTTP/1.1\r\nHost: x\r\nX: "):
+    for text in (b"", b"GET /metr", b"GET / HTTP/1.1\r\nHost: localhost\r\nX: "):
         for _ in range(40):
             it = socket.create_connection(("127.0.0.1", port), timeout=5)
             it.sendall(text)
@@ -228,7 +270,7 @@ def attack(port):
         it = socket.socket(socket.AF_INET, socket.SOCK_STREAM)
         it.setsockopt(socket.SOL_SOCKET, socket.SO_RCVBUF, 1024)
         it.connect(("127.0.0.1", port))
-        it.sendall(b"GET / HTTP/1.1\r\nHost: x\r\n\r\n")
+        it.sendall(b"GET / HTTP/1.1\r\nHost: localhost\r\n\r\n")
         deaf.append(it)
     expect(port, "/state.json", 200)
     for it in deaf:
@@ -245,15 +287,15 @@ def attack(port):
     wait_for(lambda: get(port, "/state.json")[0] == 200)
     for it in many:
         it.close()
-    answer = raw(port, b"GET / HTTP/1.1\r\nHost: x\r\nX: " + b"y" * 1_000_000 + b"\r\n\r\n", True)
+    answer = raw(port, b"GET / HTTP/1.1\r\nHost: localhost\r\nX: " + b"y" * 1_000_000 + b"\r\n\r\n", True)
     if answer and b" 431 " not in answer.split(b"\r\n")[0]:
         fail(f"a head of a megabyte gives {answer[:80]}")
     for text, status in (
         (b"\x00\xff\xfe nonsense\r\n\r\n", b" 400 "),
         (b"GET /metrics\r\n\r\n", b" 400 "),
         (b"GET / HTTP/1.1\r\n\r\n", b" 400 "),
-        (b"GET / HTTP/1.1\r\nHost: x\r\nTransfer-Encoding: gzip\r\n\r\n", b" "),
-        (b"POST / HTTP/1.1\r\nHost: x\r\nContent-Length: 99999999\r\n\r\n", b" 413 "),
+        (b"GET / HTTP/1.1\r\nHost: localhost\r\nTransfer-Encoding: gzip\r\n\r\n", b" "),
+        (b"POST / HTTP/1.1\r\nHost: localhost\r\nContent-Length: 99999999\r\n\r\n", b" 413 "),
     ):
         answer = raw(port, text, True)
         if status not in answer.split(b"\r\n")[0]:
@@ -285,7 +327,7 @@ def main():
         if page.stderr.readline() != f"page 127.0.0.1:{port}\n".encode():
             fail("the page doesn't say where it is")
     wait_for(lambda: get(port, "/")[0] == 503)
-    for path in ("/metrics", "/state.json"):
+    for path in ("/metrics", "/state.json", "/publishers/0.svg"):
         expect(port, path, 503)
     unit = subprocess.Popen([program, "serve", settings, "--control", control],
                             stdout=subprocess.DEVNULL, stderr=subprocess.PIPE)

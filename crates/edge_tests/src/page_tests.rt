@@ -1,15 +1,58 @@
 //! What is asked for, and what is answered, as docs/FORMATS.md has it.
 
-use page::{Kind, Said, Verdict, answer_to, asked_for};
+use page::{AnnouncedSet, Kind, Said, Verdict, answer_to, asked_for, is_known_host};
+use std::alloc::Global;
 use std::test::Fail;
 
 const PRESENT: &[u8] = b"0 ssrc 16 at 127.0.0.1:5004 present heard 340 ms ago\n\
-    1 ssrc 4294967295 at [2001:db8::7]:6000 absent never heard\n";
+    1 ssrc 4294967295 at [2001:db8::7]:6000 absent never heard\n\
+    2 ssrc 18 at 127.0.0.1:5006 absent never heard\n\
+    3 ssrc 19 at 127.0.0.1:5008 absent never heard\n";
 
 const LEGS: &[u8] = b"0 from 0 to 1 on stay 9 packets 7 octets 700 resent 2 missed 3 next 4\n\
     1 from 1 to 0 off stay none packets 0 octets 0 resent 0 missed 0 next none\n";
 
 const COUNTS: &[u8] = b"present 1 heard 2 sent 3 failed 4 lost 5 dropped 6 strangers 7\n";
+
+/// Two requests of one rate: that of more overhead allows less. The first line is passed over, as `sfu check` does.
+const SET: &[u8] = b"8fcd0004\n\
+    kept 3 030d4028 pair 1 99700 1\n\
+    live 2 030d4014\n";
+
+/// Three sets: of a publisher whom nobody asks, of one who is asked, and of one for whom an owner is named twice.
+fn sets_said(alloc: Global) -> Result<Vec<AnnouncedSet>, Fail> {
+    let mut sets = Vec::new(alloc);
+    sets.push(AnnouncedSet {
+        publisher: 1,
+        text: Vec::new(alloc),
+    })?;
+    sets.push(AnnouncedSet {
+        publisher: 0,
+        text: bytes_of(alloc, SET)?,
+    })?;
+    sets.push(AnnouncedSet {
+        publisher: 2,
+        text: bytes_of(alloc, b"live 5 030d4014\nlive 5 030d4014\n")?,
+    })?;
+    Ok(sets)
+}
+
+fn bytes_of(alloc: Global, text: &[u8]) -> Result<Vec<u8>, Fail> {
+    let mut bytes = Vec::new(alloc);
+    bytes.extend_from_slice(text)?;
+    Ok(bytes)
+}
+
+/// A unit that said all this.
+fn unit_said(alloc: Global) -> Result<Option<Said>, Fail> {
+    Ok(Some(Said {
+        metrics: bytes_of(alloc, b"# HELP x y\nx 1\n")?,
+        present: bytes_of(alloc, PRESENT)?,
+        legs: bytes_of(alloc, LEGS)?,
+        counts: bytes_of(alloc, COUNTS)?,
+        sets: sets_said(alloc)?,
+    }))
+}
 
 /// What a client is told: the status, and the body as text.
 fn told(
@@ -19,41 +62,56 @@ fn told(
     said: &Option<Said>,
 ) -> Result<(u16, String), Fail> {
     let answer = answer_to(rt.alloc(), asked_for(method, path), said)?;
-    let status = match answer.verdict {
+    let mut text = String::new(rt.alloc());
+    text.push_str(word_of(answer.kind))?;
+    text.push_str(str::from_utf8(answer.body.as_slice()).or(Err("no text"))?)?;
+    Ok((number_of(answer.verdict), text))
+}
+
+fn number_of(verdict: Verdict) -> u16 {
+    match verdict {
         Verdict::Fine => 200,
         Verdict::Absent => 404,
         Verdict::Unallowed => 405,
+        Verdict::Misdirected => 421,
+        Verdict::Unreadable => 502,
         Verdict::Silent => 503,
-    };
-    let kind = match answer.kind {
+    }
+}
+
+fn word_of(kind: Kind) -> &'static str {
+    match kind {
         Kind::Html => "html ",
         Kind::Metrics => "metrics ",
         Kind::Json => "json ",
+        Kind::Svg => "svg ",
         Kind::Plain => "plain ",
-    };
-    let mut text = String::new(rt.alloc());
-    text.push_str(kind)?;
-    text.push_str(str::from_utf8(answer.body.as_slice()).or(Err("no text"))?)?;
-    Ok((status, text))
+    }
+}
+
+/// What is told has this status, and these parts.
+fn expect_parts(
+    rt: &HostRuntime,
+    path: &[u8],
+    said: &Option<Said>,
+    status: u16,
+    parts: &[&str],
+) -> Result<(), Fail> {
+    let (given, body) = told(rt, b"GET", path, said)?;
+    if given != status {
+        return Err(Fail::from("another status"));
+    }
+    if parts.iter().all(|part| body.as_str().contains(*part)) {
+        Ok(())
+    } else {
+        Err(Fail::from("a part is missing"))
+    }
 }
 
 /// Which path gives what, by which method.
 #[test]
 fn answers_by_path(rt: HostRuntime) -> Result<(), Fail> {
-    let mut metrics = Vec::new(rt.alloc());
-    metrics.extend_from_slice(b"# HELP x y\nx 1\n")?;
-    let mut present = Vec::new(rt.alloc());
-    present.extend_from_slice(PRESENT)?;
-    let mut legs = Vec::new(rt.alloc());
-    legs.extend_from_slice(LEGS)?;
-    let mut counts = Vec::new(rt.alloc());
-    counts.extend_from_slice(COUNTS)?;
-    let said = Some(Said {
-        metrics,
-        present,
-        legs,
-        counts,
-    });
+    let said = unit_said(rt.alloc())?;
     let cases: [(&[u8], &[u8], u16, &str); 6] = [
         (b"GET", b"/metrics", 200, "metrics # HELP x y\nx 1\n"),
         (b"HEAD", b"/metrics", 200, "metrics # HELP x y\nx 1\n"),
@@ -73,30 +131,127 @@ fn answers_by_path(rt: HostRuntime) -> Result<(), Fail> {
         body.as_str(),
         "json {\"endpoints\":[\
         {\"number\":0,\"ssrc\":16,\"address\":\"127.0.0.1:5004\",\"present\":true,\"heard_ago_ms\":340},\
-        {\"number\":1,\"ssrc\":4294967295,\"address\":\"[2001:db8::7]:6000\",\"present\":false,\"heard_ago_ms\":null}],\
+        {\"number\":1,\"ssrc\":4294967295,\"address\":\"[2001:db8::7]:6000\",\"present\":false,\"heard_ago_ms\":null},\
+        {\"number\":2,\"ssrc\":18,\"address\":\"127.0.0.1:5006\",\"present\":false,\"heard_ago_ms\":null},\
+        {\"number\":3,\"ssrc\":19,\"address\":\"127.0.0.1:5008\",\"present\":false,\"heard_ago_ms\":null}],\
         \"legs\":[\
         {\"leg\":0,\"publisher\":0,\"subscriber\":1,\"on\":true,\"stay\":9,\"packets\":7,\"octets\":700,\"resent\":2,\"missed\":3,\"next\":4},\
         {\"leg\":1,\"publisher\":1,\"subscriber\":0,\"on\":false,\"stay\":null,\"packets\":0,\"octets\":0,\"resent\":0,\"missed\":0,\"next\":null}],\
         \"counts\":{\"present\":1,\"heard\":2,\"sent\":3,\"failed\":4,\"lost\":5,\"dropped\":6,\"strangers\":7}}"
     );
-    let (given, body) = told(&rt, b"GET", b"/", &said)?;
-    assert_eq!(rt; given, 200);
-    for part in [
-        "html <!doctype html>",
-        "<dt>strangers</dt><dd>7</dd>",
-        "<tr><td>0</td><td class=\"word present\">present</td><td>340</td><td>16</td><td>127.0.0.1:5004</td></tr>",
-        "<td>never</td><td>4294967295</td><td>[2001:db8::7]:6000</td></tr>",
-        "<tr><th scope=\"row\">0</th><td></td><td><span class=\"off\">off</span></td></tr>",
-        "<tr><th scope=\"row\">1</th><td><span class=\"on\">on</span></td><td></td></tr>",
-        "<td class=\"word on\">on</td><td>7</td><td>700</td><td>2</td><td>3</td><td>4</td></tr>",
+    Ok(())
+}
+
+/// The page shows who is there, who sees whom, and an image for each publisher; a unit that says nothing has a page that says so.
+#[test]
+fn shows_people(rt: HostRuntime) -> Result<(), Fail> {
+    let said = unit_said(rt.alloc())?;
+    expect_parts(
+        &rt,
+        b"/",
+        &said,
+        200,
+        &[
+            "html <!doctype html>",
+            "<dt>strangers</dt><dd>7</dd>",
+            "<tr><td>0</td><td class=\"word present\">present</td><td>340</td><td>16</td><td>127.0.0.1:5004</td></tr>",
+            "<td>never</td><td>4294967295</td><td>[2001:db8::7]:6000</td></tr>",
+            "<tr><th scope=\"row\">0</th><td></td><td><span class=\"off\">off</span></td><td></td><td></td></tr>",
+            "<tr><th scope=\"row\">1</th><td><span class=\"on\">on</span></td><td></td><td></td><td></td></tr>",
+            "<td class=\"word on\">on</td><td>7</td><td>700</td><td>2</td><td>3</td><td>4</td></tr>",
+            "src=\"/publishers/1.svg\"",
+        ],
+    )?;
+    expect_parts(&rt, b"/", &None, 503, &["<p>The unit does not answer.</p>"])?;
+    expect_parts(
+        &rt,
+        b"/metrics",
+        &None,
+        503,
+        &["plain the unit does not answer\n"],
+    )
+}
+
+/// A publisher's picture is of the set that is announced to it; without requests it is empty. Who isn't there has none, and what names an
+/// owner twice is no set.
+#[test]
+fn draws_sets(rt: HostRuntime) -> Result<(), Fail> {
+    let said = unit_said(rt.alloc())?;
+    expect_parts(
+        &rt,
+        b"/publishers/0.svg",
+        &said,
+        200,
+        &[
+            "svg <svg",
+            "Asked of media sender 16<",
+            "1 of 2 live requests kept",
+            "owner 3: 100000 bit/s, 40 bytes",
+        ],
+    )?;
+    expect_parts(
+        &rt,
+        b"/publishers/1.svg",
+        &said,
+        200,
+        &["0 of 0 live requests kept"],
+    )?;
+    expect_parts(&rt, b"/publishers/2.svg", &said, 502, &["plain no set\n"])?;
+    expect_parts(
+        &rt,
+        b"/publishers/4.svg",
+        &said,
+        404,
+        &["plain not found\n"],
+    )?;
+    expect_parts(
+        &rt,
+        b"/publishers/3.svg",
+        &said,
+        503,
+        &["plain the unit does not answer\n"],
+    )?;
+    expect_parts(
+        &rt,
+        b"/publishers/0.svg",
+        &None,
+        503,
+        &["plain the unit does not answer\n"],
+    )?;
+    expect_parts(
+        &rt,
+        b"/publishers/x.svg",
+        &said,
+        404,
+        &["plain not found\n"],
+    )?;
+    expect_parts(&rt, b"/publishers/0", &said, 404, &["plain not found\n"])
+}
+
+/// Addresses, localhost and the given name are known, with a port or without.
+#[test]
+fn knows_hosts(rt: HostRuntime) -> Result<(), Fail> {
+    for host in [
+        "127.0.0.1:9190",
+        "10.1.2.3",
+        "[::1]:9190",
+        "[2001:db8::7]",
+        "localhost",
+        "localhost:9190",
+        "sfu.example",
+        "sfu.example:80",
     ] {
-        assert!(rt; body.as_str().contains(part));
+        assert!(rt; is_known_host(b"sfu.example", host.as_bytes()));
     }
-    let (given, body) = told(&rt, b"GET", b"/", &None)?;
-    assert_eq!(rt; given, 503);
-    assert!(rt; body.as_str().contains("<p>The unit does not answer.</p>"));
-    let (given, body) = told(&rt, b"GET", b"/metrics", &None)?;
-    assert_eq!(rt; given, 503);
-    assert_eq!(rt; body.as_str(), "plain the unit does not answer\n");
+    for host in [
+        "",
+        ":80",
+        "evil.example",
+        "localhost.evil.example",
+        "127.0.0.1.evil.example:9190",
+        "sfu.example.org",
+    ] {
+        assert!(rt; !is_known_host(b"sfu.example", host.as_bytes()));
+    }
     Ok(())
 }

@@ -58,9 +58,10 @@ const ALL: &[&[u8]] = &[
     b"0 ssrc 16\nok\n",
     b"ok\n",
     b"present 1\nok\n",
+    b"live 2 030d4014\nok\n",
 ];
 
-/// All four answers are heard, in pieces; who refuses, goes, or is silent for five seconds, has said nothing.
+/// All answers are heard, in pieces, that for the set of the one who is there, too; who refuses, goes, or is silent for five seconds, has said nothing.
 #[test]
 fn asks_question_by_question(rt: HostRuntime) -> Result<(), Fail> {
     let alloc = rt.alloc();
@@ -71,6 +72,8 @@ fn asks_question_by_question(rt: HostRuntime) -> Result<(), Fail> {
     assert!(rt; said.present.as_slice() == b"0 ssrc 16\n".as_slice());
     assert!(rt; said.legs.is_empty());
     assert!(rt; said.counts.as_slice() == b"present 1\n".as_slice());
+    assert!(rt; said.sets.len() == 1);
+    assert!(rt; matches!(said.sets.first(), Some(set) if set.publisher == 0));
     let mut silent = Inquiry::new(alloc, fake_unit(&ALL[..2], false), 0);
     assert!(rt; matches!(silent.step(4_999), Step::Asking));
     assert!(rt; matches!(silent.step(5_000), Step::Failed));
@@ -120,7 +123,7 @@ impl Write for Caller {
 #[test]
 fn waits_for_nobody(rt: HostRuntime) -> Result<(), Fail> {
     let alloc = rt.alloc();
-    let mut teller = Teller::new(alloc);
+    let mut teller = Teller::new(alloc, String::new(alloc));
     let mut visitors = Visitors::new(alloc, RandomState::new(&rt)?);
     let asked = b"GET /metrics HTTP/1.1\r\nHost: localhost\r\n\r\n";
     visitors.admit(

@@ -1,8 +1,8 @@
 -- What is plain is ASCII, and so it is a text.
-use Rattle.std.proofs.Common.{◌≡◌, ◌<◌, ◌&&◌, ℕ, suc, zero, Bool, true, false, get_or, refl, sym, arith, true≢false, List, [], ◌∷◌, nat_le, IsUtf8}
+use Rattle.std.proofs.Common.{◌≡◌, ◌<◌, ◌&&◌, ℕ, suc, zero, Bool, true, false, get_or, refl, sym, arith, true≢false, List, [], ◌∷◌, IsUtf8}
 use Rattle.std.proofs.lemmas.Str.{IsUtf8-from_ascii}
 use Rattle.std.proofs.lemmas.Bool.{leb-true}
-use Rattle.page.specs.Words.{is_plain, is_plain_byte}
+use Rattle.page.specs.Words.{is_plain}
 
 both : (a b : Bool) → (a && b) ≡ true → (a ≡ true) × (b ≡ true)
 both true b e = (refl, e)

@@ -1,5 +1,5 @@
 -- Which request is answered by what.
-use Rattle.std.specs.Prelude.{ℕ, ◌||◌, List, Option, None, Some, codes, if◌then◌else◌}
+use Rattle.std.specs.Prelude.{◌≡◌, ◌-◌, ◌^◌, ◌||◌, ℕ, List, Option, None, Some, codes, drop, length, option_and_then, take, if◌then◌else◌}
 use Rattle.std.specs.Str.{bytes_eq}
 use Rattle.json.specs.Print.{print}
 use Rattle.page.specs.declared.answer.Answer.{Answer}
@@ -11,18 +11,38 @@ use Rattle.page.specs.declared.answer.Said.{Said}
 use Rattle.page.specs.declared.answer.Verdict.{Verdict}
 use Rattle.page.specs.declared.answer.Verdict.TheVariants as verdict
 use Rattle.page.specs.declared.answer.View.{View}
-use Rattle.page.specs.declared.answer.View.TheVariants.{Page, Metrics, State}
+use Rattle.page.specs.declared.answer.View.TheVariants.{Page, Metrics, State, Picture}
 use Rattle.page.specs.Html.{page_text, silent_text}
 use Rattle.page.specs.State.{state_tokens}
+use Rattle.page.specs.Sets.{IsDrawn, media_in, set_in}
+use Rattle.request_text.specs.Words.{number_under}
 
 -- ---- what is asked for
+
+abbrev pub without_start : List ℕ → List ℕ → Option (List ℕ)
+without_start start path =
+    if bytes_eq (take (length start) path) start then Some (drop (length start) path) else None
+
+abbrev pub without_end : List ℕ → List ℕ → Option (List ℕ)
+without_end end path = if bytes_eq (drop (length path - length end) path) end
+    then Some (take (length path - length end) path) else None
+
+-- N of /publishers/N.svg
+abbrev pub picture_number : List ℕ → Option ℕ
+picture_number path =
+    option_and_then (λ rest. option_and_then (number_under (2 ^ 16)) (without_end (codes ".svg") rest))
+    (without_start (codes "/publishers/") path)
+
+abbrev pub picture_place : Option ℕ → Asked
+picture_place (Some number) = asked.Shown (Picture number)
+picture_place None = asked.Absent
 
 abbrev pub place_of : List ℕ → Asked
 place_of path =
     if bytes_eq path (codes "/") then asked.Shown Page
     else if bytes_eq path (codes "/metrics") then asked.Shown Metrics
     else if bytes_eq path (codes "/state.json") then asked.Shown State
-    else asked.Absent
+    else picture_place (picture_number path)
 
 -- other methods are unallowed, whatever the path
 abbrev pub asked_by : List ℕ → List ℕ → Asked
@@ -49,24 +69,51 @@ page_answer said = record {
   body = page_text said.present.items said.legs.items said.counts.items;
 }
 
+-- the picture of the set that is said; 502 if what is said is no set
+abbrev pub IsSetSeen : Seen → Option (List ℕ) → Type 0
+IsSetSeen seen (Some picture) =
+    seen ≡ record { verdict = verdict.Fine; kind = kind.Svg; body = picture }
+IsSetSeen seen None = seen ≡ plain_answer verdict.Unreadable (codes "no set\n")
+
+abbrev pub IsSetAnswer : ℕ → List ℕ → Seen → Type 0
+IsSetAnswer media text seen =
+    (picture : Option (List ℕ)) × IsDrawn media text picture × IsSetSeen seen picture
+
+-- 404 of a publisher that isn't there; 503 of one whose set wasn't said
+abbrev pub IsPictured : Option ℕ → Option (List ℕ) → Seen → Type 0
+IsPictured None text seen = seen ≡ plain_answer verdict.Absent (codes "not found\n")
+IsPictured (Some media) None seen =
+    seen ≡ plain_answer verdict.Silent (codes "the unit does not answer\n")
+IsPictured (Some media) (Some text) seen = IsSetAnswer media text seen
+
+abbrev pub IsPictureAnswer : ℕ → Said → Seen → Type 0
+IsPictureAnswer publisher said seen =
+    IsPictured (media_in said.present.items publisher) (set_in said.sets.items publisher) seen
+
 -- metrics are what the unit said, byte by byte
-abbrev pub shown_answer : View → Said → Seen
-shown_answer Page said = page_answer said
-shown_answer Metrics said = record { verdict = verdict.Fine; kind = kind.Metrics; body = said.metrics.items }
-shown_answer State said = record {
+abbrev pub IsShown : View → Said → Seen → Type 0
+IsShown Page said seen = seen ≡ page_answer said
+IsShown Metrics said seen =
+    seen ≡ record { verdict = verdict.Fine; kind = kind.Metrics; body = said.metrics.items }
+IsShown State said seen = seen ≡ record {
   verdict = verdict.Fine;
   kind = kind.Json;
   body = print (state_tokens said.present.items said.legs.items said.counts.items);
 }
+IsShown (Picture publisher) said seen = IsPictureAnswer publisher said seen
 
 -- of a unit that says nothing nothing is shown
 abbrev pub silent_answer : View → Seen
 silent_answer Page = record { verdict = verdict.Silent; kind = kind.Html; body = silent_text }
 silent_answer Metrics = plain_answer verdict.Silent (codes "the unit does not answer\n")
 silent_answer State = plain_answer verdict.Silent (codes "the unit does not answer\n")
+silent_answer (Picture publisher) = plain_answer verdict.Silent (codes "the unit does not answer\n")
 
-abbrev pub answer_for : Asked → Option Said → Seen
-answer_for asked.Absent said = plain_answer verdict.Absent (codes "not found\n")
-answer_for asked.Unallowed said = plain_answer verdict.Unallowed (codes "method not allowed\n")
-answer_for (asked.Shown view) (Some said) = shown_answer view said
-answer_for (asked.Shown view) None = silent_answer view
+abbrev pub IsAnswer : Asked → Option Said → Seen → Type 0
+IsAnswer asked.Absent said seen = seen ≡ plain_answer verdict.Absent (codes "not found\n")
+IsAnswer asked.Unallowed said seen =
+    seen ≡ plain_answer verdict.Unallowed (codes "method not allowed\n")
+IsAnswer asked.Misdirected said seen =
+    seen ≡ plain_answer verdict.Misdirected (codes "not this host\n")
+IsAnswer (asked.Shown view) (Some said) seen = IsShown view said seen
+IsAnswer (asked.Shown view) None seen = seen ≡ silent_answer view

@@ -1,12 +1,13 @@
 -- The page for people: what stands in it as it is, and the words of the unit's lines, by their places, as far as they are plain.
-use Rattle.std.specs.Prelude.{ℕ, ◌==◌, ◌&&◌, List, [], ◌∷◌, ◌++◌, codes, decimal, flat_map, if◌then◌else◌}
+use Rattle.std.specs.Prelude.{ℕ, ◌==◌, ◌&&◌, Bool, List, [], ◌++◌, codes, decimal, flat_map, if◌then◌else◌}
+use Rattle.std.specs.List.{list_any}
 use Rattle.std.specs.Str.{bytes_eq}
 use Rattle.request_text.specs.Lines.{lines_of}
 use Rattle.request_text.specs.Words.{words_in}
 use Rattle.page.specs.declared.ends.LegEnds.{LegEnds}
 use Rattle.page.specs.declared.html.Table.{Table}
 use Rattle.page.specs.declared.html.Table.TheVariants.{Endpoints, Legs, Totals}
-use Rattle.page.specs.declared.style.TheConstants.{CLASS, CLASS_END, CLOSING, ENDPOINTS, LEGS, MATRIX, OPENING, SENDERS_END, SILENT, TABLE_END, TOTALS, TOTALS_END}
+use Rattle.page.specs.declared.style.TheConstants.{CLASS, CLASS_END, CLOSING, ENDPOINTS, GALLERY, GALLERY_END, IMAGE, IMAGE_END, IMAGE_NAME, IMAGE_OF, LEGS, MATRIX, OPENING, SENDERS_END, SILENT, TABLE_END, TOTALS, TOTALS_END}
 use Rattle.page.specs.Ends.{ends_in, numbers_in}
 use Rattle.page.specs.Words.{plain_word, word_at}
 
@@ -122,13 +123,33 @@ unfoldable pub matrix_part : List ℕ → List LegEnds → List ℕ
 matrix_part numbers ends =
     matrix_head numbers ++ (flat_map (receiver_row numbers ends) numbers ++ TABLE_END.now)
 
+-- ---- the sets that are announced
+
+abbrev pub publishes : List LegEnds → ℕ → Bool
+publishes ends number = list_any (λ (leg : LegEnds). leg.publisher == number) ends
+
+unfoldable pub image_text : ℕ → List ℕ
+image_text number =
+    IMAGE.now ++ (decimal number ++ (IMAGE_OF.now ++ (decimal number ++ (IMAGE_NAME.now
+    ++ (decimal number ++ IMAGE_END.now)))))
+
+-- a picture for each endpoint whose media a leg sends on
+abbrev pub publisher_image : List LegEnds → ℕ → List ℕ
+publisher_image ends number = if publishes ends number then image_text number else []
+
+unfoldable pub gallery_part : List ℕ → List LegEnds → List ℕ
+gallery_part numbers ends = GALLERY.now ++ (flat_map (publisher_image ends) numbers ++ GALLERY_END.now)
+
 -- ---- the whole
+
+unfoldable pub people_part : List ℕ → List LegEnds → List ℕ
+people_part numbers ends = matrix_part numbers ends ++ gallery_part numbers ends
 
 unfoldable pub sections_text : List ℕ → List ℕ → List ℕ → List ℕ
 sections_text present legs counts =
     part_text TOTALS.now Totals counts TOTALS_END.now
     ++ (part_text ENDPOINTS.now Endpoints present TABLE_END.now
-    ++ (matrix_part (numbers_in present) (ends_in legs)
+    ++ (people_part (numbers_in present) (ends_in legs)
     ++ part_text LEGS.now Legs legs TABLE_END.now))
 
 unfoldable pub page_text : List ℕ → List ℕ → List ℕ → List ℕ

@@ -1,5 +1,5 @@
 -- The words of the unit's lines, by their places.
-use Rattle.std.specs.Prelude.{ℕ, ◌==◌, ◌&&◌, ◌||◌, nat_le, Bool, List, [], ◌∷◌, get_or, codes, if◌then◌else◌}
+use Rattle.std.specs.Prelude.{ℕ, ◌==◌, ◌&&◌, ◌||◌, nat_le, Bool, List, [], get_or, codes, if◌then◌else◌}
 use Rattle.std.specs.List.{list_all}
 
 -- none is there: no byte

@@ -1,12 +1,16 @@
 //! Which request is answered by what.
 
-ghost use Rattle.std.specs.Prelude.{◌≡◌, IfOk};
-ghost use Rattle.page.specs.Answers.{answer_for, answer_seen, asked_by, page_answer, place_of, plain_answer, shown_answer, silent_answer};
+ghost use Rattle.std.specs.Prelude.{◌≡◌, IfOk, option_map};
+ghost use Rattle.page.specs.Answers.{IsAnswer, IsPictureAnswer, IsSetAnswer, IsShown, answer_seen, asked_by, page_answer, picture_number, picture_place, place_of, plain_answer, silent_answer, without_end, without_start};
 
 use crate::html::{page_text, silent_text};
+use crate::sets::{AnnouncedSet, media_of, picture_in, set_for};
 use crate::state::state_text;
-use request_text::is_word;
+use request_text::{is_word, number_u16};
 use std::alloc::{AllocError, Global};
+
+/// What is said instead of a unit that doesn't answer.
+const UNANSWERED: &[u8] = b"the unit does not answer\n";
 
 /// What a unit said last.
 #[derive(Drop)]
@@ -19,6 +23,8 @@ pub struct Said {
     pub legs: Vec<u8>,
     /// Its line for `counts`.
     pub counts: Vec<u8>,
+    /// The sets that it announces.
+    pub sets: Vec<AnnouncedSet>,
 }
 
 /// What is shown of a unit.
@@ -30,6 +36,8 @@ pub enum View {
     Metrics,
     /// `/state.json`: what the unit is like, for programs.
     State,
+    /// `/publishers/N.svg`: the picture of the set that is announced to publisher N.
+    Picture(u16),
 }
 
 /// What a client asks for.
@@ -40,6 +48,8 @@ pub enum Asked {
     Absent,
     /// By a method other than `GET` and `HEAD`.
     Unallowed,
+    /// Of a host that this isn't.
+    Misdirected,
 }
 
 /// How a request is answered (RFC 9110, section 15).
@@ -51,6 +61,10 @@ pub enum Verdict {
     Absent,
     /// 405.
     Unallowed,
+    /// 421: the client means another host.
+    Misdirected,
+    /// 502: what the unit says of a set is none.
+    Unreadable,
     /// 503: the unit says nothing.
     Silent,
 }
@@ -62,6 +76,7 @@ pub enum Kind {
     /// The text format of Prometheus, version 0.0.4.
     Metrics,
     Json,
+    Svg,
     Plain,
 }
 
@@ -95,17 +110,49 @@ fn place_of(path: &[u8]) -> Asked
     } else if is_word(path, b"/state.json") {
         Asked::Shown(View::State)
     } else {
-        Asked::Absent
+        picture_of(path)
     }
+}
+
+/// The picture that is at a path, if one is.
+fn picture_of(path: &[u8]) -> Asked
+    ensures { result ≡ picture_place (picture_number path.now) }
+{
+    match picture_number(path) {
+        Some(number) => Asked::Shown(View::Picture(number)),
+        None => Asked::Absent,
+    }
+}
+
+/// N of `/publishers/N.svg`.
+fn picture_number(path: &[u8]) -> Option<u16>
+    ensures { result ≡ picture_number path.now }
+{
+    let rest = without_start(path, b"/publishers/")?;
+    let number = without_end(rest, b".svg")?;
+    number_u16(number)
+}
+
+fn without_start<'a>(path: &'a [u8], start: &[u8]) -> Option<&'a [u8]>
+    ensures { option_map (λ x. x.now) result ≡ without_start start.now path.now }
+{
+    path.strip_prefix(start)
+}
+
+fn without_end<'a>(path: &'a [u8], end: &[u8]) -> Option<&'a [u8]>
+    ensures { option_map (λ x. x.now) result ≡ without_end end.now path.now }
+{
+    path.strip_suffix(end)
 }
 
 /// The answer to what is asked, by what the unit said last; `None` if it says nothing. Refused for want of memory alone.
 pub fn answer_to(alloc: Global, asked: Asked, said: &Option<Said>) -> Result<Answer, AllocError>
-    ensures { IfOk result (λ a. answer_seen a ≡ answer_for asked said.now) }
+    ensures { IfOk result (λ a. IsAnswer asked said.now (answer_seen a)) }
 {
     match asked {
         Asked::Absent => plain(alloc, Verdict::Absent, b"not found\n"),
         Asked::Unallowed => plain(alloc, Verdict::Unallowed, b"method not allowed\n"),
+        Asked::Misdirected => plain(alloc, Verdict::Misdirected, b"not this host\n"),
         Asked::Shown(view) => match said {
             Some(said) => shown(alloc, view, said),
             None => silent(alloc, view),
@@ -123,15 +170,15 @@ fn silent(alloc: Global, view: View) -> Result<Answer, AllocError>
             kind: Kind::Html,
             body: silent_text(alloc)?.into_bytes(),
         }),
-        View::Metrics | View::State => {
-            plain(alloc, Verdict::Silent, b"the unit does not answer\n")
-        }
+        View::Metrics => plain(alloc, Verdict::Silent, UNANSWERED),
+        View::State => plain(alloc, Verdict::Silent, UNANSWERED),
+        View::Picture(_) => plain(alloc, Verdict::Silent, UNANSWERED),
     }
 }
 
 /// What is shown of a unit that said this.
 fn shown(alloc: Global, view: View, said: &Said) -> Result<Answer, AllocError>
-    ensures { IfOk result (λ a. answer_seen a ≡ shown_answer view said.now) }
+    ensures { IfOk result (λ a. IsShown view said.now (answer_seen a)) }
 {
     match view {
         View::Page => page(alloc, said),
@@ -150,6 +197,34 @@ fn shown(alloc: Global, view: View, said: &Said) -> Result<Answer, AllocError>
                 said.counts.as_slice(),
             )?,
         }),
+        View::Picture(publisher) => picture(alloc, publisher, said),
+    }
+}
+
+/// The picture of the set of a publisher of whom the unit told.
+fn picture(alloc: Global, publisher: u16, said: &Said) -> Result<Answer, AllocError>
+    ensures { IfOk result (λ a. IsPictureAnswer publisher said.now (answer_seen a)) }
+{
+    let Some(media) = media_of(alloc, said.present.as_slice(), publisher)? else {
+        return plain(alloc, Verdict::Absent, b"not found\n");
+    };
+    let Some(text) = set_for(said.sets.as_slice(), publisher) else {
+        return plain(alloc, Verdict::Silent, UNANSWERED);
+    };
+    set_answer(alloc, media, text)
+}
+
+/// The picture of the set that these lines tell of, if they tell of one.
+fn set_answer(alloc: Global, media: u32, text: &[u8]) -> Result<Answer, AllocError>
+    ensures { IfOk result (λ a. IsSetAnswer media text.now (answer_seen a)) }
+{
+    match picture_in(alloc, media, text)? {
+        Some(body) => Ok(Answer {
+            verdict: Verdict::Fine,
+            kind: Kind::Svg,
+            body,
+        }),
+        None => plain(alloc, Verdict::Unreadable, b"no set\n"),
     }
 }
 

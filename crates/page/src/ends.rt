@@ -17,8 +17,8 @@ pub(crate) struct LegEnds {
     pub on: bool,
 }
 
-/// The numbers of the endpoints that an answer to `present` tells of.
-pub(crate) fn numbers_in(alloc: Global, text: &[u8]) -> Result<Vec<u16>, AllocError>
+/// The numbers of the endpoints that an answer to `present` tells of, in its order. Refused for want of memory alone.
+pub fn numbers_in(alloc: Global, text: &[u8]) -> Result<Vec<u16>, AllocError>
     ensures { IfOk result (λ numbers. numbers.items ≡ numbers_in text.now) }
 {
     let lines = lines(alloc, text)?;

@@ -2,13 +2,14 @@
 
 ghost use Rattle.std.specs.Prelude.{◌≡◌, ◌++◌, IfOk, OnOk, flat_map, map};
 ghost use Rattle.std.specs.String.{string_bytes};
-ghost use Rattle.page.specs.Html.{age_word, cell_text, class_text, column_text, endpoint_cells, endpoint_row, figure_text, flow_cells, leg_cells, leg_row, line_row, loss_figures, mark_cell, mark_text, matrix_head, matrix_part, page_text, part_text, receiver_head, receiver_row, rows_text, sections_text, silent_text, state_cell, total_figures, totals_row, words_row};
+ghost use Rattle.page.specs.Html.{age_word, cell_text, class_text, endpoint_cells, endpoint_row, figure_text, flow_cells, leg_cells, leg_row, line_row, loss_figures, page_text, part_text, people_part, rows_text, sections_text, silent_text, state_cell, total_figures, totals_row, words_row};
 ghost use Rattle.page.specs.Ends.{ends_in, numbers_in};
 
 use crate::ends::{LegEnds, ends_in, numbers_in};
+use crate::gallery::push_gallery;
+use crate::matrix::push_matrix;
 use crate::style::{
-    CLASS, CLASS_END, CLOSING, ENDPOINTS, LEGS, MATRIX, OPENING, SENDERS_END, SILENT, TABLE_END,
-    TOTALS, TOTALS_END,
+    CLASS, CLASS_END, CLOSING, ENDPOINTS, LEGS, OPENING, SILENT, TABLE_END, TOTALS, TOTALS_END,
 };
 use crate::words::{plain_word, word_at};
 use request_text::{is_word, lines, words_of};
@@ -66,7 +67,7 @@ fn push_sections(
 {
     push_part(alloc, text, TOTALS, Table::Totals, counts, TOTALS_END)?;
     push_part(alloc, text, ENDPOINTS, Table::Endpoints, present, TABLE_END)?;
-    push_matrix(alloc, text, present, legs)?;
+    push_people(alloc, text, present, legs)?;
     push_part(alloc, text, LEGS, Table::Legs, legs, TABLE_END)
 }
 
@@ -290,150 +291,26 @@ fn push_figure(text: &mut String, name: &str, word: &[u8]) -> Result<(), AllocEr
     text.push_str("</dd></div>\n")
 }
 
-/// Who sees whom.
-fn push_matrix(
+/// Who sees whom, and the set that is announced to each publisher.
+fn push_people(
     alloc: Global,
     text: &mut String,
     present: &[u8],
     legs: &[u8],
 ) -> Result<(), AllocError>
     ensures { OnOk result (string_bytes text.new
-        ≡ string_bytes text.old ++ matrix_part (numbers_in present.now) (ends_in legs.now)) }
+        ≡ string_bytes text.old ++ people_part (numbers_in present.now) (ends_in legs.now)) }
 {
     let numbers = numbers_in(alloc, present)?;
     let ends = ends_in(alloc, legs)?;
-    push_matrix_part(text, numbers.as_slice(), ends.as_slice())
+    push_both(text, numbers.as_slice(), ends.as_slice())
 }
 
-#[tactic(auto, unfolding(crate::specs::Html::matrix_part))]
-fn push_matrix_part(text: &mut String, numbers: &[u16], ends: &[LegEnds]) -> Result<(), AllocError>
+#[tactic(auto, unfolding(crate::specs::Html::people_part))]
+fn push_both(text: &mut String, numbers: &[u16], ends: &[LegEnds]) -> Result<(), AllocError>
     ensures { OnOk result
-        (string_bytes text.new ≡ string_bytes text.old ++ matrix_part numbers.now ends.now) }
+        (string_bytes text.new ≡ string_bytes text.old ++ people_part numbers.now ends.now) }
 {
-    push_matrix_head(text, numbers)?;
-    push_receivers(text, numbers, ends)?;
-    text.push_str(TABLE_END)
-}
-
-#[tactic(auto, unfolding(crate::specs::Html::matrix_head))]
-fn push_matrix_head(text: &mut String, numbers: &[u16]) -> Result<(), AllocError>
-    ensures { OnOk result (string_bytes text.new ≡ string_bytes text.old ++ matrix_head numbers.now) }
-{
-    text.push_str(MATRIX)?;
-    push_senders(text, numbers)?;
-    text.push_str(SENDERS_END)
-}
-
-/// The senders' heads.
-fn push_senders(text: &mut String, numbers: &[u16]) -> Result<(), AllocError>
-    ensures { OnOk result (string_bytes text.new
-        ≡ string_bytes text.old ++ flat_map column_text numbers.now) }
-{
-    for number in numbers {
-        push_head(text, *number)?;
-    }
-    Ok(())
-}
-
-#[tactic(auto, unfolding(crate::specs::Html::column_text))]
-fn push_head(text: &mut String, number: u16) -> Result<(), AllocError>
-    ensures { OnOk result (string_bytes text.new ≡ string_bytes text.old ++ column_text number) }
-{
-    write!(text, "<th scope=\"col\">{number}</th>")
-}
-
-/// A row for each receiver.
-fn push_receivers(text: &mut String, numbers: &[u16], ends: &[LegEnds]) -> Result<(), AllocError>
-    ensures { OnOk result (string_bytes text.new
-        ≡ string_bytes text.old ++ flat_map (receiver_row numbers.now ends.now) numbers.now) }
-{
-    for receiver in numbers {
-        push_receiver(text, numbers, ends, *receiver)?;
-    }
-    Ok(())
-}
-
-#[tactic(auto, unfolding(crate::specs::Html::receiver_row))]
-fn push_receiver(
-    text: &mut String,
-    numbers: &[u16],
-    ends: &[LegEnds],
-    receiver: u16,
-) -> Result<(), AllocError>
-    ensures { OnOk result (string_bytes text.new
-        ≡ string_bytes text.old ++ receiver_row numbers.now ends.now receiver) }
-{
-    push_receiver_head(text, receiver)?;
-    push_marks(text, numbers, ends, receiver)?;
-    text.push_str("</tr>\n")
-}
-
-#[tactic(auto, unfolding(crate::specs::Html::receiver_head))]
-fn push_receiver_head(text: &mut String, receiver: u16) -> Result<(), AllocError>
-    ensures { OnOk result (string_bytes text.new
-        ≡ string_bytes text.old ++ receiver_head receiver) }
-{
-    write!(text, "<tr><th scope=\"row\">{receiver}</th>")
-}
-
-/// A cell for each sender.
-fn push_marks(
-    text: &mut String,
-    numbers: &[u16],
-    ends: &[LegEnds],
-    receiver: u16,
-) -> Result<(), AllocError>
-    ensures { OnOk result (string_bytes text.new
-        ≡ string_bytes text.old ++ flat_map (mark_cell ends.now receiver) numbers.now) }
-{
-    for sender in numbers {
-        push_mark_cell(text, ends, receiver, *sender)?;
-    }
-    Ok(())
-}
-
-#[tactic(auto, unfolding(crate::specs::Html::mark_cell))]
-fn push_mark_cell(
-    text: &mut String,
-    ends: &[LegEnds],
-    receiver: u16,
-    sender: u16,
-) -> Result<(), AllocError>
-    ensures { OnOk result (string_bytes text.new
-        ≡ string_bytes text.old ++ mark_cell ends.now receiver sender) }
-{
-    text.push_str("<td>")?;
-    push_pair(text, ends, receiver, sender)?;
-    text.push_str("</td>")
-}
-
-/// A mark for each leg from the one to the other.
-fn push_pair(
-    text: &mut String,
-    ends: &[LegEnds],
-    receiver: u16,
-    sender: u16,
-) -> Result<(), AllocError>
-    ensures { OnOk result (string_bytes text.new
-        ≡ string_bytes text.old ++ flat_map (mark_text receiver sender) ends.now) }
-{
-    for leg in ends {
-        text.push_str(mark_of(receiver, sender, *leg))?;
-    }
-    Ok(())
-}
-
-/// The mark of a leg, if it is from the one to the other.
-fn mark_of(receiver: u16, sender: u16, leg: LegEnds) -> &'static str
-    ensures { result.now ≡ mark_text receiver sender leg }
-{
-    if leg.publisher == sender && leg.subscriber == receiver {
-        if leg.on {
-            "<span class=\"on\">on</span>"
-        } else {
-            "<span class=\"off\">off</span>"
-        }
-    } else {
-        ""
-    }
+    push_matrix(text, numbers, ends)?;
+    push_gallery(text, numbers, ends)
 }

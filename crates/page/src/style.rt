@@ -27,6 +27,8 @@ td.word { text-align: left }
 .off, .absent { color: var(--off) }
 dl { display: grid; grid-template-columns: repeat(auto-fill, minmax(8rem, 1fr)); gap: .5rem; margin: 0 }
 dl div { border: 1px solid var(--line); border-radius: .4rem; padding: .4rem .7rem }
+.gallery { display: grid; grid-template-columns: repeat(auto-fill, minmax(min(26rem, 100%), 1fr)); gap: .7rem }
+.gallery img { display: block; width: 100%; height: auto; border: 1px solid var(--line); border-radius: .4rem }
 dt { color: var(--soft); font-size: .85rem }
 dd { margin: 0; font-size: 1.15rem; font-variant-numeric: tabular-nums }
 </style>
@@ -42,7 +44,7 @@ pub const SILENT: &str = "<p>The unit does not answer.</p>\n";
 /// The totals.
 pub const TOTALS: &str = "<section>\n<h2>In all</h2>\n<dl>\n";
 
-/// Behind the totals.
+/// After the totals.
 pub const TOTALS_END: &str = "</dl>\n</section>\n";
 
 /// Who is there.
@@ -61,8 +63,30 @@ pub const MATRIX: &str = "<section>
 <div class=\"wide\"><table>
 <thead><tr><th scope=\"col\">receiver</th>";
 
-/// Behind the senders.
+/// After the senders.
 pub const SENDERS_END: &str = "</tr></thead>\n<tbody>\n";
+
+/// The pictures of the sets that are announced.
+pub const GALLERY: &str = "<section>
+<h2>What publishers are asked for</h2>
+<div class=\"gallery\">
+";
+
+/// After the pictures.
+pub const GALLERY_END: &str = "</div>\n</section>\n";
+
+/// Up to the number of the publisher whose set an image is of, as a link.
+pub const IMAGE: &str = "<a href=\"/publishers/";
+
+/// Between that number and the same in the image's path.
+pub const IMAGE_OF: &str = ".svg\"><img width=\"1060\" height=\"580\" src=\"/publishers/";
+
+/// Between that number and the same in the text for who can't see it.
+pub const IMAGE_NAME: &str =
+    ".svg\" alt=\"The rates that are asked of, and announced to, endpoint ";
+
+/// After the number in the text.
+pub const IMAGE_END: &str = "\"></a>\n";
 
 /// What went out on each leg.
 pub const LEGS: &str = "<section>
@@ -73,20 +97,22 @@ pub const LEGS: &str = "<section>
 <tbody>
 ";
 
-/// Behind the rows of a table.
+/// After the rows of a table.
 pub const TABLE_END: &str = "</tbody>\n</table></div>\n</section>\n";
 
 /// Up to the word that a cell shows in its own colour.
 pub const CLASS: &str = "<td class=\"word ";
 
-/// Behind that word.
+/// After that word.
 pub const CLASS_END: &str = "\">";
 
-/// Behind the last section.
+/// After the last section.
 pub const CLOSING: &str = "</main>
 <footer><p>The same <a href=\"/state.json\">for programs</a> and <a href=\"/metrics\">for Prometheus</a>.</p></footer>
-<script>setInterval(async()=>{try{const t=await(await fetch('/')).text();\
-document.querySelector('main').replaceWith(new DOMParser().parseFromString(t,'text/html').querySelector('main'))}catch{}},2000)</script>
+<script>setInterval(async()=>{try{const t=await(await fetch('/')).text(),\
+m=document.adoptNode(new DOMParser().parseFromString(t,'text/html').querySelector('main'));\
+await Promise.all([...m.querySelectorAll('img')].map(i=>i.decode().catch(()=>{})));\
+document.querySelector('main').replaceWith(m)}catch{}},2000)</script>
 </body>
 </html>
 ";

@@ -1,6 +1,9 @@
 -- What a client is sent: the answer of `page`, as a response of HTTP.
-use Rattle.std.specs.Prelude.{◌≡◌, ℕ, Option, List, [], ◌∷◌, ◌++◌, codes}
+use Rattle.std.specs.Prelude.{◌≡◌, ℕ, Option, None, Some, List, [], ◌∷◌, ◌++◌, codes, if◌then◌else◌}
 use Rattle.http.specs.declared.request.Request.{Request}
+use Rattle.http.specs.declared.request.Parts.{Parts}
+use Rattle.http_header.specs.FieldValue.{FieldValue}
+use Rattle.http_header.specs.HeaderMap.{get}
 use Rattle.http.specs.Request.{head_of}
 use Rattle.http1.specs.Fields.{Header}
 use Rattle.http_server.specs.declared.response.Response.{Response}
@@ -10,8 +13,11 @@ use Rattle.page.specs.declared.answer.Kind.{Kind}
 use Rattle.page.specs.declared.answer.Kind.TheVariants as kind
 use Rattle.page.specs.declared.answer.Said.{Said}
 use Rattle.page.specs.declared.answer.Verdict.{Verdict}
-use Rattle.page.specs.declared.answer.Verdict.TheVariants.{Fine, Absent, Unallowed, Silent}
-use Rattle.page.specs.Answers.{Seen, answer_for, asked_by}
+use Rattle.page.specs.declared.answer.Verdict.TheVariants.{Fine, Absent, Unallowed, Misdirected, Unreadable, Silent}
+use Rattle.page.specs.declared.answer.Asked.{Asked}
+use Rattle.page.specs.declared.answer.Asked.TheVariants as asked
+use Rattle.page.specs.Answers.{Seen, IsAnswer, asked_by}
+use Rattle.page.specs.Hosts.{is_known_host}
 use Rattle.web.specs.declared.teller.TheConstants.{POLICY}
 
 -- RFC 9110, section 15
@@ -19,12 +25,15 @@ abbrev pub status_number : Verdict → ℕ
 status_number Fine = 200
 status_number Absent = 404
 status_number Unallowed = 405
+status_number Misdirected = 421
+status_number Unreadable = 502
 status_number Silent = 503
 
 abbrev pub kind_text : Kind → List ℕ
 kind_text kind.Html = codes "text/html; charset=utf-8"
 kind_text kind.Metrics = codes "text/plain; version=0.0.4; charset=utf-8"
 kind_text kind.Json = codes "application/json"
+kind_text kind.Svg = codes "image/svg+xml"
 kind_text kind.Plain = codes "text/plain; charset=utf-8"
 
 -- one answer a connection
@@ -48,7 +57,22 @@ abbrev pub IsSent : Seen → Response → Type 0
 IsSent seen response =
     IsResponse (status_number seen.verdict) (fields_for seen.kind) seen.body response
 
--- the response is the answer to the method and the path of the request, by what the unit said last
-abbrev pub IsTold : Option Said → Request (List ℕ) → Response → Type 0
-IsTold said request response =
-    IsSent (answer_for (asked_by (head_of request).method (uri_path (head_of request).uri)) said) response
+abbrev pub value_of : Option FieldValue → List ℕ
+value_of (Some value) = value.bytes
+value_of None = []
+
+-- the value of the `Host` field; none: no byte
+abbrev pub host_in : Parts → List ℕ
+host_in head = value_of (get head.headers (codes "host"))
+
+-- what a head asks for: only under a known name is anything told
+abbrev pub asked_in : List ℕ → Parts → Asked
+asked_in name head = if is_known_host name (host_in head)
+    then asked_by head.method (uri_path head.uri) else asked.Misdirected
+
+-- the response is an answer to what is asked, by what the unit said last
+abbrev pub Tells : Asked → Option Said → Response → Type 0
+Tells asked said response = (seen : Seen) × IsAnswer asked said seen × IsSent seen response
+
+abbrev pub IsTold : List ℕ → Option Said → Request (List ℕ) → Response → Type 0
+IsTold name said request response = Tells (asked_in name (head_of request)) said response

@@ -1,7 +1,7 @@
 //! How a unit is asked, question by question, without waiting for it.
 
 use control::{Answered, read_answer};
-use page::Said;
+use page::{AnnouncedSet, Said, numbers_in};
 use std::alloc::Global;
 use std::io::{ErrorKind, Read, Write};
 use std::mem;
@@ -18,6 +18,9 @@ const PIECE: usize = 4_096;
 /// So many pieces are read in one step.
 const PIECES: u32 = 64;
 
+/// The sets of so many publishers are asked for.
+const MAX_SETS: usize = 64;
+
 /// What is asked.
 #[derive(Clone, Copy)]
 enum Question {
@@ -25,28 +28,8 @@ enum Question {
     Present,
     Legs,
     Counts,
-}
-
-impl Question {
-    /// The line that asks it.
-    fn line(self) -> &'static [u8] {
-        match self {
-            Question::Metrics => b"metrics\n",
-            Question::Present => b"present\n",
-            Question::Legs => b"legs\n",
-            Question::Counts => b"counts\n",
-        }
-    }
-
-    /// The question after it; `None` after the last.
-    fn next(self) -> Option<Question> {
-        match self {
-            Question::Metrics => Some(Question::Present),
-            Question::Present => Some(Question::Legs),
-            Question::Legs => Some(Question::Counts),
-            Question::Counts => None,
-        }
-    }
+    /// The set that is announced to this publisher.
+    Set(u16),
 }
 
 /// How far an inquiry is.
@@ -70,6 +53,8 @@ pub struct Inquiry<S: Drop> {
     /// What came of the answer so far.
     text: Vec<u8>,
     said: Said,
+    /// The publishers whose sets are still to be asked for.
+    publishers: Vec<u16>,
 }
 
 impl<S: Read + Write + Drop> Inquiry<S> {
@@ -86,7 +71,9 @@ impl<S: Read + Write + Drop> Inquiry<S> {
                 present: Vec::new(alloc),
                 legs: Vec::new(alloc),
                 counts: Vec::new(alloc),
+                sets: Vec::new(alloc),
             },
+            publishers: Vec::new(alloc),
         };
         let _ = inquiry.ask();
         inquiry
@@ -121,9 +108,26 @@ impl<S: Read + Write + Drop> Inquiry<S> {
         said
     }
 
+    /// How many questions were asked for what was said.
+    pub fn asked(&self) -> usize {
+        self.said.sets.len().saturating_add(4)
+    }
+
     /// Writes the question.
     fn ask(&mut self) -> bool {
-        let line = self.question.line();
+        match self.question {
+            Question::Metrics => self.say(b"metrics\n"),
+            Question::Present => self.say(b"present\n"),
+            Question::Legs => self.say(b"legs\n"),
+            Question::Counts => self.say(b"counts\n"),
+            Question::Set(publisher) => match format!(in self.alloc; "show {publisher}\n") {
+                Ok(line) => self.say(line.as_bytes()),
+                Err(_) => false,
+            },
+        }
+    }
+
+    fn say(&mut self, line: &[u8]) -> bool {
         match self.stream.write(line) {
             Ok(count) => count == line.len(),
             Err(_) => false,
@@ -155,14 +159,9 @@ impl<S: Read + Write + Drop> Inquiry<S> {
         let lines = self.text.len().saturating_sub(3);
         self.text.truncate(lines);
         let text = mem::replace(&mut self.text, Vec::new(self.alloc));
-        match self.question {
-            Question::Metrics => self.said.metrics = text,
-            Question::Present => self.said.present = text,
-            Question::Legs => self.said.legs = text,
-            Question::Counts => self.said.counts = text,
-        }
-        match self.question.next() {
-            Some(question) => {
+        let kept = self.keep(text);
+        match self.next_question() {
+            Some(question) if kept => {
                 self.question = question;
                 if self.ask() {
                     Step::Asking
@@ -170,7 +169,50 @@ impl<S: Read + Write + Drop> Inquiry<S> {
                     Step::Failed
                 }
             }
-            None => Step::Answered,
+            None if kept => Step::Answered,
+            _ => Step::Failed,
+        }
+    }
+
+    /// Keeps the answer to the question. Says whether there was memory.
+    fn keep(&mut self, text: Vec<u8>) -> bool {
+        match self.question {
+            Question::Metrics => self.said.metrics = text,
+            Question::Present => return self.keep_present(text),
+            Question::Legs => self.said.legs = text,
+            Question::Counts => self.said.counts = text,
+            Question::Set(publisher) => {
+                return self
+                    .said
+                    .sets
+                    .push(AnnouncedSet { publisher, text })
+                    .is_ok();
+            }
+        }
+        true
+    }
+
+    /// Keeps who is there: their sets are to be asked for.
+    fn keep_present(&mut self, text: Vec<u8>) -> bool {
+        let numbers = numbers_in(self.alloc, text.as_slice());
+        self.said.present = text;
+        match numbers {
+            Ok(numbers) => {
+                self.publishers = numbers;
+                self.publishers.truncate(MAX_SETS);
+                true
+            }
+            Err(_) => false,
+        }
+    }
+
+    /// The question after this one; `None` after the last.
+    fn next_question(&mut self) -> Option<Question> {
+        match self.question {
+            Question::Metrics => Some(Question::Present),
+            Question::Present => Some(Question::Legs),
+            Question::Legs => Some(Question::Counts),
+            Question::Counts | Question::Set(_) => Some(Question::Set(self.publishers.pop()?)),
         }
     }
 }

@@ -20,6 +20,9 @@ use std::time::{Clock, Duration, Instant};
 /// So many milliseconds lie between two inquiries.
 const ASK_EACH_MS: u64 = 1_000;
 
+/// So many at least for each question that the last one had.
+const QUESTION_EACH_MS: u64 = 40;
+
 /// So many milliseconds lie between two looks at all that may have come.
 const LOOK_EACH_MS: u64 = 5;
 
@@ -29,7 +32,7 @@ const ADMITTED: u32 = 16;
 /// Why there is no page.
 #[derive(Clone, Copy)]
 enum PageFault {
-    /// The words aren't `PATH ADDRESS`, or `PATH ADDRESS --anyone`.
+    /// The words aren't `PATH ADDRESS` with `--anyone` or `--host NAME` after them, or neither.
     Words,
     /// The address is no loopback address, and `--anyone` isn't there.
     Anyone,
@@ -43,10 +46,12 @@ struct Place<'a> {
     /// Where the unit is steered.
     path: &'a str,
     address: SocketAddr,
+    /// The name by which it may be called, beside addresses and `localhost`.
+    name: &'a str,
 }
 
 /// Serves a page of the unit that is steered at a path: the words are `PATH ADDRESS`, and `--anyone` if the address is no loopback
-/// address. Says `page ADDRESS` on the error output once it listens, and returns then only if the clock or the random source fails. It is
+/// address, or `--host NAME` if it may be called by a name. Says `page ADDRESS` on the error output once it listens, and returns then only if the clock or the random source fails. It is
 /// never done: `CommandLine` if the words are others, `Socket` if the address can't be had.
 pub fn run_page<
     R: AllocGlobal + Net<Listener = TcpListener, Stream = TcpStream> + Wait + Clock + RandomSource,
@@ -64,21 +69,35 @@ pub fn run_page<
 
 /// What the words ask for.
 fn place_in<S: AsStr>(words: &[S]) -> Result<Place<'_>, PageFault> {
-    let (path, address, anyone) = match words {
-        [path, address] => (path, address, false),
-        [path, address, word] if word.as_str() == "--anyone" => (path, address, true),
+    let (path, address, rest) = match words {
+        [path, address, rest @ ..] => (path, address, rest),
         _ => return Err(PageFault::Words),
     };
     let Ok(address) = address.as_str().parse::<SocketAddr>() else {
         return Err(PageFault::Words);
     };
+    let (anyone, name) = allowed_by(rest)?;
     if !anyone && !address.ip().is_loopback() {
         return Err(PageFault::Anyone);
     }
     Ok(Place {
         path: path.as_str(),
         address,
+        name,
     })
+}
+
+/// Whether anyone may look, and the name by which the page may be called.
+fn allowed_by<S: AsStr>(words: &[S]) -> Result<(bool, &str), PageFault> {
+    match words {
+        [] => Ok((false, "localhost")),
+        [word] if word.as_str() == "--anyone" => Ok((true, "localhost")),
+        [word, name] if word.as_str() == "--host" => Ok((false, name.as_str())),
+        [first, word, name] if first.as_str() == "--anyone" && word.as_str() == "--host" => {
+            Ok((true, name.as_str()))
+        }
+        _ => Err(PageFault::Words),
+    }
 }
 
 /// Why there is no page, on the error output.
@@ -89,7 +108,7 @@ fn say_fault<E: Write>(errors: &mut E, fault: PageFault) -> Status
     match fault {
         PageFault::Words => say(
             errors,
-            b"usage: sfu page PATH ADDRESS [--anyone]\n",
+            b"usage: sfu page PATH ADDRESS [--anyone] [--host NAME]\n",
             Status::CommandLine,
         ),
         PageFault::Anyone => say(
@@ -115,7 +134,7 @@ fn serve<
     match (listener.set_nonblocking(true), listener.local_addr()) {
         (Ok(()), Ok(address)) => match say_address(rt.alloc(), errors, address) {
             Ok(()) => {
-                serve_at(rt, place.path, &listener);
+                serve_at(rt, place, &listener);
                 say(errors, b"io\n", Status::Io)
             }
             Err(status) => status,
@@ -144,23 +163,28 @@ struct Page {
     alloc: Global,
     start: Instant,
     inquiry: Option<Inquiry<UnixStream>>,
+    /// The moment at which the last inquiry began.
+    begun_ms: u64,
     /// The moment from which on the unit is asked again.
     due_ms: u64,
     teller: Teller,
     visitors: Visitors<TcpStream>,
 }
 
-/// A page that begins; `None` where there is no clock or no random source.
-fn begin<R: AllocGlobal + Clock + RandomSource>(rt: &R) -> Option<Page> {
+/// A page that begins; `None` if there is no clock, no random source or no memory.
+fn begin<R: AllocGlobal + Clock + RandomSource>(rt: &R, name: &str) -> Option<Page> {
     let start = Instant::now(rt).ok()?;
     let keys = RandomState::new(rt).ok()?;
     let alloc = rt.alloc();
+    let mut called = String::new(alloc);
+    called.push_str(name).ok()?;
     Some(Page {
         alloc,
         start,
         inquiry: None,
+        begun_ms: 0,
         due_ms: 0,
-        teller: Teller::new(alloc),
+        teller: Teller::new(alloc, called),
         visitors: Visitors::new(alloc, keys),
     })
 }
@@ -168,14 +192,14 @@ fn begin<R: AllocGlobal + Clock + RandomSource>(rt: &R) -> Option<Page> {
 /// Asks the unit and answers those who come, turn by turn. Ends only where the clock or the random source fails.
 fn serve_at<R: AllocGlobal + Net + Wait + Clock + RandomSource>(
     rt: &R,
-    path: &str,
+    place: Place<'_>,
     listener: &TcpListener,
 ) {
-    let Some(mut page) = begin(rt) else {
+    let Some(mut page) = begin(rt, place.name) else {
         return;
     };
     for _ in rt.forever() {
-        if !page.turn(rt, path, listener) {
+        if !page.turn(rt, place.path, listener) {
             return;
         }
         thread::sleep(rt, Duration::from_millis(LOOK_EACH_MS));
@@ -222,6 +246,7 @@ impl Page {
             }
             None => {
                 if moment >= self.due_ms {
+                    self.begun_ms = moment;
                     self.due_ms = moment.saturating_add(ASK_EACH_MS);
                     self.begin_inquiry(rt, path, moment);
                 }
@@ -242,7 +267,12 @@ impl Page {
             return;
         }
         let said = match self.inquiry.take() {
-            Some(inquiry) if matches!(step, Step::Answered) => Some(inquiry.into_said()),
+            Some(inquiry) if matches!(step, Step::Answered) => {
+                let questions = u64::try_from(inquiry.asked()).unwrap_or(0);
+                let least = questions.saturating_mul(QUESTION_EACH_MS);
+                self.due_ms = self.due_ms.max(self.begun_ms.saturating_add(least));
+                Some(inquiry.into_said())
+            }
             _ => None,
         };
         self.teller.hear(said);

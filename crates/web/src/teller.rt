@@ -3,40 +3,49 @@
 ghost use Rattle.std.specs.Prelude.{◌≡◌, [], ◌∷◌, ◌++◌, IsTrue, OnOk};
 ghost use Rattle.http_header.specs.FieldValue.{is_visible_text};
 ghost use Rattle.http_header.specs.FieldName.{is_header_name};
+ghost use Rattle.http.specs.Request.{head_of};
 ghost use Rattle.http_server.specs.Response.{IsBlank, fields_of};
 ghost use Rattle.page.specs.Answers.{answer_seen};
-ghost use Rattle.web.specs.Told.{IsSent, fields_for, guard_fields, handling_fields, kind_fields, kind_text, status_number};
+ghost use Rattle.web.specs.Told.{IsSent, Tells, asked_in, host_in, fields_for, guard_fields, handling_fields, kind_fields, kind_text, status_number};
 
 use bytes::{BufMut, Bytes};
 use http::{HeaderName, HeaderValue, Request, StatusCode};
 use http_server::{Response, Service};
-use page::{Answer, Kind, Said, Verdict, answer_to, asked_for};
+use page::{Answer, Asked, Kind, Said, Verdict, answer_to, asked_for, is_known_host};
 use std::alloc::{AllocError, Global};
 
 /// What a browser may do with the page: it runs the page's own script, by its SHA-256, and loads nothing from elsewhere.
 const POLICY: &str = "default-src 'none'; style-src 'unsafe-inline'; \
-    script-src 'sha256-PPs51WdLNGXXcE6+qZvWpd7KZd/DLdYWCXYwX5uYnbc='; connect-src 'self'; img-src 'self'";
+    script-src 'sha256-AuUnc6I/5UtD1RDNg0TTwqB0V8sQzC03brW8yj97orM='; connect-src 'self'; img-src 'self'";
 
 /// Answers requests by what a unit said last.
 #[derive(Drop)]
 pub struct Teller {
     alloc: Global,
+    /// The name, beside addresses and `localhost`, by which it may be called.
+    name: String,
     said: Option<Said>,
 }
 
 impl Teller {
     ghost use Rattle.std.specs.Prelude.{◌≡◌, None, Some};
 
-    /// Of a unit that said nothing yet.
-    pub fn new(alloc: Global) -> Teller
-        ensures { result.said ≡ None }
+    /// Of a unit that said nothing yet. It answers to addresses, to `localhost` and to this name.
+    pub fn new(alloc: Global, name: String) -> Teller
+        ensures said { result.said ≡ None }
+        ensures name { result.name ≡ name }
     {
-        Teller { alloc, said: None }
+        Teller {
+            alloc,
+            name,
+            said: None,
+        }
     }
 
     /// The unit said this; `None` if it says nothing any more.
     pub fn hear(&mut self, said: Option<Said>)
-        ensures { self.new.said ≡ said }
+        ensures said { self.new.said ≡ said }
+        ensures name { self.new.name ≡ self.old.name }
     {
         self.said = said;
     }
@@ -44,19 +53,54 @@ impl Teller {
 
 impl Service for Teller {
     ghost use Rattle.std.specs.Prelude.{◌≡◌};
+    ghost use Rattle.std.specs.String.{string_bytes};
     ghost use Rattle.web.specs.Told.{IsTold};
 
-    ghost answers = { λ old request response new. (new ≡ old) × IsTold old.said request response };
+    ghost answers = { λ old request response new. (new ≡ old) × IsTold (string_bytes old.name) old.said request response };
 
     fn call(
         &mut self,
         request: &Request<Bytes>,
         response: &mut Response,
     ) -> Result<(), AllocError> {
+        let asked = asked_by(self.name.as_bytes(), request);
+        answer(self.alloc, asked, &self.said, response)
+    }
+}
+
+/// Fills the response with the answer to what is asked.
+fn answer(
+    alloc: Global,
+    asked: Asked,
+    said: &Option<Said>,
+    response: &mut Response,
+) -> Result<(), AllocError>
+    requires { IsBlank response.old }
+    ensures { OnOk result (Tells asked said.now response.new) }
+{
+    let answer = answer_to(alloc, asked, said)?;
+    tell(response, &answer)
+}
+
+/// What a request asks for.
+fn asked_by(name: &[u8], request: &Request<Bytes>) -> Asked
+    ensures { result ≡ asked_in name.now (head_of request.now) }
+{
+    if is_known_host(name, host_of(request)) {
         let path = request.uri().path().as_bytes();
-        let asked = asked_for(request.method().as_str().as_bytes(), path);
-        let answer = answer_to(self.alloc, asked, &self.said)?;
-        tell(response, &answer)
+        asked_for(request.method().as_str().as_bytes(), path)
+    } else {
+        Asked::Misdirected
+    }
+}
+
+/// The value of its `Host` field; empty if it has none.
+fn host_of(request: &Request<Bytes>) -> &[u8]
+    ensures { result.now ≡ host_in (head_of request.now) }
+{
+    match request.headers().get("host") {
+        Some(host) => host.as_bytes(),
+        None => b"",
     }
 }
 
@@ -135,6 +179,8 @@ fn status_of(verdict: Verdict) -> StatusCode
         Verdict::Fine => StatusCode::OK,
         Verdict::Absent => StatusCode::NOT_FOUND,
         Verdict::Unallowed => StatusCode::METHOD_NOT_ALLOWED,
+        Verdict::Misdirected => StatusCode::MISDIRECTED_REQUEST,
+        Verdict::Unreadable => StatusCode::BAD_GATEWAY,
         Verdict::Silent => StatusCode::SERVICE_UNAVAILABLE,
     }
 }
@@ -148,6 +194,7 @@ fn kind_text(kind: Kind) -> &'static str
         Kind::Html => "text/html; charset=utf-8",
         Kind::Metrics => "text/plain; version=0.0.4; charset=utf-8",
         Kind::Json => "application/json",
+        Kind::Svg => "image/svg+xml",
         Kind::Plain => "text/plain; charset=utf-8",
     }
 }

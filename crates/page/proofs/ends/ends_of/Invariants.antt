@@ -1,4 +1,4 @@
-use Rattle.std.proofs.Common.{◌≡◌, ◌++◌, List, ℕ, Bor, take}
+use Rattle.std.proofs.Common.{◌≡◌, List, ℕ, Bor, take}
 use Rattle.std.specs.Prelude.{flat_map}
 use Rattle.page.specs.Ends.{line_ends}
 use Rattle.page.proofs.ends.ends_of.Given as goal

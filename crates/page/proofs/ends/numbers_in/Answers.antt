@@ -1,4 +1,4 @@
-use Rattle.std.proofs.Common.{◌≡◌, ◌++◌, ◌∙◌, ℕ, Bor, List, ap, subst}
+use Rattle.std.proofs.Common.{◌≡◌, ◌∙◌, ℕ, Bor, List, ap, subst}
 use Rattle.std.specs.Prelude.{flat_map, IfOk}
 use Rattle.page.specs.Ends.{line_numbers, numbers_in}
 use Rattle.page.proofs.LineLemmas.{flat_map_now}
