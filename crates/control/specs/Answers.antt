@@ -5,6 +5,7 @@ use Rattle.std.specs.Net.Text.{socket_text}
 use Rattle.std.specs.declared.net.socket_addr.SocketAddr.{SocketAddr}
 use Rattle.outside.specs.declared.watch.Status.{Status}
 use Rattle.control.specs.declared.answer.Refused.{Refused}
+use Rattle.control.specs.declared.answer.Unheard.{Unheard}
 use Rattle.control.specs.declared.answer.Refused.TheVariants.{Unknown, Leg, Publisher, Long, Full, Memory}
 
 abbrev pub refusal_text : Refused → List ℕ
@@ -22,16 +23,28 @@ flow_part s =
     ++ (decimal s.present ++ (codes " heard " ++ (decimal s.heard
     ++ (codes " sent " ++ (decimal s.sent ++ (codes " failed " ++ decimal s.failed))))))
 
--- what was lost or given up, and what came from strangers
-abbrev pub loss_part : Status → ℕ → List ℕ
-loss_part s strangers =
-    codes " lost "
-    ++ (decimal s.lost ++ (codes " dropped " ++ (decimal s.dropped
-    ++ (codes " strangers " ++ (decimal strangers ++ codes "\n")))))
+-- what was lost or given up
+abbrev pub loss_part : Status → List ℕ
+loss_part s = codes " lost " ++ (decimal s.lost ++ (codes " dropped " ++ decimal s.dropped))
+
+-- what came from strangers
+abbrev pub unheard_part : Unheard → List ℕ
+unheard_part u = codes " strangers " ++ decimal u.strangers
+
+-- what the system dropped, if it says so
+abbrev pub unread_part : Option ℕ → List ℕ
+unread_part None = codes "\n"
+unread_part (Some dropped) = codes " unread " ++ (decimal dropped ++ codes "\n")
 
 -- the totals of a unit
-abbrev pub counts_lines : Status → ℕ → List ℕ
-counts_lines s strangers = flow_part s ++ loss_part s strangers
+abbrev pub counts_lines : Status → Unheard → List ℕ
+counts_lines s u = flow_part s ++ (loss_part s ++ (unheard_part u ++ unread_part u.unread))
+
+-- a stranger: its address, how many datagrams came from there, and how many milliseconds ago the last did
+abbrev pub stranger_line : SocketAddr → ℕ → ℕ → List ℕ
+stranger_line address count ago_ms =
+    socket_text address
+    ++ (codes " datagrams " ++ (decimal count ++ (codes " heard " ++ (decimal ago_ms ++ codes " ms ago\n"))))
 
 abbrev pub presence_word : Bool → List ℕ
 presence_word true = codes "present"

@@ -2,7 +2,7 @@
 
 ghost use Rattle.std.specs.Prelude.{◌≡◌, ◌++◌, codes, IfOk, OnOk};
 ghost use Rattle.std.specs.String.{string_bytes};
-ghost use Rattle.control.specs.Answers.{counts_lines, flow_part, heard_part, loss_part, presence_line, refusal_text, who_part};
+ghost use Rattle.control.specs.Answers.{counts_lines, flow_part, heard_part, loss_part, presence_line, refusal_text, stranger_line, unheard_part, unread_part, who_part};
 
 use outside::Status;
 use std::alloc::{AllocError, Global};
@@ -50,13 +50,37 @@ pub fn done_text(alloc: Global, lines: &str) -> Result<String, AllocError>
     Ok(text)
 }
 
-/// The line of `counts`: the totals, and how many datagrams came from nobody's address. Refused for want of memory alone.
-pub fn counts_text(alloc: Global, status: &Status, strangers: u64) -> Result<String, AllocError>
-    ensures { IfOk result (λ text. string_bytes text ≡ counts_lines status.now strangers) }
+/// What came to the unit's sockets and wasn't heard, in datagrams.
+#[derive(Clone, Copy, Debug, PartialEq, Eq)]
+pub struct Unheard {
+    /// From nobody's address.
+    pub strangers: u64,
+    /// What the system dropped, since its buffer had no room, or nobody read it in time; `None` if the system doesn't say.
+    pub unread: Option<u64>,
+}
+
+/// The line of `counts`: the totals, and what wasn't heard. Refused for want of memory alone.
+pub fn counts_text(alloc: Global, status: &Status, unheard: &Unheard) -> Result<String, AllocError>
+    ensures { IfOk result (λ text. string_bytes text ≡ counts_lines status.now unheard.now) }
 {
     let mut text = flow_part(alloc, status)?;
-    push_losses(&mut text, status, strangers)?;
+    push_losses(&mut text, status)?;
+    push_unheard(&mut text, unheard)?;
+    push_unread(&mut text, unheard.unread)?;
     Ok(text)
+}
+
+/// The line of a stranger for `strangers`: its address, how many datagrams came from there, and how many milliseconds ago the last did.
+/// Refused for want of memory alone.
+pub fn stranger_line(
+    alloc: Global,
+    address: SocketAddr,
+    count: u64,
+    ago_ms: u64,
+) -> Result<String, AllocError>
+    ensures { IfOk result (λ text. string_bytes text ≡ stranger_line address count ago_ms) }
+{
+    format!(in alloc; "{address} datagrams {count} heard {ago_ms} ms ago\n")
 }
 
 /// Who is present, what came, what was sent, and what couldn't be.
@@ -69,16 +93,29 @@ fn flow_part(alloc: Global, status: &Status) -> Result<String, AllocError>
     )
 }
 
-/// What was lost or given up, and what came from strangers.
-fn push_losses(text: &mut String, status: &Status, strangers: u64) -> Result<(), AllocError>
-    ensures { OnOk result
-        (string_bytes text.new ≡ string_bytes text.old ++ loss_part status.now strangers) }
+/// What was lost or given up.
+fn push_losses(text: &mut String, status: &Status) -> Result<(), AllocError>
+    ensures { OnOk result (string_bytes text.new ≡ string_bytes text.old ++ loss_part status.now) }
 {
-    write!(
-        text,
-        " lost {} dropped {} strangers {}\n",
-        status.lost, status.dropped, strangers,
-    )
+    write!(text, " lost {} dropped {}", status.lost, status.dropped)
+}
+
+/// What came from strangers.
+fn push_unheard(text: &mut String, unheard: &Unheard) -> Result<(), AllocError>
+    ensures { OnOk result
+        (string_bytes text.new ≡ string_bytes text.old ++ unheard_part unheard.now) }
+{
+    write!(text, " strangers {}", unheard.strangers)
+}
+
+/// What the system dropped.
+fn push_unread(text: &mut String, unread: Option<u64>) -> Result<(), AllocError>
+    ensures { OnOk result (string_bytes text.new ≡ string_bytes text.old ++ unread_part unread) }
+{
+    match unread {
+        Some(dropped) => write!(text, " unread {dropped}\n"),
+        None => text.push_str("\n"),
+    }
 }
 
 /// The line of an endpoint for `present`: its number, its source, its address, whether it is present, and how many milliseconds ago it

@@ -22,6 +22,8 @@ pub enum Course {
     Legs,
     /// The counts of endpoints and of legs are asked for.
     Metrics,
+    /// Who came last of those who are nobody is asked for.
+    Strangers,
 }
 
 /// What the request leads to in a room with so many legs and endpoints.
@@ -40,6 +42,7 @@ pub fn course_for(request: Request, legs: u16, endpoints: u16) -> Course
         Request::Legs => Course::Legs,
         Request::Counts => Course::Counts,
         Request::Metrics => Course::Metrics,
+        Request::Strangers => Course::Strangers,
         Request::Show(publisher) => {
             if publisher < endpoints {
                 Course::Look(Look::Desk(publisher))

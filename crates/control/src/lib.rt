@@ -12,7 +12,9 @@ mod inbox;
 mod peers;
 mod request;
 
-pub use answer::{Refused, counts_text, done_text, present_line, refused_text};
+pub use answer::{
+    Refused, Unheard, counts_text, done_text, present_line, refused_text, stranger_line,
+};
 pub use ask::{Answered, read_answer};
 pub use course::{Course, course_for};
 pub use inbox::{Inbox, MAX_INBOX};

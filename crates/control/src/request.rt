@@ -19,6 +19,8 @@ pub enum Request {
     Counts,
     /// `metrics`: the counts of endpoints and of legs, in the text format of Prometheus.
     Metrics,
+    /// `strangers`: who came last of those who are nobody.
+    Strangers,
     /// `show P`: what is announced to this publisher, with its certificate.
     Show(u16),
     /// `stop`: the unit ends.
@@ -50,6 +52,8 @@ fn request_of(words: &[&[u8]]) -> Option<Request>
         alone(others, Request::Counts)
     } else if is_word(first, b"metrics") {
         alone(others, Request::Metrics)
+    } else if is_word(first, b"strangers") {
+        alone(others, Request::Strangers)
     } else if is_word(first, b"show") {
         shown(others)
     } else if is_word(first, b"stop") {

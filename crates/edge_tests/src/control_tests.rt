@@ -1,8 +1,8 @@
 //! Requests, answers and lines, as docs/FORMATS.md has them.
 
 use control::{
-    Answered, Course, Inbox, MAX_PEERS, Peers, Refused, Request, counts_text, course_for,
-    done_text, present_line, read_answer, read_request, refused_text,
+    Answered, Course, Inbox, MAX_PEERS, Peers, Refused, Request, Unheard, counts_text, course_for,
+    done_text, present_line, read_answer, read_request, refused_text, stranger_line,
 };
 use outside::{Look, Received, Status};
 use std::io::{self, ErrorKind, Read, Write};
@@ -13,13 +13,14 @@ use tmmbr_tuple::Ssrc;
 #[test]
 fn reads_requests(rt: HostRuntime) -> Result<(), Fail> {
     let alloc = rt.alloc();
-    let lines: [(&[u8], Option<Request>); 14] = [
+    let lines: [(&[u8], Option<Request>); 15] = [
         (b"select 3 on", Some(Request::Select { leg: 3, on: true })),
         (b"select 0 off", Some(Request::Select { leg: 0, on: false })),
         (b"present", Some(Request::Present)),
         (b"legs", Some(Request::Legs)),
         (b"counts", Some(Request::Counts)),
         (b"metrics", Some(Request::Metrics)),
+        (b"strangers", Some(Request::Strangers)),
         (b"show 65535", Some(Request::Show(65_535))),
         (b"stop", Some(Request::Stop)),
         (b"show 65536", None),
@@ -69,13 +70,28 @@ fn answers_are_lines(rt: HostRuntime) -> Result<(), Fail> {
         lost: 5,
         dropped: 6,
     };
-    let counts = counts_text(alloc, &status, 7)?;
+    let mut unheard = Unheard {
+        strangers: 7,
+        unread: None,
+    };
+    let counts = counts_text(alloc, &status, &unheard)?;
     let whole = done_text(alloc, counts.as_str())?;
     assert_eq!(rt;
         whole.as_str(),
         "present 1 heard 2 sent 3 failed 4 lost 5 dropped 6 strangers 7\nok\n"
     );
+    unheard.unread = Some(9);
+    let counts = counts_text(alloc, &status, &unheard)?;
+    assert_eq!(rt;
+        counts.as_str(),
+        "present 1 heard 2 sent 3 failed 4 lost 5 dropped 6 strangers 7 unread 9\n"
+    );
     let address = "127.0.0.1:5004".parse().or(Err("address"))?;
+    let line = stranger_line(alloc, address, 12, 340)?;
+    assert_eq!(rt;
+        line.as_str(),
+        "127.0.0.1:5004 datagrams 12 heard 340 ms ago\n"
+    );
     let line = present_line(alloc, 0, Ssrc(16), address, false, None)?;
     assert_eq!(rt;
         line.as_str(),
@@ -117,6 +133,7 @@ fn leads_requests(rt: HostRuntime) -> Result<(), Fail> {
     assert_eq!(rt; course_for(Request::Counts, 2, 3), Course::Counts);
     assert_eq!(rt; course_for(Request::Legs, 2, 3), Course::Legs);
     assert_eq!(rt; course_for(Request::Metrics, 2, 3), Course::Metrics);
+    assert_eq!(rt; course_for(Request::Strangers, 2, 3), Course::Strangers);
     assert_eq!(rt;
         course_for(Request::Present, 2, 3),
         Course::Look(Look::Presence)

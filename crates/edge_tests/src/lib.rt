@@ -16,6 +16,10 @@ mod sdp_tests;
 #[cfg(test)]
 mod senders_tests;
 #[cfg(test)]
+mod strangers_tests;
+#[cfg(test)]
 mod traffic_tests;
+#[cfg(test)]
+mod udp_table_tests;
 #[cfg(test)]
 mod web_tests;

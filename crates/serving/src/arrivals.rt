@@ -99,7 +99,7 @@ impl<'a> Arrivals<'a> {
         if front.length < datagram.len() {
             self.keep(from, &datagram[front.length..]);
         }
-        let endpoint = self.endpoint_or_stranger(front.endpoint)?;
+        let endpoint = self.endpoint_or_stranger(from, front.endpoint)?;
         self.note(endpoint, &datagram[..front.length]);
         Some((endpoint, front.length))
     }
@@ -175,7 +175,7 @@ impl<'a> Arrivals<'a> {
         let packet = &datagram[..front.length];
         let length = written(packet, out)?;
         self.rest.heard = self.rest.heard.saturating_add(front.length);
-        let endpoint = self.endpoint_or_stranger(front.endpoint)?;
+        let endpoint = self.endpoint_or_stranger(from, front.endpoint)?;
         self.note(endpoint, &out[..length]);
         Some((endpoint, length))
     }
@@ -192,11 +192,10 @@ impl<'a> Arrivals<'a> {
         Some((endpoint, length))
     }
 
-    /// The endpoint; a stranger is counted.
-    fn endpoint_or_stranger(&self, endpoint: Option<u16>) -> Option<u16> {
+    /// The endpoint; a stranger, who came from this address, is counted.
+    fn endpoint_or_stranger(&self, from: SocketAddr, endpoint: Option<u16>) -> Option<u16> {
         if endpoint.is_none() {
-            let strangers = &self.gauges.strangers;
-            strangers.set(strangers.get().saturating_add(1));
+            self.gauges.count_stranger(from);
         }
         endpoint
     }

@@ -2,10 +2,14 @@
 
 use crate::recorder::Recorder;
 use crate::steering::Steering;
+use control::Unheard;
 use outside::{Look, Received, Status};
 use recording::End;
+use std::alloc::Global;
 use std::cell::{Cell, RefCell, RefMut};
 use std::net::SocketAddr;
+use std::sync::Arc;
+use std::sync::atomic::{AtomicU64, Ordering};
 
 /// What a source and a clock show of a run while it goes on.
 #[derive(Drop)]
@@ -18,6 +22,8 @@ pub struct Gauges {
     pub moment_ms: Cell<u64>,
     /// Whether what was received last is a report that was made in the name of an endpoint that only listens.
     pub made: Cell<bool>,
+    /// One more than what the system dropped at the sockets, and 0 while that isn't known; nothing if nobody looks.
+    unread: RefCell<Option<Arc<AtomicU64, Global>>>,
     /// Who steers the run, if anybody may.
     steering: Option<RefCell<Steering>>,
     /// Who records the run, if anybody does.
@@ -32,6 +38,7 @@ impl Gauges {
             far: Cell::new(0),
             moment_ms: Cell::new(0),
             made: Cell::new(false),
+            unread: RefCell::new(None),
             steering: None,
             recorder: None,
         }
@@ -39,14 +46,9 @@ impl Gauges {
 
     /// Those of a run that begins, and is steered.
     pub fn steered(steering: Steering) -> Gauges {
-        Gauges {
-            strangers: Cell::new(0),
-            far: Cell::new(0),
-            moment_ms: Cell::new(0),
-            made: Cell::new(false),
-            steering: Some(RefCell::new(steering)),
-            recorder: None,
-        }
+        let mut gauges = Gauges::new();
+        gauges.steering = Some(RefCell::new(steering));
+        gauges
     }
 
     /// The same, of a run that is recorded.
@@ -111,11 +113,45 @@ impl Gauges {
         }
     }
 
+    /// What the system dropped is shown there from now on.
+    pub(crate) fn show_unread(&self, unread: Arc<AtomicU64, Global>) {
+        if let Ok(mut place) = self.unread.try_borrow_mut() {
+            *place = Some(unread);
+        }
+    }
+
+    /// What the system dropped at the sockets, in datagrams, if that is known.
+    fn unread(&self) -> Option<u64> {
+        let Ok(place) = self.unread.try_borrow() else {
+            return None;
+        };
+        let Some(unread) = &*place else {
+            return None;
+        };
+        unread.load(Ordering::SeqCst).checked_sub(1)
+    }
+
+    /// What came by now and wasn't heard.
+    pub(crate) fn unheard(&self) -> Unheard {
+        Unheard {
+            strangers: self.strangers.get(),
+            unread: self.unread(),
+        }
+    }
+
+    /// A datagram, or a packet of one, came from nobody, at this address.
+    pub(crate) fn count_stranger(&self, from: SocketAddr) {
+        self.strangers.set(self.strangers.get().saturating_add(1));
+        if let Some(mut steering) = self.steering() {
+            steering.note_stranger(from, self.moment_ms.get());
+        }
+    }
+
     /// The totals are shown to who waits for them.
     pub(crate) fn show_counts(&self, status: &Status) {
         if let Some(mut steering) = self.steering() {
             if steering.wants_counts() {
-                steering.show_counts(status, self.strangers.get());
+                steering.show_counts(status, &self.unheard());
             }
         }
     }

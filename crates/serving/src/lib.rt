@@ -2,7 +2,8 @@
 //!
 //! Read `serve` first, the run of it all. `served_file` and `clients` are the settings with where everybody is, `socket` is what the
 //! unit needs from outside, on one socket or two; `arrivals` says who sent what came, and makes reports for who only listens;
-//! `report_text` and `status_lines` are what is printed of a run, and while it goes on (`gauges`). `control_socket` is where a unit is
+//! `report_text` and `status_lines` are what is printed of a run, and while it goes on (`gauges`); `drops` reads what the system
+//! dropped. `control_socket` is where a unit is
 //! steered, `steering` who does that, `steered` how what they want comes to the unit. `recorder` writes down what the unit takes in,
 //! `recorded` how that comes to it, and `record_file` is the file. `courier` is a thread that writes what nobody waits for: that file, and
 //! the lines of counts (`lines`).
@@ -13,6 +14,7 @@ mod clients;
 mod control_socket;
 mod courier;
 mod directory;
+mod drops;
 mod gauges;
 mod goodbyes;
 mod lines;

@@ -11,6 +11,7 @@ ghost use Rattle.serving.specs.Serving.{EndsServe, FailsServe, FailsToStart, Say
 use crate::arrivals::Arrivals;
 use crate::clients::Client;
 use crate::directory::Directory;
+use crate::drops::watch_drops;
 use crate::gauges::Gauges;
 use crate::goodbyes::say_goodbyes;
 use crate::lines::{ErrorOutput, Lines};
@@ -26,8 +27,10 @@ use one_thread::run_one_thread;
 use screening::{Rules, Screen};
 use settings::Settings;
 use std::alloc::{AllocError, Global};
+use std::fs::File;
 use std::io::{self, Write};
 use std::net::{Net, SocketAddr, UdpSocket};
+use std::rt::Files;
 use std::sync::Wait;
 use std::thread::Threads;
 use std::time;
@@ -98,7 +101,7 @@ impl Bound {
 /// Binds the sockets that the settings name, says so on the error output, and serves the endpoints. Lines of counts go to the runtime's
 /// error output by a thread of their own, so that nobody waits for who reads them.
 pub fn serve_file<
-    R: AllocGlobal + ErrorOutput + Net + Threads + Wait + Sync + time::Clock,
+    R: AllocGlobal + ErrorOutput + Files<File = File> + Net + Threads + Wait + Sync + time::Clock,
     O: Write,
     E: Write,
 >(
@@ -168,8 +171,35 @@ fn serving_text(
     }
 }
 
-/// Serves the endpoints on sockets that are bound, and says on the error output why that failed where it did.
+/// Serves the endpoints on sockets that are bound, and says on the error output why that failed where it did. What the system drops at
+/// the sockets is looked at meanwhile.
 fn serve_bound<
+    R: AllocGlobal + ErrorOutput + Files<File = File> + Net + Threads + Wait + Sync + time::Clock,
+    O: Write,
+    E: Write,
+>(
+    rt: &R,
+    sockets: Sockets<'_>,
+    file: &ServedSettings,
+    term: Term,
+    gauges: &Gauges,
+    writer: &mut O,
+    errors: &mut E,
+) -> Status
+    ensures ends { EndsServe file.now.settings (O.contents writer.old)
+        (O.contents writer.new) result }
+    ensures said { SaysWhy (E.contents errors.old) (E.contents errors.new) result }
+{
+    let drops = watch_drops(rt, sockets, gauges);
+    let status = serve_lined(rt, sockets, file, term, gauges, writer, errors);
+    if let Some(drops) = drops {
+        drops.finish(rt);
+    }
+    status
+}
+
+/// Serves them with lines of counts, if there are to be any.
+fn serve_lined<
     R: AllocGlobal + ErrorOutput + Net + Threads + Wait + Sync + time::Clock,
     O: Write,
     E: Write,

@@ -40,9 +40,10 @@ impl<'a, E: Write> StatusLines<'a, E> {
 
     /// Writes one line.
     fn write_line(&mut self, status: &Status) -> Result<(), AllocError> {
+        let unread = self.unread_part()?;
         let (recorded, unsaid) = (self.recorded_part()?, self.unsaid_part()?);
         let line = format!(in self.alloc;
-            "present {} heard {} sent {} failed {} lost {} strangers {} far {}{}{}\n",
+            "present {} heard {} sent {} failed {} lost {} strangers {} far {}{}{}{}\n",
             status.present,
             status.heard,
             status.sent,
@@ -50,6 +51,7 @@ impl<'a, E: Write> StatusLines<'a, E> {
             status.lost,
             self.gauges.strangers.get(),
             self.gauges.far.get(),
+            unread.as_str(),
             recorded.as_str(),
             unsaid.as_str(),
         )?;
@@ -57,6 +59,14 @@ impl<'a, E: Write> StatusLines<'a, E> {
             self.unsaid = self.unsaid.saturating_add(1);
         }
         Ok(())
+    }
+
+    /// How many datagrams the system dropped, if it says so.
+    fn unread_part(&self) -> Result<String, AllocError> {
+        match self.gauges.unheard().unread {
+            Some(unread) => format!(in self.alloc; " unread {unread}"),
+            None => Ok(String::new(self.alloc)),
+        }
     }
 
     /// How many lines were left out before this one, if any.

@@ -1,7 +1,8 @@
 //! The control of a unit that is served: peers at a Unix socket, who are looked at by the thread that receives.
 
 use control::{
-    Course, Peers, Refused, counts_text, course_for, done_text, present_line, refused_text,
+    Course, Peers, Refused, Unheard, counts_text, course_for, done_text, present_line,
+    refused_text, stranger_line,
 };
 use desk::Desk;
 use outside::{Look, Received, Status};
@@ -9,6 +10,7 @@ use request_text::desk_text;
 use std::alloc::{AllocError, Global};
 use std::net::SocketAddr;
 use std::os::unix::net::{UnixListener, UnixStream};
+use strangers::Strangers;
 use tmmbr_tuple::Ssrc;
 use traffic::{LegLine, Metric, MetricType, Sample, Traffic, leg_line, push_figures, push_metric};
 
@@ -38,6 +40,8 @@ pub struct Steering {
     lines: Option<String>,
     /// Which endpoints are present, by their numbers, as far as that was shown since it was asked.
     present: Vec<bool>,
+    /// Who came last of those who are nobody.
+    strangers: Strangers,
 }
 
 /// What a peer waits for.
@@ -70,6 +74,7 @@ impl Steering {
             asked: Asked::Nothing,
             lines: None,
             present: Vec::new(alloc),
+            strangers: Strangers::new(alloc),
         }
     }
 
@@ -99,6 +104,10 @@ impl Steering {
             Course::Look(look) => self.begin(Asked::Look(look)),
             Course::Legs => self.begin(Asked::Legs),
             Course::Metrics => self.begin(Asked::Metrics),
+            Course::Strangers => {
+                self.tell_strangers(moment);
+                Received::Nothing
+            }
         }
     }
 
@@ -145,6 +154,19 @@ impl Steering {
         }
     }
 
+    /// A datagram came from this address, which is nobody's. Where memory is wanting it isn't listed.
+    pub(crate) fn note_stranger(&mut self, from: SocketAddr, moment: u64) {
+        let _ = self.strangers.note(from, moment);
+    }
+
+    /// Who came last of those who are nobody is told.
+    fn tell_strangers(&mut self, moment: u64) {
+        let _ = self.begin(Asked::Nothing);
+        let text = strangers_text(self.alloc, &self.strangers, moment);
+        self.push(text);
+        self.answer();
+    }
+
     /// The endpoint is at this address by now.
     pub(crate) fn show_moved(&mut self, endpoint: u16, address: SocketAddr) {
         if let Some(listed) = self.endpoints.as_mut_slice().get_mut(usize::from(endpoint)) {
@@ -168,8 +190,8 @@ impl Steering {
     }
 
     /// The totals are shown to who waits for them.
-    pub(crate) fn show_counts(&mut self, status: &Status, strangers: u64) {
-        let text = counts_text(self.alloc, status, strangers);
+    pub(crate) fn show_counts(&mut self, status: &Status, unheard: &Unheard) {
+        let text = counts_text(self.alloc, status, unheard);
         self.push(text);
         self.answer();
     }
@@ -219,11 +241,11 @@ impl Steering {
     }
 
     /// The room was shown: who asked for it is answered.
-    pub(crate) fn end(&mut self, traffic: &Traffic, strangers: u64) {
+    pub(crate) fn end(&mut self, traffic: &Traffic, unheard: &Unheard) {
         match self.asked {
             Asked::Stop => {}
             Asked::Metrics => {
-                let text = metrics_text(self.alloc, self.present.as_slice(), traffic, strangers);
+                let text = metrics_text(self.alloc, self.present.as_slice(), traffic, unheard);
                 self.push(text);
                 self.answer();
             }
@@ -267,7 +289,7 @@ fn metrics_text(
     alloc: Global,
     present: &[bool],
     traffic: &Traffic,
-    strangers: u64,
+    unheard: &Unheard,
 ) -> Result<String, AllocError> {
     let mut text = String::new(alloc);
     let mut samples = Vec::new(alloc);
@@ -286,15 +308,37 @@ fn metrics_text(
     let endpoints = traffic.endpoints(alloc)?;
     let legs = traffic.legs(alloc)?;
     push_figures(alloc, &mut text, endpoints.as_slice(), legs.as_slice())?;
-    push_strangers(&mut text, strangers)?;
+    push_unheard(&mut text, unheard)?;
     Ok(text)
 }
 
-/// How many datagrams came from nobody.
-fn push_strangers(text: &mut String, strangers: u64) -> Result<(), AllocError> {
-    text.push_str(
-        "# HELP sfu_strangers_total Datagrams, or packets of one, that came from nobody.\n",
-    )?;
-    text.push_str("# TYPE sfu_strangers_total counter\n")?;
-    write!(text, "sfu_strangers_total {strangers}\n")
+/// What came and wasn't heard.
+fn push_unheard(text: &mut String, unheard: &Unheard) -> Result<(), AllocError> {
+    let strangers = "Datagrams, or packets of one, that came from nobody.";
+    push_total(text, "sfu_strangers_total", strangers, unheard.strangers)?;
+    match unheard.unread {
+        Some(unread) => {
+            let help = "Datagrams that the system dropped at the unit's sockets.";
+            push_total(text, "sfu_unread_total", help, unread)
+        }
+        None => Ok(()),
+    }
+}
+
+/// A count of the whole unit as a metric.
+fn push_total(text: &mut String, name: &str, help: &str, value: u64) -> Result<(), AllocError> {
+    write!(text, "# HELP {name} {help}\n")?;
+    write!(text, "# TYPE {name} counter\n")?;
+    write!(text, "{name} {value}\n")
+}
+
+/// A line for each stranger, the latest first.
+fn strangers_text(alloc: Global, strangers: &Strangers, moment: u64) -> Result<String, AllocError> {
+    let mut text = String::new(alloc);
+    for stranger in strangers.latest() {
+        let ago_ms = moment.saturating_sub(stranger.moment);
+        let line = stranger_line(alloc, stranger.address, stranger.count, ago_ms)?;
+        text.push_str(line.as_str())?;
+    }
+    Ok(text)
 }

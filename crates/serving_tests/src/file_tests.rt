@@ -7,7 +7,9 @@ use serving::{
 };
 use settings_text::ClientText;
 use std::alloc::{AllocError, Global};
+use std::fs::File;
 use std::net::{Net, SocketAddr, UdpSocket};
+use std::rt::Files;
 use std::sync::Wait;
 use std::test::Fail;
 use std::thread::Threads;
@@ -15,7 +17,14 @@ use std::time::Clock;
 
 /// Serves the unit of these settings for two turns, and shows how it ends, what is printed and what is said.
 fn ends(
-    rt: &(impl AllocGlobal + ErrorOutput + Net + Threads + Wait + Sync + Clock),
+    rt: &(impl AllocGlobal
+        + ErrorOutput
+        + Files<File = File>
+        + Net
+        + Threads
+        + Wait
+        + Sync
+        + Clock),
     text: &str,
 ) -> Result<(Status, [String; 2]), Fail> {
     let Ok(file) = read_served(rt.alloc(), text.as_bytes()) else {

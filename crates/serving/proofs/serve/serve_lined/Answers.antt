@@ -1,5 +1,5 @@
 use Rattle.serving.proofs.ServeLemmas.{ends_so}
-use Rattle.serving.proofs.serve.serve_bound.Goals as goal
+use Rattle.serving.proofs.serve.serve_lined.Goals as goal
 
 pub returns-in-Ok-clause-ends : goal.returns-in-Ok-clause-ends
 returns-in-Ok-clause-ends g c =
