@@ -27,6 +27,27 @@ fn lines_of_events(rt: HostRuntime) -> Result<(), Fail> {
     Ok(())
 }
 
+/// A datagram's lines, put where they wait, are those that are made for it; each byte's digits are its own.
+#[test]
+fn puts_what_was_heard(rt: HostRuntime) -> Result<(), Fail> {
+    let mut tape = Tape::new(rt.alloc(), 46);
+    tape.put_heard(12, 3, b"\x80\x60\x09\xaf");
+    tape.put_heard(12, 3, b"");
+    assert_eq!(rt;
+        tape.take().as_slice(),
+        b"hear 12 3 806009af\nfollow\n".as_slice()
+    );
+    tape.put_heard(13, 0, b"\xff");
+    assert_eq!(rt;
+        tape.take().as_slice(),
+        b"hear 13 0 ff\nfollow\n".as_slice()
+    );
+    assert_eq!(rt; tape.written(), 46);
+    tape.put_heard(13, 0, b"\x01");
+    assert_eq!(rt; tape.why_ended(), Some(End::Limit));
+    Ok(())
+}
+
 /// The head of a record is comment.
 #[test]
 fn head_of_a_record(rt: HostRuntime) -> Result<(), Fail> {

@@ -29,6 +29,11 @@ event_lines (Select moment leg on) =
 event_lines Ingress = []
 event_lines (Work worker) = []
 
+-- the beginning of a datagram's line, before its digits
+abbrev pub heard_head : ℕ → ℕ → List ℕ
+heard_head moment endpoint =
+    codes "hear " ++ (decimal moment ++ (codes " " ++ (decimal endpoint ++ codes " ")))
+
 -- the comment before a report that the unit made in the name of an endpoint that only listens
 abbrev pub made_mark : List ℕ
 made_mark = codes "# made in its name\n"

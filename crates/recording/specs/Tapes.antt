@@ -41,6 +41,10 @@ IsPutIf None old lines new =
 abbrev pub IsPut : TapeState → List ℕ → TapeState → Type 0
 IsPut old lines new = IsPutIf old.end old lines new
 
+-- the same, or there was no memory to make the lines
+abbrev pub IsMadeAndPut : TapeState → List ℕ → TapeState → Type 0
+IsMadeAndPut old lines new = IsPut old lines new ⊎ (new ≡ ended Memory old)
+
 abbrev pub end_name : End → List ℕ
 end_name Limit = codes "limit"
 end_name Failed = codes "failed"

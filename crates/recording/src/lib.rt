@@ -4,6 +4,7 @@
 //! and when it ends. All of it is a value: no file, no clock.
 #![tactic(auto)]
 
+mod digits;
 mod header;
 mod line;
 mod tape;

@@ -3,7 +3,7 @@
 ghost use Rattle.std.specs.Prelude.{◌≡◌, ◌++◌, IfOk};
 ghost use Rattle.std.specs.String.{string_bytes};
 ghost use Rattle.events.specs.declared.event.Event.TheVariants.{Hear, Tick, Select};
-ghost use Rattle.recording.specs.Lines.{event_lines, made_mark, switch_word};
+ghost use Rattle.recording.specs.Lines.{event_lines, heard_head, made_mark, switch_word};
 
 use std::alloc::{AllocError, Global};
 
@@ -23,6 +23,13 @@ pub fn heard_lines(
     }
     let hex = hex::encode(alloc, bytes)?;
     format!(in alloc; "hear {moment} {endpoint} {hex}\nfollow\n")
+}
+
+/// The beginning of a datagram's line, before its digits. Refused for want of memory alone.
+pub fn heard_head(alloc: Global, moment: u64, endpoint: u16) -> Result<String, AllocError>
+    ensures { IfOk result (λ text. string_bytes text ≡ heard_head moment endpoint) }
+{
+    format!(in alloc; "hear {moment} {endpoint} ")
 }
 
 /// The lines of a report that the unit made in the name of an endpoint that only listens: those of a datagram that it sent, after a

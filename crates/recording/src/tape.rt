@@ -1,9 +1,13 @@
 //! What is written of a record, and when it ends.
 
-ghost use Rattle.std.specs.Prelude.{◌≡◌, ◌<◌, ◌≤◌, ◌+◌, length, MatchOption};
-ghost use Rattle.recording.specs.Tapes.{IsPut, end_name, ended, new_tape, taken};
+ghost use Rattle.std.specs.Prelude.{◌≡◌, ◌<◌, ◌≤◌, ◌+◌, ◌++◌, length, take, MatchOption, OnOk, OnErr};
+ghost use Rattle.events.specs.declared.event.Event.TheVariants.{Hear};
+ghost use Rattle.recording.specs.Lines.{event_lines, follow_line};
+ghost use Rattle.recording.specs.Tapes.{IsMadeAndPut, IsPut, end_name, ended, new_tape, taken};
 
-use std::alloc::Global;
+use crate::digits::digits_of;
+use crate::line::heard_head;
+use std::alloc::{AllocError, Global};
 use std::marker::Model;
 
 /// Why a record ends before its unit.
@@ -70,6 +74,39 @@ impl Tape {
         }
     }
 
+    /// Puts the lines of a datagram that an endpoint's number sent, heard at this moment in milliseconds, as `heard_lines` makes them, and
+    /// as `put` puts them. Where there is no memory to make them the record ends.
+    pub fn put_heard(&mut self, moment: u64, endpoint: u16, bytes: &[u8])
+        ensures { IsMadeAndPut self.old (event_lines (Hear moment endpoint bytes.now)) self.new }
+    {
+        if bytes.is_empty() {
+            return self.put("");
+        }
+        let Ok(head) = heard_head(self.alloc, moment, endpoint) else {
+            return self.end(End::Memory);
+        };
+        match digits_of(self.alloc, bytes) {
+            Ok(digits) => self.put_line(head.as_str(), digits.as_slice()),
+            Err(_) => self.end(End::Memory),
+        }
+    }
+
+    /// Puts a line of this beginning and these digits, and the line for what follows.
+    fn put_line(&mut self, head: &str, digits: &[u8])
+        ensures { IsPut self.old (head.now ++ (digits.now ++ follow_line)) self.new }
+    {
+        if self.end.is_some() {
+            return;
+        }
+        match size_with_line(self.written, head, digits, self.limit) {
+            Some(written) => match append_line(&mut self.waiting, head, digits) {
+                Ok(()) => self.written = written,
+                Err(_) => self.end = Some(End::Memory),
+            },
+            None => self.end = Some(End::Limit),
+        }
+    }
+
     /// Takes out what waits.
     pub fn take(&mut self) -> Vec<u8>
         ensures all { result.items ≡ self.old.waits }
@@ -114,6 +151,45 @@ fn size_with(written: u64, bytes: &[u8], limit: u64) -> Option<u64>
 {
     let size = written.checked_add(bytes.len() as u64)?;
     if size <= limit { Some(size) } else { None }
+}
+
+/// How many bytes there are with a line, if no more than may be.
+fn size_with_line(written: u64, head: &str, digits: &[u8], limit: u64) -> Option<u64>
+    ensures { MatchOption result
+        (limit < written + length (head.now ++ (digits.now ++ follow_line)))
+        (λ size. (size ≡ written + length (head.now ++ (digits.now ++ follow_line)))
+        × (size ≤ limit)) }
+{
+    let whole = written
+        .checked_add(head.len() as u64)?
+        .checked_add(digits.len() as u64)?
+        .checked_add(8)?;
+    if whole <= limit { Some(whole) } else { None }
+}
+
+/// Appends a line of this beginning and these digits, and the line for what follows. For want of memory the list is as it was.
+fn append_line(list: &mut Vec<u8>, head: &str, digits: &[u8]) -> Result<(), AllocError>
+    ensures ok { OnOk result (list.new.items
+        ≡ list.old.items ++ (head.now ++ (digits.now ++ follow_line))) }
+    ensures err { OnErr result (list.new.items ≡ list.old.items) }
+{
+    let before = list.len();
+    let appended = append_parts(list, head, digits);
+    if appended.is_err() {
+        list.truncate(before);
+    }
+    appended
+}
+
+/// The same, but for want of memory something may stand behind what was there.
+fn append_parts(list: &mut Vec<u8>, head: &str, digits: &[u8]) -> Result<(), AllocError>
+    ensures ok { OnOk result (list.new.items
+        ≡ list.old.items ++ (head.now ++ (digits.now ++ follow_line))) }
+    ensures err { OnErr result (take (length list.old.items) list.new.items ≡ list.old.items) }
+{
+    list.extend_from_slice(head.as_bytes())?;
+    list.extend_from_slice(digits)?;
+    list.extend_from_slice("\nfollow\n".as_bytes())
 }
 
 /// The word for why a record ended.

@@ -2,7 +2,7 @@
 
 use crate::courier::Outlet;
 use outside::{ReceiveFault, Received, Ticks};
-use recording::{End, Tape, heard_lines, made_lines, selected_lines, ticked_lines};
+use recording::{End, Tape, made_lines, selected_lines, ticked_lines};
 use std::alloc::{AllocError, Global};
 
 /// From so many bytes on what waits is handed on.
@@ -101,8 +101,7 @@ impl Recorder {
         if self.tape.why_ended().is_some() {
             return;
         }
-        let lines = self.came_lines(moment);
-        self.put(lines);
+        self.put_came(moment);
         if self.ticks.take(moment) {
             let lines = ticked_lines(self.alloc, moment);
             self.put(lines);
@@ -113,21 +112,27 @@ impl Recorder {
         }
     }
 
-    /// The lines of what came.
-    fn came_lines(&mut self, moment: u64) -> Result<String, AllocError> {
+    /// Puts the lines of what came.
+    fn put_came(&mut self, moment: u64) {
         let came = self.came;
         self.came = Came::Nothing;
         match came {
-            Came::Nothing => Ok(String::new(self.alloc)),
-            Came::Datagram { endpoint, made } => {
-                let bytes = self.bytes.as_slice();
-                if made {
-                    made_lines(self.alloc, moment, endpoint, bytes)
-                } else {
-                    heard_lines(self.alloc, moment, endpoint, bytes)
-                }
+            Came::Nothing => {}
+            Came::Datagram { endpoint, made } => self.put_datagram(moment, endpoint, made),
+            Came::Select { leg, on } => {
+                let lines = selected_lines(self.alloc, moment, leg, on);
+                self.put(lines);
             }
-            Came::Select { leg, on } => selected_lines(self.alloc, moment, leg, on),
+        }
+    }
+
+    /// Puts the lines of the datagram that is kept. Most are heard: those are made where they wait.
+    fn put_datagram(&mut self, moment: u64, endpoint: u16, made: bool) {
+        if made {
+            let lines = made_lines(self.alloc, moment, endpoint, self.bytes.as_slice());
+            self.put(lines);
+        } else {
+            self.tape.put_heard(moment, endpoint, self.bytes.as_slice());
         }
     }
 
