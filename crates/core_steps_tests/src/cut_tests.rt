@@ -129,7 +129,33 @@ fn new_world(alloc: Global, settings: &Settings) -> Result<World, AllocError> {
     World::new(alloc, settings)
 }
 
-/// What the events give out in one call or in many, and the world behind them.
+/// Does the events in one call or in many.
+fn run_events(
+    world: &mut World,
+    events: &[Event],
+    in_many: bool,
+    outs: &mut Vec<Out>,
+) -> Result<(), RunFault> {
+    if in_many {
+        run_cut(world, events, &mut Draws(5), outs)
+    } else {
+        do_events(world, events, outs)
+    }
+}
+
+/// What the events give out in this world in one call or in many, and the world after them.
+fn given_by(
+    alloc: Global,
+    world: &mut World,
+    events: &[Event],
+    in_many: bool,
+) -> Result<String, Fail> {
+    let mut outs = Vec::new(alloc);
+    run_events(world, events, in_many, &mut outs)?;
+    Ok(text_of(alloc, world, outs.as_slice())?)
+}
+
+/// The same in a new world of these settings.
 fn given(
     alloc: Global,
     settings: &Settings,
@@ -137,13 +163,7 @@ fn given(
     in_many: bool,
 ) -> Result<String, Fail> {
     let mut world = new_world(alloc, settings)?;
-    let mut outs = Vec::new(alloc);
-    if in_many {
-        run_cut(&mut world, events, &mut Draws(5), &mut outs)?;
-    } else {
-        do_events(&mut world, events, &mut outs)?;
-    }
-    Ok(text_of(alloc, &world, outs.as_slice())?)
+    given_by(alloc, &mut world, events, in_many)
 }
 
 /// What they give out in one call, and in many.

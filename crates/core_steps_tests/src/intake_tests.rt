@@ -1,281 +1,285 @@
 //! Datagrams of docs/EXAMPLES.md and others by hand from RFC 3550, sections 5.1, 6.4 and 6.6, RFC 4585,
 //! sections 6.2.1 and 6.3.1, and RFC 5104, sections 4.2.1 and 4.2.2.
+//!
+//! A case is the source of who sends, the packets of its datagram, joined, and what that says, in a line, with what it asks for
+//! below it, a line each. A packet is a name of `packet`'s, or hexadecimal digits. A line is one of these:
+//!
+//! - `media SOURCE SEQ TIMESTAMP`: RTP.
+//! - `control SPEAKER`, with ` report NTP RTP` if there is a sender report, and ` tmmbns COUNT` if there are TMMBNs.
+//! - `goodbye`; `refused WHAT FAULT`.
+//! - `rate SOURCE WORD`, `resend SOURCE PID BLP`, `picture SOURCE`: what is asked for.
 
+use crate::steps::bytes_of;
 use core_steps::*;
-use rtcp_compound::RtcpFault;
-use rtcp_feedback::{FbFault, Nack};
-use rtp_packet::RtpFault;
-use std::alloc::Global;
+use std::alloc::{AllocError, Global};
+use std::fmt::{self, Write};
 use std::process::Abort;
 use std::test::Fail;
 use tmmbr_tuple::Ssrc;
 
-/// Version 2, payload type 96, sequence number 7, timestamp 3,000, SSRC 16, payload `aabb`.
-const RTP: [u8; 14] = [
-    0x80, 0x60, 0, 7, 0, 0, 0x0b, 0xb8, 0, 0, 0, 0x10, 0xaa, 0xbb,
-];
-/// A receiver report of 17 without blocks.
-const RR: [u8; 8] = [0x80, 0xc9, 0, 1, 0, 0, 0, 0x11];
-/// A sender report of 16: NTP timestamp 10.5 s, RTP timestamp 3,000, one packet, two octets.
-const SR: [u8; 28] = [
-    0x80, 0xc8, 0, 6, 0, 0, 0, 0x10, 0, 0, 0, 0x0a, 0x80, 0, 0, 0, 0, 0, 0x0b, 0xb8, 0, 0, 0, 1, 0,
-    0, 0, 2,
-];
-/// A TMMBR of 17 that asks source 257 for 1,000 bit/s at an overhead of 40.
-const TMMBR: [u8; 20] = [
-    0x83, 0xcd, 0, 4, 0, 0, 0, 0x11, 0, 0, 0, 0, 0, 0, 1, 1, 0, 0x07, 0xd0, 0x28,
-];
-/// A NACK of 17 about source 257: packets 100 and 101.
-const NACK: [u8; 16] = [0x81, 0xcd, 0, 3, 0, 0, 0, 0x11, 0, 0, 1, 1, 0, 0x64, 0, 1];
-/// A PLI of 17 about source 257.
-const PLI: [u8; 12] = [0x81, 0xce, 0, 2, 0, 0, 0, 0x11, 0, 0, 1, 1];
-/// A TMMBN of 17 without entries.
-const TMMBN: [u8; 12] = [0x84, 0xcd, 0, 2, 0, 0, 0, 0x11, 0, 0, 0, 0];
-/// A goodbye of 17.
-const BYE: [u8; 8] = [0x81, 0xcb, 0, 1, 0, 0, 0, 0x11];
-/// A TMMBR of 17 that ends within an entry.
-const ODD: [u8; 16] = [0x83, 0xcd, 0, 3, 0, 0, 0, 0x11, 0, 0, 0, 0, 0, 0, 1, 1];
+/// A datagram's sender, its packets, and what it says and asks for.
+type Case = (u32, &'static str, &'static str);
 
-const TUPLE: u32 = 0x0007_d028;
-
-const fn control(speaker: u32, report: Option<(u64, u32)>, tmmbns: u64) -> Heard {
-    Heard::Control(Control {
-        speaker: Ssrc(speaker),
-        report,
-        tmmbns,
-    })
-}
-
-const fn rate(media: u32, word: u32) -> Ask {
-    Ask::Rate {
-        media: Ssrc(media),
-        word,
+/// The hexadecimal digits of the packet with this name, else the word itself.
+fn packet(word: &str) -> &str {
+    match word {
+        // Version 2, payload type 96, sequence number 7, timestamp 3,000, SSRC 16, payload `aabb`.
+        "RTP" => "8060000700000bb800000010aabb",
+        // A receiver report of 17 without blocks.
+        "RR" => "80c9000100000011",
+        // A sender report of 16: NTP timestamp 10.5 s, RTP timestamp 3,000, one packet, two octets.
+        "SR" => "80c80006000000100000000a8000000000000bb80000000100000002",
+        // A TMMBR of 17 that asks source 257 for 1,000 bit/s at an overhead of 40.
+        "TMMBR" => "83cd00040000001100000000000001010007d028",
+        // A NACK of 17 about source 257: packets 100 and 101.
+        "NACK" => "81cd0003000000110000010100640001",
+        // A PLI of 17 about source 257.
+        "PLI" => "81ce00020000001100000101",
+        // A TMMBN of 17 without entries.
+        "TMMBN" => "84cd00020000001100000000",
+        // A goodbye of 17.
+        "BYE" => "81cb000100000011",
+        // A TMMBR of 17 that ends within an entry.
+        "ODD" => "83cd0003000000110000000000000101",
+        // A TMMBR of 17 with two entries: sources 257 and 999, both for the same word.
+        "TWO" => "83cd00060000001100000000000001010007d028000003e70007d028",
+        _ => word,
     }
 }
 
-const fn resend(media: u32, pid: u16, blp: u16) -> Ask {
-    Ask::Resend {
-        media: Ssrc(media),
-        nack: Nack { pid, blp },
+/// The bytes of these packets, joined.
+fn datagram(alloc: Global, packets: &str) -> Result<Vec<u8>, AllocError> {
+    let mut bytes = Vec::new(alloc);
+    for word in packets.split(' ') {
+        bytes.extend_from_slice(bytes_of(alloc, packet(word))?.as_slice())?;
     }
+    Ok(bytes)
 }
 
-const fn picture(media: u32) -> Ask {
-    Ask::Picture { media: Ssrc(media) }
-}
-
-const fn refused(refusal: Refusal) -> Result<Heard, Unheard> {
-    Err(Unheard::Refused(refusal))
-}
-
-/// What these packets, joined, say and ask for, behind an ask that stays. Fails for want of memory, and
-/// then nothing was appended.
-fn expect(
-    rt: &(impl Abort + AllocGlobal),
-    own: u32,
-    packets: &[&[u8]],
-    heard: Result<Heard, Unheard>,
-    asked: &[Ask],
-) -> Result<(), Fail> {
-    let mut datagram = Vec::new(rt.alloc());
-    for packet in packets {
-        datagram.extend_from_slice(packet)?;
+/// Writes what RTCP packets say.
+fn write_control(text: &mut String, control: &Control) -> Result<(), fmt::Error> {
+    write!(text, "control {}", control.speaker.0)?;
+    if let Some((ntp, rtp)) = control.report {
+        write!(text, " report {ntp:016x} {rtp}")?;
     }
-    let mut asks = Vec::new(rt.alloc());
-    asks.push(picture(1))?;
-    let answer = hear_datagram(datagram.as_slice(), Ssrc(own), &mut asks);
-    assert_eq!(rt; asks.as_slice()[0], picture(1));
-    if answer == Err(Unheard::NoMemory) {
-        assert!(rt; !asked.is_empty());
-        assert_eq!(rt; asks.len(), 1);
-        return Err(Fail::from("no memory"));
+    if control.tmmbns > 0 {
+        write!(text, " tmmbns {}", control.tmmbns)?;
     }
-    assert_eq!(rt; answer, heard);
-    assert_eq!(rt; &asks.as_slice()[1..], asked);
     Ok(())
 }
 
+/// Writes what was refused, and for which fault.
+fn write_refusal(text: &mut String, refusal: &Refusal) -> Result<(), fmt::Error> {
+    match refusal {
+        Refusal::Rtp(fault) => write!(text, "refused rtp {fault:?}")?,
+        Refusal::Rtcp(fault) => write!(text, "refused rtcp {fault:?}")?,
+        Refusal::Feedback(fault) => write!(text, "refused feedback {fault:?}")?,
+        _ => write!(text, "refused {refusal}")?,
+    }
+    Ok(())
+}
+
+/// Writes what was heard.
+fn write_heard(text: &mut String, heard: &Result<Heard, Unheard>) -> Result<(), fmt::Error> {
+    match heard {
+        Ok(
+            Heard::Media {
+                ssrc,
+                seq,
+                timestamp,
+            },
+        ) => write!(text, "media {} {seq} {timestamp}", ssrc.0)?,
+        Ok(Heard::Control(control)) => write_control(text, control)?,
+        Ok(Heard::Goodbye) => text.push_str("goodbye")?,
+        Err(Unheard::Refused(refusal)) => write_refusal(text, refusal)?,
+        Err(Unheard::NoMemory) => text.push_str("no memory")?,
+    }
+    Ok(())
+}
+
+/// Writes what is asked for, a line each.
+fn write_asks(text: &mut String, asks: &[Ask]) -> Result<(), fmt::Error> {
+    for ask in asks {
+        match ask {
+            Ask::Rate { media, word } => write!(text, "\nrate {} {word:08x}", media.0)?,
+            Ask::Resend { media, nack } => {
+                write!(text, "\nresend {} {} {}", media.0, nack.pid, nack.blp)?;
+            }
+            Ask::Picture { media } => write!(text, "\npicture {}", media.0)?,
+        }
+    }
+    Ok(())
+}
+
+/// Hears a datagram, and promises nothing, so that who calls it is proved without what `hear_datagram` says.
+fn hear(datagram: &[u8], own: u32, asks: &mut Vec<Ask>) -> Result<Heard, Unheard> {
+    hear_datagram(datagram, Ssrc(own), asks)
+}
+
+/// What a datagram of this source says, and all that is asked for after it, where a picture of source 1 was asked for before.
+fn heard(alloc: Global, own: u32, datagram: &[u8]) -> Result<String, Fail> {
+    let mut asks = Vec::new(alloc);
+    asks.push(Ask::Picture { media: Ssrc(1) })?;
+    let answer = hear(datagram, own, &mut asks);
+    let mut text = String::new(alloc);
+    write_heard(&mut text, &answer)?;
+    write_asks(&mut text, asks.as_slice())?;
+    Ok(text)
+}
+
+/// A datagram of this source says this, and asks for it after what was asked for before. Fails for want of memory, and then nothing
+/// was appended.
+fn says(
+    rt: &(impl Abort + AllocGlobal),
+    own: u32,
+    datagram: &[u8],
+    wanted: &str,
+) -> Result<(), Fail> {
+    let text = heard(rt.alloc(), own, datagram)?;
+    let (said, asks) = text.as_str().split_once("\npicture 1").unwrap_or(("", ""));
+    if said == "no memory" {
+        assert!(rt; wanted.contains('\n'));
+        assert_eq!(rt; asks, "");
+        return Err(Fail::from("no memory"));
+    }
+    let (say, ask) = wanted.split_at(wanted.find('\n').unwrap_or(wanted.len()));
+    assert_eq!(rt; said, say);
+    assert_eq!(rt; asks, ask);
+    Ok(())
+}
+
+/// Each datagram says what stands beside it, and asks for it.
+fn all_say(rt: &(impl Abort + AllocGlobal), cases: &[Case]) -> Result<(), Fail> {
+    for (own, packets, wanted) in cases {
+        let datagram = datagram(rt.alloc(), packets)?;
+        says(rt, *own, datagram.as_slice(), wanted)?;
+    }
+    Ok(())
+}
+
+/// The source of another is told all the same. Of two sender reports the last one counts, the second one with RTP timestamp 3,001.
+/// Neither a description nor an unknown packet has a sender; nor has a goodbye of another.
+const MEDIA_AND_REPORTS: [Case; 7] = [
+    (16, "RTP", "media 16 7 3000"),
+    (17, "RTP", "media 16 7 3000"),
+    (17, "RR", "control 17"),
+    (16, "RR", "control 17"),
+    (16, "SR", "control 16 report 0000000a80000000 3000"),
+    (
+        16,
+        "SR 80c80006000000100000000a8000000000000bb90000000100000002",
+        "control 16 report 0000000a80000000 3001",
+    ),
+    (
+        17,
+        "80ca0000 80cf000100000063 81cb000100000063",
+        "control 17",
+    ),
+];
+
 #[test]
 fn media_and_reports(rt: HostRuntime) -> Result<(), Fail> {
-    let packet = Heard::Media {
-        ssrc: Ssrc(16),
-        seq: 7,
-        timestamp: 3000,
-    };
-    expect(&rt, 16, &[&RTP], Ok(packet), &[])?;
-    // The source of another is told all the same.
-    expect(&rt, 17, &[&RTP], Ok(packet), &[])?;
-    expect(&rt, 17, &[&RR], Ok(control(17, None, 0)), &[])?;
-    expect(&rt, 16, &[&RR], Ok(control(17, None, 0)), &[])?;
-    let report = Some((0x0000_000a_8000_0000, 3000));
-    expect(&rt, 16, &[&SR], Ok(control(16, report, 0)), &[])?;
-    // The last of two sender reports, the second one with RTP timestamp 3,001.
-    let mut later = SR;
-    later[19] = 0xb9;
-    let report = Some((0x0000_000a_8000_0000, 3001));
-    expect(&rt, 16, &[&SR, &later], Ok(control(16, report, 0)), &[])?;
-    // Neither a description nor an unknown packet has a sender; nor has a goodbye of another.
-    let description = [0x80, 0xca, 0, 0];
-    let unknown = [0x80, 0xcf, 0, 1, 0, 0, 0, 0x63];
-    let goodbye = [0x81, 0xcb, 0, 1, 0, 0, 0, 0x63];
-    expect(
-        &rt,
-        17,
-        &[&description, &unknown, &goodbye],
-        Ok(control(17, None, 0)),
-        &[],
-    )
+    all_say(&rt, &MEDIA_AND_REPORTS)
 }
+
+/// Receiver reports of 18 and 19 beside one's own.
+const STRANGERS: [Case; 2] = [
+    (17, "RR 80c9000100000012 80c9000100000013 RR", "control 18"),
+    (18, "80c9000100000012 PLI", "control 17\npicture 257"),
+];
 
 #[test]
 fn the_first_stranger_speaks(rt: HostRuntime) -> Result<(), Fail> {
-    let stranger = [0x80, 0xc9, 0, 1, 0, 0, 0, 0x12];
-    let another = [0x80, 0xc9, 0, 1, 0, 0, 0, 0x13];
-    expect(
-        &rt,
-        17,
-        &[&RR, &stranger, &another, &RR],
-        Ok(control(18, None, 0)),
-        &[],
-    )?;
-    expect(
-        &rt,
-        18,
-        &[&stranger, &PLI],
-        Ok(control(17, None, 0)),
-        &[picture(257)],
-    )
+    all_say(&rt, &STRANGERS)
 }
+
+/// At the end two entries for one source; all in the order of packets; and a NACK and a TMMBR without entries.
+const ASKED: [Case; 9] = [
+    (17, "TMMBR", "control 17\nrate 257 0007d028"),
+    (17, "NACK", "control 17\nresend 257 100 1"),
+    (17, "PLI", "control 17\npicture 257"),
+    (17, "TMMBN", "control 17 tmmbns 1"),
+    (17, "TMMBN RR TMMBN", "control 17 tmmbns 2"),
+    (
+        17,
+        "TWO",
+        "control 17\nrate 257 0007d028\nrate 999 0007d028",
+    ),
+    (
+        17,
+        "83cd00060000001100000000000001010007d028000001010007d00a",
+        "control 17\nrate 257 0007d028\nrate 257 0007d00a",
+    ),
+    (
+        17,
+        "RR PLI TWO TMMBN NACK",
+        "control 17 tmmbns 1\npicture 257\nrate 257 0007d028\nrate 999 0007d028\nresend 257 100 1",
+    ),
+    (
+        17,
+        "81cd00020000001100000101 83cd00020000001100000101",
+        "control 17",
+    ),
+];
 
 #[test]
 fn what_is_asked_for(rt: HostRuntime) -> Result<(), Fail> {
-    let quiet = Ok(control(17, None, 0));
-    expect(&rt, 17, &[&TMMBR], quiet, &[rate(257, TUPLE)])?;
-    expect(&rt, 17, &[&NACK], quiet, &[resend(257, 100, 1)])?;
-    expect(&rt, 17, &[&PLI], quiet, &[picture(257)])?;
-    expect(&rt, 17, &[&TMMBN], Ok(control(17, None, 1)), &[])?;
-    expect(
-        &rt,
-        17,
-        &[&TMMBN, &RR, &TMMBN],
-        Ok(control(17, None, 2)),
-        &[],
-    )?;
-    // Two entries: sources 257 and 999, both for the same word.
-    let two = [
-        0x83, 0xcd, 0, 6, 0, 0, 0, 0x11, 0, 0, 0, 0, 0, 0, 1, 1, 0, 0x07, 0xd0, 0x28, 0, 0, 0x03,
-        0xe7, 0, 0x07, 0xd0, 0x28,
-    ];
-    expect(
-        &rt,
-        17,
-        &[&two],
-        quiet,
-        &[rate(257, TUPLE), rate(999, TUPLE)],
-    )?;
-    // Two entries for one source.
-    let mut again = two;
-    again[22] = 1;
-    again[23] = 1;
-    again[27] = 0x0a;
-    expect(
-        &rt,
-        17,
-        &[&again],
-        quiet,
-        &[rate(257, TUPLE), rate(257, 0x0007_d00a)],
-    )?;
-    // In the order of packets.
-    expect(
-        &rt,
-        17,
-        &[&RR, &PLI, &two, &TMMBN, &NACK],
-        Ok(control(17, None, 1)),
-        &[
-            picture(257),
-            rate(257, TUPLE),
-            rate(999, TUPLE),
-            resend(257, 100, 1),
-        ],
-    )?;
-    // A NACK and a TMMBR without entries.
-    let no_nack = [0x81, 0xcd, 0, 2, 0, 0, 0, 0x11, 0, 0, 1, 1];
-    let no_tmmbr = [0x83, 0xcd, 0, 2, 0, 0, 0, 0x11, 0, 0, 0, 0];
-    expect(&rt, 17, &[&no_nack, &no_tmmbr], quiet, &[])
+    all_say(&rt, &ASKED)
 }
+
+/// Nothing else of a datagram with a goodbye is looked at. Then the goodbye of another; and one of two sources, the second of them the
+/// endpoint's own.
+const GOODBYES: [Case; 4] = [
+    (17, "BYE", "goodbye"),
+    (17, "SR TMMBR TMMBN BYE PLI", "goodbye"),
+    (16, "BYE PLI", "control 17\npicture 257"),
+    (17, "82cb00020000001200000011", "goodbye"),
+];
 
 #[test]
 fn goodbyes(rt: HostRuntime) -> Result<(), Fail> {
-    expect(&rt, 17, &[&BYE], Ok(Heard::Goodbye), &[])?;
-    // Nothing else of it is looked at.
-    expect(
-        &rt,
-        17,
-        &[&SR, &TMMBR, &TMMBN, &BYE, &PLI],
-        Ok(Heard::Goodbye),
-        &[],
-    )?;
-    // The goodbye of another.
-    expect(
-        &rt,
-        16,
-        &[&BYE, &PLI],
-        Ok(control(17, None, 0)),
-        &[picture(257)],
-    )?;
-    // Two sources, the second of them the endpoint's own.
-    let both = [0x82, 0xcb, 0, 2, 0, 0, 0, 0x12, 0, 0, 0, 0x11];
-    expect(&rt, 17, &[&both], Ok(Heard::Goodbye), &[])
+    all_say(&rt, &GOODBYES)
 }
+
+/// A fault comes before a goodbye, and nothing is asked for. Then the first of two faults; faults of RTCP come before those of feedback;
+/// and packet types 191 and 224 are read as RTP, 192 and 223 as RTCP.
+const REFUSALS: [Case; 8] = [
+    (17, "RR ODD", "refused feedback OddFci"),
+    (17, "TMMBR BYE ODD", "refused feedback OddFci"),
+    (17, "TMMBR 81cd000100000011 ODD", "refused feedback Short"),
+    (17, "ODD 80c90001", "refused rtcp Length"),
+    (17, "80bf000100000011", "refused rtp Short"),
+    (17, "80c0000100000011", "control 17"),
+    (17, "80df000100000011", "control 17"),
+    (17, "80e0000100000011", "refused rtp Short"),
+];
 
 #[test]
 fn refusals(rt: HostRuntime) -> Result<(), Fail> {
-    let odd = refused(Refusal::Feedback(FbFault::OddFci));
-    expect(&rt, 17, &[&RR, &ODD], odd, &[])?;
-    // A fault comes before a goodbye, and nothing is asked for.
-    expect(&rt, 17, &[&TMMBR, &BYE, &ODD], odd, &[])?;
-    // The first of two faults.
-    let short = [0x81, 0xcd, 0, 1, 0, 0, 0, 0x11];
-    let first = refused(Refusal::Feedback(FbFault::Short));
-    expect(&rt, 17, &[&TMMBR, &short, &ODD], first, &[])?;
-    // The faults of RTCP come before those of feedback.
-    let cut = [0x80, 0xc9, 0, 1];
-    let length = refused(Refusal::Rtcp(RtcpFault::Length));
-    expect(&rt, 17, &[&ODD, &cut], length, &[])?;
-    // Packet types 191 and 224 are read as RTP, 192 and 223 as RTCP.
-    let packet = |kind: u8| [0x80, kind, 0, 1, 0, 0, 0, 0x11];
-    let rtp = refused(Refusal::Rtp(RtpFault::Short));
-    expect(&rt, 17, &[&packet(191)], rtp, &[])?;
-    expect(&rt, 17, &[&packet(192)], Ok(control(17, None, 0)), &[])?;
-    expect(&rt, 17, &[&packet(223)], Ok(control(17, None, 0)), &[])?;
-    expect(&rt, 17, &[&packet(224)], rtp, &[])
+    all_say(&rt, &REFUSALS)
 }
 
 /// A NACK of 17 about source 257 that has so many entries, from packet 0 on.
-fn long_nack(alloc: Global, count: u16) -> Result<Vec<u8>, Fail> {
+fn push_long_nack(packet: &mut Vec<u8>, count: u16) -> Result<(), AllocError> {
     let [high, low] = count.wrapping_add(2).to_be_bytes();
-    let mut packet = Vec::new(alloc);
     packet.extend_from_slice(&[0x81, 0xcd, high, low, 0, 0, 0, 0x11, 0, 0, 1, 1])?;
     for pid in 0..count {
         let [high, low] = pid.to_be_bytes();
         packet.extend_from_slice(&[high, low, 0, 0])?;
     }
-    Ok(packet)
+    Ok(())
 }
 
 /// Of 300 entries, and a PLI after them, the first 256 are heeded.
 #[test]
 fn so_many_entries_are_heeded(rt: HostRuntime) -> Result<(), Fail> {
-    let nack = long_nack(rt.alloc(), 300)?;
-    let mut asked = Vec::new(rt.alloc());
+    let mut packets = Vec::new(rt.alloc());
+    push_long_nack(&mut packets, 300)?;
+    packets.extend_from_slice(datagram(rt.alloc(), "PLI")?.as_slice())?;
+    let mut wanted = String::new(rt.alloc());
+    wanted.push_str("control 17")?;
     for pid in 0..256 {
-        asked.push(resend(257, pid, 0))?;
+        write!(wanted, "\nresend 257 {pid} 0")?;
     }
-    expect(
-        &rt,
-        17,
-        &[nack.as_slice(), &PLI],
-        Ok(control(17, None, 0)),
-        asked.as_slice(),
-    )
+    says(&rt, 17, packets.as_slice(), wanted.as_str())
 }

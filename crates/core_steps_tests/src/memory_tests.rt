@@ -54,12 +54,17 @@ fn text_of(alloc: Global, world: &World, outs: &[Out]) -> Option<String> {
     Some(text)
 }
 
-/// What these events give out in a new world, and what it shows behind them.
+/// What these events give out in this world, and what it shows after them.
+fn after_in(alloc: Global, world: &mut World, events: &[Event]) -> Option<String> {
+    let mut outs = Vec::new(alloc);
+    do_events(world, events, &mut outs).ok()?;
+    text_of(alloc, world, outs.as_slice())
+}
+
+/// The same in a new world.
 fn after(alloc: Global, events: &[Event]) -> Option<String> {
     let mut world = new_world(alloc)?;
-    let mut outs = Vec::new(alloc);
-    do_events(&mut world, events, &mut outs).ok()?;
-    text_of(alloc, &world, outs.as_slice())
+    after_in(alloc, &mut world, events)
 }
 
 /// The events of the examples, a world, and what it gave out.
@@ -137,11 +142,16 @@ fn is_left(
     Ok(())
 }
 
+/// The events are done, and leave what they have to leave.
+fn ends_well(rt: &impl Abort, alloc: Global, trial: &mut Trial) -> Result<(), Fail> {
+    let events = trial.events.as_slice();
+    go_through(rt, alloc, &mut trial.world, events, &mut trial.outs)?;
+    is_left(rt, alloc, &trial.world, events, trial.outs.as_slice())
+}
+
 /// Whichever growth is refused, the events of the examples end in what they end in without a refusal.
 #[test]
 fn each_growth_refused(rt: HostRuntime) -> Result<(), Fail> {
     let mut trial = begin(rt.alloc()).ok_or("no memory")?;
-    let events = trial.events.as_slice();
-    go_through(&rt, rt.alloc(), &mut trial.world, events, &mut trial.outs)?;
-    is_left(&rt, rt.alloc(), &trial.world, events, trial.outs.as_slice())
+    ends_well(&rt, rt.alloc(), &mut trial)
 }

@@ -153,17 +153,17 @@ fn tells(
     Ok(())
 }
 
-/// These calls of a new desk, one behind the other, are told so with these rows.
-fn plays(
+/// These calls of the desk, one behind the other, are told so with these rows.
+fn plays_on(
     rt: &impl Abort,
     alloc: Global,
+    desk: &mut Desk,
     links: &Links,
     rows: &[Row],
     steps: &[Step<'_>],
 ) -> Result<(), Fail> {
-    let mut desk = Desk::new(alloc, 500, 0)?;
     for (call, notification, wanted) in steps {
-        let reply = reply_to(&mut desk, *call)?;
+        let reply = reply_to(desk, *call)?;
         tells(
             rt,
             alloc,
@@ -175,6 +175,18 @@ fn plays(
         )?;
     }
     Ok(())
+}
+
+/// These calls of a new desk, likewise.
+fn plays(
+    rt: &impl Abort,
+    alloc: Global,
+    links: &Links,
+    rows: &[Row],
+    steps: &[Step<'_>],
+) -> Result<(), Fail> {
+    let mut desk = Desk::new(alloc, 500, 0)?;
+    plays_on(rt, alloc, &mut desk, links, rows, steps)
 }
 
 #[test]

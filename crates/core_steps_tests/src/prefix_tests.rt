@@ -183,14 +183,7 @@ fn gives(
     Ok(())
 }
 
-/// A world where both endpoints are present.
-fn with_both(alloc: Global) -> Result<Stage, Fail> {
-    let mut stage = new_stage(alloc, TIMES)?;
-    play(alloc, &mut stage, &ASKED[..4])?;
-    Ok(stage)
-}
-
-/// Each prefix of the sample's bytes gives out what is expected.
+/// Both endpoints come; each prefix of the sample's bytes then gives out what is expected.
 fn prefixes(
     rt: &impl Abort,
     alloc: Global,
@@ -198,6 +191,7 @@ fn prefixes(
     sample: &Sample<'_>,
     bytes: &[u8],
 ) -> Result<(), Fail> {
+    play(alloc, stage, &ASKED[..4])?;
     for count in 0..bytes.len() + 1 {
         let expected = expected(sample, bytes.len(), count);
         gives(
@@ -213,10 +207,10 @@ fn prefixes(
     Ok(())
 }
 
-/// Each prefix of the sample, where both endpoints are present.
+/// Each prefix of the sample, in a new world.
 fn every_prefix(rt: &impl Abort, alloc: Global, sample: &Sample<'_>) -> Result<(), Fail> {
     let bytes = bytes_of(alloc, sample.hex)?;
-    let mut stage = with_both(alloc)?;
+    let mut stage = new_stage(alloc, TIMES)?;
     prefixes(rt, alloc, &mut stage, sample, bytes.as_slice())
 }
 

@@ -225,16 +225,27 @@ fn settled(alloc: Global, world: &mut World) -> Result<(), Fail> {
     Ok(())
 }
 
+/// One run more in this room.
+fn run_once(alloc: Global, scene: &mut Scene, seen: &mut Seen, grow_old: bool) -> Result<(), Fail> {
+    go_on(alloc, scene)?;
+    settled(alloc, &mut scene.world)?;
+    scene.listener.settle();
+    compare(&scene.world, &scene.listener, seen, grow_old)?;
+    Ok(())
+}
+
+/// The runs in this room.
+fn runs_in(alloc: Global, scene: &mut Scene, seen: &mut Seen, grow_old: bool) -> Result<(), Fail> {
+    for _ in 0..RUNS {
+        run_once(alloc, scene, seen, grow_old)?;
+    }
+    Ok(())
+}
+
 /// The runs in one room.
 fn runs_of(alloc: Global, seed: u64, request_ms: u64, seen: &mut Seen) -> Result<(), Fail> {
     let mut scene = new_scene(alloc, seed, request_ms)?;
-    for _ in 0..RUNS {
-        go_on(alloc, &mut scene)?;
-        settled(alloc, &mut scene.world)?;
-        scene.listener.settle();
-        compare(&scene.world, &scene.listener, seen, request_ms > 0)?;
-    }
-    Ok(())
+    runs_in(alloc, &mut scene, seen, request_ms > 0)
 }
 
 #[test]

@@ -69,30 +69,42 @@ fn leaves_live(
 const ONE_ASKED: &str = "17 0007d028;";
 
 /// Examples 21, 22 and 23, one behind the other.
+fn examples_leave(rt: &impl Abort, alloc: Global, world: &mut World) -> Result<(), Fail> {
+    leaves_live(rt, alloc, world, ASKED.as_slice(), ONE_ASKED)?;
+    leaves_live(rt, alloc, world, &LATER[..4], ONE_ASKED)?;
+    leaves_live(rt, alloc, world, &LATER[4..], "")
+}
+
 fn quiet_after_examples(rt: &impl Abort, alloc: Global) -> Result<(), Fail> {
     let mut world = world_with(alloc, 1000, 0)?;
-    leaves_live(rt, alloc, &mut world, ASKED.as_slice(), ONE_ASKED)?;
-    leaves_live(rt, alloc, &mut world, &LATER[..4], ONE_ASKED)?;
-    leaves_live(rt, alloc, &mut world, &LATER[4..], "")
+    examples_leave(rt, alloc, &mut world)
 }
 
 /// Of two entries about one leg the second was heard last.
-fn quiet_after_two_entries(rt: &impl Abort, alloc: Global) -> Result<(), Fail> {
-    let mut world = world_with(alloc, 1000, 0)?;
-    leaves_live(rt, alloc, &mut world, &ASKED[..4], "")?;
+fn two_entries_leave(rt: &impl Abort, alloc: Global, world: &mut World) -> Result<(), Fail> {
+    leaves_live(rt, alloc, world, &ASKED[..4], "")?;
     let twice = "83cd00060000001100000000000001010007d028000001010007d00a";
     let both = [Hear(10, 1, twice), Settle];
-    leaves_live(rt, alloc, &mut world, both.as_slice(), "17 0007d00a;")
+    leaves_live(rt, alloc, world, both.as_slice(), "17 0007d00a;")
+}
+
+fn quiet_after_two_entries(rt: &impl Abort, alloc: Global) -> Result<(), Fail> {
+    let mut world = world_with(alloc, 1000, 0)?;
+    two_entries_leave(rt, alloc, &mut world)
 }
 
 /// An expire takes a request that is too old, and not before.
+fn expire_leaves(rt: &impl Abort, alloc: Global, world: &mut World) -> Result<(), Fail> {
+    leaves_live(rt, alloc, world, ASKED.as_slice(), ONE_ASKED)?;
+    let young = [Tick(999), Settle];
+    leaves_live(rt, alloc, world, young.as_slice(), ONE_ASKED)?;
+    let old = [Tick(1000), Settle];
+    leaves_live(rt, alloc, world, old.as_slice(), "")
+}
+
 fn quiet_after_expire(rt: &impl Abort, alloc: Global) -> Result<(), Fail> {
     let mut world = world_with(alloc, 5000, 1000)?;
-    leaves_live(rt, alloc, &mut world, ASKED.as_slice(), ONE_ASKED)?;
-    let young = [Tick(999), Settle];
-    leaves_live(rt, alloc, &mut world, young.as_slice(), ONE_ASKED)?;
-    let old = [Tick(1000), Settle];
-    leaves_live(rt, alloc, &mut world, old.as_slice(), "")
+    expire_leaves(rt, alloc, &mut world)
 }
 
 #[test]
@@ -102,15 +114,14 @@ fn quiet(rt: HostRuntime) -> Result<(), Fail> {
     quiet_after_expire(&rt, rt.alloc())
 }
 
-/// A world whose ring of jobs is full of packets.
-fn full(alloc: Global) -> Result<World, Fail> {
-    let mut world = world_with(alloc, 1000, 0)?;
-    play(alloc, &mut world, &ASKED[..4])?;
+/// Fills the ring of jobs with packets.
+fn fill(alloc: Global, world: &mut World) -> Result<(), Fail> {
+    play(alloc, world, &ASKED[..4])?;
     for _ in 0..1024 {
         let packet = [Hear(0, 0, "8060000700000bb800000010aabb"), Ingress];
-        play(alloc, &mut world, packet.as_slice())?;
+        play(alloc, world, packet.as_slice())?;
     }
-    Ok(world)
+    Ok(())
 }
 
 /// So many jobs were lost once these steps are done.
@@ -133,14 +144,19 @@ fn is_quiet(rt: &impl Abort, alloc: Global, world: &World) -> Result<(), Fail> {
     Ok(())
 }
 
-#[test]
-fn premise_needed(rt: HostRuntime) -> Result<(), Fail> {
-    let mut world = full(rt.alloc())?;
-    // The ring is full: the request that is heard now is given up, and nothing is live though its word was heard last.
+/// The ring is full: the request that is heard now is given up, and nothing is live though its word was heard last.
+fn gives_up(rt: &impl Abort, alloc: Global, world: &mut World) -> Result<(), Fail> {
+    fill(alloc, world)?;
     let request = Hear(0, 1, "83cd00040000001100000000000001010007d028");
     let plays = [([].as_slice(), 0), (&[request, Ingress], 1), (&[Settle], 1)];
     for (steps, lost) in &plays {
-        loses(&rt, rt.alloc(), &mut world, *steps, *lost)?;
+        loses(rt, alloc, world, *steps, *lost)?;
     }
-    is_quiet(&rt, rt.alloc(), &world)
+    is_quiet(rt, alloc, world)
+}
+
+#[test]
+fn premise_needed(rt: HostRuntime) -> Result<(), Fail> {
+    let mut world = world_with(rt.alloc(), 1000, 0)?;
+    gives_up(&rt, rt.alloc(), &mut world)
 }

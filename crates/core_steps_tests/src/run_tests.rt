@@ -45,16 +45,12 @@ fn print_step(alloc: Global, stage: &mut Stage, step: &Step<'_>) -> Result<(), F
     Ok(())
 }
 
-/// What these steps print in a new world of settings with these times.
-fn played(alloc: Global, times: [i64; 3], plays: &[&[Step<'_>]]) -> Result<String, Fail> {
-    let mut stage = new_stage(alloc, times)?;
-    for steps in plays {
-        for step in *steps {
-            print_step(alloc, &mut stage, step)?;
-        }
+/// Does these steps; what they print stands in `text`.
+fn print_steps(alloc: Global, stage: &mut Stage, steps: &[Step<'_>]) -> Result<(), Fail> {
+    for step in steps {
+        print_step(alloc, stage, step)?;
     }
-    let Stage { text, .. } = stage;
-    Ok(text)
+    Ok(())
 }
 
 /// These lines as text.
@@ -69,7 +65,23 @@ fn text_of(alloc: Global, lines: &[Line<'_>]) -> Result<String, fmt::Error> {
     Ok(text)
 }
 
-/// The steps print these lines.
+/// The steps print these lines on this stage.
+fn prints_on(
+    rt: &impl Abort,
+    alloc: Global,
+    stage: &mut Stage,
+    plays: &[&[Step<'_>]],
+    lines: &[Line<'_>],
+) -> Result<(), Fail> {
+    for steps in plays {
+        print_steps(alloc, stage, *steps)?;
+    }
+    let wanted = text_of(alloc, lines)?;
+    assert_eq!(rt; stage.text.as_str(), wanted.as_str());
+    Ok(())
+}
+
+/// The steps print these lines in a new world of settings with these times.
 fn prints(
     rt: &impl Abort,
     alloc: Global,
@@ -77,10 +89,8 @@ fn prints(
     plays: &[&[Step<'_>]],
     lines: &[Line<'_>],
 ) -> Result<(), Fail> {
-    let printed = played(alloc, times, plays)?;
-    let wanted = text_of(alloc, lines)?;
-    assert_eq!(rt; printed.as_str(), wanted.as_str());
-    Ok(())
+    let mut stage = new_stage(alloc, times)?;
+    prints_on(rt, alloc, &mut stage, plays, lines)
 }
 
 #[test]
@@ -226,15 +236,23 @@ fn requests_grow_too_old(rt: HostRuntime) -> Result<(), Fail> {
     )
 }
 
-/// A world that came to as many packets as its ring of jobs has room for, and one more.
-fn flooded(alloc: Global) -> Result<Stage, Fail> {
-    let mut stage = new_stage(alloc, TIMES)?;
-    play(alloc, &mut stage, &ASKED[..4])?;
+/// As many packets come as the ring of jobs has room for, and one more.
+fn flood(alloc: Global, stage: &mut Stage) -> Result<(), Fail> {
+    play(alloc, stage, &ASKED[..4])?;
     for _ in 0..1025 {
         let packet = [Hear(0, 0, "8060000700000bb800000010aabb"), Ingress];
-        play(alloc, &mut stage, &packet)?;
+        play(alloc, stage, &packet)?;
     }
-    Ok(stage)
+    Ok(())
+}
+
+/// One job is lost, and the others wait.
+fn loses_one(rt: &impl Abort, stage: &Stage) {
+    assert_eq!(rt; stage.outs.len(), 1);
+    assert!(rt; matches!(stage.outs.last(), Some(Out::Lost(1))));
+    assert_eq!(rt; stage.world.lost(), 1);
+    assert_eq!(rt; [stage.world.stay(0), stage.world.stay(9)], [Some(1), None]);
+    assert_eq!(rt; stage.world.waiting().jobs, 1024);
 }
 
 /// What the workers send until nothing waits.
@@ -244,18 +262,25 @@ fn sent(alloc: Global, stage: &mut Stage) -> Result<String, Fail> {
     Ok(lines(alloc, stage.outs.as_slice())?)
 }
 
-#[test]
-fn a_flood_loses_what_the_ring_has_no_room_for(rt: HostRuntime) -> Result<(), Fail> {
-    let mut stage = flooded(rt.alloc())?;
-    assert_eq!(rt; stage.outs.len(), 1);
-    assert!(rt; matches!(stage.outs.last(), Some(Out::Lost(1))));
-    assert_eq!(rt; stage.world.lost(), 1);
-    assert_eq!(rt; [stage.world.stay(0), stage.world.stay(9)], [Some(1), None]);
-    assert_eq!(rt; stage.world.waiting().jobs, 1024);
-    let sent = sent(rt.alloc(), &mut stage)?;
+/// The workers send each packet that waits.
+fn sends_the_others(rt: &impl Abort, alloc: Global, stage: &mut Stage) -> Result<(), Fail> {
+    let sent = sent(alloc, stage)?;
     assert_eq!(rt; stage.outs.len(), 1024);
     for line in sent.as_str().lines() {
         assert_eq!(rt; line, "send 1 8060006400000bb800000101aabb");
     }
     Ok(())
+}
+
+/// One packet of a flood is lost, and the others go out.
+fn loses_and_sends(rt: &impl Abort, alloc: Global, stage: &mut Stage) -> Result<(), Fail> {
+    flood(alloc, stage)?;
+    loses_one(rt, stage);
+    sends_the_others(rt, alloc, stage)
+}
+
+#[test]
+fn a_flood_loses_what_the_ring_has_no_room_for(rt: HostRuntime) -> Result<(), Fail> {
+    let mut stage = new_stage(rt.alloc(), TIMES)?;
+    loses_and_sends(&rt, rt.alloc(), &mut stage)
 }
