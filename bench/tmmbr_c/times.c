@@ -1,6 +1,6 @@
 /*
- * Prints how long the two calls take, and how much stack: for 0, 8, 64 and 256 owners, of whom all are announced, or one is,
- * or a half. Each time is the least of 5,000 calls.
+ * Prints how long the two calls without a state take, and how much stack any call takes: for 0, 8, 64 and 256 owners, of whom all are
+ * announced, or one is, or a half. Each time is the least of 5,000 calls.
  */
 #define _GNU_SOURCE
 #include <pthread.h>
@@ -19,6 +19,9 @@ static tmmbr_implied implied[TMMBR_MAX_REQUESTS];
 static tmmbr_answer answer;
 static tmmbr_verdict verdict;
 static size_t count;
+static tmmbr_state state = TMMBR_NO_STATE;
+static tmmbr_request live[TMMBR_MAX_REQUESTS];
+static uint32_t refused;
 
 static void *nothing(void *unused)
 {
@@ -34,6 +37,22 @@ static void *announce(void *unused)
 static void *check(void *unused)
 {
     verdict = tmmbr_check(asked, count, kept, answer.kept, implied, answer.implied);
+    return unused;
+}
+
+/* Opens a state, sets all that is asked, reads it, removes it, and closes the state. */
+static void *keep(void *unused)
+{
+    size_t i;
+
+    refused = tmmbr_open(&state);
+    for (i = 0; i < count; i++)
+        refused |= tmmbr_set(&state, &asked[i]).fault;
+    refused |= tmmbr_live(&state, live, TMMBR_MAX_REQUESTS).fault;
+    refused |= tmmbr_of(&state, kept, TMMBR_MAX_REQUESTS, implied, TMMBR_MAX_REQUESTS).fault;
+    for (i = 0; i < count; i++)
+        refused |= tmmbr_remove(&state, asked[i].ssrc);
+    refused |= tmmbr_close(&state);
     return unused;
 }
 
@@ -57,7 +76,7 @@ static double time_of(void *(*call)(void *))
     return least;
 }
 
-/* Bytes of stack that a thread has written that makes one call. */
+/* Bytes of stack that a thread has written that makes these calls. */
 static size_t stack_of(void *(*call)(void *))
 {
     unsigned char *stack = mmap(NULL, STACK, PROT_READ | PROT_WRITE, MAP_PRIVATE | MAP_ANONYMOUS, -1, 0);
@@ -107,11 +126,13 @@ int main(void)
         for (c = 0; c < 4; c++) {
             count = counts[c];
             ask(which[w]);
+            stack = stack_of(keep) - own;
+            most = stack > most ? stack : most;
             stack = stack_of(announce) - own;
             most = stack > most ? stack : most;
             stack = stack_of(check) - own;
             most = stack > most ? stack : most;
-            if (answer.fault || verdict.fault)
+            if (refused || answer.fault || verdict.fault)
                 return 1;
             printf("%-5s %3zu owners, %3u announced: announced %8.0f ns, check %8.0f ns\n", which[w], count, answer.kept,
                    time_of(announce), time_of(check));
