@@ -5,8 +5,8 @@
 
 PROGRAM is the built program (crates/sfu_main/out/sfu_main, or ./sfu). COUNT random datagrams (3,000 if it isn't said), among them packets
 with gaps and late ones, reports, feedback, goodbyes and rubbish, and a selection after every fifty, come to a unit with one worker, then to
-one with two, then to one that is killed in the middle. Each line says what was compared, and `ok` or what came instead; the status is 0 if
-all is ok.
+one with two, then to one that is killed in the middle; then a record begins and ends by the control in the middle of a run. Each line says
+what was compared, and `ok` or what came instead; the status is 0 if all is ok.
 """
 import os
 import random
@@ -130,7 +130,7 @@ def ask(path, line):
 
 
 class Unit:
-    def __init__(self, program, folder, workers, words=(), **how):
+    def __init__(self, program, folder, workers, words=(), is_recorded=True, **how):
         self.program, self.file = program, os.path.join(folder, f"room{workers}.toml")
         self.record = os.path.join(folder, f"record{workers}.script")
         self.control = os.path.join(folder, "control")
@@ -139,7 +139,8 @@ class Unit:
                 os.unlink(path)
         open(self.file, "w").write(settings(workers))
         self.process = subprocess.Popen(
-            [program, "serve", self.file, "--status", "1", "--control", self.control, "--record", self.record, *words],
+            [program, "serve", self.file, "--status", "1", "--control", self.control,
+             *(["--record", self.record] if is_recorded else []), *words],
             stdout=subprocess.PIPE, stderr=subprocess.PIPE, text=True, **how)
         line = self.process.stderr.readline()
         while not line.startswith("serving"):
@@ -326,6 +327,84 @@ def ends_early(program, folder, seed, why, most, words=(), **how):
         say(f"ended {why}: {len(replay)} of {len(client.came)} datagrams to endpoint {client.number} are replayed", is_so, f"{status} {said}")
 
 
+def by_control(program, folder, workers, seed):
+    """A record that begins and ends in the middle of a run, for who asks by the control."""
+    rng = random.Random(seed)
+    unit = Unit(program, folder, workers, is_recorded=False)
+    clients = [Client(number, rng) for number in range(len(SOURCES))]
+    name = f"by control, workers {workers}"
+
+    def asked(*words):
+        return subprocess.run([program, "ask", unit.control, *words], capture_output=True, text=True)
+
+    try:
+        play(clients, unit, rng, 200, 0.001)
+        assert ask(unit.control, "select 0 off") == "ok\n" and ask(unit.control, "select 1 on") == "ok\n"
+        legs = [line.split() for line in asked("legs").stdout.splitlines()]
+        off = [words[0] for words in legs if words[5] == "off"]
+        say(f"{name}: there is no record to end", (asked("record", "off").returncode, asked("record", "off").stderr) == (4, "unrecorded\n"))
+        recording = subprocess.Popen([program, "ask", unit.control, "record", unit.record])
+        while asked("record").stderr != "recorded\n":
+            time.sleep(0.05)
+        sent = {}
+        for client in clients:
+            client.socket = Noting(client.socket, sent.setdefault(client.number, []))
+        play(clients, unit, rng, 400, 0.001)
+        say(f"{name}: the record ends", asked("record", "off").returncode == 0)
+        say(f"{name}: who asked ends with it", recording.wait(5) == 0)
+        play(clients, unit, rng, 50, 0.001)
+        # a second one, printed, until its reader is gone
+        printing = subprocess.Popen([program, "ask", unit.control, "record"], stdout=subprocess.PIPE)
+        first = printing.stdout.readline()
+        printing.kill()
+        play(clients, unit, rng, 200, 0.005)
+        say(f"{name}: a second record is printed", first.startswith(b"# sfu "), str(first))
+        again = asked("record", unit.record)
+        say(f"{name}: a file that is there is never replaced", (again.returncode, again.stderr) == (5, "record: exists\n"), str(again))
+        time.sleep(1.5)
+        errors = unit.end()
+    finally:
+        for client in clients:
+            client.end()
+        unit.kill()
+    last = [line for line in errors.splitlines() if line.startswith("present")][-1]
+    say(f"{name}: a reader that is gone ends its record", "ended failed" in last, last)
+    say(f"{name}: the record is its owner's alone", os.stat(unit.record).st_mode & 0o777 == 0o600)
+    lines = open(unit.record).read().splitlines()
+    head = [line.split() for line in lines[:4]]
+    is_head = [words[:2] for words in head[:2]] == [["#", "sfu"], ["#", "settings"]] and head[3][:3] == ["#", "begins", "in"]
+    say(f"{name}: its head says that it begins in the middle", is_head, str(lines[:4]))
+    moment = head[3][-1]
+    wanted = [line for leg in off for line in (f"select {moment} {leg} off", "follow")]
+    say(f"{name}: the {len(off)} legs that were off are so from its start", lines[4:4 + len(wanted)] == wanted, str(lines[4:12]))
+    heard = {number: [] for number in range(len(SOURCES))}
+    for line in lines:
+        words = line.split()
+        if words[0] == "hear":
+            heard[int(words[2])].append(bytes.fromhex(words[3]))
+    for number, datagrams in sorted(sent.items()):
+        # (what follows the end of the record was sent, too)
+        say(f"{name}: the {len(heard[number])} datagrams of endpoint {number}, in order", datagrams[:len(heard[number])] == heard[number] != [],
+            first_difference(datagrams, heard[number]))
+    done = subprocess.run([program, "replay", unit.file], stdin=open(unit.record, "rb"), capture_output=True, text=True)
+    say(f"{name}: it is played to its end", done.returncode == 0 and "send " in done.stdout, done.stderr)
+
+
+class Noting:
+    """A socket of which is noted what is sent; datagrams that the unit doesn't hear (none of them, here) apart."""
+
+    def __init__(self, plain, sent):
+        self.plain, self.sent = plain, sent
+
+    def sendto(self, datagram, to):
+        if datagram:
+            self.sent.append(datagram)
+        return self.plain.sendto(datagram, to)
+
+    def __getattr__(self, name):
+        return getattr(self.plain, name)
+
+
 def limited():
     resource.setrlimit(resource.RLIMIT_FSIZE, (50000, 50000))
 
@@ -349,6 +428,8 @@ def main():
         # a file that may not grow beyond so many bytes stands for a disk that is full
         ends_early(program, folder, seed + 4, "failed", 50000, preexec_fn=limited, restore_signals=False)
         refuses_a_file(program, folder)
+        for workers in (1, 2):
+            by_control(program, folder, workers, seed + 5)
     sys.exit(1 if FAULTS else 0)
 
 

@@ -5,10 +5,12 @@ ghost use Rattle.std.specs.Io.KnownBytes.{Appends, Keeps};
 ghost use Rattle.std.specs.String.{string_bytes};
 ghost use Rattle.control.specs.Asking.{answered_by, done, refused};
 
+use crate::ask_record::{print_record, write_record};
 use control::{Answered, read_answer};
 use endings::{Status, say, say_no_memory};
 use std::alloc::{AllocError, Global};
 use std::convert::AsStr;
+use std::fs::File;
 use std::io::{ErrorKind, Read, Write};
 use std::net::Net;
 use std::os::unix::net::UnixStream;
@@ -26,7 +28,7 @@ const MAX_PIECES: u32 = 4_096;
 
 /// Why there is no answer.
 #[derive(Clone, Copy, Debug, PartialEq, Eq)]
-enum AskFault {
+pub(crate) enum AskFault {
     NoMemory,
     /// Nobody listens at the path.
     Nobody,
@@ -41,10 +43,12 @@ impl From<AllocError> for AskFault {
 }
 
 /// Asks the unit that is steered at the path, with these words as a line. Prints the answer without its last line; why it was refused
-/// goes to the error output.
+/// goes to the error output. `record` and `record FILE` don't end with the answer: what the unit takes in is printed, or written to the
+/// file, until its record ends.
 ///
-/// Ends as `Refused` if the unit refused it, as `Control` if nobody listens at the path, and as `Io` if no whole answer came in time.
-pub fn run_ask<R: AllocGlobal + Files + Net, S: AsStr, O: Write, E: Write>(
+/// Ends as `Refused` if the unit refused it, as `Control` if nobody listens at the path, as `Record` if the file can't be had, and as `Io`
+/// if no whole answer came in time.
+pub fn run_ask<R: AllocGlobal + Files<File = File> + Net, S: AsStr, O: Write, E: Write>(
     rt: &R,
     path: &str,
     words: &[S],
@@ -57,11 +61,28 @@ pub fn run_ask<R: AllocGlobal + Files + Net, S: AsStr, O: Write, E: Write>(
         → Keeps (O.contents writer.old) (O.contents writer.new)
         × Appends (E.contents errors.old) (E.contents errors.new) (codes "nobody listens\n") }
 {
-    match ask_at(rt, path, words) {
-        Ok(text) => print_answer(text.as_slice(), writer, errors),
-        Err(AskFault::NoMemory) => say_no_memory(errors),
-        Err(AskFault::Nobody) => say(errors, b"nobody listens\n", Status::Control),
-        Err(AskFault::Io) => say(errors, b"io\n", Status::Io),
+    match words {
+        [record] if record.as_str() == "record" => print_record(rt, path, writer, errors),
+        [record, file] if record.as_str() == "record" && file.as_str() != "off" => {
+            write_record(rt, path, file.as_str(), errors)
+        }
+        words => match ask_at(rt, path, words) {
+            Ok(text) => print_answer(text.as_slice(), writer, errors),
+            Err(fault) => say_fault(errors, fault),
+        },
+    }
+}
+
+/// Says on the error output why there is no answer.
+pub(crate) fn say_fault<E: Write>(errors: &mut E, fault: AskFault) -> Status
+    ensures refused { result ≢ Status.Refused }
+    ensures control { result ≡ Status.Control
+        → Appends (E.contents errors.old) (E.contents errors.new) (codes "nobody listens\n") }
+{
+    match fault {
+        AskFault::NoMemory => say_no_memory(errors),
+        AskFault::Nobody => say(errors, b"nobody listens\n", Status::Control),
+        AskFault::Io => say(errors, b"io\n", Status::Io),
     }
 }
 
@@ -72,14 +93,23 @@ fn ask_at<R: AllocGlobal + Files + Net, S: AsStr>(
     words: &[S],
 ) -> Result<Vec<u8>, AskFault> {
     let line = line_of(rt.alloc(), words)?;
-    let Ok(mut stream) = UnixStream::connect(rt, path) else {
-        return Err(AskFault::Nobody);
-    };
-    let patience = Some(Duration::from_secs(PATIENCE_S));
-    if stream.set_read_timeout(patience).is_err() || stream.write_all(line.as_bytes()).is_err() {
+    let mut stream = connect(rt, path)?;
+    if stream.write_all(line.as_bytes()).is_err() {
         return Err(AskFault::Io);
     }
     read_whole(rt.alloc(), &mut stream)
+}
+
+/// The way to the unit at the path, which may take its time for an answer, but no longer.
+pub(crate) fn connect<R: Net>(rt: &R, path: &str) -> Result<UnixStream, AskFault> {
+    let Ok(stream) = UnixStream::connect(rt, path) else {
+        return Err(AskFault::Nobody);
+    };
+    let patience = Some(Duration::from_secs(PATIENCE_S));
+    match stream.set_read_timeout(patience) {
+        Ok(()) => Ok(stream),
+        Err(_) => Err(AskFault::Io),
+    }
 }
 
 /// The words with single spaces between them, and the end of the line.
@@ -114,7 +144,11 @@ fn read_whole<I: Read>(alloc: Global, stream: &mut I) -> Result<Vec<u8>, AskFaul
 }
 
 /// Prints the lines of an answer, or says why it was refused.
-fn print_answer<O: Write, E: Write>(text: &[u8], writer: &mut O, errors: &mut E) -> Status
+pub(crate) fn print_answer<O: Write, E: Write>(
+    text: &[u8],
+    writer: &mut O,
+    errors: &mut E,
+) -> Status
     ensures done { result ≡ Status.Done → (lines : List ℕ)
         × (answered_by text.now ≡ Some (done lines))
         × Appends (O.contents writer.old) (O.contents writer.new) lines }

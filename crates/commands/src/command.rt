@@ -296,28 +296,40 @@ fn serve_recorded<
         × (result ≢ Status.Settings) }
     ensures said { SaysWhyServing (E.contents errors.old) (E.contents errors.new) result }
 {
-    let Some(Record { path, limit }) = paths.record else {
-        return serve_file(rt, &file.settings, term, &gauges, writer, errors);
-    };
-    match open_record(rt, path, limit, file.digest.as_slice()) {
-        Ok((recorder, scribe)) => {
-            let gauges = gauges.recorded(recorder);
+    match gauges_with(rt, file, paths.record, gauges) {
+        Ok(gauges) => {
             let status = serve_file(rt, &file.settings, term, &gauges, writer, errors);
-            close_record(rt, gauges, scribe);
+            close_record(rt, gauges);
             status
         }
         Err(fault) => say_record(errors, fault),
     }
 }
 
+/// What a run shows that is recorded, if it is to be from its start.
+fn gauges_with<R: AllocGlobal + Files<File = File> + Net + Threads + time::Clock>(
+    rt: &R,
+    file: &ServedFile,
+    record: Option<Record<'_>>,
+    gauges: Gauges,
+) -> Result<Gauges, RecordFault> {
+    match record {
+        Some(Record { path, limit }) => {
+            let recorder = open_record(rt, path, limit, file.digest.as_slice())?;
+            Ok(gauges.recorded(recorder))
+        }
+        None => Ok(gauges),
+    }
+}
+
 /// What a run shows that is steered at the path, if there is one.
-fn gauges_for<R: AllocGlobal + Files + Net>(
+fn gauges_for<R: AllocGlobal + Files + Net + Threads + time::Clock>(
     rt: &R,
     file: &ServedFile,
     control: Option<&str>,
 ) -> Result<Gauges, ControlFault> {
     match control {
-        Some(path) => open_control(rt, path, &file.settings),
+        Some(path) => open_control(rt, path, &file.settings, file.digest.as_slice()),
         None => Ok(Gauges::new()),
     }
 }

@@ -6,12 +6,14 @@ use Rattle.std.specs.declared.net.socket_addr.SocketAddr.{SocketAddr}
 use Rattle.outside.specs.declared.watch.Status.{Status}
 use Rattle.control.specs.declared.answer.Refused.{Refused}
 use Rattle.control.specs.declared.answer.Unheard.{Unheard}
-use Rattle.control.specs.declared.answer.Refused.TheVariants.{Unknown, Leg, Publisher, Long, Full, Memory}
+use Rattle.control.specs.declared.answer.Refused.TheVariants.{Unknown, Leg, Publisher, Recorded, Unrecorded, Long, Full, Memory}
 
 abbrev pub refusal_text : Refused → List ℕ
 refusal_text Unknown = codes "refused unknown\n"
 refusal_text Leg = codes "refused leg\n"
 refusal_text Publisher = codes "refused publisher\n"
+refusal_text Recorded = codes "refused recorded\n"
+refusal_text Unrecorded = codes "refused unrecorded\n"
 refusal_text Long = codes "refused long\n"
 refusal_text Full = codes "refused full\n"
 refusal_text Memory = codes "refused memory\n"

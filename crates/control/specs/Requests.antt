@@ -3,7 +3,7 @@ use Rattle.std.specs.Prelude.{ℕ, ◌^◌, Bool, true, false, List, [], ◌∷�
 use Rattle.std.specs.Str.{bytes_eq}
 use Rattle.request_text.specs.Words.{number_under, words_in}
 use Rattle.control.specs.declared.request.Request.{Request}
-use Rattle.control.specs.declared.request.Request.TheVariants.{Select, Present, Legs, Counts, Metrics, Strangers, Show, Stop}
+use Rattle.control.specs.declared.request.Request.TheVariants.{Select, Present, Legs, Counts, Metrics, Strangers, Record, EndRecord, Show, Stop}
 
 -- ---- the words after the first
 
@@ -22,6 +22,12 @@ abbrev pub show_asked : List (List ℕ) → Option Request
 show_asked (publisher ∷ []) = option_map Show (number_under (2 ^ 16) publisher)
 show_asked words = None
 
+-- nothing, or the end
+abbrev pub record_asked : List (List ℕ) → Option Request
+record_asked [] = Some Record
+record_asked (off ∷ []) = if bytes_eq off (codes "off") then Some EndRecord else None
+record_asked words = None
+
 -- nothing
 abbrev pub alone_words : Request → List (List ℕ) → Option Request
 alone_words request [] = Some request
@@ -38,6 +44,7 @@ request_words (first ∷ others) =
     else if bytes_eq first (codes "counts") then alone_words Counts others
     else if bytes_eq first (codes "metrics") then alone_words Metrics others
     else if bytes_eq first (codes "strangers") then alone_words Strangers others
+    else if bytes_eq first (codes "record") then record_asked others
     else if bytes_eq first (codes "show") then show_asked others
     else if bytes_eq first (codes "stop") then alone_words Stop others
     else None

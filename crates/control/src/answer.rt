@@ -18,6 +18,10 @@ pub enum Refused {
     Leg,
     /// No endpoint has this number.
     Publisher,
+    /// The unit is being recorded already.
+    Recorded,
+    /// The unit isn't being recorded.
+    Unrecorded,
     /// A line has too many bytes; the peer is let go.
     Long,
     /// There are as many peers as there may be; this one is let go.
@@ -34,6 +38,8 @@ pub fn refused_text(refused: Refused) -> &'static str
         Refused::Unknown => "refused unknown\n",
         Refused::Leg => "refused leg\n",
         Refused::Publisher => "refused publisher\n",
+        Refused::Recorded => "refused recorded\n",
+        Refused::Unrecorded => "refused unrecorded\n",
         Refused::Long => "refused long\n",
         Refused::Full => "refused full\n",
         Refused::Memory => "refused memory\n",

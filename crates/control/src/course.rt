@@ -24,11 +24,15 @@ pub enum Course {
     Metrics,
     /// Who came last of those who are nobody is asked for.
     Strangers,
+    /// A record begins, for who asked.
+    Record,
+    /// The record ends.
+    EndRecord,
 }
 
-/// What the request leads to in a room with so many legs and endpoints.
-pub fn course_for(request: Request, legs: u16, endpoints: u16) -> Course
-    ensures { result ≡ course_for request legs endpoints }
+/// What the request leads to in a room with so many legs and endpoints, which is being recorded or not.
+pub fn course_for(request: Request, legs: u16, endpoints: u16, is_recorded: bool) -> Course
+    ensures { result ≡ course_for request legs endpoints is_recorded }
 {
     match request {
         Request::Select { leg, on } => {
@@ -43,6 +47,20 @@ pub fn course_for(request: Request, legs: u16, endpoints: u16) -> Course
         Request::Counts => Course::Counts,
         Request::Metrics => Course::Metrics,
         Request::Strangers => Course::Strangers,
+        Request::Record => {
+            if is_recorded {
+                Course::Refuse(Refused::Recorded)
+            } else {
+                Course::Record
+            }
+        }
+        Request::EndRecord => {
+            if is_recorded {
+                Course::EndRecord
+            } else {
+                Course::Refuse(Refused::Unrecorded)
+            }
+        }
         Request::Show(publisher) => {
             if publisher < endpoints {
                 Course::Look(Look::Desk(publisher))

@@ -225,6 +225,15 @@ impl<S: Read + Write + Drop> Peers<S> {
         }
     }
 
+    /// Takes away who asked last: it is no peer any more, and what it said after its request is passed over.
+    pub fn take_last(&mut self) -> Option<S>
+        ensures { MatchOption result ((self.new ≡ self.old) × (self.old ≡ 0))
+            (λ _. self.new + 1 ≡ self.old) }
+    {
+        let Peer { stream, .. } = self.peers.pop()?;
+        Some(stream)
+    }
+
     /// The peer that is looked at next.
     fn take_first(&mut self) -> Option<Peer<S>>
         ensures { MatchOption result (self.new ≡ self.old) (λ _. self.new + 1 ≡ self.old) }

@@ -1,7 +1,7 @@
 //! What a peer asks for.
 
 ghost use Rattle.std.specs.Prelude.{◌≡◌, ◌^◌, IfOk, map};
-ghost use Rattle.control.specs.Requests.{alone_words, request_in, request_words, select_asked, show_asked, switched};
+ghost use Rattle.control.specs.Requests.{alone_words, record_asked, request_in, request_words, select_asked, show_asked, switched};
 
 use request_text::{is_word, number_u16, words_of};
 use std::alloc::{AllocError, Global};
@@ -21,6 +21,10 @@ pub enum Request {
     Metrics,
     /// `strangers`: who came last of those who are nobody.
     Strangers,
+    /// `record`: what the unit takes in from now on is written to who asks.
+    Record,
+    /// `record off`: that ends, and so does a record in a file.
+    EndRecord,
     /// `show P`: what is announced to this publisher, with its certificate.
     Show(u16),
     /// `stop`: the unit ends.
@@ -54,6 +58,8 @@ fn request_of(words: &[&[u8]]) -> Option<Request>
         alone(others, Request::Metrics)
     } else if is_word(first, b"strangers") {
         alone(others, Request::Strangers)
+    } else if is_word(first, b"record") {
+        recorded(others)
     } else if is_word(first, b"show") {
         shown(others)
     } else if is_word(first, b"stop") {
@@ -72,6 +78,17 @@ fn selected(words: &[&[u8]]) -> Option<Request>
             leg: number_u16(leg)?,
             on: switch(on)?,
         }),
+        _ => None,
+    }
+}
+
+/// Nothing, or `off`.
+fn recorded(words: &[&[u8]]) -> Option<Request>
+    ensures { result ≡ record_asked (map (λ x. x.now) words.now) }
+{
+    match words {
+        [] => Some(Request::Record),
+        [off] if is_word(off, b"off") => Some(Request::EndRecord),
         _ => None,
     }
 }

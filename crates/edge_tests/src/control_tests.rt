@@ -21,6 +21,9 @@ fn reads_requests(rt: HostRuntime) -> Result<(), Fail> {
         (b"counts", Some(Request::Counts)),
         (b"metrics", Some(Request::Metrics)),
         (b"strangers", Some(Request::Strangers)),
+        (b"record", Some(Request::Record)),
+        (b"record off", Some(Request::EndRecord)),
+        (b"record on", None),
         (b"show 65535", Some(Request::Show(65_535))),
         (b"stop", Some(Request::Stop)),
         (b"show 65536", None),
@@ -114,28 +117,46 @@ const fn select_on(leg: u16) -> Request {
 #[test]
 fn leads_requests(rt: HostRuntime) -> Result<(), Fail> {
     assert_eq!(rt;
-        course_for(select_on(1), 2, 3),
+        course_for(select_on(1), 2, 3, false),
         Course::Do(Received::Select { leg: 1, on: true })
     );
     assert_eq!(rt;
-        course_for(select_on(2), 2, 3),
+        course_for(select_on(2), 2, 3, false),
         Course::Refuse(Refused::Leg)
     );
     assert_eq!(rt;
-        course_for(Request::Show(2), 2, 3),
+        course_for(Request::Show(2), 2, 3, false),
         Course::Look(Look::Desk(2))
     );
     assert_eq!(rt;
-        course_for(Request::Show(3), 2, 3),
+        course_for(Request::Show(3), 2, 3, false),
         Course::Refuse(Refused::Publisher)
     );
-    assert_eq!(rt; course_for(Request::Stop, 2, 3), Course::Do(Received::Stop));
-    assert_eq!(rt; course_for(Request::Counts, 2, 3), Course::Counts);
-    assert_eq!(rt; course_for(Request::Legs, 2, 3), Course::Legs);
-    assert_eq!(rt; course_for(Request::Metrics, 2, 3), Course::Metrics);
-    assert_eq!(rt; course_for(Request::Strangers, 2, 3), Course::Strangers);
     assert_eq!(rt;
-        course_for(Request::Present, 2, 3),
+        course_for(Request::Stop, 2, 3, false),
+        Course::Do(Received::Stop)
+    );
+    assert_eq!(rt; course_for(Request::Counts, 2, 3, false), Course::Counts);
+    assert_eq!(rt; course_for(Request::Legs, 2, 3, false), Course::Legs);
+    assert_eq!(rt; course_for(Request::Metrics, 2, 3, false), Course::Metrics);
+    assert_eq!(rt;
+        course_for(Request::Strangers, 2, 3, false),
+        Course::Strangers
+    );
+    for (request, is_recorded, wanted) in [
+        (Request::Record, false, Course::Record),
+        (Request::Record, true, Course::Refuse(Refused::Recorded)),
+        (Request::EndRecord, true, Course::EndRecord),
+        (
+            Request::EndRecord,
+            false,
+            Course::Refuse(Refused::Unrecorded),
+        ),
+    ] {
+        assert_eq!(rt; course_for(request, 2, 3, is_recorded), wanted);
+    }
+    assert_eq!(rt;
+        course_for(Request::Present, 2, 3, false),
         Course::Look(Look::Presence)
     );
     Ok(())
@@ -241,5 +262,25 @@ fn looks_at_peers_in_turn(rt: HostRuntime) -> Result<(), Fail> {
     assert_eq!(rt; peers.count(), 6);
     assert_eq!(rt; peers.next_request(10_001), None);
     assert_eq!(rt; peers.count(), 0);
+    Ok(())
+}
+
+/// Who asked last is handed over, and no other.
+#[test]
+fn hands_over_who_asked_last(rt: HostRuntime) -> Result<(), Fail> {
+    let mut peers = Peers::new(rt.alloc());
+    for (bytes, takes) in [(b"present\n".as_slice(), 100), (b"record\n".as_slice(), 77)] {
+        peers.admit(Line { bytes, takes }, 0);
+    }
+    let mut last = None;
+    for _look in 0..8 {
+        if last != Some(Request::Record) {
+            last = peers.next_request(1).or(last);
+        }
+    }
+    assert_eq!(rt; last, Some(Request::Record));
+    let handed_over = peers.take_last().ok_or("nobody asked")?;
+    assert_eq!(rt; handed_over.takes, 77);
+    assert_eq!(rt; peers.count(), 1);
     Ok(())
 }

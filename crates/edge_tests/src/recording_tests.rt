@@ -1,7 +1,8 @@
 //! Lines of each kind, and a record that comes to its end.
 
 use recording::{
-    End, Header, Tape, end_name, header_text, heard_lines, made_lines, selected_lines, ticked_lines,
+    End, Header, Tape, begun_line, end_name, header_text, heard_lines, made_lines, selected_lines,
+    ticked_lines,
 };
 use std::test::Fail;
 
@@ -34,14 +35,17 @@ fn puts_what_was_heard(rt: HostRuntime) -> Result<(), Fail> {
     tape.put_heard(12, 3, b"\x80\x60\x09\xaf");
     tape.put_heard(12, 3, b"");
     assert_eq!(rt;
-        tape.take().as_slice(),
+        tape.take(Vec::new(rt.alloc())).as_slice(),
         b"hear 12 3 806009af\nfollow\n".as_slice()
     );
+    // What is put next may wait where something else was, which goes.
+    let spare = b"something else".as_slice().to_vec(rt.alloc())?;
     tape.put_heard(13, 0, b"\xff");
     assert_eq!(rt;
-        tape.take().as_slice(),
+        tape.take(spare).as_slice(),
         b"hear 13 0 ff\nfollow\n".as_slice()
     );
+    assert_eq!(rt; tape.waiting(), 0);
     assert_eq!(rt; tape.written(), 46);
     tape.put_heard(13, 0, b"\x01");
     assert_eq!(rt; tape.why_ended(), Some(End::Limit));
@@ -61,6 +65,11 @@ fn head_of_a_record(rt: HostRuntime) -> Result<(), Fail> {
         text.as_str(),
         "# sfu 1.2.3\n# settings 01ab\n# moment 0 unix_ms 1795654321123\n"
     );
+    let begun = begun_line(rt.alloc(), 61000).expect(&rt, "memory");
+    assert_eq!(rt;
+        begun.as_str(),
+        "# begins in the middle of a run, at moment 61000\n"
+    );
     Ok(())
 }
 
@@ -70,7 +79,10 @@ fn tape_ends_at_its_limit(rt: HostRuntime) -> Result<(), Fail> {
     let mut tape = Tape::new(rt.alloc(), 10);
     tape.put("tick 1\n");
     assert_eq!(rt; tape.waiting(), 7);
-    assert_eq!(rt; tape.take().as_slice(), b"tick 1\n".as_slice());
+    assert_eq!(rt;
+        tape.take(Vec::new(rt.alloc())).as_slice(),
+        b"tick 1\n".as_slice()
+    );
     assert_eq!(rt; tape.waiting(), 0);
     tape.put("abc");
     assert_eq!(rt; tape.why_ended(), None);
@@ -79,9 +91,13 @@ fn tape_ends_at_its_limit(rt: HostRuntime) -> Result<(), Fail> {
     tape.put("");
     tape.end(End::Slow);
     assert_eq!(rt; tape.why_ended(), Some(End::Limit));
-    assert_eq!(rt; tape.take().as_slice(), b"abc".as_slice());
+    assert_eq!(rt;
+        tape.take(Vec::new(rt.alloc())).as_slice(),
+        b"abc".as_slice()
+    );
     assert_eq!(rt; tape.written(), 10);
     let names = [
+        (End::Off, "off"),
         (End::Limit, "limit"),
         (End::Failed, "failed"),
         (End::Slow, "slow"),

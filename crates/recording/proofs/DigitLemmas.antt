@@ -1,6 +1,18 @@
--- The digit of a small number.
-use Rattle.std.proofs.Common.{◌≡◌, ℕ, zero, suc, ◌+◌, ◌<◌, ◌≤◌, ◌-◌, slice_index, refl, subst, arith}
-use Rattle.hex.specs.Hex.{lower_digits}
+-- The digit of a small number, and how many digits there are.
+use Rattle.std.proofs.Common.{◌≡◌, ℕ, zero, suc, ◌+◌, ◌*◌, ◌<◌, ◌≤◌, ◌-◌, ◌++◌, ◌∙◌, List, length, slice_index, refl, ap, subst, arith}
+use Rattle.std.proofs.lemmas.List.{length-append}
+use Rattle.hex.specs.Hex.{encode_lower, lower_digits}
+use Rattle.hex.proofs.HexLemmas.{length-encode_with}
+use Rattle.recording.specs.Lines.{follow_line}
+
+-- what a datagram's line and the next one have, by what stands before its digits
+pub line_length : (head bytes : List ℕ)
+    → length (head ++ (encode_lower bytes ++ follow_line)) ≡ length head + 2 * length bytes + 8
+line_length head bytes =
+    let digits = length-encode_with lower_digits bytes in
+    let outer = length-append head (encode_lower bytes ++ follow_line) in
+    let inner = length-append (encode_lower bytes) follow_line in
+    omega (arith, digits, outer, inner)
 
 pub below_ten : (n : ℕ) → n ≤ 9 → n + 48 + 0 ≡ slice_index lower_digits n
 below_ten zero h = refl

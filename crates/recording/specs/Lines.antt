@@ -38,6 +38,10 @@ heard_head moment endpoint =
 abbrev pub made_mark : List ℕ
 made_mark = codes "# made in its name\n"
 
+-- the comment after the head of a record that begins in the middle of a run
+abbrev pub begun_line : ℕ → List ℕ
+begun_line moment = codes "# begins in the middle of a run, at moment " ++ (decimal moment ++ codes "\n")
+
 -- the version of the program, and the digest of its settings
 abbrev pub program_part : List ℕ → List ℕ → List ℕ
 program_part version settings =

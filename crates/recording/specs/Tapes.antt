@@ -1,7 +1,7 @@
 -- What is written of a record, and when it ends.
 use Rattle.std.specs.Prelude.{◌≡◌, ◌<◌, ◌≤◌, ◌⊎◌, ◌++◌, ◌+◌, ℕ, List, [], length, Option, None, Some, codes}
 use Rattle.recording.specs.declared.tape.End.{End}
-use Rattle.recording.specs.declared.tape.End.TheVariants.{Limit, Failed, Slow, Memory}
+use Rattle.recording.specs.declared.tape.End.TheVariants.{Off, Limit, Failed, Slow, Memory}
 
 -- what waits for its file, how many bytes were put, how many may be, and why the record has ended, if it has
 pub record TapeState : Type 0 where
@@ -46,6 +46,7 @@ abbrev pub IsMadeAndPut : TapeState → List ℕ → TapeState → Type 0
 IsMadeAndPut old lines new = IsPut old lines new ⊎ (new ≡ ended Memory old)
 
 abbrev pub end_name : End → List ℕ
+end_name Off = codes "off"
 end_name Limit = codes "limit"
 end_name Failed = codes "failed"
 end_name Slow = codes "slow"

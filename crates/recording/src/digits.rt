@@ -1,21 +1,31 @@
 //! Bytes as hexadecimal digits, each found by arithmetic: a look-up in a table of digits, as `hex::encode` makes it, costs some five times
 //! as much, and a unit that is recorded makes two for each byte that it takes in.
 
-ghost use Rattle.std.specs.Prelude.{◌≡◌, ◌<◌, ◌*◌, IfOk, length, slice_index};
+ghost use Rattle.std.specs.Prelude.{◌≡◌, ◌<◌, ◌*◌, ◌+◌, ◌++◌, IfSome, OnOk, OnErr, length, slice_index};
 ghost use Rattle.hex.specs.Hex.{encode_lower, lower_digits};
 
-use std::alloc::{AllocError, Global};
+use std::alloc::AllocError;
 
-/// The digits of the bytes, two of each, the high four bits first. Refused for want of memory alone.
-pub fn digits_of(alloc: Global, bytes: &[u8]) -> Result<Vec<u8>, AllocError>
-    ensures { IfOk result (λ digits. digits.items ≡ encode_lower bytes.now) }
+/// Appends the digits of the bytes, two of each, the high four bits first. For want of memory the list is as it was.
+pub(crate) fn append_digits(list: &mut Vec<u8>, bytes: &[u8]) -> Result<(), AllocError>
+    ensures ok { OnOk result (list.new.items ≡ list.old.items ++ encode_lower bytes.now) }
+    ensures err { OnErr result (list.new.items ≡ list.old.items) }
 {
-    let Some(count) = bytes.len().checked_mul(2) else {
+    let before = list.len();
+    let Some(whole) = size_with_digits(before, bytes) else {
         return Err(AllocError);
     };
-    let mut digits = vec![in alloc; 0u8; count]?;
-    write_digits(bytes, digits.as_mut_slice());
-    Ok(digits)
+    list.resize(whole, 0)?;
+    let (_, digits) = list.as_mut_slice().split_at_mut(before);
+    write_digits(bytes, digits);
+    Ok(())
+}
+
+/// How many bytes there are with the digits of these.
+fn size_with_digits(before: usize, bytes: &[u8]) -> Option<usize>
+    ensures { IfSome result (λ size. size ≡ before + 2 * length bytes.now) }
+{
+    bytes.len().checked_mul(2)?.checked_add(before)
 }
 
 /// Writes the digits of the bytes over a list that has room for these alone.

@@ -10,5 +10,5 @@ mod line;
 mod tape;
 
 pub use header::{Header, header_text};
-pub use line::{heard_lines, made_lines, selected_lines, ticked_lines};
+pub use line::{begun_line, heard_lines, made_lines, selected_lines, ticked_lines};
 pub use tape::{End, Tape, end_name};

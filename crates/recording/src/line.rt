@@ -3,7 +3,7 @@
 ghost use Rattle.std.specs.Prelude.{◌≡◌, ◌++◌, IfOk};
 ghost use Rattle.std.specs.String.{string_bytes};
 ghost use Rattle.events.specs.declared.event.Event.TheVariants.{Hear, Tick, Select};
-ghost use Rattle.recording.specs.Lines.{event_lines, heard_head, made_mark, switch_word};
+ghost use Rattle.recording.specs.Lines.{begun_line, event_lines, heard_head, made_mark, switch_word};
 
 use std::alloc::{AllocError, Global};
 
@@ -45,6 +45,14 @@ pub fn made_lines(
 {
     let heard = heard_lines(alloc, moment, endpoint, bytes)?;
     format!(in alloc; "# made in its name\n{heard}")
+}
+
+/// The comment after the head of a record that begins at this moment in milliseconds, in the middle of a run. Refused for want of memory
+/// alone.
+pub fn begun_line(alloc: Global, moment: u64) -> Result<String, AllocError>
+    ensures { IfOk result (λ text. string_bytes text ≡ begun_line moment) }
+{
+    format!(in alloc; "# begins in the middle of a run, at moment {moment}\n")
 }
 
 /// The lines of a tick at this moment in milliseconds. Refused for want of memory alone.

@@ -2,10 +2,11 @@
 
 ghost use Rattle.std.specs.Prelude.{◌≡◌, ◌<◌, ◌≤◌, ◌+◌, ◌++◌, length, take, MatchOption, OnOk, OnErr};
 ghost use Rattle.events.specs.declared.event.Event.TheVariants.{Hear};
+ghost use Rattle.hex.specs.Hex.{encode_lower};
 ghost use Rattle.recording.specs.Lines.{event_lines, follow_line};
 ghost use Rattle.recording.specs.Tapes.{IsMadeAndPut, IsPut, end_name, ended, new_tape, taken};
 
-use crate::digits::digits_of;
+use crate::digits::append_digits;
 use crate::line::heard_head;
 use std::alloc::{AllocError, Global};
 use std::marker::Model;
@@ -13,6 +14,8 @@ use std::marker::Model;
 /// Why a record ends before its unit.
 #[derive(Clone, Copy, Debug, PartialEq, Eq)]
 pub enum End {
+    /// Somebody has it ended.
+    Off,
     /// It would have more bytes than it may.
     Limit,
     /// The file can't be written.
@@ -85,21 +88,18 @@ impl Tape {
         let Ok(head) = heard_head(self.alloc, moment, endpoint) else {
             return self.end(End::Memory);
         };
-        match digits_of(self.alloc, bytes) {
-            Ok(digits) => self.put_line(head.as_str(), digits.as_slice()),
-            Err(_) => self.end(End::Memory),
-        }
+        self.put_line(head.as_str(), bytes);
     }
 
-    /// Puts a line of this beginning and these digits, and the line for what follows.
-    fn put_line(&mut self, head: &str, digits: &[u8])
-        ensures { IsPut self.old (head.now ++ (digits.now ++ follow_line)) self.new }
+    /// Puts a line of this beginning and the digits of these bytes, and the line for what follows.
+    fn put_line(&mut self, head: &str, bytes: &[u8])
+        ensures { IsPut self.old (head.now ++ (encode_lower bytes.now ++ follow_line)) self.new }
     {
         if self.end.is_some() {
             return;
         }
-        match size_with_line(self.written, head, digits, self.limit) {
-            Some(written) => match append_line(&mut self.waiting, head, digits) {
+        match size_with_line(self.written, head, bytes, self.limit) {
+            Some(written) => match append_line(&mut self.waiting, head, bytes) {
                 Ok(()) => self.written = written,
                 Err(_) => self.end = Some(End::Memory),
             },
@@ -107,12 +107,14 @@ impl Tape {
         }
     }
 
-    /// Takes out what waits.
-    pub fn take(&mut self) -> Vec<u8>
+    /// Takes out what waits. What is put next waits in the memory of the other list, whose bytes go.
+    pub fn take(&mut self, other: Vec<u8>) -> Vec<u8>
         ensures all { result.items ≡ self.old.waits }
         ensures none { self.new ≡ taken self.old }
     {
-        std::mem::replace(&mut self.waiting, Vec::new(self.alloc))
+        let mut next = other;
+        next.clear();
+        std::mem::replace(&mut self.waiting, next)
     }
 
     /// Ends the record, unless it has ended.
@@ -154,27 +156,29 @@ fn size_with(written: u64, bytes: &[u8], limit: u64) -> Option<u64>
 }
 
 /// How many bytes there are with a line, if no more than may be.
-fn size_with_line(written: u64, head: &str, digits: &[u8], limit: u64) -> Option<u64>
+#[tactic(auto, using(crate::proofs::DigitLemmas::line_length))]
+fn size_with_line(written: u64, head: &str, bytes: &[u8], limit: u64) -> Option<u64>
     ensures { MatchOption result
-        (limit < written + length (head.now ++ (digits.now ++ follow_line)))
-        (λ size. (size ≡ written + length (head.now ++ (digits.now ++ follow_line)))
+        (limit < written + length (head.now ++ (encode_lower bytes.now ++ follow_line)))
+        (λ size. (size ≡ written + length (head.now ++ (encode_lower bytes.now ++ follow_line)))
         × (size ≤ limit)) }
 {
+    let digits = (bytes.len() as u64).checked_mul(2)?;
     let whole = written
         .checked_add(head.len() as u64)?
-        .checked_add(digits.len() as u64)?
+        .checked_add(digits)?
         .checked_add(8)?;
     if whole <= limit { Some(whole) } else { None }
 }
 
-/// Appends a line of this beginning and these digits, and the line for what follows. For want of memory the list is as it was.
-fn append_line(list: &mut Vec<u8>, head: &str, digits: &[u8]) -> Result<(), AllocError>
+/// Appends a line of this beginning and the digits of these bytes, and the line for what follows. For want of memory the list is as it was.
+fn append_line(list: &mut Vec<u8>, head: &str, bytes: &[u8]) -> Result<(), AllocError>
     ensures ok { OnOk result (list.new.items
-        ≡ list.old.items ++ (head.now ++ (digits.now ++ follow_line))) }
+        ≡ list.old.items ++ (head.now ++ (encode_lower bytes.now ++ follow_line))) }
     ensures err { OnErr result (list.new.items ≡ list.old.items) }
 {
     let before = list.len();
-    let appended = append_parts(list, head, digits);
+    let appended = append_parts(list, head, bytes);
     if appended.is_err() {
         list.truncate(before);
     }
@@ -182,13 +186,13 @@ fn append_line(list: &mut Vec<u8>, head: &str, digits: &[u8]) -> Result<(), Allo
 }
 
 /// The same, but for want of memory something may stand behind what was there.
-fn append_parts(list: &mut Vec<u8>, head: &str, digits: &[u8]) -> Result<(), AllocError>
+fn append_parts(list: &mut Vec<u8>, head: &str, bytes: &[u8]) -> Result<(), AllocError>
     ensures ok { OnOk result (list.new.items
-        ≡ list.old.items ++ (head.now ++ (digits.now ++ follow_line))) }
+        ≡ list.old.items ++ (head.now ++ (encode_lower bytes.now ++ follow_line))) }
     ensures err { OnErr result (take (length list.old.items) list.new.items ≡ list.old.items) }
 {
     list.extend_from_slice(head.as_bytes())?;
-    list.extend_from_slice(digits)?;
+    append_digits(list, bytes)?;
     list.extend_from_slice("\nfollow\n".as_bytes())
 }
 
@@ -197,6 +201,7 @@ pub fn end_name(end: End) -> &'static str
     ensures { result.now ≡ end_name end }
 {
     match end {
+        End::Off => "off",
         End::Limit => "limit",
         End::Failed => "failed",
         End::Slow => "slow",

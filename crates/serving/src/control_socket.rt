@@ -2,6 +2,7 @@
 
 use crate::clients::Location;
 use crate::gauges::Gauges;
+use crate::record_file::{RecordFault, idle_record};
 use crate::served_file::ServedSettings;
 use crate::steering::{Listed, Steering};
 use settings::Settings;
@@ -12,6 +13,8 @@ use std::net::{IpAddr, Ipv4Addr, Ipv6Addr, Net, SocketAddr};
 use std::os::unix::fs::{FileTypeExt, PermissionsExt};
 use std::os::unix::net::{UnixListener, UnixStream};
 use std::rt::Files;
+use std::thread::Threads;
+use std::time;
 use traffic::LegLine;
 
 /// Only its owner may connect to the socket.
@@ -27,11 +30,22 @@ pub enum ControlFault {
     NoMemory,
 }
 
-/// Listens at the path, for a unit of these settings. A socket file that a dead unit left is replaced.
-pub fn open_control<R: AllocGlobal + Files + Net>(
+impl From<RecordFault> for ControlFault {
+    fn from(fault: RecordFault) -> ControlFault {
+        match fault {
+            RecordFault::NoMemory => ControlFault::NoMemory,
+            RecordFault::Exists | RecordFault::Failed => ControlFault::Failed,
+        }
+    }
+}
+
+/// Listens at the path, for a unit of these settings, which come from a file with this SHA-256. A socket file that a dead unit left is
+/// replaced.
+pub fn open_control<R: AllocGlobal + Files + Net + Threads + time::Clock>(
     rt: &R,
     path: &str,
     file: &ServedSettings,
+    digest: &[u8],
 ) -> Result<Gauges, ControlFault> {
     let Ok(endpoints) = listed(rt.alloc(), file) else {
         return Err(ControlFault::NoMemory);
@@ -40,7 +54,11 @@ pub fn open_control<R: AllocGlobal + Files + Net>(
     let Ok(legs) = legs_of(rt.alloc(), &file.settings) else {
         return Err(ControlFault::NoMemory);
     };
-    Ok(Gauges::steered(Steering::new(rt.alloc(), listener, legs, endpoints)))
+    let recorder = idle_record(rt, digest)?;
+    match Steering::new(rt.alloc(), listener, legs, endpoints) {
+        Ok(steering) => Ok(Gauges::steered(steering, recorder)),
+        Err(_) => Err(ControlFault::NoMemory),
+    }
 }
 
 /// Takes the socket's file away, once the unit has ended.

@@ -1,7 +1,7 @@
 //! What a run shows while it goes on, who steers it, and who records it.
 
 use crate::recorder::Recorder;
-use crate::steering::Steering;
+use crate::steering::{Steering, Wish};
 use control::Unheard;
 use outside::{Look, Received, Status};
 use recording::End;
@@ -10,6 +10,7 @@ use std::cell::{Cell, RefCell, RefMut};
 use std::net::SocketAddr;
 use std::sync::Arc;
 use std::sync::atomic::{AtomicU64, Ordering};
+use std::thread::Threads;
 
 /// What a source and a clock show of a run while it goes on.
 #[derive(Drop)]
@@ -44,11 +45,11 @@ impl Gauges {
         }
     }
 
-    /// Those of a run that begins, and is steered.
-    pub fn steered(steering: Steering) -> Gauges {
+    /// Those of a run that begins, and is steered; it is recorded once a peer wants it.
+    pub(crate) fn steered(steering: Steering, recorder: Recorder) -> Gauges {
         let mut gauges = Gauges::new();
         gauges.steering = Some(RefCell::new(steering));
-        gauges
+        gauges.recorded(recorder)
     }
 
     /// The same, of a run that is recorded.
@@ -66,19 +67,25 @@ impl Gauges {
         recorder.try_borrow_mut().ok()
     }
 
-    /// How many bytes were recorded of the run, and why the record ended, if it did.
+    /// How many bytes were recorded of the run, and why the record ended, if it did; `None` if nobody wanted one.
     pub(crate) fn record_state(&self) -> Option<(u64, Option<End>)> {
-        match self.recorder() {
-            Some(recorder) => Some(recorder.state()),
-            None => None,
-        }
+        let recorder = self.recorder()?;
+        recorder.state()
     }
 
     /// The run has ended, and so has its record.
-    pub(crate) fn finish(self) {
+    pub(crate) fn finish<R: Threads>(self, rt: &R) {
         let Gauges { recorder, .. } = self;
         if let Some(recorder) = recorder {
-            recorder.into_inner().finish();
+            recorder.into_inner().finish(rt);
+        }
+    }
+
+    /// Whether the run is being recorded.
+    fn is_recorded(&self) -> bool {
+        match self.recorder() {
+            Some(recorder) => recorder.is_on(),
+            None => false,
         }
     }
 
@@ -97,12 +104,26 @@ impl Gauges {
         }
     }
 
-    /// What peers want by now.
+    /// What peers want of the unit by now. What they want of its record is done here.
     pub(crate) fn wished(&self) -> Received {
-        match self.steering() {
-            Some(mut steering) => steering.receive(self.moment_ms.get()),
-            None => Received::Nothing,
+        let (moment, is_recorded) = (self.moment_ms.get(), self.is_recorded());
+        let Some(mut steering) = self.steering() else {
+            return Received::Nothing;
+        };
+        match steering.receive(moment, is_recorded) {
+            Wish::Unit(received) => return received,
+            Wish::Record(peer) => {
+                if let Some(mut recorder) = self.recorder() {
+                    recorder.begin_for(peer, moment, steering.switched().as_slice());
+                }
+            }
+            Wish::EndRecord => {
+                if let Some(mut recorder) = self.recorder() {
+                    recorder.end();
+                }
+            }
         }
+        Received::Nothing
     }
 
     /// Whether somebody waits for the totals.

@@ -5,8 +5,8 @@
 //! `report_text` and `status_lines` are what is printed of a run, and while it goes on (`gauges`); `drops` reads what the system
 //! dropped. `control_socket` is where a unit is
 //! steered, `steering` who does that, `steered` how what they want comes to the unit. `recorder` writes down what the unit takes in,
-//! `recorded` how that comes to it, and `record_file` is the file. `courier` is a thread that writes what nobody waits for: that file, and
-//! the lines of counts (`lines`).
+//! `recorded` how that comes to it, and `record_file` is where it goes, a file or a peer. `courier` is a thread that writes what nobody
+//! waits for: a record, and the lines of counts (`lines`).
 #![tactic(auto)]
 
 mod arrivals;
@@ -34,8 +34,8 @@ pub use clients::{AddressKey, Addresses, Client, ClientFault, Listening, Locatio
 pub use control_socket::{ControlFault, close_control, open_control};
 pub use gauges::Gauges;
 pub use lines::ErrorOutput;
-pub use record_file::{RecordFault, Scribe, close_record, open_record};
-pub use recorder::Recorder;
+pub use record_file::{RecordFault, close_record, open_record};
+pub use recorder::{RECORD_LIMIT, Recorder};
 pub use screening::Rules;
 pub use serve::{Term, run_on, serve_file, serve_socket, serve_watched};
 pub use serve_fault::ServeFault;

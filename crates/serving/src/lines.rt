@@ -32,18 +32,19 @@ impl ErrorOutput for HostRuntime {
     }
 }
 
-/// Lines that are written on the error output by a thread of its own. A line that it has no room for is refused as `WouldBlock`.
+/// Lines that are written on the error output by a thread of its own. A line that it has no room for is refused as `WouldBlock`, and each
+/// one as `BrokenPipe` after one couldn't be written.
 #[derive(Drop)]
-pub(crate) struct Lines {
+pub(crate) struct Lines<W: Drop> {
     alloc: Global,
-    outlet: Outlet,
+    outlet: Outlet<W>,
 }
 
-impl Lines {
+impl<W: Write + Send + Drop + 'static> Lines<W> {
     /// Starts the thread.
-    pub(crate) fn new<R: AllocGlobal + ErrorOutput + Net + Threads>(
+    pub(crate) fn new<R: AllocGlobal + ErrorOutput<Output = W> + Net + Threads>(
         rt: &R,
-    ) -> Result<Lines, ServeFault> {
+    ) -> Result<Lines<W>, ServeFault> {
         match start_courier(rt, LINES, rt.error_output()) {
             Ok((outlet, _thread)) => Ok(Lines {
                 alloc: rt.alloc(),
@@ -67,11 +68,13 @@ impl Lines {
     }
 }
 
-impl Write for Lines {
+impl<W: Drop> Write for Lines<W> {
     fn write(&mut self, buf: &[u8]) -> io::Result<usize> {
         let mut line = Vec::new(self.alloc);
         line.extend_from_slice(buf)?;
-        if self.outlet.hand_on(line) {
+        if self.outlet.has_failed() {
+            Err(io::Error::from(ErrorKind::BrokenPipe))
+        } else if self.outlet.hand_on(line) {
             Ok(buf.len())
         } else {
             Err(io::Error::from(ErrorKind::WouldBlock))

@@ -1,4 +1,4 @@
-//! The file of a record, which a thread of its own writes.
+//! Where a record goes: to a file, or to who asked for it. A thread of its own writes it.
 
 use crate::courier::{CourierFault, start_courier};
 use crate::gauges::Gauges;
@@ -6,11 +6,12 @@ use crate::recorder::Recorder;
 use crate::serve::TICK_MS;
 use recording::{Header, header_text};
 use std::fs::{File, OpenOptions};
-use std::io::ErrorKind;
+use std::io::{self, ErrorKind, Write};
 use std::net::Net;
 use std::os::unix::fs::OpenOptionsExt;
+use std::os::unix::net::UnixStream;
 use std::rt::Files;
-use std::thread::{JoinHandle, Threads};
+use std::thread::Threads;
 use std::time::{self, SystemTime};
 
 /// Only its owner may read the file.
@@ -32,10 +33,32 @@ pub enum RecordFault {
     NoMemory,
 }
 
-/// The thread that writes a record's file.
+/// Where a record is written.
 #[derive(Drop)]
-pub struct Scribe {
-    thread: JoinHandle<()>,
+pub(crate) enum Scroll {
+    /// Nobody wants one.
+    Nobody,
+    File(File),
+    /// Who asked for it by the control.
+    Peer(UnixStream),
+}
+
+impl Write for Scroll {
+    fn write(&mut self, buf: &[u8]) -> io::Result<usize> {
+        match self {
+            Scroll::Nobody => Ok(buf.len()),
+            Scroll::File(file) => file.write(buf),
+            Scroll::Peer(stream) => stream.write(buf),
+        }
+    }
+
+    fn flush(&mut self) -> io::Result<()> {
+        match self {
+            Scroll::Nobody => Ok(()),
+            Scroll::File(file) => file.flush(),
+            Scroll::Peer(stream) => stream.flush(),
+        }
+    }
 }
 
 /// Makes a file at the path, which isn't there yet, and records there what a unit takes in, at most so many bytes. The settings that the
@@ -45,34 +68,50 @@ pub fn open_record<R: AllocGlobal + Files<File = File> + Net + Threads + time::C
     path: &str,
     limit: u64,
     settings: &[u8],
-) -> Result<(Recorder, Scribe), RecordFault> {
-    let alloc = rt.alloc();
-    let Ok(head) = header_text(
-        alloc,
-        &Header {
-            version: VERSION,
-            settings,
-            began_ms: unix_ms(rt),
-        },
-    ) else {
-        return Err(RecordFault::NoMemory);
-    };
+) -> Result<Recorder, RecordFault> {
+    let head = head_of(rt, settings)?;
     let file = create(rt, path)?;
-    match start_courier(rt, BLOCKS, file) {
-        Ok((outlet, thread)) => Ok((
-            Recorder::new(alloc, limit, TICK_MS, head.as_str(), outlet),
-            Scribe { thread },
-        )),
-        Err(CourierFault::NoMemory) => Err(RecordFault::NoMemory),
-        Err(CourierFault::System) => Err(RecordFault::Failed),
+    let (outlet, thread) = start_courier(rt, BLOCKS, Scroll::File(file))?;
+    let mut recorder = Recorder::new(rt.alloc(), TICK_MS, head, outlet, thread);
+    recorder.begin(limit);
+    Ok(recorder)
+}
+
+/// Waits until somebody wants what a unit takes in. The settings that the unit has come from a file with this SHA-256.
+pub(crate) fn idle_record<R: AllocGlobal + Net + Threads + time::Clock>(
+    rt: &R,
+    settings: &[u8],
+) -> Result<Recorder, RecordFault> {
+    let head = head_of(rt, settings)?;
+    let (outlet, thread) = start_courier(rt, BLOCKS, Scroll::Nobody)?;
+    Ok(Recorder::new(rt.alloc(), TICK_MS, head, outlet, thread))
+}
+
+impl From<CourierFault> for RecordFault {
+    fn from(fault: CourierFault) -> RecordFault {
+        match fault {
+            CourierFault::NoMemory => RecordFault::NoMemory,
+            CourierFault::System => RecordFault::Failed,
+        }
     }
 }
 
-/// Ends the record of a unit that has ended, once all of it is in the file.
-pub fn close_record<R: Threads>(rt: &R, gauges: Gauges, scribe: Scribe) {
-    gauges.finish();
-    let Scribe { thread } = scribe;
-    thread.join(rt);
+/// The head of a record of a unit that begins now.
+fn head_of<R: AllocGlobal + time::Clock>(rt: &R, settings: &[u8]) -> Result<String, RecordFault> {
+    let header = Header {
+        version: VERSION,
+        settings,
+        began_ms: unix_ms(rt),
+    };
+    match header_text(rt.alloc(), &header) {
+        Ok(head) => Ok(head),
+        Err(_) => Err(RecordFault::NoMemory),
+    }
+}
+
+/// Ends the record of a unit that has ended, once all of it is written.
+pub fn close_record<R: Threads>(rt: &R, gauges: Gauges) {
+    gauges.finish(rt);
 }
 
 /// What the wall clock says, in milliseconds since the beginning of 1970; 0 where it says nothing, or an earlier time.
@@ -86,7 +125,7 @@ fn unix_ms<R: time::Clock>(rt: &R) -> u64 {
     }
 }
 
-/// A new file at the path.
+/// A new file at the path, for its owner alone.
 fn create<R: Files<File = File>>(rt: &R, path: &str) -> Result<File, RecordFault> {
     let opened = OpenOptions::new()
         .write(true)

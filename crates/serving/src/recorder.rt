@@ -1,15 +1,25 @@
-//! Who writes down what a unit takes in: it makes the lines, and hands them on to the thread that writes the file.
+//! Who writes down what a unit takes in: it makes the lines, and hands them on to the thread that writes them.
 
 use crate::courier::Outlet;
+use crate::record_file::Scroll;
 use outside::{ReceiveFault, Received, Ticks};
-use recording::{End, Tape, made_lines, selected_lines, ticked_lines};
+use recording::{End, Tape, begun_line, made_lines, selected_lines, ticked_lines};
 use std::alloc::{AllocError, Global};
+use std::os::unix::net::UnixStream;
+use std::thread::{JoinHandle, Threads};
+use std::time::Duration;
+
+/// How many bytes a record has at most, unless it is said: 1 GiB.
+pub const RECORD_LIMIT: u64 = 1_073_741_824;
 
 /// From so many bytes on what waits is handed on.
 const BLOCK: usize = 65_536;
 
 /// So many milliseconds pass at most until what waits is handed on.
 const FLUSH_MS: u64 = 1000;
+
+/// Who asked for a record may leave it unread for so many seconds; then it ends.
+const PATIENCE_S: u64 = 10;
 
 /// What came in this turn and wasn't written down yet, since its moment isn't told.
 #[derive(Clone, Copy, Debug)]
@@ -26,11 +36,24 @@ enum Came {
     },
 }
 
-/// Writes down what a unit takes in, each event with the moment at which the unit takes it in.
+/// A leg that is sent on or not, unlike at the start of its unit.
+#[derive(Clone, Copy, Debug, PartialEq, Eq)]
+pub(crate) struct Switched {
+    pub(crate) leg: u16,
+    pub(crate) on: bool,
+}
+
+/// Writes down what a unit takes in, each event with the moment at which the unit takes it in, while somebody wants it.
 #[derive(Drop)]
 pub struct Recorder {
     alloc: Global,
+    /// The lines with which each record of this unit begins.
+    head: String,
     tape: Tape,
+    /// Whether somebody wanted a record so far.
+    has_begun: bool,
+    /// Whether what is handed on is written to somewhere.
+    is_open: bool,
     came: Came,
     /// The bytes of a datagram that came.
     bytes: Vec<u8>,
@@ -38,30 +61,82 @@ pub struct Recorder {
     ticks: Ticks,
     /// The moment from which on what waits is handed on.
     due_ms: u64,
-    /// The way to the thread that writes the file: blocks of whole lines.
-    outlet: Outlet,
+    /// The way to the thread that writes: blocks of whole lines.
+    outlet: Outlet<Scroll>,
+    thread: JoinHandle<()>,
 }
 
 impl Recorder {
-    /// Writes a record of at most so many bytes, for a unit that ticks with this step in milliseconds. These lines come first.
+    /// Of a unit that ticks with this step in milliseconds, for which nobody wants a record yet. Each record begins with these lines.
     pub(crate) fn new(
         alloc: Global,
-        limit: u64,
         tick_ms: u64,
-        head: &str,
-        outlet: Outlet,
+        head: String,
+        outlet: Outlet<Scroll>,
+        thread: JoinHandle<()>,
     ) -> Recorder {
-        let mut tape = Tape::new(alloc, limit);
-        tape.put(head);
+        let mut nothing = Tape::new(alloc, 0);
+        nothing.end(End::Off);
         Recorder {
             alloc,
-            tape,
+            head,
+            tape: nothing,
+            has_begun: false,
+            is_open: false,
             came: Came::Nothing,
             bytes: Vec::new(alloc),
             ticks: Ticks::new(tick_ms),
             due_ms: 0,
             outlet,
+            thread,
         }
+    }
+
+    /// A record of at most so many bytes begins.
+    pub(crate) fn begin(&mut self, limit: u64) {
+        self.tape = Tape::new(self.alloc, limit);
+        self.tape.put(self.head.as_str());
+        self.has_begun = true;
+        self.is_open = true;
+    }
+
+    /// A record begins at this moment in the middle of a run, for this peer, with these legs as they are. A peer for whom it can't begin is
+    /// let go.
+    pub(crate) fn begin_for(&mut self, peer: UnixStream, moment: u64, switched: &[Switched]) {
+        let patience = Some(Duration::from_secs(PATIENCE_S));
+        if peer.set_nonblocking(false).is_err()
+            || peer.set_write_timeout(patience).is_err()
+            || !self.outlet.turn_to(Scroll::Peer(peer))
+        {
+            return;
+        }
+        self.hand_on_done();
+        self.begin(RECORD_LIMIT);
+        let line = begun_line(self.alloc, moment);
+        self.put(line);
+        for Switched { leg, on } in switched {
+            let lines = selected_lines(self.alloc, moment, *leg, *on);
+            self.put(lines);
+        }
+        self.came = Came::Nothing;
+    }
+
+    /// Tells the peer that its request is done; what comes after that is its record.
+    fn hand_on_done(&mut self) {
+        let mut block = Vec::new(self.alloc);
+        if block.extend_from_slice(b"ok\n").is_ok() {
+            let _ = self.outlet.hand_on(block);
+        }
+    }
+
+    /// The record ends, since somebody wants it to.
+    pub(crate) fn end(&mut self) {
+        self.tape.end(End::Off);
+    }
+
+    /// Whether a record is being made.
+    pub(crate) fn is_on(&self) -> bool {
+        self.is_open
     }
 
     /// A receive gave this; the bytes of a datagram are the beginning of `out`. The unit made it itself, or not.
@@ -98,18 +173,33 @@ impl Recorder {
 
     /// What came is taken in at this moment, and then a tick is made if one is due.
     pub(crate) fn take_in(&mut self, moment: u64) {
-        if self.tape.why_ended().is_some() {
-            return;
+        // Ticks go on while nobody wants a record: one that begins later has those that the unit makes.
+        let is_tick = self.ticks.take(moment);
+        if self.is_open {
+            self.put_event(moment, is_tick);
         }
+    }
+
+    /// Puts the lines of what came and of a tick, and hands on what waits if it is due.
+    fn put_event(&mut self, moment: u64, is_tick: bool) {
         self.put_came(moment);
-        if self.ticks.take(moment) {
+        if is_tick {
             let lines = ticked_lines(self.alloc, moment);
             self.put(lines);
         }
-        if self.tape.waiting() >= BLOCK || moment >= self.due_ms {
+        if self.tape.why_ended().is_some() {
+            self.close();
+        } else if self.tape.waiting() >= BLOCK || moment >= self.due_ms {
             self.due_ms = moment.saturating_add(FLUSH_MS);
             self.hand_on();
         }
+    }
+
+    /// The record has ended: hands on what waits, and lets go of where it is written. Where the thread has no room to be told so, the
+    /// next turn tries again.
+    fn close(&mut self) {
+        self.hand_on();
+        self.is_open = !self.outlet.turn_to(Scroll::Nobody);
     }
 
     /// Puts the lines of what came.
@@ -143,7 +233,7 @@ impl Recorder {
         }
     }
 
-    /// Hands on what waits. Nobody is waited for: where the ring is full, the disk is too slow, and the record ends.
+    /// Hands on what waits. Nobody is waited for: where the ring is full, who writes is too slow, and the record ends.
     fn hand_on(&mut self) {
         if self.outlet.has_failed() {
             self.tape.end(End::Failed);
@@ -152,20 +242,29 @@ impl Recorder {
         if self.tape.waiting() == 0 {
             return;
         }
-        let block = self.tape.take();
+        let spare = self.outlet.spare().unwrap_or(Vec::new(self.alloc));
+        let block = self.tape.take(spare);
         if !self.outlet.hand_on(block) {
             self.tape.end(End::Slow);
         }
     }
 
-    /// How many bytes were written down, and why the record ended, if it did.
-    pub(crate) fn state(&self) -> (u64, Option<End>) {
-        (self.tape.written(), self.tape.why_ended())
+    /// How many bytes were written down, and why the record ended, if it did; `None` if nobody wanted one so far.
+    pub(crate) fn state(&self) -> Option<(u64, Option<End>)> {
+        if !self.has_begun {
+            return None;
+        }
+        Some((self.tape.written(), self.tape.why_ended()))
     }
 
-    /// The unit has ended: hands on what waits.
-    pub(crate) fn finish(self) {
+    /// The unit has ended: hands on what waits, and waits until it is written.
+    pub(crate) fn finish<R: Threads>(self, rt: &R) {
         let mut last = self;
-        last.hand_on();
+        if last.is_open {
+            last.hand_on();
+        }
+        let Recorder { outlet, thread, .. } = last;
+        outlet.close();
+        thread.join(rt);
     }
 }

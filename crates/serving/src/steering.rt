@@ -1,5 +1,6 @@
 //! The control of a unit that is served: peers at a Unix socket, who are looked at by the thread that receives.
 
+use crate::recorder::Switched;
 use control::{
     Course, Peers, Refused, Unheard, counts_text, course_for, done_text, present_line,
     refused_text, stranger_line,
@@ -31,6 +32,8 @@ pub struct Steering {
     listener: UnixListener,
     peers: Peers<UnixStream>,
     legs: Vec<LegLine>,
+    /// Whether each leg was selected at the start.
+    began_on: Vec<bool>,
     endpoints: Vec<Listed>,
     /// The moment from which on peers are looked at next.
     due_ms: u64,
@@ -42,6 +45,17 @@ pub struct Steering {
     present: Vec<bool>,
     /// Who came last of those who are nobody.
     strangers: Strangers,
+}
+
+/// What a peer wants.
+#[derive(Drop)]
+pub(crate) enum Wish {
+    /// The unit is to do it.
+    Unit(Received),
+    /// From now on what the unit takes in is to be written to this peer.
+    Record(UnixStream),
+    /// The record is to end.
+    EndRecord,
 }
 
 /// What a peer waits for.
@@ -63,52 +77,75 @@ impl Steering {
         listener: UnixListener,
         legs: Vec<LegLine>,
         endpoints: Vec<Listed>,
-    ) -> Steering {
-        Steering {
+    ) -> Result<Steering, AllocError> {
+        let mut began_on = Vec::new(alloc);
+        for line in legs.iter() {
+            began_on.push(line.on)?;
+        }
+        Ok(Steering {
             alloc,
             listener,
             peers: Peers::new(alloc),
             legs,
+            began_on,
             endpoints,
             due_ms: 0,
             asked: Asked::Nothing,
             lines: None,
             present: Vec::new(alloc),
             strangers: Strangers::new(alloc),
-        }
+        })
     }
 
-    /// What peers want of the unit by this moment. No peer is waited for.
-    pub(crate) fn receive(&mut self, moment: u64) -> Received {
+    /// What peers want by this moment of a unit that is being recorded or not. No peer is waited for.
+    pub(crate) fn receive(&mut self, moment: u64, is_recorded: bool) -> Wish {
         if moment < self.due_ms || self.asked != Asked::Nothing {
-            return Received::Nothing;
+            return Wish::Unit(Received::Nothing);
         }
         self.due_ms = moment.saturating_add(LOOK_MS);
         self.admit(moment);
         let Some(request) = self.peers.next_request(moment) else {
-            return Received::Nothing;
+            return Wish::Unit(Received::Nothing);
         };
         let endpoints = u16::try_from(self.endpoints.len()).unwrap_or(u16::MAX);
         let legs = u16::try_from(self.legs.len()).unwrap_or(u16::MAX);
-        match course_for(request, legs, endpoints) {
-            Course::Refuse(why) => {
-                self.refuse(why);
-                Received::Nothing
-            }
+        match course_for(request, legs, endpoints, is_recorded) {
+            Course::Refuse(why) => self.refuse(why),
             Course::Do(received) => {
                 self.note(received);
                 self.peers.answer(b"ok\n");
-                received
+                return Wish::Unit(received);
             }
             Course::Counts => self.begin(Asked::Counts),
             Course::Look(look) => self.begin(Asked::Look(look)),
             Course::Legs => self.begin(Asked::Legs),
             Course::Metrics => self.begin(Asked::Metrics),
-            Course::Strangers => {
-                self.tell_strangers(moment);
-                Received::Nothing
+            Course::Strangers => self.tell_strangers(moment),
+            Course::Record => {
+                if let Some(peer) = self.peers.take_last() {
+                    return Wish::Record(peer);
+                }
+            }
+            Course::EndRecord => {
+                self.peers.answer(b"ok\n");
+                return Wish::EndRecord;
             }
         }
+        Wish::Unit(Received::Nothing)
+    }
+
+    /// The legs that are selected or not, unlike at the start.
+    pub(crate) fn switched(&self) -> Vec<Switched> {
+        let mut switched = Vec::new(self.alloc);
+        for (line, was_on) in self.legs.iter().zip(self.began_on.iter()) {
+            if line.on != *was_on {
+                let _ = switched.push(Switched {
+                    leg: line.leg,
+                    on: line.on,
+                });
+            }
+        }
+        switched
     }
 
     /// Who came is a peer from now on.
@@ -129,18 +166,15 @@ impl Steering {
                     line.on = on;
                 }
             }
-            Received::Stop => {
-                let _ = self.begin(Asked::Stop);
-            }
+            Received::Stop => self.begin(Asked::Stop),
             Received::Nothing | Received::Datagram { .. } => {}
         }
     }
 
-    fn begin(&mut self, asked: Asked) -> Received {
+    fn begin(&mut self, asked: Asked) {
         self.asked = asked;
         self.lines = Some(String::new(self.alloc));
         self.present.clear();
-        Received::Nothing
     }
 
     /// One more line of the answer, or more.
@@ -161,7 +195,7 @@ impl Steering {
 
     /// Who came last of those who are nobody is told.
     fn tell_strangers(&mut self, moment: u64) {
-        let _ = self.begin(Asked::Nothing);
+        self.begin(Asked::Nothing);
         let text = strangers_text(self.alloc, &self.strangers, moment);
         self.push(text);
         self.answer();

@@ -1,10 +1,7 @@
 //! The words that say where a unit is recorded: `--record PATH` and `--record-limit BYTES`. They are taken out before the others are read.
 
-use commands::Record;
+use commands::{RECORD_LIMIT, Record};
 use std::alloc::{AllocError, Global};
-
-/// How many bytes a record has at most, unless it is said: 1 GiB.
-const RECORD_LIMIT: u64 = 1_073_741_824;
 
 /// Where the words say that a unit is recorded, and the other words.
 #[derive(Drop)]
