@@ -22,6 +22,8 @@ pub enum Course {
     Legs,
     /// The counts of endpoints and of legs are asked for.
     Metrics,
+    /// What reports say of legs and of publishers is asked for.
+    Reports,
     /// Who came last of those who are nobody is asked for.
     Strangers,
     /// A record begins, for who asked.
@@ -46,6 +48,7 @@ pub fn course_for(request: Request, legs: u16, endpoints: u16, is_recorded: bool
         Request::Legs => Course::Legs,
         Request::Counts => Course::Counts,
         Request::Metrics => Course::Metrics,
+        Request::Reports => Course::Reports,
         Request::Strangers => Course::Strangers,
         Request::Record => {
             if is_recorded {

@@ -19,6 +19,8 @@ pub enum Request {
     Counts,
     /// `metrics`: the counts of endpoints and of legs, in the text format of Prometheus.
     Metrics,
+    /// `reports`: what receivers report of each leg, and what the unit reports of each publisher.
+    Reports,
     /// `strangers`: who came last of those who are nobody.
     Strangers,
     /// `record`: what the unit takes in from now on is written to who asks.
@@ -56,6 +58,8 @@ fn request_of(words: &[&[u8]]) -> Option<Request>
         alone(others, Request::Counts)
     } else if is_word(first, b"metrics") {
         alone(others, Request::Metrics)
+    } else if is_word(first, b"reports") {
+        alone(others, Request::Reports)
     } else if is_word(first, b"strangers") {
         alone(others, Request::Strangers)
     } else if is_word(first, b"record") {

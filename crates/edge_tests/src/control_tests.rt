@@ -13,13 +13,14 @@ use tmmbr_tuple::Ssrc;
 #[test]
 fn reads_requests(rt: HostRuntime) -> Result<(), Fail> {
     let alloc = rt.alloc();
-    let lines: [(&[u8], Option<Request>); 15] = [
+    let lines: [(&[u8], Option<Request>); 17] = [
         (b"select 3 on", Some(Request::Select { leg: 3, on: true })),
         (b"select 0 off", Some(Request::Select { leg: 0, on: false })),
         (b"present", Some(Request::Present)),
         (b"legs", Some(Request::Legs)),
         (b"counts", Some(Request::Counts)),
         (b"metrics", Some(Request::Metrics)),
+        (b"reports", Some(Request::Reports)),
         (b"strangers", Some(Request::Strangers)),
         (b"record", Some(Request::Record)),
         (b"record off", Some(Request::EndRecord)),
@@ -30,6 +31,7 @@ fn reads_requests(rt: HostRuntime) -> Result<(), Fail> {
         (b"select 3", None),
         (b"select 3 on ", None),
         (b"stop now", None),
+        (b"reports 0", None),
         (b"Stop", None),
         (b"", None),
     ];
@@ -139,6 +141,7 @@ fn leads_requests(rt: HostRuntime) -> Result<(), Fail> {
     assert_eq!(rt; course_for(Request::Counts, 2, 3, false), Course::Counts);
     assert_eq!(rt; course_for(Request::Legs, 2, 3, false), Course::Legs);
     assert_eq!(rt; course_for(Request::Metrics, 2, 3, false), Course::Metrics);
+    assert_eq!(rt; course_for(Request::Reports, 2, 3, false), Course::Reports);
     assert_eq!(rt;
         course_for(Request::Strangers, 2, 3, false),
         Course::Strangers

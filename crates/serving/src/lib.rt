@@ -11,6 +11,7 @@
 
 mod arrivals;
 mod clients;
+mod control_heard;
 mod control_socket;
 mod courier;
 mod directory;

@@ -1,13 +1,17 @@
-//! A source and a clock of a unit that is recorded: each turn of the unit receives once, and then asks the clock once.
+//! A source and a clock of a unit that may be recorded, and whose counts are told the moments: each turn of the unit receives once, and then
+//! asks the clock once.
 
+use crate::control_heard::ControlHeard;
 use crate::gauges::Gauges;
 use outside::{Clock, ReceiveFault, Received, Source};
+use traffic::Traffic;
 
 /// A source of which is noted what it gives.
 #[derive(Drop)]
 pub(crate) struct RecordedSource<'a, Src: Drop> {
     pub(crate) source: Src,
     pub(crate) gauges: &'a Gauges,
+    pub(crate) control: &'a ControlHeard,
 }
 
 impl<Src: Source + Drop> Source for RecordedSource<'_, Src> {
@@ -21,15 +25,18 @@ impl<Src: Source + Drop> Source for RecordedSource<'_, Src> {
         if let Some(mut recorder) = self.gauges.recorder() {
             recorder.note(&received, out, self.gauges.made.get());
         }
+        self.control.note(&received, out);
         received
     }
 }
 
-/// A clock at whose moments is written down what came.
+/// A clock at whose moments is written down what came, and noted what was reported.
 #[derive(Drop)]
 pub(crate) struct RecordedClock<'a, C: Drop> {
     pub(crate) clock: C,
     pub(crate) gauges: &'a Gauges,
+    pub(crate) control: &'a ControlHeard,
+    pub(crate) traffic: &'a Traffic,
 }
 
 impl<C: Clock + Drop> Clock for RecordedClock<'_, C> {
@@ -40,6 +47,8 @@ impl<C: Clock + Drop> Clock for RecordedClock<'_, C> {
         if let Some(mut recorder) = self.gauges.recorder() {
             recorder.take_in(moment);
         }
+        self.traffic.turned(moment);
+        self.control.tell(self.traffic);
         moment
     }
 }

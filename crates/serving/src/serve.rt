@@ -10,6 +10,7 @@ ghost use Rattle.serving.specs.Serving.{EndsServe, FailsServe, FailsToStart, Say
 
 use crate::arrivals::Arrivals;
 use crate::clients::Client;
+use crate::control_heard::ControlHeard;
 use crate::directory::Directory;
 use crate::drops::watch_drops;
 use crate::gauges::Gauges;
@@ -365,11 +366,12 @@ pub fn run_on<R: AllocGlobal + Threads + Wait + Sync + time::Clock, W: Watch + D
     Ok(report)
 }
 
-/// What all threads of a run look at: where endpoints are, and what came and went.
+/// What all threads of a run look at: where endpoints are, and what came and went; and what the receiving one keeps through a turn.
 #[derive(Drop)]
 struct Common {
     directory: Directory,
     traffic: Traffic,
+    control: ControlHeard,
 }
 
 impl Common {
@@ -378,6 +380,7 @@ impl Common {
         Ok(Common {
             directory: Directory::new(alloc, clients)?,
             traffic: Traffic::new(alloc, settings)?,
+            control: ControlHeard::new(alloc)?,
         })
     }
 }
@@ -395,7 +398,9 @@ fn source_on<'a>(
     let Ok(listening) = sockets.listening() else {
         return Err(ServeFault::Socket);
     };
-    let Common { directory, traffic } = common;
+    let Common {
+        directory, traffic, ..
+    } = common;
     let arrivals = Arrivals::new(
         alloc, listening, settings, clients, directory, gauges, traffic,
     )?;
@@ -464,12 +469,25 @@ fn run_in_this_thread<R: AllocGlobal + time::Clock, W: Watch + Drop>(
         common,
         source,
     } = ends;
-    let Common { directory, traffic } = common;
+    let Common {
+        directory,
+        traffic,
+        control,
+    } = common;
     let source = SteeredSource { source, gauges };
-    let mut source = RecordedSource { source, gauges };
+    let mut source = RecordedSource {
+        source,
+        gauges,
+        control,
+    };
     let mut sink = SocketSink::new(sockets, directory, traffic);
     let clock = RunClock::new(rt, &gauges.moment_ms);
-    let mut clock = RecordedClock { clock, gauges };
+    let mut clock = RecordedClock {
+        clock,
+        gauges,
+        control,
+        traffic,
+    };
     let mut watch = SteeredWatch {
         watch,
         gauges,
@@ -531,13 +549,26 @@ fn run_on_threads<R: AllocGlobal + Threads + Wait + Sync + time::Clock, W: Watch
         common,
         source,
     } = ends;
-    let Common { directory, traffic } = common;
+    let Common {
+        directory,
+        traffic,
+        control,
+    } = common;
     let source = SteeredSource { source, gauges };
     let clock = RunClock::new(rt, &gauges.moment_ms);
     let outside = Outside {
-        source: RecordedSource { source, gauges },
+        source: RecordedSource {
+            source,
+            gauges,
+            control,
+        },
         sinks: socket_sinks(alloc, sockets, directory, traffic, count)?,
-        clock: RecordedClock { clock, gauges },
+        clock: RecordedClock {
+            clock,
+            gauges,
+            control,
+            traffic,
+        },
         watch: SteeredWatch {
             watch,
             gauges,

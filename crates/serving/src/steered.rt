@@ -73,7 +73,8 @@ impl<W: Watch + Drop> Watch for SteeredWatch<'_, W> {
 
     fn end_look(&mut self) {
         if let Some(mut steering) = self.gauges.steering() {
-            steering.end(self.traffic, &self.gauges.unheard());
+            let moment = self.gauges.moment_ms.get();
+            steering.end(self.traffic, &self.gauges.unheard(), moment);
         }
     }
 }

@@ -13,7 +13,10 @@ use std::net::SocketAddr;
 use std::os::unix::net::{UnixListener, UnixStream};
 use strangers::Strangers;
 use tmmbr_tuple::Ssrc;
-use traffic::{LegLine, Metric, MetricType, Sample, Traffic, leg_line, push_figures, push_metric};
+use traffic::{
+    LegLine, Metric, MetricType, Sample, Traffic, leg_line, leg_report_line, publisher_report_line,
+    push_figures, push_metric, push_report_figures,
+};
 
 /// So many milliseconds lie at least between two looks at the peers.
 const LOOK_MS: u64 = 10;
@@ -66,6 +69,7 @@ enum Asked {
     Look(Look),
     Legs,
     Metrics,
+    Reports,
     /// The unit stops: nobody waits for an answer, and who is present is to be known.
     Stop,
 }
@@ -120,6 +124,7 @@ impl Steering {
             Course::Look(look) => self.begin(Asked::Look(look)),
             Course::Legs => self.begin(Asked::Legs),
             Course::Metrics => self.begin(Asked::Metrics),
+            Course::Reports => self.begin(Asked::Reports),
             Course::Strangers => self.tell_strangers(moment),
             Course::Record => {
                 if let Some(peer) = self.peers.take_last() {
@@ -217,7 +222,7 @@ impl Steering {
     pub(crate) fn look(&self) -> Look {
         match self.asked {
             Asked::Look(look) => look,
-            Asked::Metrics | Asked::Stop => Look::Presence,
+            Asked::Metrics | Asked::Reports | Asked::Stop => Look::Presence,
             Asked::Legs => Look::Stays,
             Asked::Nothing | Asked::Counts => Look::Nothing,
         }
@@ -274,12 +279,17 @@ impl Steering {
         }
     }
 
-    /// The room was shown: who asked for it is answered.
-    pub(crate) fn end(&mut self, traffic: &Traffic, unheard: &Unheard) {
+    /// The room was shown, at this moment: who asked for it is answered.
+    pub(crate) fn end(&mut self, traffic: &Traffic, unheard: &Unheard, moment: u64) {
         match self.asked {
             Asked::Stop => {}
             Asked::Metrics => {
                 let text = metrics_text(self.alloc, self.present.as_slice(), traffic, unheard);
+                self.push(text);
+                self.answer();
+            }
+            Asked::Reports => {
+                let text = reports_text(self.alloc, self.legs.as_slice(), traffic, moment);
                 self.push(text);
                 self.answer();
             }
@@ -342,8 +352,61 @@ fn metrics_text(
     let endpoints = traffic.endpoints(alloc)?;
     let legs = traffic.legs(alloc)?;
     push_figures(alloc, &mut text, endpoints.as_slice(), legs.as_slice())?;
+    push_reports(alloc, &mut text, traffic)?;
     push_unheard(&mut text, unheard)?;
     Ok(text)
+}
+
+/// What reports say as metrics.
+fn push_reports(alloc: Global, text: &mut String, traffic: &Traffic) -> Result<(), AllocError> {
+    let legs = traffic.leg_reports(alloc)?;
+    let publishers = traffic.publisher_reports(alloc)?;
+    push_report_figures(text, legs.as_slice(), publishers.as_slice())
+}
+
+/// What reports say, at this moment: a line for each leg that was reported on, then one for each publisher.
+fn reports_text(
+    alloc: Global,
+    legs: &[LegLine],
+    traffic: &Traffic,
+    moment: u64,
+) -> Result<String, AllocError> {
+    let mut text = String::new(alloc);
+    push_leg_reports(alloc, &mut text, legs, traffic, moment)?;
+    push_publisher_reports(alloc, &mut text, traffic, moment)?;
+    Ok(text)
+}
+
+/// A line for each leg that was reported on.
+fn push_leg_reports(
+    alloc: Global,
+    text: &mut String,
+    legs: &[LegLine],
+    traffic: &Traffic,
+    moment: u64,
+) -> Result<(), AllocError> {
+    for line in legs {
+        if let Some(report) = traffic.leg_report(line.leg) {
+            let told = leg_report_line(alloc, *line, &report, moment)?;
+            text.push_str(told.as_str())?;
+        }
+    }
+    Ok(())
+}
+
+/// A line for each publisher that the unit reported on.
+fn push_publisher_reports(
+    alloc: Global,
+    text: &mut String,
+    traffic: &Traffic,
+    moment: u64,
+) -> Result<(), AllocError> {
+    let reports = traffic.publisher_reports(alloc)?;
+    for numbered in reports.iter() {
+        let told = publisher_report_line(alloc, numbered.number, &numbered.report, moment)?;
+        text.push_str(told.as_str())?;
+    }
+    Ok(())
 }
 
 /// What came and wasn't heard.

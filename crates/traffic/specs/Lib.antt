@@ -4,3 +4,6 @@ pub mod Kinds
 pub mod Lines
 pub mod Metrics
 pub mod Figures
+pub mod Reports
+pub mod ReportLines
+pub mod ReportFigures

@@ -1,8 +1,9 @@
 //! What went in and out of a unit, by endpoint and by leg, and how it is told: lines for people, and metrics in the text format of
 //! Prometheus.
 //!
-//! Read `traffic` first, the counts that threads raise. It stands on `leg_count`, what went out on a leg, and `kinds`, what a datagram of
-//! RTCP holds. `lines` and `metrics` are the texts, `figures` which metrics there are.
+//! Read `traffic` first, the counts that threads raise. It stands on `leg_count`, what went out on a leg, `kinds`, what a datagram of
+//! RTCP holds, and `reports`, what report blocks say; `report_cells` is where threads leave that. `lines` and `report_lines` are texts for
+//! people, `metrics` those for Prometheus, `figures` and `report_figures` which metrics there are.
 #![tactic(auto)]
 
 mod figures;
@@ -10,6 +11,10 @@ mod kinds;
 mod leg_count;
 mod lines;
 mod metrics;
+mod report_cells;
+mod report_figures;
+mod report_lines;
+mod reports;
 mod traffic;
 
 pub use figures::{EndpointFigure, LegFigure, Numbered, push_figures};
@@ -17,4 +22,7 @@ pub use kinds::{Kinds, kinds_of};
 pub use leg_count::LegCount;
 pub use lines::{LegLine, leg_line};
 pub use metrics::{Metric, MetricType, Sample, push_metric};
+pub use report_figures::{NumberedReport, Reading, ReportFigure, push_report_figures};
+pub use report_lines::{leg_report_line, publisher_report_line};
+pub use reports::{ReceptionReport, SentReport};
 pub use traffic::{EndpointCount, Traffic};

@@ -51,14 +51,14 @@ pub fn push_metric(
 }
 
 /// What it is.
-fn push_help(text: &mut String, metric: &Metric) -> Result<(), AllocError>
+pub(crate) fn push_help(text: &mut String, metric: &Metric) -> Result<(), AllocError>
     ensures { OnOk result (string_bytes text.new ≡ string_bytes text.old ++ help_line metric.now.name.now metric.now.help.now) }
 {
     write!(text, "# HELP {} {}\n", metric.name, metric.help)
 }
 
 /// What its value does.
-fn push_type(text: &mut String, metric: &Metric) -> Result<(), AllocError>
+pub(crate) fn push_type(text: &mut String, metric: &Metric) -> Result<(), AllocError>
     ensures { OnOk result (string_bytes text.new ≡ string_bytes text.old ++ type_line metric.now.name.now metric.now.kind) }
 {
     write!(text, "# TYPE {} {}\n", metric.name, word_of(metric.kind))

@@ -1,10 +1,14 @@
 //! The counts of a unit's endpoints and legs, which the threads of the unit raise.
 
-ghost use Rattle.std.specs.Prelude.{◌≡◌, vec_len, IfOk};
+ghost use Rattle.std.specs.Prelude.{◌≡◌, length, vec_len, IfOk};
 
 use crate::figures::Numbered;
 use crate::kinds::{Kinds, kinds_of};
 use crate::leg_count::LegCount;
+use crate::report_cells::{ReportCells, SentCell};
+use crate::report_figures::NumberedReport;
+use crate::reports::{ReceptionReport, SentReport, WORD_VALUES, blocks_of, lsr_of};
+use rtcp_compound::{Block, RtcpView, split};
 use rtp_packet::RtpView;
 use settings::{LegSettings, Settings};
 use std::alloc::{AllocError, Global};
@@ -35,9 +39,12 @@ pub struct EndpointCount {
     pub told: Kinds,
 }
 
-/// The counts of a unit, by endpoint and by leg. What comes is counted by one thread; what is sent by any.
+/// The counts of a unit, by endpoint and by leg, and what reports say. What comes is counted by one thread, which tells the moment of each
+/// turn, too; what is sent by any.
 #[derive(Drop)]
 pub struct Traffic {
+    /// The moment of the last turn, in milliseconds.
+    moment_ms: AtomicU64,
     endpoints: Vec<EndpointCells>,
     legs: Vec<LegCells>,
     /// The SSRC that each leg's subscriber sees, rising, and the leg's number.
@@ -47,6 +54,8 @@ pub struct Traffic {
 /// The cells of an endpoint's counts.
 #[derive(Drop)]
 struct EndpointCells {
+    /// The source that it sends with.
+    source: Ssrc,
     heard_rtp: AtomicU64,
     heard_rtcp: AtomicU64,
     heard_octets: AtomicU64,
@@ -57,6 +66,8 @@ struct EndpointCells {
     sent_octets: AtomicU64,
     failed: AtomicU64,
     told: KindCells,
+    /// What the unit reported of it.
+    reported: ReportCells,
 }
 
 /// The cells of counts of feedback.
@@ -68,19 +79,24 @@ struct KindCells {
     tmmbns: AtomicU64,
 }
 
-/// The cells of a leg's counts, which the worker that owns the leg raises.
+/// The cells of a leg's counts, which the worker that owns the leg raises, and of what its subscriber reported.
 #[derive(Drop)]
 struct LegCells {
+    /// The endpoint that it is sent to.
+    subscriber: u16,
     packets: AtomicU64,
     octets: AtomicU64,
     resent: AtomicU64,
     missed: AtomicU64,
     /// One more than the next number; 0 before the first packet.
     after_next: AtomicU64,
+    /// The last sender report on it.
+    sent_report: SentCell,
+    reported: ReportCells,
 }
 
 impl Traffic {
-    ghost use Rattle.std.specs.Prelude.{◌≡◌, ◌≤◌, ◌<◌, length, vec_len, IfOk, MatchOption};
+    ghost use Rattle.std.specs.Prelude.{◌≡◌, ◌≤◌, ◌<◌, length, vec_len, IfOk, IfSome, MatchOption};
 
     /// Nothing came or went yet in a unit of these settings. Refused for want of memory alone.
     pub fn new(alloc: Global, settings: &Settings) -> Result<Traffic, AllocError>
@@ -89,8 +105,9 @@ impl Traffic {
         ensures legs { IfOk result (λ t. vec_len t.legs ≡ length settings.now.legs) }
     {
         Ok(Traffic {
-            endpoints: endpoint_cells(alloc, settings.endpoints().len())?,
-            legs: leg_cells(alloc, settings.legs().len())?,
+            moment_ms: AtomicU64::new(0),
+            endpoints: endpoint_cells(alloc, settings.endpoints())?,
+            legs: leg_cells(alloc, settings.legs())?,
             sources: sources_of(alloc, settings.legs())?,
         })
     }
@@ -112,6 +129,37 @@ impl Traffic {
         }
     }
 
+    /// It is this moment by now, in milliseconds.
+    pub fn turned(&self, moment: u64) {
+        if self.moment_ms.load(Ordering::SeqCst) != moment {
+            self.moment_ms.store(moment, Ordering::SeqCst);
+        }
+    }
+
+    /// Notes what a datagram of RTCP that came from this endpoint by now reports of the legs to it.
+    pub fn heard_reports(&self, endpoint: u16, datagram: &[u8]) {
+        let Ok(packets) = split(datagram) else {
+            return;
+        };
+        for packet in packets {
+            if let Some(blocks) = blocks_of(&packet) {
+                for block in blocks {
+                    self.heard_block(endpoint, &block);
+                }
+            }
+        }
+    }
+
+    /// An endpoint reported this. About a leg that isn't its own it says nothing.
+    fn heard_block(&self, endpoint: u16, block: &Block) {
+        if let Some(cells) = self.cells_by(block.source) {
+            if cells.subscriber == endpoint {
+                let moment = self.moment_ms.load(Ordering::SeqCst);
+                cells.reported.note(block, cells.sent_report.seen(), moment);
+            }
+        }
+    }
+
     /// A datagram was sent to this endpoint.
     pub fn sent(&self, endpoint: u16, datagram: &[u8]) {
         let Some(cells) = self.endpoints.get(usize::from(endpoint)) else {
@@ -121,8 +169,39 @@ impl Traffic {
         add(&cells.sent_octets, octets_of(datagram));
         if is_rtcp(datagram) {
             cells.told.add(kinds_of(datagram));
+            self.sent_reports(cells, datagram);
         } else {
             self.sent_media(datagram);
+        }
+    }
+
+    /// Notes what a datagram of RTCP reports of the endpoint that it was sent to, and the sender reports of legs in it.
+    fn sent_reports(&self, cells: &EndpointCells, datagram: &[u8]) {
+        let Ok(packets) = split(datagram) else {
+            return;
+        };
+        let moment = self.moment_ms.load(Ordering::SeqCst);
+        for packet in packets {
+            self.sent_report(packet, moment);
+            if let Some(blocks) = blocks_of(&packet) {
+                for block in blocks {
+                    if block.source == cells.source {
+                        cells.reported.note(&block, None, moment);
+                    }
+                }
+            }
+        }
+    }
+
+    /// A packet was sent: if it is the sender report of a leg, it is the leg's last one.
+    fn sent_report(&self, packet: RtcpView<'_>, moment: u64) {
+        if let RtcpView::Sr { sender, ntp, .. } = packet {
+            if let Some(cells) = self.cells_by(sender) {
+                cells.sent_report.set(SentReport {
+                    lsr: lsr_of(ntp),
+                    moment: (moment % WORD_VALUES) as u32,
+                });
+            }
         }
     }
 
@@ -179,6 +258,46 @@ impl Traffic {
         Some(cells.seen())
     }
 
+    /// What this leg's subscriber reported last; `None` where it has reported nothing, or there is no such leg.
+    pub fn leg_report(&self, leg: u16) -> Option<ReceptionReport>
+        ensures { IfSome result (λ _. leg < vec_len self.now.legs) }
+    {
+        self.legs.get(usize::from(leg))?.reported.seen()
+    }
+
+    /// What the unit reported of this endpoint last; `None` where it has reported nothing, or there is no such endpoint.
+    pub fn publisher_report(&self, endpoint: u16) -> Option<ReceptionReport>
+        ensures { IfSome result (λ _. endpoint < vec_len self.now.endpoints) }
+    {
+        self.endpoints.get(usize::from(endpoint))?.reported.seen()
+    }
+
+    /// What was reported last of each leg of which anything was, by rising number.
+    pub fn leg_reports(&self, alloc: Global) -> Result<Vec<NumberedReport>, AllocError>
+        ensures { IfOk result (λ all. length all.items ≤ vec_len self.now.legs) }
+    {
+        let mut all = Vec::new(alloc);
+        for number in 0..self.legs.len() {
+            if let Some(report) = self.legs[number].reported.seen() {
+                all.push(numbered(number, report))?;
+            }
+        }
+        Ok(all)
+    }
+
+    /// What the unit reported last of each endpoint of which it reported anything, by rising number.
+    pub fn publisher_reports(&self, alloc: Global) -> Result<Vec<NumberedReport>, AllocError>
+        ensures { IfOk result (λ all. length all.items ≤ vec_len self.now.endpoints) }
+    {
+        let mut all = Vec::new(alloc);
+        for place in 0..self.endpoints.len() {
+            if let Some(report) = self.endpoints[place].reported.seen() {
+                all.push(numbered(place, report))?;
+            }
+        }
+        Ok(all)
+    }
+
     /// The counts of each endpoint now, by rising number. Those that one thread raises may be older than those of another.
     pub fn endpoints(&self, alloc: Global) -> Result<Vec<Numbered<EndpointCount>>, AllocError>
         ensures { IfOk result (λ all. length all.items ≡ vec_len self.now.endpoints) }
@@ -209,8 +328,9 @@ impl Traffic {
 }
 
 impl EndpointCells {
-    fn new() -> EndpointCells {
+    fn new(source: Ssrc) -> EndpointCells {
         EndpointCells {
+            source,
             heard_rtp: AtomicU64::new(0),
             heard_rtcp: AtomicU64::new(0),
             heard_octets: AtomicU64::new(0),
@@ -220,6 +340,7 @@ impl EndpointCells {
             sent_octets: AtomicU64::new(0),
             failed: AtomicU64::new(0),
             told: KindCells::new(),
+            reported: ReportCells::new(),
         }
     }
 
@@ -266,13 +387,16 @@ impl KindCells {
 }
 
 impl LegCells {
-    fn new() -> LegCells {
+    fn new(subscriber: u16) -> LegCells {
         LegCells {
+            subscriber,
             packets: AtomicU64::new(0),
             octets: AtomicU64::new(0),
             resent: AtomicU64::new(0),
             missed: AtomicU64::new(0),
             after_next: AtomicU64::new(0),
+            sent_report: SentCell::new(),
+            reported: ReportCells::new(),
         }
     }
 
@@ -296,26 +420,34 @@ impl LegCells {
     }
 }
 
-/// Cells for so many endpoints.
-fn endpoint_cells(alloc: Global, count: usize) -> Result<Vec<EndpointCells>, AllocError>
-    ensures { IfOk result (λ all. vec_len all ≡ count) }
+/// Cells for these endpoints.
+fn endpoint_cells(alloc: Global, sources: &[Ssrc]) -> Result<Vec<EndpointCells>, AllocError>
+    ensures { IfOk result (λ all. vec_len all ≡ length sources.now) }
 {
-    let mut all = Vec::with_capacity(alloc, count)?;
-    for _cells in 0..count {
-        all.push(EndpointCells::new())?;
+    let mut all = Vec::with_capacity(alloc, sources.len())?;
+    for source in sources {
+        all.push(EndpointCells::new(*source))?;
     }
     Ok(all)
 }
 
-/// Cells for so many legs.
-fn leg_cells(alloc: Global, count: usize) -> Result<Vec<LegCells>, AllocError>
-    ensures { IfOk result (λ all. vec_len all ≡ count) }
+/// Cells for these legs.
+fn leg_cells(alloc: Global, legs: &[LegSettings]) -> Result<Vec<LegCells>, AllocError>
+    ensures { IfOk result (λ all. vec_len all ≡ length legs.now) }
 {
-    let mut all = Vec::with_capacity(alloc, count)?;
-    for _cells in 0..count {
-        all.push(LegCells::new())?;
+    let mut all = Vec::with_capacity(alloc, legs.len())?;
+    for leg in legs {
+        all.push(LegCells::new(leg.subscriber))?;
     }
     Ok(all)
+}
+
+/// A report, of the leg or endpoint with this number.
+fn numbered(number: usize, report: ReceptionReport) -> NumberedReport {
+    NumberedReport {
+        number: u16::try_from(number).unwrap_or(u16::MAX),
+        report,
+    }
 }
 
 /// Raises a count.
