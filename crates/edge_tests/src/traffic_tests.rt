@@ -96,14 +96,19 @@ fn metric_for_each_endpoint(rt: HostRuntime) -> Result<(), Fail> {
 /// The report block of RFC 3550, section 6.4.1, figure 2: of what was sent at 46,853.125 s, it came at 46,864.5 s from who had had that for
 /// 5.25 s.
 const fn block_of_the_figure() -> Block {
+    block_about(257, 0xb705_2000, 0x0005_4000)
+}
+
+/// A report block about this source, with this LSR and DLSR.
+const fn block_about(source: u32, last_sr: u32, delay: u32) -> Block {
     Block {
-        source: Ssrc(257),
+        source: Ssrc(source),
         fraction: 64,
         lost: -2,
         highest: 7,
         jitter: 90,
-        last_sr: 0xb705_2000,
-        delay: 0x0005_4000,
+        last_sr,
+        delay,
     }
 }
 
@@ -148,16 +153,9 @@ fn round_trips(rt: HostRuntime) -> Result<(), Fail> {
     assert_eq!(rt; trip_after(&block, sent_at(1000), 6_249), Some(7));
     assert_eq!(rt; trip_after(&block, sent_at(1000), 6_250), Some(0));
     assert_eq!(rt; trip_after(&block, None, 6_250), Some(7));
-    let other = Block {
-        last_sr: 0xb705_2001,
-        ..block
-    };
+    let other = block_about(257, 0xb705_2001, 0x0005_4000);
     assert_eq!(rt; trip_after(&other, sent_at(1000), 9_000), Some(7));
-    let none = Block {
-        last_sr: 0,
-        delay: 0,
-        ..block
-    };
+    let none = block_about(257, 0, 0);
     let sent = Some(SentReport { lsr: 0, moment: 0 });
     assert_eq!(rt; trip_after(&none, sent, 9_000), Some(7));
     Ok(())
@@ -311,12 +309,7 @@ fn reports_of_a_room(rt: HostRuntime) -> Result<(), Fail> {
         report: wanted,
     };
     assert!(rt; listed.as_slice() == [of_leg_1].as_slice());
-    let block = Block {
-        source: Ssrc(16),
-        last_sr: 0,
-        ..block
-    };
-    let upstream = receiver_report(alloc, 9, block)?;
+    let upstream = receiver_report(alloc, 9, block_about(16, 0, 0))?;
     traffic.sent(1, upstream.as_slice());
     assert_eq!(rt; traffic.publisher_report(1), None);
     traffic.sent(0, upstream.as_slice());
