@@ -1,6 +1,9 @@
 //! What is asked for, and what is answered, as docs/FORMATS.md has it.
 
-use page::{AnnouncedSet, Kind, Said, Verdict, answer_to, asked_for, is_known_host};
+use page::{
+    AnnouncedSet, Flow, FlowRate, History, Kind, Said, Verdict, Way, Whose, answer_to, asked_for,
+    is_known_host,
+};
 use std::alloc::Global;
 use std::test::Fail;
 
@@ -12,7 +15,7 @@ const PRESENT: &[u8] = b"0 ssrc 16 at 127.0.0.1:5004 present heard 340 ms ago\n\
 const LEGS: &[u8] = b"0 from 0 to 1 on stay 9 packets 7 octets 700 resent 2 missed 3 next 4\n\
     1 from 1 to 0 off stay none packets 0 octets 0 resent 0 missed 0 next none\n";
 
-const COUNTS: &[u8] = b"present 1 heard 2 sent 3 failed 4 lost 5 dropped 6 strangers 7\n";
+const COUNTS: &[u8] = b"present 1 heard 2 sent 3 failed 4 lost 5 dropped 6 strangers 7 unread 8\n";
 
 /// Two requests of one rate: that of more overhead allows less. The first line is passed over, as `sfu check` does.
 const SET: &[u8] = b"8fcd0004\n\
@@ -37,6 +40,29 @@ fn sets_said(alloc: Global) -> Result<Vec<AnnouncedSet>, Fail> {
     Ok(sets)
 }
 
+/// What moved: of endpoint 0 half a minute ago and now, and of all endpoints together.
+fn rates_said(alloc: Global) -> Result<Vec<FlowRate>, Fail> {
+    let mut rates = Vec::new(alloc);
+    rates.push(flow_rate(
+        Whose::Endpoint(0),
+        Way::Heard,
+        30_000,
+        500_000,
+    ))?;
+    rates.push(flow_rate(Whose::Endpoint(0), Way::Heard, 0, 1_250_000))?;
+    rates.push(flow_rate(Whose::Endpoint(0), Way::Sent, 0, 999))?;
+    rates.push(flow_rate(Whose::Unit, Way::Heard, 0, 12_399))?;
+    Ok(rates)
+}
+
+const fn flow_rate(whose: Whose, way: Way, age_ms: u64, rate: u64) -> FlowRate {
+    FlowRate {
+        flow: Flow { whose, way },
+        age_ms,
+        rate,
+    }
+}
+
 fn bytes_of(alloc: Global, text: &[u8]) -> Result<Vec<u8>, Fail> {
     let mut bytes = Vec::new(alloc);
     bytes.extend_from_slice(text)?;
@@ -51,6 +77,7 @@ fn unit_said(alloc: Global) -> Result<Option<Said>, Fail> {
         legs: bytes_of(alloc, LEGS)?,
         counts: bytes_of(alloc, COUNTS)?,
         sets: sets_said(alloc)?,
+        rates: rates_said(alloc)?,
     }))
 }
 
@@ -130,14 +157,14 @@ fn answers_by_path(rt: HostRuntime) -> Result<(), Fail> {
     assert_eq!(rt;
         body.as_str(),
         "json {\"endpoints\":[\
-        {\"number\":0,\"ssrc\":16,\"address\":\"127.0.0.1:5004\",\"present\":true,\"heard_ago_ms\":340},\
-        {\"number\":1,\"ssrc\":4294967295,\"address\":\"[2001:db8::7]:6000\",\"present\":false,\"heard_ago_ms\":null},\
-        {\"number\":2,\"ssrc\":18,\"address\":\"127.0.0.1:5006\",\"present\":false,\"heard_ago_ms\":null},\
-        {\"number\":3,\"ssrc\":19,\"address\":\"127.0.0.1:5008\",\"present\":false,\"heard_ago_ms\":null}],\
+        {\"number\":0,\"ssrc\":16,\"address\":\"127.0.0.1:5004\",\"present\":true,\"heard_ago_ms\":340,\"heard_bps\":1250000,\"sent_bps\":999},\
+        {\"number\":1,\"ssrc\":4294967295,\"address\":\"[2001:db8::7]:6000\",\"present\":false,\"heard_ago_ms\":null,\"heard_bps\":null,\"sent_bps\":null},\
+        {\"number\":2,\"ssrc\":18,\"address\":\"127.0.0.1:5006\",\"present\":false,\"heard_ago_ms\":null,\"heard_bps\":null,\"sent_bps\":null},\
+        {\"number\":3,\"ssrc\":19,\"address\":\"127.0.0.1:5008\",\"present\":false,\"heard_ago_ms\":null,\"heard_bps\":null,\"sent_bps\":null}],\
         \"legs\":[\
         {\"leg\":0,\"publisher\":0,\"subscriber\":1,\"on\":true,\"stay\":9,\"packets\":7,\"octets\":700,\"resent\":2,\"missed\":3,\"next\":4},\
         {\"leg\":1,\"publisher\":1,\"subscriber\":0,\"on\":false,\"stay\":null,\"packets\":0,\"octets\":0,\"resent\":0,\"missed\":0,\"next\":null}],\
-        \"counts\":{\"present\":1,\"heard\":2,\"sent\":3,\"failed\":4,\"lost\":5,\"dropped\":6,\"strangers\":7}}"
+        \"counts\":{\"present\":1,\"heard\":2,\"sent\":3,\"failed\":4,\"lost\":5,\"dropped\":6,\"strangers\":7,\"unread\":8,\"heard_bps\":12399,\"sent_bps\":null}}"
     );
     Ok(())
 }
@@ -154,8 +181,13 @@ fn shows_people(rt: HostRuntime) -> Result<(), Fail> {
         &[
             "html <!doctype html>",
             "<dt>strangers</dt><dd>7</dd>",
-            "<tr><td>0</td><td class=\"word present\">present</td><td>340</td><td>16</td><td>127.0.0.1:5004</td></tr>",
-            "<td>never</td><td>4294967295</td><td>[2001:db8::7]:6000</td></tr>",
+            "<dt>unread</dt><dd>8</dd>",
+            "<dt>in, bit/s</dt><dd class=\"in\">12.3k</dd>",
+            "<tr><td>0</td><td class=\"word present\">present</td><td>340</td><td class=\"in\">1.2M</td><td class=\"out\">999</td><td><svg",
+            "<polyline class=\"in\" points=\"300,60 600,0 \"/><polyline class=\"out\" points=\"600,100 \"/></svg></td><td>16</td>\
+            <td class=\"word\">127.0.0.1:5004</td></tr>",
+            "<td>never</td><td class=\"in\"></td><td class=\"out\"></td><td><svg",
+            "</td><td>4294967295</td><td class=\"word\">[2001:db8::7]:6000</td></tr>",
             "<tr><th scope=\"row\">0</th><td></td><td><span class=\"off\">off</span></td><td></td><td></td></tr>",
             "<tr><th scope=\"row\">1</th><td><span class=\"on\">on</span></td><td></td><td></td><td></td></tr>",
             "<td class=\"word on\">on</td><td>7</td><td>700</td><td>2</td><td>3</td><td>4</td></tr>",
@@ -252,6 +284,74 @@ fn knows_hosts(rt: HostRuntime) -> Result<(), Fail> {
         "sfu.example.org",
     ] {
         assert!(rt; !is_known_host(b"sfu.example", host.as_bytes()));
+    }
+    Ok(())
+}
+
+/// What a history has, a line for each rate.
+fn rates_told(alloc: Global, history: &History) -> Result<String, Fail> {
+    let mut text = String::new(alloc);
+    for rate in &history.rates {
+        let way = match rate.flow.way {
+            Way::Heard => "in",
+            Way::Sent => "out",
+        };
+        match rate.flow.whose {
+            Whose::Unit => write!(text, "{way}")?,
+            Whose::Endpoint(number) => write!(text, "{way} {number}")?,
+        }
+        write!(text, " {} {}\n", rate.age_ms, rate.rate)?;
+    }
+    Ok(text)
+}
+
+/// Endpoint 3 sends a thousand octets in a second, and endpoint 4 ten in the next 300 milliseconds; then nothing moves.
+const ANSWERS: [&[u8]; 4] = [
+    b"# TYPE sfu_received_bytes_total counter\n\
+    sfu_received_bytes_total{endpoint=\"3\"} 1000\nsfu_sent_bytes_total{endpoint=\"3\"} 0\n",
+    b"sfu_received_bytes_total{endpoint=\"3\"} 2000\nsfu_sent_bytes_total{endpoint=\"3\"} 1\n",
+    b"sfu_received_bytes_total{endpoint=\"3\"} 2000\nsfu_received_bytes_total{endpoint=\"4\"} 10\n\
+    sfu_sent_bytes_total{endpoint=\"3\"} 1\n",
+    b"sfu_received_bytes_total{endpoint=\"3\"} 1999\nsfu_received_bytes_total{endpoint=\"4\"} 10\n\
+    sfu_sent_bytes_total{endpoint=\"3\"} 1\n",
+];
+
+/// Rates are of the octets that were added, in bits a second, of each endpoint and of all together; they are kept for a minute, the oldest
+/// first. Where a count falls all of them are gone.
+#[test]
+fn keeps_rates_for_a_minute(rt: HostRuntime) -> Result<(), Fail> {
+    let alloc = rt.alloc();
+    let mut history = History::new(alloc);
+    let asked: [(u64, &[u8], &str); 6] = [
+        (1_000, ANSWERS[0], ""),
+        (
+            2_000,
+            ANSWERS[1],
+            "in 3 0 8000\nout 3 0 8\nin 0 8000\nout 0 8\n",
+        ),
+        (
+            2_300,
+            ANSWERS[2],
+            "in 3 300 8000\nout 3 300 8\nin 300 8000\nout 300 8\nin 3 0 0\nout 3 0 0\nin 0 266\nout 0 0\n",
+        ),
+        (
+            62_000,
+            ANSWERS[2],
+            "in 3 60000 8000\nout 3 60000 8\nin 60000 8000\nout 60000 8\n\
+            in 3 59700 0\nout 3 59700 0\nin 59700 266\nout 59700 0\n\
+            in 3 0 0\nin 4 0 0\nout 3 0 0\nin 0 0\nout 0 0\n",
+        ),
+        (
+            62_301,
+            ANSWERS[2],
+            "in 3 301 0\nin 4 301 0\nout 3 301 0\nin 301 0\nout 301 0\n\
+            in 3 0 0\nin 4 0 0\nout 3 0 0\nin 0 0\nout 0 0\n",
+        ),
+        (63_000, ANSWERS[3], ""),
+    ];
+    for (moment, metrics, told) in asked {
+        history.take_in(alloc, moment, metrics)?;
+        assert_eq!(rt; rates_told(alloc, &history)?.as_str(), told);
     }
     Ok(())
 }

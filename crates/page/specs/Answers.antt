@@ -1,5 +1,5 @@
 -- Which request is answered by what.
-use Rattle.std.specs.Prelude.{◌≡◌, ◌-◌, ◌^◌, ◌||◌, ℕ, List, Option, None, Some, codes, drop, length, option_and_then, take, if◌then◌else◌}
+use Rattle.std.specs.Prelude.{◌≡◌, ◌^◌, ◌||◌, ℕ, List, Option, None, Some, codes, option_and_then, if◌then◌else◌}
 use Rattle.std.specs.Str.{bytes_eq}
 use Rattle.json.specs.Print.{print}
 use Rattle.page.specs.declared.answer.Answer.{Answer}
@@ -15,17 +15,10 @@ use Rattle.page.specs.declared.answer.View.TheVariants.{Page, Metrics, State, Pi
 use Rattle.page.specs.Html.{page_text, silent_text}
 use Rattle.page.specs.State.{state_tokens}
 use Rattle.page.specs.Sets.{IsDrawn, media_in, set_in}
+use Rattle.page.specs.Words.{without_end, without_start}
 use Rattle.request_text.specs.Words.{number_under}
 
 -- ---- what is asked for
-
-abbrev pub without_start : List ℕ → List ℕ → Option (List ℕ)
-without_start start path =
-    if bytes_eq (take (length start) path) start then Some (drop (length start) path) else None
-
-abbrev pub without_end : List ℕ → List ℕ → Option (List ℕ)
-without_end end path = if bytes_eq (drop (length path - length end) path) end
-    then Some (take (length path - length end) path) else None
 
 -- N of /publishers/N.svg
 abbrev pub picture_number : List ℕ → Option ℕ
@@ -66,7 +59,7 @@ abbrev pub page_answer : Said → Seen
 page_answer said = record {
   verdict = verdict.Fine;
   kind = kind.Html;
-  body = page_text said.present.items said.legs.items said.counts.items;
+  body = page_text said.present.items said.legs.items said.counts.items said.rates.items;
 }
 
 -- the picture of the set that is said; 502 if what is said is no set
@@ -98,7 +91,7 @@ IsShown Metrics said seen =
 IsShown State said seen = seen ≡ record {
   verdict = verdict.Fine;
   kind = kind.Json;
-  body = print (state_tokens said.present.items said.legs.items said.counts.items);
+  body = print (state_tokens said.present.items said.legs.items said.counts.items said.rates.items);
 }
 IsShown (Picture publisher) said seen = IsPictureAnswer publisher said seen
 

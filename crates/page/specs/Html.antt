@@ -1,13 +1,18 @@
 -- The page for people: what stands in it as it is, and the words of the unit's lines, by their places, as far as they are plain.
-use Rattle.std.specs.Prelude.{ℕ, ◌==◌, ◌&&◌, Bool, List, [], ◌++◌, codes, decimal, flat_map, if◌then◌else◌}
+use Rattle.std.specs.Prelude.{ℕ, ◌==◌, ◌^◌, ◌&&◌, Bool, List, [], ◌++◌, codes, decimal, flat_map, Option, None, Some, if◌then◌else◌}
 use Rattle.std.specs.List.{list_any}
 use Rattle.std.specs.Str.{bytes_eq}
 use Rattle.request_text.specs.Lines.{lines_of}
-use Rattle.request_text.specs.Words.{words_in}
+use Rattle.request_text.specs.Words.{number_under, words_in}
 use Rattle.page.specs.declared.ends.LegEnds.{LegEnds}
+use Rattle.page.specs.declared.history.FlowRate.{FlowRate}
+use Rattle.page.specs.declared.history.Way.TheVariants.{Heard, Sent}
+use Rattle.page.specs.declared.history.Whose.{Whose}
+use Rattle.page.specs.declared.history.Whose.TheVariants as whose
 use Rattle.page.specs.declared.html.Table.{Table}
 use Rattle.page.specs.declared.html.Table.TheVariants.{Endpoints, Legs, Totals}
-use Rattle.page.specs.declared.style.TheConstants.{CLASS, CLASS_END, CLOSING, ENDPOINTS, GALLERY, GALLERY_END, IMAGE, IMAGE_END, IMAGE_NAME, IMAGE_OF, LEGS, MATRIX, OPENING, SENDERS_END, SILENT, TABLE_END, TOTALS, TOTALS_END}
+use Rattle.page.specs.declared.style.TheConstants.{CLASS, CLASS_END, CLOSING, CURVE_CELL, CURVE_CELL_END, CURVE_FIGURE, ENDPOINTS, FIGURE_END, GALLERY, GALLERY_END, IMAGE, IMAGE_END, IMAGE_NAME, IMAGE_OF, IN_CELL, IN_FIGURE, LEGS, MATRIX, OPENING, OUT_CELL, OUT_FIGURE, SENDERS_END, SILENT, TABLE_END, TOTALS, TOTALS_END, UNMOVED, WORD_CELL}
+use Rattle.page.specs.Curves.{curve_text, latest_text}
 use Rattle.page.specs.Ends.{ends_in, numbers_in}
 use Rattle.page.specs.Words.{plain_word, word_at}
 
@@ -15,6 +20,10 @@ use Rattle.page.specs.Words.{plain_word, word_at}
 
 unfoldable pub cell_text : List ℕ → List ℕ
 cell_text word = codes "<td>" ++ (plain_word word ++ codes "</td>")
+
+-- a word that stands at its left
+unfoldable pub word_cell : List ℕ → List ℕ
+word_cell word = WORD_CELL.now ++ (plain_word word ++ codes "</td>")
 
 unfoldable pub class_text : List ℕ → List ℕ
 class_text word = CLASS.now ++ (plain_word word ++ CLASS_END.now)
@@ -35,13 +44,32 @@ age_word words = if bytes_eq (word_at words 6) (codes "never") then word_at word
 
 unfoldable pub endpoint_cells : List (List ℕ) → List ℕ
 endpoint_cells words =
-    cell_text (word_at words 0)
-    ++ (state_cell (word_at words 5)
-    ++ (cell_text (age_word words) ++ (cell_text (word_at words 2) ++ cell_text (word_at words 4))))
+    cell_text (word_at words 0) ++ (state_cell (word_at words 5) ++ cell_text (age_word words))
 
-unfoldable pub endpoint_row : List (List ℕ) → List ℕ
-endpoint_row words = if bytes_eq (word_at words 1) (codes "ssrc")
-    then codes "<tr>" ++ (endpoint_cells words ++ codes "</tr>\n") else []
+-- the latest rates of what came from the endpoint and was sent to it, and their curves
+unfoldable pub rate_cells : List FlowRate → Whose → List ℕ
+rate_cells rates w =
+    IN_CELL.now ++ (latest_text rates w Heard ++ (OUT_CELL.now ++ latest_text rates w Sent))
+
+unfoldable pub curve_cell : List FlowRate → Whose → List ℕ
+curve_cell rates w = CURVE_CELL.now ++ (curve_text rates w ++ CURVE_CELL_END.now)
+
+unfoldable pub endpoint_moved : List FlowRate → Whose → List ℕ
+endpoint_moved rates w = rate_cells rates w ++ curve_cell rates w
+
+abbrev pub moved_cells : List FlowRate → Option ℕ → List ℕ
+moved_cells rates (Some n) = endpoint_moved rates (whose.Endpoint n)
+moved_cells rates None = UNMOVED.now
+
+unfoldable pub place_cells : List (List ℕ) → List ℕ
+place_cells words = cell_text (word_at words 2) ++ word_cell (word_at words 4)
+
+unfoldable pub endpoint_row : List FlowRate → List (List ℕ) → List ℕ
+endpoint_row rates words = if bytes_eq (word_at words 1) (codes "ssrc")
+    then codes "<tr>"
+    ++ (endpoint_cells words
+    ++ (moved_cells rates (number_under (2 ^ 16) (word_at words 0)) ++ (place_cells words ++ codes "</tr>\n")))
+    else []
 
 -- ---- N from P to S on stay T packets K octets O resent R missed M next Q
 
@@ -60,7 +88,7 @@ unfoldable pub leg_row : List (List ℕ) → List ℕ
 leg_row words = if bytes_eq (word_at words 1) (codes "from")
     then codes "<tr>" ++ (leg_cells words ++ (flow_cells words ++ codes "</tr>\n")) else []
 
--- ---- present P heard H sent S failed F lost L dropped D strangers T
+-- ---- present P heard H sent S failed F lost L dropped D strangers T unread U
 
 unfoldable pub total_figures : List (List ℕ) → List ℕ
 total_figures words =
@@ -74,25 +102,36 @@ loss_figures words =
     ++ (figure_text (codes "dropped") (word_at words 11)
     ++ figure_text (codes "strangers") (word_at words 13))
 
-abbrev pub totals_row : List (List ℕ) → List ℕ
-totals_row words = if bytes_eq (word_at words 0) (codes "present")
-    then total_figures words ++ loss_figures words else []
+-- what the system dropped at the unit's sockets, where it says it
+abbrev pub unread_figure : List (List ℕ) → List ℕ
+unread_figure words = if bytes_eq (word_at words 14) (codes "unread")
+    then figure_text (codes "unread") (word_at words 15) else []
+
+-- the latest rates of all endpoints together, and their curves
+unfoldable pub moved_figures : List FlowRate → List ℕ
+moved_figures rates =
+    IN_FIGURE.now
+    ++ (latest_text rates whose.Unit Heard
+    ++ (OUT_FIGURE.now
+    ++ (latest_text rates whose.Unit Sent
+    ++ (CURVE_FIGURE.now ++ (curve_text rates whose.Unit ++ FIGURE_END.now)))))
+
+abbrev pub totals_row : List FlowRate → List (List ℕ) → List ℕ
+totals_row rates words = if bytes_eq (word_at words 0) (codes "present")
+    then total_figures words ++ (loss_figures words ++ (unread_figure words ++ moved_figures rates)) else []
 
 -- ---- lines
 
-abbrev pub words_row : Table → List (List ℕ) → List ℕ
-words_row Endpoints words = endpoint_row words
-words_row Legs words = leg_row words
-words_row Totals words = totals_row words
+abbrev pub words_row : Table → List FlowRate → List (List ℕ) → List ℕ
+words_row Endpoints rates words = endpoint_row rates words
+words_row Legs rates words = leg_row words
+words_row Totals rates words = totals_row rates words
 
-abbrev pub line_row : Table → List ℕ → List ℕ
-line_row table line = words_row table (words_in line)
+abbrev pub line_row : Table → List FlowRate → List ℕ → List ℕ
+line_row table rates line = words_row table rates (words_in line)
 
-unfoldable pub rows_text : Table → List ℕ → List ℕ
-rows_text table answer = flat_map (line_row table) (lines_of answer)
-
-unfoldable pub part_text : List ℕ → Table → List ℕ → List ℕ → List ℕ
-part_text opening table answer closing = opening ++ (rows_text table answer ++ closing)
+unfoldable pub rows_text : Table → List FlowRate → List ℕ → List ℕ
+rows_text table rates answer = flat_map (line_row table rates) (lines_of answer)
 
 -- ---- who sees whom
 
@@ -145,15 +184,24 @@ gallery_part numbers ends = GALLERY.now ++ (flat_map (publisher_image ends) numb
 unfoldable pub people_part : List ℕ → List LegEnds → List ℕ
 people_part numbers ends = matrix_part numbers ends ++ gallery_part numbers ends
 
-unfoldable pub sections_text : List ℕ → List ℕ → List ℕ → List ℕ
-sections_text present legs counts =
-    part_text TOTALS.now Totals counts TOTALS_END.now
-    ++ (part_text ENDPOINTS.now Endpoints present TABLE_END.now
-    ++ (people_part (numbers_in present) (ends_in legs)
-    ++ part_text LEGS.now Legs legs TABLE_END.now))
+unfoldable pub totals_part : List ℕ → List FlowRate → List ℕ
+totals_part counts rates = TOTALS.now ++ (rows_text Totals rates counts ++ TOTALS_END.now)
 
-unfoldable pub page_text : List ℕ → List ℕ → List ℕ → List ℕ
-page_text present legs counts = OPENING.now ++ (sections_text present legs counts ++ CLOSING.now)
+unfoldable pub endpoints_part : List ℕ → List FlowRate → List ℕ
+endpoints_part present rates = ENDPOINTS.now ++ (rows_text Endpoints rates present ++ TABLE_END.now)
+
+unfoldable pub legs_part : List ℕ → List FlowRate → List ℕ
+legs_part legs rates = LEGS.now ++ (rows_text Legs rates legs ++ TABLE_END.now)
+
+unfoldable pub sections_text : List ℕ → List ℕ → List ℕ → List FlowRate → List ℕ
+sections_text present legs counts rates =
+    totals_part counts rates
+    ++ (endpoints_part present rates
+    ++ (people_part (numbers_in present) (ends_in legs) ++ legs_part legs rates))
+
+unfoldable pub page_text : List ℕ → List ℕ → List ℕ → List FlowRate → List ℕ
+page_text present legs counts rates =
+    OPENING.now ++ (sections_text present legs counts rates ++ CLOSING.now)
 
 -- of a unit that doesn't answer
 unfoldable pub silent_text : List ℕ

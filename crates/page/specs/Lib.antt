@@ -1,6 +1,8 @@
 pub mod Words
 pub mod State
 pub mod Ends
+pub mod History
+pub mod Curves
 pub mod Sets
 pub mod Html
 pub mod Hosts

@@ -5,8 +5,13 @@ use Rattle.json.specs.Token.{Token, begin_object, end_object, begin_array, end_a
 use Rattle.json.specs.Written.{Written}
 use Rattle.request_text.specs.Lines.{lines_of}
 use Rattle.request_text.specs.Words.{number_under, words_in}
+use Rattle.page.specs.declared.history.FlowRate.{FlowRate}
+use Rattle.page.specs.declared.history.Way.TheVariants.{Heard, Sent}
+use Rattle.page.specs.declared.history.Whose.{Whose}
+use Rattle.page.specs.declared.history.Whose.TheVariants as whose
 use Rattle.page.specs.declared.state.Rows.{Rows}
 use Rattle.page.specs.declared.state.Rows.TheVariants.{Endpoints, Legs, Totals}
+use Rattle.page.specs.History.{rate_now}
 use Rattle.page.specs.Words.{plain_word, word_at}
 
 -- these tokens come behind those that were written
@@ -19,14 +24,25 @@ abbrev pub number_or_null : Option ℕ → Token
 number_or_null (Some n) = number (decimal n)
 number_or_null None = null
 
-unfoldable pub number_member : List ℕ → List ℕ → List Token
-number_member name word = key name ∷ (number_or_null (number_under (2 ^ 64) word) ∷ [])
+unfoldable pub known_member : List ℕ → Option ℕ → List Token
+known_member name n = key name ∷ (number_or_null n ∷ [])
+
+abbrev pub number_member : List ℕ → List ℕ → List Token
+number_member name word = known_member name (number_under (2 ^ 64) word)
 
 unfoldable pub text_member : List ℕ → List ℕ → List Token
 text_member name word = key name ∷ (string (plain_word word) ∷ [])
 
 unfoldable pub switch_member : List ℕ → List ℕ → List ℕ → List Token
 switch_member name word wanted = key name ∷ (boolean (bytes_eq word wanted) ∷ [])
+
+-- ---- rates
+
+-- over the time before the last question, in bits a second
+unfoldable pub moved_members : List FlowRate → Whose → List Token
+moved_members rates w =
+    known_member (codes "heard_bps") (rate_now rates (record { whose = w; way = Heard }))
+    ++ known_member (codes "sent_bps") (rate_now rates (record { whose = w; way = Sent }))
 
 -- ---- N ssrc SSRC at ADDRESS present heard M ms ago
 
@@ -38,9 +54,15 @@ endpoint_members words =
     ++ (switch_member (codes "present") (word_at words 5) (codes "present")
     ++ number_member (codes "heard_ago_ms") (word_at words 7))))
 
-abbrev pub endpoint_words : List (List ℕ) → List Token
-endpoint_words words = if bytes_eq (word_at words 1) (codes "ssrc")
-    then begin_object ∷ (endpoint_members words ++ end_object ∷ []) else []
+abbrev pub endpoint_moved : List FlowRate → Option ℕ → List Token
+endpoint_moved rates (Some n) = moved_members rates (whose.Endpoint n)
+endpoint_moved rates None = []
+
+abbrev pub endpoint_words : List FlowRate → List (List ℕ) → List Token
+endpoint_words rates words = if bytes_eq (word_at words 1) (codes "ssrc")
+    then begin_object
+    ∷ (endpoint_members words
+    ++ (endpoint_moved rates (number_under (2 ^ 16) (word_at words 0)) ++ end_object ∷ [])) else []
 
 -- ---- N from P to S on stay T packets K octets O resent R missed M next Q
 
@@ -64,7 +86,7 @@ abbrev pub leg_words : List (List ℕ) → List Token
 leg_words words = if bytes_eq (word_at words 1) (codes "from")
     then begin_object ∷ (leg_members words ++ (flow_members words ++ end_object ∷ [])) else []
 
--- ---- present P heard H sent S failed F lost L dropped D strangers T
+-- ---- present P heard H sent S failed F lost L dropped D strangers T unread U
 
 unfoldable pub totals_members : List (List ℕ) → List Token
 totals_members words =
@@ -77,42 +99,44 @@ unfoldable pub losses_members : List (List ℕ) → List Token
 losses_members words =
     number_member (codes "lost") (word_at words 9)
     ++ (number_member (codes "dropped") (word_at words 11)
-    ++ number_member (codes "strangers") (word_at words 13))
+    ++ (number_member (codes "strangers") (word_at words 13)
+    ++ number_member (codes "unread") (word_at words 15)))
 
-abbrev pub totals_words : List (List ℕ) → List Token
-totals_words words = if bytes_eq (word_at words 0) (codes "present")
-    then totals_members words ++ losses_members words else []
+abbrev pub totals_words : List FlowRate → List (List ℕ) → List Token
+totals_words rates words = if bytes_eq (word_at words 0) (codes "present")
+    then totals_members words ++ (losses_members words ++ moved_members rates whose.Unit) else []
 
 -- ---- lines
 
-abbrev pub words_tokens : Rows → List (List ℕ) → List Token
-words_tokens Endpoints words = endpoint_words words
-words_tokens Legs words = leg_words words
-words_tokens Totals words = totals_words words
+abbrev pub words_tokens : Rows → List FlowRate → List (List ℕ) → List Token
+words_tokens Endpoints rates words = endpoint_words rates words
+words_tokens Legs rates words = leg_words words
+words_tokens Totals rates words = totals_words rates words
 
-abbrev pub line_tokens : Rows → List ℕ → List Token
-line_tokens rows line = words_tokens rows (words_in line)
+abbrev pub line_tokens : Rows → List FlowRate → List ℕ → List Token
+line_tokens rows rates line = words_tokens rows rates (words_in line)
 
 unfoldable pub array_begun : List ℕ → List Token
 array_begun name = key name ∷ (begin_array ∷ [])
 
-unfoldable pub array_member : List ℕ → Rows → List ℕ → List Token
-array_member name rows text =
-    array_begun name ++ (flat_map (line_tokens rows) (lines_of text) ++ end_array ∷ [])
+unfoldable pub array_member : List ℕ → Rows → List FlowRate → List ℕ → List Token
+array_member name rows rates text =
+    array_begun name ++ (flat_map (line_tokens rows rates) (lines_of text) ++ end_array ∷ [])
 
 unfoldable pub counts_begun : List Token
 counts_begun = key (codes "counts") ∷ (begin_object ∷ [])
 
-unfoldable pub counts_member : List ℕ → List Token
-counts_member text =
-    counts_begun ++ (flat_map (line_tokens Totals) (lines_of text) ++ end_object ∷ [])
+unfoldable pub counts_member : List FlowRate → List ℕ → List Token
+counts_member rates text =
+    counts_begun ++ (flat_map (line_tokens Totals rates) (lines_of text) ++ end_object ∷ [])
 
 -- ---- the whole
 
-unfoldable pub state_parts : List ℕ → List ℕ → List ℕ → List Token
-state_parts present legs counts =
-    array_member (codes "endpoints") Endpoints present
-    ++ (array_member (codes "legs") Legs legs ++ counts_member counts)
+unfoldable pub state_parts : List ℕ → List ℕ → List ℕ → List FlowRate → List Token
+state_parts present legs counts rates =
+    array_member (codes "endpoints") Endpoints rates present
+    ++ (array_member (codes "legs") Legs rates legs ++ counts_member rates counts)
 
-abbrev pub state_tokens : List ℕ → List ℕ → List ℕ → List Token
-state_tokens present legs counts = begin_object ∷ (state_parts present legs counts ++ end_object ∷ [])
+abbrev pub state_tokens : List ℕ → List ℕ → List ℕ → List FlowRate → List Token
+state_tokens present legs counts rates =
+    begin_object ∷ (state_parts present legs counts rates ++ end_object ∷ [])

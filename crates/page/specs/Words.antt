@@ -1,6 +1,7 @@
 -- The words of the unit's lines, by their places.
-use Rattle.std.specs.Prelude.{ℕ, ◌==◌, ◌&&◌, ◌||◌, nat_le, Bool, List, [], get_or, codes, if◌then◌else◌}
+use Rattle.std.specs.Prelude.{ℕ, ◌==◌, ◌-◌, ◌&&◌, ◌||◌, nat_le, Bool, List, [], get_or, codes, drop, length, take, Option, None, Some, if◌then◌else◌}
 use Rattle.std.specs.List.{list_all}
+use Rattle.std.specs.Str.{bytes_eq}
 
 -- none is there: no byte
 abbrev pub word_at : List (List ℕ) → ℕ → List ℕ
@@ -17,3 +18,12 @@ is_plain word = list_all is_plain_byte word
 -- a word is shown as it is if it is plain
 abbrev pub plain_word : List ℕ → List ℕ
 plain_word word = if is_plain word then word else codes "?"
+
+-- what stands behind a start, and before an end
+abbrev pub without_start : List ℕ → List ℕ → Option (List ℕ)
+without_start start path =
+    if bytes_eq (take (length start) path) start then Some (drop (length start) path) else None
+
+abbrev pub without_end : List ℕ → List ℕ → Option (List ℕ)
+without_end end path = if bytes_eq (drop (length path - length end) path) end
+    then Some (take (length path - length end) path) else None

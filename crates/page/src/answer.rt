@@ -1,11 +1,13 @@
 //! Which request is answered by what.
 
-ghost use Rattle.std.specs.Prelude.{◌≡◌, IfOk, option_map};
-ghost use Rattle.page.specs.Answers.{IsAnswer, IsPictureAnswer, IsSetAnswer, IsShown, answer_seen, asked_by, page_answer, picture_number, picture_place, place_of, plain_answer, silent_answer, without_end, without_start};
+ghost use Rattle.std.specs.Prelude.{◌≡◌, IfOk};
+ghost use Rattle.page.specs.Answers.{IsAnswer, IsPictureAnswer, IsSetAnswer, IsShown, answer_seen, asked_by, page_answer, picture_number, picture_place, place_of, plain_answer, silent_answer};
 
+use crate::history::FlowRate;
 use crate::html::{page_text, silent_text};
 use crate::sets::{AnnouncedSet, media_of, picture_in, set_for};
 use crate::state::state_text;
+use crate::words::{without_end, without_start};
 use request_text::{is_word, number_u16};
 use std::alloc::{AllocError, Global};
 
@@ -25,6 +27,8 @@ pub struct Said {
     pub counts: Vec<u8>,
     /// The sets that it announces.
     pub sets: Vec<AnnouncedSet>,
+    /// What moved in the minute before that.
+    pub rates: Vec<FlowRate>,
 }
 
 /// What is shown of a unit.
@@ -133,18 +137,6 @@ fn picture_number(path: &[u8]) -> Option<u16>
     number_u16(number)
 }
 
-fn without_start<'a>(path: &'a [u8], start: &[u8]) -> Option<&'a [u8]>
-    ensures { option_map (λ x. x.now) result ≡ without_start start.now path.now }
-{
-    path.strip_prefix(start)
-}
-
-fn without_end<'a>(path: &'a [u8], end: &[u8]) -> Option<&'a [u8]>
-    ensures { option_map (λ x. x.now) result ≡ without_end end.now path.now }
-{
-    path.strip_suffix(end)
-}
-
 /// The answer to what is asked, by what the unit said last; `None` if it says nothing. Refused for want of memory alone.
 pub fn answer_to(alloc: Global, asked: Asked, said: &Option<Said>) -> Result<Answer, AllocError>
     ensures { IfOk result (λ a. IsAnswer asked said.now (answer_seen a)) }
@@ -195,6 +187,7 @@ fn shown(alloc: Global, view: View, said: &Said) -> Result<Answer, AllocError>
                 said.present.as_slice(),
                 said.legs.as_slice(),
                 said.counts.as_slice(),
+                said.rates.as_slice(),
             )?,
         }),
         View::Picture(publisher) => picture(alloc, publisher, said),
@@ -237,6 +230,7 @@ fn page(alloc: Global, said: &Said) -> Result<Answer, AllocError>
         said.present.as_slice(),
         said.legs.as_slice(),
         said.counts.as_slice(),
+        said.rates.as_slice(),
     )?;
     Ok(Answer {
         verdict: Verdict::Fine,

@@ -2,17 +2,20 @@
 
 ghost use Rattle.std.specs.Prelude.{◌≡◌, ◌++◌, IfOk, OnOk, flat_map, map};
 ghost use Rattle.std.specs.String.{string_bytes};
-ghost use Rattle.page.specs.Html.{age_word, cell_text, class_text, endpoint_cells, endpoint_row, figure_text, flow_cells, leg_cells, leg_row, line_row, loss_figures, page_text, part_text, people_part, rows_text, sections_text, silent_text, state_cell, total_figures, totals_row, words_row};
+ghost use Rattle.page.specs.Html.{age_word, cell_text, class_text, curve_cell, endpoint_cells, endpoint_moved, endpoint_row, endpoints_part, figure_text, flow_cells, leg_cells, leg_row, legs_part, line_row, loss_figures, moved_cells, moved_figures, page_text, people_part, place_cells, rate_cells, rows_text, sections_text, silent_text, state_cell, total_figures, totals_part, totals_row, unread_figure, word_cell, words_row};
 ghost use Rattle.page.specs.Ends.{ends_in, numbers_in};
 
+use crate::curves::{push_curve, push_latest};
 use crate::ends::{LegEnds, ends_in, numbers_in};
 use crate::gallery::push_gallery;
+use crate::history::{FlowRate, Way, Whose};
 use crate::matrix::push_matrix;
 use crate::style::{
-    CLASS, CLASS_END, CLOSING, ENDPOINTS, LEGS, OPENING, SILENT, TABLE_END, TOTALS, TOTALS_END,
+    CLASS, CLASS_END, CLOSING, CURVE_CELL, CURVE_CELL_END, CURVE_FIGURE, ENDPOINTS, FIGURE_END, IN_CELL, IN_FIGURE, LEGS, OPENING, OUT_CELL,
+    OUT_FIGURE, SILENT, TABLE_END, TOTALS, TOTALS_END, UNMOVED, WORD_CELL,
 };
 use crate::words::{plain_word, word_at};
-use request_text::{is_word, lines, words_of};
+use request_text::{is_word, lines, number_u16, words_of};
 use std::alloc::{AllocError, Global};
 
 /// What the lines of an answer tell of.
@@ -23,21 +26,22 @@ enum Table {
     Totals,
 }
 
-/// The page of a unit, by its answers to `present`, `legs` and `counts`: the totals, who is there, who sees whom, and what went out on
-/// each leg. Of a line no word is shown that isn't plain. Refused for want of memory alone.
+/// The page of a unit, by its answers to `present`, `legs` and `counts` and by what moved in the last minute: the totals, who is there, who
+/// sees whom, and what went out on each leg. Of a line no word is shown that isn't plain. Refused for want of memory alone.
 #[tactic(auto, unfolding(crate::specs::Html::page_text))]
 pub fn page_text(
     alloc: Global,
     present: &[u8],
     legs: &[u8],
     counts: &[u8],
+    rates: &[FlowRate],
 ) -> Result<String, AllocError>
     ensures { IfOk result
-        (λ text. string_bytes text ≡ page_text present.now legs.now counts.now) }
+        (λ text. string_bytes text ≡ page_text present.now legs.now counts.now rates.now) }
 {
     let mut text = String::new(alloc);
     text.push_str(OPENING)?;
-    push_sections(alloc, &mut text, present, legs, counts)?;
+    push_sections(alloc, &mut text, present, legs, counts, rates)?;
     text.push_str(CLOSING)?;
     Ok(text)
 }
@@ -61,32 +65,60 @@ fn push_sections(
     present: &[u8],
     legs: &[u8],
     counts: &[u8],
+    rates: &[FlowRate],
 ) -> Result<(), AllocError>
     ensures { OnOk result (string_bytes text.new
-        ≡ string_bytes text.old ++ sections_text present.now legs.now counts.now) }
+        ≡ string_bytes text.old ++ sections_text present.now legs.now counts.now rates.now) }
 {
-    push_part(alloc, text, TOTALS, Table::Totals, counts, TOTALS_END)?;
-    push_part(alloc, text, ENDPOINTS, Table::Endpoints, present, TABLE_END)?;
+    push_totals_part(alloc, text, counts, rates)?;
+    push_endpoints_part(alloc, text, present, rates)?;
     push_people(alloc, text, present, legs)?;
-    push_part(alloc, text, LEGS, Table::Legs, legs, TABLE_END)
+    push_legs_part(alloc, text, legs, rates)
 }
 
-/// A section with a row for each line of an answer.
-#[tactic(auto, unfolding(crate::specs::Html::part_text))]
-fn push_part(
+#[tactic(auto, unfolding(crate::specs::Html::totals_part))]
+fn push_totals_part(
     alloc: Global,
     text: &mut String,
-    opening: &str,
-    table: Table,
-    answer: &[u8],
-    closing: &str,
+    counts: &[u8],
+    rates: &[FlowRate],
 ) -> Result<(), AllocError>
     ensures { OnOk result (string_bytes text.new
-        ≡ string_bytes text.old ++ part_text opening.now table answer.now closing.now) }
+        ≡ string_bytes text.old ++ totals_part counts.now rates.now) }
 {
-    text.push_str(opening)?;
-    push_rows(alloc, text, table, answer)?;
-    text.push_str(closing)
+    text.push_str(TOTALS)?;
+    push_rows(alloc, text, Table::Totals, counts, rates)?;
+    text.push_str(TOTALS_END)
+}
+
+#[tactic(auto, unfolding(crate::specs::Html::endpoints_part))]
+fn push_endpoints_part(
+    alloc: Global,
+    text: &mut String,
+    present: &[u8],
+    rates: &[FlowRate],
+) -> Result<(), AllocError>
+    ensures { OnOk result (string_bytes text.new
+        ≡ string_bytes text.old ++ endpoints_part present.now rates.now) }
+{
+    text.push_str(ENDPOINTS)?;
+    push_rows(alloc, text, Table::Endpoints, present, rates)?;
+    text.push_str(TABLE_END)
+}
+
+#[tactic(auto, unfolding(crate::specs::Html::legs_part))]
+fn push_legs_part(
+    alloc: Global,
+    text: &mut String,
+    legs: &[u8],
+    rates: &[FlowRate],
+) -> Result<(), AllocError>
+    ensures { OnOk result (string_bytes text.new
+        ≡ string_bytes text.old ++ legs_part legs.now rates.now) }
+{
+    text.push_str(LEGS)?;
+    push_rows(alloc, text, Table::Legs, legs, rates)?;
+    text.push_str(TABLE_END)
 }
 
 /// What each line of an answer gives.
@@ -95,12 +127,13 @@ fn push_rows(
     text: &mut String,
     table: Table,
     answer: &[u8],
+    rates: &[FlowRate],
 ) -> Result<(), AllocError>
     ensures { OnOk result (string_bytes text.new
-        ≡ string_bytes text.old ++ rows_text table answer.now) }
+        ≡ string_bytes text.old ++ rows_text table rates.now answer.now) }
 {
     let lines = lines(alloc, answer)?;
-    push_lines(alloc, text, table, lines.as_slice())
+    push_lines(alloc, text, table, lines.as_slice(), rates)
 }
 
 fn push_lines(
@@ -108,47 +141,65 @@ fn push_lines(
     text: &mut String,
     table: Table,
     lines: &[&[u8]],
+    rates: &[FlowRate],
 ) -> Result<(), AllocError>
     ensures { OnOk result (string_bytes text.new
-        ≡ string_bytes text.old ++ flat_map (λ x. line_row table x.now) lines.now) }
+        ≡ string_bytes text.old ++ flat_map (λ x. line_row table rates.now x.now) lines.now) }
 {
     for line in lines {
-        push_line(alloc, text, table, line)?;
+        push_line(alloc, text, table, line, rates)?;
     }
     Ok(())
 }
 
 /// What a line gives.
-fn push_line(alloc: Global, text: &mut String, table: Table, line: &[u8]) -> Result<(), AllocError>
+fn push_line(
+    alloc: Global,
+    text: &mut String,
+    table: Table,
+    line: &[u8],
+    rates: &[FlowRate],
+) -> Result<(), AllocError>
     ensures { OnOk result (string_bytes text.new
-        ≡ string_bytes text.old ++ line_row table line.now) }
+        ≡ string_bytes text.old ++ line_row table rates.now line.now) }
 {
     let words = words_of(alloc, line)?;
-    push_words(text, table, words.as_slice())
+    push_words(text, table, words.as_slice(), rates)
 }
 
-fn push_words(text: &mut String, table: Table, words: &[&[u8]]) -> Result<(), AllocError>
+fn push_words(
+    text: &mut String,
+    table: Table,
+    words: &[&[u8]],
+    rates: &[FlowRate],
+) -> Result<(), AllocError>
     ensures { OnOk result (string_bytes text.new
-        ≡ string_bytes text.old ++ words_row table (map (λ x. x.now) words.now)) }
+        ≡ string_bytes text.old ++ words_row table rates.now (map (λ x. x.now) words.now)) }
 {
     match table {
-        Table::Endpoints => push_endpoint(text, words),
+        Table::Endpoints => push_endpoint(text, words, rates),
         Table::Legs => push_leg(text, words),
-        Table::Totals => push_totals(text, words),
+        Table::Totals => push_totals(text, words, rates),
     }
 }
 
 /// The row of an endpoint.
 #[tactic(auto, unfolding(crate::specs::Html::endpoint_row))]
-fn push_endpoint(text: &mut String, words: &[&[u8]]) -> Result<(), AllocError>
+fn push_endpoint(
+    text: &mut String,
+    words: &[&[u8]],
+    rates: &[FlowRate],
+) -> Result<(), AllocError>
     ensures { OnOk result (string_bytes text.new
-        ≡ string_bytes text.old ++ endpoint_row (map (λ x. x.now) words.now)) }
+        ≡ string_bytes text.old ++ endpoint_row rates.now (map (λ x. x.now) words.now)) }
 {
     if !is_word(word_at(words, 1), b"ssrc") {
         return Ok(());
     }
     text.push_str("<tr>")?;
     push_endpoint_cells(text, words)?;
+    push_moved_cells(text, rates, number_u16(word_at(words, 0)))?;
+    push_place_cells(text, words)?;
     text.push_str("</tr>\n")
 }
 
@@ -159,9 +210,66 @@ fn push_endpoint_cells(text: &mut String, words: &[&[u8]]) -> Result<(), AllocEr
 {
     push_cell(text, word_at(words, 0))?;
     push_state(text, word_at(words, 5))?;
-    push_cell(text, age_word(words))?;
+    push_cell(text, age_word(words))
+}
+
+/// Where it is.
+#[tactic(auto, unfolding(crate::specs::Html::place_cells))]
+fn push_place_cells(text: &mut String, words: &[&[u8]]) -> Result<(), AllocError>
+    ensures { OnOk result (string_bytes text.new
+        ≡ string_bytes text.old ++ place_cells (map (λ x. x.now) words.now)) }
+{
     push_cell(text, word_at(words, 2))?;
-    push_cell(text, word_at(words, 4))
+    push_word_cell(text, word_at(words, 4))
+}
+
+/// What moved of the endpoint with this number.
+fn push_moved_cells(
+    text: &mut String,
+    rates: &[FlowRate],
+    number: Option<u16>,
+) -> Result<(), AllocError>
+    ensures { OnOk result
+        (string_bytes text.new ≡ string_bytes text.old ++ moved_cells rates.now number) }
+{
+    match number {
+        Some(number) => push_endpoint_moved(text, rates, Whose::Endpoint(number)),
+        None => text.push_str(UNMOVED),
+    }
+}
+
+#[tactic(auto, unfolding(crate::specs::Html::endpoint_moved))]
+fn push_endpoint_moved(
+    text: &mut String,
+    rates: &[FlowRate],
+    whose: Whose,
+) -> Result<(), AllocError>
+    ensures { OnOk result
+        (string_bytes text.new ≡ string_bytes text.old ++ endpoint_moved rates.now whose) }
+{
+    push_rate_cells(text, rates, whose)?;
+    push_curve_cell(text, rates, whose)
+}
+
+#[tactic(auto, unfolding(crate::specs::Html::rate_cells))]
+fn push_rate_cells(text: &mut String, rates: &[FlowRate], whose: Whose) -> Result<(), AllocError>
+    ensures { OnOk result
+        (string_bytes text.new ≡ string_bytes text.old ++ rate_cells rates.now whose) }
+{
+    text.push_str(IN_CELL)?;
+    push_latest(text, rates, whose, Way::Heard)?;
+    text.push_str(OUT_CELL)?;
+    push_latest(text, rates, whose, Way::Sent)
+}
+
+#[tactic(auto, unfolding(crate::specs::Html::curve_cell))]
+fn push_curve_cell(text: &mut String, rates: &[FlowRate], whose: Whose) -> Result<(), AllocError>
+    ensures { OnOk result
+        (string_bytes text.new ≡ string_bytes text.old ++ curve_cell rates.now whose) }
+{
+    text.push_str(CURVE_CELL)?;
+    push_curve(text, rates, whose)?;
+    text.push_str(CURVE_CELL_END)
 }
 
 /// How many milliseconds ago it was heard, or `never`.
@@ -216,15 +324,48 @@ fn push_flow_cells(text: &mut String, words: &[&[u8]]) -> Result<(), AllocError>
 }
 
 /// The totals.
-fn push_totals(text: &mut String, words: &[&[u8]]) -> Result<(), AllocError>
+fn push_totals(
+    text: &mut String,
+    words: &[&[u8]],
+    rates: &[FlowRate],
+) -> Result<(), AllocError>
     ensures { OnOk result (string_bytes text.new
-        ≡ string_bytes text.old ++ totals_row (map (λ x. x.now) words.now)) }
+        ≡ string_bytes text.old ++ totals_row rates.now (map (λ x. x.now) words.now)) }
 {
     if !is_word(word_at(words, 0), b"present") {
         return Ok(());
     }
     push_total_figures(text, words)?;
-    push_loss_figures(text, words)
+    push_loss_figures(text, words)?;
+    push_unread(text, words)?;
+    push_moved_figures(text, rates)
+}
+
+/// What the system dropped at the unit's sockets, if it says it.
+fn push_unread(text: &mut String, words: &[&[u8]]) -> Result<(), AllocError>
+    ensures { OnOk result (string_bytes text.new
+        ≡ string_bytes text.old ++ unread_figure (map (λ x. x.now) words.now)) }
+{
+    if is_word(word_at(words, 14), b"unread") {
+        push_figure(text, "unread", word_at(words, 15))
+    } else {
+        Ok(())
+    }
+}
+
+/// What moved of all endpoints together.
+#[tactic(auto, unfolding(crate::specs::Html::moved_figures))]
+fn push_moved_figures(text: &mut String, rates: &[FlowRate]) -> Result<(), AllocError>
+    ensures { OnOk result (string_bytes text.new ≡ string_bytes text.old ++ moved_figures rates.now) }
+{
+    let whose = Whose::Unit;
+    text.push_str(IN_FIGURE)?;
+    push_latest(text, rates, whose, Way::Heard)?;
+    text.push_str(OUT_FIGURE)?;
+    push_latest(text, rates, whose, Way::Sent)?;
+    text.push_str(CURVE_FIGURE)?;
+    push_curve(text, rates, whose)?;
+    text.push_str(FIGURE_END)
 }
 
 #[tactic(auto, unfolding(crate::specs::Html::total_figures))]
@@ -255,6 +396,16 @@ fn push_cell(text: &mut String, word: &[u8]) -> Result<(), AllocError>
     ensures { OnOk result (string_bytes text.new ≡ string_bytes text.old ++ cell_text word.now) }
 {
     text.push_str("<td>")?;
+    text.push_str(plain_word(word))?;
+    text.push_str("</td>")
+}
+
+/// A cell with a word that stands at its left.
+#[tactic(auto, unfolding(crate::specs::Html::word_cell))]
+fn push_word_cell(text: &mut String, word: &[u8]) -> Result<(), AllocError>
+    ensures { OnOk result (string_bytes text.new ≡ string_bytes text.old ++ word_cell word.now) }
+{
+    text.push_str(WORD_CELL)?;
     text.push_str(plain_word(word))?;
     text.push_str("</td>")
 }

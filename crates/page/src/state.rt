@@ -3,14 +3,15 @@
 ghost use Rattle.std.specs.Prelude.{◌≡◌, IfOk, codes, flat_map, map};
 ghost use Rattle.json.specs.Print.{print};
 ghost use Rattle.request_text.specs.Lines.{lines_of};
-ghost use Rattle.page.specs.State.{Tells, array_begun, array_member, counts_begun, counts_member, endpoint_members, endpoint_words, flow_members, leg_members, leg_words, line_tokens, losses_members, number_member, state_parts, state_tokens, switch_member, text_member, totals_members, totals_words, words_tokens};
+ghost use Rattle.page.specs.State.{Tells, array_begun, array_member, counts_begun, counts_member, endpoint_members, endpoint_moved, endpoint_words, flow_members, known_member, leg_members, leg_words, line_tokens, losses_members, moved_members, number_member, state_parts, state_tokens, switch_member, text_member, totals_members, totals_words, words_tokens};
 
+use crate::history::{Flow, FlowRate, Way, Whose, rate_now};
 use crate::words::{plain_word, word_at};
 use json::Writer;
-use request_text::{is_word, lines, number_u64, words_of};
+use request_text::{is_word, lines, number_u16, number_u64, words_of};
 use std::alloc::{AllocError, Global};
 
-/// What a unit is like, by its answers to `present`, `legs` and `counts`, as a JSON object: `endpoints` and `legs` are arrays of
+/// What a unit is like, by its answers to `present`, `legs` and `counts` and by what moved in the last minute, as a JSON object: `endpoints` and `legs` are arrays of
 /// objects, `counts` is an object, each number is one, and what is no number where one should stand is null. A line that tells of none
 /// of these is passed over. Refused for want of memory alone.
 pub fn state_text(
@@ -18,12 +19,13 @@ pub fn state_text(
     present: &[u8],
     legs: &[u8],
     counts: &[u8],
+    rates: &[FlowRate],
 ) -> Result<Vec<u8>, AllocError>
     ensures { IfOk result
-        (λ text. text.items ≡ print (state_tokens present.now legs.now counts.now)) }
+        (λ text. text.items ≡ print (state_tokens present.now legs.now counts.now rates.now)) }
 {
     let mut writer = Writer::new(Vec::new(alloc));
-    push_state(alloc, &mut writer, present, legs, counts)?;
+    push_state(alloc, &mut writer, present, legs, counts, rates)?;
     Ok(writer.into_inner())
 }
 
@@ -41,11 +43,13 @@ fn push_state(
     present: &[u8],
     legs: &[u8],
     counts: &[u8],
+    rates: &[FlowRate],
 ) -> Result<(), AllocError>
-    ensures { Tells result writer.old writer.new (state_tokens present.now legs.now counts.now) }
+    ensures { Tells result writer.old writer.new
+        (state_tokens present.now legs.now counts.now rates.now) }
 {
     writer.begin_object()?;
-    push_parts(alloc, writer, present, legs, counts)?;
+    push_parts(alloc, writer, present, legs, counts, rates)?;
     writer.end_object()
 }
 
@@ -56,12 +60,14 @@ fn push_parts(
     present: &[u8],
     legs: &[u8],
     counts: &[u8],
+    rates: &[FlowRate],
 ) -> Result<(), AllocError>
-    ensures { Tells result writer.old writer.new (state_parts present.now legs.now counts.now) }
+    ensures { Tells result writer.old writer.new
+        (state_parts present.now legs.now counts.now rates.now) }
 {
-    push_array(alloc, writer, "endpoints", Rows::Endpoints, present)?;
-    push_array(alloc, writer, "legs", Rows::Legs, legs)?;
-    push_counts(alloc, writer, counts)
+    push_array(alloc, writer, "endpoints", Rows::Endpoints, present, rates)?;
+    push_array(alloc, writer, "legs", Rows::Legs, legs, rates)?;
+    push_counts(alloc, writer, counts, rates)
 }
 
 /// A member that is an array, with an object for each line that tells of one.
@@ -72,11 +78,12 @@ fn push_array(
     name: &str,
     rows: Rows,
     text: &[u8],
+    rates: &[FlowRate],
 ) -> Result<(), AllocError>
-    ensures { Tells result writer.old writer.new (array_member name.now rows text.now) }
+    ensures { Tells result writer.old writer.new (array_member name.now rows rates.now text.now) }
 {
     begin_array(writer, name)?;
-    push_rows(alloc, writer, rows, text)?;
+    push_rows(alloc, writer, rows, text, rates)?;
     writer.end_array()
 }
 
@@ -90,11 +97,16 @@ fn begin_array(writer: &mut Writer, name: &str) -> Result<(), AllocError>
 
 /// `counts`.
 #[tactic(auto, unfolding(crate::specs::State::counts_member))]
-fn push_counts(alloc: Global, writer: &mut Writer, text: &[u8]) -> Result<(), AllocError>
-    ensures { Tells result writer.old writer.new (counts_member text.now) }
+fn push_counts(
+    alloc: Global,
+    writer: &mut Writer,
+    text: &[u8],
+    rates: &[FlowRate],
+) -> Result<(), AllocError>
+    ensures { Tells result writer.old writer.new (counts_member rates.now text.now) }
 {
     begin_counts(writer)?;
-    push_rows(alloc, writer, Rows::Totals, text)?;
+    push_rows(alloc, writer, Rows::Totals, text, rates)?;
     writer.end_object()
 }
 
@@ -107,11 +119,18 @@ fn begin_counts(writer: &mut Writer) -> Result<(), AllocError>
 }
 
 /// What each line of a text tells of.
-fn push_rows(alloc: Global, writer: &mut Writer, rows: Rows, text: &[u8]) -> Result<(), AllocError>
-    ensures { Tells result writer.old writer.new (flat_map (line_tokens rows) (lines_of text.now)) }
+fn push_rows(
+    alloc: Global,
+    writer: &mut Writer,
+    rows: Rows,
+    text: &[u8],
+    rates: &[FlowRate],
+) -> Result<(), AllocError>
+    ensures { Tells result writer.old writer.new
+        (flat_map (line_tokens rows rates.now) (lines_of text.now)) }
 {
     let lines = lines(alloc, text)?;
-    push_lines(alloc, writer, rows, lines.as_slice())
+    push_lines(alloc, writer, rows, lines.as_slice(), rates)
 }
 
 fn push_lines(
@@ -119,46 +138,95 @@ fn push_lines(
     writer: &mut Writer,
     rows: Rows,
     lines: &[&[u8]],
+    rates: &[FlowRate],
 ) -> Result<(), AllocError>
     ensures { Tells result writer.old writer.new
-        (flat_map (λ x. line_tokens rows x.now) lines.now) }
+        (flat_map (λ x. line_tokens rows rates.now x.now) lines.now) }
 {
     for line in lines {
-        push_line(alloc, writer, rows, line)?;
+        push_line(alloc, writer, rows, line, rates)?;
     }
     Ok(())
 }
 
 /// What a line tells of.
-fn push_line(alloc: Global, writer: &mut Writer, rows: Rows, line: &[u8]) -> Result<(), AllocError>
-    ensures { Tells result writer.old writer.new (line_tokens rows line.now) }
+fn push_line(
+    alloc: Global,
+    writer: &mut Writer,
+    rows: Rows,
+    line: &[u8],
+    rates: &[FlowRate],
+) -> Result<(), AllocError>
+    ensures { Tells result writer.old writer.new (line_tokens rows rates.now line.now) }
 {
     let words = words_of(alloc, line)?;
-    push_words(writer, rows, words.as_slice())
+    push_words(writer, rows, words.as_slice(), rates)
 }
 
 /// What these words tell of.
-fn push_words(writer: &mut Writer, rows: Rows, words: &[&[u8]]) -> Result<(), AllocError>
+fn push_words(
+    writer: &mut Writer,
+    rows: Rows,
+    words: &[&[u8]],
+    rates: &[FlowRate],
+) -> Result<(), AllocError>
     ensures { Tells result writer.old writer.new
-        (words_tokens rows (map (λ x. x.now) words.now)) }
+        (words_tokens rows rates.now (map (λ x. x.now) words.now)) }
 {
     match rows {
-        Rows::Endpoints => push_endpoint(writer, words),
+        Rows::Endpoints => push_endpoint(writer, words, rates),
         Rows::Legs => push_leg(writer, words),
-        Rows::Totals => push_total(writer, words),
+        Rows::Totals => push_total(writer, words, rates),
     }
 }
 
 /// The object of the endpoint that these words tell of.
-fn push_endpoint(writer: &mut Writer, words: &[&[u8]]) -> Result<(), AllocError>
-    ensures { Tells result writer.old writer.new (endpoint_words (map (λ x. x.now) words.now)) }
+fn push_endpoint(
+    writer: &mut Writer,
+    words: &[&[u8]],
+    rates: &[FlowRate],
+) -> Result<(), AllocError>
+    ensures { Tells result writer.old writer.new
+        (endpoint_words rates.now (map (λ x. x.now) words.now)) }
 {
     if !is_word(word_at(words, 1), b"ssrc") {
         return Ok(());
     }
     writer.begin_object()?;
     push_endpoint_members(writer, words)?;
+    push_endpoint_moved(writer, rates, number_u16(word_at(words, 0)))?;
     writer.end_object()
+}
+
+/// The rates of the endpoint with this number.
+fn push_endpoint_moved(
+    writer: &mut Writer,
+    rates: &[FlowRate],
+    number: Option<u16>,
+) -> Result<(), AllocError>
+    ensures { Tells result writer.old writer.new (endpoint_moved rates.now number) }
+{
+    match number {
+        Some(number) => push_moved(writer, rates, Whose::Endpoint(number)),
+        None => Ok(()),
+    }
+}
+
+/// The rates over the time before the last question, in bits a second.
+#[tactic(auto, unfolding(crate::specs::State::moved_members))]
+fn push_moved(writer: &mut Writer, rates: &[FlowRate], whose: Whose) -> Result<(), AllocError>
+    ensures { Tells result writer.old writer.new (moved_members rates.now whose) }
+{
+    let heard = Flow {
+        whose,
+        way: Way::Heard,
+    };
+    let sent = Flow {
+        whose,
+        way: Way::Sent,
+    };
+    push_known(writer, "heard_bps", rate_now(rates, heard))?;
+    push_known(writer, "sent_bps", rate_now(rates, sent))
 }
 
 #[tactic(auto, unfolding(crate::specs::State::endpoint_members))]
@@ -209,14 +277,20 @@ fn push_flow_members(writer: &mut Writer, words: &[&[u8]]) -> Result<(), AllocEr
 }
 
 /// The members of the totals that these words tell of.
-fn push_total(writer: &mut Writer, words: &[&[u8]]) -> Result<(), AllocError>
-    ensures { Tells result writer.old writer.new (totals_words (map (λ x. x.now) words.now)) }
+fn push_total(
+    writer: &mut Writer,
+    words: &[&[u8]],
+    rates: &[FlowRate],
+) -> Result<(), AllocError>
+    ensures { Tells result writer.old writer.new
+        (totals_words rates.now (map (λ x. x.now) words.now)) }
 {
     if !is_word(word_at(words, 0), b"present") {
         return Ok(());
     }
     push_totals_members(writer, words)?;
-    push_losses_members(writer, words)
+    push_losses_members(writer, words)?;
+    push_moved(writer, rates, Whose::Unit)
 }
 
 #[tactic(auto, unfolding(crate::specs::State::totals_members))]
@@ -236,16 +310,24 @@ fn push_losses_members(writer: &mut Writer, words: &[&[u8]]) -> Result<(), Alloc
 {
     push_number(writer, "lost", word_at(words, 9))?;
     push_number(writer, "dropped", word_at(words, 11))?;
-    push_number(writer, "strangers", word_at(words, 13))
+    push_number(writer, "strangers", word_at(words, 13))?;
+    push_number(writer, "unread", word_at(words, 15))
 }
 
 /// A member that is the number that a word spells, or null.
-#[tactic(auto, unfolding(crate::specs::State::number_member))]
 fn push_number(writer: &mut Writer, name: &str, word: &[u8]) -> Result<(), AllocError>
     ensures { Tells result writer.old writer.new (number_member name.now word.now) }
 {
+    push_known(writer, name, number_u64(word))
+}
+
+/// A member that is a number, or null where none is known.
+#[tactic(auto, unfolding(crate::specs::State::known_member))]
+fn push_known(writer: &mut Writer, name: &str, number: Option<u64>) -> Result<(), AllocError>
+    ensures { Tells result writer.old writer.new (known_member name.now number) }
+{
     writer.key(name)?;
-    match number_u64(word) {
+    match number {
         Some(number) => writer.u64(number),
         None => writer.null(),
     }

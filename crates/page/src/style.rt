@@ -9,9 +9,9 @@ pub const OPENING: &str = "<!doctype html>
 <noscript><meta http-equiv=\"refresh\" content=\"5\"></noscript>
 <title>sfu</title>
 <style>
-:root { color-scheme: light dark; --line: #c8ccd4; --soft: #5b6472; --on: #0b6e3b; --off: #8a4b00; --band: #f3f5f8 }
+:root { color-scheme: light dark; --line: #c8ccd4; --soft: #5b6472; --on: #0b6e3b; --off: #8a4b00; --band: #f3f5f8; --in: #1a5fb4; --out: #a8430f }
 @media (prefers-color-scheme: dark) {
-  :root { --line: #3a414d; --soft: #a3adbb; --on: #6fd79b; --off: #f0b069; --band: #1d222a }
+  :root { --line: #3a414d; --soft: #a3adbb; --on: #6fd79b; --off: #f0b069; --band: #1d222a; --in: #7db4f5; --out: #f29a6b }
 }
 * { box-sizing: border-box }
 body { margin: 0 auto; max-width: 100rem; padding: 1rem; font: 1rem/1.45 system-ui, sans-serif }
@@ -22,15 +22,29 @@ p, caption, footer { color: var(--soft) }
 table { border-collapse: collapse; font-variant-numeric: tabular-nums }
 th, td { border-bottom: 1px solid var(--line); padding: .25rem .7rem; text-align: right; white-space: nowrap }
 thead th { background: var(--band) }
-td.word { text-align: left }
+th:first-child, td:first-child { position: sticky; left: 0 }
+tbody th, td:first-child { background: Canvas }
+th.word, td.word { text-align: left }
 .on, .present { color: var(--on); font-weight: 600 }
 .off, .absent { color: var(--off) }
-dl { display: grid; grid-template-columns: repeat(auto-fill, minmax(8rem, 1fr)); gap: .5rem; margin: 0 }
+.in { color: var(--in) }
+.out { color: var(--out) }
+.curve { display: block; width: 9rem; height: 1.4rem; overflow: visible; border-bottom: 1px solid var(--line) }
+.curve polyline { fill: none; stroke: currentcolor; stroke-width: 1.5; stroke-linejoin: round; vector-effect: non-scaling-stroke }
+dd .curve { width: 100%; height: 1.65rem }
+dl { display: grid; grid-template-columns: repeat(auto-fill, minmax(7.5rem, 1fr)); gap: .5rem; margin: 0 }
 dl div { border: 1px solid var(--line); border-radius: .4rem; padding: .4rem .7rem }
+dl .minute { grid-column: span 2 }
 .gallery { display: grid; grid-template-columns: repeat(auto-fill, minmax(min(26rem, 100%), 1fr)); gap: .7rem }
 .gallery img { display: block; width: 100%; height: auto; border: 1px solid var(--line); border-radius: .4rem }
 dt { color: var(--soft); font-size: .85rem }
 dd { margin: 0; font-size: 1.15rem; font-variant-numeric: tabular-nums }
+@media (max-width: 40rem) {
+  body { padding: .7rem }
+  th, td { padding: .25rem .45rem }
+  thead th { white-space: normal; vertical-align: bottom }
+  .curve { width: 7rem }
+}
 </style>
 </head>
 <body>
@@ -51,8 +65,9 @@ pub const TOTALS_END: &str = "</dl>\n</section>\n";
 pub const ENDPOINTS: &str = "<section>
 <h2>Who is there</h2>
 <div class=\"wide\"><table>
-<thead><tr><th scope=\"col\">endpoint</th><th scope=\"col\">state</th><th scope=\"col\">heard, ms ago</th>\
-<th scope=\"col\">SSRC</th><th scope=\"col\">address</th></tr></thead>
+<thead><tr><th scope=\"col\">endpoint</th><th scope=\"col\" class=\"word\">state</th><th scope=\"col\">heard, ms ago</th>\
+<th scope=\"col\">in, bit/s</th><th scope=\"col\">out, bit/s</th><th scope=\"col\" class=\"word\">last minute</th>\
+<th scope=\"col\">SSRC</th><th scope=\"col\" class=\"word\">address</th></tr></thead>
 <tbody>
 ";
 
@@ -92,7 +107,7 @@ pub const IMAGE_END: &str = "\"></a>\n";
 pub const LEGS: &str = "<section>
 <h2>Legs</h2>
 <div class=\"wide\"><table>
-<thead><tr><th scope=\"col\">leg</th><th scope=\"col\">from</th><th scope=\"col\">to</th><th scope=\"col\">state</th>\
+<thead><tr><th scope=\"col\">leg</th><th scope=\"col\">from</th><th scope=\"col\">to</th><th scope=\"col\" class=\"word\">state</th>\
 <th scope=\"col\">packets</th><th scope=\"col\">bytes</th><th scope=\"col\">resent</th><th scope=\"col\">missed</th><th scope=\"col\">next</th></tr></thead>
 <tbody>
 ";
@@ -100,11 +115,57 @@ pub const LEGS: &str = "<section>
 /// After the rows of a table.
 pub const TABLE_END: &str = "</tbody>\n</table></div>\n</section>\n";
 
+/// Up to a word that stands at the left of its cell.
+pub const WORD_CELL: &str = "<td class=\"word\">";
+
 /// Up to the word that a cell shows in its own colour.
 pub const CLASS: &str = "<td class=\"word ";
 
 /// After that word.
 pub const CLASS_END: &str = "\">";
+
+/// Up to the rate of what came from an endpoint.
+pub const IN_CELL: &str = "<td class=\"in\">";
+
+/// Between that rate and the one of what was sent to it.
+pub const OUT_CELL: &str = "</td><td class=\"out\">";
+
+/// Between that rate and both curves.
+pub const CURVE_CELL: &str = "</td><td>";
+
+/// After the curves.
+pub const CURVE_CELL_END: &str = "</td>";
+
+/// The cells of an endpoint of which no number is known.
+pub const UNMOVED: &str = "<td></td><td></td><td></td>";
+
+/// Up to the rate of what came from all endpoints.
+pub const IN_FIGURE: &str = "<div><dt>in, bit/s</dt><dd class=\"in\">";
+
+/// Between that rate and the one of what was sent to all of them.
+pub const OUT_FIGURE: &str = "</dd></div>\n<div><dt>out, bit/s</dt><dd class=\"out\">";
+
+/// Between that rate and both curves.
+pub const CURVE_FIGURE: &str = "</dd></div>\n<div class=\"minute\"><dt>last minute</dt><dd>";
+
+/// After a figure.
+pub const FIGURE_END: &str = "</dd></div>\n";
+
+/// Up to the lines of a picture of rates.
+pub const CURVE: &str =
+    "<svg class=\"curve\" viewBox=\"0 0 600 100\" preserveAspectRatio=\"none\" aria-hidden=\"true\">";
+
+/// Up to the name of a line.
+pub const LINE: &str = "<polyline class=\"";
+
+/// Between the name of a line and its points.
+pub const LINE_POINTS: &str = "\" points=\"";
+
+/// After the points of a line.
+pub const LINE_END: &str = "\"/>";
+
+/// After the lines.
+pub const CURVE_END: &str = "</svg>";
 
 /// After the last section.
 pub const CLOSING: &str = "</main>

@@ -1,8 +1,8 @@
 //! The words of the unit's lines, by their places.
 
-ghost use Rattle.std.specs.Prelude.{◌≡◌, ◌<◌, map};
+ghost use Rattle.std.specs.Prelude.{◌≡◌, ◌<◌, map, option_map};
 ghost use Rattle.std.specs.List.{list_all};
-ghost use Rattle.page.specs.Words.{is_plain, is_plain_byte, plain_word, word_at};
+ghost use Rattle.page.specs.Words.{is_plain, is_plain_byte, plain_word, without_end, without_start, word_at};
 
 /// The word at a place from 0 on; an empty one where there is none.
 pub(crate) fn word_at<'a>(words: &[&'a [u8]], place: usize) -> &'a [u8]
@@ -39,4 +39,18 @@ fn is_plain_byte(byte: u8) -> bool
     ensures { result ≡ is_plain_byte byte }
 {
     byte <= b'z' && (byte >= b'a' || (byte >= b'.' && byte <= b':') || byte == b'[' || byte == b']')
+}
+
+/// What stands behind this start, if it begins so.
+pub(crate) fn without_start<'a>(path: &'a [u8], start: &[u8]) -> Option<&'a [u8]>
+    ensures { option_map (λ x. x.now) result ≡ without_start start.now path.now }
+{
+    path.strip_prefix(start)
+}
+
+/// What stands before this end, if it ends so.
+pub(crate) fn without_end<'a>(path: &'a [u8], end: &[u8]) -> Option<&'a [u8]>
+    ensures { option_map (λ x. x.now) result ≡ without_end end.now path.now }
+{
+    path.strip_suffix(end)
 }

@@ -72,6 +72,7 @@ impl<S: Read + Write + Drop> Inquiry<S> {
                 legs: Vec::new(alloc),
                 counts: Vec::new(alloc),
                 sets: Vec::new(alloc),
+                rates: Vec::new(alloc),
             },
             publishers: Vec::new(alloc),
         };
@@ -102,7 +103,7 @@ impl<S: Read + Write + Drop> Inquiry<S> {
         Step::Asking
     }
 
-    /// What the unit said.
+    /// What the unit said. What moved meanwhile isn't in it.
     pub fn into_said(self) -> Said {
         let Inquiry { said, .. } = self;
         said
