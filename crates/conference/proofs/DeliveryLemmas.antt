@@ -52,6 +52,23 @@ all_done xs at high = ap datagrams_of (drop_all at xs high)
 abbrev pub IsDatagramAt : List Out → ℕ → Type 0
 IsDatagramAt xs at = (d : Out) → at < length xs → is_datagram (slice_index_or xs at d) ≡ true
 
+some_first : (o : Out) (rest : List Datagram) → is_datagram o ≡ true → datagram_in o ++ rest ≡ [] → ⊥
+some_first (Send endpoint bytes) rest b none = absurd (cc)
+some_first (Refused refusal) rest b none = absurd (cc)
+some_first Busy rest b none = absurd (cc)
+some_first (Lost worker) rest b none = absurd (cc)
+some_first (Skip leg skip) rest b none = absurd (cc)
+some_first (Miss leg seq) rest b none = absurd (cc)
+some_first Idle rest b none = absurd (cc)
+
+-- where a datagram stands, some are left
+pub some_left : (xs : List Out) (from at : ℕ) → at < length xs → IsDatagramAt xs at
+    → datagrams_of (drop at xs) ≡ datagrams_of (drop from xs)
+    → datagrams_of (drop from xs) ≡ [] → xs ≡ []
+some_left xs from at low is same none =
+    absurd (some_first (slice_index_or xs at Idle) (datagrams_of (drop (at + 1) xs)) (is Idle low)
+    (sym (opened xs at Idle low) ∙ same ∙ none))
+
 pub first_there : (xs : List Out) (from at : ℕ) (o : Out) → slice_get xs at ≡ Some o → IsDatagramAt xs at
     → datagrams_of (drop at xs) ≡ datagrams_of (drop from xs)
     → slice_get (datagram_in o) 0 ≡ slice_get (datagrams_of (drop from xs)) 0

@@ -11,7 +11,7 @@ ghost use Rattle.conference.specs.Certified.{Shows};
 ghost use Rattle.conference.specs.Conference.{IsNewConference, LeavesEvents, Serves, StopsAfter, datagram_of, conference_state};
 
 use crate::certified::{Certified, certified_by};
-use crate::delivery::{Delivery, next_delivery, place_after};
+use crate::delivery::{Delivery, let_go, next_delivery, place_after};
 use crate::fault::EventFault;
 use arrayvec::ArrayVec;
 use core_steps::{Waiting, World};
@@ -111,15 +111,11 @@ impl Conference {
         Ok(conference_of(alloc, world))
     }
 
-    /// Lets go of what was given out, once all of it is done with.
-    #[tactic(auto, using(crate::proofs::DeliveryLemmas::all_done))]
+    /// Lets go of what was given out, once none of it waits to be taken: what is no datagram doesn't pile up.
     fn forget_taken(&mut self)
         ensures { self.new ≡ self.old }
     {
-        if self.taken == self.outs.len() {
-            self.outs.clear();
-            self.taken = 0;
-        }
+        self.taken = let_go(&mut self.outs, self.taken);
     }
 
     /// An event from outside is done, which finds nothing waiting.

@@ -1,6 +1,6 @@
 //! What waits to be sent, among what the machine gave out.
 
-ghost use Rattle.std.specs.Prelude.{◌≡◌, ◌≤◌, ◌<◌, true, length, drop, slice_get, slice_index_or, option_map};
+ghost use Rattle.std.specs.Prelude.{◌≡◌, ◌≤◌, ◌<◌, [], true, length, drop, slice_get, slice_index_or, option_map};
 ghost use Rattle.events.specs.declared.output.Out.{Out as OutValue};
 ghost use Rattle.outside.specs.Outside.{datagram_in, datagrams_of};
 ghost use Rattle.conference.specs.Conference.{datagram_of, is_datagram};
@@ -84,4 +84,21 @@ pub(crate) fn place_after(outs: &[Out], from: usize) -> usize
 {
     let at = next_place(outs, from);
     if at < outs.len() { at + 1 } else { at }
+}
+
+/// Lets go of what was given out, once no datagram from this place on is left in it. Answers the place from then on.
+#[tactic(auto, using(crate::proofs::DeliveryLemmas::all_done, crate::proofs::DeliveryLemmas::some_left))]
+pub(crate) fn let_go(outs: &mut Vec<Out>, from: usize) -> usize
+    requires { from ≤ length outs.old.items }
+    ensures within { result ≤ length outs.new.items }
+    ensures same { datagrams_of (drop result outs.new.items)
+        ≡ datagrams_of (drop from outs.old.items) }
+    ensures gone { datagrams_of (drop from outs.old.items) ≡ [] → outs.new.items ≡ [] }
+{
+    let next = next_place(outs.as_slice(), from);
+    if next == outs.len() {
+        outs.clear();
+        return 0;
+    }
+    next
 }

@@ -44,7 +44,7 @@ fn starts_of_a_source(rt: HostRuntime) -> Result<(), Fail> {
     Ok(())
 }
 
-/// A source of datagrams of endpoint 0 in memory.
+/// A source of datagrams of endpoint 1 in memory.
 #[derive(Drop)]
 struct Listed {
     datagrams: Vec<Vec<u8>>,
@@ -68,7 +68,7 @@ impl Source for Listed {
         self.next = self.next.wrapping_add(1);
         out[..datagram.len()].copy_from_slice(datagram.as_slice());
         Ok(Received::Datagram {
-            endpoint: 0,
+            endpoint: 1,
             length: datagram.len(),
         })
     }
@@ -83,14 +83,22 @@ fn packet(alloc: Global, seq: u16) -> Result<Vec<u8>, AllocError> {
 /// A goodbye of the source 16 (RFC 3550, section 6.6).
 const GOODBYE: [u8; 8] = [0x81, 0xcb, 0, 1, 0, 0, 0, 16];
 
-/// What the next receive gives.
+/// The sources of two endpoints; datagrams come from the second.
+const SOURCES: [Ssrc; 2] = [Ssrc(15), Ssrc(16)];
+
+/// What the next receive gives of endpoint 1.
 fn given<S: Source + Drop>(
     alloc: Global,
     screen: &mut Screen<'_, S>,
 ) -> Result<Option<Vec<u8>>, Fail> {
     let mut buffer = [0; 64];
     match screen.receive(&mut buffer)? {
-        Received::Datagram { length, .. } => Ok(Some(buffer[..length].to_vec(alloc)?)),
+        Received::Datagram { endpoint, length } => {
+            if endpoint != 1 {
+                return Ok(None);
+            }
+            Ok(Some(buffer[..length].to_vec(alloc)?))
+        }
         Received::Nothing | Received::Select { .. } | Received::Stop => Ok(None),
     }
 }
@@ -109,7 +117,7 @@ fn goodbye_before_a_new_start(rt: HostRuntime) -> Result<(), Fail> {
         new_starts: true,
         strict_ssrc: true,
     };
-    let mut screen = Screen::new(alloc, source, &[Ssrc(16)], rules, &far)?;
+    let mut screen = Screen::new(alloc, source, &SOURCES, rules, &far)?;
     for seq in [7, 8] {
         assert_eq!(rt; given(alloc, &mut screen)?, Some(packet(alloc, seq)?));
     }
@@ -132,23 +140,27 @@ const OF_ANOTHER: [u8; 48] = [
 ];
 
 /// Feedback under a source that a client made up is the endpoint's, but where the rules are strict; what a sender report says is its own.
+/// So is a report of eight bytes that comes alone.
 #[test]
 fn feedback_under_another_source(rt: HostRuntime) -> Result<(), Fail> {
     let alloc = rt.alloc();
     for (strict_ssrc, sender) in [(true, 0x99), (false, 16)] {
         let mut datagrams = Vec::new(alloc);
         datagrams.push(OF_ANOTHER.to_vec(alloc)?)?;
+        datagrams.push([0x80, 0xc9, 0, 1, 0, 0, 0, 0x99].to_vec(alloc)?)?;
         let source = Listed { datagrams, next: 0 };
         let far = Cell::new(0);
         let rules = Rules {
             new_starts: false,
             strict_ssrc,
         };
-        let mut screen = Screen::new(alloc, source, &[Ssrc(16)], rules, &far)?;
+        let mut screen = Screen::new(alloc, source, &SOURCES, rules, &far)?;
         let mut wanted = OF_ANOTHER;
         wanted[35] = sender;
         wanted[43] = sender;
         assert_eq!(rt; given(alloc, &mut screen)?, Some(wanted.to_vec(alloc)?));
+        let alone = [0x80, 0xc9, 0, 1, 0, 0, 0, sender];
+        assert_eq!(rt; given(alloc, &mut screen)?, Some(alone.to_vec(alloc)?));
     }
     Ok(())
 }

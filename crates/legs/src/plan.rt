@@ -1,6 +1,7 @@
 //! What a job is about to do on the legs of a worker.
 
-ghost use Rattle.std.specs.Prelude.{◌≡◌, ◌++◌, ◌∷◌, [], length, IfOk, OnOk, OnErr};
+ghost use Rattle.std.specs.Prelude.{◌≡◌, ◌-◌, ◌<◌, ◌++◌, ◌∷◌, [], length, take, slice_index_or, vec_len, vec_capacity, ℕ, IfOk, IfNone, IfSome, OnOk, OnErr};
+ghost use Rattle.std.specs.Global.{Vec as Buffer};
 ghost use Rattle.legs.specs.Legs.{leg_after_packet, handed_out};
 ghost use Rattle.legs.specs.Plan.{legs_after_plan, applied_one, changed_at};
 
@@ -93,10 +94,26 @@ fn hand_out_at(legs: &mut [LegState], place: usize, octets: u64)
     }
 }
 
-/// Keeps a buffer for the next packet; without memory for that it is given back.
-fn save(spare: &mut Vec<Vec<u8>>, left: Option<Vec<u8>>) {
+/// Puts a buffer by for the next packet; without memory for that it is given back.
+fn save(spare: &mut Vec<Vec<u8>>, left: Option<Vec<u8>>)
+    ensures put_by { vec_len spare.old < vec_capacity spare.old
+        → IfSome left (λ buffer. spare.new.items ≡ spare.old.items ++ buffer ∷ []) }
+    ensures none { IfNone left (spare.new.items ≡ spare.old.items) }
+{
     if let Some(buffer) = left {
         let _ = spare.push(buffer);
+    }
+}
+
+/// The buffer that was put by last, which is then no spare one; a new one where there is none.
+fn taken(spare: &mut Vec<Vec<u8>>, alloc: Global) -> Vec<u8>
+    ensures last { (d : Buffer ℕ) → 0 < vec_len spare.old
+        → result ≡ slice_index_or spare.old.items (vec_len spare.old - 1) d }
+    ensures rest { spare.new.items ≡ take (vec_len spare.old - 1) spare.old.items }
+{
+    match spare.pop() {
+        Some(buffer) => buffer,
+        None => Vec::new(alloc),
     }
 }
 
@@ -161,10 +178,7 @@ impl Plan {
         ensures size { IfOk result (λ buffer. length buffer.items ≡ size) }
         ensures plan { self.new ≡ self.old }
     {
-        let mut buffer = match self.spare.pop() {
-            Some(buffer) => buffer,
-            None => Vec::new(alloc),
-        };
+        let mut buffer = taken(&mut self.spare, alloc);
         buffer.resize(size, 0)?;
         Ok(buffer)
     }

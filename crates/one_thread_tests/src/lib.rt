@@ -5,3 +5,5 @@
 mod doubles;
 #[cfg(test)]
 mod run_tests;
+#[cfg(test)]
+mod watch_tests;

@@ -10,7 +10,7 @@ use std::alloc::Global;
 use std::test::Fail;
 
 /// One worker, and endpoint 0 (source 16) sends to endpoint 1 (source 17) as source 257, from number 100 on.
-fn settings_of(alloc: Global) -> Result<Settings, Fail> {
+pub(super) fn settings_of(alloc: Global) -> Result<Settings, Fail> {
     let mut sources = Vec::new(alloc);
     sources.push(Some(16))?;
     sources.push(Some(17))?;

@@ -1,7 +1,9 @@
 //! The datagrams of a source, screened.
 
-ghost use Rattle.std.specs.Prelude.{◌≡◌, ◌≤◌, length, IfOk, IfSome};
+ghost use Rattle.std.specs.Prelude.{◌≡◌, ◌≢◌, ◌≤◌, true, false, length, IfOk, IfSome};
 ghost use Rattle.outside.specs.Outside.{FitsIn};
+ghost use Rattle.screening.specs.declared.run.Placement.TheVariants.{Near};
+ghost use Rattle.screening.specs.Starts.{placement_at, runs_with};
 
 use crate::feedback::sign;
 use crate::run::Placement;
@@ -121,10 +123,8 @@ impl<'a, S: Source + Drop> Screen<'a, S> {
             return Placement::Near;
         }
         match RtpView::parse(datagram) {
-            Ok(packet) if self.rules.new_starts && packet.ssrc == *own => {
-                self.starts.note(endpoint, packet.sequence_number)
-            }
-            _ => Placement::Near,
+            Ok(packet) => place_of(&mut self.starts, self.rules, endpoint, *own, &packet),
+            Err(_) => Placement::Near,
         }
     }
 
@@ -160,6 +160,28 @@ impl<'a, S: Source + Drop> Screen<'a, S> {
             endpoint,
             length: len,
         }
+    }
+}
+
+/// Where a packet that came from the endpoint with this own source stands. It is noted if new starts are looked for and it is of that
+/// source; any other is `Near`, and leaves what is noted as it was.
+fn place_of(
+    starts: &mut Starts,
+    rules: Rules,
+    endpoint: u16,
+    own: Ssrc,
+    packet: &RtpView<'_>,
+) -> Placement
+    ensures off { rules.new_starts ≡ false → (result ≡ Near) × (starts.new ≡ starts.old) }
+    ensures other { packet.now.ssrc.0 ≢ own.0 → (result ≡ Near) × (starts.new ≡ starts.old) }
+    ensures noted { rules.new_starts ≡ true → packet.now.ssrc.0 ≡ own.0
+        → (result ≡ placement_at starts.old endpoint packet.now.sequence_number)
+        × (starts.new ≡ runs_with starts.old endpoint packet.now.sequence_number) }
+{
+    if rules.new_starts && packet.ssrc.0 == own.0 {
+        starts.note(endpoint, packet.sequence_number)
+    } else {
+        Placement::Near
     }
 }
 

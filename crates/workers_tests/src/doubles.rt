@@ -11,6 +11,8 @@ pub(super) struct MemorySink {
     pub(super) handed: Vec<Datagram>,
     to_fail: u64,
     pub(super) failures: u64,
+    /// The leg of the last packet that was asked for again in vain.
+    pub(super) missed_on: Option<u16>,
 }
 
 impl MemorySink {
@@ -23,6 +25,7 @@ impl MemorySink {
             handed: Vec::new(alloc),
             to_fail,
             failures: 0,
+            missed_on: None,
         }
     }
 
@@ -49,6 +52,10 @@ impl Sink for MemorySink {
         }
         self.failures += 1;
         Err(SendFault)
+    }
+
+    fn missed(&mut self, leg: u16) {
+        self.missed_on = Some(leg);
     }
 }
 

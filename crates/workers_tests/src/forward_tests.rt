@@ -139,6 +139,7 @@ fn does_jobs<J: Naming>(rt: &impl Abort, bench: &mut Bench<'_, J>, first: &Job, 
     assert!(rt; bench.sent_last(1, &REPORT));
     let again = Forwarded { missed: 1, ..sent };
     assert_eq!(rt; bench.forward(&resend(0, 1, 100, 1)), Ok(again));
+    assert_eq!(rt; bench.sink.missed_on, Some(0));
     assert!(rt; bench.sent_last(1, &rtp(100, [1, 1])));
     let old = Forwarded {
         skipped: 1,

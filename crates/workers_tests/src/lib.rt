@@ -28,3 +28,5 @@ mod turn_doubles;
 mod unit_doubles;
 #[cfg(test)]
 mod unit_tests;
+#[cfg(test)]
+mod watch_tests;

@@ -45,7 +45,7 @@ const ONE_LINK: [Link; 1] = [Link {
 }];
 
 /// Endpoint 2 sends to the endpoints 0 and 1, each of a worker of its own.
-const TWO_LINKS: [Link; 2] = [
+pub(super) const TWO_LINKS: [Link; 2] = [
     Link {
         subscriber: 0,
         publisher: 2,

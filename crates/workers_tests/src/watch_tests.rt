@@ -1,0 +1,127 @@
+//! What a watch is shown while the unit runs.
+
+ghost use Rattle.std.specs.Prelude.{◌≡◌, ◌+◌, vec_len};
+
+use crate::doubles::{OpenGate, RisingClock};
+use crate::unit_doubles::{Arrival, Script, receiver_report, settings_of, sinks_of};
+use crate::unit_tests::TWO_LINKS;
+use desk::Desk;
+use std::alloc::{AllocError, Global};
+use std::sync::Wait;
+use std::sync::atomic::AtomicBool;
+use std::test::Fail;
+use std::thread::Threads;
+use workers::*;
+
+/// What was shown, and how many looks ended.
+#[derive(Debug, Drop)]
+struct Shown {
+    present: Vec<(u16, bool)>,
+    stays: Vec<(u16, Option<u64>)>,
+    desks: Vec<u16>,
+    /// The moment of each turn, how many are present then, and how many datagrams came by then.
+    totals: Vec<(u64, u64, u64)>,
+    ended: usize,
+}
+
+/// A watch that is due after each turn, and looks at one thing after the other.
+#[derive(Drop)]
+struct Looker<'a> {
+    wanted: [Look; 4],
+    shown: &'a mut Shown,
+}
+
+impl Watch for Looker<'_> {
+    fn is_due(&self, _moment: u64) -> bool {
+        true
+    }
+
+    fn show(&mut self, moment: u64, status: &Status) {
+        let _ = self
+            .shown
+            .totals
+            .push((moment, status.present, status.heard));
+    }
+
+    fn look(&self) -> Look {
+        self.wanted
+            .get(self.shown.ended)
+            .copied()
+            .unwrap_or(Look::Nothing)
+    }
+
+    fn show_endpoint(&mut self, endpoint: u16, is_present: bool) {
+        let _ = self.shown.present.push((endpoint, is_present));
+    }
+
+    fn show_stay(&mut self, leg: u16, stay: Option<u64>) {
+        let _ = self.shown.stays.push((leg, stay));
+    }
+
+    fn show_desk(&mut self, publisher: u16, _desk: &Desk) {
+        let _ = self.shown.desks.push(publisher);
+    }
+
+    fn end_look(&mut self) {
+        self.shown.ended = self.shown.ended.saturating_add(1);
+    }
+}
+
+/// A subscriber comes, then the publisher, then the other subscriber, and a stop.
+fn arrivals(alloc: Global) -> Result<Vec<Arrival>, AllocError> {
+    let mut arrivals = Vec::new(alloc);
+    arrivals.push(Arrival::Datagram(1, receiver_report(alloc, 17)?))?;
+    arrivals.push(Arrival::Datagram(2, receiver_report(alloc, 18)?))?;
+    arrivals.push(Arrival::Datagram(0, receiver_report(alloc, 16)?))?;
+    arrivals.push(Arrival::Stop)?;
+    Ok(arrivals)
+}
+
+/// Runs these on threads, and says whether a report came.
+fn run_looked_at<R: Threads + Wait + Sync>(
+    rt: &R,
+    alloc: Global,
+    shown: &mut Shown,
+) -> Result<bool, Fail> {
+    let settings = settings_of(alloc, 2, 3, &TWO_LINKS)?;
+    let is_played = AtomicBool::new(false);
+    let sinks = sinks_of(alloc, settings.workers() + 1)?;
+    let outside = Outside {
+        source: Script::of(arrivals(alloc)?, &is_played),
+        sinks,
+        clock: RisingClock { moment: 0 },
+        watch: Looker {
+            wanted: [Look::Presence, Look::Stays, Look::Desk(2), Look::Desk(3)],
+            shown,
+        },
+    };
+    let pace = Pace {
+        turns: 9,
+        pulse_ms: 1,
+    };
+    let ran = run_watched(rt, alloc, &settings, outside, &OpenGate, pace);
+    Ok(ran.is_ok())
+}
+
+/// After each turn the totals are shown, after that of the stop, too; of each endpoint whether it is present, of each leg its stay, a
+/// desk if it is there; and each look ends.
+#[test]
+fn watch_sees_each_turn(rt: HostRuntime) -> Result<(), Fail> {
+    let alloc = rt.alloc();
+    let mut shown = Shown {
+        present: Vec::new(alloc),
+        stays: Vec::new(alloc),
+        desks: Vec::new(alloc),
+        totals: Vec::new(alloc),
+        ended: 0,
+    };
+    assert!(rt; run_looked_at(&rt, alloc, &mut shown)?);
+    let totals = [(20, 1, 1), (40, 2, 2), (60, 3, 3), (80, 3, 3)];
+    assert!(rt; shown.totals.as_slice() == totals.as_slice());
+    let present = [(0, false), (1, true), (2, false)];
+    assert!(rt; shown.present.as_slice() == present.as_slice());
+    assert!(rt; shown.stays.as_slice() == [(0, None), (1, Some(1))].as_slice());
+    assert!(rt; shown.desks.as_slice() == [2].as_slice());
+    assert_eq!(rt; shown.ended, 4);
+    Ok(())
+}
