@@ -13,7 +13,7 @@ use tmmbr_tuple::Ssrc;
 #[test]
 fn reads_requests(rt: HostRuntime) -> Result<(), Fail> {
     let alloc = rt.alloc();
-    let lines: [(&[u8], Option<Request>); 17] = [
+    let lines: [(&[u8], Option<Request>); 20] = [
         (b"select 3 on", Some(Request::Select { leg: 3, on: true })),
         (b"select 0 off", Some(Request::Select { leg: 0, on: false })),
         (b"present", Some(Request::Present)),

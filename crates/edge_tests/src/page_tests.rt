@@ -43,12 +43,7 @@ fn sets_said(alloc: Global) -> Result<Vec<AnnouncedSet>, Fail> {
 /// What moved: of endpoint 0 half a minute ago and now, and of all endpoints together.
 fn rates_said(alloc: Global) -> Result<Vec<FlowRate>, Fail> {
     let mut rates = Vec::new(alloc);
-    rates.push(flow_rate(
-        Whose::Endpoint(0),
-        Way::Heard,
-        30_000,
-        500_000,
-    ))?;
+    rates.push(flow_rate(Whose::Endpoint(0), Way::Heard, 30_000, 500_000))?;
     rates.push(flow_rate(Whose::Endpoint(0), Way::Heard, 0, 1_250_000))?;
     rates.push(flow_rate(Whose::Endpoint(0), Way::Sent, 0, 999))?;
     rates.push(flow_rate(Whose::Unit, Way::Heard, 0, 12_399))?;

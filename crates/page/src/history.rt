@@ -150,11 +150,7 @@ fn going_on(
 }
 
 /// The rates that are still of the last minute, older by the time that went by.
-fn push_kept(
-    left: &mut Vec<FlowRate>,
-    rates: &[FlowRate],
-    elapsed: u64,
-) -> Result<(), AllocError>
+fn push_kept(left: &mut Vec<FlowRate>, rates: &[FlowRate], elapsed: u64) -> Result<(), AllocError>
     ensures { OnOk result (left.new.items ≡ left.old.items ++ kept_rates elapsed rates.now) }
 {
     for rate in rates {
@@ -174,7 +170,10 @@ fn push_new(
         ≡ left.old.items ++ flat_map (new_rate elapsed before.now) counts.now) }
 {
     for count in counts {
-        push_rate(left, rate_since(*count, octets_before(before, count.flow), elapsed))?;
+        push_rate(
+            left,
+            rate_since(*count, octets_before(before, count.flow), elapsed),
+        )?;
     }
     Ok(())
 }

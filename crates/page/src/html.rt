@@ -11,8 +11,9 @@ use crate::gallery::push_gallery;
 use crate::history::{FlowRate, Way, Whose};
 use crate::matrix::push_matrix;
 use crate::style::{
-    CLASS, CLASS_END, CLOSING, CURVE_CELL, CURVE_CELL_END, CURVE_FIGURE, ENDPOINTS, FIGURE_END, IN_CELL, IN_FIGURE, LEGS, OPENING, OUT_CELL,
-    OUT_FIGURE, SILENT, TABLE_END, TOTALS, TOTALS_END, UNMOVED, WORD_CELL,
+    CLASS, CLASS_END, CLOSING, CURVE_CELL, CURVE_CELL_END, CURVE_FIGURE, ENDPOINTS, FIGURE_END,
+    IN_CELL, IN_FIGURE, LEGS, OPENING, OUT_CELL, OUT_FIGURE, SILENT, TABLE_END, TOTALS, TOTALS_END,
+    UNMOVED, WORD_CELL,
 };
 use crate::words::{plain_word, word_at};
 use request_text::{is_word, lines, number_u16, words_of};
@@ -185,11 +186,7 @@ fn push_words(
 
 /// The row of an endpoint.
 #[tactic(auto, unfolding(crate::specs::Html::endpoint_row))]
-fn push_endpoint(
-    text: &mut String,
-    words: &[&[u8]],
-    rates: &[FlowRate],
-) -> Result<(), AllocError>
+fn push_endpoint(text: &mut String, words: &[&[u8]], rates: &[FlowRate]) -> Result<(), AllocError>
     ensures { OnOk result (string_bytes text.new
         ≡ string_bytes text.old ++ endpoint_row rates.now (map (λ x. x.now) words.now)) }
 {
@@ -324,11 +321,7 @@ fn push_flow_cells(text: &mut String, words: &[&[u8]]) -> Result<(), AllocError>
 }
 
 /// The totals.
-fn push_totals(
-    text: &mut String,
-    words: &[&[u8]],
-    rates: &[FlowRate],
-) -> Result<(), AllocError>
+fn push_totals(text: &mut String, words: &[&[u8]], rates: &[FlowRate]) -> Result<(), AllocError>
     ensures { OnOk result (string_bytes text.new
         ≡ string_bytes text.old ++ totals_row rates.now (map (λ x. x.now) words.now)) }
 {

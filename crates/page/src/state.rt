@@ -181,11 +181,7 @@ fn push_words(
 }
 
 /// The object of the endpoint that these words tell of.
-fn push_endpoint(
-    writer: &mut Writer,
-    words: &[&[u8]],
-    rates: &[FlowRate],
-) -> Result<(), AllocError>
+fn push_endpoint(writer: &mut Writer, words: &[&[u8]], rates: &[FlowRate]) -> Result<(), AllocError>
     ensures { Tells result writer.old writer.new
         (endpoint_words rates.now (map (λ x. x.now) words.now)) }
 {
@@ -277,11 +273,7 @@ fn push_flow_members(writer: &mut Writer, words: &[&[u8]]) -> Result<(), AllocEr
 }
 
 /// The members of the totals that these words tell of.
-fn push_total(
-    writer: &mut Writer,
-    words: &[&[u8]],
-    rates: &[FlowRate],
-) -> Result<(), AllocError>
+fn push_total(writer: &mut Writer, words: &[&[u8]], rates: &[FlowRate]) -> Result<(), AllocError>
     ensures { Tells result writer.old writer.new
         (totals_words rates.now (map (λ x. x.now) words.now)) }
 {

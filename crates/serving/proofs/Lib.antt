@@ -1,4 +1,5 @@
 pub mod ClientLemmas
+pub mod GoodbyeLemmas
 pub mod ReportLemmas
 pub mod ServeLemmas
 pub mod ServedLemmas

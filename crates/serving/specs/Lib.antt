@@ -3,3 +3,4 @@ pub mod Goodbyes
 pub mod ReportText
 pub mod Serving
 pub mod ServedFile
+pub mod Sockets

@@ -1,9 +1,9 @@
 //! The goodbyes of a unit that is stopped.
 
-ghost use Rattle.std.specs.Prelude.{◌≡◌, ◌++◌, IfOk, OnOk};
+ghost use Rattle.std.specs.Prelude.{◌≡◌, ◌++◌, ◌∷◌, [], IfOk, OnOk};
 ghost use Rattle.std.specs.List.{flat_map};
 ghost use Rattle.notices.specs.Head.{report_head};
-ghost use Rattle.serving.specs.Goodbyes.{goodbye_bytes, goodbye_packet, leg_goodbye};
+ghost use Rattle.serving.specs.Goodbyes.{LeavesEndpoint, LeavesPresent, goodbye_bytes, goodbye_packet, leg_goodbye};
 
 use outside::Sink;
 use rtcp_compound::{write_bye, write_rr, write_sdes_cname};
@@ -61,22 +61,49 @@ fn push_goodbye(bytes: &mut Vec<u8>, source: Ssrc) -> Result<(), AllocError>
     write_bye(bytes, &[source])
 }
 
-/// Sends each endpoint that is present its goodbye. One that can't be sent, or for which there is no memory, is left out.
+/// Sends each endpoint that is present its goodbye, and nobody else anything. One that can't be sent, or for which there is no memory,
+/// is left out.
+#[tactic(auto, using(crate::proofs::GoodbyeLemmas::says_on, crate::proofs::GoodbyeLemmas::says_nothing))]
 pub(crate) fn say_goodbyes<S: Sink>(
     alloc: Global,
     settings: &Settings,
     present: &[bool],
     sink: &mut S,
-) {
-    for (endpoint, is_present) in present.iter().enumerate() {
-        let Ok(endpoint) = u16::try_from(endpoint) else {
-            return;
-        };
-        if !*is_present {
-            continue;
-        }
-        if let Ok(bytes) = goodbye_of(alloc, settings, endpoint) {
-            let _ = sink.send(endpoint, bytes.as_slice());
-        }
+)
+    ensures { LeavesPresent settings.now present.now (S.shown sink.old).handed
+        (S.shown sink.new).handed }
+{
+    for endpoint in 0..present.len() {
+        say_if_present(alloc, settings, present, endpoint, sink);
+    }
+}
+
+/// Sends the endpoint with this number its goodbye if it is present.
+#[tactic(auto, using(crate::proofs::GoodbyeLemmas::says_one, crate::proofs::GoodbyeLemmas::says_nothing))]
+fn say_if_present<S: Sink>(
+    alloc: Global,
+    settings: &Settings,
+    present: &[bool],
+    endpoint: usize,
+    sink: &mut S,
+)
+    ensures { LeavesPresent settings.now present.now (S.shown sink.old).handed
+        (S.shown sink.new).handed }
+{
+    if let Some(true) = present.get(endpoint).copied() {
+        say_goodbye(alloc, settings, endpoint, sink);
+    }
+}
+
+/// Sends the endpoint with this number its goodbye.
+#[tactic(auto, using(crate::proofs::GoodbyeLemmas::tells_one, crate::proofs::GoodbyeLemmas::tells_nothing))]
+fn say_goodbye<S: Sink>(alloc: Global, settings: &Settings, endpoint: usize, sink: &mut S)
+    ensures { LeavesEndpoint settings.now endpoint (S.shown sink.old).handed (S.shown sink.new).handed }
+{
+    let Ok(endpoint) = u16::try_from(endpoint) else {
+        return;
+    };
+    if let Ok(bytes) = goodbye_of(alloc, settings, endpoint) {
+        let _ = sink.send(endpoint, bytes.as_slice());
     }
 }

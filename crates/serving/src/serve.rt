@@ -399,7 +399,9 @@ fn source_on<'a>(
         return Err(ServeFault::Socket);
     };
     let Common {
-        directory, traffic, ..
+        directory,
+        traffic,
+        ..
     } = common;
     let arrivals = Arrivals::new(
         alloc, listening, settings, clients, directory, gauges, traffic,

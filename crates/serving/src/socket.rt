@@ -1,6 +1,7 @@
 //! The unit's outside on UDP sockets.
 
 ghost use Rattle.std.specs.Prelude.{◌≡◌, ◌≤◌, ◌+◌, length, vec_len, IfOk, IfSome};
+ghost use Rattle.serving.specs.Sockets.{is_silence, later_moment};
 
 use crate::arrivals::Arrivals;
 use crate::clients::Listening;
@@ -161,8 +162,10 @@ impl Source for SocketSource<'_> {
     }
 }
 
-/// Whether a receive ended so since nothing came in time.
-fn is_silence(kind: ErrorKind) -> bool {
+/// Whether a receive ended so since nothing came in time, or since a signal came meanwhile.
+fn is_silence(kind: ErrorKind) -> bool
+    ensures { result ≡ is_silence kind }
+{
     matches!(
         kind,
         ErrorKind::WouldBlock | ErrorKind::TimedOut | ErrorKind::Interrupted
@@ -284,9 +287,19 @@ impl<R: time::Clock> Clock for RunClock<'_, R> {
     ghost told = { λ _. None };
 
     fn moment(&mut self) -> u64 {
-        if let Some(elapsed) = self.elapsed_ms() {
-            self.shown.set(elapsed.max(self.shown.get()));
-        }
-        self.shown.get()
+        let elapsed_ms = self.elapsed_ms();
+        let moment = later_moment(self.shown.get(), elapsed_ms);
+        self.shown.set(moment);
+        moment
+    }
+}
+
+/// The moment that a clock tells which told this one last, where so many milliseconds went by if the system says so: none before it.
+fn later_moment(told: u64, elapsed_ms: Option<u64>) -> u64
+    ensures { result ≡ later_moment told elapsed_ms }
+{
+    match elapsed_ms {
+        Some(elapsed_ms) => elapsed_ms.max(told),
+        None => told,
     }
 }

@@ -11,3 +11,5 @@ mod file_tests;
 mod loopback;
 #[cfg(test)]
 mod serve_tests;
+#[cfg(test)]
+mod steering_tests;

@@ -22,6 +22,12 @@ pub(crate) const MEDIA_16: &str = "8060000700000bb800000010aabb";
 /// A TMMBR of source 17 for what it is sent, 1000 bits per second.
 pub(crate) const ASK_17: &str = "83cd00040000001100000000000001010007d028";
 
+/// What each compound of the unit begins with: its RR and its name.
+pub(crate) const HEAD: &str = "80c900010000000981ca0003000000090103736675000000";
+
+/// The datagram that the leg makes of `MEDIA_16`.
+pub(crate) const SENT_ON: &str = "8060006400000bb800000101aabb\n";
+
 /// The settings of a room with two workers: two endpoints, and a leg from the first to the second; with this timeout, in milliseconds.
 pub(crate) fn settings(alloc: Global, timeout_ms: u32) -> Result<Settings, Fail> {
     settings_for(alloc, 2, timeout_ms)

@@ -1,27 +1,22 @@
 //! The unit on sockets of the loopback interface.
 use crate::loopback::{
-    ANY_PORT, ASK_17, COME_17, Loopback, MEDIA_16, Sender, come, ran, send_hex, settings,
-    settings_for, test_socket,
+    ANY_PORT, ASK_17, COME_17, HEAD, Loopback, MEDIA_16, SENT_ON, Sender, client_at, come, ran,
+    send_hex, settings, settings_for, settings_in, test_socket,
 };
 use serving::{
     Addresses, Client, Gauges, Location, Rules, ServeFault, Sockets, serve_socket, serve_watched,
 };
+use settings::Settings;
 use std::alloc::Global;
 use std::io::{self, Write};
-use std::net::UdpSocket;
+use std::net::{Net, UdpSocket};
 use std::sync::Wait;
 use std::test::Fail;
 use std::thread::Threads;
 use std::time::Clock;
 
-/// What each compound of the unit begins with: its RR and its name.
-const HEAD: &str = "80c900010000000981ca0003000000090103736675000000";
-
 /// The TMMBR of source 17 for source 16 that says no limit.
 const LIFT_17: &str = "83cd0004000000110000000000000010fffffe00";
-
-/// The datagram that the first leg makes of `MEDIA_16`.
-const SENT_ON: &str = "8060006400000bb800000101aabb\n";
 
 /// The bytes of a datagram.
 fn bytes_of(alloc: Global, digits: &str) -> Result<Vec<u8>, Fail> {
@@ -171,15 +166,102 @@ fn says_counts(rt: HostRuntime) -> Result<(), Fail> {
     let stranger = test_socket(&rt)?;
     room.send(alloc, &stranger, [MEDIA_16].as_slice())?;
     room.send(alloc, &room.subscriber, [COME_17].as_slice())?;
-    let [printed, said] = watched(&rt, &room, 130)?;
-    assert_eq!(rt;
-        said.as_str().lines().next(),
-        Some("present 1 heard 1 sent 0 failed 0 lost 0 strangers 1 far 0")
-    );
+    let [printed, said] = watched(&rt, &room, 230)?;
+    let mut lines = said.as_str().lines();
+    for _second in 0..2 {
+        assert_eq!(rt;
+            lines.next(),
+            Some("present 1 heard 1 sent 0 failed 0 lost 0 strangers 1 far 0")
+        );
+    }
     assert_eq!(rt;
         printed.as_str(),
         "heard 1 sent 0 failed 0 lost 0\n84cd00020000001000000000\n84cd00020000001100000000\n"
     );
+    Ok(())
+}
+
+/// A client there that only listens.
+fn only_listens(location: Location) -> Client {
+    Client {
+        location,
+        receive_only: true,
+    }
+}
+
+/// The publisher, and three who only listen: one at an address that the unit's socket can't send to, one whose address is learned and
+/// who never said anything, and one who is there.
+fn three_listeners(room: &Loopback) -> Result<[Client; 4], Fail> {
+    let nowhere = Client::at("[::1]:9".parse()?);
+    let there = client_at(&room.subscriber)?;
+    Ok([
+        client_at(&room.publisher)?,
+        only_listens(nowhere.location),
+        only_listens(Location::Learned(None)),
+        only_listens(there.location),
+    ])
+}
+
+/// The publisher sends to each of them.
+fn settings_of_three(alloc: Global, workers: u32) -> Result<Settings, Fail> {
+    let text = format!(in alloc;
+        "workers = {workers}\nring = 8\nhistory = 128\ntimeout_ms = 86400000\nreport_ms = 86400000\npli_gap_ms = 500\nunit_ssrc = 9\ncname = \"sfu\"\n[[endpoint]]\nssrc = 16\n[[endpoint]]\nssrc = 17\n[[endpoint]]\nssrc = 18\n[[endpoint]]\nssrc = 19\n[[leg]]\nsubscriber = 1\npublisher = 0\nout_ssrc = 257\n[[leg]]\nsubscriber = 2\npublisher = 0\nout_ssrc = 258\n[[leg]]\nsubscriber = 3\npublisher = 0\nout_ssrc = 259\n"
+    )?;
+    settings_in(alloc, text.as_str())
+}
+
+/// What is printed, and the line after a second, of a run in which two of the three are sent nothing.
+fn failing(
+    rt: &(impl AllocGlobal + Net + Threads + Wait + Sync + Clock),
+    workers: u32,
+) -> Result<[String; 2], Fail> {
+    let alloc = rt.alloc();
+    let room = Loopback::new(rt)?;
+    let settings = settings_of_three(alloc, workers)?;
+    let clients = three_listeners(&room)?;
+    let packets = [
+        MEDIA_16,
+        "8060000800000bb800000010aabb",
+        "8060000900000bb800000010aabb",
+        "8060000a00000bb800000010aabb",
+    ];
+    room.send(alloc, &room.publisher, packets.as_slice())?;
+    let mut printed = Vec::new(alloc);
+    let mut said = Vec::new(alloc);
+    let served = serve_watched(
+        rt,
+        Sockets::one(&room.unit),
+        &settings,
+        &clients,
+        Rules::none(),
+        130,
+        1,
+        &Gauges::new(),
+        &mut printed,
+        &mut said,
+    );
+    if served.is_err() {
+        return Err(Fail::from("served"));
+    }
+    let printed = String::from_utf8(printed).map_err(|_| Fail::from("text"))?;
+    let said = String::from_utf8(said).map_err(|_| Fail::from("text"))?;
+    Ok([printed, said])
+}
+
+/// What the system refuses, and what goes to nobody's address, is counted as failed, and as nothing else.
+#[test]
+fn counts_what_fails(rt: HostRuntime) -> Result<(), Fail> {
+    for workers in [1, 2] {
+        let [printed, said] = failing(&rt, workers)?;
+        assert_eq!(rt;
+            printed.as_str().lines().next(),
+            Some("heard 7 sent 4 failed 8 lost 0")
+        );
+        assert_eq!(rt;
+            said.as_str().lines().next(),
+            Some("present 4 heard 7 sent 4 failed 8 lost 0 strangers 0 far 0")
+        );
+    }
     Ok(())
 }
 
