@@ -5,7 +5,7 @@
 
 SFU is the built program. Pictures of the page go to FOLDER, where chromium is installed: light and dark, 360 and 1600 pixels wide. With
 PAGE_PORT a page that runs already is looked at, and the unit's control is at FOLDER/control for it. What is seen: the paths, methods and
-statuses; that `/metrics` is what `sfu ask PATH metrics` says; that the page's counts grow; that half requests, visitors who read nothing, a
+statuses; that `/metrics` is what `sfu ask PATH metrics` says; that the page's counts grow, and its rates are those at which is sent; that half requests, visitors who read nothing, a
 thousand connections, `..` in paths and a head of a megabyte neither stop the page nor cost the unit a datagram; and that the page says
 503 once the unit is gone. Ends with status 1 at the first thing that isn't so. By hand: nothing of it is proved.
 """
@@ -180,6 +180,18 @@ def packets(port):
     return sum(leg["packets"] for leg in state["legs"])
 
 
+def moved(port):
+    """Whether what comes from both senders and goes to them is told, in bits a second: 50 packets of 212 bytes a second each way."""
+    state = json.loads(expect(port, "/state.json", 200))
+    told = [(it["heard_bps"], it["sent_bps"]) for it in state["endpoints"]]
+    if None in told[0] + told[1] + (state["counts"]["heard_bps"], state["counts"]["sent_bps"]):
+        return False
+    all_heard = sum(heard for heard, _ in told if heard)
+    return (all(40_000 < rate < 170_000 for it in told[:2] for rate in it)
+            and abs(state["counts"]["heard_bps"] - all_heard) <= len(told)
+            and b'<polyline class="out"' in expect(port, "/", 200))
+
+
 def ask(program, path, word):
     return subprocess.run([program, "ask", path, word], capture_output=True, timeout=20).stdout
 
@@ -214,6 +226,7 @@ def look(port, program, control):
         expect(port, f"/publishers/{number}.svg", 404)
     hosts(port)
     check_metrics(port)
+    wait_for(lambda: moved(port))
     before = packets(port)
     wait_for(lambda: packets(port) > before)
 
