@@ -17,6 +17,10 @@ const LEGS: &[u8] = b"0 from 0 to 1 on stay 9 packets 7 octets 700 resent 2 miss
 
 const COUNTS: &[u8] = b"present 1 heard 2 sent 3 failed 4 lost 5 dropped 6 strangers 7 unread 8\n";
 
+const REPORTS: &[u8] = b"leg 0 from 0 to 1 fraction 64 lost 12 jitter 90 round_trip_ms 45 heard 1200 ms ago\n\
+    publisher 1 fraction 1 lost -3 jitter 7 sent 900 ms ago\n\
+    leg 1 from 1 to 0 fraction 256 lost 0 jitter 0 round_trip_ms none heard 1 ms ago\n";
+
 /// Two requests of one rate: that of more overhead allows less. The first line is passed over, as `sfu check` does.
 const SET: &[u8] = b"8fcd0004\n\
     kept 3 030d4028 pair 1 99700 1\n\
@@ -71,6 +75,7 @@ fn unit_said(alloc: Global) -> Result<Option<Said>, Fail> {
         present: bytes_of(alloc, PRESENT)?,
         legs: bytes_of(alloc, LEGS)?,
         counts: bytes_of(alloc, COUNTS)?,
+        reports: bytes_of(alloc, REPORTS)?,
         sets: sets_said(alloc)?,
         rates: rates_said(alloc)?,
     }))
@@ -152,13 +157,13 @@ fn answers_by_path(rt: HostRuntime) -> Result<(), Fail> {
     assert_eq!(rt;
         body.as_str(),
         "json {\"endpoints\":[\
-        {\"number\":0,\"ssrc\":16,\"address\":\"127.0.0.1:5004\",\"present\":true,\"heard_ago_ms\":340,\"heard_bps\":1250000,\"sent_bps\":999},\
-        {\"number\":1,\"ssrc\":4294967295,\"address\":\"[2001:db8::7]:6000\",\"present\":false,\"heard_ago_ms\":null,\"heard_bps\":null,\"sent_bps\":null},\
-        {\"number\":2,\"ssrc\":18,\"address\":\"127.0.0.1:5006\",\"present\":false,\"heard_ago_ms\":null,\"heard_bps\":null,\"sent_bps\":null},\
-        {\"number\":3,\"ssrc\":19,\"address\":\"127.0.0.1:5008\",\"present\":false,\"heard_ago_ms\":null,\"heard_bps\":null,\"sent_bps\":null}],\
+        {\"number\":0,\"ssrc\":16,\"address\":\"127.0.0.1:5004\",\"present\":true,\"heard_ago_ms\":340,\"heard_bps\":1250000,\"sent_bps\":999,\"fraction_lost\":null,\"jitter\":null},\
+        {\"number\":1,\"ssrc\":4294967295,\"address\":\"[2001:db8::7]:6000\",\"present\":false,\"heard_ago_ms\":null,\"heard_bps\":null,\"sent_bps\":null,\"fraction_lost\":1,\"jitter\":7},\
+        {\"number\":2,\"ssrc\":18,\"address\":\"127.0.0.1:5006\",\"present\":false,\"heard_ago_ms\":null,\"heard_bps\":null,\"sent_bps\":null,\"fraction_lost\":null,\"jitter\":null},\
+        {\"number\":3,\"ssrc\":19,\"address\":\"127.0.0.1:5008\",\"present\":false,\"heard_ago_ms\":null,\"heard_bps\":null,\"sent_bps\":null,\"fraction_lost\":null,\"jitter\":null}],\
         \"legs\":[\
-        {\"leg\":0,\"publisher\":0,\"subscriber\":1,\"on\":true,\"stay\":9,\"packets\":7,\"octets\":700,\"resent\":2,\"missed\":3,\"next\":4},\
-        {\"leg\":1,\"publisher\":1,\"subscriber\":0,\"on\":false,\"stay\":null,\"packets\":0,\"octets\":0,\"resent\":0,\"missed\":0,\"next\":null}],\
+        {\"leg\":0,\"publisher\":0,\"subscriber\":1,\"on\":true,\"stay\":9,\"packets\":7,\"octets\":700,\"resent\":2,\"missed\":3,\"next\":4,\"fraction_lost\":64,\"jitter\":90,\"round_trip_ms\":45},\
+        {\"leg\":1,\"publisher\":1,\"subscriber\":0,\"on\":false,\"stay\":null,\"packets\":0,\"octets\":0,\"resent\":0,\"missed\":0,\"next\":null,\"fraction_lost\":null,\"jitter\":null,\"round_trip_ms\":null}],\
         \"counts\":{\"present\":1,\"heard\":2,\"sent\":3,\"failed\":4,\"lost\":5,\"dropped\":6,\"strangers\":7,\"unread\":8,\"heard_bps\":12399,\"sent_bps\":null}}"
     );
     Ok(())
@@ -179,13 +184,13 @@ fn shows_people(rt: HostRuntime) -> Result<(), Fail> {
             "<dt>unread</dt><dd>8</dd>",
             "<dt>in, bit/s</dt><dd class=\"in\">12.3k</dd>",
             "<tr><td>0</td><td class=\"word present\">present</td><td>340</td><td class=\"in\">1.2M</td><td class=\"out\">999</td><td><svg",
-            "<polyline class=\"in\" points=\"300,60 600,0 \"/><polyline class=\"out\" points=\"600,100 \"/></svg></td><td>16</td>\
+            "<polyline class=\"in\" points=\"300,60 600,0 \"/><polyline class=\"out\" points=\"600,100 \"/></svg></td><td></td><td></td><td>16</td>\
             <td class=\"word\">127.0.0.1:5004</td></tr>",
             "<td>never</td><td class=\"in\"></td><td class=\"out\"></td><td><svg",
-            "</td><td>4294967295</td><td class=\"word\">[2001:db8::7]:6000</td></tr>",
+            "</td><td>0.3%</td><td>7</td><td>4294967295</td><td class=\"word\">[2001:db8::7]:6000</td></tr>",
             "<tr><th scope=\"row\">0</th><td></td><td><span class=\"off\">off</span></td><td></td><td></td></tr>",
             "<tr><th scope=\"row\">1</th><td><span class=\"on\">on</span></td><td></td><td></td><td></td></tr>",
-            "<td class=\"word on\">on</td><td>7</td><td>700</td><td>2</td><td>3</td><td>4</td></tr>",
+            "<td class=\"word on\">on</td><td>7</td><td>700</td><td>2</td><td>3</td><td>4</td><td>25.0%</td><td>90</td><td>45</td></tr>",
             "src=\"/publishers/1.svg\"",
         ],
     )?;

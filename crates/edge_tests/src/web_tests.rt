@@ -58,10 +58,22 @@ const ALL: &[&[u8]] = &[
     b"0 ssrc 16\nok\n",
     b"ok\n",
     b"present 1\nok\n",
+    b"leg 0 from 0 to 1\nok\n",
     b"live 2 030d4014\nok\n",
 ];
 
-/// All answers are heard, in pieces, that for the set of the one who is there, too; who refuses, goes, or is silent for five seconds, has said nothing.
+/// The same of a unit that doesn't know what reports are.
+const ALL_BUT_REPORTS: &[&[u8]] = &[
+    b"x 1\nok\n",
+    b"0 ssrc 16\nok\n",
+    b"ok\n",
+    b"present 1\nok\n",
+    b"refused unknown\n",
+    b"live 2 030d4014\nok\n",
+];
+
+/// All answers are heard, in pieces, that for the set of the one who is there, too; reports may be unknown. Who refuses, goes, or is silent for
+/// five seconds, has said nothing.
 #[test]
 fn asks_question_by_question(rt: HostRuntime) -> Result<(), Fail> {
     let alloc = rt.alloc();
@@ -72,6 +84,7 @@ fn asks_question_by_question(rt: HostRuntime) -> Result<(), Fail> {
     assert!(rt; said.present.as_slice() == b"0 ssrc 16\n".as_slice());
     assert!(rt; said.legs.is_empty());
     assert!(rt; said.counts.as_slice() == b"present 1\n".as_slice());
+    assert!(rt; said.reports.as_slice() == b"leg 0 from 0 to 1\n".as_slice());
     assert!(rt; said.sets.len() == 1);
     assert!(rt; matches!(said.sets.first(), Some(set) if set.publisher == 0));
     let mut silent = Inquiry::new(alloc, fake_unit(&ALL[..2], false), 0);
@@ -79,6 +92,11 @@ fn asks_question_by_question(rt: HostRuntime) -> Result<(), Fail> {
     assert!(rt; matches!(silent.step(5_000), Step::Failed));
     let mut refusing = Inquiry::new(alloc, fake_unit(&[b"refused full\n"], false), 0);
     assert!(rt; matches!(refusing.step(1), Step::Failed));
+    let mut old = Inquiry::new(alloc, fake_unit(ALL_BUT_REPORTS, false), 0);
+    assert!(rt; matches!(old.step(1), Step::Answered));
+    let said = old.into_said();
+    assert!(rt; said.reports.is_empty());
+    assert!(rt; said.sets.len() == 1);
     let mut gone = Inquiry::new(alloc, fake_unit(&ALL[..1], true), 0);
     assert!(rt; matches!(gone.step(1), Step::Failed));
     Ok(())

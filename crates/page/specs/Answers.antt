@@ -13,6 +13,7 @@ use Rattle.page.specs.declared.answer.Verdict.TheVariants as verdict
 use Rattle.page.specs.declared.answer.View.{View}
 use Rattle.page.specs.declared.answer.View.TheVariants.{Page, Metrics, State, Picture}
 use Rattle.page.specs.Html.{page_text, silent_text}
+use Rattle.page.specs.Reports.{reports_in}
 use Rattle.page.specs.State.{state_tokens}
 use Rattle.page.specs.Sets.{IsDrawn, media_in, set_in}
 use Rattle.page.specs.Words.{without_end, without_start}
@@ -59,7 +60,7 @@ abbrev pub page_answer : Said → Seen
 page_answer said = record {
   verdict = verdict.Fine;
   kind = kind.Html;
-  body = page_text said.present.items said.legs.items said.counts.items said.rates.items;
+  body = page_text said.present.items said.legs.items said.counts.items said.rates.items (reports_in said.reports.items);
 }
 
 -- the picture of the set that is said; 502 if what is said is no set
@@ -91,7 +92,8 @@ IsShown Metrics said seen =
 IsShown State said seen = seen ≡ record {
   verdict = verdict.Fine;
   kind = kind.Json;
-  body = print (state_tokens said.present.items said.legs.items said.counts.items said.rates.items);
+  body = print
+      (state_tokens said.present.items said.legs.items said.counts.items said.rates.items (reports_in said.reports.items));
 }
 IsShown (Picture publisher) said seen = IsPictureAnswer publisher said seen
 

@@ -13,7 +13,10 @@ use Rattle.page.specs.declared.html.Table.{Table}
 use Rattle.page.specs.declared.html.Table.TheVariants.{Endpoints, Legs, Totals}
 use Rattle.page.specs.declared.style.TheConstants.{CLASS, CLASS_END, CLOSING, CURVE_CELL, CURVE_CELL_END, CURVE_FIGURE, ENDPOINTS, FIGURE_END, GALLERY, GALLERY_END, IMAGE, IMAGE_END, IMAGE_NAME, IMAGE_OF, IN_CELL, IN_FIGURE, LEGS, MATRIX, OPENING, OUT_CELL, OUT_FIGURE, SENDERS_END, SILENT, TABLE_END, TOTALS, TOTALS_END, UNMOVED, WORD_CELL}
 use Rattle.page.specs.Curves.{curve_text, latest_text}
+use Rattle.page.specs.declared.reports.Report.{Report}
 use Rattle.page.specs.Ends.{ends_in, numbers_in}
+use Rattle.page.specs.Receptions.{known_cell, reception_cells}
+use Rattle.page.specs.Reports.{leg_reported, publisher_reported, trip_of}
 use Rattle.page.specs.Words.{plain_word, word_at}
 
 -- ---- cells
@@ -64,11 +67,17 @@ moved_cells rates None = UNMOVED.now
 unfoldable pub place_cells : List (List ℕ) → List ℕ
 place_cells words = cell_text (word_at words 2) ++ word_cell (word_at words 4)
 
-unfoldable pub endpoint_row : List FlowRate → List (List ℕ) → List ℕ
-endpoint_row rates words = if bytes_eq (word_at words 1) (codes "ssrc")
+-- what moved, and what the unit reports of what comes
+unfoldable pub measured_cells : List FlowRate → List Report → Option ℕ → List ℕ
+measured_cells rates reports number =
+    moved_cells rates number ++ reception_cells (publisher_reported reports number)
+
+unfoldable pub endpoint_row : List FlowRate → List Report → List (List ℕ) → List ℕ
+endpoint_row rates reports words = if bytes_eq (word_at words 1) (codes "ssrc")
     then codes "<tr>"
     ++ (endpoint_cells words
-    ++ (moved_cells rates (number_under (2 ^ 16) (word_at words 0)) ++ (place_cells words ++ codes "</tr>\n")))
+    ++ (measured_cells rates reports (number_under (2 ^ 16) (word_at words 0))
+    ++ (place_cells words ++ codes "</tr>\n")))
     else []
 
 -- ---- N from P to S on stay T packets K octets O resent R missed M next Q
@@ -84,9 +93,20 @@ flow_cells words =
     ++ (cell_text (word_at words 11)
     ++ (cell_text (word_at words 13) ++ (cell_text (word_at words 15) ++ cell_text (word_at words 17))))
 
-unfoldable pub leg_row : List (List ℕ) → List ℕ
-leg_row words = if bytes_eq (word_at words 1) (codes "from")
-    then codes "<tr>" ++ (leg_cells words ++ (flow_cells words ++ codes "</tr>\n")) else []
+unfoldable pub report_cells : Option Report → List ℕ
+report_cells report = reception_cells report ++ known_cell (trip_of report)
+
+-- what its subscriber reports
+unfoldable pub heard_cells : List Report → Option ℕ → List ℕ
+heard_cells reports n = report_cells (leg_reported reports n)
+
+unfoldable pub leg_row : List Report → List (List ℕ) → List ℕ
+leg_row reports words = if bytes_eq (word_at words 1) (codes "from")
+    then codes "<tr>"
+    ++ (leg_cells words
+    ++ (flow_cells words
+    ++ (heard_cells reports (number_under (2 ^ 16) (word_at words 0)) ++ codes "</tr>\n")))
+    else []
 
 -- ---- present P heard H sent S failed F lost L dropped D strangers T unread U
 
@@ -122,16 +142,16 @@ totals_row rates words = if bytes_eq (word_at words 0) (codes "present")
 
 -- ---- lines
 
-abbrev pub words_row : Table → List FlowRate → List (List ℕ) → List ℕ
-words_row Endpoints rates words = endpoint_row rates words
-words_row Legs rates words = leg_row words
-words_row Totals rates words = totals_row rates words
+abbrev pub words_row : Table → List FlowRate → List Report → List (List ℕ) → List ℕ
+words_row Endpoints rates reports words = endpoint_row rates reports words
+words_row Legs rates reports words = leg_row reports words
+words_row Totals rates reports words = totals_row rates words
 
-abbrev pub line_row : Table → List FlowRate → List ℕ → List ℕ
-line_row table rates line = words_row table rates (words_in line)
+abbrev pub line_row : Table → List FlowRate → List Report → List ℕ → List ℕ
+line_row table rates reports line = words_row table rates reports (words_in line)
 
-unfoldable pub rows_text : Table → List FlowRate → List ℕ → List ℕ
-rows_text table rates answer = flat_map (line_row table rates) (lines_of answer)
+unfoldable pub rows_text : Table → List FlowRate → List Report → List ℕ → List ℕ
+rows_text table rates reports answer = flat_map (line_row table rates reports) (lines_of answer)
 
 -- ---- who sees whom
 
@@ -184,24 +204,26 @@ gallery_part numbers ends = GALLERY.now ++ (flat_map (publisher_image ends) numb
 unfoldable pub people_part : List ℕ → List LegEnds → List ℕ
 people_part numbers ends = matrix_part numbers ends ++ gallery_part numbers ends
 
-unfoldable pub totals_part : List ℕ → List FlowRate → List ℕ
-totals_part counts rates = TOTALS.now ++ (rows_text Totals rates counts ++ TOTALS_END.now)
+unfoldable pub totals_part : List ℕ → List FlowRate → List Report → List ℕ
+totals_part counts rates reports =
+    TOTALS.now ++ (rows_text Totals rates reports counts ++ TOTALS_END.now)
 
-unfoldable pub endpoints_part : List ℕ → List FlowRate → List ℕ
-endpoints_part present rates = ENDPOINTS.now ++ (rows_text Endpoints rates present ++ TABLE_END.now)
+unfoldable pub endpoints_part : List ℕ → List FlowRate → List Report → List ℕ
+endpoints_part present rates reports =
+    ENDPOINTS.now ++ (rows_text Endpoints rates reports present ++ TABLE_END.now)
 
-unfoldable pub legs_part : List ℕ → List FlowRate → List ℕ
-legs_part legs rates = LEGS.now ++ (rows_text Legs rates legs ++ TABLE_END.now)
+unfoldable pub legs_part : List ℕ → List FlowRate → List Report → List ℕ
+legs_part legs rates reports = LEGS.now ++ (rows_text Legs rates reports legs ++ TABLE_END.now)
 
-unfoldable pub sections_text : List ℕ → List ℕ → List ℕ → List FlowRate → List ℕ
-sections_text present legs counts rates =
-    totals_part counts rates
-    ++ (endpoints_part present rates
-    ++ (people_part (numbers_in present) (ends_in legs) ++ legs_part legs rates))
+unfoldable pub sections_text : List ℕ → List ℕ → List ℕ → List FlowRate → List Report → List ℕ
+sections_text present legs counts rates reports =
+    totals_part counts rates reports
+    ++ (endpoints_part present rates reports
+    ++ (people_part (numbers_in present) (ends_in legs) ++ legs_part legs rates reports))
 
-unfoldable pub page_text : List ℕ → List ℕ → List ℕ → List FlowRate → List ℕ
-page_text present legs counts rates =
-    OPENING.now ++ (sections_text present legs counts rates ++ CLOSING.now)
+unfoldable pub page_text : List ℕ → List ℕ → List ℕ → List FlowRate → List Report → List ℕ
+page_text present legs counts rates reports =
+    OPENING.now ++ (sections_text present legs counts rates reports ++ CLOSING.now)
 
 -- of a unit that doesn't answer
 unfoldable pub silent_text : List ℕ

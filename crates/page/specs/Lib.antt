@@ -3,6 +3,8 @@ pub mod State
 pub mod Ends
 pub mod History
 pub mod Curves
+pub mod Reports
+pub mod Receptions
 pub mod Sets
 pub mod Html
 pub mod Hosts

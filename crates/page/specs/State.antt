@@ -11,7 +11,9 @@ use Rattle.page.specs.declared.history.Whose.{Whose}
 use Rattle.page.specs.declared.history.Whose.TheVariants as whose
 use Rattle.page.specs.declared.state.Rows.{Rows}
 use Rattle.page.specs.declared.state.Rows.TheVariants.{Endpoints, Legs, Totals}
+use Rattle.page.specs.declared.reports.Report.{Report}
 use Rattle.page.specs.History.{rate_now}
+use Rattle.page.specs.Reports.{fraction_of, jitter_of, leg_reported, publisher_reported, trip_of}
 use Rattle.page.specs.Words.{plain_word, word_at}
 
 -- these tokens come behind those that were written
@@ -44,6 +46,24 @@ moved_members rates w =
     known_member (codes "heard_bps") (rate_now rates (record { whose = w; way = Heard }))
     ++ known_member (codes "sent_bps") (rate_now rates (record { whose = w; way = Sent }))
 
+-- ---- reports
+
+-- the share that was lost, of 256, and the jitter
+unfoldable pub reported_members : Option ℕ → Option ℕ → List Token
+reported_members fraction jitter =
+    known_member (codes "fraction_lost") fraction
+    ++ known_member (codes "jitter") jitter
+
+abbrev pub reception_members : Option Report → List Token
+reception_members report = reported_members (fraction_of report) (jitter_of report)
+
+unfoldable pub report_members : Option Report → List Token
+report_members report =
+    reception_members report ++ known_member (codes "round_trip_ms") (trip_of report)
+
+unfoldable pub heard_members : List Report → Option ℕ → List Token
+heard_members reports n = report_members (leg_reported reports n)
+
 -- ---- N ssrc SSRC at ADDRESS present heard M ms ago
 
 unfoldable pub endpoint_members : List (List ℕ) → List Token
@@ -58,11 +78,16 @@ abbrev pub endpoint_moved : List FlowRate → Option ℕ → List Token
 endpoint_moved rates (Some n) = moved_members rates (whose.Endpoint n)
 endpoint_moved rates None = []
 
-abbrev pub endpoint_words : List FlowRate → List (List ℕ) → List Token
-endpoint_words rates words = if bytes_eq (word_at words 1) (codes "ssrc")
+unfoldable pub measured_members : List FlowRate → List Report → Option ℕ → List Token
+measured_members rates reports n =
+    endpoint_moved rates n ++ reception_members (publisher_reported reports n)
+
+abbrev pub endpoint_words : List FlowRate → List Report → List (List ℕ) → List Token
+endpoint_words rates reports words = if bytes_eq (word_at words 1) (codes "ssrc")
     then begin_object
     ∷ (endpoint_members words
-    ++ (endpoint_moved rates (number_under (2 ^ 16) (word_at words 0)) ++ end_object ∷ [])) else []
+    ++ (measured_members rates reports (number_under (2 ^ 16) (word_at words 0)) ++ end_object ∷ []))
+    else []
 
 -- ---- N from P to S on stay T packets K octets O resent R missed M next Q
 
@@ -82,9 +107,13 @@ flow_members words =
     ++ (number_member (codes "missed") (word_at words 15)
     ++ number_member (codes "next") (word_at words 17))))
 
-abbrev pub leg_words : List (List ℕ) → List Token
-leg_words words = if bytes_eq (word_at words 1) (codes "from")
-    then begin_object ∷ (leg_members words ++ (flow_members words ++ end_object ∷ [])) else []
+abbrev pub leg_words : List Report → List (List ℕ) → List Token
+leg_words reports words = if bytes_eq (word_at words 1) (codes "from")
+    then begin_object
+    ∷ (leg_members words
+    ++ (flow_members words
+    ++ (heard_members reports (number_under (2 ^ 16) (word_at words 0)) ++ end_object ∷ [])))
+    else []
 
 -- ---- present P heard H sent S failed F lost L dropped D strangers T unread U
 
@@ -108,35 +137,37 @@ totals_words rates words = if bytes_eq (word_at words 0) (codes "present")
 
 -- ---- lines
 
-abbrev pub words_tokens : Rows → List FlowRate → List (List ℕ) → List Token
-words_tokens Endpoints rates words = endpoint_words rates words
-words_tokens Legs rates words = leg_words words
-words_tokens Totals rates words = totals_words rates words
+abbrev pub words_tokens : Rows → List FlowRate → List Report → List (List ℕ) → List Token
+words_tokens Endpoints rates reports words = endpoint_words rates reports words
+words_tokens Legs rates reports words = leg_words reports words
+words_tokens Totals rates reports words = totals_words rates words
 
-abbrev pub line_tokens : Rows → List FlowRate → List ℕ → List Token
-line_tokens rows rates line = words_tokens rows rates (words_in line)
+abbrev pub line_tokens : Rows → List FlowRate → List Report → List ℕ → List Token
+line_tokens rows rates reports line = words_tokens rows rates reports (words_in line)
 
 unfoldable pub array_begun : List ℕ → List Token
 array_begun name = key name ∷ (begin_array ∷ [])
 
-unfoldable pub array_member : List ℕ → Rows → List FlowRate → List ℕ → List Token
-array_member name rows rates text =
-    array_begun name ++ (flat_map (line_tokens rows rates) (lines_of text) ++ end_array ∷ [])
+unfoldable pub array_member : List ℕ → Rows → List FlowRate → List Report → List ℕ → List Token
+array_member name rows rates reports text =
+    array_begun name
+    ++ (flat_map (line_tokens rows rates reports) (lines_of text) ++ end_array ∷ [])
 
 unfoldable pub counts_begun : List Token
 counts_begun = key (codes "counts") ∷ (begin_object ∷ [])
 
-unfoldable pub counts_member : List FlowRate → List ℕ → List Token
-counts_member rates text =
-    counts_begun ++ (flat_map (line_tokens Totals rates) (lines_of text) ++ end_object ∷ [])
+unfoldable pub counts_member : List FlowRate → List Report → List ℕ → List Token
+counts_member rates reports text =
+    counts_begun
+    ++ (flat_map (line_tokens Totals rates reports) (lines_of text) ++ end_object ∷ [])
 
 -- ---- the whole
 
-unfoldable pub state_parts : List ℕ → List ℕ → List ℕ → List FlowRate → List Token
-state_parts present legs counts rates =
-    array_member (codes "endpoints") Endpoints rates present
-    ++ (array_member (codes "legs") Legs rates legs ++ counts_member rates counts)
+unfoldable pub state_parts : List ℕ → List ℕ → List ℕ → List FlowRate → List Report → List Token
+state_parts present legs counts rates reports =
+    array_member (codes "endpoints") Endpoints rates reports present
+    ++ (array_member (codes "legs") Legs rates reports legs ++ counts_member rates reports counts)
 
-abbrev pub state_tokens : List ℕ → List ℕ → List ℕ → List FlowRate → List Token
-state_tokens present legs counts rates =
-    begin_object ∷ (state_parts present legs counts rates ++ end_object ∷ [])
+abbrev pub state_tokens : List ℕ → List ℕ → List ℕ → List FlowRate → List Report → List Token
+state_tokens present legs counts rates reports =
+    begin_object ∷ (state_parts present legs counts rates reports ++ end_object ∷ [])

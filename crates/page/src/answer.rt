@@ -25,6 +25,8 @@ pub struct Said {
     pub legs: Vec<u8>,
     /// Its line for `counts`.
     pub counts: Vec<u8>,
+    /// Its lines for `reports`; none if it knows no such request.
+    pub reports: Vec<u8>,
     /// The sets that it announces.
     pub sets: Vec<AnnouncedSet>,
     /// What moved in the minute before that.
@@ -188,6 +190,7 @@ fn shown(alloc: Global, view: View, said: &Said) -> Result<Answer, AllocError>
                 said.legs.as_slice(),
                 said.counts.as_slice(),
                 said.rates.as_slice(),
+                said.reports.as_slice(),
             )?,
         }),
         View::Picture(publisher) => picture(alloc, publisher, said),
@@ -231,6 +234,7 @@ fn page(alloc: Global, said: &Said) -> Result<Answer, AllocError>
         said.legs.as_slice(),
         said.counts.as_slice(),
         said.rates.as_slice(),
+        said.reports.as_slice(),
     )?;
     Ok(Answer {
         verdict: Verdict::Fine,

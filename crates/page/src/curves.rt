@@ -191,7 +191,7 @@ fn push_rate_text(text: &mut String, rate: u64) -> Result<(), AllocError>
 
 /// So many tenths of a unit.
 #[tactic(auto, unfolding(crate::specs::Curves::tenths_text))]
-fn push_tenths(text: &mut String, tenths: u64, unit: &str) -> Result<(), AllocError>
+pub(crate) fn push_tenths(text: &mut String, tenths: u64, unit: &str) -> Result<(), AllocError>
     ensures { OnOk result
         (string_bytes text.new ≡ string_bytes text.old ++ tenths_text tenths unit.now) }
 {

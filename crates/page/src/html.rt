@@ -2,14 +2,17 @@
 
 ghost use Rattle.std.specs.Prelude.{◌≡◌, ◌++◌, IfOk, OnOk, flat_map, map};
 ghost use Rattle.std.specs.String.{string_bytes};
-ghost use Rattle.page.specs.Html.{age_word, cell_text, class_text, curve_cell, endpoint_cells, endpoint_moved, endpoint_row, endpoints_part, figure_text, flow_cells, leg_cells, leg_row, legs_part, line_row, loss_figures, moved_cells, moved_figures, page_text, people_part, place_cells, rate_cells, rows_text, sections_text, silent_text, state_cell, total_figures, totals_part, totals_row, unread_figure, word_cell, words_row};
+ghost use Rattle.page.specs.Html.{age_word, cell_text, class_text, curve_cell, endpoint_cells, endpoint_moved, endpoint_row, endpoints_part, figure_text, flow_cells, heard_cells, leg_cells, leg_row, legs_part, line_row, loss_figures, measured_cells, moved_cells, moved_figures, page_text, people_part, place_cells, rate_cells, report_cells, rows_text, sections_text, silent_text, state_cell, total_figures, totals_part, totals_row, unread_figure, word_cell, words_row};
 ghost use Rattle.page.specs.Ends.{ends_in, numbers_in};
+ghost use Rattle.page.specs.Reports.{leg_reported, publisher_reported, reports_in};
 
 use crate::curves::{push_curve, push_latest};
 use crate::ends::{LegEnds, ends_in, numbers_in};
 use crate::gallery::push_gallery;
 use crate::history::{FlowRate, Way, Whose};
 use crate::matrix::push_matrix;
+use crate::receptions::{push_known_cell, push_reception};
+use crate::reports::{Report, leg_reported, publisher_reported, reports_in, trip_of};
 use crate::style::{
     CLASS, CLASS_END, CLOSING, CURVE_CELL, CURVE_CELL_END, CURVE_FIGURE, ENDPOINTS, FIGURE_END,
     IN_CELL, IN_FIGURE, LEGS, OPENING, OUT_CELL, OUT_FIGURE, SILENT, TABLE_END, TOTALS, TOTALS_END,
@@ -27,22 +30,38 @@ enum Table {
     Totals,
 }
 
-/// The page of a unit, by its answers to `present`, `legs` and `counts` and by what moved in the last minute: the totals, who is there, who
-/// sees whom, and what went out on each leg. Of a line no word is shown that isn't plain. Refused for want of memory alone.
-#[tactic(auto, unfolding(crate::specs::Html::page_text))]
+/// The page of a unit, by its answers to `present`, `legs`, `counts` and `reports` and by what moved in the last minute: the totals, who is
+/// there, who sees whom, and what went out on each leg. Of a line no word is shown that isn't plain. Refused for want of memory alone.
 pub fn page_text(
     alloc: Global,
     present: &[u8],
     legs: &[u8],
     counts: &[u8],
     rates: &[FlowRate],
+    reports: &[u8],
 ) -> Result<String, AllocError>
-    ensures { IfOk result
-        (λ text. string_bytes text ≡ page_text present.now legs.now counts.now rates.now) }
+    ensures { IfOk result (λ text. string_bytes text
+        ≡ page_text present.now legs.now counts.now rates.now (reports_in reports.now)) }
+{
+    let reports = reports_in(alloc, reports)?;
+    page_with(alloc, present, legs, counts, rates, reports.as_slice())
+}
+
+#[tactic(auto, unfolding(crate::specs::Html::page_text))]
+fn page_with(
+    alloc: Global,
+    present: &[u8],
+    legs: &[u8],
+    counts: &[u8],
+    rates: &[FlowRate],
+    reports: &[Report],
+) -> Result<String, AllocError>
+    ensures { IfOk result (λ text. string_bytes text
+        ≡ page_text present.now legs.now counts.now rates.now reports.now) }
 {
     let mut text = String::new(alloc);
     text.push_str(OPENING)?;
-    push_sections(alloc, &mut text, present, legs, counts, rates)?;
+    push_sections(alloc, &mut text, present, legs, counts, rates, reports)?;
     text.push_str(CLOSING)?;
     Ok(text)
 }
@@ -67,14 +86,15 @@ fn push_sections(
     legs: &[u8],
     counts: &[u8],
     rates: &[FlowRate],
+    reports: &[Report],
 ) -> Result<(), AllocError>
-    ensures { OnOk result (string_bytes text.new
-        ≡ string_bytes text.old ++ sections_text present.now legs.now counts.now rates.now) }
+    ensures { OnOk result (string_bytes text.new ≡ string_bytes text.old
+        ++ sections_text present.now legs.now counts.now rates.now reports.now) }
 {
-    push_totals_part(alloc, text, counts, rates)?;
-    push_endpoints_part(alloc, text, present, rates)?;
+    push_totals_part(alloc, text, counts, rates, reports)?;
+    push_endpoints_part(alloc, text, present, rates, reports)?;
     push_people(alloc, text, present, legs)?;
-    push_legs_part(alloc, text, legs, rates)
+    push_legs_part(alloc, text, legs, rates, reports)
 }
 
 #[tactic(auto, unfolding(crate::specs::Html::totals_part))]
@@ -83,12 +103,13 @@ fn push_totals_part(
     text: &mut String,
     counts: &[u8],
     rates: &[FlowRate],
+    reports: &[Report],
 ) -> Result<(), AllocError>
     ensures { OnOk result (string_bytes text.new
-        ≡ string_bytes text.old ++ totals_part counts.now rates.now) }
+        ≡ string_bytes text.old ++ totals_part counts.now rates.now reports.now) }
 {
     text.push_str(TOTALS)?;
-    push_rows(alloc, text, Table::Totals, counts, rates)?;
+    push_rows(alloc, text, Table::Totals, counts, rates, reports)?;
     text.push_str(TOTALS_END)
 }
 
@@ -98,12 +119,13 @@ fn push_endpoints_part(
     text: &mut String,
     present: &[u8],
     rates: &[FlowRate],
+    reports: &[Report],
 ) -> Result<(), AllocError>
     ensures { OnOk result (string_bytes text.new
-        ≡ string_bytes text.old ++ endpoints_part present.now rates.now) }
+        ≡ string_bytes text.old ++ endpoints_part present.now rates.now reports.now) }
 {
     text.push_str(ENDPOINTS)?;
-    push_rows(alloc, text, Table::Endpoints, present, rates)?;
+    push_rows(alloc, text, Table::Endpoints, present, rates, reports)?;
     text.push_str(TABLE_END)
 }
 
@@ -113,12 +135,13 @@ fn push_legs_part(
     text: &mut String,
     legs: &[u8],
     rates: &[FlowRate],
+    reports: &[Report],
 ) -> Result<(), AllocError>
     ensures { OnOk result (string_bytes text.new
-        ≡ string_bytes text.old ++ legs_part legs.now rates.now) }
+        ≡ string_bytes text.old ++ legs_part legs.now rates.now reports.now) }
 {
     text.push_str(LEGS)?;
-    push_rows(alloc, text, Table::Legs, legs, rates)?;
+    push_rows(alloc, text, Table::Legs, legs, rates, reports)?;
     text.push_str(TABLE_END)
 }
 
@@ -129,12 +152,13 @@ fn push_rows(
     table: Table,
     answer: &[u8],
     rates: &[FlowRate],
+    reports: &[Report],
 ) -> Result<(), AllocError>
     ensures { OnOk result (string_bytes text.new
-        ≡ string_bytes text.old ++ rows_text table rates.now answer.now) }
+        ≡ string_bytes text.old ++ rows_text table rates.now reports.now answer.now) }
 {
     let lines = lines(alloc, answer)?;
-    push_lines(alloc, text, table, lines.as_slice(), rates)
+    push_lines(alloc, text, table, lines.as_slice(), rates, reports)
 }
 
 fn push_lines(
@@ -143,12 +167,13 @@ fn push_lines(
     table: Table,
     lines: &[&[u8]],
     rates: &[FlowRate],
+    reports: &[Report],
 ) -> Result<(), AllocError>
-    ensures { OnOk result (string_bytes text.new
-        ≡ string_bytes text.old ++ flat_map (λ x. line_row table rates.now x.now) lines.now) }
+    ensures { OnOk result (string_bytes text.new ≡ string_bytes text.old
+        ++ flat_map (λ x. line_row table rates.now reports.now x.now) lines.now) }
 {
     for line in lines {
-        push_line(alloc, text, table, line, rates)?;
+        push_line(alloc, text, table, line, rates, reports)?;
     }
     Ok(())
 }
@@ -160,12 +185,13 @@ fn push_line(
     table: Table,
     line: &[u8],
     rates: &[FlowRate],
+    reports: &[Report],
 ) -> Result<(), AllocError>
     ensures { OnOk result (string_bytes text.new
-        ≡ string_bytes text.old ++ line_row table rates.now line.now) }
+        ≡ string_bytes text.old ++ line_row table rates.now reports.now line.now) }
 {
     let words = words_of(alloc, line)?;
-    push_words(text, table, words.as_slice(), rates)
+    push_words(text, table, words.as_slice(), rates, reports)
 }
 
 fn push_words(
@@ -173,31 +199,52 @@ fn push_words(
     table: Table,
     words: &[&[u8]],
     rates: &[FlowRate],
+    reports: &[Report],
 ) -> Result<(), AllocError>
-    ensures { OnOk result (string_bytes text.new
-        ≡ string_bytes text.old ++ words_row table rates.now (map (λ x. x.now) words.now)) }
+    ensures { OnOk result (string_bytes text.new ≡ string_bytes text.old
+        ++ words_row table rates.now reports.now (map (λ x. x.now) words.now)) }
 {
     match table {
-        Table::Endpoints => push_endpoint(text, words, rates),
-        Table::Legs => push_leg(text, words),
+        Table::Endpoints => push_endpoint(text, words, rates, reports),
+        Table::Legs => push_leg(text, words, reports),
         Table::Totals => push_totals(text, words, rates),
     }
 }
 
 /// The row of an endpoint.
 #[tactic(auto, unfolding(crate::specs::Html::endpoint_row))]
-fn push_endpoint(text: &mut String, words: &[&[u8]], rates: &[FlowRate]) -> Result<(), AllocError>
-    ensures { OnOk result (string_bytes text.new
-        ≡ string_bytes text.old ++ endpoint_row rates.now (map (λ x. x.now) words.now)) }
+fn push_endpoint(
+    text: &mut String,
+    words: &[&[u8]],
+    rates: &[FlowRate],
+    reports: &[Report],
+) -> Result<(), AllocError>
+    ensures { OnOk result (string_bytes text.new ≡ string_bytes text.old
+        ++ endpoint_row rates.now reports.now (map (λ x. x.now) words.now)) }
 {
     if !is_word(word_at(words, 1), b"ssrc") {
         return Ok(());
     }
     text.push_str("<tr>")?;
     push_endpoint_cells(text, words)?;
-    push_moved_cells(text, rates, number_u16(word_at(words, 0)))?;
+    push_measured(text, rates, reports, number_u16(word_at(words, 0)))?;
     push_place_cells(text, words)?;
     text.push_str("</tr>\n")
+}
+
+/// What moved of the endpoint with this number, and what reports say of it.
+#[tactic(auto, unfolding(crate::specs::Html::measured_cells))]
+fn push_measured(
+    text: &mut String,
+    rates: &[FlowRate],
+    reports: &[Report],
+    number: Option<u16>,
+) -> Result<(), AllocError>
+    ensures { OnOk result (string_bytes text.new
+        ≡ string_bytes text.old ++ measured_cells rates.now reports.now number) }
+{
+    push_moved_cells(text, rates, number)?;
+    push_reception(text, publisher_reported(reports, number))
 }
 
 #[tactic(auto, unfolding(crate::specs::Html::endpoint_cells))]
@@ -283,9 +330,9 @@ fn age_word<'a>(words: &[&'a [u8]]) -> &'a [u8]
 
 /// The row of a leg.
 #[tactic(auto, unfolding(crate::specs::Html::leg_row))]
-fn push_leg(text: &mut String, words: &[&[u8]]) -> Result<(), AllocError>
+fn push_leg(text: &mut String, words: &[&[u8]], reports: &[Report]) -> Result<(), AllocError>
     ensures { OnOk result (string_bytes text.new
-        ≡ string_bytes text.old ++ leg_row (map (λ x. x.now) words.now)) }
+        ≡ string_bytes text.old ++ leg_row reports.now (map (λ x. x.now) words.now)) }
 {
     if !is_word(word_at(words, 1), b"from") {
         return Ok(());
@@ -293,7 +340,29 @@ fn push_leg(text: &mut String, words: &[&[u8]]) -> Result<(), AllocError>
     text.push_str("<tr>")?;
     push_leg_cells(text, words)?;
     push_flow_cells(text, words)?;
+    push_heard_cells(text, reports, number_u16(word_at(words, 0)))?;
     text.push_str("</tr>\n")
+}
+
+/// What its subscriber reports of the leg with this number.
+#[tactic(auto, unfolding(crate::specs::Html::heard_cells))]
+fn push_heard_cells(
+    text: &mut String,
+    reports: &[Report],
+    number: Option<u16>,
+) -> Result<(), AllocError>
+    ensures { OnOk result
+        (string_bytes text.new ≡ string_bytes text.old ++ heard_cells reports.now number) }
+{
+    push_report_cells(text, leg_reported(reports, number))
+}
+
+#[tactic(auto, unfolding(crate::specs::Html::report_cells))]
+fn push_report_cells(text: &mut String, report: Option<Report>) -> Result<(), AllocError>
+    ensures { OnOk result (string_bytes text.new ≡ string_bytes text.old ++ report_cells report) }
+{
+    push_reception(text, report)?;
+    push_known_cell(text, trip_of(report))
 }
 
 #[tactic(auto, unfolding(crate::specs::Html::leg_cells))]

@@ -12,6 +12,8 @@ mod history;
 mod hosts;
 mod html;
 mod matrix;
+mod receptions;
+mod reports;
 mod sets;
 mod state;
 mod style;

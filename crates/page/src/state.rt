@@ -3,29 +3,49 @@
 ghost use Rattle.std.specs.Prelude.{◌≡◌, IfOk, codes, flat_map, map};
 ghost use Rattle.json.specs.Print.{print};
 ghost use Rattle.request_text.specs.Lines.{lines_of};
-ghost use Rattle.page.specs.State.{Tells, array_begun, array_member, counts_begun, counts_member, endpoint_members, endpoint_moved, endpoint_words, flow_members, known_member, leg_members, leg_words, line_tokens, losses_members, moved_members, number_member, state_parts, state_tokens, switch_member, text_member, totals_members, totals_words, words_tokens};
+ghost use Rattle.page.specs.Reports.{reports_in};
+ghost use Rattle.page.specs.State.{Tells, array_begun, array_member, counts_begun, counts_member, endpoint_members, endpoint_moved, endpoint_words, flow_members, heard_members, known_member, leg_members, leg_words, line_tokens, losses_members, measured_members, moved_members, number_member, reception_members, report_members, reported_members, state_parts, state_tokens, switch_member, text_member, totals_members, totals_words, words_tokens};
 
 use crate::history::{Flow, FlowRate, Way, Whose, rate_now};
+use crate::reports::{
+    Report, fraction_of, jitter_of, leg_reported, publisher_reported, reports_in, trip_of,
+};
 use crate::words::{plain_word, word_at};
 use json::Writer;
 use request_text::{is_word, lines, number_u16, number_u64, words_of};
 use std::alloc::{AllocError, Global};
 
-/// What a unit is like, by its answers to `present`, `legs` and `counts` and by what moved in the last minute, as a JSON object: `endpoints` and `legs` are arrays of
-/// objects, `counts` is an object, each number is one, and what is no number where one should stand is null. A line that tells of none
-/// of these is passed over. Refused for want of memory alone.
+/// What a unit is like, by its answers to `present`, `legs`, `counts` and `reports` and by what moved in the last minute, as a JSON object:
+/// `endpoints` and `legs` are arrays of objects, `counts` is an object, each number is one, and what is no number where one should stand
+/// is null. A line that tells of none of these is passed over. Refused for want of memory alone.
 pub fn state_text(
     alloc: Global,
     present: &[u8],
     legs: &[u8],
     counts: &[u8],
     rates: &[FlowRate],
+    reports: &[u8],
 ) -> Result<Vec<u8>, AllocError>
-    ensures { IfOk result
-        (λ text. text.items ≡ print (state_tokens present.now legs.now counts.now rates.now)) }
+    ensures { IfOk result (λ text. text.items ≡ print
+        (state_tokens present.now legs.now counts.now rates.now (reports_in reports.now))) }
+{
+    let reports = reports_in(alloc, reports)?;
+    state_with(alloc, present, legs, counts, rates, reports.as_slice())
+}
+
+fn state_with(
+    alloc: Global,
+    present: &[u8],
+    legs: &[u8],
+    counts: &[u8],
+    rates: &[FlowRate],
+    reports: &[Report],
+) -> Result<Vec<u8>, AllocError>
+    ensures { IfOk result (λ text. text.items
+        ≡ print (state_tokens present.now legs.now counts.now rates.now reports.now)) }
 {
     let mut writer = Writer::new(Vec::new(alloc));
-    push_state(alloc, &mut writer, present, legs, counts, rates)?;
+    push_state(alloc, &mut writer, present, legs, counts, rates, reports)?;
     Ok(writer.into_inner())
 }
 
@@ -44,12 +64,13 @@ fn push_state(
     legs: &[u8],
     counts: &[u8],
     rates: &[FlowRate],
+    reports: &[Report],
 ) -> Result<(), AllocError>
     ensures { Tells result writer.old writer.new
-        (state_tokens present.now legs.now counts.now rates.now) }
+        (state_tokens present.now legs.now counts.now rates.now reports.now) }
 {
     writer.begin_object()?;
-    push_parts(alloc, writer, present, legs, counts, rates)?;
+    push_parts(alloc, writer, present, legs, counts, rates, reports)?;
     writer.end_object()
 }
 
@@ -61,13 +82,14 @@ fn push_parts(
     legs: &[u8],
     counts: &[u8],
     rates: &[FlowRate],
+    reports: &[Report],
 ) -> Result<(), AllocError>
     ensures { Tells result writer.old writer.new
-        (state_parts present.now legs.now counts.now rates.now) }
+        (state_parts present.now legs.now counts.now rates.now reports.now) }
 {
-    push_array(alloc, writer, "endpoints", Rows::Endpoints, present, rates)?;
-    push_array(alloc, writer, "legs", Rows::Legs, legs, rates)?;
-    push_counts(alloc, writer, counts, rates)
+    push_array(alloc, writer, "endpoints", Rows::Endpoints, present, rates, reports)?;
+    push_array(alloc, writer, "legs", Rows::Legs, legs, rates, reports)?;
+    push_counts(alloc, writer, counts, rates, reports)
 }
 
 /// A member that is an array, with an object for each line that tells of one.
@@ -79,11 +101,13 @@ fn push_array(
     rows: Rows,
     text: &[u8],
     rates: &[FlowRate],
+    reports: &[Report],
 ) -> Result<(), AllocError>
-    ensures { Tells result writer.old writer.new (array_member name.now rows rates.now text.now) }
+    ensures { Tells result writer.old writer.new
+        (array_member name.now rows rates.now reports.now text.now) }
 {
     begin_array(writer, name)?;
-    push_rows(alloc, writer, rows, text, rates)?;
+    push_rows(alloc, writer, rows, text, rates, reports)?;
     writer.end_array()
 }
 
@@ -102,11 +126,13 @@ fn push_counts(
     writer: &mut Writer,
     text: &[u8],
     rates: &[FlowRate],
+    reports: &[Report],
 ) -> Result<(), AllocError>
-    ensures { Tells result writer.old writer.new (counts_member rates.now text.now) }
+    ensures { Tells result writer.old writer.new
+        (counts_member rates.now reports.now text.now) }
 {
     begin_counts(writer)?;
-    push_rows(alloc, writer, Rows::Totals, text, rates)?;
+    push_rows(alloc, writer, Rows::Totals, text, rates, reports)?;
     writer.end_object()
 }
 
@@ -125,12 +151,13 @@ fn push_rows(
     rows: Rows,
     text: &[u8],
     rates: &[FlowRate],
+    reports: &[Report],
 ) -> Result<(), AllocError>
     ensures { Tells result writer.old writer.new
-        (flat_map (line_tokens rows rates.now) (lines_of text.now)) }
+        (flat_map (line_tokens rows rates.now reports.now) (lines_of text.now)) }
 {
     let lines = lines(alloc, text)?;
-    push_lines(alloc, writer, rows, lines.as_slice(), rates)
+    push_lines(alloc, writer, rows, lines.as_slice(), rates, reports)
 }
 
 fn push_lines(
@@ -139,12 +166,13 @@ fn push_lines(
     rows: Rows,
     lines: &[&[u8]],
     rates: &[FlowRate],
+    reports: &[Report],
 ) -> Result<(), AllocError>
     ensures { Tells result writer.old writer.new
-        (flat_map (λ x. line_tokens rows rates.now x.now) lines.now) }
+        (flat_map (λ x. line_tokens rows rates.now reports.now x.now) lines.now) }
 {
     for line in lines {
-        push_line(alloc, writer, rows, line, rates)?;
+        push_line(alloc, writer, rows, line, rates, reports)?;
     }
     Ok(())
 }
@@ -156,11 +184,13 @@ fn push_line(
     rows: Rows,
     line: &[u8],
     rates: &[FlowRate],
+    reports: &[Report],
 ) -> Result<(), AllocError>
-    ensures { Tells result writer.old writer.new (line_tokens rows rates.now line.now) }
+    ensures { Tells result writer.old writer.new
+        (line_tokens rows rates.now reports.now line.now) }
 {
     let words = words_of(alloc, line)?;
-    push_words(writer, rows, words.as_slice(), rates)
+    push_words(writer, rows, words.as_slice(), rates, reports)
 }
 
 /// What these words tell of.
@@ -169,29 +199,70 @@ fn push_words(
     rows: Rows,
     words: &[&[u8]],
     rates: &[FlowRate],
+    reports: &[Report],
 ) -> Result<(), AllocError>
     ensures { Tells result writer.old writer.new
-        (words_tokens rows rates.now (map (λ x. x.now) words.now)) }
+        (words_tokens rows rates.now reports.now (map (λ x. x.now) words.now)) }
 {
     match rows {
-        Rows::Endpoints => push_endpoint(writer, words, rates),
-        Rows::Legs => push_leg(writer, words),
+        Rows::Endpoints => push_endpoint(writer, words, rates, reports),
+        Rows::Legs => push_leg(writer, words, reports),
         Rows::Totals => push_total(writer, words, rates),
     }
 }
 
 /// The object of the endpoint that these words tell of.
-fn push_endpoint(writer: &mut Writer, words: &[&[u8]], rates: &[FlowRate]) -> Result<(), AllocError>
+fn push_endpoint(
+    writer: &mut Writer,
+    words: &[&[u8]],
+    rates: &[FlowRate],
+    reports: &[Report],
+) -> Result<(), AllocError>
     ensures { Tells result writer.old writer.new
-        (endpoint_words rates.now (map (λ x. x.now) words.now)) }
+        (endpoint_words rates.now reports.now (map (λ x. x.now) words.now)) }
 {
     if !is_word(word_at(words, 1), b"ssrc") {
         return Ok(());
     }
     writer.begin_object()?;
     push_endpoint_members(writer, words)?;
-    push_endpoint_moved(writer, rates, number_u16(word_at(words, 0)))?;
+    push_measured(writer, rates, reports, number_u16(word_at(words, 0)))?;
     writer.end_object()
+}
+
+/// What moved of the endpoint with this number, and what reports say of it.
+#[tactic(auto, unfolding(crate::specs::State::measured_members))]
+fn push_measured(
+    writer: &mut Writer,
+    rates: &[FlowRate],
+    reports: &[Report],
+    number: Option<u16>,
+) -> Result<(), AllocError>
+    ensures { Tells result writer.old writer.new
+        (measured_members rates.now reports.now number) }
+{
+    push_endpoint_moved(writer, rates, number)?;
+    push_reception(writer, publisher_reported(reports, number))
+}
+
+/// What a report says of loss and jitter.
+fn push_reception(writer: &mut Writer, report: Option<Report>) -> Result<(), AllocError>
+    ensures { Tells result writer.old writer.new (reception_members report) }
+{
+    push_reported(writer, fraction_of(report), jitter_of(report))
+}
+
+/// The share that was lost, of 256, and the jitter, as far as they are known.
+#[tactic(auto, unfolding(crate::specs::State::reported_members))]
+fn push_reported(
+    writer: &mut Writer,
+    fraction: Option<u64>,
+    jitter: Option<u64>,
+) -> Result<(), AllocError>
+    ensures { Tells result writer.old writer.new (reported_members fraction jitter) }
+{
+    push_known(writer, "fraction_lost", fraction)?;
+    push_known(writer, "jitter", jitter)
 }
 
 /// The rates of the endpoint with this number.
@@ -237,8 +308,13 @@ fn push_endpoint_members(writer: &mut Writer, words: &[&[u8]]) -> Result<(), All
 }
 
 /// The object of the leg that these words tell of.
-fn push_leg(writer: &mut Writer, words: &[&[u8]]) -> Result<(), AllocError>
-    ensures { Tells result writer.old writer.new (leg_words (map (λ x. x.now) words.now)) }
+fn push_leg(
+    writer: &mut Writer,
+    words: &[&[u8]],
+    reports: &[Report],
+) -> Result<(), AllocError>
+    ensures { Tells result writer.old writer.new
+        (leg_words reports.now (map (λ x. x.now) words.now)) }
 {
     if !is_word(word_at(words, 1), b"from") {
         return Ok(());
@@ -246,7 +322,28 @@ fn push_leg(writer: &mut Writer, words: &[&[u8]]) -> Result<(), AllocError>
     writer.begin_object()?;
     push_leg_members(writer, words)?;
     push_flow_members(writer, words)?;
+    push_heard(writer, reports, number_u16(word_at(words, 0)))?;
     writer.end_object()
+}
+
+/// What its subscriber reports of the leg with this number.
+#[tactic(auto, unfolding(crate::specs::State::heard_members))]
+fn push_heard(
+    writer: &mut Writer,
+    reports: &[Report],
+    number: Option<u16>,
+) -> Result<(), AllocError>
+    ensures { Tells result writer.old writer.new (heard_members reports.now number) }
+{
+    push_report(writer, leg_reported(reports, number))
+}
+
+#[tactic(auto, unfolding(crate::specs::State::report_members))]
+fn push_report(writer: &mut Writer, report: Option<Report>) -> Result<(), AllocError>
+    ensures { Tells result writer.old writer.new (report_members report) }
+{
+    push_reception(writer, report)?;
+    push_known(writer, "round_trip_ms", trip_of(report))
 }
 
 #[tactic(auto, unfolding(crate::specs::State::leg_members))]

@@ -67,7 +67,7 @@ pub const ENDPOINTS: &str = "<section>
 <div class=\"wide\"><table>
 <thead><tr><th scope=\"col\">endpoint</th><th scope=\"col\" class=\"word\">state</th><th scope=\"col\">heard, ms ago</th>\
 <th scope=\"col\">in, bit/s</th><th scope=\"col\">out, bit/s</th><th scope=\"col\" class=\"word\">last minute</th>\
-<th scope=\"col\">SSRC</th><th scope=\"col\" class=\"word\">address</th></tr></thead>
+<th scope=\"col\">loss</th><th scope=\"col\">jitter</th><th scope=\"col\">SSRC</th><th scope=\"col\" class=\"word\">address</th></tr></thead>
 <tbody>
 ";
 
@@ -108,7 +108,8 @@ pub const LEGS: &str = "<section>
 <h2>Legs</h2>
 <div class=\"wide\"><table>
 <thead><tr><th scope=\"col\">leg</th><th scope=\"col\">from</th><th scope=\"col\">to</th><th scope=\"col\" class=\"word\">state</th>\
-<th scope=\"col\">packets</th><th scope=\"col\">bytes</th><th scope=\"col\">resent</th><th scope=\"col\">missed</th><th scope=\"col\">next</th></tr></thead>
+<th scope=\"col\">packets</th><th scope=\"col\">bytes</th><th scope=\"col\">resent</th><th scope=\"col\">missed</th><th scope=\"col\">next</th>\
+<th scope=\"col\">loss</th><th scope=\"col\">jitter</th><th scope=\"col\">round trip, ms</th></tr></thead>
 <tbody>
 ";
 
@@ -132,6 +133,9 @@ pub const OUT_CELL: &str = "</td><td class=\"out\">";
 
 /// Between that rate and both curves.
 pub const CURVE_CELL: &str = "</td><td>";
+
+/// A cell of which nothing is known.
+pub const NO_CELL: &str = "<td></td>";
 
 /// After the curves.
 pub const CURVE_CELL_END: &str = "</td>";

@@ -28,8 +28,21 @@ enum Question {
     Present,
     Legs,
     Counts,
+    /// What reports say: a unit may not know of it.
+    Reports,
     /// The set that is announced to this publisher.
     Set(u16),
+}
+
+/// How a question is answered.
+#[derive(Clone, Copy)]
+enum Reply {
+    /// By lines.
+    Done,
+    /// The unit doesn't know the request.
+    Unknown,
+    /// It is refused for something else.
+    Refused,
 }
 
 /// How far an inquiry is.
@@ -71,6 +84,7 @@ impl<S: Read + Write + Drop> Inquiry<S> {
                 present: Vec::new(alloc),
                 legs: Vec::new(alloc),
                 counts: Vec::new(alloc),
+                reports: Vec::new(alloc),
                 sets: Vec::new(alloc),
                 rates: Vec::new(alloc),
             },
@@ -91,12 +105,11 @@ impl<S: Read + Write + Drop> Inquiry<S> {
                 Some(false) => return Step::Asking,
                 None => return Step::Failed,
             }
-            match read_answer(self.text.as_slice()) {
-                Some(Answered::Done(_)) => match self.take_answer() {
+            match reply_in(self.text.as_slice()) {
+                Some(reply) => match self.take_reply(reply) {
                     Step::Asking => {}
                     ended => return ended,
                 },
-                Some(Answered::Refused(_)) => return Step::Failed,
                 None => {}
             }
         }
@@ -111,7 +124,7 @@ impl<S: Read + Write + Drop> Inquiry<S> {
 
     /// How many questions were asked for what was said.
     pub fn asked(&self) -> usize {
-        self.said.sets.len().saturating_add(4)
+        self.said.sets.len().saturating_add(5)
     }
 
     /// Writes the question.
@@ -121,6 +134,7 @@ impl<S: Read + Write + Drop> Inquiry<S> {
             Question::Present => self.say(b"present\n"),
             Question::Legs => self.say(b"legs\n"),
             Question::Counts => self.say(b"counts\n"),
+            Question::Reports => self.say(b"reports\n"),
             Question::Set(publisher) => match format!(in self.alloc; "show {publisher}\n") {
                 Ok(line) => self.say(line.as_bytes()),
                 Err(_) => false,
@@ -155,10 +169,29 @@ impl<S: Read + Write + Drop> Inquiry<S> {
         }
     }
 
-    /// The question is answered: its lines are kept, and the next one is asked.
-    fn take_answer(&mut self) -> Step {
-        let lines = self.text.len().saturating_sub(3);
-        self.text.truncate(lines);
+    /// The question came to an end. A unit that doesn't know what reports are says no line of them, and is asked on.
+    fn take_reply(&mut self, reply: Reply) -> Step {
+        match reply {
+            Reply::Done => {
+                let lines = self.text.len().saturating_sub(3);
+                self.take_lines(lines)
+            }
+            Reply::Unknown => self.pass_over(),
+            Reply::Refused => Step::Failed,
+        }
+    }
+
+    fn pass_over(&mut self) -> Step {
+        if matches!(self.question, Question::Reports) {
+            self.take_lines(0)
+        } else {
+            Step::Failed
+        }
+    }
+
+    /// So many bytes of the answer are lines: they are kept, and the next question is asked.
+    fn take_lines(&mut self, count: usize) -> Step {
+        self.text.truncate(count);
         let text = mem::replace(&mut self.text, Vec::new(self.alloc));
         let kept = self.keep(text);
         match self.next_question() {
@@ -182,6 +215,7 @@ impl<S: Read + Write + Drop> Inquiry<S> {
             Question::Present => return self.keep_present(text),
             Question::Legs => self.said.legs = text,
             Question::Counts => self.said.counts = text,
+            Question::Reports => self.said.reports = text,
             Question::Set(publisher) => {
                 return self
                     .said
@@ -213,7 +247,22 @@ impl<S: Read + Write + Drop> Inquiry<S> {
             Question::Metrics => Some(Question::Present),
             Question::Present => Some(Question::Legs),
             Question::Legs => Some(Question::Counts),
-            Question::Counts | Question::Set(_) => Some(Question::Set(self.publishers.pop()?)),
+            Question::Counts => Some(Question::Reports),
+            Question::Reports | Question::Set(_) => Some(Question::Set(self.publishers.pop()?)),
+        }
+    }
+}
+
+/// How the question is answered, once all of the answer is there.
+fn reply_in(text: &[u8]) -> Option<Reply> {
+    match read_answer(text)? {
+        Answered::Done(_) => Some(Reply::Done),
+        Answered::Refused(why) => {
+            if why == b"unknown".as_slice() {
+                Some(Reply::Unknown)
+            } else {
+                Some(Reply::Refused)
+            }
         }
     }
 }

@@ -6,4 +6,4 @@ use Rattle.page.proofs.html.push_lines.Given as goal
 
 abbrev pub invariant-loop-line : goal.invariant-loop-line
 invariant-loop-line l =
-    string_bytes l.text ≡ string_bytes l.fn.text ++ flat_map (λ (x : Bor (List ℕ)). line_row l.table l.rates x.now) (take l.line-index l.lines)
+    string_bytes l.text ≡ string_bytes l.fn.text ++ flat_map (λ (x : Bor (List ℕ)). line_row l.table l.rates l.reports x.now) (take l.line-index l.lines)

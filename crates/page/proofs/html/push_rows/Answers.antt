@@ -8,5 +8,5 @@ use Rattle.page.proofs.html.push_rows.Goals as goal
 pub returns : goal.returns
 unfolding rows_text
 returns c =
-    let e = ap (λ xs. flat_map (λ (x : Bor (List ℕ)). line_row c.args.table c.args.rates.now x.now) xs) c.as_slice.ensures.value ∙ flat_map_now (line_row c.args.table c.args.rates.now) c.in_ok-lines.lines.items ∙ ap (flat_map (line_row c.args.table c.args.rates.now)) c.in_ok-lines.ensures in
+    let e = ap (λ xs. flat_map (λ (x : Bor (List ℕ)). line_row c.args.table c.args.rates.now c.args.reports.now x.now) xs) c.as_slice.ensures.value ∙ flat_map_now (line_row c.args.table c.args.rates.now c.args.reports.now) c.in_ok-lines.lines.items ∙ ap (flat_map (line_row c.args.table c.args.rates.now c.args.reports.now)) c.in_ok-lines.ensures in
     subst (λ (t : List ℕ). OnOk c.push_lines.result (string_bytes c.push_lines.new.text ≡ string_bytes c.args.text.now ++ t)) e c.push_lines.ensures
