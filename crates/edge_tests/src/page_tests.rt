@@ -17,7 +17,8 @@ const LEGS: &[u8] = b"0 from 0 to 1 on stay 9 packets 7 octets 700 resent 2 miss
 
 const COUNTS: &[u8] = b"present 1 heard 2 sent 3 failed 4 lost 5 dropped 6 strangers 7 unread 8\n";
 
-const REPORTS: &[u8] = b"leg 0 from 0 to 1 fraction 64 lost 12 jitter 90 round_trip_ms 45 heard 1200 ms ago\n\
+const REPORTS: &[u8] =
+    b"leg 0 from 0 to 1 fraction 64 lost 12 jitter 90 round_trip_ms 45 heard 1200 ms ago\n\
     publisher 1 fraction 1 lost -3 jitter 7 sent 900 ms ago\n\
     leg 1 from 1 to 0 fraction 256 lost 0 jitter 0 round_trip_ms none heard 1 ms ago\n";
 

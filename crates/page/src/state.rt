@@ -87,7 +87,15 @@ fn push_parts(
     ensures { Tells result writer.old writer.new
         (state_parts present.now legs.now counts.now rates.now reports.now) }
 {
-    push_array(alloc, writer, "endpoints", Rows::Endpoints, present, rates, reports)?;
+    push_array(
+        alloc,
+        writer,
+        "endpoints",
+        Rows::Endpoints,
+        present,
+        rates,
+        reports,
+    )?;
     push_array(alloc, writer, "legs", Rows::Legs, legs, rates, reports)?;
     push_counts(alloc, writer, counts, rates, reports)
 }
@@ -308,11 +316,7 @@ fn push_endpoint_members(writer: &mut Writer, words: &[&[u8]]) -> Result<(), All
 }
 
 /// The object of the leg that these words tell of.
-fn push_leg(
-    writer: &mut Writer,
-    words: &[&[u8]],
-    reports: &[Report],
-) -> Result<(), AllocError>
+fn push_leg(writer: &mut Writer, words: &[&[u8]], reports: &[Report]) -> Result<(), AllocError>
     ensures { Tells result writer.old writer.new
         (leg_words reports.now (map (λ x. x.now) words.now)) }
 {
