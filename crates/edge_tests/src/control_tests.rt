@@ -287,3 +287,42 @@ fn hands_over_who_asked_last(rt: HostRuntime) -> Result<(), Fail> {
     assert_eq!(rt; peers.count(), 1);
     Ok(())
 }
+
+/// A peer that takes one byte of its answer at a time.
+#[derive(Drop)]
+struct Sipping {
+    line: Line,
+}
+
+impl Read for Sipping {
+    fn read(&mut self, buf: &mut [u8]) -> io::Result<usize> {
+        self.line.read(buf)
+    }
+}
+
+impl Write for Sipping {
+    fn write(&mut self, buf: &[u8]) -> io::Result<usize> {
+        Ok(buf.len().min(1))
+    }
+
+    fn flush(&mut self) -> io::Result<()> {
+        Ok(())
+    }
+}
+
+/// Who takes its answer byte by byte is given the next byte each time, and heard again once it took the last.
+#[test]
+fn hears_again_once_the_answer_is_taken(rt: HostRuntime) -> Result<(), Fail> {
+    let mut peers = Peers::new(rt.alloc());
+    let line = Line {
+        bytes: b"stop\nlegs\n",
+        takes: 0,
+    };
+    peers.admit(Sipping { line }, 0);
+    assert_eq!(rt; peers.next_request(1), Some(Request::Stop));
+    peers.answer(b"ok\n");
+    assert_eq!(rt; peers.next_request(2), None);
+    assert_eq!(rt; peers.next_request(3), Some(Request::Legs));
+    assert_eq!(rt; peers.count(), 1);
+    Ok(())
+}

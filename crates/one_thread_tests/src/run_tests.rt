@@ -10,18 +10,26 @@ use std::alloc::Global;
 use std::test::Fail;
 
 /// One worker, and endpoint 0 (source 16) sends to endpoint 1 (source 17) as source 257, from number 100 on.
-pub(super) fn settings_of(alloc: Global) -> Result<Settings, Fail> {
-    let mut sources = Vec::new(alloc);
-    sources.push(Some(16))?;
-    sources.push(Some(17))?;
+fn settings_of(alloc: Global) -> Result<Settings, Fail> {
+    settings_with(alloc, &[Some(16), Some(17)], &[(1, 257)])
+}
+
+/// One worker, endpoints with these sources, and the first of them sends to these others as these sources, from number 100 on.
+pub(super) fn settings_with(
+    alloc: Global,
+    sources: &[Option<i64>],
+    subscribers: &[(i64, i64)],
+) -> Result<Settings, Fail> {
     let mut legs = Vec::new(alloc);
-    legs.push(LegParts {
-        subscriber: Some(1),
-        publisher: Some(0),
-        out_ssrc: Some(257),
-        first_seq: Some(100),
-        on: None,
-    })?;
+    for (subscriber, out_ssrc) in subscribers {
+        legs.push(LegParts {
+            subscriber: Some(*subscriber),
+            publisher: Some(0),
+            out_ssrc: Some(*out_ssrc),
+            first_seq: Some(100),
+            on: None,
+        })?;
+    }
     let parts = Parts {
         workers: Some(1),
         ring: Some(8),
@@ -34,7 +42,7 @@ pub(super) fn settings_of(alloc: Global) -> Result<Settings, Fail> {
         cname: Some(String::from_str(alloc, "sfu")?),
         early_pictures: None,
         leg_goodbyes: None,
-        endpoints: sources,
+        endpoints: sources.to_vec(alloc)?,
         legs,
     };
     Ok(Settings::new(alloc, &parts)?)

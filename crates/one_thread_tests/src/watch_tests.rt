@@ -5,7 +5,7 @@ ghost use Rattle.std.specs.Prelude.{◌≡◌};
 use crate::doubles::{
     Arrival, Looker, Moved, Script, Shaky, Slow, media_packet, receiver_report, resend_request,
 };
-use crate::run_tests::settings_of;
+use crate::run_tests::settings_with;
 use one_thread::{Pace, run_one_thread};
 use outside::Look;
 use std::alloc::{AllocError, Global};
@@ -37,9 +37,10 @@ fn looker(alloc: Global) -> Result<Looker, AllocError> {
     })
 }
 
-/// Runs seven turns, whose receives take 10 ms each, and the last of which brings nothing.
+/// Runs seven turns, whose receives take 10 ms each, and the last of which brings nothing. The first leg is to who never comes.
 fn run_watched(alloc: Global, sink: &mut Shaky, watch: &mut Looker) -> Result<bool, Fail> {
-    let settings = settings_of(alloc)?;
+    let sources = [Some(16), Some(17), Some(18)];
+    let settings = settings_with(alloc, &sources, &[(2, 258), (1, 257)])?;
     if settings.workers() != 1 {
         return Err("workers".into());
     }
@@ -95,9 +96,9 @@ fn shows_what_each_turn_came_to(rt: HostRuntime) -> Result<(), Fail> {
         );
         assert_eq!(rt; (status.lost, status.dropped), (0, 0));
     }
-    assert!(rt; sink.missed.as_slice() == [0].as_slice());
-    assert!(rt; watch.present.as_slice() == [(0, true), (1, false)].as_slice());
-    assert!(rt; watch.stays.as_slice() == [(0, Some(1))].as_slice());
+    assert!(rt; sink.missed.as_slice() == [1].as_slice());
+    assert!(rt; watch.present.as_slice() == [(0, true), (1, false), (2, false)].as_slice());
+    assert!(rt; watch.stays.as_slice() == [(0, None), (1, Some(1))].as_slice());
     assert!(rt; watch.desks.as_slice() == [0].as_slice());
     assert_eq!(rt; watch.ended, 4);
     Ok(())

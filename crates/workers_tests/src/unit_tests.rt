@@ -4,8 +4,8 @@ ghost use Rattle.std.specs.Prelude.{◌≡◌, ◌+◌, vec_len};
 
 use crate::doubles::{MemorySink, OpenGate, RisingClock, StoppedClock};
 use crate::unit_doubles::{
-    Arrival, Link, Pairing, Quiet, Script, Until, media_packet, receiver_report, settings_of,
-    sinks_of,
+    Arrival, Link, Pairing, Quiet, Script, Times, Until, media_packet, receiver_report,
+    settings_of, settings_with, sinks_of,
 };
 use settings::Settings;
 use std::alloc::Global;
@@ -223,6 +223,42 @@ fn ticks_while_receives_fail(rt: HostRuntime) -> Result<(), Fail> {
     let clock = RisingClock { moment: 0 };
     let report = run_unit(&rt, alloc, &settings, source, sinks, clock, &OpenGate, 62)?;
     assert_eq!(rt; (report.heard, report.sent, report.failed), (2, 0, 0));
+    Ok(())
+}
+
+/// How many datagrams the unit sends where a publisher comes, and so many receives fail after that. A report is due each second.
+fn sent_beside_faults<R: Threads + Wait + Sync>(
+    rt: &R,
+    alloc: Global,
+    faults: u8,
+) -> Result<u64, Fail> {
+    let times = Times {
+        timeout: 60_000,
+        report: 1_000,
+        request: 0,
+        gap: 500,
+    };
+    let settings = settings_with(alloc, 1, 2, &ONE_LINK, times)?;
+    let mut arrivals = Vec::new(alloc);
+    arrivals.push(Arrival::Datagram(0, media_packet(alloc, 16, 7)?))?;
+    for _fault in 0..faults {
+        arrivals.push(Arrival::Fault)?;
+    }
+    let is_played = AtomicBool::new(false);
+    let source = Script::of(arrivals, &is_played);
+    let sinks = sinks_of(alloc, settings.workers() + 1)?;
+    let clock = RisingClock { moment: 0 };
+    let turns = u64::from(faults) + 1;
+    let report = run_unit(rt, alloc, &settings, source, sinks, clock, &OpenGate, turns)?;
+    Ok(report.sent)
+}
+
+/// A report to the publisher that is due while receives fail goes out then: a turn whose receive failed has its tick.
+#[test]
+fn reports_while_receives_fail(rt: HostRuntime) -> Result<(), Fail> {
+    let before = sent_beside_faults(&rt, rt.alloc(), 0)?;
+    let after = sent_beside_faults(&rt, rt.alloc(), 60)?;
+    assert_eq!(rt; (before, after), (0, 1));
     Ok(())
 }
 
