@@ -50,10 +50,12 @@ struct Peers<'a> {
 }
 
 impl Peers<'_> {
-    /// Asks the next question, or reads on in the answer to the last. Nothing more is asked once that fails.
+    /// Asks the next question, or reads on in the answer to the last. A unit that goes on after the last answer wasn't stopped.
     fn go_on(&mut self) -> Option<()> {
         if self.is_answered {
-            let question = QUESTIONS.get(self.asked)?;
+            let Some(question) = QUESTIONS.get(self.asked) else {
+                return self.said.push_str("goes on\n").ok();
+            };
             self.asked = self.asked.saturating_add(1);
             self.is_answered = false;
             return self.peer().write_all(question.as_bytes()).ok();
