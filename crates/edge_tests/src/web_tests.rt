@@ -136,6 +136,14 @@ impl Write for Caller {
     }
 }
 
+/// One who says nothing.
+const fn silent_caller() -> Caller {
+    Caller {
+        says: b"",
+        takes: 0,
+    }
+}
+
 /// Who asks and takes the answer is done at once; who asks half, or takes nothing, is let go after ten seconds, and the sixty-fifth takes
 /// the place of the first.
 #[test]
@@ -171,15 +179,11 @@ fn waits_for_nobody(rt: HostRuntime) -> Result<(), Fail> {
     assert_eq!(rt; visitors.count(), 2);
     visitors.look(&mut teller, 10_000);
     assert_eq!(rt; visitors.count(), 0);
-    for _visitor in 0..MAX_VISITORS + 1 {
-        visitors.admit(
-            Caller {
-                says: b"",
-                takes: 0,
-            },
-            0,
-        );
+    visitors.admit(silent_caller(), 0);
+    for _visitor in 0..MAX_VISITORS {
+        visitors.admit(silent_caller(), 1);
     }
+    visitors.look(&mut teller, 10_000);
     assert_eq!(rt; visitors.count(), MAX_VISITORS);
     Ok(())
 }
