@@ -35,6 +35,7 @@ fn wanted_top(key: &str) -> Option<&'static str> {
 fn wanted_endpoint(key: &str) -> Option<&'static str> {
     match key {
         "ssrc" => Some("whole number from 0 to 4294967295"),
+        "cname" => Some("text of 1 to 255 ASCII characters, as \"ann@192.0.2.7\""),
         "address" => Some("IP address and port, as \"192.0.2.7:6000\", nor \"learn\""),
         "rtcp_address" => Some("IP address and port beside an address, as \"192.0.2.7:6001\""),
         "learn_from" => Some("network beside address = \"learn\", as \"192.0.2.0/24\""),
@@ -62,7 +63,7 @@ fn wanted_leg(key: &str) -> Option<&'static str> {
 pub(crate) fn keys(place: Place<'_>) -> &'static str {
     match place {
         Place::Endpoint(_, _) => {
-            "address, fmtp, learn_from, receive_only, rtcp_address, rtpmap and ssrc"
+            "address, cname, fmtp, learn_from, receive_only, rtcp_address, rtpmap and ssrc"
         }
         Place::Leg(_, _) => "first_seq, on, out_ssrc, publisher and subscriber",
         Place::Top(_) | Place::Sources => {

@@ -75,7 +75,6 @@ fn description<S: AsStr>(
     }
     let session = Session {
         unit: file.listen.media.ip(),
-        cname: str::from_utf8(file.settings.cname()).unwrap_or("sfu"),
         streams: streams.as_slice(),
     };
     Ok(session_text(alloc, &session)?)
@@ -120,11 +119,15 @@ fn stream_of<'a>(
         return Err(missing(alloc, leg.subscriber, "address"));
     };
     let publisher = usize::from(leg.publisher);
+    let Some(cname) = file.settings.cnames().get(publisher) else {
+        return Err(SdpFault::Endpoint);
+    };
     match file.texts.get(publisher) {
         Some(text) if !text.rtpmap.is_empty() => Ok(Stream {
             address: addresses.media,
             rtcp: addresses.rtcp,
             ssrc: leg.out_ssrc.0,
+            cname: cname.as_str(),
             rtpmap: text.rtpmap.as_slice(),
             fmtp: text.fmtp.as_slice(),
         }),

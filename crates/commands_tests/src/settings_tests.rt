@@ -16,7 +16,7 @@ fn read(alloc: Global, text: &str) -> Result<FileSettings, Fail> {
     }
 }
 
-/// The numbers of settings, and their endpoints and legs, a line for each.
+/// The numbers of settings, and their endpoints, names and legs, a line for each.
 fn numbers(alloc: Global, settings: &Settings) -> Result<String, Fail> {
     let cname = String::from_utf8(settings.cname().to_vec(alloc)?).map_err(|_| Fail::from(
         "cname",
@@ -37,10 +37,13 @@ fn numbers(alloc: Global, settings: &Settings) -> Result<String, Fail> {
     Ok(text)
 }
 
-/// Puts a line for each endpoint and leg of settings after a text.
+/// Puts a line for each endpoint, for the name that is said of each, and for each leg of settings after a text.
 fn push_legs(alloc: Global, settings: &Settings, text: &mut String) -> Result<(), AllocError> {
     for endpoint in settings.endpoints() {
         text.push_str(format!(in alloc; "endpoint {}\n", endpoint.0)?.as_str())?;
+    }
+    for cname in settings.cnames() {
+        text.push_str(format!(in alloc; "said {}\n", cname.as_str())?.as_str())?;
     }
     for leg in settings.legs() {
         let line = format!(in alloc;
@@ -87,7 +90,7 @@ fn reads_each_key(rt: HostRuntime) -> Result<(), Fail> {
     let file = read(alloc, ROOM)?;
     assert_eq!(rt;
         numbers(alloc, &file.settings)?.as_str(),
-        "workers 2 ring 8 history 128 timeout 1000 report 60000 request 0 gap 500 unit 9 cname sfu\nendpoint 16\nendpoint 17\nleg from 0 to 1 as 257 first 100 on true\n"
+        "workers 2 ring 8 history 128 timeout 1000 report 60000 request 0 gap 500 unit 9 cname sfu\nendpoint 16\nendpoint 17\nsaid sfu\nsaid sfu\nleg from 0 to 1 as 257 first 100 on true\n"
     );
     assert_eq!(rt;
         addresses(alloc, &file, file.clients.as_slice())?.as_str(),
@@ -98,7 +101,7 @@ fn reads_each_key(rt: HostRuntime) -> Result<(), Fail> {
 
 /// A file that says where the unit listens and where endpoints are.
 const SERVED: &str =
-    "listen = \"[::1]:9000\"\nlisten_rtcp = \"[::1]:9001\"\nrequest_ms = 86400000\nworkers = 2\nring = 8\nhistory = 128\ntimeout_ms = 1000\nreport_ms = 60000\npli_gap_ms = 500\nunit_ssrc = 9\ncname = \"sfu\"\n[[endpoint]]\nssrc = 16\nrtcp_address = \"[::1]:7\"\n[[endpoint]]\nssrc = 17\naddress = \"127.0.0.1:5004\"\nreceive_only = true\n[[leg]]\nsubscriber = 1\npublisher = 0\nout_ssrc = 257\non = false\n";
+    "listen = \"[::1]:9000\"\nlisten_rtcp = \"[::1]:9001\"\nrequest_ms = 86400000\nworkers = 2\nring = 8\nhistory = 128\ntimeout_ms = 1000\nreport_ms = 60000\npli_gap_ms = 500\nunit_ssrc = 9\ncname = \"sfu\"\n[[endpoint]]\nssrc = 16\ncname = \"ann\"\nrtcp_address = \"[::1]:7\"\n[[endpoint]]\nssrc = 17\naddress = \"127.0.0.1:5004\"\nreceive_only = true\n[[leg]]\nsubscriber = 1\npublisher = 0\nout_ssrc = 257\non = false\n";
 
 /// Where the unit listens and where endpoints are is kept as it is spelled.
 #[test]
@@ -111,7 +114,7 @@ fn keeps_addresses(rt: HostRuntime) -> Result<(), Fail> {
     );
     assert_eq!(rt;
         numbers(alloc, &file.settings)?.as_str(),
-        "workers 2 ring 8 history 128 timeout 1000 report 60000 request 86400000 gap 500 unit 9 cname sfu\nendpoint 16\nendpoint 17\nleg from 0 to 1 as 257 first 0 on false\n"
+        "workers 2 ring 8 history 128 timeout 1000 report 60000 request 86400000 gap 500 unit 9 cname sfu\nendpoint 16\nendpoint 17\nsaid ann\nsaid sfu\nleg from 0 to 1 as 257 first 0 on false\n"
     );
     Ok(())
 }

@@ -22,8 +22,8 @@ use Rattle.events.specs.declared.job.Job.{Job}
 use Rattle.events.specs.declared.job.Job.TheVariants.{Packet, Request, Resend, Pli, Report, Goodbye}
 use Rattle.legs.specs.declared.leg.LegState.{LegState}
 use Rattle.core_steps.specs.Happening.{Happening, Worked, no_worker, worker_after, workers_by, world_after}
-use Rattle.legs.specs.Legs.{new_state, owned_by, new_legs, takes, row_of, stands, answer_on, packet_after, resent, leg_after, legs_after}
-use Rattle.settings.specs.Links.{LinkTable, table_of, numbered_legs, worker_of}
+use Rattle.legs.specs.Legs.{new_leg_of, owned_by, new_legs, takes, row_of, stands, answer_on, packet_after, resent, leg_after, legs_after}
+use Rattle.settings.specs.Links.{LinkTable, cname_of, table_of, numbered_legs, worker_of}
 use Rattle.core_steps.specs.Numbered.{Finished, finished_by, jobs_of_worker, finished_at, finished_over, Taken, packets_taken_by, taken_on, incoming_packet, sent_as, sent_on, AtLeg, HasTaken, HasTakenAll, legs_at}
 use Rattle.core_steps.specs.Opening.{IsNewWorld}
 use Rattle.legs.specs.Rtp.{sequence_number}
@@ -91,16 +91,18 @@ leg_at_place legs (j ∷ jobs) place s f =
 record Goes (first : List Taken) (s now : LegState) : Type 0 where
   number : now.number ≡ s.number
   link : now.link ≡ s.link
+  cname : now.cname ≡ s.cname
   capacity : now.kept.capacity ≡ s.kept.capacity
   numbers : (rest : List Taken) → held_after s.numbers (map incoming_packet (first ++ rest)) ≡ held_after now.numbers (map incoming_packet rest)
   kept : (rest : List Taken) → kept_in_turn s.kept.capacity s.kept.items (sent_on s.link s.numbers (first ++ rest))
       ≡ kept_in_turn s.kept.capacity now.kept.items (sent_on s.link now.numbers rest)
 
 -- nothing was taken
-goes_none : (s now : LegState) → now.number ≡ s.number → now.link ≡ s.link → now.numbers ≡ s.numbers → now.kept ≡ s.kept → Goes [] s now
-goes_none s now n l h k = record {
+goes_none : (s now : LegState) → now.number ≡ s.number → now.link ≡ s.link → now.cname ≡ s.cname → now.numbers ≡ s.numbers → now.kept ≡ s.kept → Goes [] s now
+goes_none s now n l m h k = record {
   number = n;
   link = l;
+  cname = m;
   capacity = ap (λ (x : Kept). x.capacity) k;
   numbers = λ rest. ap (λ (x : Held). held_after x (map incoming_packet rest)) (sym h);
   kept = λ rest. ap (λ (x : Held). kept_in_turn s.kept.capacity s.kept.items (sent_on s.link x rest)) (sym h)
@@ -117,6 +119,7 @@ goes_packet rows bytes s (Ok number) e =
     record {
       number = refl;
       link = refl;
+      cname = refl;
       capacity = refl;
       numbers = λ rest. ap (λ (x : Result ℕ Cause). held_after (held_with s.numbers turn seq x) (map incoming_packet rest)) e;
       kept = λ rest. ap (λ (x : Result ℕ Cause). kept_in_turn s.kept.capacity s.kept.items (sent_as s.link t x ++ sent_on s.link (held_with s.numbers turn seq x) rest)) e;
@@ -128,6 +131,7 @@ goes_packet rows bytes s (Err cause) e =
     record {
       number = refl;
       link = refl;
+      cname = refl;
       capacity = refl;
       numbers = λ rest. ap (λ (x : Result ℕ Cause). held_after (held_with s.numbers turn seq x) (map incoming_packet rest)) e;
       kept = λ rest. ap (λ (x : Result ℕ Cause). kept_in_turn s.kept.capacity s.kept.items (sent_as s.link t x ++ sent_on s.link (held_with s.numbers turn seq x) rest)) e;
@@ -137,14 +141,15 @@ goes_if : (rows : List Row) (bytes : List ℕ) (s : LegState) (b : Bool)
     → Goes (if b then record { turn = (row_of rows s).turn; bytes = bytes } ∷ [] else []) s
     (if b then packet_after rows bytes s (answer_on rows bytes s) else s)
 goes_if rows bytes s true = goes_packet rows bytes s (answer_on rows bytes s) refl
-goes_if rows bytes s false = goes_none s s refl refl refl refl
+goes_if rows bytes s false = goes_none s s refl refl refl refl refl
 
 -- a resent packet changes counts alone
-resent_all : (s now : LegState) (seqs : List ℕ) → now.number ≡ s.number → now.link ≡ s.link → now.numbers ≡ s.numbers → now.kept ≡ s.kept
+resent_all : (s now : LegState) (seqs : List ℕ) → now.number ≡ s.number → now.link ≡ s.link → now.cname ≡ s.cname → now.numbers ≡ s.numbers
+    → now.kept ≡ s.kept
     → Goes [] s (fold (λ t seq. resent t (last_kept_with t.kept.items seq)) now seqs)
-resent_all s now [] n l h k = goes_none s now n l h k
-resent_all s now (seq ∷ seqs) n l h k =
-    step (last_kept_with now.kept.items seq) (resent_all s now seqs n l h k) (λ bytes. resent_all s (resent now (Some bytes)) seqs n l h k)
+resent_all s now [] n l m h k = goes_none s now n l m h k
+resent_all s now (seq ∷ seqs) n l m h k =
+    step (last_kept_with now.kept.items seq) (resent_all s now seqs n l m h k) (λ bytes. resent_all s (resent now (Some bytes)) seqs n l m h k)
   where
     step : (found : Option (List ℕ)) → Goes [] s (fold (λ t q. resent t (last_kept_with t.kept.items q)) now seqs)
         → ((bytes : List ℕ) → Goes [] s (fold (λ t q. resent t (last_kept_with t.kept.items q)) (resent now (Some bytes)) seqs))
@@ -154,26 +159,27 @@ resent_all s now (seq ∷ seqs) n l h k =
 
 resend_if : (s : LegState) (seqs : List ℕ) (b : Bool)
     → Goes [] s (if b then fold (λ t seq. resent t (last_kept_with t.kept.items seq)) s seqs else s)
-resend_if s seqs true = resent_all s s seqs refl refl refl refl
-resend_if s seqs false = goes_none s s refl refl refl refl
+resend_if s seqs true = resent_all s s seqs refl refl refl refl refl
+resend_if s seqs false = goes_none s s refl refl refl refl refl
 
 goes : (rows : List Row) (job : Job) (s : LegState) → Goes (packets_taken_by s.number s.link rows job) s (leg_after rows job s)
 goes rows (Packet publisher bytes) s = goes_if rows bytes s (takes rows publisher bytes s)
 goes rows (Resend leg stay nack) s = resend_if s (lost_numbers nack) (stands rows leg stay s)
-goes rows (Report leg stay sr) s = goes_none s s refl refl refl refl
-goes rows (Goodbye leg) s = goes_none s s refl refl refl refl
-goes rows (Request leg stay word) s = goes_none s s refl refl refl refl
-goes rows (Pli leg moment) s = goes_none s s refl refl refl refl
+goes rows (Report leg stay sr) s = goes_none s s refl refl refl refl refl
+goes rows (Goodbye leg) s = goes_none s s refl refl refl refl refl
+goes rows (Request leg stay word) s = goes_none s s refl refl refl refl refl
+goes rows (Pli leg moment) s = goes_none s s refl refl refl refl refl
 
 -- ---- one job after the other
 
 taken_none : (s : LegState) → HasTaken [] s s
-taken_none s = record { number = refl; link = refl; numbers = refl; capacity = refl; kept = refl }
+taken_none s = record { number = refl; link = refl; cname = refl; numbers = refl; capacity = refl; kept = refl }
 
 taken_more : (first rest : List Taken) (s now new : LegState) → Goes first s now → HasTaken rest now new → HasTaken (first ++ rest) s new
 taken_more first rest s now new g h = record {
   number = h.number ∙ g.number;
   link = h.link ∙ g.link;
+  cname = h.cname ∙ g.cname;
   numbers = h.numbers ∙ sym (g.numbers rest);
   capacity = h.capacity ∙ g.capacity;
   kept = h.kept
@@ -205,18 +211,19 @@ legs_by_history w events history r k place s f =
 
 -- ---- from a new world
 
-record IsNewLeg (ring : ℕ) (s : LegState) : Type 0 where
+record IsNewLeg (t : LinkTable) (ring : ℕ) (s : LegState) : Type 0 where
+  cname : s.cname ≡ cname_of t s.link.publisher
   numbers : s.numbers ≡ new_leg s.link.first_seq
   capacity : s.kept.capacity ≡ ring
   kept : s.kept.items ≡ []
 
-owned_new : (t : LinkTable) (ring k : ℕ) (es : List (ℕ × LegSettings)) → AllByRecursion (IsNewLeg ring) (owned_by t ring k es)
+owned_new : (t : LinkTable) (ring k : ℕ) (es : List (ℕ × LegSettings)) → AllByRecursion (IsNewLeg t ring) (owned_by t ring k es)
 owned_new t ring k [] = tt
 owned_new t ring k (e ∷ es) = step (worker_of t e.1 == k) (owned_new t ring k es)
   where
-    step : (b : Bool) → AllByRecursion (IsNewLeg ring) (owned_by t ring k es)
-        → AllByRecursion (IsNewLeg ring) (if b then new_state ring e.0 e.1 ∷ owned_by t ring k es else owned_by t ring k es)
-    step true rest = (record { numbers = refl; capacity = refl; kept = refl }, rest)
+    step : (b : Bool) → AllByRecursion (IsNewLeg t ring) (owned_by t ring k es)
+        → AllByRecursion (IsNewLeg t ring) (if b then new_leg_of t ring e ∷ owned_by t ring k es else owned_by t ring k es)
+    step true rest = (record { cname = refl; numbers = refl; capacity = refl; kept = refl }, rest)
     step false rest = rest
 
 each_at : (P : LegState → Type 0) (xs : List LegState) (place : ℕ) (s : LegState) → AllByRecursion P xs → slice_get xs place ≡ Some s → P s
@@ -224,11 +231,12 @@ each_at P [] place s all f = absurd (cc)
 each_at P (x ∷ xs) zero s all f = subst P (same_Some x s f) all.0
 each_at P (x ∷ xs) (suc place) s all f = each_at P xs place s all.1 f
 
-taken_from_new : (ring : ℕ) (taken : List Taken) (s now : LegState) → IsNewLeg ring s → HasTaken taken s now
-    → HasTakenAll ring s.number s.link taken now
-taken_from_new ring taken s now new h = record {
+taken_from_new : (t : LinkTable) (ring : ℕ) (taken : List Taken) (s now : LegState) → IsNewLeg t ring s → HasTaken taken s now
+    → HasTakenAll ring s.number s.link (cname_of t s.link.publisher) taken now
+taken_from_new t ring taken s now new h = record {
   same_number = h.number;
   link = h.link;
+  cname = h.cname ∙ new.cname;
   numbers = h.numbers ∙ ap (λ (x : Held). held_after x (map incoming_packet taken)) new.numbers;
   kept = h.kept
       ∙ ap (λ (c : ℕ). kept_in_turn c s.kept.items (sent_on s.link s.numbers taken)) new.capacity
@@ -240,17 +248,18 @@ taken_from_new ring taken s now new h = record {
 pub new_legs_by_history : (c : Configuration) (w : WorldState) (events : List Event) (history : List Happening)
     → IsNewWorld c w → Runs w events history
     → (k place : ℕ) (s : LegState) → k < c.workers → slice_get (new_legs (table_of c) c.ring k) place ≡ Some s
-    → AtLeg (HasTakenAll c.ring s.number s.link (taken_on s.number s.link (finished_over k w history)))
+    → AtLeg
+    (HasTakenAll c.ring s.number s.link (cname_of (table_of c) s.link.publisher) (taken_on s.number s.link (finished_over k w history)))
     (legs_at k (worlds_after w history)) place
 new_legs_by_history c w events history new r k place s low f =
     let worker = slice_get-some w.workers k (omega (arith, low, new.worker_count)) in
     let is : legs_at k w ≡ new_legs (table_of c) c.ring k =
     ap (λ (x : WorkerState). x.legs) (get_or_from_slice_get w.workers k worker.0 no_worker worker.1) ∙ (new.workers k worker.0 worker.1).legs in
     let last = legs_by_history w events history r k place s (ap (λ (ls : List LegState). slice_get ls place) is ∙ f) in
-    let fresh : IsNewLeg c.ring s =
-    each_at (IsNewLeg c.ring) (new_legs (table_of c) c.ring k) place s (owned_new (table_of c) c.ring k (numbered_legs (table_of c))) f in
+    let fresh : IsNewLeg (table_of c) c.ring s =
+    each_at (IsNewLeg (table_of c) c.ring) (new_legs (table_of c) c.ring k) place s (owned_new (table_of c) c.ring k (numbered_legs (table_of c))) f in
     record {
       leg = last.leg;
       there = last.there;
-      is = taken_from_new c.ring (taken_on s.number s.link (finished_over k w history)) s last.leg fresh last.is;
+      is = taken_from_new (table_of c) c.ring (taken_on s.number s.link (finished_over k w history)) s last.leg fresh last.is;
     }

@@ -152,7 +152,7 @@ with_legs s jobs job rows = record { jobs = jobs; hand = free; legs = legs_after
 
 pub forwarding-turns : (setup : Setup) (rows : List Row) (desks : List DeskState) (s next : WorkerState) (outs all : List Out) (job : Job)
     → s.hand ≡ doing job → AsksOf setup.table job Legs → next ≡ record { jobs = s.jobs; hand = free; legs = legs_after rows s.legs job }
-    → all ≡ outs ++ job_datagrams setup.unit.cname rows s.legs job → Turns setup rows desks desks s next outs all
+    → all ≡ outs ++ job_datagrams rows s.legs job → Turns setup rows desks desks s next outs all
 unfolding AsksBy
 forwarding-turns setup rows desks s next outs all job full asks is e w k there lost tmmbns =
     let v : WorldState = world_with w setup rows desks in

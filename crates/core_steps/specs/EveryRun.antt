@@ -11,7 +11,7 @@ use Rattle.legs.specs.declared.leg.LegState.{LegState}
 use Rattle.core_steps.specs.Happening.{Happening}
 use Rattle.core_steps.specs.Laws.{TellsLegalDesk, taken_at, put_at}
 use Rattle.legs.specs.Legs.{new_legs}
-use Rattle.settings.specs.Links.{table_of}
+use Rattle.settings.specs.Links.{cname_of, table_of}
 use Rattle.core_steps.specs.Numbered.{AtLeg, HasTaken, HasTakenAll, Taken, taken_on, finished_over, legs_at}
 use Rattle.core_steps.specs.Opening.{IsNewWorld}
 use Rattle.core_steps.specs.Rule.{Does}
@@ -85,10 +85,12 @@ LegsTake w history =
     (k place : ℕ) (s : LegState) → slice_get (legs_at k w) place ≡ Some s
     → AtLeg (HasTaken (packets_taken k s w history) s) (legs_at k (worlds_after w history)) place
 
--- each leg of a new world holds and keeps what the packets that it took make of a new leg
+-- each leg of a new world holds and keeps what the packets that it took make of a new leg, which has the name of its publisher
 abbrev pub NewLegsTake : Configuration → WorldState → List Happening → Type 0
 NewLegsTake c w history =
     (k place : ℕ) (s : LegState) → k < c.workers
     → slice_get (new_legs (table_of c) c.ring k) place ≡ Some s
-    → AtLeg (HasTakenAll c.ring s.number s.link (packets_taken k s w history))
+    → AtLeg
+    (HasTakenAll c.ring s.number s.link (cname_of (table_of c) s.link.publisher)
+    (packets_taken k s w history))
     (legs_at k (worlds_after w history)) place

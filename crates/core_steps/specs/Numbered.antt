@@ -94,22 +94,24 @@ pub record AtLeg (P : LegState → Type 0) (legs : List LegState) (place : ℕ) 
   pub there : slice_get legs place ≡ Some leg
   pub is : P leg
 
--- The leg once these packets were taken: what it holds of numbers is what they leave of what it held, and it keeps the last of
--- those that it kept and of those that got a number.
+-- The leg once these packets were taken: it is the same leg with the same name, what it holds of numbers is what they leave of what it
+-- held, and it keeps the last of those that it kept and of those that got a number.
 pub record HasTaken (taken : List Taken) (old new : LegState) : Type 0 where
   pub number : new.number ≡ old.number
   pub link : new.link ≡ old.link
+  pub cname : new.cname ≡ old.cname
   pub numbers : new.numbers ≡ held_after old.numbers (map incoming_packet taken)
   pub capacity : new.kept.capacity ≡ old.kept.capacity
   pub kept : new.kept.items
       ≡ kept_in_turn old.kept.capacity old.kept.items (sent_on old.link old.numbers taken)
 
--- A new leg once these packets were taken: its numbers are a new leg's, and it keeps the last of those that got one, as many as
--- its ring has room for.
-pub record HasTakenAll (ring number : ℕ) (l : LegSettings) (taken : List Taken)
+-- A new leg with this name once these packets were taken: the name is still its own, its numbers are a new leg's, and it keeps the last
+-- of those that got one, as many as its ring has room for.
+pub record HasTakenAll (ring number : ℕ) (l : LegSettings) (name : List ℕ) (taken : List Taken)
     (now : LegState) : Type 0 where
   pub same_number : now.number ≡ number
   pub link : now.link ≡ l
+  pub cname : now.cname ≡ name
   pub numbers : now.numbers ≡ held_after (new_leg l.first_seq) (map incoming_packet taken)
   pub kept : now.kept.items ≡ keep_last ring (sent_on l (new_leg l.first_seq) taken)
 

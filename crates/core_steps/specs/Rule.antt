@@ -212,7 +212,7 @@ forwarding w k s job =
       hand = free;
       legs = legs_after w.rows s.legs job;
     })
-    (job_datagrams w.setup.unit.cname w.rows s.legs job)
+    (job_datagrams w.rows s.legs job)
 
 abbrev pub DoesJob : WorldState → ℕ → WorkerState → Job → Happening → Type 0
 DoesJob w k s (Packet publisher bytes) h = h ≡ forwarding w k s (Packet publisher bytes)

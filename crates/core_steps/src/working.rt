@@ -1,7 +1,6 @@
 //! What a worker does: it takes a job, does the job in its hand, or sends a notification.
 
-ghost use Rattle.std.specs.Prelude.{◌≡◌, ◌≤◌, ◌<◌, ◌++◌, ◌∷◌, [], length, slice_get, vec_len, vec_capacity, IfOk, OnOk, OnErr};
-ghost use Rattle.rtcp_compound.specs.declared.writer.TheConstants.{CNAME_LIMIT};
+ghost use Rattle.std.specs.Prelude.{◌≡◌, ◌<◌, ◌++◌, ◌∷◌, [], slice_get, vec_len, vec_capacity, IfOk, OnOk, OnErr};
 ghost use Rattle.desk.specs.Call.{HasStay};
 ghost use Rattle.events.specs.declared.output.Out.TheVariants.{Send};
 ghost use Rattle.legs.specs.Legs.{job_datagrams, legs_after};
@@ -89,8 +88,7 @@ fn turn(
                 Ok(())
             }
             Asks::Legs => {
-                let cname = setup.head.cname();
-                forward(alloc, cname, rows, job, plan, &mut w.legs, outs)?;
+                forward(alloc, rows, job, plan, &mut w.legs, outs)?;
                 w.hand = Hand::Free;
                 Ok(())
             }
@@ -131,20 +129,18 @@ fn ask_desk(
 /// Does a job on the legs: what it gives out is copied first, so that want of memory changes nothing.
 fn forward(
     alloc: Global,
-    cname: &[u8],
     rows: &[Row],
     job: &Job,
     plan: &mut Plan,
     legs: &mut Legs,
     outs: &mut Vec<Out>,
 ) -> Result<(), AllocError>
-    requires { length cname.now ≤ CNAME_LIMIT }
     ensures outs { OnOk result (outs.new.items ≡ outs.old.items
-        ++ job_datagrams cname.now rows.now legs.old job.now) }
+        ++ job_datagrams rows.now legs.old job.now) }
     ensures legs { OnOk result (legs.new ≡ legs_after rows.now legs.old job.now) }
     ensures err { OnErr result ((legs.new ≡ legs.old) × (outs.new.items ≡ outs.old.items)) }
 {
-    legs.plan(alloc, cname, rows, job, plan)?;
+    legs.plan(alloc, rows, job, plan)?;
     let mut given = planned_outs(alloc, legs, plan.as_slice())?;
     outs.append(&mut given)?;
     legs.apply(plan);

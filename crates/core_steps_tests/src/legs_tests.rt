@@ -12,14 +12,11 @@ use crate::steps::number_of;
 use core_steps::*;
 use members::Row;
 use rtcp_feedback::Nack;
-use settings::{LegParts, Parts, Settings};
+use settings::{EndpointParts, LegParts, Parts, Settings};
 use std::alloc::{AllocError, Global};
 use std::fmt::Write;
 use std::process::Abort;
 use std::test::Fail;
-
-/// The canonical name of the examples.
-const CNAME: &[u8] = b"sfu";
 
 /// An RTP packet of version 2 with payload type 96, this sequence number, timestamp 3,000, source 16 and payload `aabb`.
 fn rtp(alloc: Global, seq: u16) -> Result<Bytes, AllocError> {
@@ -34,9 +31,20 @@ fn rtp(alloc: Global, seq: u16) -> Result<Bytes, AllocError> {
 
 /// The links of a room of the endpoints 16, 17 and 18 with these legs: subscriber, publisher, outgoing source, first number.
 fn links_of(alloc: Global, workers: i64, legs: &[[i64; 4]]) -> Result<Links, Fail> {
+    let endpoints = EndpointParts::unnamed(alloc, &[Some(16), Some(17), Some(18)])?;
+    links_between(alloc, workers, endpoints, legs)
+}
+
+/// The links of a room of these endpoints.
+fn links_between(
+    alloc: Global,
+    workers: i64,
+    endpoints: Vec<EndpointParts>,
+    legs: &[[i64; 4]],
+) -> Result<Links, Fail> {
     let mut parts = Parts::example(alloc)?;
     parts.workers = Some(workers);
-    parts.endpoints = [Some(16), Some(17), Some(18)].to_vec(alloc)?;
+    parts.endpoints = endpoints;
     parts.legs = leg_parts(alloc, legs)?;
     let settings = Settings::new(alloc, &parts)?;
     Ok(Links::new(alloc, &settings)?)
@@ -96,7 +104,7 @@ fn do_job(
     job: &Job,
     text: &mut String,
 ) -> Result<(), Fail> {
-    legs.plan(alloc, CNAME, rows, job, plan)?;
+    legs.plan(alloc, rows, job, plan)?;
     for planned in plan.as_slice() {
         write_planned(text, legs, planned)?;
     }
@@ -264,6 +272,35 @@ fn goodbye_of_a_leg(rt: HostRuntime) -> Result<(), Fail> {
         0 packets, 0 octets\n";
     let links = links_of(rt.alloc(), 2, &[[1, 0, 257, 100]])?;
     assert_gives(&rt, rt.alloc(), &links, 1, script)
+}
+
+/// Endpoints 16 and 17 are the picture and the sound of one participant, 18 has no name of its own.
+fn two_of_one_participant(alloc: Global) -> Result<Vec<EndpointParts>, AllocError> {
+    let mut endpoints = EndpointParts::unnamed(alloc, &[Some(16), Some(17), Some(18)])?;
+    for endpoint in endpoints.as_mut_slice()[..2].iter_mut() {
+        endpoint.cname = Some(String::from_str(alloc, "ann@home")?);
+    }
+    Ok(endpoints)
+}
+
+/// What is said of a leg's source is the name of its publisher, or else the unit's: RFC 3550, sections 6.4.1, 6.4.2, 6.5.1 and 6.6. The name
+/// `ann@home` takes two bytes of padding, `sfu` three.
+#[test]
+fn names_of_publishers(rt: HostRuntime) -> Result<(), Fail> {
+    let script = "1.1 1.1 1.1 | report 0 1 0102030405060708 3000\n\
+        send 2 80c8000600000101010203040506070800000bb8000000000000000081ca0004000001010108616e6e40686f6d650000\n\
+        1.1 1.1 1.1 | report 1 1\n\
+        send 2 80c900010000010281ca0004000001020108616e6e40686f6d650000\n\
+        1.1 1.1 1.1 | report 2 1\n\
+        send 0 80c900010000010381ca0003000001030103736675000000\n\
+        - - - | goodbye 0\n\
+        send 2 80c900010000010181ca0004000001010108616e6e40686f6d65000081cb000100000101\n\
+        - - - | goodbye 2\n\
+        send 0 80c900010000010381ca000300000103010373667500000081cb000100000103\n";
+    let alloc = rt.alloc();
+    let legs = [[2, 0, 257, 100], [2, 1, 258, 0], [0, 2, 259, 0]];
+    let links = links_between(alloc, 1, two_of_one_participant(alloc)?, &legs)?;
+    assert_gives(&rt, alloc, &links, 0, script)
 }
 
 /// Once the stay ended nothing goes out. In the next stay the numbers go on, and the first packet is found.

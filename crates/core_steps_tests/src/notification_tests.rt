@@ -3,7 +3,7 @@
 use core_steps::*;
 use desk::{Desk, Effect, HistoryFull, Reply};
 use members::{Block, Row};
-use settings::{LegParts, Parts, Settings, SettingsFault};
+use settings::{EndpointParts, LegParts, Parts, Settings, SettingsFault};
 use std::alloc::{AllocError, Global};
 use std::fmt::{self, Write};
 use std::process::Abort;
@@ -26,7 +26,7 @@ const fn leg(subscriber: i64, publisher: i64, out_ssrc: i64) -> LegParts {
 /// The links of a room with these endpoints and legs.
 fn links_of(
     alloc: Global,
-    endpoints: Vec<Option<i64>>,
+    endpoints: Vec<EndpointParts>,
     legs: Vec<LegParts>,
 ) -> Result<Links, SettingsFault> {
     let mut parts = Parts::example(alloc).map_err(|_| SettingsFault::NoMemory)?;
@@ -38,7 +38,7 @@ fn links_of(
 
 /// The links of the examples: what endpoint 0 publishes goes to endpoint 1 on leg 0.
 fn small_links(alloc: Global) -> Result<Links, Fail> {
-    let endpoints = vec![in alloc; Some(16), Some(17)]?;
+    let endpoints = EndpointParts::unnamed(alloc, &[Some(16), Some(17)])?;
     let legs = vec![in alloc; leg(1, 0, 257)]?;
     Ok(links_of(alloc, endpoints, legs)?)
 }
@@ -258,7 +258,7 @@ fn lifted_as_in_example_23(rt: HostRuntime) -> Result<(), Fail> {
 
 /// The links of a room where endpoint 0 publishes to three others, and one of them to it.
 fn large_links(alloc: Global) -> Result<Links, Fail> {
-    let endpoints = vec![in alloc; Some(16), Some(17), Some(18), Some(19)]?;
+    let endpoints = EndpointParts::unnamed(alloc, &[Some(16), Some(17), Some(18), Some(19)])?;
     let legs = vec![in alloc;
         leg(1, 0, 257),
         leg(2, 0, 258),

@@ -1,7 +1,7 @@
 //! A room for runs by chance, and the packets that its endpoints send.
 
 use core_steps::*;
-use settings::{LegParts, Parts, Settings};
+use settings::{EndpointParts, LegParts, Parts, Settings};
 use std::alloc::{AllocError, Global};
 use std::test::Fail;
 
@@ -54,7 +54,7 @@ pub(crate) fn room(alloc: Global, request_ms: u64) -> Result<Settings, Fail> {
     parts.report_ms = Some(30);
     parts.request_ms = Some((request_ms % 1000) as i64);
     parts.pli_gap_ms = Some(10);
-    parts.endpoints = [Some(16), Some(17), Some(18)].to_vec(alloc)?;
+    parts.endpoints = EndpointParts::unnamed(alloc, &[Some(16), Some(17), Some(18)])?;
     parts.legs = legs;
     Ok(Settings::new(alloc, &parts)?)
 }

@@ -4,7 +4,7 @@ ghost use Rattle.std.specs.Prelude.{◌<◌};
 
 use core_steps::*;
 use rtcp_feedback::write_tmmbn;
-use settings::{LegParts, Parts, Settings, SettingsFault};
+use settings::{EndpointParts, LegParts, Parts, Settings, SettingsFault};
 use std::alloc::{AllocError, Global};
 use std::fmt::{self, Write};
 use std::test::Fail;
@@ -64,7 +64,7 @@ fn parts(alloc: Global) -> Result<Parts, AllocError> {
         on: None,
     };
     let mut parts = Parts::example(alloc)?;
-    parts.endpoints = [Some(16), Some(17)].to_vec(alloc)?;
+    parts.endpoints = EndpointParts::unnamed(alloc, &[Some(16), Some(17)])?;
     parts.legs = [leg].to_vec(alloc)?;
     Ok(parts)
 }

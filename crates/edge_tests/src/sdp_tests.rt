@@ -33,6 +33,7 @@ fn describes_session(rt: HostRuntime) -> Result<(), Fail> {
             address: client,
             rtcp: client,
             ssrc: 257,
+            cname: "sfu@192.0.2.1",
             rtpmap: h264.as_slice(),
             fmtp: modes.as_slice(),
         },
@@ -40,6 +41,7 @@ fn describes_session(rt: HostRuntime) -> Result<(), Fail> {
             address: sound,
             rtcp: sound_rtcp,
             ssrc: 258,
+            cname: "ann@192.0.2.9",
             rtpmap: opus.as_slice(),
             fmtp: &[],
         },
@@ -48,7 +50,6 @@ fn describes_session(rt: HostRuntime) -> Result<(), Fail> {
         alloc,
         &Session {
             unit: unit.ip(),
-            cname: "sfu@192.0.2.1",
             streams: &streams,
         },
     )?;
@@ -56,7 +57,7 @@ fn describes_session(rt: HostRuntime) -> Result<(), Fail> {
     let picture =
         "m=video 6002 RTP/AVP 96\r\nc=IN IP4 192.0.2.7\r\na=rtpmap:96 H264/90000\r\na=fmtp:96 packetization-mode=1\r\na=rtcp-mux\r\na=ssrc:257 cname:sfu@192.0.2.1\r\n";
     let speech =
-        "m=audio 6004 RTP/AVP 111\r\nc=IN IP4 192.0.2.7\r\na=rtpmap:111 opus/48000/2\r\na=rtcp:6005\r\na=ssrc:258 cname:sfu@192.0.2.1\r\n";
+        "m=audio 6004 RTP/AVP 111\r\nc=IN IP4 192.0.2.7\r\na=rtpmap:111 opus/48000/2\r\na=rtcp:6005\r\na=ssrc:258 cname:ann@192.0.2.9\r\n";
     let taken =
         "a=rtcp-fb:* nack\r\na=rtcp-fb:* nack pli\r\na=rtcp-fb:* ccm tmmbr\r\na=recvonly\r\n";
     let wanted = format!(in alloc; "{head}{picture}{taken}{speech}{taken}")?;

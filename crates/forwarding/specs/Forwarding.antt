@@ -42,7 +42,7 @@ new_forwarder c worker = record {
 
 -- what the job gives out by these rows
 abbrev pub given_by : ForwarderState → List Row → Job → List Out
-given_by f rows job = job_datagrams f.notifier.unit.cname rows f.legs job
+given_by f rows job = job_datagrams rows f.legs job
 
 -- the worker once the job is done by these rows
 abbrev pub after_job : ForwarderState → List Row → Job → ForwarderState

@@ -84,11 +84,8 @@ impl Forwarder {
         if !reader.enter() {
             return Err(ForwardFault::NoView);
         }
-        let Notifier { alloc, head, .. } = &self.notifier;
-        let Ok(()) = self
-            .legs
-            .plan(*alloc, head.cname(), reader.rows(), job, &mut self.plan)
-        else {
+        let alloc = self.notifier.alloc;
+        let Ok(()) = self.legs.plan(alloc, reader.rows(), job, &mut self.plan) else {
             return Err(ForwardFault::NoMemory);
         };
         let done = send_planned(&self.legs, self.plan.as_slice(), sink);

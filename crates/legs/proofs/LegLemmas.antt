@@ -1,12 +1,11 @@
 -- How the legs that a job concerns are found among a worker's.
-use Rattle.std.proofs.Common.{◌≡◌, ◌≢◌, ℕ, ◌+◌, ◌<◌, ◌≤◌, ◌⊎◌, inl, inr, ⊎_elim, Bool, true, false, List, [], ◌∷◌, ◌++◌, length, take, drop, zero, suc, refl, sym, ap, subst, ◌∙◌, arith, length-append, append_assoc, zero-add}
+use Rattle.std.proofs.Common.{◌≡◌, ◌≢◌, ℕ, ◌+◌, ◌<◌, ◌≤◌, ⊎_elim, Bool, true, false, List, [], ◌∷◌, ◌++◌, length, take, drop, zero, suc, refl, sym, ap, subst, ◌∙◌, arith, length-append, append_assoc, zero-add}
 use Rattle.std.proofs.lemmas.Bool.Decides.{nat_tests, eqb_tells}
 use Rattle.std.proofs.lemmas.List.{append-nil, drop_all, take_at}
 use Rattle.std.proofs.lemmas.Option.{slice_get_within, slice_get_past, get_or_from_slice_get}
 use Rattle.std.proofs.lemmas.List.Elements.{All-head, All-tail, All-cons, All-nil}
-use Rattle.std.specs.Prelude.{◌==◌, ◌&&◌, not, nat_eq, Option, None, Some, slice_get, slice_index_or, All, Result, OnOk, if◌then◌else◌}
+use Rattle.std.specs.Prelude.{◌==◌, ◌&&◌, not, Option, None, Some, slice_get, slice_index_or, All, Result, OnOk, if◌then◌else◌}
 use Rattle.std.specs.Global.{Vec}
-use Rattle.std.specs.HashMap.{get}
 use Rattle.std.specs.List.{flat_map, enumerate_from}
 use Rattle.members.specs.declared.order.Row.{Row}
 use Rattle.settings.specs.declared.settings.LegSettings.{LegSettings}
@@ -20,8 +19,8 @@ use Rattle.events.specs.declared.job.Job.TheVariants as job
 use Rattle.legs.specs.declared.leg.LegState.{LegState}
 use Rattle.legs.specs.declared.plan.Planned.{Planned}
 use Rattle.legs.specs.declared.plan.Planned.TheVariants.{Forward, Resend, Report, Skip, Miss}
-use Rattle.legs.specs.Legs.{takes, stands, row_of, answer_on, leg_report_bytes, leg_goodbye_bytes, owned_by, new_legs, new_state, leg_after_packet, handed_out}
-use Rattle.settings.specs.Links.{LinkTable, IsLinkTable, numbered_legs, worker_of}
+use Rattle.legs.specs.Legs.{stands, row_of, answer_on, leg_report_bytes, leg_goodbye_bytes, owned_by, new_legs, new_leg_of, leg_after_packet, handed_out}
+use Rattle.settings.specs.Links.{LinkTable, IsLinkTable, worker_of}
 use Rattle.settings.specs.Places.{Sources}
 use Rattle.legs.specs.Plan.{changed_at, applied_one, legs_after_plan}
 use Rattle.legs.specs.Planning.{packet_planned, resends, leg_plan, job_plan, plan_by, plan_of, publisher_places, leg_place, ListsPlaces, FindsPlaces, IsRising, AreFound, HasNoNumber, IsNowhere, IsNumbered, IsStandingAt}
@@ -50,37 +49,37 @@ met P legs i s h at = subst P (get_or_from_slice_get legs i s s at) (h i s (slic
 -- ---- jobs that concern no leg, or one
 
 -- where each leg does nothing, nothing is planned
-silent : (cname : List ℕ) (rows : List Row) (work : Job) (Q : LegState → Type 0) (n : ℕ) (legs : List LegState)
-    → ((k : ℕ) (s : LegState) → Q s → leg_plan cname rows work (k, s) ≡ []) → All Q legs
-    → flat_map (leg_plan cname rows work) (enumerate_from n legs) ≡ []
-silent cname rows work Q n [] quiet h = refl
-silent cname rows work Q n (s ∷ legs) quiet h =
+silent : (rows : List Row) (work : Job) (Q : LegState → Type 0) (n : ℕ) (legs : List LegState)
+    → ((k : ℕ) (s : LegState) → Q s → leg_plan rows work (k, s) ≡ []) → All Q legs
+    → flat_map (leg_plan rows work) (enumerate_from n legs) ≡ []
+silent rows work Q n [] quiet h = refl
+silent rows work Q n (s ∷ legs) quiet h =
     let here = quiet n s (All-head Q s legs h) in
-    let more = silent cname rows work Q (n + 1) legs quiet (All-tail Q s legs h) in
+    let more = silent rows work Q (n + 1) legs quiet (All-tail Q s legs h) in
     cc
 
 -- of legs with rising numbers only the one with its number does something
-only : (cname : List ℕ) (rows : List Row) (work : Job) (s : LegState) (n i : ℕ) (legs : List LegState) → IsRising legs
+only : (rows : List Row) (work : Job) (s : LegState) (n i : ℕ) (legs : List LegState) → IsRising legs
     → slice_get legs i ≡ Some s
-    → ((k : ℕ) (t : LegState) → t.number ≢ s.number → leg_plan cname rows work (k, t) ≡ [])
-    → flat_map (leg_plan cname rows work) (enumerate_from n legs) ≡ leg_plan cname rows work (n + i, s)
-only cname rows work s n i [] rising at others = absurd (cc)
-only cname rows work s n zero (t ∷ legs) rising at others =
+    → ((k : ℕ) (t : LegState) → t.number ≢ s.number → leg_plan rows work (k, t) ≡ [])
+    → flat_map (leg_plan rows work) (enumerate_from n legs) ≡ leg_plan rows work (n + i, s)
+only rows work s n i [] rising at others = absurd (cc)
+only rows work s n zero (t ∷ legs) rising at others =
     let same : t ≡ s = cc in
     let above : All (λ u. s.number < u.number) legs = subst (λ (x : LegState). All (λ u. x.number < u.number) legs) same rising.0 in
-    let more = silent cname rows work (λ u. s.number < u.number) (n + 1) legs (λ k u h. others k u (λ e. absurd (omega (arith, h, e)))) above in
+    let more = silent rows work (λ u. s.number < u.number) (n + 1) legs (λ k u h. others k u (λ e. absurd (omega (arith, h, e)))) above in
     let place : n ≡ n + 0 = omega arith in
-    ap (λ (l : List Planned). leg_plan cname rows work (n, t) ++ l) more
-    ∙ append-nil (leg_plan cname rows work (n, t))
-    ∙ ap (λ (x : LegState). leg_plan cname rows work (n, x)) same
-    ∙ ap (λ (k : ℕ). leg_plan cname rows work (k, s)) place
-only cname rows work s n (suc i) (t ∷ legs) rising at others =
+    ap (λ (l : List Planned). leg_plan rows work (n, t) ++ l) more
+    ∙ append-nil (leg_plan rows work (n, t))
+    ∙ ap (λ (x : LegState). leg_plan rows work (n, x)) same
+    ∙ ap (λ (k : ℕ). leg_plan rows work (k, s)) place
+only rows work s n (suc i) (t ∷ legs) rising at others =
     let below : t.number < s.number = met (λ u. t.number < u.number) legs i s rising.0 at in
     let here = others n t (λ e. absurd (omega (arith, below, e))) in
-    let more = only cname rows work s (n + 1) i legs rising.1 at others in
+    let more = only rows work s (n + 1) i legs rising.1 at others in
     let place : n + 1 + i ≡ n + suc i = omega arith in
-    ap (λ (l : List Planned). l ++ flat_map (leg_plan cname rows work) (enumerate_from (n + 1) legs)) here
-    ∙ more ∙ ap (λ (k : ℕ). leg_plan cname rows work (k, s)) place
+    ap (λ (l : List Planned). l ++ flat_map (leg_plan rows work) (enumerate_from (n + 1) legs)) here
+    ∙ more ∙ ap (λ (k : ℕ). leg_plan rows work (k, s)) place
 
 -- ---- stays
 
@@ -91,53 +90,53 @@ stands_only rows leg stay s t here other =
     ap (λ (x : Bool). x && (not (stay == 0) && ((row_of rows t).stay == stay))) (no_number t.number leg (λ e. other (e ∙ sym same)))
 
 -- where the stay stands nowhere, its jobs plan nothing
-pub nowhere_resend : (cname : List ℕ) (rows : List Row) (leg stay : ℕ) (nack : Nack) (legs : List LegState)
-    → IsNowhere rows leg stay legs → job_plan cname rows legs (job.Resend leg stay nack) ≡ []
-nowhere_resend cname rows leg stay nack legs h =
-    silent cname rows (job.Resend leg stay nack) (λ s. stands rows leg stay s ≡ false) 0 legs (λ k s quiet. off _ _ _ quiet) h
+pub nowhere_resend : (rows : List Row) (leg stay : ℕ) (nack : Nack) (legs : List LegState)
+    → IsNowhere rows leg stay legs → job_plan rows legs (job.Resend leg stay nack) ≡ []
+nowhere_resend rows leg stay nack legs h =
+    silent rows (job.Resend leg stay nack) (λ s. stands rows leg stay s ≡ false) 0 legs (λ k s quiet. off _ _ _ quiet) h
 
-pub nowhere_report : (cname : List ℕ) (rows : List Row) (leg stay : ℕ) (sr : Option (ℕ × ℕ)) (legs : List LegState)
-    → IsNowhere rows leg stay legs → job_plan cname rows legs (job.Report leg stay sr) ≡ []
-nowhere_report cname rows leg stay sr legs h =
-    silent cname rows (job.Report leg stay sr) (λ s. stands rows leg stay s ≡ false) 0 legs (λ k s quiet. off _ _ _ quiet) h
+pub nowhere_report : (rows : List Row) (leg stay : ℕ) (sr : Option (ℕ × ℕ)) (legs : List LegState)
+    → IsNowhere rows leg stay legs → job_plan rows legs (job.Report leg stay sr) ≡ []
+nowhere_report rows leg stay sr legs h =
+    silent rows (job.Report leg stay sr) (λ s. stands rows leg stay s ≡ false) 0 legs (λ k s quiet. off _ _ _ quiet) h
 
 on : (b : Bool) (x y : List Planned) → b ≡ true → (if b then x else y) ≡ x
 on b x y h = ap (λ (c : Bool). if c then x else y) h
 
 -- where the stay stands on a leg, its jobs plan what that leg does
-pub standing_resend : (cname : List ℕ) (rows : List Row) (leg stay place : ℕ) (nack : Nack) (legs : List LegState) (s : LegState)
+pub standing_resend : (rows : List Row) (leg stay place : ℕ) (nack : Nack) (legs : List LegState) (s : LegState)
     → IsStandingAt rows leg stay legs place s
-    → job_plan cname rows legs (job.Resend leg stay nack) ≡ resends place s (lost_numbers nack)
-standing_resend cname rows leg stay place nack legs s h =
-    only cname rows (job.Resend leg stay nack) s 0 place legs h.rising h.at
+    → job_plan rows legs (job.Resend leg stay nack) ≡ resends place s (lost_numbers nack)
+standing_resend rows leg stay place nack legs s h =
+    only rows (job.Resend leg stay nack) s 0 place legs h.rising h.at
     (λ k t other. off _ _ _ (stands_only rows leg stay s t h.stands_here other))
-    ∙ ap (λ (k : ℕ). leg_plan cname rows (job.Resend leg stay nack) (k, s)) (zero-add place)
+    ∙ ap (λ (k : ℕ). leg_plan rows (job.Resend leg stay nack) (k, s)) (zero-add place)
     ∙ on _ _ _ h.stands_here
 
-pub standing_report : (cname : List ℕ) (rows : List Row) (leg stay place : ℕ) (sr : Option (ℕ × ℕ)) (legs : List LegState) (s : LegState)
+pub standing_report : (rows : List Row) (leg stay place : ℕ) (sr : Option (ℕ × ℕ)) (legs : List LegState) (s : LegState)
     → IsStandingAt rows leg stay legs place s
-    → job_plan cname rows legs (job.Report leg stay sr) ≡ Report s.link.subscriber (leg_report_bytes cname s sr) ∷ []
-standing_report cname rows leg stay place sr legs s h =
-    only cname rows (job.Report leg stay sr) s 0 place legs h.rising h.at
+    → job_plan rows legs (job.Report leg stay sr) ≡ Report s.link.subscriber (leg_report_bytes s sr) ∷ []
+standing_report rows leg stay place sr legs s h =
+    only rows (job.Report leg stay sr) s 0 place legs h.rising h.at
     (λ k t other. off _ _ _ (stands_only rows leg stay s t h.stands_here other))
-    ∙ ap (λ (k : ℕ). leg_plan cname rows (job.Report leg stay sr) (k, s)) (zero-add place)
+    ∙ ap (λ (k : ℕ). leg_plan rows (job.Report leg stay sr) (k, s)) (zero-add place)
     ∙ on _ _ _ h.stands_here
 
 -- ---- goodbyes
 
 -- where no leg has the number, its goodbye plans nothing
-pub nowhere_goodbye : (cname : List ℕ) (rows : List Row) (leg : ℕ) (legs : List LegState) → HasNoNumber leg legs
-    → job_plan cname rows legs (job.Goodbye leg) ≡ []
-nowhere_goodbye cname rows leg legs h =
-    silent cname rows (job.Goodbye leg) (λ s. (s.number == leg) ≡ false) 0 legs (λ k s quiet. off _ _ _ quiet) h
+pub nowhere_goodbye : (rows : List Row) (leg : ℕ) (legs : List LegState) → HasNoNumber leg legs
+    → job_plan rows legs (job.Goodbye leg) ≡ []
+nowhere_goodbye rows leg legs h =
+    silent rows (job.Goodbye leg) (λ s. (s.number == leg) ≡ false) 0 legs (λ k s quiet. off _ _ _ quiet) h
 
 -- where a leg has it, its goodbye is planned
-pub numbered_goodbye : (cname : List ℕ) (rows : List Row) (leg : ℕ) (legs : List LegState) (s : LegState) → IsNumbered leg legs s
-    → job_plan cname rows legs (job.Goodbye leg) ≡ Report s.link.subscriber (leg_goodbye_bytes cname s) ∷ []
-numbered_goodbye cname rows leg legs s h =
-    only cname rows (job.Goodbye leg) s 0 h.place legs h.rising h.at
+pub numbered_goodbye : (rows : List Row) (leg : ℕ) (legs : List LegState) (s : LegState) → IsNumbered leg legs s
+    → job_plan rows legs (job.Goodbye leg) ≡ Report s.link.subscriber (leg_goodbye_bytes s) ∷ []
+numbered_goodbye rows leg legs s h =
+    only rows (job.Goodbye leg) s 0 h.place legs h.rising h.at
     (λ k t other. off _ _ _ (no_number t.number leg (λ e. other (e ∙ sym h.is_number))))
-    ∙ ap (λ (k : ℕ). leg_plan cname rows (job.Goodbye leg) (k, s)) (zero-add h.place)
+    ∙ ap (λ (k : ℕ). leg_plan rows (job.Goodbye leg) (k, s)) (zero-add h.place)
     ∙ on _ _ _ (is_number s.number leg h.is_number)
 
 -- ---- a packet
@@ -148,18 +147,18 @@ quiet_packet true false rtp h = refl
 quiet_packet false on rtp h = refl
 
 -- bytes that are no packet plan nothing
-pub no_packet : (cname : List ℕ) (rows : List Row) (publisher : ℕ) (bytes : List ℕ) (legs : List LegState) → is_rtp bytes ≡ false
-    → job_plan cname rows legs (job.Packet publisher bytes) ≡ []
-no_packet cname rows publisher bytes legs h =
-    silent cname rows (job.Packet publisher bytes) (λ s. Unit {0}) 0 legs
+pub no_packet : (rows : List Row) (publisher : ℕ) (bytes : List ℕ) (legs : List LegState) → is_rtp bytes ≡ false
+    → job_plan rows legs (job.Packet publisher bytes) ≡ []
+no_packet rows publisher bytes legs h =
+    silent rows (job.Packet publisher bytes) (λ s. Unit {0}) 0 legs
     (λ k s quiet. off _ _ _ (quiet_packet (s.link.publisher == publisher) (row_of rows s).on (is_rtp bytes) h))
     (λ k d below. tt)
 
 -- nor do those of a publisher that isn't there
-pub no_publisher : (cname : List ℕ) (rows : List Row) (publisher count : ℕ) (bytes : List ℕ) (legs : List LegState)
-    → All (λ s. s.link.publisher < count) legs → count ≤ publisher → job_plan cname rows legs (job.Packet publisher bytes) ≡ []
-no_publisher cname rows publisher count bytes legs h past =
-    silent cname rows (job.Packet publisher bytes) (λ s. s.link.publisher < count) 0 legs
+pub no_publisher : (rows : List Row) (publisher count : ℕ) (bytes : List ℕ) (legs : List LegState)
+    → All (λ s. s.link.publisher < count) legs → count ≤ publisher → job_plan rows legs (job.Packet publisher bytes) ≡ []
+no_publisher rows publisher count bytes legs h past =
+    silent rows (job.Packet publisher bytes) (λ s. s.link.publisher < count) 0 legs
     (λ k s below. off _ _ _ (ap (λ (x : Bool). x && ((row_of rows s).on && is_rtp bytes))
     (no_number s.link.publisher publisher (λ e. absurd (omega (arith, below, e, past))))))
     h
@@ -176,27 +175,27 @@ place_step true n f on rtp x places behind here is more =
     cc
 place_step false n f on rtp x places behind here is more = more
 
-places_from : (cname : List ℕ) (rows : List Row) (publisher : ℕ) (bytes : List ℕ) (whole front : List LegState) (n : ℕ)
+places_from : (rows : List Row) (publisher : ℕ) (bytes : List ℕ) (whole front : List LegState) (n : ℕ)
     (rest : List LegState) → n ≡ length front → whole ≡ front ++ rest → is_rtp bytes ≡ true
     → flat_map (plan_of rows bytes whole) (publisher_places publisher (enumerate_from n rest))
-    ≡ flat_map (leg_plan cname rows (job.Packet publisher bytes)) (enumerate_from n rest)
-places_from cname rows publisher bytes whole front n [] e is rtp = refl
-places_from cname rows publisher bytes whole front n (s ∷ rest) e is rtp =
+    ≡ flat_map (leg_plan rows (job.Packet publisher bytes)) (enumerate_from n rest)
+places_from rows publisher bytes whole front n [] e is rtp = refl
+places_from rows publisher bytes whole front n (s ∷ rest) e is rtp =
     let at = at_behind whole front n s rest e is in
     let here : plan_of rows bytes whole n ≡ plan_by rows bytes n (Some s) = ap (plan_by rows bytes n) at in
-    let more = places_from cname rows publisher bytes whole (front ++ s ∷ []) (n + 1) rest
+    let more = places_from rows publisher bytes whole (front ++ s ∷ []) (n + 1) rest
     (omega (arith, length-append front (s ∷ []))) (is ∙ sym (append_assoc front (s ∷ []) rest)) rtp in
     place_step (s.link.publisher == publisher) n (plan_of rows bytes whole) (row_of rows s).on (is_rtp bytes)
     (packet_planned n s (row_of rows s).turn bytes (answer_on rows bytes s) ∷ [])
-    (publisher_places publisher (enumerate_from (n + 1) rest)) (flat_map (leg_plan cname rows (job.Packet publisher bytes)) (enumerate_from (n + 1) rest))
+    (publisher_places publisher (enumerate_from (n + 1) rest)) (flat_map (leg_plan rows (job.Packet publisher bytes)) (enumerate_from (n + 1) rest))
     here rtp more
 
 -- what the legs of a publisher do with a packet is all that is planned
-pub at_places : (cname : List ℕ) (rows : List Row) (publisher : ℕ) (bytes : List ℕ) (legs : List LegState) (places : List ℕ)
+pub at_places : (rows : List Row) (publisher : ℕ) (bytes : List ℕ) (legs : List LegState) (places : List ℕ)
     → places ≡ publisher_places publisher (enumerate_from 0 legs) → is_rtp bytes ≡ true
-    → flat_map (plan_of rows bytes legs) places ≡ job_plan cname rows legs (job.Packet publisher bytes)
-at_places cname rows publisher bytes legs places is rtp =
-    ap (flat_map (plan_of rows bytes legs)) is ∙ places_from cname rows publisher bytes legs [] 0 legs refl refl rtp
+    → flat_map (plan_of rows bytes legs) places ≡ job_plan rows legs (job.Packet publisher bytes)
+at_places rows publisher bytes legs places is rtp =
+    ap (flat_map (plan_of rows bytes legs)) is ∙ places_from rows publisher bytes legs [] 0 legs refl refl rtp
 
 -- ---- numbers
 
@@ -379,8 +378,8 @@ owned_above : (t : LinkTable) (ring worker low n : ℕ) (links : List LegSetting
 owned_above t ring worker low n [] h = All-nil (λ s. low < s.number)
 owned_above t ring worker low n (l ∷ links) h =
     elim (worker_of t l == worker) as (λ (b : Bool). All (λ s. low < s.number)
-    (if b then new_state ring n l ∷ owned_by t ring worker (enumerate_from (n + 1) links) else owned_by t ring worker (enumerate_from (n + 1) links))) [
-      | true ↦ All-cons (λ s. low < s.number) (new_state ring n l) (owned_by t ring worker (enumerate_from (n + 1) links)) h
+    (if b then new_leg_of t ring (n, l) ∷ owned_by t ring worker (enumerate_from (n + 1) links) else owned_by t ring worker (enumerate_from (n + 1) links))) [
+      | true ↦ All-cons (λ s. low < s.number) (new_leg_of t ring (n, l)) (owned_by t ring worker (enumerate_from (n + 1) links)) h
           (owned_above t ring worker low (n + 1) links (omega arith))
       | false ↦ owned_above t ring worker low (n + 1) links (omega arith)
     ]
@@ -389,7 +388,7 @@ owned_rises : (t : LinkTable) (ring worker n : ℕ) (links : List LegSettings) �
 owned_rises t ring worker n [] = tt
 owned_rises t ring worker n (l ∷ links) =
     elim (worker_of t l == worker) as (λ (b : Bool). IsRising
-    (if b then new_state ring n l ∷ owned_by t ring worker (enumerate_from (n + 1) links) else owned_by t ring worker (enumerate_from (n + 1) links))) [
+    (if b then new_leg_of t ring (n, l) ∷ owned_by t ring worker (enumerate_from (n + 1) links) else owned_by t ring worker (enumerate_from (n + 1) links))) [
       | true ↦ (owned_above t ring worker n (n + 1) links (omega arith), owned_rises t ring worker (n + 1) links)
       | false ↦ owned_rises t ring worker (n + 1) links
     ]
@@ -401,8 +400,8 @@ owned_publishers t ring worker count n (l ∷ links) h =
     let below = (All-head (IsLegAmong count) l links h).publisher in
     let more = owned_publishers t ring worker count (n + 1) links (All-tail (IsLegAmong count) l links h) in
     elim (worker_of t l == worker) as (λ (b : Bool). All (λ s. s.link.publisher < count)
-    (if b then new_state ring n l ∷ owned_by t ring worker (enumerate_from (n + 1) links) else owned_by t ring worker (enumerate_from (n + 1) links))) [
-      | true ↦ All-cons (λ s. s.link.publisher < count) (new_state ring n l) (owned_by t ring worker (enumerate_from (n + 1) links)) below more
+    (if b then new_leg_of t ring (n, l) ∷ owned_by t ring worker (enumerate_from (n + 1) links) else owned_by t ring worker (enumerate_from (n + 1) links))) [
+      | true ↦ All-cons (λ s. s.link.publisher < count) (new_leg_of t ring (n, l)) (owned_by t ring worker (enumerate_from (n + 1) links)) below more
       | false ↦ more
     ]
 
@@ -443,15 +442,15 @@ pub pushed : {T E : Type 0} (r : Result T E) (new mid old a : List Planned) (p :
 pushed r new mid old a p same e h =
     subst (λ (l : List Planned). OnOk r (new ≡ old ++ l)) e (subst (λ (l : List Planned). OnOk r (new ≡ l ++ p ∷ [])) same h)
 
-pub desk_request : (cname : List ℕ) (rows : List Row) (legs : List LegState) (leg stay word : ℕ)
-    → job_plan cname rows legs (job.Request leg stay word) ≡ []
-desk_request cname rows legs leg stay word =
-    silent cname rows (job.Request leg stay word) (λ s. Unit {0}) 0 legs (λ k s quiet. refl) (λ k d below. tt)
+pub desk_request : (rows : List Row) (legs : List LegState) (leg stay word : ℕ)
+    → job_plan rows legs (job.Request leg stay word) ≡ []
+desk_request rows legs leg stay word =
+    silent rows (job.Request leg stay word) (λ s. Unit {0}) 0 legs (λ k s quiet. refl) (λ k d below. tt)
 
-pub desk_pli : (cname : List ℕ) (rows : List Row) (legs : List LegState) (leg moment : ℕ)
-    → job_plan cname rows legs (job.Pli leg moment) ≡ []
-desk_pli cname rows legs leg moment =
-    silent cname rows (job.Pli leg moment) (λ s. Unit {0}) 0 legs (λ k s quiet. refl) (λ k d below. tt)
+pub desk_pli : (rows : List Row) (legs : List LegState) (leg moment : ℕ)
+    → job_plan rows legs (job.Pli leg moment) ≡ []
+desk_pli rows legs leg moment =
+    silent rows (job.Pli leg moment) (λ s. Unit {0}) 0 legs (λ k s quiet. refl) (λ k d below. tt)
 
 -- ---- the row of a leg
 
@@ -505,7 +504,7 @@ owned_count t ring worker n [] = omega arith
 owned_count t ring worker n (l ∷ links) =
     let more = owned_count t ring worker (n + 1) links in
     elim (worker_of t l == worker) as (λ (b : Bool). length
-    (if b then new_state ring n l ∷ owned_by t ring worker (enumerate_from (n + 1) links) else owned_by t ring worker (enumerate_from (n + 1) links))
+    (if b then new_leg_of t ring (n, l) ∷ owned_by t ring worker (enumerate_from (n + 1) links) else owned_by t ring worker (enumerate_from (n + 1) links))
     ≤ length (l ∷ links)) [ true ↦ omega arith | false ↦ omega arith ]
 
 -- a worker has no more legs than there are

@@ -1,8 +1,7 @@
 -- What a plan gives out, and what the legs are once it is done.
-use Rattle.std.proofs.Common.{◌≡◌, ℕ, ◌+◌, ◌<◌, ◌≤◌, Bool, true, false, List, [], ◌∷◌, ◌++◌, length, get_or, set, zero, suc, refl, sym, ap, subst, ◌∙◌, arith, length-append, append_assoc}
+use Rattle.std.proofs.Common.{◌≡◌, ℕ, ◌+◌, ◌<◌, ◌≤◌, Bool, true, false, List, [], ◌∷◌, ◌++◌, length, get_or, set, zero, suc, refl, sym, ap, ◌∙◌, arith, length-append, append_assoc}
 use Rattle.std.proofs.lemmas.Grind.{flat_map-append}
 use Rattle.std.proofs.lemmas.List.Sums.{fold-append}
-use Rattle.std.proofs.lemmas.Option.{slice_get-get_or}
 use Rattle.circular_buffer.proofs.Places.{slice_get-append_right}
 use Rattle.std.specs.Prelude.{◌==◌, Option, None, Some, Result, Ok, Err, slice_get, option_and_then, map, fold, if◌then◌else◌}
 use Rattle.std.specs.List.{flat_map, enumerate_from}
@@ -15,9 +14,8 @@ use Rattle.events.specs.declared.job.Job.TheVariants as job
 use Rattle.legs.specs.declared.leg.LegState.{LegState}
 use Rattle.events.specs.declared.output.Out.{Out}
 use Rattle.events.specs.declared.output.Out.TheVariants as out
-use Rattle.legs.specs.declared.plan.Planned.{Planned}
 use Rattle.legs.specs.declared.plan.Planned.TheVariants.{Report}
-use Rattle.legs.specs.Legs.{takes, stands, row_of, answer_on, leg_report_bytes, leg_goodbye_bytes, packet_outs, packet_after, resend_outs, resent, leg_datagrams, leg_after, job_datagrams, legs_after, leg_after_packet, handed_out}
+use Rattle.legs.specs.Legs.{takes, stands, row_of, answer_on, leg_report_bytes, leg_goodbye_bytes, packet_outs, packet_after, resend_outs, resent, leg_datagrams, leg_after, job_datagrams, legs_after}
 use Rattle.legs.specs.Plan.{kept_at, sent_out, out_of, plan_outs, changed_at, applied_one, legs_after_plan}
 use Rattle.legs.specs.Planning.{packet_planned, resend_planned, resends, leg_plan, job_plan}
 
@@ -90,33 +88,33 @@ report_out : (whole : List LegState) (endpoint : ℕ) (bytes : List ℕ) (b : Bo
 report_out whole endpoint bytes true = refl
 report_out whole endpoint bytes false = refl
 
-outs_here : (cname : List ℕ) (rows : List Row) (work : Job) (whole : List LegState) (n : ℕ) (s : LegState)
-    → slice_get whole n ≡ Some s → flat_map (out_of whole) (leg_plan cname rows work (n, s)) ≡ leg_datagrams cname rows work s
-outs_here cname rows (job.Packet publisher bytes) whole n s at =
+outs_here : (rows : List Row) (work : Job) (whole : List LegState) (n : ℕ) (s : LegState)
+    → slice_get whole n ≡ Some s → flat_map (out_of whole) (leg_plan rows work (n, s)) ≡ leg_datagrams rows work s
+outs_here rows (job.Packet publisher bytes) whole n s at =
     packet_out whole n (row_of rows s).turn s bytes (answer_on rows bytes s) (takes rows publisher bytes s)
-outs_here cname rows (job.Resend leg stay nack) whole n s at = resend_out whole n s (lost_numbers nack) (stands rows leg stay s) at
-outs_here cname rows (job.Report leg stay sr) whole n s at =
-    report_out whole s.link.subscriber (leg_report_bytes cname s sr) (stands rows leg stay s)
-outs_here cname rows (job.Goodbye leg) whole n s at =
-    report_out whole s.link.subscriber (leg_goodbye_bytes cname s) (s.number == leg)
-outs_here cname rows (job.Request leg stay word) whole n s at = refl
-outs_here cname rows (job.Pli leg moment) whole n s at = refl
+outs_here rows (job.Resend leg stay nack) whole n s at = resend_out whole n s (lost_numbers nack) (stands rows leg stay s) at
+outs_here rows (job.Report leg stay sr) whole n s at =
+    report_out whole s.link.subscriber (leg_report_bytes s sr) (stands rows leg stay s)
+outs_here rows (job.Goodbye leg) whole n s at =
+    report_out whole s.link.subscriber (leg_goodbye_bytes s) (s.number == leg)
+outs_here rows (job.Request leg stay word) whole n s at = refl
+outs_here rows (job.Pli leg moment) whole n s at = refl
 
-outs_from : (cname : List ℕ) (rows : List Row) (work : Job) (whole front : List LegState) (n : ℕ) (rest : List LegState)
+outs_from : (rows : List Row) (work : Job) (whole front : List LegState) (n : ℕ) (rest : List LegState)
     → n ≡ length front → whole ≡ front ++ rest
-    → plan_outs whole (flat_map (leg_plan cname rows work) (enumerate_from n rest)) ≡ flat_map (leg_datagrams cname rows work) rest
-outs_from cname rows work whole front n [] e is = refl
-outs_from cname rows work whole front n (s ∷ rest) e is =
-    let here = outs_here cname rows work whole n s (at_behind whole front n s rest e is) in
-    let more = outs_from cname rows work whole (front ++ s ∷ []) (n + 1) rest (count_before front s n e) (one_before whole front s rest is) in
-    flat_map-append (out_of whole) (leg_plan cname rows work (n, s)) (flat_map (leg_plan cname rows work) (enumerate_from (n + 1) rest))
-    ∙ ap (λ (l : List Out). l ++ plan_outs whole (flat_map (leg_plan cname rows work) (enumerate_from (n + 1) rest))) here
-    ∙ ap (λ (l : List Out). leg_datagrams cname rows work s ++ l) more
+    → plan_outs whole (flat_map (leg_plan rows work) (enumerate_from n rest)) ≡ flat_map (leg_datagrams rows work) rest
+outs_from rows work whole front n [] e is = refl
+outs_from rows work whole front n (s ∷ rest) e is =
+    let here = outs_here rows work whole n s (at_behind whole front n s rest e is) in
+    let more = outs_from rows work whole (front ++ s ∷ []) (n + 1) rest (count_before front s n e) (one_before whole front s rest is) in
+    flat_map-append (out_of whole) (leg_plan rows work (n, s)) (flat_map (leg_plan rows work) (enumerate_from (n + 1) rest))
+    ∙ ap (λ (l : List Out). l ++ plan_outs whole (flat_map (leg_plan rows work) (enumerate_from (n + 1) rest))) here
+    ∙ ap (λ (l : List Out). leg_datagrams rows work s ++ l) more
 
 -- the plan of a job gives out what the job does
-pub plan_gives : (cname : List ℕ) (rows : List Row) (legs : List LegState) (work : Job)
-    → plan_outs legs (job_plan cname rows legs work) ≡ job_datagrams cname rows legs work
-plan_gives cname rows legs work = outs_from cname rows work legs [] 0 legs refl refl
+pub plan_gives : (rows : List Row) (legs : List LegState) (work : Job)
+    → plan_outs legs (job_plan rows legs work) ≡ job_datagrams rows legs work
+plan_gives rows legs work = outs_from rows work legs [] 0 legs refl refl
 
 -- ---- what the legs are then
 
@@ -163,33 +161,33 @@ report_applied : (legs : List LegState) (endpoint : ℕ) (bytes : List ℕ) (b :
 report_applied legs endpoint bytes true = refl
 report_applied legs endpoint bytes false = refl
 
-applied_here : (cname : List ℕ) (rows : List Row) (work : Job) (front : List LegState) (n : ℕ) (s : LegState) (rest : List LegState)
+applied_here : (rows : List Row) (work : Job) (front : List LegState) (n : ℕ) (s : LegState) (rest : List LegState)
     → n ≡ length front
-    → legs_after_plan (front ++ s ∷ rest) (leg_plan cname rows work (n, s)) ≡ front ++ leg_after rows work s ∷ rest
-applied_here cname rows (job.Packet publisher bytes) front n s rest e =
+    → legs_after_plan (front ++ s ∷ rest) (leg_plan rows work (n, s)) ≡ front ++ leg_after rows work s ∷ rest
+applied_here rows (job.Packet publisher bytes) front n s rest e =
     packet_applied rows front n s rest bytes (answer_on rows bytes s) (takes rows publisher bytes s) e
-applied_here cname rows (job.Resend leg stay nack) front n s rest e =
+applied_here rows (job.Resend leg stay nack) front n s rest e =
     resend_applied front n s rest (lost_numbers nack) (stands rows leg stay s) e
-applied_here cname rows (job.Report leg stay sr) front n s rest e =
-    report_applied (front ++ s ∷ rest) s.link.subscriber (leg_report_bytes cname s sr) (stands rows leg stay s)
-applied_here cname rows (job.Goodbye leg) front n s rest e =
-    report_applied (front ++ s ∷ rest) s.link.subscriber (leg_goodbye_bytes cname s) (s.number == leg)
-applied_here cname rows (job.Request leg stay word) front n s rest e = refl
-applied_here cname rows (job.Pli leg moment) front n s rest e = refl
+applied_here rows (job.Report leg stay sr) front n s rest e =
+    report_applied (front ++ s ∷ rest) s.link.subscriber (leg_report_bytes s sr) (stands rows leg stay s)
+applied_here rows (job.Goodbye leg) front n s rest e =
+    report_applied (front ++ s ∷ rest) s.link.subscriber (leg_goodbye_bytes s) (s.number == leg)
+applied_here rows (job.Request leg stay word) front n s rest e = refl
+applied_here rows (job.Pli leg moment) front n s rest e = refl
 
-applied_from : (cname : List ℕ) (rows : List Row) (work : Job) (front : List LegState) (n : ℕ) (rest : List LegState) → n ≡ length front
-    → legs_after_plan (front ++ rest) (flat_map (leg_plan cname rows work) (enumerate_from n rest)) ≡ front ++ map (leg_after rows work) rest
-applied_from cname rows work front n [] e = refl
-applied_from cname rows work front n (s ∷ rest) e =
-    let behind = flat_map (leg_plan cname rows work) (enumerate_from (n + 1) rest) in
+applied_from : (rows : List Row) (work : Job) (front : List LegState) (n : ℕ) (rest : List LegState) → n ≡ length front
+    → legs_after_plan (front ++ rest) (flat_map (leg_plan rows work) (enumerate_from n rest)) ≡ front ++ map (leg_after rows work) rest
+applied_from rows work front n [] e = refl
+applied_from rows work front n (s ∷ rest) e =
+    let behind = flat_map (leg_plan rows work) (enumerate_from (n + 1) rest) in
     let t = leg_after rows work s in
-    let split = fold-append applied_one (front ++ s ∷ rest) (leg_plan cname rows work (n, s)) behind in
-    let here = ap (λ (l : List LegState). legs_after_plan l behind) (applied_here cname rows work front n s rest e) in
+    let split = fold-append applied_one (front ++ s ∷ rest) (leg_plan rows work (n, s)) behind in
+    let here = ap (λ (l : List LegState). legs_after_plan l behind) (applied_here rows work front n s rest e) in
     let moved = ap (λ (l : List LegState). legs_after_plan l behind) (sym (append_assoc front (t ∷ []) rest)) in
-    let more = applied_from cname rows work (front ++ t ∷ []) (n + 1) rest (count_before front t n e) in
+    let more = applied_from rows work (front ++ t ∷ []) (n + 1) rest (count_before front t n e) in
     split ∙ here ∙ moved ∙ more ∙ append_assoc front (t ∷ []) (map (leg_after rows work) rest)
 
 -- the plan of a job makes of the legs what the job makes of them
-pub plan_makes : (cname : List ℕ) (rows : List Row) (legs : List LegState) (work : Job)
-    → legs_after_plan legs (job_plan cname rows legs work) ≡ legs_after rows legs work
-plan_makes cname rows legs work = applied_from cname rows work [] 0 legs refl
+pub plan_makes : (rows : List Row) (legs : List LegState) (work : Job)
+    → legs_after_plan legs (job_plan rows legs work) ≡ legs_after rows legs work
+plan_makes rows legs work = applied_from rows work [] 0 legs refl

@@ -16,26 +16,31 @@ use Rattle.events.specs.declared.job.Job.TheVariants.{Packet, Request, Resend, P
 use Rattle.legs.specs.declared.leg.LegState.{LegState}
 use Rattle.events.specs.declared.output.Out.{Out}
 use Rattle.events.specs.declared.output.Out.TheVariants.{Send, Skip, Miss}
-use Rattle.settings.specs.Links.{LinkTable, numbered_legs, worker_of}
+use Rattle.settings.specs.Links.{LinkTable, cname_of, numbered_legs, worker_of}
 use Rattle.legs.specs.Rtp.{is_rtp, sequence_number, payload_octets, readdressed_bytes}
 use Rattle.rtp_packet.specs.declared.header.TheConstants.{SEQ_CYCLE}
 
 -- ---- new legs
 
-abbrev pub new_state : ℕ → ℕ → LegSettings → LegState
-new_state ring number link = record {
+abbrev pub new_state : ℕ → ℕ → LegSettings → List ℕ → LegState
+new_state ring number link cname = record {
   number = number;
   link = link;
+  cname = cname;
   numbers = new_leg link.first_seq;
   kept = record { capacity = ring; items = [] };
   packets = 0;
   octets = 0;
 }
 
+-- the leg with this number, which has the name that is said of its publisher
+abbrev pub new_leg_of : LinkTable → ℕ → ℕ × LegSettings → LegState
+new_leg_of t ring e = new_state ring e.0 e.1 (cname_of t e.1.publisher)
+
 abbrev pub owned_by : LinkTable → ℕ → ℕ → List (ℕ × LegSettings) → List LegState
 owned_by t ring worker [] = []
 owned_by t ring worker (e ∷ es) =
-    if worker_of t e.1 == worker then new_state ring e.0 e.1 ∷ owned_by t ring worker es
+    if worker_of t e.1 == worker then new_leg_of t ring e ∷ owned_by t ring worker es
     else owned_by t ring worker es
 
 -- the legs of this worker as they begin, by rising number
@@ -107,37 +112,37 @@ resent s None = s
 resent s (Some bytes) = handed_out s (payload_octets bytes)
 
 -- a report of the leg's source: with timestamps a sender report with the leg's counts, else a receiver report, and the
--- unit's canonical name (RFC 3550, sections 6.4.1, 6.4.2 and 6.5.1)
+-- leg's canonical name (RFC 3550, sections 6.4.1, 6.4.2 and 6.5.1)
 abbrev pub report_packet : LegState → Option (ℕ × ℕ) → List ℕ
 report_packet s None = packet_bytes (rr_packet s.link.out_ssrc.0 [])
 report_packet s (Some sr) =
     packet_bytes (sr_packet s.link.out_ssrc.0 sr.0 sr.1 s.packets s.octets [])
 
-abbrev pub leg_report_bytes : List ℕ → LegState → Option (ℕ × ℕ) → List ℕ
-leg_report_bytes cname s sr =
-    report_packet s sr ++ packet_bytes (cname_packet s.link.out_ssrc.0 cname)
+abbrev pub leg_report_bytes : LegState → Option (ℕ × ℕ) → List ℕ
+leg_report_bytes s sr =
+    report_packet s sr ++ packet_bytes (cname_packet s.link.out_ssrc.0 s.cname)
 
--- a goodbye of the leg's source, in a compound with an empty receiver report and the unit's canonical name (RFC 3550,
+-- a goodbye of the leg's source, in a compound with an empty receiver report and the leg's canonical name (RFC 3550,
 -- sections 6.1 and 6.6)
-abbrev pub leg_goodbye_bytes : List ℕ → LegState → List ℕ
-leg_goodbye_bytes cname s =
-    leg_report_bytes cname s None ++ packet_bytes (bye_packet (s.link.out_ssrc.0 ∷ []))
+abbrev pub leg_goodbye_bytes : LegState → List ℕ
+leg_goodbye_bytes s =
+    leg_report_bytes s None ++ packet_bytes (bye_packet (s.link.out_ssrc.0 ∷ []))
 
 -- ---- jobs
 
-abbrev pub leg_datagrams : List ℕ → List Row → Job → LegState → List Out
-leg_datagrams cname rows (Packet publisher bytes) s =
+abbrev pub leg_datagrams : List Row → Job → LegState → List Out
+leg_datagrams rows (Packet publisher bytes) s =
     if takes rows publisher bytes s then packet_outs s bytes (answer_on rows bytes s) else []
-leg_datagrams cname rows (Resend leg stay nack) s =
+leg_datagrams rows (Resend leg stay nack) s =
     if stands rows leg stay s
     then flat_map (λ seq. resend_outs s seq (last_kept_with s.kept.items seq)) (lost_numbers nack)
     else []
-leg_datagrams cname rows (Report leg stay sr) s =
-    if stands rows leg stay s then Send s.link.subscriber (leg_report_bytes cname s sr) ∷ [] else []
-leg_datagrams cname rows (Goodbye leg) s =
-    if s.number == leg then Send s.link.subscriber (leg_goodbye_bytes cname s) ∷ [] else []
-leg_datagrams cname rows (Request leg stay word) s = []
-leg_datagrams cname rows (Pli leg moment) s = []
+leg_datagrams rows (Report leg stay sr) s =
+    if stands rows leg stay s then Send s.link.subscriber (leg_report_bytes s sr) ∷ [] else []
+leg_datagrams rows (Goodbye leg) s =
+    if s.number == leg then Send s.link.subscriber (leg_goodbye_bytes s) ∷ [] else []
+leg_datagrams rows (Request leg stay word) s = []
+leg_datagrams rows (Pli leg moment) s = []
 
 abbrev pub leg_after : List Row → Job → LegState → LegState
 leg_after rows (Packet publisher bytes) s =
@@ -152,8 +157,8 @@ leg_after rows (Request leg stay word) s = s
 leg_after rows (Pli leg moment) s = s
 
 -- what the job gives out on these legs
-abbrev pub job_datagrams : List ℕ → List Row → List LegState → Job → List Out
-job_datagrams cname rows legs job = flat_map (leg_datagrams cname rows job) legs
+abbrev pub job_datagrams : List Row → List LegState → Job → List Out
+job_datagrams rows legs job = flat_map (leg_datagrams rows job) legs
 
 -- the legs once the job is done
 abbrev pub legs_after : List Row → List LegState → Job → List LegState

@@ -1,5 +1,5 @@
 -- What is planned on the legs of a worker: what it gives out, and what the legs are once it is done.
-use Rattle.std.specs.Prelude.{ℕ, zero, suc, List, [], ◌∷◌, ◌++◌, fold, Option, None, Some, option_and_then, slice_get}
+use Rattle.std.specs.Prelude.{ℕ, zero, suc, List, [], ◌∷◌, fold, Option, None, Some, option_and_then, slice_get}
 use Rattle.std.specs.List.{flat_map}
 use Rattle.resend_ring.specs.Kept.{last_kept_with}
 use Rattle.legs.specs.declared.leg.LegState.{LegState}

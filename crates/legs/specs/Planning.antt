@@ -34,23 +34,23 @@ abbrev pub resends : ℕ → LegState → List ℕ → List Planned
 resends place s numbers =
     map (λ seq. resend_planned place s seq (last_kept_with s.kept.items seq)) numbers
 
-abbrev pub leg_plan : List ℕ → List Row → Job → ℕ × LegState → List Planned
-leg_plan cname rows (job.Packet publisher bytes) (place, s) =
+abbrev pub leg_plan : List Row → Job → ℕ × LegState → List Planned
+leg_plan rows (job.Packet publisher bytes) (place, s) =
     if takes rows publisher bytes s
     then packet_planned place s (row_of rows s).turn bytes (answer_on rows bytes s) ∷ [] else []
-leg_plan cname rows (job.Resend leg stay nack) (place, s) =
+leg_plan rows (job.Resend leg stay nack) (place, s) =
     if stands rows leg stay s then resends place s (lost_numbers nack) else []
-leg_plan cname rows (job.Report leg stay sr) (place, s) =
-    if stands rows leg stay s then Report s.link.subscriber (leg_report_bytes cname s sr) ∷ []
+leg_plan rows (job.Report leg stay sr) (place, s) =
+    if stands rows leg stay s then Report s.link.subscriber (leg_report_bytes s sr) ∷ []
     else []
-leg_plan cname rows (job.Goodbye leg) (place, s) =
-    if s.number == leg then Report s.link.subscriber (leg_goodbye_bytes cname s) ∷ [] else []
-leg_plan cname rows (job.Request leg stay word) (place, s) = []
-leg_plan cname rows (job.Pli leg moment) (place, s) = []
+leg_plan rows (job.Goodbye leg) (place, s) =
+    if s.number == leg then Report s.link.subscriber (leg_goodbye_bytes s) ∷ [] else []
+leg_plan rows (job.Request leg stay word) (place, s) = []
+leg_plan rows (job.Pli leg moment) (place, s) = []
 
 -- the plan of a job
-abbrev pub job_plan : List ℕ → List Row → List LegState → Job → List Planned
-job_plan cname rows legs work = flat_map (leg_plan cname rows work) (enumerate_from 0 legs)
+abbrev pub job_plan : List Row → List LegState → Job → List Planned
+job_plan rows legs work = flat_map (leg_plan rows work) (enumerate_from 0 legs)
 
 -- what the leg at a place does with a packet of its publisher
 abbrev pub plan_by : List Row → List ℕ → ℕ → Option LegState → List Planned

@@ -1,10 +1,11 @@
 //! A leg that a worker owns.
 
-ghost use Rattle.std.specs.Prelude.{◌≡◌, ◌≤◌, ◌+◌, ◌%◌, ◌^◌, ◌<◌, IfOk};
+ghost use Rattle.std.specs.Prelude.{◌≡◌, ◌≤◌, ◌+◌, ◌%◌, ◌^◌, ◌<◌, length, IfOk};
 
 use resend_ring::{MAX_CAPACITY, Ring};
 use rewrite::Leg;
-use settings::LegSettings;
+use rtcp_compound::CNAME_LIMIT;
+use settings::{Cname, LegSettings};
 use std::alloc::{AllocError, Global};
 
 /// The counts of what was handed out go round at this number (RFC 3550, section 6.4.1).
@@ -17,6 +18,8 @@ pub struct LegState {
     pub number: u16,
     /// What it joins.
     pub link: LegSettings,
+    /// The canonical name that is said of its source: that of whose packets these are (RFC 3550, section 6.5.1).
+    pub cname: Cname,
     /// Its outgoing sequence numbers.
     pub numbers: Leg,
     /// The last packets that went out on it.
@@ -38,20 +41,23 @@ impl LegState {
     ghost use Rattle.std.specs.Option.{option_to_list};
     ghost use Rattle.legs.specs.Legs.{new_state, handed_out, leg_after_packet};
 
-    /// The leg with this number before its first packet, which keeps so many packets.
+    /// The leg with this number and this name before its first packet, which keeps so many packets.
     pub(crate) fn new(
         alloc: Global,
         ring: usize,
         number: u16,
         link: &LegSettings,
+        cname: &str,
     ) -> Result<LegState, AllocError>
         requires least { 1 ≤ ring }
         requires most { ring ≤ MAX_CAPACITY }
-        ensures { IfOk result (λ leg. leg ≡ new_state ring number link.now) }
+        requires name { length cname.now ≤ CNAME_LIMIT }
+        ensures { IfOk result (λ leg. leg ≡ new_state ring number link.now cname.now) }
     {
         Ok(LegState {
             number,
             link: *link,
+            cname: Cname::new(alloc, cname)?,
             numbers: Leg::new(link.first_seq),
             kept: Ring::new(alloc, ring)?,
             packets: 0,

@@ -2,7 +2,7 @@
 //! can't fail; between the two what is planned is handed out.
 
 ghost use Rattle.std.specs.Prelude.{◌≡◌, ◌≤◌, ◌++◌, [], length, IfOk, OnOk, OnErr};
-ghost use Rattle.std.specs.Prelude.{ℕ, List};
+ghost use Rattle.std.specs.Prelude.{List};
 ghost use Rattle.std.specs.List.{enumerate_from, flat_map};
 ghost use Rattle.legs.specs.Legs.{new_legs, row_of};
 ghost use Rattle.legs.specs.Planning.{publisher_places, plan_of, ListsPlaces, FindsPlaces};
@@ -13,7 +13,6 @@ use crate::planning::{plan_goodbye, plan_packet, plan_report, plan_resends};
 use events::Job;
 use members::Row;
 use resend_ring::MAX_CAPACITY;
-use rtcp_compound::CNAME_LIMIT;
 use rtcp_feedback::{Nack, lost};
 use rtp_packet::RtpView;
 use settings::{Links, MAX_LEGS};
@@ -58,7 +57,8 @@ fn owned(
     let mut legs = Vec::new(alloc);
     for (number, link) in links.legs().iter().enumerate() {
         if links.worker_of(link) == worker {
-            legs.push(LegState::new(alloc, ring, number as u16, link)?)?;
+            let cname = links.cname_of(link.publisher);
+            legs.push(LegState::new(alloc, ring, number as u16, link, cname)?)?;
         }
     }
     Ok(legs)
@@ -210,20 +210,18 @@ impl Legs {
     pub fn plan(
         &self,
         alloc: Global,
-        cname: &[u8],
         rows: &[Row],
         job: &Job,
         plan: &mut Plan,
     ) -> Result<(), AllocError>
-        requires { length cname.now ≤ CNAME_LIMIT }
         ensures outs { OnOk result (plan_outs self.now plan.new
-            ≡ job_datagrams cname.now rows.now self.now job.now) }
+            ≡ job_datagrams rows.now self.now job.now) }
         ensures after { OnOk result (legs_after_plan self.now plan.new
             ≡ legs_after rows.now self.now job.now) }
         ensures err { OnErr result (plan.new ≡ []) }
     {
         plan.clear();
-        match self.plan_job(alloc, cname, rows, job, plan) {
+        match self.plan_job(alloc, rows, job, plan) {
             Ok(()) => Ok(()),
             Err(error) => {
                 plan.clear();
@@ -244,14 +242,12 @@ impl Legs {
     fn plan_job(
         &self,
         alloc: Global,
-        cname: &[u8],
         rows: &[Row],
         job: &Job,
         plan: &mut Plan,
     ) -> Result<(), AllocError>
-        requires { length cname.now ≤ CNAME_LIMIT }
         ensures { OnOk result (plan.new
-            ≡ plan.old ++ job_plan cname.now rows.now self.now job.now) }
+            ≡ plan.old ++ job_plan rows.now self.now job.now) }
     {
         match job {
             Job::Packet { publisher, bytes } => {
@@ -259,9 +255,9 @@ impl Legs {
             }
             Job::Resend { leg, stay, nack } => self.plan_wanted(rows, *leg, *stay, *nack, plan),
             Job::Report { leg, stay, sr } => {
-                self.plan_reported(alloc, cname, rows, *leg, *stay, *sr, plan)
+                self.plan_reported(alloc, rows, *leg, *stay, *sr, plan)
             }
-            Job::Goodbye { leg } => self.plan_left(alloc, cname, *leg, plan),
+            Job::Goodbye { leg } => self.plan_left(alloc, *leg, plan),
             Job::Request { .. } => Ok(()),
             Job::Pli { .. } => Ok(()),
         }
@@ -276,8 +272,8 @@ impl Legs {
         bytes: &[u8],
         plan: &mut Plan,
     ) -> Result<(), AllocError>
-        ensures { (cname : List ℕ) → OnOk result (plan.new ≡ plan.old
-            ++ job_plan cname rows.now self.now (job.Packet publisher bytes.now)) }
+        ensures { OnOk result (plan.new ≡ plan.old
+            ++ job_plan rows.now self.now (job.Packet publisher bytes.now)) }
     {
         let Some(places) = self.published.get(usize::from(publisher)) else {
             return Ok(());
@@ -298,8 +294,8 @@ impl Legs {
         nack: Nack,
         plan: &mut Plan,
     ) -> Result<(), AllocError>
-        ensures { (cname : List ℕ) → OnOk result (plan.new ≡ plan.old
-            ++ job_plan cname rows.now self.now (job.Resend leg stay nack)) }
+        ensures { OnOk result (plan.new ≡ plan.old
+            ++ job_plan rows.now self.now (job.Resend leg stay nack)) }
     {
         let Some((place, leg)) = self.standing(rows, leg, stay) else {
             return Ok(());
@@ -312,40 +308,31 @@ impl Legs {
     fn plan_reported(
         &self,
         alloc: Global,
-        cname: &[u8],
         rows: &[Row],
         leg: u16,
         stay: u64,
         sr: Option<(u64, u32)>,
         plan: &mut Plan,
     ) -> Result<(), AllocError>
-        requires { length cname.now ≤ CNAME_LIMIT }
         ensures { OnOk result (plan.new
-            ≡ plan.old ++ job_plan cname.now rows.now self.now (job.Report leg stay sr)) }
+            ≡ plan.old ++ job_plan rows.now self.now (job.Report leg stay sr)) }
     {
         let Some((_, leg)) = self.standing(rows, leg, stay) else {
             return Ok(());
         };
-        let planned = plan_report(leg, alloc, cname, sr)?;
+        let planned = plan_report(leg, alloc, sr)?;
         plan.push(planned)
     }
 
     /// Appends a goodbye.
-    fn plan_left(
-        &self,
-        alloc: Global,
-        cname: &[u8],
-        leg: u16,
-        plan: &mut Plan,
-    ) -> Result<(), AllocError>
-        requires { length cname.now ≤ CNAME_LIMIT }
+    fn plan_left(&self, alloc: Global, leg: u16, plan: &mut Plan) -> Result<(), AllocError>
         ensures { (rows : List Row) → OnOk result (plan.new
-            ≡ plan.old ++ job_plan cname.now rows self.now (job.Goodbye leg)) }
+            ≡ plan.old ++ job_plan rows self.now (job.Goodbye leg)) }
     {
         let Some(leg) = self.numbered(leg) else {
             return Ok(());
         };
-        let planned = plan_goodbye(leg, alloc, cname)?;
+        let planned = plan_goodbye(leg, alloc)?;
         plan.push(planned)
     }
 

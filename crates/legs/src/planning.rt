@@ -1,6 +1,6 @@
 //! What a leg does for a job.
 
-ghost use Rattle.std.specs.Prelude.{◌≡◌, ◌≤◌, ◌++◌, ◌∷◌, [], length, IfOk, OnOk};
+ghost use Rattle.std.specs.Prelude.{◌≡◌, ◌++◌, ◌∷◌, [], length, IfOk, OnOk};
 ghost use Rattle.rewrite.specs.Leg.{answer_to};
 ghost use Rattle.resend_ring.specs.Kept.{last_kept_with};
 ghost use Rattle.legs.specs.Legs.{leg_goodbye_bytes, leg_report_bytes};
@@ -10,7 +10,7 @@ ghost use Rattle.legs.specs.Rtp.{sequence_number, payload_octets, readdressed_by
 use crate::leg::LegState;
 use crate::plan::{Plan, Planned};
 use events::Bytes;
-use rtcp_compound::{CNAME_LIMIT, write_bye, write_rr, write_sdes_cname, write_sr};
+use rtcp_compound::{write_bye, write_rr, write_sdes_cname, write_sr};
 use rtp_packet::{RtpView, SEQ_CYCLE};
 use std::alloc::{AllocError, Global};
 use tmmbr_tuple::Ssrc;
@@ -118,16 +118,13 @@ pub fn plan_resends(
     Ok(())
 }
 
-/// The report of the leg's source, by the NTP and RTP timestamps of a sender report of its publisher.
-pub fn plan_report(
+/// The bytes of the report of the leg's source, with its name, by the NTP and RTP timestamps of a sender report of its publisher.
+fn report_bytes(
     leg: &LegState,
     alloc: Global,
-    cname: &[u8],
     sr: Option<(u64, u32)>,
-) -> Result<Planned, AllocError>
-    requires { length cname.now ≤ CNAME_LIMIT }
-    ensures { IfOk result (λ planned. planned
-        ≡ Planned.Report leg.now.link.subscriber (leg_report_bytes cname.now leg.now sr)) }
+) -> Result<Vec<u8>, AllocError>
+    ensures { IfOk result (λ bytes. bytes.items ≡ leg_report_bytes leg.now sr) }
 {
     let source = leg.link.out_ssrc;
     let mut bytes = Vec::new(alloc);
@@ -135,7 +132,20 @@ pub fn plan_report(
         Some((ntp, rtp)) => write_sr(&mut bytes, source, ntp, rtp, leg.packets, leg.octets, &[])?,
         None => write_rr(&mut bytes, source, &[])?,
     }
-    write_sdes_cname(&mut bytes, source, cname)?;
+    write_sdes_cname(&mut bytes, source, leg.cname.as_bytes())?;
+    Ok(bytes)
+}
+
+/// The report of the leg's source, by the NTP and RTP timestamps of a sender report of its publisher.
+pub fn plan_report(
+    leg: &LegState,
+    alloc: Global,
+    sr: Option<(u64, u32)>,
+) -> Result<Planned, AllocError>
+    ensures { IfOk result (λ planned. planned
+        ≡ Planned.Report leg.now.link.subscriber (leg_report_bytes leg.now sr)) }
+{
+    let bytes = report_bytes(leg, alloc, sr)?;
     Ok(Planned::Report {
         endpoint: leg.link.subscriber,
         bytes: Bytes::new(bytes),
@@ -143,16 +153,12 @@ pub fn plan_report(
 }
 
 /// The goodbye of the leg's source.
-pub fn plan_goodbye(leg: &LegState, alloc: Global, cname: &[u8]) -> Result<Planned, AllocError>
-    requires { length cname.now ≤ CNAME_LIMIT }
+pub fn plan_goodbye(leg: &LegState, alloc: Global) -> Result<Planned, AllocError>
     ensures { IfOk result (λ planned. planned
-        ≡ Planned.Report leg.now.link.subscriber (leg_goodbye_bytes cname.now leg.now)) }
+        ≡ Planned.Report leg.now.link.subscriber (leg_goodbye_bytes leg.now)) }
 {
-    let source = leg.link.out_ssrc;
-    let mut bytes = Vec::new(alloc);
-    write_rr(&mut bytes, source, &[])?;
-    write_sdes_cname(&mut bytes, source, cname)?;
-    write_bye(&mut bytes, &[source])?;
+    let mut bytes = report_bytes(leg, alloc, None)?;
+    write_bye(&mut bytes, &[leg.link.out_ssrc])?;
     Ok(Planned::Report {
         endpoint: leg.link.subscriber,
         bytes: Bytes::new(bytes),

@@ -18,7 +18,8 @@ pub use order::{Order, Row};
 pub use room::Room;
 pub use rtcp_compound::Block;
 pub use settings::{
-    Key, LegParts, LegSettings, MAX_ENDPOINTS, MAX_LEGS, Parts, RoomFault, Settings, SettingsFault,
+    EndpointParts, Key, LegParts, LegSettings, MAX_ENDPOINTS, MAX_LEGS, Parts, RoomFault, Settings,
+    SettingsFault,
 };
 pub use stays::MAX_STAY;
 pub use stream::COUNTED_PACKETS;

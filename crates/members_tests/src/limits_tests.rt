@@ -1,6 +1,6 @@
 //! Each limit at both edges: the last value that is accepted and the first that is refused.
 use crate::room_tests::{arrive, depart, route};
-use crate::settings_tests::{fault_of, found_parts, leg, put};
+use crate::settings_tests::{fault_of, found_parts, leg, named, put, unnamed};
 use members::*;
 use std::alloc::{AllocError, Global};
 use std::process::Abort;
@@ -86,7 +86,7 @@ fn sources_of_endpoints(rt: HostRuntime) -> Result<(), Fail> {
     for (ssrc, fault) in rows {
         let mut parts = found_parts(alloc)?;
         let _ = parts.endpoints.pop();
-        parts.endpoints.push(ssrc)?;
+        parts.endpoints.push(unnamed(ssrc))?;
         assert_eq!(rt; fault_of(alloc, &parts), fault, "{ssrc:?}");
     }
     Ok(())
@@ -109,11 +109,33 @@ fn bytes_of_the_name(rt: HostRuntime) -> Result<(), Fail> {
     Ok(())
 }
 
+/// The fault of settings whose second endpoint has this name.
+fn fault_of_name(alloc: Global, name: &str) -> Result<Option<SettingsFault>, AllocError> {
+    let mut parts = found_parts(alloc)?;
+    let _ = parts.endpoints.pop();
+    parts.endpoints.push(named(alloc, 17, name)?)?;
+    Ok(fault_of(alloc, &parts))
+}
+
+#[test]
+fn bytes_of_the_names_of_endpoints(rt: HostRuntime) -> Result<(), Fail> {
+    let alloc = rt.alloc();
+    let refused = Some(SettingsFault::Endpoint(1, Key::Cname));
+    for (count, fault) in [(0, refused), (1, None), (255, None), (256, refused)] {
+        let name = "n".repeat(alloc, count)?;
+        assert_eq!(rt; fault_of_name(alloc, name.as_str())?, fault, "{count}");
+    }
+    for (name, fault) in [("\u{0}", None), ("\u{7f}", None), ("\u{80}", refused)] {
+        assert_eq!(rt; fault_of_name(alloc, name)?, fault, "{name:?}");
+    }
+    Ok(())
+}
+
 /// So many endpoints, with the sources 10,000, 10,001 and so on.
-fn endpoints(alloc: Global, count: u16) -> Result<Vec<Option<i64>>, AllocError> {
+fn endpoints(alloc: Global, count: u16) -> Result<Vec<EndpointParts>, AllocError> {
     let mut endpoints = Vec::new(alloc);
     for k in 0..count {
-        endpoints.push(Some(10_000 + i64::from(k)))?;
+        endpoints.push(unnamed(Some(10_000 + i64::from(k))))?;
     }
     Ok(endpoints)
 }

@@ -1,5 +1,5 @@
 //! Who comes and goes in, orders out; packets in, blocks out.
-use crate::settings_tests::{found_parts, leg};
+use crate::settings_tests::{found_parts, leg, unnamed};
 use members::*;
 use rtcp_compound::write_rr;
 use std::alloc::{AllocError, Global};
@@ -189,7 +189,7 @@ fn moments_never_fall(rt: HostRuntime) -> Result<(), Fail> {
 /// off.
 fn larger_parts(alloc: Global) -> Result<Parts, AllocError> {
     let mut p = found_parts(alloc)?;
-    p.endpoints.push(Some(18))?;
+    p.endpoints.push(unnamed(Some(18)))?;
     let mut second = leg(2, 0, 258);
     second.on = Some(false);
     p.legs.push(second)?;

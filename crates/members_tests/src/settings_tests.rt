@@ -15,12 +15,25 @@ pub fn leg(subscriber: i64, publisher: i64, out_ssrc: i64) -> LegParts {
     }
 }
 
+/// An endpoint with this source, and without a name of its own.
+pub fn unnamed(ssrc: Option<i64>) -> EndpointParts {
+    EndpointParts { ssrc, cname: None }
+}
+
+/// An endpoint with this source and this name.
+pub fn named(alloc: Global, ssrc: i64, cname: &str) -> Result<EndpointParts, AllocError> {
+    Ok(EndpointParts {
+        ssrc: Some(ssrc),
+        cname: Some(String::from_str(alloc, cname)?),
+    })
+}
+
 /// The settings of the examples.
 pub fn found_parts(alloc: Global) -> Result<Parts, AllocError> {
     let mut first = leg(1, 0, 257);
     first.first_seq = Some(100);
     let mut parts = Parts::example(alloc)?;
-    parts.endpoints = vec![in alloc; Some(16), Some(17)]?;
+    parts.endpoints = EndpointParts::unnamed(alloc, &[Some(16), Some(17)])?;
     parts.legs = vec![in alloc; first]?;
     Ok(parts)
 }
@@ -75,6 +88,23 @@ fn settings_of_the_examples(rt: HostRuntime) -> Result<(), Fail> {
     Ok(())
 }
 
+/// An endpoint's own name is said of what it publishes, or else the unit's. Two endpoints of one participant share a name.
+#[test]
+fn names_that_are_said(rt: HostRuntime) -> Result<(), Fail> {
+    let alloc = rt.alloc();
+    let mut parts = found_parts(alloc)?;
+    parts.endpoints.push(named(alloc, 18, "ann")?)?;
+    parts.endpoints.push(named(alloc, 19, "ann")?)?;
+    let settings = Settings::new(alloc, &parts)?;
+    let mut names = String::new(alloc);
+    for cname in settings.cnames() {
+        names.push_str(cname.as_str())?;
+        names.push(' ')?;
+    }
+    assert_eq!(rt; names.as_str(), "sfu sfu ann ann ");
+    Ok(())
+}
+
 #[test]
 fn rules_of_legs(rt: HostRuntime) -> Result<(), Fail> {
     let mut parts = found_parts(rt.alloc())?;
@@ -118,7 +148,7 @@ fn top_keys_in_order_of_their_names(rt: HostRuntime) -> Result<(), Fail> {
         p.cname = Some(String::from_str(alloc, name)?);
         assert_eq!(rt; fault_of(alloc, &p), Some(SettingsFault::Top(key)));
     }
-    p.endpoints.push(Some(17))?;
+    p.endpoints.push(unnamed(Some(17)))?;
     for (key, _, right) in NUMBERS {
         assert_eq!(rt; fault_of(alloc, &p), Some(SettingsFault::Top(key)));
         put(&mut p, key, Some(right));
@@ -153,11 +183,17 @@ const SECOND_LEGS: [(i64, i64, i64, Option<i64>, Option<SettingsFault>); 7] = [
 fn endpoints_then_legs_then_sources(rt: HostRuntime) -> Result<(), Fail> {
     let alloc = rt.alloc();
     let mut p = found_parts(alloc)?;
-    p.endpoints.push(Some(-1))?;
     p.legs.push(leg(2, 2, 9))?;
-    let fault = SettingsFault::Endpoint(2, Key::Ssrc);
-    assert_eq!(rt; fault_of(alloc, &p), Some(fault));
-    let _ = p.endpoints.pop();
+    // A name comes before a source.
+    for (endpoint, key) in [
+        (named(alloc, -1, "")?, Key::Cname),
+        (unnamed(Some(-1)), Key::Ssrc),
+    ] {
+        p.endpoints.push(endpoint)?;
+        let fault = SettingsFault::Endpoint(2, key);
+        assert_eq!(rt; fault_of(alloc, &p), Some(fault));
+        let _ = p.endpoints.pop();
+    }
     for (subscriber, publisher, out_ssrc, first_seq, fault) in SECOND_LEGS {
         let _ = p.legs.pop();
         let mut second = leg(subscriber, publisher, out_ssrc);

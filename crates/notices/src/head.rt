@@ -67,14 +67,6 @@ impl Head {
         self.unit_ssrc
     }
 
-    /// The unit's canonical name.
-    pub fn cname(&self) -> &[u8]
-        ensures value { result.now ≡ self.now.cname }
-        ensures limit { length result.now ≤ CNAME_LIMIT }
-    {
-        self.cname.as_slice()
-    }
-
     /// A datagram that begins so, with room for so many bytes more.
     pub(crate) fn begin(&self, alloc: Global, more: usize) -> Result<Vec<u8>, AllocError>
         requires { more < 2 ^ 32 }

@@ -5,7 +5,7 @@ ghost use Rattle.std.specs.Prelude.{◌≡◌};
 use crate::doubles::{Arrival, ListSink, Script, Steps, media_packet, receiver_report};
 use one_thread::{DriveFault, Pace, Report, run_one_thread};
 use outside::Unwatched;
-use settings::{LegParts, Parts, Settings};
+use settings::{EndpointParts, LegParts, Parts, Settings};
 use std::alloc::Global;
 use std::test::Fail;
 
@@ -42,7 +42,7 @@ pub(super) fn settings_with(
         cname: Some(String::from_str(alloc, "sfu")?),
         early_pictures: None,
         leg_goodbyes: None,
-        endpoints: sources.to_vec(alloc)?,
+        endpoints: EndpointParts::unnamed(alloc, sources)?,
         legs,
     };
     Ok(Settings::new(alloc, &parts)?)

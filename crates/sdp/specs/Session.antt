@@ -70,18 +70,18 @@ ssrc_line ssrc cname =
     codes "a=ssrc:" ++ (decimal ssrc ++ (codes " cname:" ++ (cname ++ codes "\r\n")))
 
 -- a media description: what comes to which port, how it is encoded, where RTCP goes, the source, and the feedback that is taken
-unfoldable pub stream_text : List ℕ → Stream → List ℕ
-stream_text cname stream =
+unfoldable pub stream_text : Stream → List ℕ
+stream_text stream =
     media_line (socket_port stream.address) stream.rtpmap.now
     ++ (connection_line (socket_ip stream.address)
     ++ (encodings_text stream.rtpmap.now stream.fmtp.now
     ++ (rtcp_line (socket_port stream.address) (socket_port stream.rtcp)
-    ++ (ssrc_line stream.ssrc cname ++ FEEDBACK.now))))
+    ++ (ssrc_line stream.ssrc stream.cname.now ++ FEEDBACK.now))))
 
-abbrev pub streams_text : List ℕ → List Stream → List ℕ
-streams_text cname streams = flat_map (stream_text cname) streams
+abbrev pub streams_text : List Stream → List ℕ
+streams_text streams = flat_map stream_text streams
 
 unfoldable pub session_text : Session → List ℕ
 session_text session =
     origin_line session.unit
-    ++ (NAME.now ++ streams_text session.cname.now session.streams.now)
+    ++ (NAME.now ++ streams_text session.streams.now)

@@ -16,8 +16,6 @@ const NAME: &str = "s=sfu\r\nt=0 0\r\n";
 pub struct Session<'a> {
     /// Where the unit is.
     pub unit: IpAddr,
-    /// The canonical name that it sends with (RFC 3550, section 6.5.1).
-    pub cname: &'a str,
     pub streams: &'a [Stream<'a>],
 }
 
@@ -29,7 +27,7 @@ pub fn session_text(alloc: Global, session: &Session<'_>) -> Result<String, Allo
     let mut text = String::new(alloc);
     push_origin(&mut text, session.unit)?;
     text.push_str(NAME)?;
-    push_streams(&mut text, session.cname, session.streams)?;
+    push_streams(&mut text, session.streams)?;
     Ok(text)
 }
 
@@ -43,12 +41,12 @@ fn push_origin(text: &mut String, unit: IpAddr) -> Result<(), AllocError>
     write!(text, "{unit}\r\n")
 }
 
-fn push_streams(text: &mut String, cname: &str, streams: &[Stream<'_>]) -> Result<(), AllocError>
+fn push_streams(text: &mut String, streams: &[Stream<'_>]) -> Result<(), AllocError>
     ensures { OnOk result
-        (string_bytes text.new ≡ string_bytes text.old ++ streams_text cname.now streams.now) }
+        (string_bytes text.new ≡ string_bytes text.old ++ streams_text streams.now) }
 {
     for stream in streams {
-        push_stream(text, cname, stream)?;
+        push_stream(text, stream)?;
     }
     Ok(())
 }

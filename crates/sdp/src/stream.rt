@@ -25,27 +25,25 @@ pub struct Stream<'a> {
     pub rtcp: SocketAddr,
     /// The source that it has, any 32 bits.
     pub ssrc: u32,
+    /// The canonical name of that source (RFC 3550, section 6.5.1).
+    pub cname: &'a str,
     /// Its encodings, each behind its payload type, as `96 H264/90000`.
     pub rtpmap: &'a [String],
     /// The parameters of formats, each behind its payload type, as `96 packetization-mode=1`.
     pub fmtp: &'a [String],
 }
 
-/// The media description (RFC 8866, section 5.14) of a stream whose sender has this canonical name.
+/// The media description of a stream (RFC 8866, section 5.14).
 #[tactic(auto, unfolding(crate::specs::Session::stream_text))]
-pub(crate) fn push_stream(
-    text: &mut String,
-    cname: &str,
-    stream: &Stream<'_>,
-) -> Result<(), AllocError>
+pub(crate) fn push_stream(text: &mut String, stream: &Stream<'_>) -> Result<(), AllocError>
     ensures { OnOk result
-        (string_bytes text.new ≡ string_bytes text.old ++ stream_text cname.now stream.now) }
+        (string_bytes text.new ≡ string_bytes text.old ++ stream_text stream.now) }
 {
     push_media(text, stream.address.port(), stream.rtpmap)?;
     push_connection(text, stream.address.ip())?;
     push_encodings(text, stream.rtpmap, stream.fmtp)?;
     push_rtcp(text, stream.address, stream.rtcp)?;
-    push_ssrc(text, stream.ssrc, cname)?;
+    push_ssrc(text, stream.ssrc, stream.cname)?;
     text.push_str(FEEDBACK)
 }
 

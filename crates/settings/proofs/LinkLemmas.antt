@@ -6,7 +6,7 @@ use Rattle.std.proofs.lemmas.Bool.{cases_lt}
 use Rattle.std.proofs.lemmas.Bool.Decides.{nat_tests}
 use Rattle.std.proofs.lemmas.Option.{slice_get_within}
 use Rattle.circular_buffer.proofs.Places.{slice_get-append_left, slice_get-append_right}
-use Rattle.std.specs.Prelude.{◌==◌, ◌&&◌, nat_eq, Option, None, Some, slice_get, All, if◌then◌else◌}
+use Rattle.std.specs.Prelude.{◌==◌, ◌&&◌, nat_eq, None, Some, slice_get, All, if◌then◌else◌}
 use Rattle.std.specs.List.{enumerate_from}
 use Rattle.std.specs.HashMap.{get}
 use Rattle.settings.specs.declared.settings.LegSettings.{LegSettings}

@@ -13,13 +13,15 @@ use Rattle.tmmbr_tuple.specs.declared.ssrc.Ssrc.{Ssrc}
 use Rattle.settings.specs.declared.settings.LegSettings.{LegSettings}
 use Rattle.settings.specs.declared.parts.Parts.{Parts}
 use Rattle.settings.specs.declared.fault.SettingsFault.{SettingsFault}
-use Rattle.settings.specs.Settings.{Check, check, checks, top_checks, endpoint_checks, leg_checks, first_fault, are_distinct, sources, number_or_zero, number_within, is_cname, name_of, rules_of, ssrc_of, leg_of, number_below, or_zero, is_same, has_pair, is_publisher, AreNumbersOf, IsInRange, IsLegAmong, HasOtherEnds}
+use Rattle.settings.specs.Settings.{Check, check, checks, top_checks, endpoint_checks, leg_checks, first_fault, are_distinct, sources, number_or_zero, number_within, is_cname, is_cname_or_none, name_of, own_name_or, said_name, rules_of, ssrc_of, endpoint_ssrc, leg_of, number_below, or_zero, is_same, has_pair, is_publisher, AreNumbersOf, IsInRange, IsLegAmong, HasOtherEnds}
 use Rattle.settings.specs.declared.checks.Numbers.{Numbers}
 use Rattle.settings.specs.declared.fault.SettingsFault.TheVariants.{SameSsrc}
 use Rattle.rtcp_compound.specs.declared.writer.TheConstants.{CNAME_LIMIT}
 use Rattle.settings.specs.declared.settings.TheConstants.{SSRCS, MAX_WORKERS, MAX_RING, LEAST_HISTORY, MAX_HISTORY, MAX_PERIOD_MS, MAX_ENDPOINTS, MAX_LEGS}
+use Rattle.settings.specs.declared.parts.EndpointParts.{EndpointParts}
 use Rattle.settings.specs.declared.parts.LegParts.{LegParts}
-use Rattle.std.specs.Prelude.{ℤ, pos, negsuc, nat_le, nat_lt, ◌≢◌, is_some, take}
+use Rattle.std.specs.Prelude.{ℤ, pos, negsuc, nat_le, nat_lt, ◌≢◌, is_some, take, String}
+use Rattle.std.specs.Global.{Global}
 
 first_passes : (cs ds : List Check) → first_fault cs ≡ None → first_fault (cs ++ ds) ≡ first_fault ds
 first_passes [] ds passes = refl
@@ -57,6 +59,21 @@ checks_here f (x ∷ xs) k fault below fails =
     ap (λ ys. first_fault (flat_map f (enumerate_from k ys))) (drop_more (x ∷ xs) k x below)
     ∙ first_fails (f (k, get_or (x ∷ xs) k x)) (flat_map f (enumerate_from (k + 1) (drop (k + 1) (x ∷ xs)))) fault (fails x)
 
+-- the same of the element that stands there
+pub item_passes : {X : Type 0} (f : ℕ × X → List Check) (xs : List X) (k : ℕ) (x : X) → k < length xs → x ≡ get_or xs k x
+    → first_fault (f (k, x)) ≡ None → checks_from f xs k ≡ checks_from f xs (k + 1)
+item_passes f xs k x below is passes =
+    let here = ap (λ y. first_fault (f (k, y))) (sym is) ∙ passes in
+    ap (λ ys. first_fault (flat_map f (enumerate_from k ys))) (drop_more xs k x below)
+    ∙ first_passes (f (k, get_or xs k x)) (flat_map f (enumerate_from (k + 1) (drop (k + 1) xs))) here
+
+pub item_fails : {X : Type 0} (f : ℕ × X → List Check) (xs : List X) (k : ℕ) (x : X) (fault : SettingsFault) → k < length xs
+    → x ≡ get_or xs k x → first_fault (f (k, x)) ≡ Some fault → checks_from f xs k ≡ Some fault
+item_fails f xs k x fault below is fails =
+    let here = ap (λ y. first_fault (f (k, y))) (sym is) ∙ fails in
+    ap (λ ys. first_fault (flat_map f (enumerate_from k ys))) (drop_more xs k x below)
+    ∙ first_fails (f (k, get_or xs k x)) (flat_map f (enumerate_from (k + 1) (drop (k + 1) xs))) fault here
+
 pub length-sources : (p : Parts) → length (sources p) ≡ 1 + length p.endpoints.items + length p.legs.items
 unfolding sources
 length-sources p = simp (length-append, length-map) (omega arith)
@@ -90,20 +107,20 @@ pub source_unit : (p : Parts) → get_or (sources p) 0 0 ≡ number_or_zero p.un
 unfolding sources
 source_unit p = refl
 
-pub source_endpoint : (p : Parts) (k : ℕ) (d : Option ℤ) → k < length p.endpoints.items
-    → get_or (sources p) (suc k) 0 ≡ number_or_zero (get_or p.endpoints.items k d) SSRCS
+pub source_endpoint : (p : Parts) (k : ℕ) (d : EndpointParts) → k < length p.endpoints.items
+    → get_or (sources p) (suc k) 0 ≡ number_or_zero (get_or p.endpoints.items k d).ssrc SSRCS
 unfolding sources
 source_endpoint p k d below =
-    get_or_append_left (map (λ e. number_or_zero e SSRCS) p.endpoints.items) (map (λ l. number_or_zero l.out_ssrc SSRCS) p.legs.items) 0 k
+    get_or_append_left (map (λ (e : EndpointParts). number_or_zero e.ssrc SSRCS) p.endpoints.items) (map (λ l. number_or_zero l.out_ssrc SSRCS) p.legs.items) 0 k
     (rw length-map below)
-    ∙ get_or-map (λ e. number_or_zero e SSRCS) p.endpoints.items k d 0 below
+    ∙ get_or-map (λ (e : EndpointParts). number_or_zero e.ssrc SSRCS) p.endpoints.items k d 0 below
 
 pub source_leg : (p : Parts) (k : ℕ) (d : LegParts) → length p.endpoints.items ≤ k → k < length p.endpoints.items + length p.legs.items
     → get_or (sources p) (suc k) 0 ≡ number_or_zero (get_or p.legs.items (k - length p.endpoints.items) d).out_ssrc SSRCS
 unfolding sources
 source_leg p k d above below =
-    get_or-append_right (map (λ e. number_or_zero e SSRCS) p.endpoints.items) (map (λ (l : LegParts). number_or_zero l.out_ssrc SSRCS) p.legs.items)
-    (length p.endpoints.items) k 0 (length-map p.endpoints.items (λ e. number_or_zero e SSRCS)) above
+    get_or-append_right (map (λ (e : EndpointParts). number_or_zero e.ssrc SSRCS) p.endpoints.items) (map (λ (l : LegParts). number_or_zero l.out_ssrc SSRCS) p.legs.items)
+    (length p.endpoints.items) k 0 (length-map p.endpoints.items (λ (e : EndpointParts). number_or_zero e.ssrc SSRCS)) above
     ∙ get_or-map (λ (l : LegParts). number_or_zero l.out_ssrc SSRCS) p.legs.items (k - length p.endpoints.items) d 0 (omega arith)
 
 -- ---- all checks
@@ -221,6 +238,40 @@ endpoints_of : (p : Parts) → first_fault (checks p) ≡ None → first_fault (
 endpoints_of p passes =
     let behind = (none_split (top_checks p) (endpoints_part p ++ (legs_part p ++ sources_part p)) (sym (checks-is p) ∙ passes)).1 in
     (none_split (endpoints_part p) (legs_part p ++ sources_part p) behind).0
+
+-- ---- names
+
+-- what is said of an endpoint that passes is a canonical name
+name_passes : (p : Parts) (k : ℕ) (e : EndpointParts) → is_cname (name_of p.cname) ≡ true → first_fault (endpoint_checks (k, e)) ≡ None
+    → is_cname (said_name p e) ≡ true
+name_passes p k e unit passes =
+    let each = each_passes (endpoint_checks (k, e)) passes in
+    let any : Check = check true SameSsrc in
+    said e.cname (each 0 any (omega arith))
+  where
+    said : (own : Option (String Global)) → is_cname_or_none own ≡ true → is_cname (own_name_or (name_of p.cname) own) ≡ true
+    said None fits = unit
+    said (Some text) fits = fits
+
+names_pass : (p : Parts) (k : ℕ) (es : List EndpointParts) → is_cname (name_of p.cname) ≡ true
+    → first_fault (flat_map endpoint_checks (enumerate_from k es)) ≡ None → All (λ n. is_cname n ≡ true) (map (said_name p) es)
+names_pass p k [] unit passes = All-nil (λ n. is_cname n ≡ true)
+names_pass p k (e ∷ es) unit passes =
+    let parts = none_split (endpoint_checks (k, e)) (flat_map endpoint_checks (enumerate_from (k + 1) es)) passes in
+    All-cons (λ n. is_cname n ≡ true) (said_name p e) (map (said_name p) es)
+    (name_passes p k e unit parts.0) (names_pass p (k + 1) es unit parts.1)
+
+names_short : (p : Parts) (k : ℕ) (es : List EndpointParts) → is_cname (name_of p.cname) ≡ true
+    → first_fault (flat_map endpoint_checks (enumerate_from k es)) ≡ None → All (λ e. length (said_name p e) ≤ CNAME_LIMIT) es
+names_short p k [] unit passes = All-nil (λ e. length (said_name p e) ≤ CNAME_LIMIT)
+names_short p k (e ∷ es) unit passes =
+    let parts = none_split (endpoint_checks (k, e)) (flat_map endpoint_checks (enumerate_from (k + 1) es)) passes in
+    All-cons (λ e. length (said_name p e) ≤ CNAME_LIMIT) e es
+    (name_bounds (said_name p e) (name_passes p k e unit parts.0)).1 (names_short p (k + 1) es unit parts.1)
+
+-- where every check passes, each name that is said is short enough to be said
+pub names_fit : (p : Parts) → first_fault (checks p) ≡ None → All (λ e. length (said_name p e) ≤ CNAME_LIMIT) p.endpoints.items
+names_fit p passes = names_short p 0 p.endpoints.items (top_passes p (top_of p passes)).cname (endpoints_of p passes)
 
 -- a number that is there is below its limit
 record IsThere (v : Option ℤ) (n : ℕ) : Type 0 where
@@ -378,10 +429,10 @@ sources_distinct p passes = shown (are_distinct (sources p)) (sym (past_legs p (
 sources_differ : (p : Parts) → are_distinct (sources p) ≡ true
     → AllPairs (λ a b. a ≢ b)
     (number_or_zero p.unit_ssrc SSRCS
-    ∷ (map (λ e. e.0) (map ssrc_of p.endpoints.items) ++ map (λ l. l.out_ssrc.0) (map (leg_of (length p.endpoints.items)) p.legs.items)))
+    ∷ (map (λ e. e.0) (map endpoint_ssrc p.endpoints.items) ++ map (λ l. l.out_ssrc.0) (map (leg_of (length p.endpoints.items)) p.legs.items)))
 unfolding sources
 sources_differ p distinct =
-    rw (map-map (λ (e : Ssrc). e.0) ssrc_of p.endpoints.items, map-map (λ (l : LegSettings). l.out_ssrc.0) (leg_of (length p.endpoints.items)) p.legs.items)
+    rw (map-map (λ (e : Ssrc). e.0) endpoint_ssrc p.endpoints.items, map-map (λ (l : LegSettings). l.out_ssrc.0) (leg_of (length p.endpoints.items)) p.legs.items)
     (pairs_distinct (sources p) distinct)
 
 pub in_range : (p : Parts) (n : Numbers) → AreNumbersOf p n → first_fault (checks p) ≡ None
@@ -396,7 +447,8 @@ pub in_range : (p : Parts) (n : Numbers) → AreNumbersOf p n → first_fault (c
       unit_ssrc = ssrc_of p.unit_ssrc;
       cname = name_of p.cname;
       rules = rules_of p;
-      endpoints = map ssrc_of p.endpoints.items;
+      endpoints = map endpoint_ssrc p.endpoints.items;
+      cnames = map (said_name p) p.endpoints.items;
       legs = map (leg_of (length p.endpoints.items)) p.legs.items;
     })
 in_range p n is whole =
@@ -422,7 +474,9 @@ in_range p n is whole =
       least_endpoints = rw length-map endpoints.0;
       most_endpoints = rw length-map endpoints.1;
       most_legs = rw length-map legs;
-      legs = rw (length-map p.endpoints.items ssrc_of) (legs_pass p 0 p.legs.items (legs_of p whole));
+      cname_count = length-map p.endpoints.items (said_name p) ∙ sym (length-map p.endpoints.items endpoint_ssrc);
+      cnames = names_pass p 0 p.endpoints.items passes.cname (endpoints_of p whole);
+      legs = rw (length-map p.endpoints.items endpoint_ssrc) (legs_pass p 0 p.legs.items (legs_of p whole));
       pairs = pairs_differ p (legs_of p whole);
       sources = sources_differ p (sources_distinct p whole);
     }

@@ -1,5 +1,6 @@
 -- The settings that tests and benchmarks begin with.
-use Rattle.std.specs.Prelude.{◌≡◌, [], None, Some, pos, codes}
+use Rattle.std.specs.Prelude.{◌≡◌, ℤ, [], Option, None, Some, pos, codes}
+use Rattle.settings.specs.declared.parts.EndpointParts.{EndpointParts}
 use Rattle.settings.specs.declared.parts.Parts.{Parts}
 use Rattle.settings.specs.Settings.{name_of}
 
@@ -18,3 +19,7 @@ pub record AreExamples (p : Parts) : Type 0 where
   pub goodbyes : p.leg_goodbyes ≡ None
   pub endpoints : p.endpoints.items ≡ []
   pub legs : p.legs.items ≡ []
+
+-- an endpoint of which just the source was found
+abbrev pub unnamed : Option ℤ → EndpointParts
+unnamed ssrc = record { ssrc = ssrc; cname = None }

@@ -1,19 +1,29 @@
 -- The legs as they are set up.
-use Rattle.std.specs.Prelude.{◌≡◌, ◌==◌, ◌&&◌, ℕ, ◌%◌, ◌≤◌, ◌<◌, List, [], ◌∷◌, length, All, Option, None, Some, if◌then◌else◌}
+use Rattle.std.specs.Prelude.{◌==◌, ◌&&◌, ℕ, ◌%◌, ◌≤◌, List, [], ◌∷◌, length, All, Option, None, Some, slice_index_or, if◌then◌else◌}
 use Rattle.std.specs.List.{enumerate_from}
 use Rattle.tmmbr_tuple.specs.declared.ssrc.Ssrc.{Ssrc}
 use Rattle.settings.specs.declared.settings.LegSettings.{LegSettings}
 use Rattle.settings.specs.declared.settings.TheConstants.{MAX_ENDPOINTS, MAX_LEGS, MAX_WORKERS}
 use Rattle.settings.specs.Settings.{Configuration, IsLegAmong}
 
--- how many workers there are, the source of each endpoint, and the legs, by their numbers
+-- how many workers there are, the source of each endpoint, the name that is said of what it publishes, and the legs, by their numbers
 pub record LinkTable : Type 0 where
   pub workers : ℕ
   pub endpoints : List Ssrc
+  pub cnames : List (List ℕ)
   pub legs : List LegSettings
 
 abbrev pub table_of : Configuration → LinkTable
-table_of c = record { workers = c.workers; endpoints = c.endpoints; legs = c.legs }
+table_of c = record {
+  workers = c.workers;
+  endpoints = c.endpoints;
+  cnames = c.cnames;
+  legs = c.legs;
+}
+
+-- the canonical name that is said of what an endpoint publishes; empty where there is no such endpoint
+abbrev pub cname_of : LinkTable → ℕ → List ℕ
+cname_of t endpoint = slice_index_or t.cnames endpoint []
 
 -- what always holds of a table
 pub record IsLinkTable (t : LinkTable) : Type 0 where

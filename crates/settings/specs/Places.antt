@@ -1,5 +1,5 @@
 -- The tables by which links are found.
-use Rattle.std.specs.Prelude.{◌≡◌, ℕ, ◌≤◌, nat_eq, List, [], length, Option, Some, slice_get}
+use Rattle.std.specs.Prelude.{◌≡◌, ℕ, nat_eq, List, length, Some, slice_get}
 use Rattle.std.specs.Global.{Vec}
 use Rattle.std.specs.List.{enumerate_from}
 use Rattle.std.specs.HashMap.{HashMap, get}

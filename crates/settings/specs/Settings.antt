@@ -5,6 +5,7 @@ use Rattle.std.specs.List.{list_all, list_any, enumerate_from}
 use Rattle.rtcp_compound.specs.declared.writer.TheConstants.{CNAME_LIMIT}
 use Rattle.tmmbr_tuple.specs.declared.ssrc.Ssrc.{Ssrc}
 use Rattle.settings.specs.declared.parts.Parts.{Parts}
+use Rattle.settings.specs.declared.parts.EndpointParts.{EndpointParts}
 use Rattle.settings.specs.declared.parts.LegParts.{LegParts}
 use Rattle.settings.specs.declared.rules.LegRules.{LegRules}
 use Rattle.settings.specs.declared.settings.LegSettings.{LegSettings}
@@ -49,9 +50,15 @@ abbrev pub name_of : Option (String Global) → List ℕ
 name_of None = []
 name_of (Some text) = string_bytes text
 
+-- 1 to 255 bytes of ASCII (RFC 3550, section 6.5.1)
 abbrev pub is_cname : List ℕ → Bool
 is_cname bytes = nat_le 1 (length bytes) && nat_le (length bytes) CNAME_LIMIT
     && list_all (λ b. nat_lt b 128) bytes
+
+-- an endpoint may have no name of its own
+abbrev pub is_cname_or_none : Option (String Global) → Bool
+is_cname_or_none None = true
+is_cname_or_none (Some text) = is_cname (string_bytes text)
 
 -- the keys of the table, by their names
 unfoldable pub top_checks : Parts → List Check
@@ -70,8 +77,12 @@ top_checks p =
     ∷ check (is_some (number_within p.workers 1 MAX_WORKERS)) (Top key.Workers)
     ∷ []
 
-abbrev pub endpoint_checks : ℕ × Option ℤ → List Check
-endpoint_checks e = check (is_some (number_below e.1 SSRCS)) (Endpoint e.0 key.Ssrc) ∷ []
+-- the keys of an endpoint, by their names
+abbrev pub endpoint_checks : ℕ × EndpointParts → List Check
+endpoint_checks (k, e) =
+    check (is_cname_or_none e.cname) (Endpoint k key.Cname)
+    ∷ check (is_some (number_below e.ssrc SSRCS)) (Endpoint k key.Ssrc)
+    ∷ []
 
 -- an earlier leg has this subscriber and this publisher
 abbrev pub has_pair : List LegParts → ℕ → Option ℕ → Option ℕ → Bool
@@ -105,7 +116,7 @@ number_or_zero value limit = unwrap_or (number_below value limit) 0
 unfoldable pub sources : Parts → List ℕ
 sources p =
     number_or_zero p.unit_ssrc SSRCS
-    ∷ (map (λ e. number_or_zero e SSRCS) p.endpoints.items
+    ∷ (map (λ e. number_or_zero e.ssrc SSRCS) p.endpoints.items
     ++ map (λ l. number_or_zero l.out_ssrc SSRCS) p.legs.items)
 
 abbrev pub are_distinct : List ℕ → Bool
@@ -138,10 +149,23 @@ pub record Configuration : Type 0 where
   pub cname : List ℕ
   pub rules : LegRules
   pub endpoints : List Ssrc
+  pub cnames : List (List ℕ)
   pub legs : List LegSettings
 
 abbrev pub ssrc_of : Option ℤ → Ssrc
 ssrc_of value = record { 0 = number_or_zero value SSRCS }
+
+abbrev pub endpoint_ssrc : EndpointParts → Ssrc
+endpoint_ssrc e = ssrc_of e.ssrc
+
+abbrev pub own_name_or : List ℕ → Option (String Global) → List ℕ
+own_name_or unit None = unit
+own_name_or unit (Some own) = string_bytes own
+
+-- The canonical name that is said of what an endpoint publishes: its own, or else the unit's. One name says one participant, whose
+-- clock is one (RFC 3550, section 6.5.1).
+abbrev pub said_name : Parts → EndpointParts → List ℕ
+said_name p e = own_name_or (name_of p.cname) e.cname
 
 abbrev pub leg_of : ℕ → LegParts → LegSettings
 leg_of endpoints l = record {
@@ -172,7 +196,8 @@ configuration_of p = record {
   unit_ssrc = ssrc_of p.unit_ssrc;
   cname = name_of p.cname;
   rules = rules_of p;
-  endpoints = map ssrc_of p.endpoints.items;
+  endpoints = map endpoint_ssrc p.endpoints.items;
+  cnames = map (said_name p) p.endpoints.items;
   legs = map (leg_of (length p.endpoints.items)) p.legs.items;
 }
 
@@ -208,6 +233,8 @@ pub record IsInRange (s : Configuration) : Type 0 where
   pub most_cname : length s.cname ≤ CNAME_LIMIT
   pub least_endpoints : 1 ≤ length s.endpoints
   pub most_endpoints : length s.endpoints ≤ MAX_ENDPOINTS
+  pub cname_count : length s.cnames ≡ length s.endpoints
+  pub cnames : All (λ n. is_cname n ≡ true) s.cnames
   pub most_legs : length s.legs ≤ MAX_LEGS
   pub legs : All (IsLegAmong (length s.endpoints)) s.legs
   pub pairs : AllPairs HasOtherEnds s.legs

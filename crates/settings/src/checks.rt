@@ -2,10 +2,10 @@
 
 ghost use Rattle.std.specs.Prelude.{◌≡◌, ◌+◌, ◌<◌, ◌≤◌, ◌^◌, length, drop, flat_map, MatchResult, IfSome, Some, None, nat_lt, true, false, not, ◌==◌, slice_index, slice_index_or};
 ghost use Rattle.std.specs.List.{list_all, list_any, enumerate_from};
-ghost use Rattle.settings.specs.Settings.{number_within, number_below, or_zero, is_same, name_of, is_cname, top_checks, endpoint_checks, leg_checks, has_pair, sources, number_or_zero, are_distinct, first_fault, AreNumbersOf, checks};
+ghost use Rattle.settings.specs.Settings.{number_within, number_below, or_zero, is_same, name_of, is_cname, is_cname_or_none, top_checks, endpoint_checks, leg_checks, has_pair, sources, number_or_zero, are_distinct, first_fault, AreNumbersOf, checks};
 
 use crate::fault::{Key, SettingsFault};
-use crate::parts::{LegParts, Parts};
+use crate::parts::{EndpointParts, LegParts, Parts};
 use crate::settings::{
     LEAST_HISTORY, MAX_ENDPOINTS, MAX_HISTORY, MAX_LEGS, MAX_PERIOD_MS, MAX_RING, MAX_WORKERS,
     SSRCS,
@@ -78,16 +78,30 @@ fn are_ascii(bytes: &[u8]) -> bool
     bytes.iter().all(|b| *b < 128)
 }
 
+/// Whether these bytes are a canonical name.
+fn is_cname(bytes: &[u8]) -> bool
+    ensures { result ≡ is_cname bytes.now }
+{
+    1 <= bytes.len() && bytes.len() <= CNAME_LIMIT && are_ascii(bytes)
+}
+
 /// Whether this is a canonical name.
 fn is_name(cname: &Option<String>) -> bool
     ensures { result ≡ is_cname (name_of cname.now) }
 {
     match cname {
-        Some(text) => {
-            let bytes = text.as_bytes();
-            1 <= bytes.len() && bytes.len() <= CNAME_LIMIT && are_ascii(bytes)
-        }
+        Some(text) => is_cname(text.as_bytes()),
         None => false,
+    }
+}
+
+/// Whether this is a canonical name, or there is none.
+fn is_name_or_none(cname: &Option<String>) -> bool
+    ensures { result ≡ is_cname_or_none cname.now }
+{
+    match cname {
+        Some(text) => is_cname(text.as_bytes()),
+        None => true,
     }
 }
 
@@ -154,6 +168,18 @@ fn is_taken(
     })
 }
 
+/// The first fault of the endpoint with this number.
+fn check_endpoint(k: usize, endpoint: &EndpointParts) -> Result<(), SettingsFault>
+    ensures { MatchResult result
+        (λ _. first_fault (endpoint_checks (k, endpoint.now)) ≡ None)
+        (λ f. first_fault (endpoint_checks (k, endpoint.now)) ≡ Some f) }
+{
+    let is_named = is_name_or_none(&endpoint.cname);
+    require(is_named, SettingsFault::Endpoint(k, Key::Cname))?;
+    let ssrc = number_under(endpoint.ssrc, SSRCS);
+    require(ssrc.is_some(), SettingsFault::Endpoint(k, Key::Ssrc))
+}
+
 /// The first fault of the endpoints.
 fn check_endpoints(parts: &Parts) -> Result<(), SettingsFault>
     ensures { MatchResult result
@@ -162,10 +188,8 @@ fn check_endpoints(parts: &Parts) -> Result<(), SettingsFault>
         (λ f. first_fault
         (flat_map endpoint_checks (enumerate_from 0 parts.now.endpoints.items)) ≡ Some f) }
 {
-    for (k, ssrc) in parts.endpoints.iter().enumerate() {
-        if number_under(*ssrc, SSRCS).is_none() {
-            return Err(SettingsFault::Endpoint(k, Key::Ssrc));
-        }
+    for (k, endpoint) in parts.endpoints.iter().enumerate() {
+        check_endpoint(k, endpoint)?;
     }
     Ok(())
 }
@@ -228,7 +252,7 @@ fn source_at(parts: &Parts, place: usize) -> u64
     let place = place - 1;
     let endpoints = parts.endpoints.len();
     if place < endpoints {
-        return number_or_none(parts.endpoints[place], SSRCS);
+        return number_or_none(parts.endpoints[place].ssrc, SSRCS);
     }
     number_or_none(parts.legs[place - endpoints].out_ssrc, SSRCS)
 }

@@ -5,14 +5,16 @@
 #![tactic(auto)]
 
 mod checks;
+mod cname;
 mod fault;
 mod links;
 mod parts;
 mod rules;
 mod settings;
 
+pub use cname::Cname;
 pub use fault::{Key, RoomFault, SettingsFault};
 pub use links::Links;
-pub use parts::{LegParts, Parts};
+pub use parts::{EndpointParts, LegParts, Parts};
 pub use rules::LegRules;
 pub use settings::{LegSettings, MAX_ENDPOINTS, MAX_LEGS, Settings};

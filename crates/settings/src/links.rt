@@ -6,17 +6,22 @@ ghost use Rattle.std.specs.List.{enumerate_from};
 ghost use Rattle.settings.specs.Links.{leg_numbers_of, first_to};
 ghost use Rattle.settings.specs.Places.{ListsLegs, FindsLegs};
 
+use crate::cname::Cname;
 use crate::settings::{LegSettings, MAX_LEGS, Settings};
+use rtcp_compound::CNAME_LIMIT;
 use std::alloc::{AllocError, Global};
 use std::collections::HashMap;
 use std::marker::Model;
 use tmmbr_tuple::Ssrc;
 
-/// How many workers, endpoints and legs there are, and what each leg joins. No look-up passes over all legs.
+/// How many workers, endpoints and legs there are, what is said of each endpoint, and what each leg joins. No look-up passes over
+/// all legs.
 #[derive(Debug, Drop)]
 pub struct Links {
     workers: u16,
     endpoints: Vec<Ssrc>,
+    /// The canonical name that is said of what each endpoint publishes.
+    cnames: Vec<Cname>,
     legs: Vec<LegSettings>,
     /// Of each endpoint, the numbers of the legs that it publishes, rising.
     published: Vec<Vec<u16>>,
@@ -31,13 +36,18 @@ impl Model for Links {
 
     ghost Value = { LinkTable };
 
-    ghost view = { λ l.
-        record { workers = l.workers; endpoints = l.endpoints.items; legs = l.legs.items } };
+    ghost view = { λ l. record {
+      workers = l.workers;
+      endpoints = l.endpoints.items;
+      cnames = l.cnames.items;
+      legs = l.legs.items;
+    } };
 
     ghost invariant = { λ l.
         IsLinkTable (record {
           workers = l.workers;
           endpoints = l.endpoints.items;
+          cnames = l.cnames.items;
           legs = l.legs.items;
         })
         × ListsLegs l.published.items (length l.endpoints.items) l.legs.items
@@ -117,9 +127,20 @@ fn sent(
     Ok(maps)
 }
 
+/// A copy of these names.
+fn copied_names(alloc: Global, names: &[Cname]) -> Result<Vec<Cname>, AllocError>
+    ensures { IfOk result (λ copies. copies.items ≡ names.now) }
+{
+    let mut copies = Vec::with_capacity(alloc, names.len())?;
+    for name in names {
+        copies.push(Cname::new(alloc, name.as_str())?)?;
+    }
+    Ok(copies)
+}
+
 impl Links {
     ghost use Rattle.std.specs.Prelude.{◌<◌, option_copied, slice_get};
-    ghost use Rattle.settings.specs.Links.{IsLinkTable, table_of, legs_of, leg_to, worker_of};
+    ghost use Rattle.settings.specs.Links.{IsLinkTable, table_of, cname_of, legs_of, leg_to, worker_of};
 
     /// The links of these settings.
     pub fn new(alloc: Global, settings: &Settings) -> Result<Links, AllocError>
@@ -129,6 +150,7 @@ impl Links {
         Ok(Links {
             workers: settings.workers() as u16,
             endpoints: endpoints.to_vec(alloc)?,
+            cnames: copied_names(alloc, settings.cnames())?,
             legs: legs.to_vec(alloc)?,
             published: published(alloc, legs, endpoints.len())?,
             sent: sent(alloc, legs, endpoints.len())?,
@@ -156,6 +178,17 @@ impl Links {
         ensures { result ≡ slice_get self.now.endpoints endpoint }
     {
         self.endpoints.get(usize::from(endpoint)).copied()
+    }
+
+    /// The canonical name that is said of what an endpoint publishes; an empty one where there is no such endpoint.
+    pub fn cname_of(&self, endpoint: u16) -> &str
+        ensures value { result.now ≡ cname_of self.now endpoint }
+        ensures limit { length result.now ≤ CNAME_LIMIT }
+    {
+        match self.cnames.get(usize::from(endpoint)) {
+            Some(cname) => cname.as_str(),
+            None => "",
+        }
     }
 
     /// The legs, by their numbers.

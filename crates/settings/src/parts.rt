@@ -21,14 +21,15 @@ pub struct Parts {
     pub pli_gap_ms: Option<i64>,
     /// The unit's own source, 32 bits.
     pub unit_ssrc: Option<i64>,
-    /// The unit's canonical name (RFC 3550, section 6.5.1), 1 to 255 bytes of ASCII.
+    /// The unit's canonical name (RFC 3550, section 6.5.1), 1 to 255 bytes of ASCII. It is also said of what an endpoint without a
+    /// name of its own publishes.
     pub cname: Option<String>,
     /// Whether a leg that begins asks for a picture at once; false where absent.
     pub early_pictures: Option<bool>,
     /// Whether a leg's subscriber is told when its publisher is gone; false where absent.
     pub leg_goodbyes: Option<bool>,
-    /// The source of each endpoint, 32 bits.
-    pub endpoints: Vec<Option<i64>>,
+    /// The endpoints.
+    pub endpoints: Vec<EndpointParts>,
     /// The legs.
     pub legs: Vec<LegParts>,
 }
@@ -57,6 +58,35 @@ impl Parts {
             endpoints: Vec::new(alloc),
             legs: Vec::new(alloc),
         })
+    }
+}
+
+/// What was found of an endpoint's settings.
+#[derive(Debug, Drop)]
+pub struct EndpointParts {
+    /// Its source, 32 bits.
+    pub ssrc: Option<i64>,
+    /// The canonical name of whoever publishes it (RFC 3550, section 6.5.1), 1 to 255 bytes of ASCII; the unit's, where absent.
+    /// Endpoints of one participant have one name: their clock is one.
+    pub cname: Option<String>,
+}
+
+impl EndpointParts {
+    ghost use Rattle.std.specs.Prelude.{◌≡◌, IfOk, map};
+    ghost use Rattle.settings.specs.Example.{unnamed};
+
+    /// Endpoints of which just these sources were found.
+    pub fn unnamed(alloc: Global, sources: &[Option<i64>]) -> Result<Vec<EndpointParts>, AllocError>
+        ensures { IfOk result (λ endpoints. endpoints.items ≡ map unnamed sources.now) }
+    {
+        let mut endpoints = Vec::with_capacity(alloc, sources.len())?;
+        for ssrc in sources {
+            endpoints.push(EndpointParts {
+                ssrc: *ssrc,
+                cname: None,
+            })?;
+        }
+        Ok(endpoints)
     }
 }
 

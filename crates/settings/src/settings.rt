@@ -1,12 +1,14 @@
 //! The settings of a room, each number in its range.
 
-ghost use Rattle.std.specs.Prelude.{◌≡◌, ◌≤◌, length, map, IfOk, OnErr, None, Err, string_bytes};
-ghost use Rattle.settings.specs.Settings.{name_of, first_fault, rules_of, ssrc_of, leg_of, configuration_of, AreNumbersOf, checks};
+ghost use Rattle.std.specs.Prelude.{◌≡◌, ◌≤◌, length, map, All, IfOk, OnErr, None, Err, string_bytes};
+ghost use Rattle.settings.specs.Settings.{name_of, first_fault, rules_of, ssrc_of, endpoint_ssrc, said_name, leg_of, configuration_of, AreNumbersOf, checks};
 
 use crate::checks::{Numbers, checked, number_or_none};
+use crate::cname::Cname;
 use crate::fault::SettingsFault;
-use crate::parts::{LegParts, Parts};
+use crate::parts::{EndpointParts, LegParts, Parts};
 use crate::rules::LegRules;
+use rtcp_compound::CNAME_LIMIT;
 use rtp_packet::SEQ_CYCLE;
 use std::alloc::{AllocError, Global};
 use std::marker::Model;
@@ -59,6 +61,7 @@ pub struct Settings {
     cname: String,
     rules: LegRules,
     endpoints: Vec<Ssrc>,
+    cnames: Vec<Cname>,
     legs: Vec<LegSettings>,
 }
 
@@ -80,6 +83,7 @@ impl Model for Settings {
       cname = string_bytes s.cname;
       rules = s.rules;
       endpoints = s.endpoints.items;
+      cnames = s.cnames.items;
       legs = s.legs.items;
     } };
 
@@ -95,6 +99,7 @@ impl Model for Settings {
       cname = string_bytes s.cname;
       rules = s.rules;
       endpoints = s.endpoints.items;
+      cnames = s.cnames.items;
       legs = s.legs.items;
     }) };
 }
@@ -143,10 +148,38 @@ fn copied_name(alloc: Global, cname: &Option<String>) -> Result<String, AllocErr
 
 /// The sources of the endpoints.
 fn copied_endpoints(alloc: Global, parts: &Parts) -> Result<Vec<Ssrc>, AllocError>
-    ensures { IfOk result (λ v. v.items ≡ map ssrc_of parts.now.endpoints.items) }
+    ensures { IfOk result (λ v. v.items ≡ map endpoint_ssrc parts.now.endpoints.items) }
 {
     let endpoints = &parts.endpoints;
-    endpoints.iter().map(|ssrc| source_of(*ssrc)).collect(alloc)
+    endpoints
+        .iter()
+        .map(|endpoint| source_of(endpoint.ssrc))
+        .collect(alloc)
+}
+
+/// The name that is said of what an endpoint publishes.
+fn said_name<'a>(parts: &'a Parts, endpoint: &'a EndpointParts) -> &'a str
+    ensures { result.now ≡ said_name parts.now endpoint.now }
+{
+    match &endpoint.cname {
+        Some(own) => own.as_str(),
+        None => match &parts.cname {
+            Some(unit) => unit.as_str(),
+            None => "",
+        },
+    }
+}
+
+/// The names that are said of what the endpoints publish.
+fn copied_cnames(alloc: Global, parts: &Parts) -> Result<Vec<Cname>, AllocError>
+    requires { All (λ e. length (said_name parts.now e) ≤ CNAME_LIMIT) parts.now.endpoints.items }
+    ensures { IfOk result (λ v. v.items ≡ map (said_name parts.now) parts.now.endpoints.items) }
+{
+    let mut cnames = Vec::with_capacity(alloc, parts.endpoints.len())?;
+    for endpoint in &parts.endpoints {
+        cnames.push(Cname::new(alloc, said_name(parts, endpoint))?)?;
+    }
+    Ok(cnames)
 }
 
 /// The legs.
@@ -172,6 +205,7 @@ fn copied(alloc: Global, parts: &Parts, numbers: Numbers) -> Result<Settings, Al
 {
     let cname = copied_name(alloc, &parts.cname)?;
     let endpoints = copied_endpoints(alloc, parts)?;
+    let cnames = copied_cnames(alloc, parts)?;
     let legs = copied_legs(alloc, parts)?;
     Ok(Settings {
         numbers,
@@ -179,6 +213,7 @@ fn copied(alloc: Global, parts: &Parts, numbers: Numbers) -> Result<Settings, Al
         cname,
         rules: rules_in(parts),
         endpoints,
+        cnames,
         legs,
     })
 }
@@ -290,6 +325,14 @@ impl Settings {
         ensures range { IsInRange self.now }
     {
         self.endpoints.as_slice()
+    }
+
+    /// The canonical name that is said of what each endpoint publishes, by its number: its own, or else the unit's.
+    pub fn cnames(&self) -> &[Cname]
+        ensures value { result.now ≡ self.now.cnames }
+        ensures range { IsInRange self.now }
+    {
+        self.cnames.as_slice()
     }
 
     /// The legs, by their numbers.

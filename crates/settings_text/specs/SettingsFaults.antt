@@ -102,7 +102,8 @@ takes_top key value =
 
 abbrev pub takes_endpoint : List ℕ → Data → Bool
 takes_endpoint key value =
-    if bytes_eq key (codes "address") || bytes_eq key (codes "learn_from")
+    if bytes_eq key (codes "address") || bytes_eq key (codes "cname")
+    || bytes_eq key (codes "learn_from")
     then is_some (as_str value)
     else if bytes_eq key (codes "fmtp") || bytes_eq key (codes "rtpmap") then has_texts value
     else if bytes_eq key (codes "receive_only") then is_some (as_bool value)

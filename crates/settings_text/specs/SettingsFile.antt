@@ -2,6 +2,7 @@
 use Rattle.std.specs.Prelude.{◌≡◌, ℕ, ℤ, Bool, false, List, [], ◌∷◌, map, Option, None, Some, option_map, option_and_then, unwrap_or, codes, string_bytes, String}
 use Rattle.std.specs.Global.{Global}
 use Rattle.toml.specs.Data.{Data, Items, Members, array, as_bool, as_integer, as_str, get, get_member, item, no_items}
+use Rattle.settings.specs.declared.parts.EndpointParts.{EndpointParts}
 use Rattle.settings.specs.declared.parts.LegParts.{LegParts}
 use Rattle.settings.specs.declared.parts.Parts.{Parts}
 use Rattle.settings.specs.Settings.{checks, configuration_of, first_fault}
@@ -27,9 +28,6 @@ list_of (item d ds) = d ∷ list_of ds
 abbrev pub items_in : Option Data → List Data
 items_in (Some (array ds)) = list_of ds
 items_in value = []
-
-abbrev pub source_in : Data → Option ℤ
-source_in endpoint = integer_in (get (codes "ssrc") endpoint)
 
 -- the text that an item is; nothing where it is none
 abbrev pub text_of : Data → List ℕ
@@ -74,6 +72,20 @@ leg_in leg = record {
 abbrev pub text_bytes : Option (String Global) → Option (List ℕ)
 text_bytes text = option_map string_bytes text
 
+-- what an endpoint's table says of the room's settings: its source, and the name of who publishes it
+pub record EndpointSays : Type 0 where
+  pub ssrc : Option ℤ
+  pub cname : Option (List ℕ)
+
+abbrev pub endpoint_in : Data → EndpointSays
+endpoint_in endpoint = record {
+  ssrc = integer_in (get (codes "ssrc") endpoint);
+  cname = text_in (get (codes "cname") endpoint);
+}
+
+abbrev pub endpoint_says : EndpointParts → EndpointSays
+endpoint_says parts = record { ssrc = parts.ssrc; cname = text_bytes parts.cname }
+
 abbrev pub client_says : ClientText → ClientSays
 client_says client = record {
   address = text_bytes client.address;
@@ -97,7 +109,8 @@ pub record ArePartsOf (t : Members) (p : Parts) : Type 0 where
   pub cname : text_bytes p.cname ≡ text_in (get_member (codes "cname") t)
   pub early_pictures : p.early_pictures ≡ bool_in (get_member (codes "early_pictures") t)
   pub leg_goodbyes : p.leg_goodbyes ≡ bool_in (get_member (codes "leg_goodbyes") t)
-  pub endpoints : p.endpoints.items ≡ map source_in (items_in (get_member (codes "endpoint") t))
+  pub endpoints : map endpoint_says p.endpoints.items
+      ≡ map endpoint_in (items_in (get_member (codes "endpoint") t))
   pub legs : p.legs.items ≡ map leg_in (items_in (get_member (codes "leg") t))
 
 -- The table's parts pass every check, and these are their settings; what is said of addresses is as the table spells it.

@@ -3,11 +3,11 @@
 ghost use Rattle.std.specs.Prelude.{◌≡◌, ◌⊎◌, IfOk, Some, codes, map, option_map, string_bytes};
 ghost use Rattle.toml.specs.Data.{get_member};
 ghost use Rattle.toml.specs.View.{table_view, view};
-ghost use Rattle.settings_text.specs.SettingsFile.{ArePartsOf, bool_in, client_in, client_says, integer_in, items_in, leg_in, source_in, text_bytes, text_in, text_of, texts_in, texts_of};
+ghost use Rattle.settings_text.specs.SettingsFile.{ArePartsOf, bool_in, client_in, client_says, endpoint_in, endpoint_says, integer_in, items_in, leg_in, text_bytes, text_in, text_of, texts_in, texts_of};
 ghost use Rattle.settings_text.specs.SettingsFaults.{TableGives, TextGives, earlier, fault_spot, problem_spot, spot_of};
 
 use crate::settings_keys::{Place, first_misfit, items_at, items_in};
-use settings::{LegParts, Parts, Settings, SettingsFault};
+use settings::{EndpointParts, LegParts, Parts, Settings, SettingsFault};
 use std::alloc::{AllocError, Global};
 use toml::{Table, Value};
 
@@ -192,26 +192,31 @@ fn parts_of(alloc: Global, table: &Table) -> Result<Parts, AllocError>
         cname: text_in(alloc, value_at(table, "cname"))?,
         early_pictures: bool_at(table, "early_pictures"),
         leg_goodbyes: bool_at(table, "leg_goodbyes"),
-        endpoints: sources_of(alloc, items_at(table, "endpoint"))?,
+        endpoints: endpoints_of(alloc, items_at(table, "endpoint"))?,
         legs: legs_of(alloc, items_at(table, "leg"))?,
     })
 }
 
-/// The source of each endpoint.
-fn sources_of(alloc: Global, endpoints: &[Value]) -> Result<Vec<Option<i64>>, AllocError>
-    ensures { IfOk result (λ v. v.items ≡ map (λ x. source_in (view x)) endpoints.now) }
+/// The parts of each endpoint.
+fn endpoints_of(alloc: Global, endpoints: &[Value]) -> Result<Vec<EndpointParts>, AllocError>
+    ensures { IfOk result
+        (λ v. map endpoint_says v.items ≡ map (λ x. endpoint_in (view x)) endpoints.now) }
 {
-    let mut sources = Vec::new(alloc);
+    let mut parts = Vec::new(alloc);
     for endpoint in endpoints {
-        sources.push(source_in(endpoint))?;
+        parts.push(endpoint_in(alloc, endpoint)?)?;
     }
-    Ok(sources)
+    Ok(parts)
 }
 
-fn source_in(endpoint: &Value) -> Option<i64>
-    ensures { result ≡ source_in (view endpoint.now) }
+/// What an endpoint's table says of the room's settings.
+fn endpoint_in(alloc: Global, endpoint: &Value) -> Result<EndpointParts, AllocError>
+    ensures { IfOk result (λ e. endpoint_says e ≡ endpoint_in (view endpoint.now)) }
 {
-    integer_in(endpoint.get("ssrc"))
+    Ok(EndpointParts {
+        ssrc: integer_in(endpoint.get("ssrc")),
+        cname: text_in(alloc, endpoint.get("cname"))?,
+    })
 }
 
 /// The parts of each leg.

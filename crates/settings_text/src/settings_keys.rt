@@ -180,7 +180,7 @@ fn takes_endpoint(key: &str, value: &Value) -> bool
     ensures { result ≡ takes_endpoint key.now (view value.now) }
 {
     match key {
-        "address" | "learn_from" => value.is_str(),
+        "address" | "cname" | "learn_from" => value.is_str(),
         "fmtp" | "rtpmap" => has_texts(value),
         "receive_only" => value.is_bool(),
         "rtcp_address" => value.is_str(),

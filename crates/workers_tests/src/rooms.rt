@@ -2,7 +2,7 @@
 
 use events::{Bytes, Job};
 use members::Order;
-use settings::{LegParts, Parts, Settings};
+use settings::{EndpointParts, LegParts, Parts, Settings};
 use std::alloc::{AllocError, Global};
 use workers::*;
 
@@ -29,7 +29,7 @@ fn settings_of(
 ) -> Option<Settings> {
     let mut parts = Parts::example(alloc).ok()?;
     parts.workers = Some(workers);
-    parts.endpoints = endpoints.to_vec(alloc).ok()?;
+    parts.endpoints = EndpointParts::unnamed(alloc, endpoints).ok()?;
     parts.legs = legs.to_vec(alloc).ok()?;
     Settings::new(alloc, &parts).ok()
 }

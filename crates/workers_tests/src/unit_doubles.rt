@@ -3,7 +3,7 @@
 ghost use Rattle.std.specs.Prelude.{◌≡◌, ◌<◌, vec_len, IfOk};
 
 use crate::doubles::MemorySink;
-use settings::{LegParts, Parts, Settings};
+use settings::{EndpointParts, LegParts, Parts, Settings};
 use std::alloc::{AllocError, Global};
 use std::sync::atomic::{AtomicBool, AtomicU64, Ordering};
 use std::test::Fail;
@@ -74,7 +74,7 @@ pub(super) fn settings_with(
     parts.report_ms = Some(times.report);
     parts.request_ms = Some(times.request);
     parts.pli_gap_ms = Some(times.gap);
-    parts.endpoints = sources;
+    parts.endpoints = EndpointParts::unnamed(alloc, sources.as_slice())?;
     parts.legs = legs;
     Ok(Settings::new(alloc, &parts)?)
 }

@@ -1,8 +1,7 @@
-use Rattle.std.proofs.Common.{◌≡◌, List, ◌++◌, ℕ, ap, refl, sym, ◌∙◌}
+use Rattle.std.proofs.Common.{◌≡◌, List, ap, refl, sym, ◌∙◌}
 use Rattle.events.specs.declared.job.Job.{Job}
 use Rattle.legs.specs.declared.leg.LegState.{LegState}
 use Rattle.events.specs.declared.output.Out.{Out}
-use Rattle.legs.specs.Legs.{job_datagrams}
 use Rattle.core_steps.specs.Machine.{setup_of, worker_state, hand_in}
 use Rattle.notices.specs.Notification.{pending_with}
 use Rattle.core_steps.specs.World.{Hand, free, WorkerState}
@@ -34,8 +33,7 @@ returns-in_ok-forward-in-Legs-clause-ok c =
     forwarding-turns (setup_of c.args.setup.now) c.args.rows.now c.args.desks.now (worker_state c.args.w.now) _ c.args.outs.now.items
     c.forward.new.outs.items c.in-Doing.job (ap (hand_in c.args.w.now.effect) c.in-Doing.is) c.in-Legs.ensures.value
     (ap (with_legs (worker_state c.args.w.now)) c.in_ok-forward-in-Legs.ensures.legs)
-    (c.in_ok-forward-in-Legs.ensures.outs
-    ∙ ap (λ (cname : List ℕ). c.args.outs.now.items ++ job_datagrams cname c.args.rows.now c.args.w.now.legs c.in-Doing.job) c.cname-cname.ensures.value)
+    c.in_ok-forward-in-Legs.ensures.outs
 
 pub returns-in-Some-clause-ok : goal.returns-in-Some-clause-ok
 returns-in-Some-clause-ok c =

@@ -4,4 +4,4 @@ use Rattle.sdp.specs.Session.{stream_text}
 use Rattle.sdp.proofs.session.push_streams.Given as goal
 
 abbrev pub invariant-loop-stream : goal.invariant-loop-stream
-invariant-loop-stream l = string_bytes l.text ≡ string_bytes l.fn.text ++ flat_map (stream_text l.cname) (take l.stream-index l.streams)
+invariant-loop-stream l = string_bytes l.text ≡ string_bytes l.fn.text ++ flat_map stream_text (take l.stream-index l.streams)

@@ -1,4 +1,4 @@
-use Rattle.settings.proofs.SettingsLemmas.{in_range, endpoint_bounds, top_of}
+use Rattle.settings.proofs.SettingsLemmas.{in_range, endpoint_bounds, names_fit, top_of}
 use Rattle.settings.proofs.settings.copied.Goals as goal
 
 pub copied_legs-requires-clause-least : goal.copied_legs-requires-clause-least
@@ -7,7 +7,10 @@ copied_legs-requires-clause-least c = (endpoint_bounds c.args.parts.now (top_of 
 pub copied_legs-requires-clause-most : goal.copied_legs-requires-clause-most
 copied_legs-requires-clause-most c = (endpoint_bounds c.args.parts.now (top_of c.args.parts.now c.requires.passes)).1
 
+pub copied_cnames-requires : goal.copied_cnames-requires
+copied_cnames-requires c = names_fit c.args.parts.now c.requires.passes
+
 pub invariant_of-result : goal.invariant_of-result
 invariant_of-result c =
-    rw (c.in_ok-cname.ensures, c.in_ok-endpoints.ensures, c.in_ok-legs.ensures, c.source_of.ensures, c.rules_in.ensures)
+    rw (c.in_ok-cname.ensures, c.in_ok-endpoints.ensures, c.in_ok-cnames.ensures, c.in_ok-legs.ensures, c.source_of.ensures, c.rules_in.ensures)
     (in_range c.args.parts.now c.args.numbers c.requires.numbers c.requires.passes)

@@ -5,11 +5,11 @@ use Rattle.legs.proofs.legs.Legs.plan_left.Goals as goal
 
 pub returns-in_default : goal.returns-in_default
 returns-in_default c = λ rows.
-    unplanned _ _ (nowhere_goodbye c.args.cname.now rows c.args.leg c.args.self.now c.in_default.ensures)
+    unplanned _ _ (nowhere_goodbye rows c.args.leg c.args.self.now c.in_default.ensures)
 
 pub returns : goal.returns
 returns c = λ rows.
     pushed c.push.result c.push.new.self c.args.plan.now c.args.plan.now _ c.in_ok-planned.planned refl
     (ap (λ (p : Planned). p ∷ []) c.in_ok-planned.ensures
-    ∙ sym (numbered_goodbye c.args.cname.now rows c.args.leg c.args.self.now c.in-Some.leg.now c.in-Some.ensures))
+    ∙ sym (numbered_goodbye rows c.args.leg c.args.self.now c.in-Some.leg.now c.in-Some.ensures))
     c.push.ensures.ok

@@ -12,17 +12,17 @@ use Rattle.legs.proofs.RtpLemmas.{faulty, reads_rtp}
 use Rattle.legs.proofs.legs.Legs.plan_packets.Goals as goal
 
 pub returns-in_default : goal.returns-in_default
-returns-in_default c = λ cname.
+returns-in_default c =
     let count = c.in_default.ensures.lookup.3 in
     let held = ap length c.deref.ensures.value in
     let same = c.from.ensures in
     let past : length c.self.inside.published.items ≤ c.args.publisher = omega arith in
-    let none = no_publisher cname c.args.rows.now c.args.publisher (length c.self.inside.published.items) c.args.bytes.now c.self.inside.legs.items
+    let none = no_publisher c.args.rows.now c.args.publisher (length c.self.inside.published.items) c.args.bytes.now c.self.inside.legs.items
     c.self.invariant.publishers past in
-    unplanned _ _ (ap (λ (l : List LegState). job_plan cname c.args.rows.now l (job.Packet c.args.publisher c.args.bytes.now)) (sym c.self.view_is) ∙ none)
+    unplanned _ _ (ap (λ (l : List LegState). job_plan c.args.rows.now l (job.Packet c.args.publisher c.args.bytes.now)) (sym c.self.view_is) ∙ none)
 
 pub returns-in-Ok : goal.returns-in-Ok
-returns-in-Ok c = λ cname.
+returns-in-Ok c =
     let rows = c.args.rows.now in
     let bytes = c.args.bytes.now in
     let legs = c.self.inside.legs.items in
@@ -38,11 +38,11 @@ returns-in-Ok c = λ cname.
     let planned = ap (λ (d : List ℕ). F d c.as_slice-legs.result.now c.as_slice-places.result.now) same
     ∙ ap (λ (l : List LegState). F bytes l c.as_slice-places.result.now) c.as_slice-legs.ensures.value
     ∙ ap (F bytes legs) c.as_slice-places.ensures.value
-    ∙ at_places cname rows c.args.publisher bytes legs places.items list (reads_rtp bytes _ c.in-Ok.ensures.read)
-    ∙ ap (λ (l : List LegState). job_plan cname rows l (job.Packet c.args.publisher bytes)) c.self.view_is in
+    ∙ at_places rows c.args.publisher bytes legs places.items list (reads_rtp bytes _ c.in-Ok.ensures.read)
+    ∙ ap (λ (l : List LegState). job_plan rows l (job.Packet c.args.publisher bytes)) c.self.view_is in
     moved c.plan_places.result c.plan_places.new.plan c.args.plan.now _ _ planned c.plan_places.ensures
 
 pub returns-in-Err : goal.returns-in-Err
-returns-in-Err c = λ cname.
-    unplanned _ _ (no_packet cname c.args.rows.now c.args.publisher c.args.bytes.now c.args.self.now
+returns-in-Err c =
+    unplanned _ _ (no_packet c.args.rows.now c.args.publisher c.args.bytes.now c.args.self.now
     (faulty c.args.bytes.now _ c.in-Err.ensures.fault))

@@ -1,4 +1,4 @@
-use Rattle.std.proofs.Common.{◌≡◌, ◌≤◌, ◌∙◌, ap, sym, length, arith}
+use Rattle.std.proofs.Common.{◌≤◌, ◌∙◌, ap, sym, length, arith}
 use Rattle.settings.specs.Links.{LinkTable, legs_of}
 use Rattle.settings.proofs.LinkLemmas.{numbers_past}
 use Rattle.settings.proofs.links.Links.of_publisher.Goals as goal

@@ -1,7 +1,0 @@
-use Rattle.std.proofs.Common.{◌≡◌, map, take}
-use Rattle.toml.specs.View.{view}
-use Rattle.settings_text.specs.SettingsFile.{source_in}
-use Rattle.settings_text.proofs.settings_file.sources_of.Given as goal
-
-abbrev pub invariant-loop-endpoint : goal.invariant-loop-endpoint
-invariant-loop-endpoint l = l.sources.items ≡ map (λ x. source_in (view x)) (take l.endpoint-index l.endpoints)
