@@ -18,6 +18,9 @@ fn wanted_top(key: &str) -> Option<&'static str> {
         "ring" => Some("whole number from 1 to 512"),
         "history" => Some("whole number from 128 to 65536"),
         "timeout_ms" | "report_ms" => Some("whole number from 1 to 86400000"),
+        "resend_gap_ms" => Some("whole number from 0 to 60000"),
+        "resend_share" => Some("whole number from 0 to 100"),
+        "flood_limit" => Some("whole number from 0 to 1000000"),
         "pli_gap_ms" | "request_ms" => Some("whole number from 0 to 86400000"),
         "unit_ssrc" => Some("whole number from 0 to 4294967295"),
         "cname" => Some("text of 1 to 255 ASCII characters, as \"sfu@192.0.2.1\""),
@@ -67,7 +70,7 @@ pub(crate) fn keys(place: Place<'_>) -> &'static str {
         }
         Place::Leg(_, _) => "first_seq, on, out_ssrc, publisher and subscriber",
         Place::Top(_) | Place::Sources => {
-            "cname, early_pictures, history, leg_goodbyes, listen, listen_rtcp, new_starts, pli_gap_ms, report_ms, request_ms, ring, strict_ssrc, timeout_ms, unit_ssrc and workers"
+            "cname, early_pictures, flood_limit, history, leg_goodbyes, listen, listen_rtcp, new_starts, pli_gap_ms, report_ms, request_ms, resend_gap_ms, resend_share, ring, strict_ssrc, timeout_ms, unit_ssrc and workers"
         }
     }
 }

@@ -46,11 +46,12 @@ pub struct Record<'a> {
     pub limit: u64,
 }
 
-/// Where a unit is steered and recorded.
+/// Where a unit is steered and recorded, and whether its lines of counts begin with the time.
 #[derive(Clone, Copy)]
 struct Paths<'a> {
     control: Option<&'a str>,
     record: Option<Record<'a>>,
+    log_time: bool,
 }
 
 /// Runs the command that the words ask for, of which the first is the program's name.
@@ -158,6 +159,7 @@ pub fn run_command<
             let paths = Paths {
                 control,
                 record: None,
+                log_time: false,
             };
             run_serve(rt, file, Term { ticks, status }, paths, writer, errors)
         }
@@ -179,6 +181,55 @@ pub fn run_recorded<
     ensures failed { result ≡ Status.Socket
         → Keeps (O.contents writer.old) (O.contents writer.new) }
 {
+    let noted = Noted {
+        record: Some(record),
+        log_time: false,
+    };
+    let refusal = b"only serve is recorded\n";
+    run_noted(rt, words, noted, refusal, writer, errors)
+}
+
+/// Runs the unit that the words ask for, of which the first is the program's name, and has each of its lines of counts begin with the time;
+/// records what it takes in, too, if there is a record. Words that ask for another command are refused.
+pub fn run_timed<
+    R: AllocGlobal + ErrorOutput + Files<File = File> + Net + Threads + Wait + Sync + time::Clock,
+    S: AsStr,
+    O: Write,
+    E: Write,
+>(rt: &R, words: &[S], record: Option<Record<'_>>, writer: &mut O, errors: &mut E) -> Status
+    ensures done { result ≡ Status.Done
+        → (c : Configuration) × PrintsReport c (O.contents writer.old) (O.contents writer.new) }
+    ensures failed { result ≡ Status.Socket
+        → Keeps (O.contents writer.old) (O.contents writer.new) }
+{
+    let noted = Noted {
+        record,
+        log_time: true,
+    };
+    let refusal = b"only serve has lines of counts\n";
+    run_noted(rt, words, noted, refusal, writer, errors)
+}
+
+/// What is written down of a unit beside what it prints.
+#[derive(Clone, Copy)]
+struct Noted<'a> {
+    record: Option<Record<'a>>,
+    log_time: bool,
+}
+
+/// Runs the unit that the words ask for, with this written down of it. Says this refusal of words that ask for another command.
+fn run_noted<
+    R: AllocGlobal + ErrorOutput + Files<File = File> + Net + Threads + Wait + Sync + time::Clock,
+    S: AsStr,
+    O: Write,
+    E: Write,
+>(rt: &R, words: &[S], noted: Noted<'_>, refusal: &[u8], writer: &mut O, errors: &mut E) -> Status
+    ensures done { result ≡ Status.Done
+        → (c : Configuration) × PrintsReport c (O.contents writer.old) (O.contents writer.new) }
+    ensures failed { result ≡ Status.Socket
+        → Keeps (O.contents writer.old) (O.contents writer.new) }
+{
+    let Noted { record, log_time } = noted;
     match read_words(rt.alloc(), words) {
         Ok(
             Action::Serve {
@@ -190,7 +241,8 @@ pub fn run_recorded<
         ) => {
             let paths = Paths {
                 control,
-                record: Some(record),
+                record,
+                log_time,
             };
             run_serve(rt, file, Term { ticks, status }, paths, writer, errors)
         }
@@ -199,7 +251,7 @@ pub fn run_recorded<
             | Action::Check { .. }
             | Action::Replay { .. }
             | Action::Draw { .. },
-        ) => say(errors, b"only serve is recorded\n", Status::CommandLine),
+        ) => say(errors, refusal, Status::CommandLine),
         Err(error) => refuse_words(rt.alloc(), errors, &error),
     }
 }
@@ -296,7 +348,7 @@ fn serve_recorded<
         × (result ≢ Status.Settings) }
     ensures said { SaysWhyServing (E.contents errors.old) (E.contents errors.new) result }
 {
-    match gauges_with(rt, file, paths.record, gauges) {
+    match gauges_with(rt, file, paths, gauges) {
         Ok(gauges) => {
             let status = serve_file(rt, &file.settings, term, &gauges, writer, errors);
             close_record(rt, gauges);
@@ -306,14 +358,15 @@ fn serve_recorded<
     }
 }
 
-/// What a run shows that is recorded, if it is to be from its start.
+/// What a run shows whose lines begin with the time, if they are to, and that is recorded, if it is to be from its start.
 fn gauges_with<R: AllocGlobal + Files<File = File> + Net + Threads + time::Clock>(
     rt: &R,
     file: &ServedFile,
-    record: Option<Record<'_>>,
+    paths: Paths<'_>,
     gauges: Gauges,
 ) -> Result<Gauges, RecordFault> {
-    match record {
+    gauges.log_time.set(paths.log_time);
+    match paths.record {
         Some(Record { path, limit }) => {
             let recorder = open_record(rt, path, limit, file.digest.as_slice())?;
             Ok(gauges.recorded(recorder))

@@ -1,6 +1,6 @@
 //! The commands of `sfu`: the words that ask for them, and what each does with which file.
 //!
-//! Read `command` first, `run_command` and `run_recorded`, which the program calls, `ask` and `ask_record`, which are `sfu ask`, `description`,
+//! Read `command` first, `run_command`, `run_recorded` and `run_timed`, which the program calls, `ask` and `ask_record`, which are `sfu ask`, `description`,
 //! `sfu sdp`, and `replaying`, `sfu replay`; `explaining` says to people what was wrong, and `version` which program this is. The words are
 //! `command_line`; what `sfu bound` reads and prints is `request_text`, what `sfu draw` prints `drawing`, `sfu check` is `checking`; `sfu
 //! replay` is `settings_text` and `scripts`, `sfu serve` is `serving`, and how a command ends is `endings`. What callers need of these is
@@ -17,7 +17,7 @@ mod version;
 
 pub use ask::run_ask;
 pub use checking::check_lines;
-pub use command::{Record, run_command, run_recorded};
+pub use command::{Record, run_command, run_recorded, run_timed};
 pub use description::run_sdp;
 pub use endings::{Failure, Status, report, report_settings, report_words};
 pub use explaining::explain;

@@ -3,3 +3,4 @@ pub mod Answers
 pub mod Inboxes
 pub mod Courses
 pub mod Asking
+pub mod Screened

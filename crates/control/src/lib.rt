@@ -11,6 +11,7 @@ mod course;
 mod inbox;
 mod peers;
 mod request;
+mod screened;
 
 pub use answer::{
     Refused, Unheard, counts_text, done_text, present_line, refused_text, stranger_line,
@@ -20,3 +21,4 @@ pub use course::{Course, course_for};
 pub use inbox::{Inbox, MAX_INBOX};
 pub use peers::{MAX_PEERS, Peers};
 pub use request::{Request, read_request};
+pub use screened::{Screened, screened_text};

@@ -1,8 +1,9 @@
 //! Requests, answers and lines, as docs/FORMATS.md has them.
 
 use control::{
-    Answered, Course, Inbox, MAX_PEERS, Peers, Refused, Request, Unheard, counts_text, course_for,
-    done_text, present_line, read_answer, read_request, refused_text, stranger_line,
+    Answered, Course, Inbox, MAX_PEERS, Peers, Refused, Request, Screened, Unheard, counts_text,
+    course_for, done_text, present_line, read_answer, read_request, refused_text, screened_text,
+    stranger_line,
 };
 use outside::{Look, Received, Status};
 use std::io::{self, ErrorKind, Read, Write};
@@ -90,6 +91,15 @@ fn answers_are_lines(rt: HostRuntime) -> Result<(), Fail> {
     assert_eq!(rt;
         counts.as_str(),
         "present 1 heard 2 sent 3 failed 4 lost 5 dropped 6 strangers 7 unread 9\n"
+    );
+    let screened = Screened {
+        far: 1,
+        held: 2,
+        flooded: 3,
+    };
+    assert_eq!(rt;
+        screened_text(alloc, &screened)?.as_str(),
+        "far 1 held 2 flooded 3\n"
     );
     let address = "127.0.0.1:5004".parse().or(Err("address"))?;
     let line = stranger_line(alloc, address, 12, 340)?;

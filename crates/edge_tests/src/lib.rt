@@ -10,6 +10,8 @@ mod page_tests;
 #[cfg(test)]
 mod recording_tests;
 #[cfg(test)]
+mod resend_tests;
+#[cfg(test)]
 mod screening_tests;
 #[cfg(test)]
 mod sdp_tests;
@@ -21,5 +23,7 @@ mod strangers_tests;
 mod traffic_tests;
 #[cfg(test)]
 mod udp_table_tests;
+#[cfg(test)]
+mod wall_time_tests;
 #[cfg(test)]
 mod web_tests;

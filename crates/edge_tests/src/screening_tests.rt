@@ -115,7 +115,7 @@ fn goodbye_before_a_new_start(rt: HostRuntime) -> Result<(), Fail> {
     let far = Cell::new(0);
     let rules = Rules {
         new_starts: true,
-        strict_ssrc: true,
+        ..Rules::none()
     };
     let mut screen = Screen::new(alloc, source, &SOURCES, rules, &far)?;
     for seq in [7, 8] {
@@ -151,8 +151,8 @@ fn feedback_under_another_source(rt: HostRuntime) -> Result<(), Fail> {
         let source = Listed { datagrams, next: 0 };
         let far = Cell::new(0);
         let rules = Rules {
-            new_starts: false,
             strict_ssrc,
+            ..Rules::none()
         };
         let mut screen = Screen::new(alloc, source, &SOURCES, rules, &far)?;
         let mut wanted = OF_ANOTHER;

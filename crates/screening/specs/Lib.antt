@@ -1,1 +1,5 @@
+pub mod Bounded
+pub mod Floods
+pub mod Nacks
+pub mod Resends
 pub mod Starts

@@ -1,6 +1,7 @@
-//! What is so of every list of a source's packets. These functions do nothing: their contracts are the laws.
+//! What is so of every list of a source's packets, and of every list of numbers. These functions do nothing: their contracts are the laws.
 
 ghost use Rattle.std.specs.Prelude.{◌≡◌, ℕ, List};
+ghost use Rattle.screening.specs.Nacks.{NamesJust};
 ghost use Rattle.screening.specs.Starts.{FollowsFar, first_or_placed, run_of};
 ghost use Rattle.screening.specs.declared.run.Placement.TheVariants.{Anew};
 
@@ -10,4 +11,11 @@ ghost use Rattle.screening.specs.declared.run.Placement.TheVariants.{Anew};
 pub fn anew_follows_far()
     ensures { (packets : List ℕ) (seq : ℕ) → first_or_placed (run_of packets) seq ≡ Anew
         → FollowsFar packets seq }
+{}
+
+/// An entry of a NACK that is written for some numbers names just these (RFC 4585, section 6.2.1): the first of them is PID, and each bit of
+/// BLP is set exactly if the number so far behind it is among the others.
+#[tactic(auto, using(crate::proofs::EntryLemmas::names_just))]
+pub fn entries_name_numbers()
+    ensures { (seq : ℕ) (seqs : List ℕ) → NamesJust seq seqs }
 {}

@@ -5,12 +5,16 @@ ghost use Rattle.outside.specs.Outside.{FitsIn};
 ghost use Rattle.screening.specs.declared.run.Placement.TheVariants.{Near};
 ghost use Rattle.screening.specs.Starts.{placement_at, runs_with};
 
+use crate::bounded::Resends;
 use crate::feedback::sign;
+use crate::nacks::Asking;
+use crate::resends::ResendBounds;
 use crate::run::Placement;
 use crate::starts::Starts;
 use outside::{MAX_DATAGRAM, ReceiveFault, Received, Source};
 use rtcp_compound::write_bye;
 use rtp_packet::RtpView;
+use settings::Settings;
 use std::alloc::{AllocError, Global};
 use std::cell::Cell;
 use tmmbr_tuple::Ssrc;
@@ -35,6 +39,10 @@ pub struct Rules {
     /// Whether receiver reports and feedback of an endpoint are heard only under the endpoint's own source. If not, they are the
     /// endpoint's whatever sender they name: some clients make one up.
     pub strict_ssrc: bool,
+    /// How often and how many packets are sent again on a leg.
+    pub resends: ResendBounds,
+    /// How many datagrams of one endpoint are heard in a millisecond; 0 for any number.
+    pub flood_limit: u32,
 }
 
 impl Rules {
@@ -42,13 +50,35 @@ impl Rules {
 
     /// All is given as it comes.
     pub fn none() -> Rules
-        ensures { result ≡ record { new_starts = false; strict_ssrc = true } }
+        ensures { result ≡ record {
+          new_starts = false;
+          strict_ssrc = true;
+          resends = record { gap_ms = 0; share = 0 };
+          flood_limit = 0;
+        } }
     {
         Rules {
             new_starts: false,
             strict_ssrc: true,
+            resends: ResendBounds {
+                gap_ms: 0,
+                share: 0,
+            },
+            flood_limit: 0,
         }
     }
+}
+
+/// The resends of a unit, and where they are counted.
+#[derive(Drop)]
+struct Bounded<'a> {
+    resends: Resends,
+    /// The moment of the last turn, in milliseconds.
+    moment_ms: &'a Cell<u64>,
+    /// How many packets that were asked for again weren't let through.
+    held: &'a Cell<u64>,
+    /// What is given on of a datagram.
+    given: Vec<u8>,
 }
 
 /// The datagrams of a source, screened by its rules. A packet that is far from the highest number of its endpoint isn't given, and
@@ -69,6 +99,8 @@ pub struct Screen<'a, S: Source + Drop> {
     bytes: Vec<u8>,
     /// How many packets were far from the highest number, and weren't given.
     far: &'a Cell<u64>,
+    /// How resends are bounded, if they are.
+    bounded: Option<Bounded<'a>>,
 }
 
 /// A goodbye of each source.
@@ -104,7 +136,31 @@ impl<'a, S: Source + Drop> Screen<'a, S> {
             waiting: None,
             bytes: vec![in alloc; 0; MAX_DATAGRAM]?,
             far,
+            bounded: None,
         })
+    }
+
+    /// The same, with resends bounded as its rules say on the legs of these settings. The moment of the last turn is looked at there;
+    /// `held` is raised for each packet that is asked for again and isn't let through.
+    pub fn bounding(
+        self,
+        alloc: Global,
+        settings: &Settings,
+        moment_ms: &'a Cell<u64>,
+        held: &'a Cell<u64>,
+    ) -> Result<Screen<'a, S>, AllocError> {
+        let mut screen = self;
+        let bounds = screen.rules.resends;
+        if bounds.gap_ms == 0 && bounds.share == 0 {
+            return Ok(screen);
+        }
+        screen.bounded = Some(Bounded {
+            resends: Resends::new(alloc, settings, bounds)?,
+            moment_ms,
+            held,
+            given: Vec::with_capacity(alloc, MAX_DATAGRAM)?,
+        });
+        Ok(screen)
     }
 
     /// Where a datagram of the endpoint stands: `Near` if it is no RTP packet of the endpoint's own source. The sender of feedback is
@@ -123,8 +179,36 @@ impl<'a, S: Source + Drop> Screen<'a, S> {
             return Placement::Near;
         }
         match RtpView::parse(datagram) {
-            Ok(packet) => place_of(&mut self.starts, self.rules, endpoint, *own, &packet),
+            Ok(packet) => {
+                let placement = place_of(&mut self.starts, self.rules, endpoint, *own, &packet);
+                if packet.ssrc == *own && placement != Placement::Far {
+                    self.count_packet(endpoint);
+                }
+                placement
+            }
             Err(_) => Placement::Near,
+        }
+    }
+
+    /// A packet of the endpoint is given.
+    fn count_packet(&mut self, endpoint: u16)
+        ensures source { self.new.source ≡ self.old.source }
+    {
+        if let Some(bounded) = &mut self.bounded {
+            bounded.resends.came(endpoint, bounded.moment_ms.get());
+        }
+    }
+
+    /// Takes out of a datagram, the first bytes of `out`, what of its NACKs isn't let through, and says how long it is then. `None` where
+    /// memory is wanting for that: then it isn't given.
+    fn let_through(&mut self, endpoint: u16, size: usize, out: &mut [u8]) -> Option<usize>
+        requires { size ≤ length out.old }
+        ensures source { self.new.source ≡ self.old.source }
+        ensures within { IfSome result (λ left. left ≤ length out.new) }
+    {
+        match &mut self.bounded {
+            Some(bounded) => bounded.let_through(endpoint, size, out),
+            None => Some(size),
         }
     }
 
@@ -160,6 +244,32 @@ impl<'a, S: Source + Drop> Screen<'a, S> {
             endpoint,
             length: len,
         }
+    }
+}
+
+impl Bounded<'_> {
+    /// Takes out of a datagram, the first bytes of `out`, what of its NACKs isn't let through, and says how long it is then.
+    fn let_through(&mut self, endpoint: u16, size: usize, out: &mut [u8]) -> Option<usize>
+        requires { size ≤ length out.old }
+        ensures { IfSome result (λ left. left ≤ length out.new) }
+    {
+        let datagram = &out[..size];
+        if !is_rtcp(datagram) || size > MAX_DATAGRAM {
+            return Some(size);
+        }
+        let who = Asking {
+            endpoint,
+            moment: self.moment_ms.get(),
+        };
+        self.given.clear();
+        let held = self.resends.give_on(&mut self.given, who, datagram).ok()?;
+        self.held.set(self.held.get().saturating_add(held));
+        let given = self.given.as_slice();
+        if given.len() > out.len() {
+            return None;
+        }
+        out[..given.len()].copy_from_slice(given);
+        Some(given.len())
     }
 }
 
@@ -208,7 +318,10 @@ impl<S: Source + Drop> Source for Screen<'_, S> {
             Received::Stop => return Ok(Received::Stop),
         };
         match self.placement(endpoint, &mut out[..length]) {
-            Placement::Near => Ok(Received::Datagram { endpoint, length }),
+            Placement::Near => match self.let_through(endpoint, length, out) {
+                Some(length) => Ok(Received::Datagram { endpoint, length }),
+                None => Ok(Received::Nothing),
+            },
             Placement::Far => {
                 self.far.set(self.far.get().saturating_add(1));
                 Ok(Received::Nothing)

@@ -7,6 +7,7 @@ use Rattle.std.specs.Net.Socket.{socket_ip}
 use Rattle.std.specs.String.{string_bytes}
 use Rattle.std.specs.declared.string.String.{String}
 use Rattle.screening.specs.declared.screen.Rules.{Rules}
+use Rattle.settings_text.specs.declared.bound_keys.BoundKeys.{BoundKeys}
 use Rattle.std.specs.declared.net.socket_addr.SocketAddr.{SocketAddr}
 use Rattle.serving.specs.Clients.{AreSpelled, Spells}
 use Rattle.settings_text.specs.SettingsFaults.{TextGives}
@@ -14,11 +15,13 @@ use Rattle.serving.specs.declared.served_file.ServedSettings.{ServedSettings}
 use Rattle.settings_text.specs.declared.settings_file.FileSettings.{FileSettings}
 
 -- what is looked at, where a file says so: sources that begin anew go unnoticed unless it says otherwise, and feedback has to name
--- the endpoint's own source
-abbrev pub rules_in : Option Bool → Option Bool → Rules
-rules_in new_starts strict_ssrc = record {
+-- the endpoint's own source; and what one client may cost the others
+abbrev pub rules_in : Option Bool → Option Bool → BoundKeys → Rules
+rules_in new_starts strict_ssrc bounds = record {
   new_starts = option_map_or (λ b. b) new_starts false;
   strict_ssrc = option_map_or (λ b. b) strict_ssrc true;
+  resends = record { gap_ms = bounds.resend_gap_ms; share = bounds.resend_share };
+  flood_limit = bounds.flood_limit;
 }
 
 -- where RTCP is listened for apart: nowhere without a text, else where it spells, with the same version of IP
@@ -34,7 +37,7 @@ pub record PlacesFile (same : SocketAddr → SocketAddr → Bool) (file : FileSe
     (s : ServedSettings) : Type 0 where
   pub settings : s.settings ≡ file.settings
   pub listen : Spells file.listen s.listen.media
-  pub rules : s.rules ≡ rules_in file.new_starts file.strict_ssrc
+  pub rules : s.rules ≡ rules_in file.new_starts file.strict_ssrc file.bounds
   pub listen_rtcp : ListensApart s.listen.media file.listen_rtcp s.listen.rtcp
   pub texts : s.texts ≡ file.clients
   pub clients : AreSpelled same s.listen file.clients.items (Ok s.clients.items)

@@ -6,6 +6,7 @@ use crate::clients::{Client, Listening, is_reachable, learners_of, listeners_of,
 use crate::directory::Directory;
 use crate::gauges::Gauges;
 use outside::MAX_DATAGRAM;
+use screening::Floods;
 use senders::{
     Arrived, Kind, Learners, Listeners, Seat, Senders, empty_report, is_control, says_goodbye,
     source_named,
@@ -31,6 +32,8 @@ pub struct Arrivals<'a> {
     gauges: &'a Gauges,
     traffic: &'a Traffic,
     listeners: Listeners,
+    /// How many datagrams of each endpoint came.
+    floods: Floods,
     rest: Rest,
 }
 
@@ -45,12 +48,14 @@ struct Rest {
 }
 
 impl<'a> Arrivals<'a> {
-    /// Nothing came yet to a unit that listens there, with these settings and these clients.
+    /// Nothing came yet to a unit that listens there, with these settings and these clients. So many datagrams of one endpoint will be
+    /// heard in a millisecond; any number where that is 0.
     pub fn new(
         alloc: Global,
         listening: Listening,
         settings: &'a Settings,
         clients: &'a [Client],
+        flood_limit: u32,
         directory: &'a Directory,
         gauges: &'a Gauges,
         traffic: &'a Traffic,
@@ -68,6 +73,7 @@ impl<'a> Arrivals<'a> {
             gauges,
             traffic,
             listeners: listeners_of(alloc, clients, settings.timeout_ms())?,
+            floods: Floods::new(alloc, sources.len(), flood_limit)?,
             rest: Rest {
                 bytes: Vec::with_capacity(alloc, MAX_DATAGRAM)?,
                 heard: 0,
@@ -88,7 +94,8 @@ impl<'a> Arrivals<'a> {
     }
 
     /// What is heard of a datagram that came from this address and is the beginning of `out`, so many bytes: its endpoint, and how
-    /// many of them. The rest is kept. `None` where a stranger sent it, which is counted.
+    /// many of them. The rest is kept. `None` where a stranger sent it, or more than may come in a millisecond came of its endpoint before;
+    /// both are counted.
     pub fn heard(&mut self, from: SocketAddr, size: usize, out: &[u8]) -> Option<(u16, usize)>
         requires { size ≤ length out.now }
         ensures { IfSome result (λ heard. heard.1 ≤ length out.now) }
@@ -96,12 +103,27 @@ impl<'a> Arrivals<'a> {
         let datagram = &out[..size];
         self.learn(from, datagram);
         let front = self.senders.front(from, datagram);
+        if !self.admits(front.endpoint) {
+            return None;
+        }
         if front.length < datagram.len() {
             self.keep(from, &datagram[front.length..]);
         }
         let endpoint = self.endpoint_or_stranger(from, front.endpoint)?;
         self.note(endpoint, &datagram[..front.length]);
         Some((endpoint, front.length))
+    }
+
+    /// Whether a datagram of this endpoint, or of a stranger, is looked at; if not, it is counted.
+    fn admits(&mut self, endpoint: Option<u16>) -> bool {
+        let Some(endpoint) = endpoint else {
+            return true;
+        };
+        let is_heard = self.floods.admit(endpoint, self.gauges.moment_ms.get());
+        if !is_heard {
+            self.gauges.count_flooded(endpoint);
+        }
+        is_heard
     }
 
     /// Learns the address of an endpoint from a datagram with its source, if it learns, and nobody else has its seat.

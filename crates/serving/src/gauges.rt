@@ -2,7 +2,7 @@
 
 use crate::recorder::Recorder;
 use crate::steering::{Steering, Wish};
-use control::Unheard;
+use control::{Screened, Unheard};
 use outside::{Look, Received, Status};
 use recording::End;
 use std::alloc::Global;
@@ -19,8 +19,14 @@ pub struct Gauges {
     pub strangers: Cell<u64>,
     /// How many packets were far from the highest number of their source, and weren't heard.
     pub far: Cell<u64>,
+    /// How many packets that were asked for again were held back.
+    pub held: Cell<u64>,
+    /// How many datagrams came beyond the limit of their endpoint and millisecond, and weren't heard.
+    pub flooded: Cell<u64>,
     /// How many milliseconds went by since the run began, at the last turn.
     pub moment_ms: Cell<u64>,
+    /// Whether lines of counts begin with the time.
+    pub log_time: Cell<bool>,
     /// Whether what was received last is a report that was made in the name of an endpoint that only listens.
     pub made: Cell<bool>,
     /// One more than what the system dropped at the sockets, and 0 while that isn't known; nothing if nobody looks.
@@ -37,7 +43,10 @@ impl Gauges {
         Gauges {
             strangers: Cell::new(0),
             far: Cell::new(0),
+            held: Cell::new(0),
+            flooded: Cell::new(0),
             moment_ms: Cell::new(0),
+            log_time: Cell::new(false),
             made: Cell::new(false),
             unread: RefCell::new(None),
             steering: None,
@@ -160,6 +169,23 @@ impl Gauges {
         }
     }
 
+    /// What came by now and was kept from the machine.
+    pub(crate) fn screened(&self) -> Screened {
+        Screened {
+            far: self.far.get(),
+            held: self.held.get(),
+            flooded: self.flooded.get(),
+        }
+    }
+
+    /// A datagram of this endpoint came beyond the limit.
+    pub(crate) fn count_flooded(&self, endpoint: u16) {
+        self.flooded.set(self.flooded.get().saturating_add(1));
+        if let Some(mut steering) = self.steering() {
+            steering.note_flooded(endpoint);
+        }
+    }
+
     /// A datagram, or a packet of one, came from nobody, at this address.
     pub(crate) fn count_stranger(&self, from: SocketAddr) {
         self.strangers.set(self.strangers.get().saturating_add(1));
@@ -172,7 +198,7 @@ impl Gauges {
     pub(crate) fn show_counts(&self, status: &Status) {
         if let Some(mut steering) = self.steering() {
             if steering.wants_counts() {
-                steering.show_counts(status, &self.unheard());
+                steering.show_counts(status, &self.unheard(), &self.screened());
             }
         }
     }

@@ -2,11 +2,12 @@
 
 use crate::courier::{CourierFault, Outlet, start_courier};
 use crate::serve_fault::ServeFault;
-use std::alloc::Global;
+use std::alloc::{AllocError, Global};
 use std::io::{self, ErrorKind, Stderr, Write};
 use std::net::Net;
 use std::thread::{self, Threads};
-use std::time::{self, Duration};
+use std::time::{self, Duration, SystemTime};
+use wall_time::time_text;
 
 /// So many lines may wait to be read.
 const LINES: usize = 64;
@@ -84,4 +85,49 @@ impl<W: Drop> Write for Lines<W> {
     fn flush(&mut self) -> io::Result<()> {
         Ok(())
     }
+}
+
+/// Lines that begin with the time, if they are to: what the wall clock says as a line is written (RFC 3339, UTC).
+#[derive(Drop)]
+pub(crate) struct TimedLines<'a, R: time::Clock, W: Drop> {
+    pub(crate) rt: &'a R,
+    pub(crate) is_timed: bool,
+    pub(crate) lines: &'a mut Lines<W>,
+}
+
+impl<R: AllocGlobal + time::Clock, W: Drop> TimedLines<'_, R, W> {
+    /// The line behind the time.
+    fn timed(&self, line: &[u8]) -> Result<Vec<u8>, AllocError> {
+        let alloc = self.rt.alloc();
+        let mut timed = Vec::new(alloc);
+        if let Some(seconds) = unix_seconds(self.rt) {
+            let time = time_text(alloc, seconds)?;
+            timed.extend_from_slice(time.as_bytes())?;
+            timed.extend_from_slice(b" ")?;
+        }
+        timed.extend_from_slice(line)?;
+        Ok(timed)
+    }
+}
+
+impl<R: AllocGlobal + time::Clock, W: Drop> Write for TimedLines<'_, R, W> {
+    fn write(&mut self, buf: &[u8]) -> io::Result<usize> {
+        if !self.is_timed {
+            return self.lines.write(buf);
+        }
+        let timed = self.timed(buf)?;
+        self.lines.write(timed.as_slice())?;
+        Ok(buf.len())
+    }
+
+    fn flush(&mut self) -> io::Result<()> {
+        Ok(())
+    }
+}
+
+/// What the wall clock says, in seconds since the beginning of 1970 (UTC), if it says anything.
+fn unix_seconds<R: time::Clock>(rt: &R) -> Option<u64> {
+    let now = SystemTime::now(rt).ok()?;
+    let since = now.duration_since(SystemTime::UNIX_EPOCH).ok()?;
+    Some(since.as_secs())
 }

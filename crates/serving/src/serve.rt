@@ -15,7 +15,7 @@ use crate::directory::Directory;
 use crate::drops::watch_drops;
 use crate::gauges::Gauges;
 use crate::goodbyes::say_goodbyes;
-use crate::lines::{ErrorOutput, Lines};
+use crate::lines::{ErrorOutput, Lines, TimedLines};
 use crate::recorded::{RecordedClock, RecordedSource};
 use crate::report_text::report_text;
 use crate::serve_fault::ServeFault;
@@ -228,9 +228,14 @@ fn serve_lined<
     match term.status {
         Some(seconds) => match Lines::new(rt) {
             Ok(mut lines) => {
+                let mut timed = TimedLines {
+                    rt,
+                    is_timed: gauges.log_time.get(),
+                    lines: &mut lines,
+                };
                 let served = serve_watched(
                     rt, sockets, settings, clients, *rules, turns, seconds, gauges, writer,
-                    &mut lines,
+                    &mut timed,
                 );
                 lines.finish(rt);
                 ended(served, errors)
@@ -403,11 +408,20 @@ fn source_on<'a>(
         traffic,
         ..
     } = common;
+    let flood_limit = rules.flood_limit;
     let arrivals = Arrivals::new(
-        alloc, listening, settings, clients, directory, gauges, traffic,
+        alloc,
+        listening,
+        settings,
+        clients,
+        flood_limit,
+        directory,
+        gauges,
+        traffic,
     )?;
     let source = SocketSource::new(sockets, arrivals, gauges);
     let screen = Screen::new(alloc, source, settings.endpoints(), rules, &gauges.far)?;
+    let screen = screen.bounding(alloc, settings, &gauges.moment_ms, &gauges.held)?;
     Ok(screen)
 }
 

@@ -6,10 +6,11 @@ ghost use Rattle.serving.specs.ServedFile.{GivesPlaces, ListensApart, PlacesFile
 use crate::clients::{
     AddressKey, Client, ClientFault, Listening, address_in, client_in, read_clients,
 };
-use screening::Rules;
+use screening::{ResendBounds, Rules};
 use settings::Settings;
 use settings_text::{
-    ClientText, FileSettings, Place, SettingsProblem, items_at, problem_at, read_settings,
+    BoundKeys, ClientText, FileSettings, Place, SettingsProblem, items_at, problem_at,
+    read_settings,
 };
 use std::alloc::Global;
 use std::net::SocketAddr;
@@ -56,7 +57,7 @@ fn placed(alloc: Global, file: FileSettings) -> Result<ServedSettings, SettingsP
         Ok(clients) => Ok(ServedSettings {
             settings: file.settings,
             listen,
-            rules: rules_in(file.new_starts, file.strict_ssrc),
+            rules: rules_in(file.new_starts, file.strict_ssrc, file.bounds),
             clients,
             texts: file.clients,
         }),
@@ -68,13 +69,18 @@ fn placed(alloc: Global, file: FileSettings) -> Result<ServedSettings, SettingsP
 }
 
 /// What is looked at, where a file says so: sources that begin anew go unnoticed unless it says otherwise, and feedback has to name
-/// the endpoint's own source.
-fn rules_in(new_starts: Option<bool>, strict_ssrc: Option<bool>) -> Rules
-    ensures { result ≡ rules_in new_starts strict_ssrc }
+/// the endpoint's own source; and what one client may cost the others.
+fn rules_in(new_starts: Option<bool>, strict_ssrc: Option<bool>, bounds: BoundKeys) -> Rules
+    ensures { result ≡ rules_in new_starts strict_ssrc bounds }
 {
     Rules {
         new_starts: new_starts.unwrap_or(false),
         strict_ssrc: strict_ssrc.unwrap_or(true),
+        resends: ResendBounds {
+            gap_ms: bounds.resend_gap_ms,
+            share: bounds.resend_share,
+        },
+        flood_limit: bounds.flood_limit,
     }
 }
 

@@ -1,6 +1,7 @@
 //! The lines of counts that `sfu serve --status` writes while the unit runs.
 
 use crate::gauges::Gauges;
+use control::Screened;
 use outside::{Status, Watch};
 use recording::end_name;
 use std::alloc::{AllocError, Global};
@@ -40,10 +41,11 @@ impl<'a, E: Write> StatusLines<'a, E> {
 
     /// Writes one line.
     fn write_line(&mut self, status: &Status) -> Result<(), AllocError> {
+        let screened = self.screened_part()?;
         let unread = self.unread_part()?;
         let (recorded, unsaid) = (self.recorded_part()?, self.unsaid_part()?);
         let line = format!(in self.alloc;
-            "present {} heard {} sent {} failed {} lost {} strangers {} far {}{}{}{}\n",
+            "present {} heard {} sent {} failed {} lost {} strangers {} far {}{}{}{}{}\n",
             status.present,
             status.heard,
             status.sent,
@@ -51,6 +53,7 @@ impl<'a, E: Write> StatusLines<'a, E> {
             status.lost,
             self.gauges.strangers.get(),
             self.gauges.far.get(),
+            screened.as_str(),
             unread.as_str(),
             recorded.as_str(),
             unsaid.as_str(),
@@ -59,6 +62,15 @@ impl<'a, E: Write> StatusLines<'a, E> {
             self.unsaid = self.unsaid.saturating_add(1);
         }
         Ok(())
+    }
+
+    /// How many resends were held back, and how many datagrams came beyond the limit, if any.
+    fn screened_part(&self) -> Result<String, AllocError> {
+        let Screened { held, flooded, .. } = self.gauges.screened();
+        match (held, flooded) {
+            (0, 0) => Ok(String::new(self.alloc)),
+            _ => format!(in self.alloc; " held {held} flooded {flooded}"),
+        }
     }
 
     /// How many datagrams the system dropped, if it says so.

@@ -74,7 +74,8 @@ impl<W: Watch + Drop> Watch for SteeredWatch<'_, W> {
     fn end_look(&mut self) {
         if let Some(mut steering) = self.gauges.steering() {
             let moment = self.gauges.moment_ms.get();
-            steering.end(self.traffic, &self.gauges.unheard(), moment);
+            let (unheard, screened) = (self.gauges.unheard(), self.gauges.screened());
+            steering.end(self.traffic, &unheard, &screened, moment);
         }
     }
 }

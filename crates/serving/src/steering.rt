@@ -2,8 +2,8 @@
 
 use crate::recorder::Switched;
 use control::{
-    Course, Peers, Refused, Unheard, counts_text, course_for, done_text, present_line,
-    refused_text, stranger_line,
+    Course, Peers, Refused, Screened, Unheard, counts_text, course_for, done_text, present_line,
+    refused_text, screened_text, stranger_line,
 };
 use desk::Desk;
 use outside::{Look, Received, Status};
@@ -48,6 +48,8 @@ pub struct Steering {
     present: Vec<bool>,
     /// Who came last of those who are nobody.
     strangers: Strangers,
+    /// How many datagrams of each endpoint came beyond the limit, by its number.
+    flooded: Vec<u64>,
 }
 
 /// What a peer wants.
@@ -86,6 +88,7 @@ impl Steering {
         for line in legs.iter() {
             began_on.push(line.on)?;
         }
+        let flooded = vec![in alloc; 0; endpoints.len()]?;
         Ok(Steering {
             alloc,
             listener,
@@ -98,6 +101,7 @@ impl Steering {
             lines: None,
             present: Vec::new(alloc),
             strangers: Strangers::new(alloc),
+            flooded,
         })
     }
 
@@ -198,6 +202,13 @@ impl Steering {
         let _ = self.strangers.note(from, moment);
     }
 
+    /// A datagram of this endpoint came beyond the limit.
+    pub(crate) fn note_flooded(&mut self, endpoint: u16) {
+        if let Some(count) = self.flooded.as_mut_slice().get_mut(usize::from(endpoint)) {
+            *count = count.saturating_add(1);
+        }
+    }
+
     /// Who came last of those who are nobody is told.
     fn tell_strangers(&mut self, moment: u64) {
         self.begin(Asked::Nothing);
@@ -229,8 +240,10 @@ impl Steering {
     }
 
     /// The totals are shown to who waits for them.
-    pub(crate) fn show_counts(&mut self, status: &Status, unheard: &Unheard) {
+    pub(crate) fn show_counts(&mut self, status: &Status, unheard: &Unheard, screened: &Screened) {
         let text = counts_text(self.alloc, status, unheard);
+        self.push(text);
+        let text = screened_text(self.alloc, screened);
         self.push(text);
         self.answer();
     }
@@ -280,11 +293,19 @@ impl Steering {
     }
 
     /// The room was shown, at this moment: who asked for it is answered.
-    pub(crate) fn end(&mut self, traffic: &Traffic, unheard: &Unheard, moment: u64) {
+    pub(crate) fn end(
+        &mut self,
+        traffic: &Traffic,
+        unheard: &Unheard,
+        screened: &Screened,
+        moment: u64,
+    ) {
         match self.asked {
             Asked::Stop => {}
             Asked::Metrics => {
                 let text = metrics_text(self.alloc, self.present.as_slice(), traffic, unheard);
+                self.push(text);
+                let text = screened_metrics(self.alloc, self.flooded.as_slice(), screened);
                 self.push(text);
                 self.answer();
             }
@@ -420,6 +441,33 @@ fn push_unheard(text: &mut String, unheard: &Unheard) -> Result<(), AllocError> 
         }
         None => Ok(()),
     }
+}
+
+/// What was kept from the machine as metrics.
+fn screened_metrics(
+    alloc: Global,
+    flooded: &[u64],
+    screened: &Screened,
+) -> Result<String, AllocError> {
+    let mut text = String::new(alloc);
+    let far = "Packets whose number was far from the highest of their source.";
+    push_total(&mut text, "sfu_far_total", far, screened.far)?;
+    let held = "Packets that were asked for again, too soon or too many.";
+    push_total(&mut text, "sfu_resends_held_total", held, screened.held)?;
+    let mut samples = Vec::new(alloc);
+    for (number, count) in flooded.iter().enumerate() {
+        samples.push(Sample {
+            number: u16::try_from(number).unwrap_or(u16::MAX),
+            value: *count,
+        })?;
+    }
+    let metric = Metric {
+        name: "sfu_endpoint_flooded_total",
+        help: "Datagrams beyond the limit of a millisecond, which weren't heard.",
+        kind: MetricType::Counter,
+    };
+    push_metric(&mut text, &metric, "endpoint", samples.as_slice())?;
+    Ok(text)
 }
 
 /// A count of the whole unit as a metric.

@@ -118,7 +118,7 @@ fn serves_a_publisher_that_starts_anew(rt: HostRuntime) -> Result<(), Fail> {
     room.send(alloc, &room.publisher, packets.as_slice())?;
     let rules = Rules {
         new_starts: true,
-        strict_ssrc: true,
+        ..Rules::none()
     };
     let _ = served(&rt, &room, 1, rules, 20)?;
     assert_eq!(rt;

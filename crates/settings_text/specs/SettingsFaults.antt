@@ -10,7 +10,8 @@ use Rattle.settings.specs.declared.fault.SettingsFault.{SettingsFault}
 use Rattle.settings.specs.declared.fault.SettingsFault.TheVariants as fault
 use Rattle.settings.specs.declared.parts.Parts.{Parts}
 use Rattle.settings.specs.Fault.{key_name}
-use Rattle.settings.specs.Settings.{checks, first_fault}
+use Rattle.settings.specs.Settings.{checks, first_fault, number_below}
+use Rattle.settings_text.specs.declared.bound_keys.TheConstants.{FLOODS, GAPS_MS, SHARES}
 use Rattle.settings_text.specs.declared.settings_file.FileSettings.{FileSettings}
 use Rattle.settings_text.specs.declared.settings_file.SettingsProblem.{SettingsProblem}
 use Rattle.settings_text.specs.declared.settings_file.SettingsProblem.TheVariants.{NoMemory, File, Toml, Top, Endpoint, Leg, SameSsrc}
@@ -68,6 +69,10 @@ is_table value = is_some (as_table value)
 abbrev pub is_text : Data → Bool
 is_text value = is_some (as_str value)
 
+-- a whole number from 0 to below this limit
+abbrev pub is_under : ℕ → Data → Bool
+is_under limit value = is_some (number_below (as_integer value) limit)
+
 -- a list of such values
 abbrev pub has_all : (Data → Bool) → Data → Bool
 has_all is_such (array items) = list_all is_such (list_of items)
@@ -98,6 +103,9 @@ takes_top key value =
     else if bytes_eq key (codes "new_starts") || bytes_eq key (codes "strict_ssrc")
     then is_some (as_bool value)
     else if bytes_eq key (codes "request_ms") then is_some (as_integer value)
+    else if bytes_eq key (codes "flood_limit") then is_under FLOODS value
+    else if bytes_eq key (codes "resend_gap_ms") then is_under GAPS_MS value
+    else if bytes_eq key (codes "resend_share") then is_under SHARES value
     else is_required key
 
 abbrev pub takes_endpoint : List ℕ → Data → Bool

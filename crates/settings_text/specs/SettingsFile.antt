@@ -5,7 +5,9 @@ use Rattle.toml.specs.Data.{Data, Items, Members, array, as_bool, as_integer, as
 use Rattle.settings.specs.declared.parts.EndpointParts.{EndpointParts}
 use Rattle.settings.specs.declared.parts.LegParts.{LegParts}
 use Rattle.settings.specs.declared.parts.Parts.{Parts}
-use Rattle.settings.specs.Settings.{checks, configuration_of, first_fault}
+use Rattle.settings.specs.Settings.{checks, configuration_of, first_fault, number_or_zero}
+use Rattle.settings_text.specs.declared.bound_keys.BoundKeys.{BoundKeys}
+use Rattle.settings_text.specs.declared.bound_keys.TheConstants.{FLOODS, GAPS_MS, SHARES}
 use Rattle.settings_text.specs.declared.settings_file.ClientText.{ClientText}
 use Rattle.settings_text.specs.declared.settings_file.FileSettings.{FileSettings}
 
@@ -96,6 +98,14 @@ client_says client = record {
   fmtp = map string_bytes client.fmtp.items;
 }
 
+-- what one client may cost the others: the numbers at their keys; 0, which bounds nothing, where there is none
+abbrev pub bounds_in : Members → BoundKeys
+bounds_in t = record {
+  flood_limit = number_or_zero (integer_in (get_member (codes "flood_limit") t)) FLOODS;
+  resend_gap_ms = number_or_zero (integer_in (get_member (codes "resend_gap_ms") t)) GAPS_MS;
+  resend_share = number_or_zero (integer_in (get_member (codes "resend_share") t)) SHARES;
+}
+
 -- The parts are what the table has under their keys.
 pub record ArePartsOf (t : Members) (p : Parts) : Type 0 where
   pub workers : p.workers ≡ integer_in (get_member (codes "workers") t)
@@ -122,6 +132,7 @@ pub record HoldsSettings (t : Members) (f : FileSettings) : Type 0 where
   pub listen : text_bytes f.listen ≡ text_in (get_member (codes "listen") t)
   pub new_starts : f.new_starts ≡ bool_in (get_member (codes "new_starts") t)
   pub strict_ssrc : f.strict_ssrc ≡ bool_in (get_member (codes "strict_ssrc") t)
+  pub bounds : f.bounds ≡ bounds_in t
   pub listen_rtcp : text_bytes f.listen_rtcp ≡ text_in (get_member (codes "listen_rtcp") t)
   pub clients : map client_says f.clients.items
       ≡ map client_in (items_in (get_member (codes "endpoint") t))

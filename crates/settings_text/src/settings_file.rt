@@ -3,9 +3,10 @@
 ghost use Rattle.std.specs.Prelude.{◌≡◌, ◌⊎◌, IfOk, Some, codes, map, option_map, string_bytes};
 ghost use Rattle.toml.specs.Data.{get_member};
 ghost use Rattle.toml.specs.View.{table_view, view};
-ghost use Rattle.settings_text.specs.SettingsFile.{ArePartsOf, bool_in, client_in, client_says, endpoint_in, endpoint_says, integer_in, items_in, leg_in, text_bytes, text_in, text_of, texts_in, texts_of};
+ghost use Rattle.settings_text.specs.SettingsFile.{ArePartsOf, bool_in, bounds_in, client_in, client_says, endpoint_in, endpoint_says, integer_in, items_in, leg_in, text_bytes, text_in, text_of, texts_in, texts_of};
 ghost use Rattle.settings_text.specs.SettingsFaults.{TableGives, TextGives, earlier, fault_spot, problem_spot, spot_of};
 
+use crate::bound_keys::{BoundKeys, bounds_at};
 use crate::settings_keys::{Place, first_misfit, items_at, items_in};
 use settings::{EndpointParts, LegParts, Parts, Settings, SettingsFault};
 use std::alloc::{AllocError, Global};
@@ -22,6 +23,8 @@ pub struct FileSettings {
     pub new_starts: Option<bool>,
     /// Whether feedback has to name the endpoint's own source, if the file says so.
     pub strict_ssrc: Option<bool>,
+    /// What one client may cost the others.
+    pub bounds: BoundKeys,
     /// Where it listens for RTCP, as the file spells it; where it listens for all where the file says nothing.
     pub listen_rtcp: Option<String>,
     /// What the file says of each endpoint's client, by the endpoint's number.
@@ -114,6 +117,7 @@ fn file_of(alloc: Global, table: &Table, settings: Settings) -> Result<FileSetti
         ≡ bool_in (get_member (codes "new_starts") (table_view table.now))) }
     ensures strict_ssrc { IfOk result (λ f. f.strict_ssrc
         ≡ bool_in (get_member (codes "strict_ssrc") (table_view table.now))) }
+    ensures bounds { IfOk result (λ f. f.bounds ≡ bounds_in (table_view table.now)) }
     ensures listen_rtcp { IfOk result (λ f. text_bytes f.listen_rtcp
         ≡ text_in (get_member (codes "listen_rtcp") (table_view table.now))) }
     ensures clients { IfOk result (λ f. map client_says f.clients.items
@@ -124,6 +128,7 @@ fn file_of(alloc: Global, table: &Table, settings: Settings) -> Result<FileSetti
         listen: text_in(alloc, value_at(table, "listen"))?,
         new_starts: bool_at(table, "new_starts"),
         strict_ssrc: bool_at(table, "strict_ssrc"),
+        bounds: bounds_at(table),
         listen_rtcp: text_in(alloc, value_at(table, "listen_rtcp"))?,
         clients: clients_of(alloc, items_at(table, "endpoint"))?,
     })
@@ -308,7 +313,7 @@ fn value_at<'a>(table: &'a Table, key: &str) -> Option<&'a Value>
     table.get(key)
 }
 
-fn integer_at(table: &Table, key: &str) -> Option<i64>
+pub(crate) fn integer_at(table: &Table, key: &str) -> Option<i64>
     ensures { result ≡ integer_in (get_member key.now (table_view table.now)) }
 {
     integer_in(value_at(table, key))

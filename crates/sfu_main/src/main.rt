@@ -5,9 +5,9 @@ mod record_words;
 
 use commands::{
     ErrorOutput, Status, explain, report_words, run_ask, run_command, run_recorded, run_sdp,
-    run_version,
+    run_timed, run_version,
 };
-use record_words::record_in;
+use record_words::noted_in;
 use std::fs::File;
 use std::io::{Read, Write};
 use std::net::Net;
@@ -52,22 +52,20 @@ fn main(rt: HostRuntime) -> ExitCode {
     ExitCode::from(status.code())
 }
 
-/// Runs the command that the words ask for, and records a unit where they say so.
+/// Runs the command that the words ask for, and records a unit, or has its lines begin with the time, where they say so.
 fn run_words<
     R: AllocGlobal + ErrorOutput + Files<File = File> + Net + Threads + Wait + Sync + Clock,
     I: Read,
     O: Write,
     E: Write,
 >(rt: &R, words: &[String], reader: &mut I, writer: &mut O, errors: &mut E) -> Status {
-    match record_in(rt.alloc(), words) {
-        Ok(Some(recorded)) => run_recorded(
-            rt,
-            recorded.words.as_slice(),
-            recorded.record,
-            writer,
-            errors,
-        ),
-        Ok(None) | Err(_) => run_command(rt, words, reader, writer, errors),
+    let Ok(Some(noted)) = noted_in(rt.alloc(), words) else {
+        return run_command(rt, words, reader, writer, errors);
+    };
+    let words = noted.words.as_slice();
+    match noted.record {
+        Some(record) if !noted.log_time => run_recorded(rt, words, record, writer, errors),
+        record => run_timed(rt, words, record, writer, errors),
     }
 }
 

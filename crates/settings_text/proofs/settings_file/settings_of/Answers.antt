@@ -20,6 +20,7 @@ returns-in-Ok c = (
     listen = c.in_ok-file_of-in-None.ensures.listen;
     new_starts = c.in_ok-file_of-in-None.ensures.new_starts;
     strict_ssrc = c.in_ok-file_of-in-None.ensures.strict_ssrc;
+    bounds = c.in_ok-file_of-in-None.ensures.bounds;
     listen_rtcp = c.in_ok-file_of-in-None.ensures.listen_rtcp;
     clients = c.in_ok-file_of-in-None.ensures.clients;
   },

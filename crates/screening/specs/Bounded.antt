@@ -1,0 +1,30 @@
+-- What of a datagram is given on, by what is known of all legs.
+use Rattle.std.specs.Prelude.{◌≡◌, ℕ, List, ◌++◌, Option, None, Some, slice_get, slice_set}
+use Rattle.screening.specs.Nacks.{GivesOn, Terms}
+use Rattle.screening.specs.Resends.{Book, flow_with}
+use Rattle.screening.specs.declared.bounded.Known.{Known}
+use Rattle.screening.specs.declared.bounded.Resends.{Resends}
+use Rattle.screening.specs.declared.nacks.Asking.{Asking}
+use Rattle.screening.specs.declared.resends.Flow.{Flow}
+
+abbrev pub terms_of : Known → Terms
+terms_of k = record { table = k.links.now; bounds = k.bounds; flows = k.flows.now }
+
+abbrev pub terms_in : Resends → Terms
+terms_in r = record { table = r.links; bounds = r.bounds; flows = r.flows.items }
+
+abbrev pub flow_noted : List Flow → ℕ → ℕ → Option Flow → List Flow
+flow_noted flows endpoint moment None = flows
+flow_noted flows endpoint moment (Some f) = slice_set flows endpoint (flow_with f moment)
+
+-- once a packet more came of this endpoint
+abbrev pub flows_with : List Flow → ℕ → ℕ → List Flow
+flows_with flows endpoint moment =
+    flow_noted flows endpoint moment (slice_get flows endpoint)
+
+-- Behind what was there stands what is given on of the datagram.
+pub record GivesDatagram (t : Terms) (who : Asking) (books : List Book) (datagram old new : List ℕ)
+    (final : List Book) : Type 0 where
+  pub given : List ℕ
+  pub behind : new ≡ old ++ given
+  pub by_packets : GivesOn t who books datagram given final

@@ -1,0 +1,234 @@
+//! The resends on all legs of a unit, bounded.
+
+ghost use Rattle.std.specs.Prelude.{◌≡◌, ◌<◌, ◌≤◌, ◌+◌, ◌^◌, ◌++◌, ℕ, List, length, replicate, slice_get, IfOk, IfSome, OnOk};
+ghost use Rattle.rtcp_compound.specs.Fault.{Refuses};
+ghost use Rattle.rtcp_compound.specs.Grammar.{RtcpPacket, ReadsRtcp};
+ghost use Rattle.rtcp_compound.specs.declared.fault.RtcpFault.{RtcpFault};
+ghost use Rattle.screening.specs.Bounded.{GivesDatagram, flows_with, terms_of, terms_in};
+ghost use Rattle.screening.specs.Nacks.{allowance_on, asked_books, asked_given, books_given, leg_asked, most_by, most_on, packet_given, padding_at};
+
+use crate::nacks::{Asking, give_nack, is_nack, media_in, push};
+use crate::resends::{Allowance, Flow, LegBook, REMEMBERED, ResendBounds};
+use rtcp_compound::split;
+use rtcp_feedback::Nack;
+use senders::first_size;
+use settings::{LegSettings, Links, Settings};
+use std::alloc::{AllocError, Global};
+use tmmbr_tuple::Ssrc;
+
+/// What came of each endpoint, and what was let through on each leg.
+#[derive(Drop)]
+pub(crate) struct Resends {
+    links: Links,
+    bounds: ResendBounds,
+    /// What came of each endpoint, by its number.
+    flows: Vec<Flow>,
+    /// What was let through on each leg, by its number.
+    books: Vec<LegBook>,
+    /// The entries that are given on of the NACK that is looked at.
+    kept: Vec<Nack>,
+}
+
+/// What is looked up while a datagram is given on.
+#[derive(Clone, Copy)]
+pub(crate) struct Known<'a> {
+    links: &'a Links,
+    bounds: ResendBounds,
+    flows: &'a [Flow],
+}
+
+impl Resends {
+    /// Nothing came and nothing was let through in a unit of these settings. Where no gap is wanted nothing is remembered of numbers.
+    pub(crate) fn new(
+        alloc: Global,
+        settings: &Settings,
+        bounds: ResendBounds,
+    ) -> Result<Resends, AllocError> {
+        let idle = Flow::new();
+        let remembered = match bounds.gap_ms {
+            0 => 0,
+            _ => usize::from(REMEMBERED),
+        };
+        Ok(Resends {
+            links: Links::new(alloc, settings)?,
+            bounds,
+            flows: vec![in alloc; idle; settings.endpoints().len()]?,
+            books: books_of(alloc, settings.legs().len(), remembered)?,
+            kept: Vec::new(alloc),
+        })
+    }
+
+    /// A packet came of this endpoint at this moment.
+    pub(crate) fn came(&mut self, endpoint: u16, moment: u64)
+        ensures flows { self.new.flows.items ≡ flows_with self.old.flows.items endpoint moment }
+        ensures others { (self.new.books.items ≡ self.old.books.items)
+            × (self.new.links ≡ self.old.links) × (self.new.bounds ≡ self.old.bounds) }
+    {
+        let at = usize::from(endpoint);
+        if at < self.flows.len() {
+            self.flows[at] = self.flows[at].with(moment);
+        }
+    }
+
+    /// Appends what is given on of a datagram of RTCP, and says how many packets that it asks for are held back. One that is faulty is
+    /// given on as it is.
+    pub(crate) fn give_on(
+        &mut self,
+        out: &mut Vec<u8>,
+        who: Asking,
+        datagram: &[u8],
+    ) -> Result<u64, AllocError>
+        requires { length datagram.now < 2 ^ 16 }
+        ensures read { (packets : List RtcpPacket) → ReadsRtcp datagram.now packets
+            → OnOk result (GivesDatagram (terms_in self.old) who self.old.books.items
+            datagram.now out.old.items out.new.items self.new.books.items) }
+        ensures faulty { (fault : RtcpFault) → Refuses datagram.now fault
+            → OnOk result ((out.new.items ≡ out.old.items ++ datagram.now)
+            × (self.new.books.items ≡ self.old.books.items)) }
+    {
+        let known = Known {
+            links: &self.links,
+            bounds: self.bounds,
+            flows: &self.flows,
+        };
+        match split(datagram) {
+            Ok(_) => give_packets(out, &mut self.kept, &mut self.books, known, who, datagram),
+            Err(_) => {
+                push(out, datagram)?;
+                Ok(0)
+            }
+        }
+    }
+}
+
+/// Books of so many legs, of each of which so many numbers will be remembered.
+fn books_of(alloc: Global, legs: usize, remembered: usize) -> Result<Vec<LegBook>, AllocError> {
+    let mut books = Vec::with_capacity(alloc, legs)?;
+    for _leg in 0..legs {
+        books.push(LegBook::new(alloc, remembered)?)?;
+    }
+    Ok(books)
+}
+
+/// Appends what is given on of each packet of a datagram, and says how many packets that they ask for are held back.
+fn give_packets(
+    out: &mut Vec<u8>,
+    kept: &mut Vec<Nack>,
+    books: &mut [LegBook],
+    known: Known<'_>,
+    who: Asking,
+    datagram: &[u8],
+) -> Result<u64, AllocError>
+    requires { length datagram.now < 2 ^ 16 }
+    ensures { OnOk result (GivesDatagram (terms_of known.entry) who books.old datagram.now
+        out.old.items out.new.items books.new) }
+{
+    let mut held = 0u64;
+    let mut rest = datagram;
+    while !rest.is_empty() {
+        let (packet, behind) = rest.split_at(first_size(rest));
+        held = held.saturating_add(give_packet(out, kept, books, known, who, packet)?);
+        rest = behind;
+    }
+    Ok(held)
+}
+
+/// Appends what is given on of a packet, and says how many packets that it asks for are held back.
+#[tactic(auto, unfolding(crate::specs::Nacks::packet_given, crate::specs::Nacks::books_given))]
+fn give_packet(
+    out: &mut Vec<u8>,
+    kept: &mut Vec<Nack>,
+    books: &mut [LegBook],
+    known: Known<'_>,
+    who: Asking,
+    packet: &[u8],
+) -> Result<u64, AllocError>
+    requires { length packet.now < 2 ^ 16 }
+    ensures given { OnOk result (out.new.items ≡ out.old.items
+        ++ packet_given (terms_of known.entry) who books.old packet.now) }
+    ensures noted { OnOk result
+        (books.new ≡ books_given (terms_of known.entry) who books.old packet.now) }
+{
+    match leg_asked(known, who, packet) {
+        Some(leg) => {
+            let allowance = allowance_on(known, who, leg);
+            give_asked(out, kept, books, leg, allowance, packet)
+        }
+        None => {
+            push(out, packet)?;
+            Ok(0)
+        }
+    }
+}
+
+/// The leg to who sent it that the packet asks of, if it is a NACK.
+fn leg_asked(known: Known<'_>, who: Asking, packet: &[u8]) -> Option<u16>
+    ensures leg { result ≡ leg_asked (terms_of known.entry) who packet.now }
+    ensures front { IfSome result (λ _. 12 ≤ length packet.now) }
+    ensures padding { IfSome result (λ _. 12 + padding_at packet.now ≤ length packet.now) }
+{
+    if is_nack(packet) {
+        known.links.leg_to(who.endpoint, Ssrc(media_in(packet)))
+    } else {
+        None
+    }
+}
+
+/// What may be let through on a leg.
+fn allowance_on(known: Known<'_>, who: Asking, leg: u16) -> Allowance
+    ensures { result ≡ allowance_on (terms_of known.entry) who.moment leg }
+{
+    Allowance {
+        moment: who.moment,
+        gap_ms: known.bounds.gap_ms,
+        most: most_on(known, who.moment, known.links.leg(leg).copied()),
+    }
+}
+
+/// How many may be let through on a leg in the second of this moment.
+fn most_on(known: Known<'_>, moment: u64, leg: Option<LegSettings>) -> u64
+    ensures { result ≡ most_on (terms_of known.entry) moment leg }
+{
+    match leg {
+        Some(leg) => most_by(known, moment, leg.publisher),
+        None => 0,
+    }
+}
+
+/// How many may be let through on a leg of this publisher.
+fn most_by(known: Known<'_>, moment: u64, publisher: u16) -> u64
+    ensures { result ≡ most_by (terms_of known.entry) moment
+        (slice_get known.entry.flows.now publisher) }
+{
+    match known.flows.get(usize::from(publisher)).copied() {
+        Some(flow) => flow.most(known.bounds.share, moment),
+        None => 0,
+    }
+}
+
+/// Appends what is given on of a NACK for this leg, and says how many packets are held back.
+fn give_asked(
+    out: &mut Vec<u8>,
+    kept: &mut Vec<Nack>,
+    books: &mut [LegBook],
+    leg: u16,
+    allowance: Allowance,
+    packet: &[u8],
+) -> Result<u64, AllocError>
+    requires front { 12 ≤ length packet.now }
+    requires padding { 12 + padding_at packet.now ≤ length packet.now }
+    requires size { length packet.now < 2 ^ 16 }
+    ensures given { OnOk result (out.new.items ≡ out.old.items
+        ++ asked_given (slice_get books.old leg) allowance packet.now) }
+    ensures noted { OnOk result
+        (books.new ≡ asked_books books.old leg (slice_get books.old leg) allowance packet.now) }
+{
+    let at = usize::from(leg);
+    if at >= books.len() {
+        push(out, packet)?;
+        return Ok(0);
+    }
+    let before = books[at].held();
+    give_nack(out, kept, &mut books[at], allowance, packet)?;
+    Ok(books[at].held().saturating_sub(before))
+}
