@@ -67,6 +67,7 @@ fn nack(media: u8, pid: u8, blp: u8) -> [u8; 28] {
 }
 
 /// What is put in, and when.
+#[derive(Drop)]
 struct Inlet<'a> {
     endpoint: &'a Cell<u16>,
     packet: &'a Cell<[u8; 28]>,
