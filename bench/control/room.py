@@ -5,7 +5,7 @@
     bench/control/room.py --reports COMMAND..
 
 SFU is the built program; with `--reports` COMMAND starts it, as `./sfu --unproved`, and only what reports say is tried. With one worker and with two: a leg is switched off and on ten times, and its numbers have no gap; `present`,
-`legs` and `metrics` count the packets that came and went; a NACK brings a packet again, which is counted; a user other than the unit's is
+`legs` and `metrics` count the packets that came and went; `refusals` says what was refused of whom; a NACK brings a packet again, which is counted; a user other than the unit's is
 refused by the system (if this runs as root); and `stop` says goodbye to who is present, and to nobody else. In a room of its own clients send
 reports with known blocks: `reports` and `metrics` tell what those say, with the round trip of a client that holds a sender report and says
 so, and what the unit reported to the publisher. Ends with status 1 at the first thing that isn't so. By hand: nothing of it is proved.
@@ -131,7 +131,7 @@ def play(program, workers, folder):
     unit = subprocess.Popen([program, "serve", file, "--control", path], stdout=subprocess.PIPE, stderr=subprocess.PIPE, text=True)
     try:
         unit.stderr.readline()
-        wants("never heard", ask(program, path, "present").count(" absent never heard\n"), 3)
+        wants("never heard", ask(program, path, "present").count(" absent never heard refused 0\n"), 3)
         subscriber.sendto(struct.pack("!BBHI", 0x80, 201, 1, 17), unit_at)
         seq, came = 7, []
         for turn in range(TURNS):
@@ -158,7 +158,17 @@ def play(program, workers, folder):
         legs = [re.sub(r" stay \d+ ", " stay S ", it) for it in ask(program, path, "legs").splitlines()]
         wants("leg 0", legs[0], f"0 from 0 to 1 on stay S packets {sent} octets {sent * PAYLOAD} resent 1 missed 1 next {last + 1}")
         wants("leg 1", legs[1], "1 from 0 to 2 on stay none packets 0 octets 0 resent 0 missed 0 next none")
+        # a packet of version 1 is refused (RFC 3550, section 5.1), and so is a PLI about a source that is no leg's
+        subscriber.sendto(struct.pack("!BBHII", 0x40, 96, 7, 3000, 17), unit_at)
+        for _ in range(2):
+            subscriber.sendto(struct.pack("!BBHII", 0x81, 206, 2, 17, 999), unit_at)
+        time.sleep(0.05)
+        wants("refusals", ask(program, path, "refusals").splitlines(), [
+            "endpoint 1 rtp 2 times 1: an RTP packet of another version than 2",
+            "endpoint 1 room 3 times 2: no such leg, or no stay on it",
+        ])
         present = ask(program, path, "present").splitlines()
+        wants("refused in all", [it.split()[-1] for it in present], ["0", "3", "0"])
         for line, state in zip(present, ("present heard", "present heard", "absent never heard")):
             if state not in line:
                 sys.exit(f"present: {line}")
@@ -168,6 +178,7 @@ def play(program, workers, folder):
             f'sfu_received_bytes_total{{endpoint="0"}} {2 * TURNS * PACKETS * (12 + PAYLOAD)}',
             'sfu_nacks_received_total{endpoint="1"} 2',
             'sfu_leg_packets_missed_total{leg="0"} 1',
+            'sfu_refused_total{endpoint="1",kind="room",reason="3"} 2',
             'sfu_endpoint_present{endpoint="1"} 1',
             'sfu_endpoint_present{endpoint="2"} 0',
             f'sfu_leg_packets_sent_total{{leg="0"}} {sent}',

@@ -61,9 +61,13 @@ who_part endpoint source address is_present =
 
 -- how many milliseconds ago it was heard last
 abbrev pub heard_part : Option ℕ → List ℕ
-heard_part None = codes " never heard\n"
-heard_part (Some ago_ms) = codes " heard " ++ (decimal ago_ms ++ codes " ms ago\n")
+heard_part None = codes " never heard"
+heard_part (Some ago_ms) = codes " heard " ++ (decimal ago_ms ++ codes " ms ago")
 
-abbrev pub presence_line : ℕ → ℕ → SocketAddr → Bool → Option ℕ → List ℕ
-presence_line endpoint source address is_present heard_ago_ms =
-    who_part endpoint source address is_present ++ heard_part heard_ago_ms
+-- how often something was refused of what came from it
+abbrev pub refused_part : ℕ → List ℕ
+refused_part refused = codes " refused " ++ (decimal refused ++ codes "\n")
+
+abbrev pub presence_line : ℕ → ℕ → SocketAddr → Bool → Option ℕ → ℕ → List ℕ
+presence_line endpoint source address is_present heard_ago_ms refused =
+    who_part endpoint source address is_present ++ (heard_part heard_ago_ms ++ refused_part refused)

@@ -4,9 +4,9 @@ use Rattle.outside.specs.declared.source.Received.TheVariants as received
 use Rattle.outside.specs.declared.watch.Look.TheVariants.{Presence, Desk}
 use Rattle.control.specs.declared.answer.Refused.TheVariants.{Leg, Publisher, Recorded, Unrecorded}
 use Rattle.control.specs.declared.request.Request.{Request}
-use Rattle.control.specs.declared.request.Request.TheVariants.{Select, Present, Legs as AskLegs, Counts as AskCounts, Metrics as AskMetrics, Reports as AskReports, Strangers as AskStrangers, Record as AskRecord, EndRecord as AskEndRecord, Show, Stop}
+use Rattle.control.specs.declared.request.Request.TheVariants.{Select, Present, Legs as AskLegs, Counts as AskCounts, Metrics as AskMetrics, Reports as AskReports, Refusals as AskRefusals, Strangers as AskStrangers, Record as AskRecord, EndRecord as AskEndRecord, Show, Stop}
 use Rattle.control.specs.declared.course.Course.{Course}
-use Rattle.control.specs.declared.course.Course.TheVariants.{Refuse, Do, Counts, Look, Legs, Metrics, Reports, Strangers, Record, EndRecord}
+use Rattle.control.specs.declared.course.Course.TheVariants.{Refuse, Do, Counts, Look, Legs, Metrics, Reports, Refusals, Strangers, Record, EndRecord}
 
 -- of a room with so many legs and endpoints, which is being recorded or not: a selection or a stop comes to the unit as it was asked for; a
 -- leg or an endpoint that isn't there is refused; there is one record at a time
@@ -18,6 +18,7 @@ course_for AskLegs legs endpoints is_recorded = Legs
 course_for AskCounts legs endpoints is_recorded = Counts
 course_for AskMetrics legs endpoints is_recorded = Metrics
 course_for AskReports legs endpoints is_recorded = Reports
+course_for AskRefusals legs endpoints is_recorded = Refusals
 course_for AskStrangers legs endpoints is_recorded = Strangers
 course_for AskRecord legs endpoints is_recorded = if is_recorded then Refuse Recorded else Record
 course_for AskEndRecord legs endpoints is_recorded =

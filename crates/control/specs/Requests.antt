@@ -3,7 +3,7 @@ use Rattle.std.specs.Prelude.{ℕ, ◌^◌, Bool, true, false, List, [], ◌∷�
 use Rattle.std.specs.Str.{bytes_eq}
 use Rattle.request_text.specs.Words.{number_under, words_in}
 use Rattle.control.specs.declared.request.Request.{Request}
-use Rattle.control.specs.declared.request.Request.TheVariants.{Select, Present, Legs, Counts, Metrics, Reports, Strangers, Record, EndRecord, Show, Stop}
+use Rattle.control.specs.declared.request.Request.TheVariants.{Select, Present, Legs, Counts, Metrics, Reports, Refusals, Strangers, Record, EndRecord, Show, Stop}
 
 -- ---- the words after the first
 
@@ -44,6 +44,7 @@ request_words (first ∷ others) =
     else if bytes_eq first (codes "counts") then alone_words Counts others
     else if bytes_eq first (codes "metrics") then alone_words Metrics others
     else if bytes_eq first (codes "reports") then alone_words Reports others
+    else if bytes_eq first (codes "refusals") then alone_words Refusals others
     else if bytes_eq first (codes "strangers") then alone_words Strangers others
     else if bytes_eq first (codes "record") then record_asked others
     else if bytes_eq first (codes "show") then show_asked others

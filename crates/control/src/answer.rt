@@ -2,7 +2,7 @@
 
 ghost use Rattle.std.specs.Prelude.{◌≡◌, ◌++◌, codes, IfOk, OnOk};
 ghost use Rattle.std.specs.String.{string_bytes};
-ghost use Rattle.control.specs.Answers.{counts_lines, flow_part, heard_part, loss_part, presence_line, refusal_text, stranger_line, unheard_part, unread_part, who_part};
+ghost use Rattle.control.specs.Answers.{counts_lines, flow_part, heard_part, loss_part, presence_line, refusal_text, refused_part, stranger_line, unheard_part, unread_part, who_part};
 
 use outside::Status;
 use std::alloc::{AllocError, Global};
@@ -124,8 +124,8 @@ fn push_unread(text: &mut String, unread: Option<u64>) -> Result<(), AllocError>
     }
 }
 
-/// The line of an endpoint for `present`: its number, its source, its address, whether it is present, and how many milliseconds ago it
-/// was heard last, if ever. Refused for want of memory alone.
+/// The line of an endpoint for `present`: its number, its source, its address, whether it is present, how many milliseconds ago it
+/// was heard last, if ever, and how often something was refused of what came from it. Refused for want of memory alone.
 pub fn present_line(
     alloc: Global,
     endpoint: u16,
@@ -133,12 +133,14 @@ pub fn present_line(
     address: SocketAddr,
     is_present: bool,
     heard_ago_ms: Option<u64>,
+    refused: u64,
 ) -> Result<String, AllocError>
     ensures { IfOk result (λ text. string_bytes text
-        ≡ presence_line endpoint source.0 address is_present heard_ago_ms) }
+        ≡ presence_line endpoint source.0 address is_present heard_ago_ms refused) }
 {
     let mut text = who_part(alloc, endpoint, source, address, is_present)?;
     push_heard(&mut text, heard_ago_ms)?;
+    push_refused(&mut text, refused)?;
     Ok(text)
 }
 
@@ -162,7 +164,14 @@ fn push_heard(text: &mut String, ago_ms: Option<u64>) -> Result<(), AllocError>
     ensures { OnOk result (string_bytes text.new ≡ string_bytes text.old ++ heard_part ago_ms) }
 {
     match ago_ms {
-        Some(ago_ms) => write!(text, " heard {ago_ms} ms ago\n"),
-        None => text.push_str(" never heard\n"),
+        Some(ago_ms) => write!(text, " heard {ago_ms} ms ago"),
+        None => text.push_str(" never heard"),
     }
+}
+
+/// How often something was refused of it.
+fn push_refused(text: &mut String, refused: u64) -> Result<(), AllocError>
+    ensures { OnOk result (string_bytes text.new ≡ string_bytes text.old ++ refused_part refused) }
+{
+    write!(text, " refused {refused}\n")
 }

@@ -24,6 +24,8 @@ pub enum Course {
     Metrics,
     /// What reports say of legs and of publishers is asked for.
     Reports,
+    /// What was refused of what came is asked for.
+    Refusals,
     /// Who came last of those who are nobody is asked for.
     Strangers,
     /// A record begins, for who asked.
@@ -49,6 +51,7 @@ pub fn course_for(request: Request, legs: u16, endpoints: u16, is_recorded: bool
         Request::Counts => Course::Counts,
         Request::Metrics => Course::Metrics,
         Request::Reports => Course::Reports,
+        Request::Refusals => Course::Refusals,
         Request::Strangers => Course::Strangers,
         Request::Record => {
             if is_recorded {

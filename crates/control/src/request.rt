@@ -21,6 +21,8 @@ pub enum Request {
     Metrics,
     /// `reports`: what receivers report of each leg, and what the unit reports of each publisher.
     Reports,
+    /// `refusals`: what was refused of what came, of whom, why and how often.
+    Refusals,
     /// `strangers`: who came last of those who are nobody.
     Strangers,
     /// `record`: what the unit takes in from now on is written to who asks.
@@ -60,6 +62,8 @@ fn request_of(words: &[&[u8]]) -> Option<Request>
         alone(others, Request::Metrics)
     } else if is_word(first, b"reports") {
         alone(others, Request::Reports)
+    } else if is_word(first, b"refusals") {
+        alone(others, Request::Refusals)
     } else if is_word(first, b"strangers") {
         alone(others, Request::Strangers)
     } else if is_word(first, b"record") {

@@ -14,7 +14,7 @@ use tmmbr_tuple::Ssrc;
 #[test]
 fn reads_requests(rt: HostRuntime) -> Result<(), Fail> {
     let alloc = rt.alloc();
-    let lines: [(&[u8], Option<Request>); 20] = [
+    let lines: [(&[u8], Option<Request>); 21] = [
         (b"select 3 on", Some(Request::Select { leg: 3, on: true })),
         (b"select 0 off", Some(Request::Select { leg: 0, on: false })),
         (b"present", Some(Request::Present)),
@@ -22,6 +22,7 @@ fn reads_requests(rt: HostRuntime) -> Result<(), Fail> {
         (b"counts", Some(Request::Counts)),
         (b"metrics", Some(Request::Metrics)),
         (b"reports", Some(Request::Reports)),
+        (b"refusals", Some(Request::Refusals)),
         (b"strangers", Some(Request::Strangers)),
         (b"record", Some(Request::Record)),
         (b"record off", Some(Request::EndRecord)),
@@ -107,15 +108,15 @@ fn answers_are_lines(rt: HostRuntime) -> Result<(), Fail> {
         line.as_str(),
         "127.0.0.1:5004 datagrams 12 heard 340 ms ago\n"
     );
-    let line = present_line(alloc, 0, Ssrc(16), address, false, None)?;
+    let line = present_line(alloc, 0, Ssrc(16), address, false, None, 0)?;
     assert_eq!(rt;
         line.as_str(),
-        "0 ssrc 16 at 127.0.0.1:5004 absent never heard\n"
+        "0 ssrc 16 at 127.0.0.1:5004 absent never heard refused 0\n"
     );
-    let line = present_line(alloc, 0, Ssrc(16), address, true, Some(340))?;
+    let line = present_line(alloc, 0, Ssrc(16), address, true, Some(340), 17)?;
     assert_eq!(rt;
         line.as_str(),
-        "0 ssrc 16 at 127.0.0.1:5004 present heard 340 ms ago\n"
+        "0 ssrc 16 at 127.0.0.1:5004 present heard 340 ms ago refused 17\n"
     );
     assert_eq!(rt; refused_text(Refused::Long), "refused long\n");
     Ok(())
@@ -152,6 +153,10 @@ fn leads_requests(rt: HostRuntime) -> Result<(), Fail> {
     assert_eq!(rt; course_for(Request::Legs, 2, 3, false), Course::Legs);
     assert_eq!(rt; course_for(Request::Metrics, 2, 3, false), Course::Metrics);
     assert_eq!(rt; course_for(Request::Reports, 2, 3, false), Course::Reports);
+    assert_eq!(rt;
+        course_for(Request::Refusals, 2, 3, false),
+        Course::Refusals
+    );
     assert_eq!(rt;
         course_for(Request::Strangers, 2, 3, false),
         Course::Strangers

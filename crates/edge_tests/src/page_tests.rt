@@ -7,8 +7,8 @@ use page::{
 use std::alloc::Global;
 use std::test::Fail;
 
-const PRESENT: &[u8] = b"0 ssrc 16 at 127.0.0.1:5004 present heard 340 ms ago\n\
-    1 ssrc 4294967295 at [2001:db8::7]:6000 absent never heard\n\
+const PRESENT: &[u8] = b"0 ssrc 16 at 127.0.0.1:5004 present heard 340 ms ago refused 17\n\
+    1 ssrc 4294967295 at [2001:db8::7]:6000 absent never heard refused 4\n\
     2 ssrc 18 at 127.0.0.1:5006 absent never heard\n\
     3 ssrc 19 at 127.0.0.1:5008 absent never heard\n";
 
@@ -158,10 +158,10 @@ fn answers_by_path(rt: HostRuntime) -> Result<(), Fail> {
     assert_eq!(rt;
         body.as_str(),
         "json {\"endpoints\":[\
-        {\"number\":0,\"ssrc\":16,\"address\":\"127.0.0.1:5004\",\"present\":true,\"heard_ago_ms\":340,\"heard_bps\":1250000,\"sent_bps\":999,\"fraction_lost\":null,\"jitter\":null},\
-        {\"number\":1,\"ssrc\":4294967295,\"address\":\"[2001:db8::7]:6000\",\"present\":false,\"heard_ago_ms\":null,\"heard_bps\":null,\"sent_bps\":null,\"fraction_lost\":1,\"jitter\":7},\
-        {\"number\":2,\"ssrc\":18,\"address\":\"127.0.0.1:5006\",\"present\":false,\"heard_ago_ms\":null,\"heard_bps\":null,\"sent_bps\":null,\"fraction_lost\":null,\"jitter\":null},\
-        {\"number\":3,\"ssrc\":19,\"address\":\"127.0.0.1:5008\",\"present\":false,\"heard_ago_ms\":null,\"heard_bps\":null,\"sent_bps\":null,\"fraction_lost\":null,\"jitter\":null}],\
+        {\"number\":0,\"ssrc\":16,\"address\":\"127.0.0.1:5004\",\"present\":true,\"heard_ago_ms\":340,\"refused\":17,\"heard_bps\":1250000,\"sent_bps\":999,\"fraction_lost\":null,\"jitter\":null},\
+        {\"number\":1,\"ssrc\":4294967295,\"address\":\"[2001:db8::7]:6000\",\"present\":false,\"heard_ago_ms\":null,\"refused\":4,\"heard_bps\":null,\"sent_bps\":null,\"fraction_lost\":1,\"jitter\":7},\
+        {\"number\":2,\"ssrc\":18,\"address\":\"127.0.0.1:5006\",\"present\":false,\"heard_ago_ms\":null,\"refused\":null,\"heard_bps\":null,\"sent_bps\":null,\"fraction_lost\":null,\"jitter\":null},\
+        {\"number\":3,\"ssrc\":19,\"address\":\"127.0.0.1:5008\",\"present\":false,\"heard_ago_ms\":null,\"refused\":null,\"heard_bps\":null,\"sent_bps\":null,\"fraction_lost\":null,\"jitter\":null}],\
         \"legs\":[\
         {\"leg\":0,\"publisher\":0,\"subscriber\":1,\"on\":true,\"stay\":9,\"packets\":7,\"octets\":700,\"resent\":2,\"missed\":3,\"next\":4,\"fraction_lost\":64,\"jitter\":90,\"round_trip_ms\":45},\
         {\"leg\":1,\"publisher\":1,\"subscriber\":0,\"on\":false,\"stay\":null,\"packets\":0,\"octets\":0,\"resent\":0,\"missed\":0,\"next\":null,\"fraction_lost\":null,\"jitter\":null,\"round_trip_ms\":null}],\
@@ -185,10 +185,10 @@ fn shows_people(rt: HostRuntime) -> Result<(), Fail> {
             "<dt>unread</dt><dd>8</dd>",
             "<dt>in, bit/s</dt><dd class=\"in\">12.3k</dd>",
             "<tr><td>0</td><td class=\"word present\">present</td><td>340</td><td class=\"in\">1.2M</td><td class=\"out\">999</td><td><svg",
-            "<polyline class=\"in\" points=\"300,60 600,0 \"/><polyline class=\"out\" points=\"600,100 \"/></svg></td><td></td><td></td><td>16</td>\
+            "<polyline class=\"in\" points=\"300,60 600,0 \"/><polyline class=\"out\" points=\"600,100 \"/></svg></td><td></td><td></td><td>17</td><td>16</td>\
             <td class=\"word\">127.0.0.1:5004</td></tr>",
             "<td>never</td><td class=\"in\"></td><td class=\"out\"></td><td><svg",
-            "</td><td>0.3%</td><td>7</td><td>4294967295</td><td class=\"word\">[2001:db8::7]:6000</td></tr>",
+            "</td><td>0.3%</td><td>7</td><td>4</td><td>4294967295</td><td class=\"word\">[2001:db8::7]:6000</td></tr>",
             "<tr><th scope=\"row\">0</th><td></td><td><span class=\"off\">off</span></td><td></td><td></td></tr>",
             "<tr><th scope=\"row\">1</th><td><span class=\"on\">on</span></td><td></td><td></td><td></td></tr>",
             "<td class=\"word on\">on</td><td>7</td><td>700</td><td>2</td><td>3</td><td>4</td><td>25.0%</td><td>90</td><td>45</td></tr>",

@@ -1,7 +1,9 @@
 //! Numbers across the wrap, feedback of a compound, what reports say, and what is told of it all.
 
-use rtcp_compound::{Block, write_rr, write_sr};
-use settings::Settings;
+use events::{DeskRefusal, Refusal};
+use rtcp_compound::{Block, RtcpFault, write_rr, write_sr};
+use rtp_packet::RtpFault;
+use settings::{RoomFault, Settings};
 use settings_text::read_settings;
 use std::alloc::Global;
 use std::test::Fail;
@@ -9,7 +11,8 @@ use tmmbr_tuple::Ssrc;
 use traffic::{
     Kinds, LegCount, LegLine, Metric, MetricType, NumberedReport, Reading, ReceptionReport,
     ReportFigure, Sample, SentReport, Traffic, kinds_of, leg_line, leg_report_line,
-    publisher_report_line, push_metric, push_report_figures,
+    publisher_report_line, push_metric, push_refusal_figures, push_refusal_lines,
+    push_report_figures,
 };
 
 /// Numbers rise across the wrap; what went out before, or is older than the newest, is counted as sent again.
@@ -320,5 +323,45 @@ fn reports_of_a_room(rt: HostRuntime) -> Result<(), Fail> {
     assert_eq!(rt; traffic.publisher_report(0), Some(wanted));
     let listed = traffic.publisher_reports(alloc)?;
     assert_eq!(rt; listed.len(), 1);
+    Ok(())
+}
+
+/// What was refused, endpoint by endpoint: the same twice, reasons of one endpoint, the last of their kinds, one of no datagram, and one of
+/// an endpoint that isn't there.
+const REFUSED: [(Option<u16>, Refusal); 7] = [
+    (Some(2), Refusal::Rtp(RtpFault::Version)),
+    (None, Refusal::Desk(DeskRefusal::HistoryFull)),
+    (Some(2), Refusal::Rtcp(RtcpFault::SdesUnended)),
+    (Some(0), Refusal::Room(RoomFault::UnknownLeg)),
+    (Some(2), Refusal::Rtp(RtpFault::Version)),
+    (Some(2), Refusal::Rtcp(RtcpFault::Version)),
+    (Some(3), Refusal::Rtp(RtpFault::Short)),
+];
+
+/// What was refused is counted by endpoint and by reason, and told in words and as a metric.
+#[test]
+fn refusals_of_a_room(rt: HostRuntime) -> Result<(), Fail> {
+    let alloc = rt.alloc();
+    let traffic = Traffic::new(alloc, &room(alloc)?)?;
+    for (endpoint, refusal) in REFUSED {
+        traffic.refused(endpoint, refusal);
+    }
+    let counts = traffic.refusals(alloc)?;
+    let mut text = String::new(alloc);
+    push_refusal_lines(&mut text, counts.as_slice())?;
+    assert_eq!(rt;
+        text.as_str(),
+        "endpoint 0 room 3 times 1: no such leg, or no stay on it\nendpoint 2 rtp 2 times 2: an RTP packet of another version than 2\nendpoint 2 rtcp 2 times 1: an RTCP packet of another version than 2\nendpoint 2 rtcp 7 times 1: a source description that doesn't end\nendpoint none desk 4 times 1: a desk that has no call left\n"
+    );
+    let mut text = String::new(alloc);
+    push_refusal_figures(&mut text, counts.as_slice())?;
+    assert_eq!(rt;
+        text.as_str(),
+        "# HELP sfu_refused_total What was refused of what came from the endpoint.\n# TYPE sfu_refused_total counter\nsfu_refused_total{endpoint=\"0\",kind=\"room\",reason=\"3\"} 1\nsfu_refused_total{endpoint=\"2\",kind=\"rtp\",reason=\"2\"} 2\nsfu_refused_total{endpoint=\"2\",kind=\"rtcp\",reason=\"2\"} 1\nsfu_refused_total{endpoint=\"2\",kind=\"rtcp\",reason=\"7\"} 1\nsfu_refused_total{endpoint=\"none\",kind=\"desk\",reason=\"4\"} 1\n"
+    );
+    for (endpoint, total) in [(0, 1), (1, 0), (2, 4)] {
+        let count = traffic.endpoint(endpoint).ok_or("endpoint")?;
+        assert_eq!(rt; count.refused, total);
+    }
     Ok(())
 }

@@ -1,5 +1,5 @@
 -- How a desk of a house is asked, and what is told then.
-use Rattle.std.specs.Prelude.{◌≡◌, ◌==◌, ◌≤◌, ℕ, Bool, true, false, Option, None, Some, List, Result, Ok, MatchOption, MatchBool, MatchResult, slice_get, if◌then◌else◌}
+use Rattle.std.specs.Prelude.{◌≡◌, ◌==◌, ◌≤◌, ℕ, Bool, true, false, Option, None, Some, List, Result, Ok, MatchOption, MatchBool, MatchResult, option_map, slice_get, if◌then◌else◌}
 use Rattle.std.specs.Option.{option_map_or}
 use Rattle.members.specs.declared.order.Row.{Row}
 use Rattle.settings.specs.declared.settings.LegSettings.{LegSettings}
@@ -166,6 +166,20 @@ is_asking f (Resend leg stay nack) = false
 is_asking f (Pli leg moment) = is_owned f leg
 is_asking f (Report leg stay sr) = false
 is_asking f (Goodbye leg) = false
+
+-- the subscriber of a leg
+abbrev pub subscriber_of : ForwarderState → ℕ → Option ℕ
+subscriber_of f leg =
+    option_map (λ (l : LegSettings). l.subscriber) (slice_get f.notifier.table.legs leg)
+
+-- the subscriber for whom a job asks a desk
+abbrev pub subscriber_asking : ForwarderState → Job → Option ℕ
+subscriber_asking f (Packet publisher bytes) = None
+subscriber_asking f (Request leg stay word) = subscriber_of f leg
+subscriber_asking f (Resend leg stay nack) = None
+subscriber_asking f (Pli leg moment) = subscriber_of f leg
+subscriber_asking f (Report leg stay sr) = None
+subscriber_asking f (Goodbye leg) = None
 
 abbrev pub asks_of : Option Question → Asks
 asks_of None = Nobody

@@ -2,3 +2,4 @@ pub mod Handing
 pub mod Forwarding
 pub mod Asking
 pub mod Faults
+pub mod Refusing

@@ -2,7 +2,7 @@
 
 ghost use Rattle.std.specs.Prelude.{◌≡◌, IfSome};
 ghost use Rattle.desk.specs.Call.{HasStay};
-ghost use Rattle.forwarding.specs.Asking.{is_owned, is_asking, QuestionOf};
+ghost use Rattle.forwarding.specs.Asking.{is_owned, is_asking, QuestionOf, subscriber_asking, subscriber_of};
 
 use crate::done::{ForwardFault, Forwarded};
 use crate::notifier::Notifier;
@@ -130,15 +130,18 @@ impl Forwarder {
     /// What the job asks of a desk.
     fn question(&self, job: &Job) -> Option<Question>
         ensures names { QuestionOf self.now job.now result }
+        ensures endpoint { IfSome result (λ q. q.endpoint ≡ subscriber_asking self.now job.now) }
         ensures stay { IfSome result (λ q. HasStay q.call) }
     {
         if !self.is_asking(job) {
             return None;
         }
+        let endpoint = self.subscriber_asking(job);
         match asked_by(&self.notifier.links, job) {
             Asks::Desk(publisher, asked_by, call) => Some(Question {
                 publisher,
                 asked_by,
+                endpoint,
                 call,
             }),
             Asks::Nobody | Asks::Legs => None,
@@ -153,6 +156,27 @@ impl Forwarder {
             Job::Request { leg, .. } | Job::Pli { leg, .. } => self.owns(*leg),
             Job::Packet { .. } | Job::Resend { .. } | Job::Report { .. } | Job::Goodbye { .. } =>
                 false,
+        }
+    }
+
+    /// The subscriber of the job's leg, for whom a desk is asked.
+    fn subscriber_asking(&self, job: &Job) -> Option<u16>
+        ensures { result ≡ subscriber_asking self.now job.now }
+    {
+        match job {
+            Job::Request { leg, .. } | Job::Pli { leg, .. } => self.subscriber_of(*leg),
+            Job::Packet { .. } | Job::Resend { .. } | Job::Report { .. } | Job::Goodbye { .. } =>
+                None,
+        }
+    }
+
+    /// The subscriber of a leg.
+    fn subscriber_of(&self, leg: u16) -> Option<u16>
+        ensures { result ≡ subscriber_of self.now leg }
+    {
+        match self.notifier.links.leg(leg) {
+            Some(leg) => Some(leg.subscriber),
+            None => None,
         }
     }
 

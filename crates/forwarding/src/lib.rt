@@ -9,6 +9,7 @@ mod done;
 mod forwarder;
 mod notifier;
 mod question;
+mod refusing;
 mod sending;
 
 pub use done::{ForwardFault, Forwarded};

@@ -8,6 +8,7 @@ ghost use mathlib.Core.List.{IsPrefix};
 
 use crate::done::{ForwardFault, Forwarded};
 use crate::question::Question;
+use crate::refusing::{refusal_by, refusal_in, tell_refusal};
 use crate::sending::send_all;
 use desk::Effect;
 use notices::{Head, Notification, notification_of, notify, waiting};
@@ -59,7 +60,7 @@ impl Notifier {
 
     /// Asks the publisher's desk, then learns the note, and if there is anything to tell enters and tells it, before anybody else
     /// may call the desk: what is told of a publisher's calls leaves in the order of the calls. A call that the desk refuses or doesn't
-    /// record is Ok and tells nothing. After a fault the call stands, and the note is learnt; nothing was sent.
+    /// record is Ok and tells nobody anything but the sink, why. After a fault the call stands, and the note is learnt; nothing was sent.
     #[tactic(auto, using(crate::proofs::AskingLemmas::asked_nowhere, crate::proofs::AskingLemmas::notified_nobody))]
     pub fn ask<J: Naming, D: DeskCalls, C: SeatCalls, R: Wait, S: Sink>(
         &mut self,
@@ -111,7 +112,7 @@ impl Notifier {
             (Some question.now) (asking seat.old seat.new (telling reader.old.rows reader.new
             (S.shown sink.old) (S.shown sink.new))) result }
     {
-        let pending = ask_desk(rt, house, seat, hold, question, &mut self.effect);
+        let pending = ask_desk(rt, house, seat, hold, question, &mut self.effect, sink);
         reader.learn(note);
         match pending {
             Some(notification) => tell_held(
@@ -165,15 +166,17 @@ impl Notifier {
     }
 }
 
-/// Asks the publisher's desk, which is held, and says in `effect` what changed; answers what is to be told.
+/// Asks the publisher's desk, which is held, and says in `effect` what changed; answers what is to be told. The sink is told what the
+/// desk refuses.
 #[tactic(auto, using(crate::proofs::AskingLemmas::asked_unrecorded, crate::proofs::AskingLemmas::asked_recorded))]
-fn ask_desk<D: DeskCalls, C: SeatCalls, R: Wait>(
+fn ask_desk<D: DeskCalls, C: SeatCalls, R: Wait, S: Sink>(
     rt: &R,
     house: &House<D, C>,
     seat: &mut DeskSeat<C>,
     hold: &mut Hold<'_, D>,
     question: &Question,
     effect: &mut Effect,
+    sink: &mut S,
 ) -> Option<Notification>
     requires stay { HasStay question.now.call }
     requires publisher { hold.old.publisher ≡ question.now.publisher }
@@ -181,15 +184,22 @@ fn ask_desk<D: DeskCalls, C: SeatCalls, R: Wait>(
     ensures asked { IsAsked D.gap D.request_ms C.publishers question.now seat.old seat.new
         (option_map (pending_with effect.new) result) }
     ensures last { IfSome result (λ n. IsOfLastCall hold.new (pending_with effect.new n)) }
+    ensures shown { S.shown sink.new ≡ S.shown sink.old }
 {
     let Question {
         publisher,
         asked_by,
+        endpoint,
         call,
     } = *question;
-    let Ok(receipt) = house.call_held(rt, seat, hold, call, effect) else {
-        return None;
+    let receipt = match house.call_held(rt, seat, hold, call, effect) {
+        Ok(receipt) => receipt,
+        Err(fault) => {
+            tell_refusal(endpoint, refusal_by(fault), sink);
+            return None;
+        }
     };
+    tell_refusal(endpoint, refusal_in(&receipt.answer), sink);
     let notification = notification_of(publisher, asked_by, &receipt.answer);
     waiting(notification, effect)
 }

@@ -8,5 +8,7 @@ pub struct Question {
     /// The number of the publisher.
     pub publisher: u16,
     pub asked_by: Option<u16>,
+    /// The endpoint whose datagram led to it, if one did: what the desk refuses is told to the sink as this endpoint's.
+    pub endpoint: Option<u16>,
     pub call: Call,
 }

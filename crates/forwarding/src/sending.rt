@@ -69,7 +69,8 @@ fn give<S: Sink>(out: &Out, sink: &mut S, done: &mut Forwarded)
             sink.missed(*leg);
             done.missed += 1;
         }
-        Out::Refused(_) | Out::Busy | Out::Lost(_) | Out::Idle => {}
+        Out::Refused(refusal) => sink.refused(None, *refusal),
+        Out::Busy | Out::Lost(_) | Out::Idle => {}
     }
 }
 

@@ -2,6 +2,7 @@
 use Rattle.std.proofs.Common.{◌≡◌, ◌∙◌, ℕ, ◌+◌, ◌<◌, zero, suc, List, [], ◌∷◌, ◌++◌, length, take, Bool, true, false, refl, sym, ap, subst, arith, append_assoc, append-nil, Option, None, Some, slice_get}
 use Rattle.std.proofs.lemmas.Grind.{flat_map-append}
 use Rattle.std.proofs.lemmas.List.Elements.{filter-append}
+use Rattle.std.proofs.Math.Seq.{take-append_seam}
 use Rattle.std.specs.Prelude.{◌||◌, filter, is_some, not, sum_by}
 use Rattle.std.specs.List.{flat_map}
 use Rattle.events.specs.declared.event.Event.{Event}
@@ -20,7 +21,7 @@ use Rattle.notices.specs.Notification.{Pending}
 use Rattle.settings.specs.Settings.{Configuration}
 use Rattle.core_steps.proofs.HistoryLemmas.{runs_join}
 use Rattle.core_steps.proofs.SettleLemmas.{step_of}
-use Rattle.one_thread.specs.Driving.{Drives, DrivesSome, FindsNothing, IsIdle, is_from_outside, jobs_given_up}
+use Rattle.one_thread.specs.Driving.{Drives, DrivesBoth, DrivesSome, FindsNothing, IsIdle, is_from_outside, jobs_given_up}
 use Rattle.one_thread.proofs.StepLemmas.{none_given, same_workers, work_aside, ingress_same}
 
 -- ---- one after the other
@@ -66,6 +67,18 @@ drives_on xs ys a b c outs more all first last =
       comes = filter-append is_from_outside first.events last.events ∙ (λ i. first.comes i ++ last.comes i);
       found = finds_join a first.events last.events first.run.history last.run.history first.run.runs first.found found;
       kept = flat_map-append (λ (h : Happening). h.given_up) first.run.history last.run.history ∙ (λ i. first.kept i ++ last.kept i);
+    }
+
+-- how much was given out by the first of two drives
+pub drives_both : (xs ys : List Event) (a b c : WorldState) (outs more all : List Out) → Drives xs a outs b more → Drives ys b more c all
+    → DrivesBoth xs ys a outs c all (length more)
+drives_both xs ys a b c outs more all first last =
+    let cut : take (length more) all ≡ more =
+    ap (λ (l : List Out). take (length more) l) last.run.given ∙ take-append_seam more (outs_of last.run.history) in
+    record {
+      between = b;
+      before = subst (λ (l : List Out). Drives xs a outs b l) (sym cut) first;
+      after = subst (λ (l : List Out). Drives ys b l c all) (sym cut) last;
     }
 
 -- ---- one event

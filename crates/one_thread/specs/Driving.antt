@@ -1,5 +1,5 @@
 -- What one thread does of a machine: events from outside, each of which finds nothing waiting, and all that follows from them.
-use Rattle.std.specs.Prelude.{◌≡◌, Bool, true, false, List, [], ◌∷◌, ◌++◌, filter}
+use Rattle.std.specs.Prelude.{◌≡◌, ℕ, Bool, true, false, List, [], ◌∷◌, ◌++◌, filter, take}
 use Rattle.std.specs.List.{flat_map}
 use Rattle.events.specs.declared.event.Event.{Event}
 use Rattle.events.specs.declared.event.Event.TheVariants.{Hear, Tick, Select, Ingress, Work}
@@ -49,3 +49,10 @@ pub record DrivesSome (outside : List Event) (old : WorldState) (outs : List Out
   pub left : List Event
   pub both : done ++ left ≡ outside
   pub drives : Drives done old outs new all
+
+-- events from outside were done so, and then others; so much of what was given out by then stood there before the others
+pub record DrivesBoth (first second : List Event) (old : WorldState) (outs : List Out)
+    (new : WorldState) (all : List Out) (count : ℕ) : Type 0 where
+  pub between : WorldState
+  pub before : Drives first old outs between (take count all)
+  pub after : Drives second between (take count all) new all

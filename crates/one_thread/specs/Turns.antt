@@ -1,5 +1,5 @@
 -- Turns: what a receive gave, and the moment that the clock told then. What comes of them from outside.
-use Rattle.std.specs.Prelude.{◌≡◌, ◌⊎◌, ℕ, ◌+◌, ◌<◌, ◌≤◌, Bool, true, false, List, [], ◌∷◌, ◌++◌, map, length, Option, if◌then◌else◌}
+use Rattle.std.specs.Prelude.{◌≡◌, ◌⊎◌, ℕ, ◌+◌, ◌<◌, ◌≤◌, Bool, true, false, List, [], ◌∷◌, ◌++◌, map, length, nat_lt, Option, None, Some, if◌then◌else◌}
 use Rattle.events.specs.declared.event.Event.{Event}
 use Rattle.events.specs.declared.event.Event.TheVariants.{Hear, Tick, Select}
 use Rattle.events.specs.declared.output.Out.{Out}
@@ -25,6 +25,18 @@ brought_at moment (chosen leg on) = Select moment leg on ∷ []
 brought_at moment stop = []
 brought_at moment silence = []
 brought_at moment failure = []
+
+-- whose datagram came
+abbrev pub who_came : Arrival → Option ℕ
+who_came (came endpoint bytes) = Some endpoint
+who_came (chosen leg on) = None
+who_came stop = None
+who_came silence = None
+who_came failure = None
+
+-- of whose datagram what stands at a place is, if so much from the first place on is of this endpoint's, and the rest of none
+abbrev pub whose : Option ℕ → ℕ → ℕ → Option ℕ
+whose endpoint count place = if nat_lt place count then endpoint else None
 
 -- a tick is made where one is due
 abbrev pub tick_at : TicksState → ℕ → List Event

@@ -6,8 +6,8 @@ ghost use Rattle.events.specs.declared.output.Out.TheVariants.{Send};
 ghost use Rattle.outside.specs.Outside.{FitsIn, arrival_in, arrival_of, is_stop};
 ghost use Rattle.outside.specs.Ticks.{ticks_after};
 ghost use Rattle.outside.specs.declared.source.TheConstants.{MAX_FAULTS};
-ghost use Rattle.one_thread.specs.Driving.{Drives, DrivesSome, IsIdle};
-ghost use Rattle.one_thread.specs.Turns.{BreaksOff, Hands, MakesTurn, Raises, faults_with, brought_at, heard_count, tick_at, turn_events, view_of};
+ghost use Rattle.one_thread.specs.Driving.{Drives, DrivesSome, DrivesBoth, IsIdle};
+ghost use Rattle.one_thread.specs.Turns.{BreaksOff, Hands, MakesTurn, Raises, faults_with, brought_at, heard_count, tick_at, turn_events, view_of, who_came};
 
 use crate::settle::take_in;
 use crate::tally::Tally;
@@ -153,8 +153,8 @@ fn is_stop(received: Receipt) -> bool
     }
 }
 
-/// What came is taken in, then a tick is made where one is due.
-#[tactic(auto, using(crate::proofs::DrivingLemmas::drives_on, crate::proofs::DrivingLemmas::some_first, crate::proofs::DrivingLemmas::some_after))]
+/// What came is taken in, then a tick is made where one is due. Says how much of what is given out by then came before the tick.
+#[tactic(auto, using(crate::proofs::DrivingLemmas::drives_on, crate::proofs::DrivingLemmas::drives_both, crate::proofs::DrivingLemmas::some_first, crate::proofs::DrivingLemmas::some_after))]
 fn take_turn(
     alloc: Global,
     world: &mut World,
@@ -163,12 +163,14 @@ fn take_turn(
     received: Receipt,
     buffer: &[u8],
     outs: &mut Vec<Out>,
-) -> Result<(), AllocError>
+) -> Result<usize, AllocError>
     requires within { IfOk received (FitsIn (length buffer.now)) }
     requires one { length world.old.workers ≡ 1 }
     requires idle { IsIdle world.old }
     ensures ok { OnOk result (Drives (brought_at moment (arrival_of buffer.now received)
         ++ tick_at ticks.old moment) world.old outs.old.items world.new outs.new.items) }
+    ensures before { IfOk result (DrivesBoth (brought_at moment (arrival_of buffer.now received))
+        (tick_at ticks.old moment) world.old outs.old.items world.new outs.new.items) }
     ensures err { OnErr result (DrivesSome (brought_at moment (arrival_of buffer.now received)
         ++ tick_at ticks.old moment) world.old outs.old.items world.new outs.new.items) }
     ensures noted { OnOk result (ticks.new ≡ ticks_after ticks.old moment) }
@@ -176,7 +178,43 @@ fn take_turn(
     ensures one { length world.new.workers ≡ 1 }
 {
     take_received(alloc, world, moment, received, buffer, outs)?;
-    tick(world, moment, ticks, outs)
+    let before = outs.as_slice().len();
+    tick(world, moment, ticks, outs)?;
+    Ok(before)
+}
+
+/// Whose datagram came.
+fn who_came(received: Receipt) -> Option<u16>
+    ensures { (buffer : List ℕ) → result ≡ who_came (arrival_of buffer received) }
+{
+    match received {
+        Ok(Received::Datagram { endpoint, .. }) => Some(endpoint),
+        Ok(Received::Nothing | Received::Select { .. } | Received::Stop) | Err(_) => None,
+    }
+}
+
+/// Of whose datagram what is given out in a turn is: so many from the first on of this endpoint's, and the rest, since it is of the
+/// tick, of none.
+#[derive(Clone, Copy)]
+struct Origin {
+    endpoint: Option<u16>,
+    before: usize,
+}
+
+impl Origin {
+    ghost use Rattle.std.specs.Prelude.{◌≡◌};
+    ghost use Rattle.one_thread.specs.Turns.{whose};
+
+    /// Of whose datagram what stands at this place is.
+    fn at(self, place: usize) -> Option<u16>
+        ensures { result ≡ whose self.endpoint self.before place }
+    {
+        if place < self.before {
+            self.endpoint
+        } else {
+            None
+        }
+    }
 }
 
 /// Hands a datagram to the sink, and counts it.
@@ -190,24 +228,25 @@ fn hand_over<S: Sink>(sink: &mut S, endpoint: u16, bytes: &[u8], tally: &mut Tal
     }
 }
 
-/// Hands what the machine gave out to the sink, where it is a datagram.
+/// Hands what the machine gave out to the sink, where it is a datagram; tells it a miss, and what was refused of whose datagram.
 #[tactic(auto, using(crate::proofs::TurnLemmas::hands_none))]
-fn give<S: Sink>(out: &Out, sink: &mut S, tally: &mut Tally)
+fn give<S: Sink>(out: &Out, endpoint: Option<u16>, sink: &mut S, tally: &mut Tally)
     ensures { Hands (out.now ∷ []) (S.shown sink.old) (S.shown sink.new) tally.old tally.new }
 {
     match out {
         Out::Send { endpoint, bytes } => hand_over(sink, *endpoint, bytes.as_slice(), tally),
         Out::Miss { leg, .. } => sink.missed(*leg),
-        Out::Refused(_) | Out::Busy | Out::Lost(_) | Out::Skip { .. } | Out::Idle => {}
+        Out::Refused(refusal) => sink.refused(endpoint, *refusal),
+        Out::Busy | Out::Lost(_) | Out::Skip { .. } | Out::Idle => {}
     }
 }
 
 /// Hands the datagrams among what the machine gave out to the sink, in order.
-fn give_all<S: Sink>(outs: &[Out], sink: &mut S, tally: &mut Tally)
+fn give_all<S: Sink>(outs: &[Out], origin: Origin, sink: &mut S, tally: &mut Tally)
     ensures { Hands outs.now (S.shown sink.old) (S.shown sink.new) tally.old tally.new }
 {
-    for out in outs {
-        give(out, sink, tally);
+    for (place, out) in outs.iter().enumerate() {
+        give(out, origin.at(place), sink, tally);
     }
 }
 
@@ -300,7 +339,7 @@ pub(crate) fn turn<Src: Source, Snk: Sink, Clk: Clock, W: Watch>(
 {
     let received = source.receive(engine.buffer.as_mut_slice());
     let moment = clock.moment();
-    take_turn(
+    let before = take_turn(
         engine.alloc,
         &mut engine.world,
         &mut engine.ticks,
@@ -309,10 +348,12 @@ pub(crate) fn turn<Src: Source, Snk: Sink, Clk: Clock, W: Watch>(
         engine.buffer.as_slice(),
         &mut engine.outs,
     )?;
+    let endpoint = who_came(received);
+    let origin = Origin { endpoint, before };
     engine.faults = faults_with(engine.faults, received);
     engine.is_stopped = is_stop(received);
     engine.tally.heard = heard_with(engine.tally.heard, received);
-    give_all(engine.outs.as_slice(), sink, &mut engine.tally);
+    give_all(engine.outs.as_slice(), origin, sink, &mut engine.tally);
     engine.outs.clear();
     show(&engine.world, moment, &engine.tally, watch);
     show_room(&engine.world, watch);

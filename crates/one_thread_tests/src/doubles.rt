@@ -2,7 +2,7 @@
 //! over, which contracts see for as long as there was room for all of it; and a slow source, a sink that fails, and a watch.
 
 use desk::Desk;
-use events::Bytes;
+use events::{Bytes, Refusal};
 use outside::{
     Clock, Datagram, Look, ReceiveFault, Received, SendFault, Sink, Source, Status, Watch,
 };
@@ -131,6 +131,11 @@ pub(super) fn media_packet(alloc: Global, source: u8, seq: u16) -> Result<Vec<u8
     .to_vec(alloc)
 }
 
+/// The same packet in version 1, which is none (RFC 3550, section 5.1).
+pub(super) fn packet_of_version_1(alloc: Global, source: u8) -> Result<Vec<u8>, AllocError> {
+    [0x40, 0x60, 0, 7, 0, 0, 0x0b, 0xb8, 0, 0, 0, source].to_vec(alloc)
+}
+
 /// A source that plays its script; each receive takes 10 ms, by which a clock that is asked behind it is later.
 #[derive(Debug, Drop)]
 pub(super) struct Slow<'a> {
@@ -167,11 +172,12 @@ impl Clock for Moved<'_> {
     }
 }
 
-/// A sink whose first send fails. It keeps the legs of packets that were asked for again in vain.
+/// A sink whose first send fails. It keeps the legs of packets that were asked for again in vain, and what was refused.
 #[derive(Debug, Drop)]
 pub(super) struct Shaky {
     pub(super) failures: u64,
     pub(super) missed: Vec<u16>,
+    pub(super) refused: Vec<(Option<u16>, Refusal)>,
 }
 
 impl Sink for Shaky {
@@ -189,6 +195,10 @@ impl Sink for Shaky {
 
     fn missed(&mut self, leg: u16) {
         let _ = self.missed.push(leg);
+    }
+
+    fn refused(&mut self, endpoint: Option<u16>, refusal: Refusal) {
+        let _ = self.refused.push((endpoint, refusal));
     }
 }
 

@@ -3,16 +3,21 @@
 ghost use Rattle.std.specs.Prelude.{◌≡◌};
 
 use crate::doubles::{
-    Arrival, Looker, Moved, Script, Shaky, Slow, media_packet, receiver_report, resend_request,
+    Arrival, Looker, Moved, Script, Shaky, Slow, media_packet, packet_of_version_1,
+    receiver_report, resend_request,
 };
 use crate::run_tests::settings_with;
+use events::Refusal;
 use one_thread::{Pace, run_one_thread};
 use outside::Look;
+use rtp_packet::RtpFault;
+use settings::RoomFault;
 use std::alloc::{AllocError, Global};
 use std::cell::Cell;
 use std::test::Fail;
 
-/// Both come, three packets are sent on, and one that never was is asked for again.
+/// Both come, three packets are sent on, and one that never was is asked for again; then comes what is no packet, and a leg that isn't
+/// there is selected.
 fn arrivals(alloc: Global) -> Result<Vec<Arrival>, AllocError> {
     let mut arrivals = Vec::new(alloc);
     arrivals.push(Arrival::Datagram(0, receiver_report(alloc, 16)?))?;
@@ -21,6 +26,8 @@ fn arrivals(alloc: Global) -> Result<Vec<Arrival>, AllocError> {
         arrivals.push(Arrival::Datagram(0, media_packet(alloc, 16, seq)?))?;
     }
     arrivals.push(Arrival::Datagram(1, resend_request(alloc, 17, 5)?))?;
+    arrivals.push(Arrival::Datagram(1, packet_of_version_1(alloc, 17)?))?;
+    arrivals.push(Arrival::Select(7, true))?;
     Ok(arrivals)
 }
 
@@ -37,7 +44,7 @@ fn looker(alloc: Global) -> Result<Looker, AllocError> {
     })
 }
 
-/// Runs seven turns, whose receives take 10 ms each, and the last of which brings nothing. The first leg is to who never comes.
+/// Runs nine turns, whose receives take 10 ms each, and the last of which brings nothing. The first leg is to who never comes.
 fn run_watched(alloc: Global, sink: &mut Shaky, watch: &mut Looker) -> Result<bool, Fail> {
     let sources = [Some(16), Some(17), Some(18)];
     let settings = settings_with(alloc, &sources, &[(2, 258), (1, 257)])?;
@@ -55,15 +62,15 @@ fn run_watched(alloc: Global, sink: &mut Shaky, watch: &mut Looker) -> Result<bo
     };
     let mut clock = Moved { now: &now };
     let pace = Pace {
-        turns: 7,
+        turns: 9,
         tick_ms: 10,
     };
     let ran = run_one_thread(alloc, &settings, &mut source, sink, &mut clock, watch, pace);
     Ok(ran.is_ok())
 }
 
-/// The moment of a turn is that after its receive; its totals have what the turn itself did; a miss is told of its leg; of each
-/// endpoint it is shown whether it is present, of each leg its stay, a desk if it is there; and each look ends.
+/// The moment of a turn is that after its receive; its totals have what the turn itself did; a miss is told of its leg, and a refusal of
+/// whose datagram it is; of each endpoint it is shown whether it is present, of each leg its stay, a desk if it is there; and each look ends.
 #[test]
 fn shows_what_each_turn_came_to(rt: HostRuntime) -> Result<(), Fail> {
     let alloc = rt.alloc();
@@ -71,6 +78,7 @@ fn shows_what_each_turn_came_to(rt: HostRuntime) -> Result<(), Fail> {
     let mut sink = Shaky {
         failures: 0,
         missed: Vec::new(alloc),
+        refused: Vec::new(alloc),
     };
     assert!(rt; run_watched(alloc, &mut sink, &mut watch)?);
     let wanted = [
@@ -80,7 +88,9 @@ fn shows_what_each_turn_came_to(rt: HostRuntime) -> Result<(), Fail> {
         (40, 2, 4, 1, 1),
         (50, 2, 5, 2, 1),
         (60, 2, 6, 2, 1),
-        (70, 2, 6, 2, 1),
+        (70, 2, 7, 2, 1),
+        (80, 2, 7, 2, 1),
+        (90, 2, 7, 2, 1),
     ];
     assert_eq!(rt; watch.totals.len(), wanted.len());
     for ((moment, status), wanted) in watch.totals.iter().zip(wanted) {
@@ -97,6 +107,11 @@ fn shows_what_each_turn_came_to(rt: HostRuntime) -> Result<(), Fail> {
         assert_eq!(rt; (status.lost, status.dropped), (0, 0));
     }
     assert!(rt; sink.missed.as_slice() == [1].as_slice());
+    let refused = [
+        (Some(1), Refusal::Rtp(RtpFault::Version)),
+        (None, Refusal::Room(RoomFault::UnknownLeg)),
+    ];
+    assert!(rt; sink.refused.as_slice() == refused.as_slice());
     assert!(rt; watch.present.as_slice() == [(0, true), (1, false), (2, false)].as_slice());
     assert!(rt; watch.stays.as_slice() == [(0, None), (1, Some(1))].as_slice());
     assert!(rt; watch.desks.as_slice() == [0].as_slice());

@@ -1,5 +1,6 @@
 //! Where datagrams go.
 
+use events::Refusal;
 use thiserror::Error;
 
 /// A datagram couldn't be sent.
@@ -25,6 +26,11 @@ pub trait Sink {
 
     /// A packet was asked for again on the leg with this number, and isn't kept any more (RFC 4585, section 6.2.1): nothing is sent.
     fn missed(&mut self, _leg: u16)
+        ensures { shown self.new ≡ shown self.old }
+    {}
+
+    /// Something was refused: of a datagram of the endpoint with this number, or of none, where it is `None`. Nothing is sent.
+    fn refused(&mut self, _endpoint: Option<u16>, _refusal: Refusal)
         ensures { shown self.new ≡ shown self.old }
     {}
 }

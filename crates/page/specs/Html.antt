@@ -17,7 +17,7 @@ use Rattle.page.specs.declared.reports.Report.{Report}
 use Rattle.page.specs.Ends.{ends_in, numbers_in}
 use Rattle.page.specs.Receptions.{known_cell, reception_cells}
 use Rattle.page.specs.Reports.{leg_reported, publisher_reported, trip_of}
-use Rattle.page.specs.Words.{plain_word, word_at}
+use Rattle.page.specs.Words.{plain_word, refused_word, word_at}
 
 -- ---- cells
 
@@ -39,7 +39,7 @@ unfoldable pub figure_text : List ℕ → List ℕ → List ℕ
 figure_text name word =
     codes "<div><dt>" ++ (name ++ (codes "</dt><dd>" ++ (plain_word word ++ codes "</dd></div>\n")))
 
--- ---- N ssrc SSRC at ADDRESS present heard M ms ago
+-- ---- N ssrc SSRC at ADDRESS present heard M ms ago refused R
 
 -- never, or how many milliseconds ago
 abbrev pub age_word : List (List ℕ) → List ℕ
@@ -64,8 +64,10 @@ abbrev pub moved_cells : List FlowRate → Option ℕ → List ℕ
 moved_cells rates (Some n) = endpoint_moved rates (whose.Endpoint n)
 moved_cells rates None = UNMOVED.now
 
+-- how often something was refused of it, and where it is
 unfoldable pub place_cells : List (List ℕ) → List ℕ
-place_cells words = cell_text (word_at words 2) ++ word_cell (word_at words 4)
+place_cells words =
+    cell_text (refused_word words) ++ (cell_text (word_at words 2) ++ word_cell (word_at words 4))
 
 -- what moved, and what the unit reports of what comes
 unfoldable pub measured_cells : List FlowRate → List Report → Option ℕ → List ℕ

@@ -14,7 +14,7 @@ use Rattle.page.specs.declared.state.Rows.TheVariants.{Endpoints, Legs, Totals}
 use Rattle.page.specs.declared.reports.Report.{Report}
 use Rattle.page.specs.History.{rate_now}
 use Rattle.page.specs.Reports.{fraction_of, jitter_of, leg_reported, publisher_reported, trip_of}
-use Rattle.page.specs.Words.{plain_word, word_at}
+use Rattle.page.specs.Words.{plain_word, refused_word, word_at}
 
 -- these tokens come behind those that were written
 abbrev pub Tells : {E : Type 0} → Result (Unit {0}) E → Written → Written → List Token → Type 0
@@ -64,7 +64,7 @@ report_members report =
 unfoldable pub heard_members : List Report → Option ℕ → List Token
 heard_members reports n = report_members (leg_reported reports n)
 
--- ---- N ssrc SSRC at ADDRESS present heard M ms ago
+-- ---- N ssrc SSRC at ADDRESS present heard M ms ago refused R
 
 unfoldable pub endpoint_members : List (List ℕ) → List Token
 endpoint_members words =
@@ -78,15 +78,21 @@ abbrev pub endpoint_moved : List FlowRate → Option ℕ → List Token
 endpoint_moved rates (Some n) = moved_members rates (whose.Endpoint n)
 endpoint_moved rates None = []
 
-unfoldable pub measured_members : List FlowRate → List Report → Option ℕ → List Token
-measured_members rates reports n =
-    endpoint_moved rates n ++ reception_members (publisher_reported reports n)
+-- how often something was refused of it
+unfoldable pub refused_member : List ℕ → List Token
+refused_member word = number_member (codes "refused") word
+
+unfoldable pub measured_members : List FlowRate → List Report → Option ℕ → List ℕ → List Token
+measured_members rates reports n refused =
+    refused_member refused
+    ++ (endpoint_moved rates n ++ reception_members (publisher_reported reports n))
 
 abbrev pub endpoint_words : List FlowRate → List Report → List (List ℕ) → List Token
 endpoint_words rates reports words = if bytes_eq (word_at words 1) (codes "ssrc")
     then begin_object
     ∷ (endpoint_members words
-    ++ (measured_members rates reports (number_under (2 ^ 16) (word_at words 0)) ++ end_object ∷ []))
+    ++ (measured_members rates reports (number_under (2 ^ 16) (word_at words 0)) (refused_word words)
+    ++ end_object ∷ []))
     else []
 
 -- ---- N from P to S on stay T packets K octets O resent R missed M next Q

@@ -7,6 +7,11 @@ use Rattle.std.specs.Str.{bytes_eq}
 abbrev pub word_at : List (List ℕ) → ℕ → List ℕ
 word_at words place = get_or words place []
 
+-- how often something was refused of an endpoint, in its line, which says `never heard` or `heard M ms ago` before that
+abbrev pub refused_word : List (List ℕ) → List ℕ
+refused_word words =
+    if bytes_eq (word_at words 6) (codes "never") then word_at words 9 else word_at words 11
+
 -- a small letter, a digit, a dot, a slash, a colon or a bracket: nothing that HTML or JSON reads as more than itself
 abbrev pub is_plain_byte : ℕ → Bool
 is_plain_byte b =

@@ -18,7 +18,7 @@ use crate::style::{
     IN_CELL, IN_FIGURE, LEGS, OPENING, OUT_CELL, OUT_FIGURE, SILENT, TABLE_END, TOTALS, TOTALS_END,
     UNMOVED, WORD_CELL,
 };
-use crate::words::{plain_word, word_at};
+use crate::words::{plain_word, refused_word, word_at};
 use request_text::{is_word, lines, number_u16, words_of};
 use std::alloc::{AllocError, Global};
 
@@ -257,12 +257,13 @@ fn push_endpoint_cells(text: &mut String, words: &[&[u8]]) -> Result<(), AllocEr
     push_cell(text, age_word(words))
 }
 
-/// Where it is.
+/// How often something was refused of it, and where it is.
 #[tactic(auto, unfolding(crate::specs::Html::place_cells))]
 fn push_place_cells(text: &mut String, words: &[&[u8]]) -> Result<(), AllocError>
     ensures { OnOk result (string_bytes text.new
         ≡ string_bytes text.old ++ place_cells (map (λ x. x.now) words.now)) }
 {
+    push_cell(text, refused_word(words))?;
     push_cell(text, word_at(words, 2))?;
     push_word_cell(text, word_at(words, 4))
 }

@@ -4,13 +4,13 @@ ghost use Rattle.std.specs.Prelude.{◌≡◌, IfOk, codes, flat_map, map};
 ghost use Rattle.json.specs.Print.{print};
 ghost use Rattle.request_text.specs.Lines.{lines_of};
 ghost use Rattle.page.specs.Reports.{reports_in};
-ghost use Rattle.page.specs.State.{Tells, array_begun, array_member, counts_begun, counts_member, endpoint_members, endpoint_moved, endpoint_words, flow_members, heard_members, known_member, leg_members, leg_words, line_tokens, losses_members, measured_members, moved_members, number_member, reception_members, report_members, reported_members, state_parts, state_tokens, switch_member, text_member, totals_members, totals_words, words_tokens};
+ghost use Rattle.page.specs.State.{Tells, array_begun, array_member, counts_begun, counts_member, endpoint_members, endpoint_moved, endpoint_words, flow_members, heard_members, known_member, leg_members, leg_words, line_tokens, losses_members, measured_members, moved_members, number_member, reception_members, refused_member, report_members, reported_members, state_parts, state_tokens, switch_member, text_member, totals_members, totals_words, words_tokens};
 
 use crate::history::{Flow, FlowRate, Way, Whose, rate_now};
 use crate::reports::{
     Report, fraction_of, jitter_of, leg_reported, publisher_reported, reports_in, trip_of,
 };
-use crate::words::{plain_word, word_at};
+use crate::words::{plain_word, refused_word, word_at};
 use json::Writer;
 use request_text::{is_word, lines, number_u16, number_u64, words_of};
 use std::alloc::{AllocError, Global};
@@ -234,21 +234,24 @@ fn push_endpoint(
     }
     writer.begin_object()?;
     push_endpoint_members(writer, words)?;
-    push_measured(writer, rates, reports, number_u16(word_at(words, 0)))?;
+    let number = number_u16(word_at(words, 0));
+    push_measured(writer, rates, reports, number, refused_word(words))?;
     writer.end_object()
 }
 
-/// What moved of the endpoint with this number, and what reports say of it.
+/// How often something was refused of the endpoint with this number, what moved of it, and what reports say of it.
 #[tactic(auto, unfolding(crate::specs::State::measured_members))]
 fn push_measured(
     writer: &mut Writer,
     rates: &[FlowRate],
     reports: &[Report],
     number: Option<u16>,
+    refused: &[u8],
 ) -> Result<(), AllocError>
     ensures { Tells result writer.old writer.new
-        (measured_members rates.now reports.now number) }
+        (measured_members rates.now reports.now number refused.now) }
 {
+    push_refused(writer, refused)?;
     push_endpoint_moved(writer, rates, number)?;
     push_reception(writer, publisher_reported(reports, number))
 }
@@ -313,6 +316,14 @@ fn push_endpoint_members(writer: &mut Writer, words: &[&[u8]]) -> Result<(), All
     push_text(writer, "address", word_at(words, 4))?;
     push_switch(writer, "present", word_at(words, 5), b"present")?;
     push_number(writer, "heard_ago_ms", word_at(words, 7))
+}
+
+/// How often something was refused of it.
+#[tactic(auto, unfolding(crate::specs::State::refused_member))]
+fn push_refused(writer: &mut Writer, word: &[u8]) -> Result<(), AllocError>
+    ensures { Tells result writer.old writer.new (refused_member word.now) }
+{
+    push_number(writer, "refused", word)
 }
 
 /// The object of the leg that these words tell of.

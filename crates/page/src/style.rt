@@ -67,7 +67,7 @@ pub const ENDPOINTS: &str = "<section>
 <div class=\"wide\"><table>
 <thead><tr><th scope=\"col\">endpoint</th><th scope=\"col\" class=\"word\">state</th><th scope=\"col\">heard, ms ago</th>\
 <th scope=\"col\">in, bit/s</th><th scope=\"col\">out, bit/s</th><th scope=\"col\" class=\"word\">last minute</th>\
-<th scope=\"col\">loss</th><th scope=\"col\">jitter</th><th scope=\"col\">SSRC</th><th scope=\"col\" class=\"word\">address</th></tr></thead>
+<th scope=\"col\">loss</th><th scope=\"col\">jitter</th><th scope=\"col\">refused</th><th scope=\"col\">SSRC</th><th scope=\"col\" class=\"word\">address</th></tr></thead>
 <tbody>
 ";
 

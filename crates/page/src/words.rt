@@ -2,7 +2,9 @@
 
 ghost use Rattle.std.specs.Prelude.{◌≡◌, ◌<◌, map, option_map};
 ghost use Rattle.std.specs.List.{list_all};
-ghost use Rattle.page.specs.Words.{is_plain, is_plain_byte, plain_word, without_end, without_start, word_at};
+ghost use Rattle.page.specs.Words.{is_plain, is_plain_byte, plain_word, refused_word, without_end, without_start, word_at};
+
+use request_text::is_word;
 
 /// The word at a place from 0 on; an empty one where there is none.
 pub(crate) fn word_at<'a>(words: &[&'a [u8]], place: usize) -> &'a [u8]
@@ -11,6 +13,17 @@ pub(crate) fn word_at<'a>(words: &[&'a [u8]], place: usize) -> &'a [u8]
     match words.get(place) {
         Some(word) => word,
         None => b"",
+    }
+}
+
+/// How often something was refused of an endpoint, by the words of its line.
+pub(crate) fn refused_word<'a>(words: &[&'a [u8]]) -> &'a [u8]
+    ensures { result.now ≡ refused_word (map (λ x. x.now) words.now) }
+{
+    if is_word(word_at(words, 6), b"never") {
+        word_at(words, 9)
+    } else {
+        word_at(words, 11)
     }
 }
 

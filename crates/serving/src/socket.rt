@@ -7,6 +7,7 @@ use crate::arrivals::Arrivals;
 use crate::clients::Listening;
 use crate::directory::Directory;
 use crate::gauges::Gauges;
+use events::Refusal;
 use outside::{Clock, ReceiveFault, Received, SendFault, Sink, Source};
 use senders::{Kind, is_control};
 use std::alloc::{AllocError, Global};
@@ -221,6 +222,10 @@ impl Sink for SocketSink<'_> {
 
     fn missed(&mut self, leg: u16) {
         self.traffic.missed(leg);
+    }
+
+    fn refused(&mut self, endpoint: Option<u16>, refusal: Refusal) {
+        self.traffic.refused(endpoint, refusal);
     }
 }
 

@@ -15,7 +15,7 @@ use strangers::Strangers;
 use tmmbr_tuple::Ssrc;
 use traffic::{
     LegLine, Metric, MetricType, Sample, Traffic, leg_line, leg_report_line, publisher_report_line,
-    push_figures, push_metric, push_report_figures,
+    push_figures, push_metric, push_refusal_figures, push_refusal_lines, push_report_figures,
 };
 
 /// So many milliseconds lie at least between two looks at the peers.
@@ -72,6 +72,7 @@ enum Asked {
     Legs,
     Metrics,
     Reports,
+    Refusals,
     /// The unit stops: nobody waits for an answer, and who is present is to be known.
     Stop,
 }
@@ -129,6 +130,7 @@ impl Steering {
             Course::Legs => self.begin(Asked::Legs),
             Course::Metrics => self.begin(Asked::Metrics),
             Course::Reports => self.begin(Asked::Reports),
+            Course::Refusals => self.begin(Asked::Refusals),
             Course::Strangers => self.tell_strangers(moment),
             Course::Record => {
                 if let Some(peer) = self.peers.take_last() {
@@ -233,7 +235,7 @@ impl Steering {
     pub(crate) fn look(&self) -> Look {
         match self.asked {
             Asked::Look(look) => look,
-            Asked::Metrics | Asked::Reports | Asked::Stop => Look::Presence,
+            Asked::Metrics | Asked::Reports | Asked::Refusals | Asked::Stop => Look::Presence,
             Asked::Legs => Look::Stays,
             Asked::Nothing | Asked::Counts => Look::Nothing,
         }
@@ -267,8 +269,10 @@ impl Steering {
     fn push_endpoint(&mut self, endpoint: u16, is_present: bool, traffic: &Traffic, moment: u64) {
         if let Some(listed) = self.endpoints.get(usize::from(endpoint)) {
             let Listed { source, address } = *listed;
-            let ago_ms = heard_ago(traffic, endpoint, moment);
-            let line = present_line(self.alloc, endpoint, source, address, is_present, ago_ms);
+            let (ago_ms, refused) = heard_of(traffic, endpoint, moment);
+            let line = present_line(
+                self.alloc, endpoint, source, address, is_present, ago_ms, refused,
+            );
             self.push(line);
         }
     }
@@ -314,6 +318,11 @@ impl Steering {
                 self.push(text);
                 self.answer();
             }
+            Asked::Refusals => {
+                let text = refusals_text(self.alloc, traffic);
+                self.push(text);
+                self.answer();
+            }
             Asked::Nothing | Asked::Counts | Asked::Legs | Asked::Look(_) => self.answer(),
         }
     }
@@ -343,10 +352,17 @@ impl Steering {
     }
 }
 
-/// How many milliseconds before this moment the endpoint was heard last, if ever.
-fn heard_ago(traffic: &Traffic, endpoint: u16, moment: u64) -> Option<u64> {
-    let heard_ms = traffic.endpoint(endpoint)?.heard_ms?;
-    Some(moment.saturating_sub(heard_ms))
+/// How many milliseconds before this moment the endpoint was heard last, if ever, and how often something was refused of it.
+fn heard_of(traffic: &Traffic, endpoint: u16, moment: u64) -> (Option<u64>, u64) {
+    match traffic.endpoint(endpoint) {
+        Some(count) => {
+            let ago_ms = count
+                .heard_ms
+                .map(|heard_ms| moment.saturating_sub(heard_ms));
+            (ago_ms, count.refused)
+        }
+        None => (None, 0),
+    }
 }
 
 /// The counts of a unit as metrics.
@@ -374,6 +390,7 @@ fn metrics_text(
     let legs = traffic.legs(alloc)?;
     push_figures(alloc, &mut text, endpoints.as_slice(), legs.as_slice())?;
     push_reports(alloc, &mut text, traffic)?;
+    push_refusal_figures(&mut text, traffic.refusals(alloc)?.as_slice())?;
     push_unheard(&mut text, unheard)?;
     Ok(text)
 }
@@ -383,6 +400,14 @@ fn push_reports(alloc: Global, text: &mut String, traffic: &Traffic) -> Result<(
     let legs = traffic.leg_reports(alloc)?;
     let publishers = traffic.publisher_reports(alloc)?;
     push_report_figures(text, legs.as_slice(), publishers.as_slice())
+}
+
+/// What was refused of what came: a line for each endpoint and reason.
+fn refusals_text(alloc: Global, traffic: &Traffic) -> Result<String, AllocError> {
+    let mut text = String::new(alloc);
+    let counts = traffic.refusals(alloc)?;
+    push_refusal_lines(&mut text, counts.as_slice())?;
+    Ok(text)
 }
 
 /// What reports say, at this moment: a line for each leg that was reported on, then one for each publisher.

@@ -7,3 +7,4 @@ pub mod Figures
 pub mod Reports
 pub mod ReportLines
 pub mod ReportFigures
+pub mod Refusals

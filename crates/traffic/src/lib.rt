@@ -2,8 +2,9 @@
 //! Prometheus.
 //!
 //! Read `traffic` first, the counts that threads raise. It stands on `leg_count`, what went out on a leg, `kinds`, what a datagram of
-//! RTCP holds, and `reports`, what report blocks say; `report_cells` is where threads leave that. `lines` and `report_lines` are texts for
-//! people, `metrics` those for Prometheus, `figures` and `report_figures` which metrics there are.
+//! RTCP holds, and `reports`, what report blocks say; `report_cells` is where threads leave that. `refusals` says why what came was refused,
+//! `refusal_cells` is where threads count it. `lines`, `report_lines` and `refusal_texts` are texts for people, `metrics` those for
+//! Prometheus, `figures` and `report_figures` which metrics there are.
 #![tactic(auto)]
 
 mod figures;
@@ -11,6 +12,9 @@ mod kinds;
 mod leg_count;
 mod lines;
 mod metrics;
+mod refusal_cells;
+mod refusal_texts;
+mod refusals;
 mod report_cells;
 mod report_figures;
 mod report_lines;
@@ -22,6 +26,8 @@ pub use kinds::{Kinds, kinds_of};
 pub use leg_count::LegCount;
 pub use lines::{LegLine, leg_line};
 pub use metrics::{Metric, MetricType, Sample, push_metric};
+pub use refusal_texts::{push_refusal_figures, push_refusal_lines};
+pub use refusals::RefusedCount;
 pub use report_figures::{NumberedReport, Reading, ReportFigure, push_report_figures};
 pub use report_lines::{leg_report_line, publisher_report_line};
 pub use reports::{ReceptionReport, SentReport};

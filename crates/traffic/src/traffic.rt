@@ -5,9 +5,12 @@ ghost use Rattle.std.specs.Prelude.{◌≡◌, length, vec_len, IfOk};
 use crate::figures::Numbered;
 use crate::kinds::{Kinds, kinds_of};
 use crate::leg_count::LegCount;
+use crate::refusal_cells::RefusalCells;
+use crate::refusals::RefusedCount;
 use crate::report_cells::{ReportCells, SentCell};
 use crate::report_figures::NumberedReport;
 use crate::reports::{ReceptionReport, SentReport, WORD_VALUES, blocks_of, lsr_of};
+use events::Refusal;
 use rtcp_compound::{Block, RtcpView, split};
 use rtp_packet::RtpView;
 use settings::{LegSettings, Settings};
@@ -37,6 +40,8 @@ pub struct EndpointCount {
     pub failed: u64,
     /// What it was asked for, and told.
     pub told: Kinds,
+    /// How often something was refused of what came from it.
+    pub refused: u64,
 }
 
 /// The counts of a unit, by endpoint and by leg, and what reports say. What comes is counted by one thread, which tells the moment of each
@@ -46,6 +51,8 @@ pub struct Traffic {
     /// The moment of the last turn, in milliseconds.
     moment_ms: AtomicU64,
     endpoints: Vec<EndpointCells>,
+    /// What was refused of no datagram.
+    refused: RefusalCells,
     legs: Vec<LegCells>,
     /// The SSRC that each leg's subscriber sees, rising, and the leg's number.
     sources: Vec<(Ssrc, u16)>,
@@ -66,6 +73,8 @@ struct EndpointCells {
     sent_octets: AtomicU64,
     failed: AtomicU64,
     told: KindCells,
+    /// What was refused of what came from it.
+    refused: RefusalCells,
     /// What the unit reported of it.
     reported: ReportCells,
 }
@@ -97,6 +106,7 @@ struct LegCells {
 
 impl Traffic {
     ghost use Rattle.std.specs.Prelude.{◌≡◌, ◌≤◌, ◌<◌, length, vec_len, IfOk, IfSome, MatchOption};
+    ghost use Rattle.traffic.specs.Refusals.{AreCounted};
 
     /// Nothing came or went yet in a unit of these settings. Refused for want of memory alone.
     pub fn new(alloc: Global, settings: &Settings) -> Result<Traffic, AllocError>
@@ -107,6 +117,7 @@ impl Traffic {
         Ok(Traffic {
             moment_ms: AtomicU64::new(0),
             endpoints: endpoint_cells(alloc, settings.endpoints())?,
+            refused: RefusalCells::new(),
             legs: leg_cells(alloc, settings.legs())?,
             sources: sources_of(alloc, settings.legs())?,
         })
@@ -234,6 +245,16 @@ impl Traffic {
         }
     }
 
+    /// Something was refused of a datagram of this endpoint, or, where it is `None`, of none.
+    pub fn refused(&self, endpoint: Option<u16>, refusal: Refusal) {
+        let Some(number) = endpoint else {
+            return self.refused.add(refusal);
+        };
+        if let Some(cells) = self.endpoints.get(usize::from(number)) {
+            cells.refused.add(refusal);
+        }
+    }
+
     /// A datagram couldn't be sent to this endpoint.
     pub fn failed(&self, endpoint: u16) {
         if let Some(cells) = self.endpoints.get(usize::from(endpoint)) {
@@ -312,6 +333,22 @@ impl Traffic {
         Ok(all)
     }
 
+    /// How often each reason refused what came of each endpoint, and then of no datagram, of those that did; by the endpoint, by what
+    /// refuses, and by the reason's number, each rising.
+    pub fn refusals(&self, alloc: Global) -> Result<Vec<RefusedCount>, AllocError>
+        ensures { IfOk result (λ all. AreCounted all.items) }
+    {
+        let mut all = Vec::new(alloc);
+        for place in 0..self.endpoints.len() {
+            let number = u16::try_from(place).unwrap_or(u16::MAX);
+            self.endpoints[place]
+                .refused
+                .push_counts(Some(number), &mut all)?;
+        }
+        self.refused.push_counts(None, &mut all)?;
+        Ok(all)
+    }
+
     /// The counts of each leg now, by rising number.
     pub fn legs(&self, alloc: Global) -> Result<Vec<Numbered<LegCount>>, AllocError>
         ensures { IfOk result (λ all. length all.items ≡ vec_len self.now.legs) }
@@ -340,6 +377,7 @@ impl EndpointCells {
             sent_octets: AtomicU64::new(0),
             failed: AtomicU64::new(0),
             told: KindCells::new(),
+            refused: RefusalCells::new(),
             reported: ReportCells::new(),
         }
     }
@@ -355,6 +393,7 @@ impl EndpointCells {
             sent_octets: self.sent_octets.load(Ordering::SeqCst),
             failed: self.failed.load(Ordering::SeqCst),
             told: self.told.seen(),
+            refused: self.refused.total(),
         }
     }
 }

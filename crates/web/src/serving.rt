@@ -1,6 +1,6 @@
 //! `sfu page PATH ADDRESS`: the loop that asks a unit and answers those who come, in one thread.
 
-ghost use Rattle.std.specs.Prelude.{◌≢◌, IfErr};
+ghost use Rattle.std.specs.Prelude.{◌≡◌, ◌≢◌, None, IfErr};
 
 use crate::inquiry::{Inquiry, Step};
 use crate::teller::Teller;
@@ -264,21 +264,31 @@ impl Page {
         }
     }
 
-    /// The inquiry came so far.
-    fn note(&mut self, step: Step) {
-        if matches!(step, Step::Asking) {
-            return;
-        }
-        let said = match self.inquiry.take() {
-            Some(inquiry) if matches!(step, Step::Answered) => {
-                let questions = u64::try_from(inquiry.asked()).unwrap_or(0);
-                let least = questions.saturating_mul(QUESTION_EACH_MS);
-                self.due_ms = self.due_ms.max(self.begun_ms.saturating_add(least));
-                self.with_rates(inquiry.into_said())
+    /// The inquiry came so far. Of a unit that is gone, or doesn't answer any more, nothing is told from then on.
+    fn note(&mut self, step: Step)
+        ensures asking { step ≡ Step.Asking → self.new.teller ≡ self.old.teller }
+        ensures gone { step ≡ Step.Failed → self.new.teller.said ≡ None }
+    {
+        match step {
+            Step::Asking => {}
+            Step::Answered => {
+                let said = self.take_said();
+                self.teller.hear(said);
             }
-            _ => None,
-        };
-        self.teller.hear(said);
+            Step::Failed => {
+                self.inquiry = None;
+                self.teller.hear(None);
+            }
+        }
+    }
+
+    /// What the unit said in the inquiry, which is over; the next one waits until that many questions may be asked again.
+    fn take_said(&mut self) -> Option<Said> {
+        let inquiry = self.inquiry.take()?;
+        let questions = u64::try_from(inquiry.asked()).unwrap_or(0);
+        let least = questions.saturating_mul(QUESTION_EACH_MS);
+        self.due_ms = self.due_ms.max(self.begun_ms.saturating_add(least));
+        self.with_rates(inquiry.into_said())
     }
 
     /// What the unit said, with what moved in the minute before it was asked; `None` if there is no memory.

@@ -2,9 +2,10 @@
 
 ghost use Rattle.std.specs.Prelude.{◌≡◌, IfSome};
 ghost use Rattle.core_steps.specs.Happening.{capped_count};
+ghost use Rattle.workers.specs.Counted.{outcome_of};
 
 use crossbeam_utils::CachePadded;
-use forwarding::Forwarded;
+use forwarding::{ForwardFault, Forwarded};
 use outside::Status;
 use std::alloc::{AllocError, Global};
 use std::sync::atomic::{AtomicU64, Ordering};
@@ -128,19 +129,15 @@ impl Tally {
     }
 
     /// What a job or a notification came to.
-    pub(crate) fn add(&self, done: &Forwarded) {
-        raise(&self.sent, done.sent);
-        raise(&self.failed, done.failed);
-    }
-
-    /// A job or a notification was given up.
-    pub(crate) fn add_dropped(&self) {
-        raise(&self.dropped, 1);
+    pub(crate) fn add(&self, outcome: Outcome) {
+        raise(&self.sent, outcome.sent);
+        raise(&self.failed, outcome.failed);
+        raise(&self.dropped, outcome.dropped);
     }
 
     /// What it comes to now.
-    fn seen(&self) -> Seen {
-        Seen {
+    fn seen(&self) -> Outcome {
+        Outcome {
             sent: self.sent.load(Ordering::SeqCst),
             failed: self.failed.load(Ordering::SeqCst),
             dropped: self.dropped.load(Ordering::SeqCst),
@@ -148,16 +145,35 @@ impl Tally {
     }
 }
 
-/// What a tally came to when it was looked at.
-#[derive(Clone, Copy, Debug)]
-struct Seen {
+/// What jobs and notifications came to: datagrams that were sent, datagrams that couldn't be, and how many jobs and notifications were
+/// given up.
+#[derive(Clone, Copy, Debug, PartialEq, Eq)]
+pub(crate) struct Outcome {
     sent: u64,
     failed: u64,
     dropped: u64,
 }
 
+/// What a job or a notification came to: what was sent of it, or that it was given up.
+pub(crate) fn outcome_of(done: Result<Forwarded, ForwardFault>) -> Outcome
+    ensures { result ≡ outcome_of done }
+{
+    match done {
+        Ok(done) => Outcome {
+            sent: done.sent,
+            failed: done.failed,
+            dropped: 0,
+        },
+        Err(_) => Outcome {
+            sent: 0,
+            failed: 0,
+            dropped: 1,
+        },
+    }
+}
+
 /// Adds to the totals what one more thread did.
-fn add_up(status: &mut Status, seen: Seen)
+fn add_up(status: &mut Status, seen: Outcome)
     ensures { status.new ≡ record status.old {
       sent = capped_count status.old.sent seen.sent;
       failed = capped_count status.old.failed seen.failed;

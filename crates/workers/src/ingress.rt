@@ -8,18 +8,18 @@ ghost use Rattle.core_steps.specs.Run.{Leaves};
 ghost use Rattle.routes.specs.Rows.{changes_by};
 ghost use Rattle.workers.specs.Counted.{counted_of};
 
-use crate::counts::Counts;
+use crate::counts::{Counts, Outcome, outcome_of};
 use crate::gear::Gear;
 use crate::item::Item;
 use crate::lane::Crew;
 use core_steps::{Duty, IngressCore};
 use desk::{Answer, Call, Change, Signal};
-use events::{Job, Out};
+use events::{DeskRefusal, Job, Out, Refusal};
 use forwarding::{ForwardFault, Forwarded, Notifier, Question, send_all};
 use members::Order;
 use notices::stay_call;
 use outside::{Look, Sink, Ticks, Watch};
-use rate_desk::{DeskCalls, DeskSeat, House, SeatCalls};
+use rate_desk::{DeskCalls, DeskSeat, House, HouseFault, SeatCalls};
 use routes::{Naming, RouteWriter};
 use settings::Settings;
 use std::alloc::{AllocError, Global};
@@ -40,8 +40,10 @@ pub(crate) struct Ingress<'a, D: DeskCalls, C: SeatCalls, J: Naming, S: Drop> {
     pub(crate) ticks: Ticks,
     /// How many endpoints are present at this tick, of those that were counted.
     pub(crate) present: u64,
-    /// What was refused of a datagram, which nobody is told.
+    /// What was refused of what came last.
     pub(crate) refusals: Vec<Out>,
+    /// Whose datagram is being done, if one is.
+    pub(crate) endpoint: Option<u16>,
 }
 
 /// The ingress's own machine, and what asks desks for it.
@@ -74,7 +76,9 @@ impl<'a, D: DeskCalls, C: SeatCalls, J: Naming, S: Sink + Drop> Ingress<'a, D, C
         bytes: &[u8],
     ) -> Result<(), AllocError> {
         self.counts.add_heard();
+        self.endpoint = Some(endpoint);
         hear_one(&mut self.core, moment, endpoint, bytes, &mut self.refusals)?;
+        self.tell_refusals();
         self.do_duties(rt)
     }
 
@@ -86,7 +90,9 @@ impl<'a, D: DeskCalls, C: SeatCalls, J: Naming, S: Sink + Drop> Ingress<'a, D, C
         leg: u16,
         on: bool,
     ) -> Result<(), AllocError> {
+        self.endpoint = None;
         select_one(&mut self.core, moment, leg, on, &mut self.refusals)?;
+        self.tell_refusals();
         self.do_duties(rt)
     }
 
@@ -96,6 +102,7 @@ impl<'a, D: DeskCalls, C: SeatCalls, J: Naming, S: Sink + Drop> Ingress<'a, D, C
             return Ok(());
         }
         self.present = 0;
+        self.endpoint = None;
         tick_once(&mut self.core, moment, &mut self.refusals)?;
         self.do_duties(rt)?;
         self.counts.note_present(self.present);
@@ -124,6 +131,15 @@ impl<'a, D: DeskCalls, C: SeatCalls, J: Naming, S: Sink + Drop> Ingress<'a, D, C
             }
         }
         watch.end_look();
+    }
+
+    /// Tells the sink what was refused of what came.
+    fn tell_refusals(&mut self) {
+        for out in self.refusals.iter() {
+            if let Out::Refused(refusal) = out {
+                self.gear.sink.refused(self.endpoint, *refusal);
+            }
+        }
     }
 
     /// Does all that waits.
@@ -180,6 +196,7 @@ impl<'a, D: DeskCalls, C: SeatCalls, J: Naming, S: Sink + Drop> Ingress<'a, D, C
         let question = Question {
             publisher,
             asked_by: None,
+            endpoint: self.endpoint,
             call,
         };
         let note = self.writer.note();
@@ -212,6 +229,11 @@ impl<'a, D: DeskCalls, C: SeatCalls, J: Naming, S: Sink + Drop> Ingress<'a, D, C
         let moment = self.core.moment();
         match self.house.pulse(rt, &mut self.gear.seat, at, moment) {
             Ok(receipt) if wants_pli(&receipt.answer) => self.ask_for_picture(publisher),
+            Err(HouseFault::HistoryFull) => {
+                let refusal = Refusal::Desk(DeskRefusal::HistoryFull);
+                self.gear.sink.refused(self.endpoint, refusal);
+                Ok(())
+            }
             _ => Ok(()),
         }
     }
@@ -250,22 +272,17 @@ impl<'a, D: DeskCalls, C: SeatCalls, J: Naming, S: Sink + Drop> Ingress<'a, D, C
 
     /// Counts what was sent. Without a view it was given up; want of memory is handed on.
     fn count(&self, told: Result<Forwarded, ForwardFault>) -> Result<(), AllocError> {
-        let tally = self.counts.of_ingress();
-        match counted(told)? {
-            Some(done) => tally.add(&done),
-            None => tally.add_dropped(),
-        }
+        self.counts.of_ingress().add(counted(told)?);
         Ok(())
     }
 }
 
 /// What is counted of what was told: what was sent, or that it was given up for want of a view. Want of memory isn't counted.
-fn counted(told: Result<Forwarded, ForwardFault>) -> Result<Option<Forwarded>, AllocError>
+fn counted(told: Result<Forwarded, ForwardFault>) -> Result<Outcome, AllocError>
     ensures { result ≡ counted_of told }
 {
     match told {
-        Ok(done) => Ok(Some(done)),
-        Err(ForwardFault::NoView) => Ok(None),
+        Ok(_) | Err(ForwardFault::NoView) => Ok(outcome_of(told)),
         Err(ForwardFault::NoMemory) => Err(AllocError),
     }
 }

@@ -179,6 +179,7 @@ fn run_beside<
         ticks: Ticks::new(pace.pulse_ms),
         present: 0,
         refusals: Vec::new(shared.alloc),
+        endpoint: None,
     };
     let ran = inlet.run_started(rt, &mut ingress, started, pace.turns);
     settled(ran, ingress.end(rt))

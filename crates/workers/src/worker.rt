@@ -1,6 +1,6 @@
 //! A worker: it does the jobs of its ring, one after the other, until it is stopped.
 
-use crate::counts::Station;
+use crate::counts::{Station, outcome_of};
 use crate::gear::Gear;
 use crate::item::Item;
 use events::Job;
@@ -47,10 +47,8 @@ impl<'a, D: DeskCalls, C: SeatCalls, J: Naming, S: Sink + Drop, G: Gate> Worker<
     /// Does a job between the two calls of the gate.
     fn work<R: Wait>(&mut self, rt: &R, job: &Job, note: RouteNote<J>) {
         self.gate.hold(self.station.number);
-        match self.forward(rt, job, note) {
-            Ok(done) => self.station.tally.add(&done),
-            Err(_) => self.station.tally.add_dropped(),
-        }
+        let done = self.forward(rt, job, note);
+        self.station.tally.add(outcome_of(done));
         self.gate.done(self.station.number);
     }
 

@@ -1,6 +1,6 @@
 //! What stands for the outside in tests: lists in memory, a clock that stands still, and a gate that is open.
 
-use events::Bytes;
+use events::{Bytes, Refusal};
 use std::alloc::{AllocError, Global};
 use workers::*;
 
@@ -13,6 +13,8 @@ pub(super) struct MemorySink {
     pub(super) failures: u64,
     /// The leg of the last packet that was asked for again in vain.
     pub(super) missed_on: Option<u16>,
+    /// What was refused last, and of whose datagram.
+    pub(super) refused: Option<(Option<u16>, Refusal)>,
 }
 
 impl MemorySink {
@@ -26,6 +28,7 @@ impl MemorySink {
             to_fail,
             failures: 0,
             missed_on: None,
+            refused: None,
         }
     }
 
@@ -56,6 +59,10 @@ impl Sink for MemorySink {
 
     fn missed(&mut self, leg: u16) {
         self.missed_on = Some(leg);
+    }
+
+    fn refused(&mut self, endpoint: Option<u16>, refusal: Refusal) {
+        self.refused = Some((endpoint, refusal));
     }
 }
 

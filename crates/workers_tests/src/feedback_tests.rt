@@ -5,7 +5,7 @@ ghost use Rattle.std.specs.Prelude.{◌≡◌};
 use crate::doubles::MemorySink;
 use crate::rooms::{HEAD, examples, is, on};
 use desk::{Call, Change};
-use events::Job;
+use events::{DeskRefusal, Job, Refusal};
 use rate_desk::{DeskCalls, DeskSeat, House, SeatCalls};
 use routes::{Naming, RouteReader, RouteWriter, routes};
 use rtcp_feedback::Nack;
@@ -97,6 +97,7 @@ impl<J: Naming, D: DeskCalls, C: SeatCalls> Bench<'_, J, D, C> {
         let question = Question {
             publisher: 0,
             asked_by: None,
+            endpoint: Some(1),
             call: Call::Stay {
                 owner: Ssrc(17),
                 stay: 1,
@@ -170,7 +171,8 @@ fn asks_nobody<J: Naming, D: DeskCalls, C: SeatCalls, R: Wait + Abort>(
     Ok(())
 }
 
-/// An accepted request is told to the publisher and to who asked; one in another stay is told to nobody.
+/// An accepted request is told to the publisher and to who asked; one in another stay is told to nobody, and the sink is told that the
+/// desk refuses it to the subscriber.
 fn tells_both<J: Naming, D: DeskCalls, C: SeatCalls, R: Wait + Abort>(
     rt: &R,
     alloc: Global,
@@ -182,8 +184,11 @@ fn tells_both<J: Naming, D: DeskCalls, C: SeatCalls, R: Wait + Abort>(
     assert_eq!(rt; bench.counts(), (2, 2));
     assert!(rt; bench.sent(alloc, 0, 0, &TMMBR));
     assert!(rt; bench.sent(alloc, 1, 1, &TMMBN));
+    assert_eq!(rt; bench.sink.refused, None);
     feeds_in_vain(rt, bench, &mut worker, &[request(0, 2)]);
     assert_eq!(rt; bench.counts(), (3, 2));
+    let refusal = Refusal::Desk(DeskRefusal::NotPresent);
+    assert_eq!(rt; bench.sink.refused, Some((Some(1), refusal)));
     Ok(())
 }
 

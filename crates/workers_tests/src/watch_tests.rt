@@ -1,14 +1,16 @@
-//! What a watch is shown while the unit runs.
+//! What a watch is shown, and a sink told of refusals, while the unit runs.
 
-ghost use Rattle.std.specs.Prelude.{◌≡◌, ◌+◌, vec_len};
+ghost use Rattle.std.specs.Prelude.{◌≡◌, ◌+◌, vec_len, IfOk};
 
 use crate::doubles::{OpenGate, RisingClock};
-use crate::unit_doubles::{Arrival, Script, receiver_report, settings_of, sinks_of};
+use crate::unit_doubles::{Arrival, Script, receiver_report, settings_of};
 use crate::unit_tests::TWO_LINKS;
 use desk::Desk;
+use events::Refusal;
+use rtp_packet::RtpFault;
 use std::alloc::{AllocError, Global};
 use std::sync::Wait;
-use std::sync::atomic::AtomicBool;
+use std::sync::atomic::{AtomicBool, AtomicU64, Ordering};
 use std::test::Fail;
 use std::thread::Threads;
 use workers::*;
@@ -67,12 +69,63 @@ impl Watch for Looker<'_> {
     }
 }
 
-/// A subscriber comes, then the publisher, then the other subscriber, and a stop.
+/// How often something was refused: packets of the endpoint 1 for their version, and all else.
+#[derive(Drop)]
+struct Refused {
+    versions: AtomicU64,
+    others: AtomicU64,
+}
+
+/// A sink that counts what was refused.
+#[derive(Drop)]
+struct Refusing<'a> {
+    refused: &'a Refused,
+}
+
+impl Sink for Refusing<'_> {
+    ghost use Rattle.std.specs.Prelude.{None};
+
+    ghost shown = { λ _. record { handed = None; failures = 0 } };
+
+    fn send(&mut self, _endpoint: u16, _bytes: &[u8]) -> Result<(), SendFault> {
+        Ok(())
+    }
+
+    fn refused(&mut self, endpoint: Option<u16>, refusal: Refusal) {
+        let is_version = endpoint == Some(1) && refusal == Refusal::Rtp(RtpFault::Version);
+        let count = if is_version {
+            &self.refused.versions
+        } else {
+            &self.refused.others
+        };
+        count.fetch_add(1, Ordering::SeqCst);
+    }
+}
+
+/// So many sinks that count together.
+fn refusing_sinks(
+    alloc: Global,
+    refused: &Refused,
+    count: u64,
+) -> Result<Vec<Refusing<'_>>, AllocError>
+    ensures { IfOk result (λ sinks. vec_len sinks ≡ count) }
+{
+    let count = count as usize;
+    let mut sinks = Vec::with_capacity(alloc, count)?;
+    for _sink in 0..count {
+        sinks.push(Refusing { refused })?;
+    }
+    Ok(sinks)
+}
+
+/// A subscriber comes, then the publisher, then the other subscriber, then a packet of version 1, and a stop.
 fn arrivals(alloc: Global) -> Result<Vec<Arrival>, AllocError> {
     let mut arrivals = Vec::new(alloc);
     arrivals.push(Arrival::Datagram(1, receiver_report(alloc, 17)?))?;
     arrivals.push(Arrival::Datagram(2, receiver_report(alloc, 18)?))?;
     arrivals.push(Arrival::Datagram(0, receiver_report(alloc, 16)?))?;
+    let version_1 = [0x40, 0x60, 0, 7, 0, 0, 0x0b, 0xb8, 0, 0, 0, 17];
+    arrivals.push(Arrival::Datagram(1, version_1.to_vec(alloc)?))?;
     arrivals.push(Arrival::Stop)?;
     Ok(arrivals)
 }
@@ -82,10 +135,11 @@ fn run_looked_at<R: Threads + Wait + Sync>(
     rt: &R,
     alloc: Global,
     shown: &mut Shown,
+    refused: &Refused,
 ) -> Result<bool, Fail> {
     let settings = settings_of(alloc, 2, 3, &TWO_LINKS)?;
     let is_played = AtomicBool::new(false);
-    let sinks = sinks_of(alloc, settings.workers() + 1)?;
+    let sinks = refusing_sinks(alloc, refused, settings.workers() + 1)?;
     let outside = Outside {
         source: Script::of(arrivals(alloc)?, &is_played),
         sinks,
@@ -104,7 +158,7 @@ fn run_looked_at<R: Threads + Wait + Sync>(
 }
 
 /// After each turn the totals are shown, after that of the stop, too; of each endpoint whether it is present, of each leg its stay, a
-/// desk if it is there; and each look ends.
+/// desk if it is there; and each look ends. What is refused is told once, of whose datagram it is.
 #[test]
 fn watch_sees_each_turn(rt: HostRuntime) -> Result<(), Fail> {
     let alloc = rt.alloc();
@@ -115,13 +169,19 @@ fn watch_sees_each_turn(rt: HostRuntime) -> Result<(), Fail> {
         totals: Vec::new(alloc),
         ended: 0,
     };
-    assert!(rt; run_looked_at(&rt, alloc, &mut shown)?);
-    let totals = [(20, 1, 1), (40, 2, 2), (60, 3, 3), (80, 3, 3)];
+    let refused = Refused {
+        versions: AtomicU64::new(0),
+        others: AtomicU64::new(0),
+    };
+    assert!(rt; run_looked_at(&rt, alloc, &mut shown, &refused)?);
+    let totals = [(20, 1, 1), (40, 2, 2), (60, 3, 3), (80, 3, 4), (100, 3, 4)];
     assert!(rt; shown.totals.as_slice() == totals.as_slice());
     let present = [(0, false), (1, true), (2, false)];
     assert!(rt; shown.present.as_slice() == present.as_slice());
     assert!(rt; shown.stays.as_slice() == [(0, None), (1, Some(1))].as_slice());
     assert!(rt; shown.desks.as_slice() == [2].as_slice());
     assert_eq!(rt; shown.ended, 4);
+    assert_eq!(rt; refused.versions.load(Ordering::SeqCst), 1);
+    assert_eq!(rt; refused.others.load(Ordering::SeqCst), 0);
     Ok(())
 }

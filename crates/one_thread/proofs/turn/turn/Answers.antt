@@ -7,8 +7,8 @@ use Rattle.one_thread.specs.Turns.{Hands}
 use Rattle.one_thread.proofs.TurnLemmas.{on_err_of, turn_broken, turn_made}
 use Rattle.one_thread.proofs.turn.turn.Goals as goal
 
-pub returns-in_err-take_turn-clause-err : goal.returns-in_err-take_turn-clause-err
-returns-in_err-take_turn-clause-err g c =
+pub returns-in_err-before-clause-err : goal.returns-in_err-before-clause-err
+returns-in_err-before-clause-err g c =
     let buffer : List ℕ = c.as_slice.result.now in
     let out : List ℕ = c.receive-received.new.out in
     let kept : buffer ≡ out =
@@ -20,7 +20,7 @@ returns-in_err-take_turn-clause-err g c =
     (g.Src.Source.given c.receive-received.new.self) (g.Clk.Clock.told c.args.clock.now) (g.Clk.Clock.told c.moment-moment.new.self)
     (g.Snk.Sink.shown c.args.sink.now) (arrival_of buffer c.receive-received.result) c.moment-moment.result
     c.args.engine.now.outs.items c.take_turn.new.outs.items c.requires.empty (subst P (sym kept) c.receive-received.ensures.given)
-    c.moment-moment.ensures.told c.in_err-take_turn.ensures.err)
+    c.moment-moment.ensures.told c.in_err-before.ensures.err)
 
 pub returns-clause-ok : goal.returns-clause-ok
 returns-clause-ok g c =
@@ -40,7 +40,7 @@ returns-clause-ok g c =
     (g.Clk.Clock.told c.args.clock.now) (g.Clk.Clock.told c.moment-moment.new.self) (g.Snk.Sink.shown c.args.sink.now)
     (g.Snk.Sink.shown c.give_all.new.sink) c.args.engine.now.tally mid c.give_all.new.tally (arrival_of buffer c.receive-received.result)
     c.moment-moment.result c.args.engine.now.outs.items c.take_turn.new.outs.items c.requires.empty
-    (subst P (sym kept) c.receive-received.ensures.given) c.moment-moment.ensures.told c.in_ok-take_turn.ensures.ok
-    c.in_ok-take_turn.ensures.noted (c.faults_with-engine.ensures buffer) (c.is_stop-engine.ensures buffer) (c.heard_with-engine.ensures buffer) refl refl
+    (subst P (sym kept) c.receive-received.ensures.given) c.moment-moment.ensures.told c.in_ok-before.ensures.ok
+    c.in_ok-before.ensures.noted (c.faults_with-engine.ensures buffer) (c.is_stop-engine.ensures buffer) (c.heard_with-engine.ensures buffer) refl refl
     (subst (λ (l : List Out). Hands l (g.Snk.Sink.shown c.args.sink.now) (g.Snk.Sink.shown c.give_all.new.sink) mid c.give_all.new.tally)
     c.as_slice-2.ensures.value c.give_all.ensures)
