@@ -1,1 +1,3 @@
 pub mod Advice
+pub mod Saying
+pub mod Wanted

@@ -1,12 +1,15 @@
 //! The lines for people.
 
-ghost use Rattle.std.specs.Prelude.{◌≡◌, IfOk};
+ghost use Rattle.std.specs.Prelude.{◌≡◌, ◌++◌, ◌⊎◌, [], codes, IfOk, IfSome, IsTrue};
 ghost use Rattle.std.specs.String.{string_bytes};
+ghost use Rattle.settings_text.specs.SettingsFaults.{spot_of};
 ghost use Rattle.advice.specs.Advice.{bind_line, file_line, why_unbound, why_unreadable};
+ghost use Rattle.advice.specs.Saying.{IsReason, SaysAt, SaysNames, SaysNoDocument, SaysOfLine, SaysOfProblem, SaysWanted, SaysWhyNot, is_address_key, spotted_line, no_key_words, shared_words, spot_key};
+ghost use Rattle.advice.specs.Wanted.{wanted_words};
 
-use crate::finding::{Found, find, quoted, repeated, value_in};
+use crate::finding::{Found, Spotted, find, quoted, repeated, value_in};
 use crate::reaching::why_unreachable;
-use crate::wanted::{keys, owner, wanted};
+use crate::wanted::{Wanted, keys, owner, wanted_of, wanted_text};
 use settings_text::{Place, SettingsProblem};
 use std::alloc::{AllocError, Global};
 use std::io::ErrorKind;
@@ -17,7 +20,10 @@ pub fn settings_advice(
     alloc: Global,
     text: &str,
     problem: &SettingsProblem,
-) -> Result<String, AllocError> {
+) -> Result<String, AllocError>
+    ensures { IfOk result (λ line.
+        SaysOfProblem ⟦<SocketAddr as PartialEq>⟧.eq problem.now (string_bytes line)) }
+{
     match problem {
         SettingsProblem::NoMemory | SettingsProblem::File => Ok(String::new(alloc)),
         SettingsProblem::Toml => toml_advice(alloc, text),
@@ -33,7 +39,9 @@ pub fn settings_advice(
 }
 
 /// Where a text stops to be TOML, and why.
-fn toml_advice(alloc: Global, text: &str) -> Result<String, AllocError> {
+fn toml_advice(alloc: Global, text: &str) -> Result<String, AllocError>
+    ensures { IfOk result (λ line. SaysNoDocument (string_bytes line)) }
+{
     match toml::table_from_slice(alloc, text.as_bytes()) {
         Ok(_) => Ok(String::new(alloc)),
         Err(error) => {
@@ -41,13 +49,16 @@ fn toml_advice(alloc: Global, text: &str) -> Result<String, AllocError> {
                 Some(span) => span.start,
                 None => 0,
             };
-            format!(in alloc;
-                "line {}: no TOML: {}\n",
-                line_at(text, start),
-                error.message()
-            )
+            document_line(alloc, line_at(text, start), error.message())
         }
     }
+}
+
+/// That a line of the text isn't TOML, and why.
+fn document_line(alloc: Global, number: usize, why: &str) -> Result<String, AllocError>
+    ensures { IfOk result (λ line. SaysNoDocument (string_bytes line)) }
+{
+    format!(in alloc; "line {number}: no TOML: {why}\n")
 }
 
 /// The number of the line, from 1, in which this byte stands.
@@ -65,45 +76,109 @@ fn line_at(text: &str, place: usize) -> usize {
 }
 
 /// What is wrong at a key.
-fn place_advice(alloc: Global, text: &str, place: Place<'_>) -> Result<String, AllocError> {
-    match (find(text, place), wanted(place)) {
-        (Found::Key(spotted), Some(wanted)) => match why_not(text, place, spotted.text) {
-            Some(why) => format!(in alloc;
-                "line {}: {} is no address to send to: {why}\n",
-                spotted.line, spotted.text
-            ),
-            None => {
-                format!(in alloc; "line {}: {} is no {wanted}\n", spotted.line, spotted.text)
-            }
-        },
-        (Found::Key(spotted), None) => format!(in alloc;
-            "line {}: {} is no key of {}: those are {}\n",
-            spotted.line,
-            spotted.text,
-            owner(place),
-            keys(place)
-        ),
-        (Found::Table(line), Some(wanted)) => format!(in alloc;
-            "line {line}: {} is missing: there is no {wanted}\n",
-            key_of(place)
-        ),
-        (Found::Nothing, Some(wanted)) => {
-            format!(in alloc;
-                "line 1: {} is missing: there is no {wanted}\n",
-                key_of(place)
-            )
-        }
-        (Found::Table(_) | Found::Nothing, None) => format!(in alloc;
-            "{} is no key of {}: those are {}\n",
-            key_of(place),
-            owner(place),
-            keys(place)
-        ),
+fn place_advice(alloc: Global, text: &str, place: Place<'_>) -> Result<String, AllocError>
+    ensures { IfOk result (λ line.
+        SaysAt ⟦<SocketAddr as PartialEq>⟧.eq (spot_of place.entry) (string_bytes line)) }
+{
+    match wanted_of(place) {
+        Some(wanted) => wanted_advice(alloc, text, place, wanted),
+        None => names_advice(alloc, text, place),
     }
 }
 
+/// What is wrong at a key that there is, and takes this.
+fn wanted_advice(
+    alloc: Global,
+    text: &str,
+    place: Place<'_>,
+    wanted: Wanted,
+) -> Result<String, AllocError>
+    ensures { IfOk result (λ line. SaysWanted wanted (string_bytes line)
+        ⊎ SaysWhyNot ⟦<SocketAddr as PartialEq>⟧.eq (spot_of place.entry) (string_bytes line)) }
+{
+    match find(text, place) {
+        Found::Key(spotted) => match why_not(text, place, spotted.text) {
+            Some(why) => unsendable_line(alloc, spotted, why),
+            None => wrong_line(alloc, spotted, wanted),
+        },
+        Found::Table(line) => missing_line(alloc, line, key_of(place), wanted),
+        Found::Nothing => missing_line(alloc, 1, key_of(place), wanted),
+    }
+}
+
+/// That a key isn't among those that there are.
+fn names_advice(alloc: Global, text: &str, place: Place<'_>) -> Result<String, AllocError>
+    ensures { IfOk result (λ line. SaysNames (spot_of place.entry) (string_bytes line)) }
+{
+    let names = no_key_words(alloc, place)?;
+    match find(text, place) {
+        Found::Key(spotted) => spotted_line(alloc, spotted.line, spotted.text, names.as_str()),
+        Found::Table(_) | Found::Nothing => unfound_line(alloc, key_of(place), names.as_str()),
+    }
+}
+
+/// Which keys there are where this place is.
+fn no_key_words(alloc: Global, place: Place<'_>) -> Result<String, AllocError>
+    ensures { IfOk result (λ said. string_bytes said ≡ no_key_words (spot_of place.entry)) }
+{
+    let owner = owner(place);
+    let keys = keys(place);
+    format!(in alloc; " is no key of {owner}: those are {keys}")
+}
+
+/// A line of the file by its number, what stands there, and what is said of it.
+fn spotted_line(alloc: Global, number: usize, what: &str, said: &str) -> Result<String, AllocError>
+    ensures { IfOk result (λ line. string_bytes line ≡ spotted_line number what.now said.now) }
+{
+    format!(in alloc; "line {number}: {what}{said}\n")
+}
+
+/// What is said of a key that isn't found in the file.
+fn unfound_line(alloc: Global, key: &str, said: &str) -> Result<String, AllocError>
+    ensures { IfOk result (λ line.
+        string_bytes line ≡ key.now ++ (said.now ++ codes "\n")) }
+{
+    format!(in alloc; "{key}{said}\n")
+}
+
+/// That what stands at a key isn't what the key takes.
+fn wrong_line(alloc: Global, spotted: Spotted<'_>, wanted: Wanted) -> Result<String, AllocError>
+    ensures { IfOk result (λ line.
+        SaysOfLine (codes " is no " ++ wanted_words wanted) (string_bytes line)) }
+{
+    let wanted = wanted_text(alloc, wanted)?;
+    let said = format!(in alloc; " is no {wanted}")?;
+    spotted_line(alloc, spotted.line, spotted.text, said.as_str())
+}
+
+/// That nothing stands at a key, whose table begins in this line.
+fn missing_line(
+    alloc: Global,
+    number: usize,
+    key: &str,
+    wanted: Wanted,
+) -> Result<String, AllocError>
+    ensures { IfOk result (λ line.
+        SaysOfLine (codes " is missing: there is no " ++ wanted_words wanted) (string_bytes line)) }
+{
+    let wanted = wanted_text(alloc, wanted)?;
+    let said = format!(in alloc; " is missing: there is no {wanted}")?;
+    spotted_line(alloc, number, key, said.as_str())
+}
+
+/// Why a unit can't send to the address that stands in a line.
+fn unsendable_line(alloc: Global, spotted: Spotted<'_>, why: &str) -> Result<String, AllocError>
+    ensures { IfOk result (λ line.
+        SaysOfLine (codes " is no address to send to: " ++ why.now) (string_bytes line)) }
+{
+    let said = format!(in alloc; " is no address to send to: {why}")?;
+    spotted_line(alloc, spotted.line, spotted.text, said.as_str())
+}
+
 /// The key of a place.
-fn key_of(place: Place<'_>) -> &str {
+fn key_of(place: Place<'_>) -> &str
+    ensures { result.now ≡ spot_key (spot_of place.entry) }
+{
     match place {
         Place::Top(key) => key,
         Place::Endpoint(_, key) => key,
@@ -113,7 +188,10 @@ fn key_of(place: Place<'_>) -> &str {
 }
 
 /// Why the address that stands in a line can't be sent to, if it is one.
-fn why_not(text: &str, place: Place<'_>, line: &str) -> Option<&'static str> {
+fn why_not(text: &str, place: Place<'_>, line: &str) -> Option<&'static str>
+    ensures key { IfSome result (λ _. IsTrue (is_address_key (spot_of place.entry))) }
+    ensures reason { IfSome result (λ why. IsReason ⟦<SocketAddr as PartialEq>⟧.eq why.now) }
+{
     match place {
         Place::Endpoint(_, "address" | "rtcp_address") => {
             let address = address_in(line)?;
@@ -141,11 +219,16 @@ fn address_in(line: &str) -> Option<SocketAddr> {
 }
 
 /// Which source is given twice.
-fn same_advice(alloc: Global, text: &str) -> Result<String, AllocError> {
+fn same_advice(alloc: Global, text: &str) -> Result<String, AllocError>
+    ensures { IfOk result (λ line.
+        (string_bytes line ≡ []) ⊎ SaysOfLine shared_words (string_bytes line)) }
+{
     match repeated(text) {
-        Some(spotted) => format!(in alloc;
-            "line {}: {} is another's: the unit, each endpoint and each leg have sources of their own\n",
-            spotted.line, spotted.text
+        Some(spotted) => spotted_line(
+            alloc,
+            spotted.line,
+            spotted.text,
+            " is another's: the unit, each endpoint and each leg have sources of their own",
         ),
         None => Ok(String::new(alloc)),
     }

@@ -1,9 +1,47 @@
 //! What may stand at each key of a settings file.
 
-use settings_text::Place;
+ghost use Rattle.std.specs.Prelude.{◌≡◌, ◌++◌, IfOk, string_bytes};
+ghost use Rattle.std.specs.Fmt.{decimal};
+ghost use Rattle.settings_text.specs.SettingsFaults.{spot_of};
+ghost use Rattle.advice.specs.Wanted.{endpoint_rows, kind_words, leg_rows, names_of, whose_keys, top_rows, wanted_at, wanted_in, wanted_words};
 
-/// What a key takes, as it goes on behind "no"; `None` for a key that there isn't.
-pub(crate) fn wanted(place: Place<'_>) -> Option<&'static str> {
+use settings_text::Place;
+use std::alloc::{AllocError, Global};
+
+/// What a key takes.
+#[derive(Clone, Copy, Debug, PartialEq, Eq)]
+pub(crate) enum Wanted {
+    /// A whole number from the first to the second.
+    Whole(u64, u64),
+    /// A name of one to so many characters.
+    Name(u64),
+    /// One to so many tables of endpoints.
+    Endpoints(u64),
+    /// Up to so many tables of legs.
+    Legs(u64),
+    Other(Kind),
+}
+
+/// What a key takes of which no number has to be told.
+#[derive(Clone, Copy, Debug, PartialEq, Eq)]
+pub(crate) enum Kind {
+    Truth,
+    Listen,
+    ListenRtcp,
+    Address,
+    RtcpAddress,
+    Network,
+    ReceiveOnly,
+    Encodings,
+    Formats,
+    Subscriber,
+    Publisher,
+}
+
+/// What the key of a place takes; `None` if there is no such key.
+pub(crate) fn wanted_of(place: Place<'_>) -> Option<Wanted>
+    ensures { result ≡ wanted_at (spot_of place.entry) }
+{
     match place {
         Place::Top(key) => wanted_top(key),
         Place::Endpoint(_, key) => wanted_endpoint(key),
@@ -12,58 +50,122 @@ pub(crate) fn wanted(place: Place<'_>) -> Option<&'static str> {
     }
 }
 
-fn wanted_top(key: &str) -> Option<&'static str> {
+fn wanted_top(key: &str) -> Option<Wanted>
+    ensures { result ≡ wanted_in top_rows key.now }
+{
     match key {
-        "workers" => Some("whole number from 1 to 8"),
-        "ring" => Some("whole number from 1 to 512"),
-        "history" => Some("whole number from 128 to 65536"),
-        "timeout_ms" | "report_ms" => Some("whole number from 1 to 86400000"),
-        "resend_gap_ms" => Some("whole number from 0 to 60000"),
-        "resend_share" => Some("whole number from 0 to 100"),
-        "flood_limit" => Some("whole number from 0 to 1000000"),
-        "pli_gap_ms" | "request_ms" => Some("whole number from 0 to 86400000"),
-        "unit_ssrc" => Some("whole number from 0 to 4294967295"),
-        "cname" => Some("text of 1 to 255 ASCII characters, as \"sfu@192.0.2.1\""),
-        "listen" => Some("IP address and port, as \"192.0.2.1:5004\""),
-        "listen_rtcp" => Some(
-            "IP address and port of the version of listen, as \"192.0.2.1:5005\"",
+        "endpoint" => Some(Wanted::Endpoints(256)),
+        "leg" => Some(Wanted::Legs(4096)),
+        "cname" => Some(Wanted::Name(255)),
+        "early_pictures" => Some(Wanted::Other(Kind::Truth)),
+        "flood_limit" => Some(Wanted::Whole(0, 1_000_000)),
+        "history" => Some(Wanted::Whole(128, 65_536)),
+        "leg_goodbyes" => Some(Wanted::Other(Kind::Truth)),
+        "listen" => Some(Wanted::Other(Kind::Listen)),
+        "listen_rtcp" => Some(Wanted::Other(Kind::ListenRtcp)),
+        "new_starts" => Some(Wanted::Other(Kind::Truth)),
+        "pli_gap_ms" => Some(Wanted::Whole(0, 86_400_000)),
+        "report_ms" => Some(Wanted::Whole(1, 86_400_000)),
+        "request_ms" => Some(Wanted::Whole(0, 86_400_000)),
+        "resend_gap_ms" => Some(Wanted::Whole(0, 60_000)),
+        "resend_share" => Some(Wanted::Whole(0, 100)),
+        "ring" => Some(Wanted::Whole(1, 512)),
+        "strict_ssrc" => Some(Wanted::Other(Kind::Truth)),
+        "timeout_ms" => Some(Wanted::Whole(1, 86_400_000)),
+        "unit_ssrc" => Some(Wanted::Whole(0, 4_294_967_295)),
+        "workers" => Some(Wanted::Whole(1, 8)),
+        _ => None,
+    }
+}
+
+fn wanted_endpoint(key: &str) -> Option<Wanted>
+    ensures { result ≡ wanted_in endpoint_rows key.now }
+{
+    match key {
+        "address" => Some(Wanted::Other(Kind::Address)),
+        "cname" => Some(Wanted::Name(255)),
+        "fmtp" => Some(Wanted::Other(Kind::Formats)),
+        "learn_from" => Some(Wanted::Other(Kind::Network)),
+        "receive_only" => Some(Wanted::Other(Kind::ReceiveOnly)),
+        "rtcp_address" => Some(Wanted::Other(Kind::RtcpAddress)),
+        "rtpmap" => Some(Wanted::Other(Kind::Encodings)),
+        "ssrc" => Some(Wanted::Whole(0, 4_294_967_295)),
+        _ => None,
+    }
+}
+
+fn wanted_leg(key: &str) -> Option<Wanted>
+    ensures { result ≡ wanted_in leg_rows key.now }
+{
+    match key {
+        "first_seq" => Some(Wanted::Whole(0, 65_535)),
+        "on" => Some(Wanted::Other(Kind::Truth)),
+        "out_ssrc" => Some(Wanted::Whole(0, 4_294_967_295)),
+        "publisher" => Some(Wanted::Other(Kind::Publisher)),
+        "subscriber" => Some(Wanted::Other(Kind::Subscriber)),
+        _ => None,
+    }
+}
+
+/// What is taken, as it goes on after "no".
+pub(crate) fn wanted_text(alloc: Global, wanted: Wanted) -> Result<String, AllocError>
+    ensures { IfOk result (λ text. string_bytes text ≡ wanted_words wanted) }
+{
+    match wanted {
+        Wanted::Whole(least, most) => format!(in alloc; "whole number from {least} to {most}"),
+        Wanted::Name(most) => counted(
+            alloc,
+            "text of 1 to ",
+            most,
+            " ASCII characters, as \"sfu@192.0.2.1\"",
         ),
-        "early_pictures" | "leg_goodbyes" | "new_starts" | "strict_ssrc" => Some("true or false"),
-        "endpoint" => Some("list of 1 to 256 tables, each under [[endpoint]]"),
-        "leg" => Some("list of up to 4096 tables, each under [[leg]]"),
-        _ => None,
-    }
-}
-
-fn wanted_endpoint(key: &str) -> Option<&'static str> {
-    match key {
-        "ssrc" => Some("whole number from 0 to 4294967295"),
-        "cname" => Some("text of 1 to 255 ASCII characters, as \"ann@192.0.2.7\""),
-        "address" => Some("IP address and port, as \"192.0.2.7:6000\", nor \"learn\""),
-        "rtcp_address" => Some("IP address and port beside an address, as \"192.0.2.7:6001\""),
-        "learn_from" => Some("network beside address = \"learn\", as \"192.0.2.0/24\""),
-        "receive_only" => Some("true beside an address, or false"),
-        "rtpmap" => Some("list of texts, as [\"96 H264/90000\"]"),
-        "fmtp" => Some("list of texts, as [\"96 packetization-mode=1\"]"),
-        _ => None,
-    }
-}
-
-fn wanted_leg(key: &str) -> Option<&'static str> {
-    match key {
-        "subscriber" => Some("number of an endpoint"),
-        "publisher" => {
-            Some("number of another endpoint than the subscriber, with one leg between the two")
+        Wanted::Endpoints(most) => {
+            counted(
+                alloc,
+                "list of 1 to ",
+                most,
+                " tables, each under [[endpoint]]",
+            )
         }
-        "out_ssrc" => Some("whole number from 0 to 4294967295"),
-        "first_seq" => Some("whole number from 0 to 65535"),
-        "on" => Some("true or false"),
-        _ => None,
+        Wanted::Legs(most) => {
+            counted(alloc, "list of up to ", most, " tables, each under [[leg]]")
+        }
+        Wanted::Other(kind) => String::from_str(alloc, kind_words(kind)),
     }
 }
 
-/// The keys that there are where this place is.
-pub(crate) fn keys(place: Place<'_>) -> &'static str {
+/// The number between the two texts.
+fn counted(alloc: Global, front: &str, count: u64, behind: &str) -> Result<String, AllocError>
+    ensures { IfOk result (λ text.
+        string_bytes text ≡ front.now ++ (decimal count ++ behind.now)) }
+{
+    format!(in alloc; "{front}{count}{behind}")
+}
+
+fn kind_words(kind: Kind) -> &'static str
+    ensures { result.now ≡ kind_words kind }
+{
+    match kind {
+        Kind::Truth => "true or false",
+        Kind::Listen => "IP address and port, as \"192.0.2.1:5004\"",
+        Kind::ListenRtcp => "IP address and port of the version of listen, as \"192.0.2.1:5005\"",
+        Kind::Address => "IP address and port, as \"192.0.2.7:6000\", nor \"learn\"",
+        Kind::RtcpAddress => "IP address and port beside an address, as \"192.0.2.7:6001\"",
+        Kind::Network => "network beside address = \"learn\", as \"192.0.2.0/24\"",
+        Kind::ReceiveOnly => "true beside an address, or false",
+        Kind::Encodings => "list of texts, as [\"96 H264/90000\"]",
+        Kind::Formats => "list of texts, as [\"96 packetization-mode=1\"]",
+        Kind::Subscriber => "number of an endpoint",
+        Kind::Publisher => {
+            "number of another endpoint than the subscriber, with one leg between the two"
+        }
+    }
+}
+
+/// The keys that there are where this place is, but for those of tables.
+pub(crate) fn keys(place: Place<'_>) -> &'static str
+    ensures { result.now ≡ names_of (spot_of place.entry) }
+{
     match place {
         Place::Endpoint(_, _) => {
             "address, cname, fmtp, learn_from, receive_only, rtcp_address, rtpmap and ssrc"
@@ -76,7 +178,9 @@ pub(crate) fn keys(place: Place<'_>) -> &'static str {
 }
 
 /// What has the keys of this place.
-pub(crate) fn owner(place: Place<'_>) -> &'static str {
+pub(crate) fn owner(place: Place<'_>) -> &'static str
+    ensures { result.now ≡ whose_keys (spot_of place.entry) }
+{
     match place {
         Place::Endpoint(_, _) => "an endpoint",
         Place::Leg(_, _) => "a leg",
