@@ -77,25 +77,28 @@ abbrev pub replay_app : App
 replay_app =
     with_rule (with_rule choosing_app (moment_rule (codes "from"))) (flag_rule (codes "events"))
 
+abbrev pub counted_app : App
+counted_app =
+    with_rule (with_rule (file_app (codes "serve")) (optional_rule (codes "ticks") (pos 1000000)))
+    (optional_rule (codes "status") (pos 86400))
+
 abbrev pub serve_app : App
-serve_app =
-    with_rule (with_rule (with_rule (file_app (codes "serve"))
-    (optional_rule (codes "ticks") (pos 1000000)))
-    (optional_rule (codes "status") (pos 86400)))
-    (word_rule (codes "control"))
+serve_app = with_rule counted_app (word_rule (codes "control"))
 
 abbrev pub sfu_top : App
 sfu_top = record (new_app (codes "sfu")) {
   top = record (new_app (codes "sfu")).top { subcommand_required = true };
 }
 
+-- with its first subcommands
+abbrev pub sfu_first : App
+sfu_first = with_subcommand
+    (with_subcommand (with_subcommand sfu_top (sender_app (codes "bound")).top)
+    (file_app (codes "check")).top) replay_app.top
+
 -- the program's command line
 abbrev pub sfu : App
-sfu = with_subcommand
-    (with_subcommand
-    (with_subcommand (with_subcommand (with_subcommand sfu_top (sender_app (codes "bound")).top)
-    (file_app (codes "check")).top) replay_app.top) serve_app.top)
-    (sender_app (codes "draw")).top
+sfu = with_subcommand (with_subcommand sfu_first serve_app.top) (sender_app (codes "draw")).top
 
 -- what can be asked for
 pub data Request : Type 0 where

@@ -2,7 +2,7 @@
 
 ghost use Rattle.std.specs.Prelude.{◌≡◌, ◌∷◌, ◌<◌, ◌^◌, ℕ, List, [], IfErr, IfOk, MatchResult, Some, codes, map, true, option_map, false};
 ghost use Rattle.clap.specs.Words.{app_of, found_of, kind_of, rows_of, rule_of, subcommand_rows_of, takes};
-ghost use Rattle.command_line.specs.CommandLine.{HasNoGlobals, Request, Types, action_request, asked_for, asked_named, choosing_app, file_app, file_rule, flag_rule, is_set, moment_in, moment_rule, number_in, number_rule, number_to_rule, optional_rule, replay_app, request_found, sender_app, serve_app, sfu, sfu_top, word_rule};
+ghost use Rattle.command_line.specs.CommandLine.{HasNoGlobals, Request, Types, action_request, asked_for, asked_named, choosing_app, counted_app, file_app, file_rule, flag_rule, is_set, moment_in, moment_rule, number_in, number_rule, number_to_rule, optional_rule, replay_app, request_found, sender_app, serve_app, sfu, sfu_first, sfu_top, word_rule};
 
 use clap::builder::ValueParser;
 use clap::error::ErrorKind;
@@ -123,12 +123,19 @@ fn action_of<'a, S: AsStr>(alloc: Global, words: &'a [S]) -> Result<Action<'a>, 
 fn command<'a>(alloc: Global) -> Result<Command<'a>, AllocError>
     ensures { IfOk result (λ c. app_of c ≡ sfu) }
 {
+    first_commands(alloc)?
+        .subcommand(serve_command(alloc)?)?
+        .subcommand(sender_command(alloc, "draw", DRAW_HELP)?)
+}
+
+/// The program with its first subcommands, up to `replay`.
+fn first_commands<'a>(alloc: Global) -> Result<Command<'a>, AllocError>
+    ensures { IfOk result (λ c. app_of c ≡ sfu_first) }
+{
     top_command(alloc)
         .subcommand(sender_command(alloc, "bound", BOUND_HELP)?)?
         .subcommand(file_command(alloc, "check", CHECK_HELP, CERTIFICATE_HELP)?)?
-        .subcommand(replay_command(alloc)?)?
-        .subcommand(serve_command(alloc)?)?
-        .subcommand(sender_command(alloc, "draw", DRAW_HELP)?)
+        .subcommand(replay_command(alloc)?)
 }
 
 /// The program, before its subcommands, of which one is required.
@@ -194,10 +201,17 @@ fn serve_command<'a>(alloc: Global) -> Result<Command<'a>, AllocError>
     ensures app { IfOk result (λ c. app_of c ≡ serve_app) }
     ensures local { IfOk result HasNoGlobals }
 {
+    counted_command(alloc)?.arg(optional_word(alloc, "control", CONTROL_HELP))
+}
+
+/// `serve FILE`, with how many turns, and how many seconds between lines of counts.
+fn counted_command<'a>(alloc: Global) -> Result<Command<'a>, AllocError>
+    ensures app { IfOk result (λ c. app_of c ≡ counted_app) }
+    ensures local { IfOk result HasNoGlobals }
+{
     file_command(alloc, "serve", SERVE_HELP, SERVED_HELP)?
         .arg(optional_number(alloc, "ticks", TICKS_HELP, MAX_TICKS))?
-        .arg(optional_number(alloc, "status", STATUS_HELP, MAX_STATUS))?
-        .arg(optional_word(alloc, "control", CONTROL_HELP))
+        .arg(optional_number(alloc, "status", STATUS_HELP, MAX_STATUS))
 }
 
 /// A required word that names a file; the help says this about it.

@@ -6,14 +6,8 @@ use Rattle.command_line.proofs.command_line.command.Goals as goal
 pub returns : goal.returns
 returns c =
     let top = λ (a : App). a.top in
-    let top_is = c.top_command.ensures in
-    let bound_is = c.in_ok-sender_command.ensures in
-    let check_is = c.in_ok-file_command.ensures in
-    let replay_is = c.in_ok-replay_command.ensures in
+    let first_is = c.in_ok-first_commands.ensures in
     let serve_is = c.in_ok-serve_command.ensures in
-    let draw_is = c.in_ok-sender_command-2.ensures in
-    let one_is = c.in_ok-subcommand.ensures.shape bound_is.local ∙ ap₂ with_subcommand top_is (ap top bound_is.app) in
-    let two_is = c.in_ok-subcommand-2.ensures.shape check_is.local ∙ ap₂ with_subcommand one_is (ap top check_is.app) in
-    let three_is = c.in_ok-subcommand-3.ensures.shape replay_is.local ∙ ap₂ with_subcommand two_is (ap top replay_is.app) in
-    let four_is = c.in_ok-subcommand-4.ensures.shape serve_is.local ∙ ap₂ with_subcommand three_is (ap top serve_is.app) in
-    IfOk-weaker c.subcommand-5.result _ _ (λ m h. h.shape draw_is.local ∙ ap₂ with_subcommand four_is (ap top draw_is.app)) c.subcommand-5.ensures
+    let draw_is = c.in_ok-sender_command.ensures in
+    let serves = c.in_ok-subcommand.ensures.shape serve_is.local ∙ ap₂ with_subcommand first_is (ap top serve_is.app) in
+    IfOk-weaker c.subcommand-2.result _ _ (λ m h. h.shape draw_is.local ∙ ap₂ with_subcommand serves (ap top draw_is.app)) c.subcommand-2.ensures
