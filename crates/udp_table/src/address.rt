@@ -2,12 +2,12 @@
 
 ghost use Rattle.std.specs.Prelude.{◌≡◌, IfOk};
 ghost use Rattle.std.specs.String.{string_bytes};
-ghost use Rattle.std.specs.Net.Addr.{ipv6_octets};
+ghost use Rattle.std.specs.Net.Addr.{ipv4_octets, ipv6_octets};
 ghost use Rattle.hex.specs.Hex.{encode_upper};
-ghost use Rattle.udp_table.specs.Address.{four_turned, host_octets, word_of_address};
+ghost use Rattle.udp_table.specs.Address.{four_turned, host_octets, turned_four, word_of_address};
 
 use std::alloc::{AllocError, Global};
-use std::net::{IpAddr, Ipv6Addr, SocketAddr};
+use std::net::{IpAddr, Ipv4Addr, Ipv6Addr, SocketAddr};
 
 /// The word that names this address in the rows of its socket: upper hexadecimal digits of the host, each four octets from the last to
 /// the first, a colon, and four digits of the port, as `0100007F:138C` for 127.0.0.1:5004. Refused for want of memory alone.
@@ -26,12 +26,17 @@ fn host_digits(alloc: Global, ip: IpAddr) -> Result<String, AllocError>
     ensures { IfOk result (λ text. string_bytes text ≡ encode_upper (host_octets ip)) }
 {
     match ip {
-        IpAddr::V4(ip) => {
-            let o = ip.octets();
-            hex::encode_upper(alloc, [o[3], o[2], o[1], o[0]])
-        }
+        IpAddr::V4(ip) => hex::encode_upper(alloc, turned(ip)),
         IpAddr::V6(ip) => hex::encode_upper(alloc, four_turned(ip)),
     }
+}
+
+/// The octets of the host, from the last to the first.
+fn turned(ip: Ipv4Addr) -> [u8; 4]
+    ensures { result ≡ turned_four (ipv4_octets ip) 0 }
+{
+    let o = ip.octets();
+    [o[3], o[2], o[1], o[0]]
 }
 
 /// The octets of the host, each four from the last to the first.
