@@ -10,7 +10,8 @@ use crate::lane::{Crew, Lane, new_ring};
 use crate::turns::Inlet;
 use crate::unit::{Outside, Pace};
 use crate::worker::Worker;
-use forwarding::Forwarder;
+use core_steps::IngressCore;
+use forwarding::{Forwarder, Notifier};
 use outside::{Clock, Gate, Sink, Source, Ticks, Watch};
 use rate_desk::{DeskCalls, DeskSeat, House, SeatCalls};
 use routes::{Blank, Naming, RouteReader, RouteWriter, routes};
@@ -161,12 +162,53 @@ fn run_beside<
     inlet: Inlet<Src, Clk, W>,
     pace: Pace,
 ) -> Result<Vec<DeskSeat<C>>, UnitFault> {
-    let (mut gears, mut inlet) = (gears, inlet);
+    let mut gears = gears;
     let Some(own) = gears.pop() else {
         return Err(UnitFault::Start);
     };
-    let (core, notifier) = core_and_notifier(shared.alloc, shared.settings)?;
-    let mut crew = Crew::new(shared.alloc, shared.settings.workers() as usize)?;
+    let parts = ingress_parts(shared.alloc, shared.settings)?;
+    run_manned(scope, rt, shared, writer, gears, own, parts, inlet, pace)
+}
+
+/// What an ingress is made of for which memory is wanted: its machine, what asks desks for it, and room for the workers.
+type IngressParts<J, C> = (IngressCore, Notifier, Crew<J, C>);
+
+/// Makes them.
+fn ingress_parts<J: Naming, C: SeatCalls>(
+    alloc: Global,
+    settings: &Settings,
+) -> Result<IngressParts<J, C>, AllocError> {
+    let (core, notifier) = core_and_notifier(alloc, settings)?;
+    let crew = Crew::new(alloc, settings.workers() as usize)?;
+    Ok((core, notifier, crew))
+}
+
+/// The same, once all is there that wants memory.
+fn run_manned<
+    's,
+    'a: 's,
+    D: DeskCalls + Send + Sync + 'a,
+    C: SeatCalls + Send + Sync + 'a,
+    J: Naming + Send + Sync + 'a,
+    R: Threads + Wait + Sync + 'a,
+    Src: Source + Drop,
+    S: Sink + Send + Drop + 'a,
+    Clk: Clock + Drop,
+    W: Watch + Drop,
+    G: Gate + Sync + 'a,
+>(
+    scope: &'s Scope<'s, &'a ()>,
+    rt: &'a R,
+    shared: &'a Shared<'a, D, C, G>,
+    writer: &mut RouteWriter<J>,
+    gears: Vec<Gear<C, J, S>>,
+    own: Gear<C, J, S>,
+    parts: IngressParts<J, C>,
+    inlet: Inlet<Src, Clk, W>,
+    pace: Pace,
+) -> Result<Vec<DeskSeat<C>>, UnitFault> {
+    let mut inlet = inlet;
+    let (core, notifier, mut crew) = parts;
     let started = start_all(scope, rt, shared, gears, &mut crew);
     let mut ingress = Ingress {
         core,
