@@ -1,5 +1,8 @@
 //! Those who came, each of whom is looked at in turn and none waited for.
 
+ghost use Rattle.std.specs.Prelude.{◌<◌, ◌≤◌, ◌↔◌, IsTrue, vec_len};
+ghost use Rattle.web.specs.declared.visitors.TheConstants.{MAX_VISITORS};
+
 use crate::teller::Teller;
 use http_server::{Config, Connection};
 use http1::Limits;
@@ -76,6 +79,32 @@ fn waits(error: &io::Error) -> bool {
     matches!(error.kind(), ErrorKind::WouldBlock | ErrorKind::Interrupted)
 }
 
+/// A visitor that came at this moment, with whom nothing was said yet.
+fn visitor_of<S: Drop>(alloc: Global, keys: RandomState, stream: S, since_ms: u64) -> Visitor<S> {
+    Visitor {
+        stream,
+        connection: Connection::new(alloc, keys, CONFIG),
+        since_ms,
+    }
+}
+
+/// Whether so many are as many as may be.
+fn is_full(count: usize) -> bool
+    ensures { IsTrue result ↔ (MAX_VISITORS ≤ count) }
+{
+    count >= MAX_VISITORS
+}
+
+/// Lets the one that came first go, if there are as many as may be.
+fn make_room<S: Drop>(visitors: &mut Vec<Visitor<S>>)
+    ensures kept { vec_len visitors.new ≤ vec_len visitors.old }
+    ensures full { MAX_VISITORS ≤ vec_len visitors.old → vec_len visitors.new < vec_len visitors.old }
+{
+    if is_full(visitors.len()) {
+        let _first = visitors.remove(0);
+    }
+}
+
 /// The visitors. Contracts see how many they are.
 #[derive(Drop)]
 pub struct Visitors<S: Drop> {
@@ -119,14 +148,9 @@ impl<S: Read + Write + Drop> Visitors<S> {
         ensures room { self.new ≤ self.old + 1 }
         ensures full { MAX_VISITORS ≤ self.old → self.new ≤ self.old }
     {
-        if self.visitors.len() >= MAX_VISITORS {
-            let _first = self.visitors.remove(0);
-        }
-        let _ = self.visitors.push(Visitor {
-            stream,
-            connection: Connection::new(self.alloc, self.keys, CONFIG),
-            since_ms: moment,
-        });
+        make_room(&mut self.visitors);
+        let visitor = visitor_of(self.alloc, self.keys, stream, moment);
+        let _ = self.visitors.push(visitor);
     }
 
     /// Each visitor is looked at once, in the order in which they came; who is done, or takes too long, is let go.
