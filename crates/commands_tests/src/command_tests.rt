@@ -61,14 +61,6 @@ fn assert_ends(
     Ok(())
 }
 
-/// Example 1.
-#[test]
-fn runs_bound(rt: HostRuntime) -> Result<(), Fail> {
-    let printed = "84cd00040000000100000000000000110007d028\nkept 17 0007d028 pair 1000 1001 321\n";
-    let line = "83cd00040000001100000000000000010007d028\n";
-    assert_ends(&rt, [None; 3], line, (Status::Done, 0, [printed, ""]))
-}
-
 #[test]
 fn failing_streams(rt: HostRuntime) -> Result<(), Fail> {
     let other = Some(ErrorKind::Other);

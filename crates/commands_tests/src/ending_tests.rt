@@ -1,11 +1,8 @@
 //! What is said of a failure, and how a command ends then.
 use crate::stream::Stream;
-use commands::{
-    Failure, SettingsProblem, Status, problem_line, report, report_settings, report_words,
-};
+use commands::{Failure, SettingsProblem, Status, report, report_settings, report_words};
 use endings::{say, say_no_memory, unreadable, unsaid};
 use request_text::LineFault;
-use settings_text::{Place, problem_at};
 use std::alloc::Global;
 use std::io::{self, ErrorKind};
 use std::process::Abort;
@@ -87,18 +84,5 @@ fn says_a_text(rt: HostRuntime) -> Result<(), Fail> {
         fault: LineFault::Text,
     };
     assert_eq!(rt; unreadable(&error), failure);
-    Ok(())
-}
-
-/// The lines of faults of settings.
-#[test]
-fn names_faults_of_settings(rt: HostRuntime) -> Result<(), Fail> {
-    let alloc = rt.alloc();
-    let key = String::from_str(alloc, "ring")?;
-    let line = problem_line(alloc, &SettingsProblem::Top(key))?;
-    assert_eq!(rt; line.as_str(), "settings: ring\n");
-    let problem = problem_at(alloc, Place::Leg(1, "on"));
-    let line = problem_line(alloc, &problem)?;
-    assert_eq!(rt; line.as_str(), "settings: leg 1 on\n");
     Ok(())
 }

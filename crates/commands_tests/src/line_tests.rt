@@ -1,33 +1,19 @@
-//! What lines of text ask for, what is printed of it, and files of `sfu check`, as values.
+//! What lines of text say, what is printed of a desk, and files of `sfu check`, as values.
 use crate::stream::Stream;
 use checking::check_lines;
-use command_line::{Action, read_words};
 use desk::Desk;
-use endings::{Status, refuse_words};
 use rate_cert::Request;
 use request_text::{
-    Entry, Reading, Refusal, announced_line, answer_text, bound_text, desk_text, is_word, lines,
-    number_u16, number_u64, read_line, read_lines, refused_text, words_of,
+    Entry, Reading, desk_text, is_word, lines, number_u16, number_u64, read_line, words_of,
 };
 use std::alloc::Global;
 use std::io::ErrorKind;
 use std::test::Fail;
 use tmmbr_tuple::{Ssrc, Tuple};
 
-/// Example 1, and what is printed for it.
-const LINE_1: &str = "83cd00040000001100000000000000010007d028\n";
-
+/// What is printed for example 1.
 const PRINTED_1: &str =
     "84cd00040000000100000000000000110007d028\nkept 17 0007d028 pair 1000 1001 321\n";
-
-/// What is printed for media sender 1 of these lines, or what refuses them.
-fn bound(alloc: Global, text: &str) -> Result<String, Fail> {
-    match read_lines(alloc, text.as_bytes(), Ssrc(1)) {
-        Ok(bounds) => Ok(bound_text(alloc, Ssrc(1), &bounds)?),
-        Err(Refusal::Line { line, fault }) => Ok(refused_text(alloc, line, fault)?),
-        Err(Refusal::NoMemory) => Err(Fail::from("no memory")),
-    }
-}
 
 /// What is printed of a desk at which 17 asks for 1000 bits per second, for media sender 1.
 fn desk(alloc: Global) -> Result<String, Fail> {
@@ -43,14 +29,9 @@ fn desk(alloc: Global) -> Result<String, Fail> {
 }
 
 #[test]
-fn prints_example_1(rt: HostRuntime) -> Result<(), Fail> {
-    let alloc = rt.alloc();
-    assert_eq!(rt; bound(alloc, LINE_1)?.as_str(), PRINTED_1);
-    assert_eq!(rt; bound(alloc, "83c")?.as_str(), "line 1: hex\n");
-    assert_eq!(rt; desk(alloc)?.as_str(), PRINTED_1);
-    let nothing = announced_line(alloc, Ssrc(1), [].as_slice())?;
-    assert_eq!(rt; nothing.as_str(), "84cd00020000000100000000\n");
-    assert_eq!(rt; answer_text(alloc, Ok(()))?.as_str(), "yes\n");
+fn prints_a_desk(rt: HostRuntime) -> Result<(), Fail> {
+    let printed = desk(rt.alloc())?;
+    assert_eq!(rt; printed.as_str(), PRINTED_1);
     Ok(())
 }
 
@@ -69,23 +50,6 @@ fn reads_words_of_lines(rt: HostRuntime) -> Result<(), Fail> {
     };
     let read = read_line(alloc, b"live 17 0007d028")?;
     assert_eq!(rt; read, Reading::Entry(Entry::Live(asked)));
-    Ok(())
-}
-
-#[test]
-fn reads_command_lines(rt: HostRuntime) -> Result<(), Fail> {
-    let words = ["sfu", "bound", "--sender", "1"];
-    let action = read_words(rt.alloc(), words.as_slice());
-    assert!(rt; matches!(&action, Ok(Action::Bound { media: 1 })));
-
-    let words = ["sfu", "dance"];
-    let Err(error) = read_words(rt.alloc(), words.as_slice()) else {
-        return Err(Fail::from("words"));
-    };
-    let mut said = Stream::new(rt.alloc(), "", None);
-    let status = refuse_words(rt.alloc(), &mut said, &error);
-    assert_eq!(rt; status, Status::CommandLine);
-    assert!(rt; !said.text()?.is_empty());
     Ok(())
 }
 

@@ -54,13 +54,6 @@ fn assert_plays(
     Ok(())
 }
 
-/// Example 24.
-#[test]
-fn plays_a_script(rt: HostRuntime) -> Result<(), Fail> {
-    let script = "hear 0 0 80c9000100000010\nhear 0 1 80c9000100000011\ntick 5\n";
-    assert_plays(&rt, script, [None; 2], (Status::Done, 0, ["busy\n", ""]))
-}
-
 /// A script that can't be read, and an output that fails. Nothing is written if nothing is given out.
 #[test]
 fn failing_streams_of_replay(rt: HostRuntime) -> Result<(), Fail> {

@@ -25,6 +25,4 @@ mod quiet_tests;
 #[cfg(test)]
 mod random_room;
 #[cfg(test)]
-mod run_tests;
-#[cfg(test)]
 mod steps;

@@ -1,9 +1,7 @@
 //! Each prefix of the datagrams of docs/EXAMPLES.md.
 
 use crate::random_room::hear;
-use crate::steps::{
-    ASKED, Settle, Stage, TIMES, bytes_of, do_events, lines, new_stage, play, shown,
-};
+use crate::steps::{ASKED, Settle, TIMES, bytes_of, do_events, lines, new_world, play, shown};
 use core_steps::*;
 use std::alloc::Global;
 use std::process::Abort;
@@ -187,22 +185,15 @@ fn gives(
 fn prefixes(
     rt: &impl Abort,
     alloc: Global,
-    stage: &mut Stage,
+    world: &mut World,
     sample: &Sample<'_>,
     bytes: &[u8],
 ) -> Result<(), Fail> {
-    play(alloc, stage, &ASKED[..4])?;
+    play(alloc, world, &ASKED[..4])?;
     for count in 0..bytes.len() + 1 {
         let expected = expected(sample, bytes.len(), count);
-        gives(
-            rt,
-            alloc,
-            &mut stage.world,
-            sample,
-            &bytes[..count],
-            expected,
-        )?;
-        play(alloc, stage, &[Settle])?;
+        gives(rt, alloc, world, sample, &bytes[..count], expected)?;
+        play(alloc, world, &[Settle])?;
     }
     Ok(())
 }
@@ -210,8 +201,8 @@ fn prefixes(
 /// Each prefix of the sample, in a new world.
 fn every_prefix(rt: &impl Abort, alloc: Global, sample: &Sample<'_>) -> Result<(), Fail> {
     let bytes = bytes_of(alloc, sample.hex)?;
-    let mut stage = new_stage(alloc, TIMES)?;
-    prefixes(rt, alloc, &mut stage, sample, bytes.as_slice())
+    let mut world = new_world(alloc, TIMES)?;
+    prefixes(rt, alloc, &mut world, sample, bytes.as_slice())
 }
 
 #[test]

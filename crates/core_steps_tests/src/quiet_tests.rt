@@ -1,6 +1,8 @@
 //! What is live at the end of the examples, where nothing waits.
 
-use crate::steps::{ASKED, Hear, Ingress, Settle, Step, Tick, do_step, settings};
+use crate::steps::{
+    ASKED, Hear, Ingress, Settle, Step, TIMES, Tick, do_events, lines, new_world, play,
+};
 use core_steps::*;
 use std::alloc::Global;
 use std::fmt::Write;
@@ -26,16 +28,6 @@ fn live(alloc: Global, world: &World) -> Result<String, Fail> {
     Ok(text)
 }
 
-/// Does these steps.
-fn play(alloc: Global, world: &mut World, steps: &[Step<'_>]) -> Result<(), Fail> {
-    let mut text = String::new(alloc);
-    for step in steps {
-        let mut outs = Vec::new(alloc);
-        do_step(alloc, world, step, &mut outs, &mut text)?;
-    }
-    Ok(())
-}
-
 /// Both endpoints come, 17 asks 16 for 1000/40, and the packet that it misses is sent again; then it leaves.
 const LATER: [Step<'static>; 6] = [
     Hear(30, 0, "8060000800000bb800000010aabb"),
@@ -45,11 +37,6 @@ const LATER: [Step<'static>; 6] = [
     Hear(50, 1, "81cb000100000011"),
     Settle,
 ];
-
-/// A room of the examples with these limits, in milliseconds, before any step.
-fn world_with(alloc: Global, timeout_ms: i64, request_ms: i64) -> Result<World, Fail> {
-    Ok(World::new(alloc, &settings(alloc, timeout_ms, 60_000, request_ms)?)?)
-}
 
 /// These steps leave nothing that waits, lose nothing, and leave these requests live.
 fn leaves_live(
@@ -76,7 +63,7 @@ fn examples_leave(rt: &impl Abort, alloc: Global, world: &mut World) -> Result<(
 }
 
 fn quiet_after_examples(rt: &impl Abort, alloc: Global) -> Result<(), Fail> {
-    let mut world = world_with(alloc, 1000, 0)?;
+    let mut world = new_world(alloc, TIMES)?;
     examples_leave(rt, alloc, &mut world)
 }
 
@@ -89,7 +76,7 @@ fn two_entries_leave(rt: &impl Abort, alloc: Global, world: &mut World) -> Resul
 }
 
 fn quiet_after_two_entries(rt: &impl Abort, alloc: Global) -> Result<(), Fail> {
-    let mut world = world_with(alloc, 1000, 0)?;
+    let mut world = new_world(alloc, TIMES)?;
     two_entries_leave(rt, alloc, &mut world)
 }
 
@@ -103,7 +90,7 @@ fn expire_leaves(rt: &impl Abort, alloc: Global, world: &mut World) -> Result<()
 }
 
 fn quiet_after_expire(rt: &impl Abort, alloc: Global) -> Result<(), Fail> {
-    let mut world = world_with(alloc, 5000, 1000)?;
+    let mut world = new_world(alloc, [5000, 60_000, 1000])?;
     expire_leaves(rt, alloc, &mut world)
 }
 
@@ -144,9 +131,20 @@ fn is_quiet(rt: &impl Abort, alloc: Global, world: &World) -> Result<(), Fail> {
     Ok(())
 }
 
+/// As many jobs wait as may, in the first stay of the only leg, and a worker that isn't there has nothing to do.
+fn is_full(rt: &impl Abort, alloc: Global, world: &mut World) -> Result<(), Fail> {
+    let stays = [world.stay(0), world.stay(9)];
+    assert_eq!(rt; (world.waiting().jobs, stays), (1024, [Some(1), None]));
+    let mut outs = Vec::new(alloc);
+    do_events(world, &[Event::Work(2)], &mut outs)?;
+    assert_eq!(rt; lines(alloc, outs.as_slice())?.as_str(), "idle\n");
+    Ok(())
+}
+
 /// The ring is full: the request that is heard now is given up, and nothing is live though its word was heard last.
 fn gives_up(rt: &impl Abort, alloc: Global, world: &mut World) -> Result<(), Fail> {
     fill(alloc, world)?;
+    is_full(rt, alloc, world)?;
     let request = Hear(0, 1, "83cd00040000001100000000000001010007d028");
     let plays = [([].as_slice(), 0), (&[request, Ingress], 1), (&[Settle], 1)];
     for (steps, lost) in &plays {
@@ -157,6 +155,6 @@ fn gives_up(rt: &impl Abort, alloc: Global, world: &mut World) -> Result<(), Fai
 
 #[test]
 fn premise_needed(rt: HostRuntime) -> Result<(), Fail> {
-    let mut world = world_with(rt.alloc(), 1000, 0)?;
+    let mut world = new_world(rt.alloc(), TIMES)?;
     gives_up(&rt, rt.alloc(), &mut world)
 }

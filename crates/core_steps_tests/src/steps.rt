@@ -3,28 +3,23 @@
 ghost use Rattle.std.specs.Prelude.{◌<◌};
 
 use core_steps::*;
-use rtcp_feedback::write_tmmbn;
 use settings::{EndpointParts, LegParts, Parts, Settings, SettingsFault};
 use std::alloc::{AllocError, Global};
 use std::fmt::{self, Write};
 use std::test::Fail;
-use tmmbr_tuple::Ssrc;
 
 /// What is done with the machine.
 #[derive(Clone, Copy)]
 pub(crate) enum Step<'a> {
     Hear(u64, u16, &'a str),
     Tick(u64),
-    Select(u64, u16, bool),
     Ingress,
     Work(u16),
     /// The ingress until nothing waits for it, then each worker until it has nothing to do.
     Settle,
-    /// The TMMBN of a publisher, under its own source.
-    Show(u16),
 }
 
-pub(crate) use Step::{Hear, Ingress, Select, Settle, Show, Tick, Work};
+pub(crate) use Step::{Hear, Ingress, Settle, Tick, Work};
 
 /// Both endpoints come, and 17 asks 16 for 1000/40.
 pub(crate) const ASKED: [Step<'static>; 6] = [
@@ -130,7 +125,7 @@ pub(crate) fn settle(world: &mut World, outs: &mut Vec<Out>) -> Result<(), Fail>
     Ok(())
 }
 
-/// The event of a step; `None` where it settles or shows.
+/// The event of a step; `None` where it settles.
 pub(crate) fn event_of(alloc: Global, step: &Step<'_>) -> Result<Option<Event>, AllocError> {
     Ok(match *step {
         Hear(moment, endpoint, hex) => Some(Event::Hear {
@@ -139,83 +134,40 @@ pub(crate) fn event_of(alloc: Global, step: &Step<'_>) -> Result<Option<Event>, 
             bytes: Bytes::new(bytes_of(alloc, hex)?),
         }),
         Tick(moment) => Some(Event::Tick { moment }),
-        Select(moment, leg, on) => Some(Event::Select { moment, leg, on }),
         Ingress => Some(Event::Ingress),
         Work(worker) => Some(Event::Work(worker)),
-        Settle | Show(_) => None,
+        Settle => None,
     })
-}
-
-/// A world, and what it gave out and showed so far.
-#[derive(Drop)]
-pub(crate) struct Stage {
-    pub(crate) world: World,
-    pub(crate) outs: Vec<Out>,
-    pub(crate) text: String,
 }
 
 /// A new world of the examples' room with these times: of silence until an endpoint has left, from report to report, and until
 /// a request is too old.
-pub(crate) fn new_stage(alloc: Global, times: [i64; 3]) -> Result<Stage, Fail> {
+pub(crate) fn new_world(alloc: Global, times: [i64; 3]) -> Result<World, Fail> {
     let [timeout_ms, report_ms, request_ms] = times;
     let settings = settings(alloc, timeout_ms, report_ms, request_ms)?;
-    Ok(Stage {
-        world: World::new(alloc, &settings)?,
-        outs: Vec::new(alloc),
-        text: String::new(alloc),
-    })
+    Ok(World::new(alloc, &settings)?)
 }
 
-/// Does these steps; what they give out stands in `outs`, what they show in `text`.
-pub(crate) fn play(alloc: Global, stage: &mut Stage, steps: &[Step<'_>]) -> Result<(), Fail> {
+/// Does these steps; nobody looks at what they give out.
+pub(crate) fn play(alloc: Global, world: &mut World, steps: &[Step<'_>]) -> Result<(), Fail> {
+    let mut outs = Vec::new(alloc);
     for step in steps {
-        do_step(
-            alloc,
-            &mut stage.world,
-            step,
-            &mut stage.outs,
-            &mut stage.text,
-        )?;
+        do_step(alloc, world, step, &mut outs)?;
     }
     Ok(())
 }
 
-/// Does one step; what it gives out stands in `outs`, what it shows in `text`.
-pub(crate) fn do_step(
+/// Does one step; what it gives out stands in `outs`.
+fn do_step(
     alloc: Global,
     world: &mut World,
     step: &Step<'_>,
     outs: &mut Vec<Out>,
-    text: &mut String,
 ) -> Result<(), Fail> {
     match event_of(alloc, step)? {
         Some(event) => do_events(world, [event].as_slice(), outs)?,
-        None => match *step {
-            Show(publisher) => show(alloc, world, publisher, text)?,
-            _ => settle(world, outs)?,
-        },
+        None => settle(world, outs)?,
     }
-    Ok(())
-}
-
-/// Writes the TMMBN of a publisher's announced set.
-fn show(alloc: Global, world: &World, publisher: u16, text: &mut String) -> Result<(), Fail> {
-    if usize::from(publisher) >= world.publishers() {
-        return Ok(());
-    }
-    let entries = entries_of(alloc, world.desk(publisher).announced().as_slice())?;
-    let mut bytes = Vec::new(alloc);
-    if entries.len() <= rtcp_feedback::MAX_ENTRIES {
-        write_tmmbn(
-            &mut bytes,
-            Ssrc(16 + u32::from(publisher)),
-            entries.as_slice(),
-        )?;
-    }
-    for byte in &bytes {
-        write!(text, "{byte:02x}")?;
-    }
-    text.push('\n')?;
     Ok(())
 }
 

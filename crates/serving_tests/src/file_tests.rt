@@ -5,7 +5,7 @@ use serving::{
     AddressKey, Addresses, Client, ClientFault, ErrorOutput, Gauges, Listening, Location, Term,
     read_clients, read_served, serve_file,
 };
-use settings_text::{ClientText, problem_line};
+use settings_text::ClientText;
 use std::alloc::{AllocError, Global};
 use std::fs::File;
 use std::net::{Net, SocketAddr, UdpSocket};
@@ -148,58 +148,5 @@ fn reads_clients(rt: HostRuntime) -> Result<(), Fail> {
         addresses(alloc, first, 4)?.as_str(),
         "endpoint 0 address\n"
     );
-    Ok(())
-}
-
-/// The line for the settings that this text makes of two mistakes, each a text and what stands in its place.
-fn fault_line(alloc: Global, mistakes: [(&str, &str); 2]) -> Result<String, Fail> {
-    let mut text = served_text(alloc, ANY_PORT)?;
-    for (old, new) in mistakes {
-        let Some((front, behind)) = text.as_str().split_once(old) else {
-            return Err(Fail::from("mistake"));
-        };
-        text = format!(in alloc; "{front}{new}{behind}")?;
-    }
-    match read_served(alloc, text.as_bytes()) {
-        Ok(_) => Err(Fail::from("settings")),
-        Err(problem) => Ok(problem_line(alloc, &problem)?),
-    }
-}
-
-/// Of two faults, one of them of an address, the first is said: the keys of the table by their names, then endpoints by their numbers with
-/// theirs, legs, and two sources that are the same.
-#[test]
-fn says_the_first_of_two_faults(rt: HostRuntime) -> Result<(), Fail> {
-    let listen = ("listen = \"127.0.0.1:0\"", "listen = \"127.0.0.1\"");
-    let first = ("\"127.0.0.1:9\"", "\"127.0.0.1\"");
-    let second = ("\"192.0.2.1:5004\"", "\"192.0.2.1\"");
-    let cases = [
-        (
-            listen,
-            ("history = 128", "history = 1"),
-            "settings: history\n",
-        ),
-        (listen, ("ring = 8", "ring = 0"), "settings: listen\n"),
-        (listen, first, "settings: listen\n"),
-        (
-            second,
-            ("ssrc = 16", "ssrc = -1"),
-            "settings: endpoint 0 ssrc\n",
-        ),
-        (
-            second,
-            ("publisher = 0", "publisher = 9"),
-            "settings: endpoint 1 address\n",
-        ),
-        (
-            first,
-            ("ssrc = 17", "ssrc = 16"),
-            "settings: endpoint 0 address\n",
-        ),
-    ];
-    for (one, other, wanted) in cases {
-        let line = fault_line(rt.alloc(), [one, other])?;
-        assert_eq!(rt; line.as_str(), wanted);
-    }
     Ok(())
 }
