@@ -1,76 +1,39 @@
 //! Feedback in compound datagrams: what is written is split and read again, and each prefix of the examples'
 //! datagrams is read, or refused with its number.
-use rtcp_compound::{Packets, RtcpView, split};
+use crate::expected::same;
+use crate::packet_text::packets_text;
+use rtcp_compound::{RtcpView, split};
 use rtcp_feedback::*;
+use std::alloc::{AllocError, Global};
 use std::process::Abort;
 use std::test::Fail;
 use tmmbr_tuple::Ssrc;
 
-/// 1,000 bit/s at an overhead of 40 bytes.
-const TUPLE: u32 = 0x0007_d028;
-
-/// The next packet, which is feedback of this FMT and type, as it is read.
-fn next_feedback<'a>(
-    rt: &impl Abort,
-    packets: &mut Packets<'a>,
-    header: (u8, u8),
-) -> Result<Feedback<'a>, Fail> {
-    match packets.next().ok_or("a packet")? {
-        RtcpView::Feedback { fmt, kind, body } => {
-            assert_eq!(rt; (fmt, kind), header);
-            Ok(read_feedback(fmt, kind, body).map_err(|_| "a fault")?)
-        }
-        _ => Err("no feedback")?,
-    }
+/// Two entries that ask 16 for 1,000 bit/s at an overhead of 40 bytes, a PLI, a notification of nobody, and a receiver report of 17.
+fn four_packets(alloc: Global) -> Result<Vec<u8>, AllocError> {
+    let asked = TmmbrEntry {
+        ssrc: Ssrc(16),
+        word: 0x0007_d028,
+    };
+    let mut out = Vec::new(alloc);
+    write_tmmbr(&mut out, Ssrc(17), &[asked, asked])?;
+    write_pli(&mut out, Ssrc(9), Ssrc(16))?;
+    write_tmmbn(&mut out, Ssrc(1), &[])?;
+    out.extend_from_slice(&[0x80, 0xc9, 0, 1, 0, 0, 0, 0x11])?;
+    Ok(out)
 }
 
 #[test]
 fn written_packets_are_split_and_read(rt: HostRuntime) -> Result<(), Fail> {
-    let asked = TmmbrEntry {
-        ssrc: Ssrc(16),
-        word: TUPLE,
-    };
-    let mut out = Vec::new(rt.alloc());
-    write_tmmbr(&mut out, Ssrc(17), &[asked, asked])?;
-    write_pli(&mut out, Ssrc(9), Ssrc(16))?;
-    write_tmmbn(&mut out, Ssrc(1), &[])?;
-    // A receiver report of 17 behind them.
-    out.extend_from_slice(&[0x80, 0xc9, 0, 1, 0, 0, 0, 0x11])?;
-    let mut packets = split(out.as_slice()).map_err(|_| "a fault")?;
-    match next_feedback(&rt, &mut packets, (3, 205))? {
-        Feedback::Tmmbr {
-            sender,
-            mut entries,
-        } => {
-            assert_eq!(rt; sender, Ssrc(17));
-            assert_eq!(rt; entries.next(), Some(asked));
-            assert_eq!(rt; entries.next(), Some(asked));
-            assert_eq!(rt; entries.next(), None);
-        }
-        _ => panic!(rt; "a TMMBR"),
-    }
+    let out = four_packets(rt.alloc())?;
+    let text = packets_text(rt.alloc(), out.as_slice())?;
     assert_eq!(rt;
-        next_feedback(&rt, &mut packets, (1, 206))?,
-        Feedback::Pli {
-            sender: Ssrc(9),
-            media: Ssrc(16)
-        }
+        text.as_str(),
+        "feedback 3 205 0000001100000000000000100007d028000000100007d028 tmmbr 17 16 0007d028 16 0007d028\n\
+        feedback 1 206 0000000900000010 pli 9 16\n\
+        feedback 4 205 0000000100000000 tmmbn 1\n\
+        rr 17\n"
     );
-    match next_feedback(&rt, &mut packets, (4, 205))? {
-        Feedback::Tmmbn {
-            sender,
-            mut entries,
-        } => {
-            assert_eq!(rt; sender, Ssrc(1));
-            assert_eq!(rt; entries.next(), None);
-        }
-        _ => panic!(rt; "a TMMBN"),
-    }
-    match packets.next().ok_or("a packet")? {
-        RtcpView::Rr { sender, .. } => assert_eq!(rt; sender, Ssrc(17)),
-        _ => panic!(rt; "an RR"),
-    }
-    assert!(rt; packets.next().is_none());
     Ok(())
 }
 
@@ -121,64 +84,90 @@ fn every_prefix(rt: &impl Abort, datagram: &[u8], ends: &[usize], whole: Outcome
             "the first {cut} bytes"
         );
     }
-    assert_eq!(rt; outcome_of(datagram), whole);
+    same(rt, &outcome_of(datagram), &whole);
 }
+
+/// A datagram, where its packets end, and what is made of it.
+type Sample = (&'static [u8], &'static [usize], Outcome);
+
+const EXAMPLES: [Sample; 9] = [
+    // Example 1: a TMMBR of 17, and the TMMBN that is printed.
+    (
+        &[
+            0x83, 0xcd, 0, 4, 0, 0, 0, 0x11, 0, 0, 0, 0, 0, 0, 0, 1, 0, 7, 0xd0, 0x28,
+        ],
+        &[20],
+        Outcome::Read,
+    ),
+    (
+        &[
+            0x84, 0xcd, 0, 4, 0, 0, 0, 1, 0, 0, 0, 0, 0, 0, 0, 0x11, 0, 7, 0xd0, 0x28,
+        ],
+        &[20],
+        Outcome::Read,
+    ),
+    // Example 12: the goodbye of 18.
+    (&[0x81, 0xcb, 0, 1, 0, 0, 0, 0x12], &[8], Outcome::Read),
+    // Example 13: an FCI of four bytes, and a header that says more than there is.
+    (
+        &[0x83, 0xcd, 0, 3, 0, 0, 0, 0x11, 0, 0, 0, 0, 0, 0, 0, 1],
+        &[16],
+        Outcome::Feedback(2),
+    ),
+    (&[0x83, 0xcd, 0, 4, 0, 0, 0], &[20], Outcome::Rtcp(3)),
+    (&[0x83, 0xcd, 0], &[20], Outcome::Rtcp(1)),
+    // A receiver report of 17 and its TMMBR in one datagram.
+    (
+        &[
+            0x80, 0xc9, 0, 1, 0, 0, 0, 0x11, 0x83, 0xcd, 0, 4, 0, 0, 0, 0x11, 0, 0, 0, 0, 0, 0, 0,
+            1, 0, 7, 0xd0, 0x28,
+        ],
+        &[8, 28],
+        Outcome::Read,
+    ),
+    // Its NACK about 257, of 100 and 101, and its goodbye.
+    (
+        &[0x81, 0xcd, 0, 3, 0, 0, 0, 0x11, 0, 0, 1, 1, 0, 0x64, 0, 1],
+        &[16],
+        Outcome::Read,
+    ),
+    (&[0x81, 0xcb, 0, 1, 0, 0, 0, 0x11], &[8], Outcome::Read),
+];
 
 #[test]
 fn every_cut_of_the_examples(rt: HostRuntime) {
-    // Example 1: a TMMBR of 17, and the TMMBN that is printed.
-    let tmmbr = [
-        0x83, 0xcd, 0, 4, 0, 0, 0, 0x11, 0, 0, 0, 0, 0, 0, 0, 1, 0, 7, 0xd0, 0x28,
-    ];
-    every_prefix(&rt, &tmmbr, &[20], Outcome::Read);
-    let tmmbn = [
-        0x84, 0xcd, 0, 4, 0, 0, 0, 1, 0, 0, 0, 0, 0, 0, 0, 0x11, 0, 7, 0xd0, 0x28,
-    ];
-    every_prefix(&rt, &tmmbn, &[20], Outcome::Read);
-    // Example 12: the goodbye of 18.
-    every_prefix(&rt, &[0x81, 0xcb, 0, 1, 0, 0, 0, 0x12], &[8], Outcome::Read);
-    // Example 13: an FCI of four bytes, and a header that says more than there is.
-    let half = [0x83, 0xcd, 0, 3, 0, 0, 0, 0x11, 0, 0, 0, 0, 0, 0, 0, 1];
-    every_prefix(&rt, &half, &[16], Outcome::Feedback(2));
-    every_prefix(&rt, &[0x83, 0xcd, 0, 4, 0, 0, 0], &[20], Outcome::Rtcp(3));
-    every_prefix(&rt, &[0x83, 0xcd, 0], &[20], Outcome::Rtcp(1));
-    // A receiver report of 17 and its TMMBR in one datagram.
-    let joined = [
-        0x80, 0xc9, 0, 1, 0, 0, 0, 0x11, 0x83, 0xcd, 0, 4, 0, 0, 0, 0x11, 0, 0, 0, 0, 0, 0, 0, 1,
-        0, 7, 0xd0, 0x28,
-    ];
-    every_prefix(&rt, &joined, &[8, 28], Outcome::Read);
-    // Its NACK about 257, of 100 and 101, and its goodbye.
-    let nack = [0x81, 0xcd, 0, 3, 0, 0, 0, 0x11, 0, 0, 1, 1, 0, 0x64, 0, 1];
-    every_prefix(&rt, &nack, &[16], Outcome::Read);
-    every_prefix(&rt, &[0x81, 0xcb, 0, 1, 0, 0, 0, 0x11], &[8], Outcome::Read);
+    for (datagram, ends, whole) in &EXAMPLES {
+        every_prefix(&rt, datagram, ends, *whole);
+    }
 }
 
 /// What the unit sends: an empty receiver report of 9 and its CNAME, and behind them a TMMBR of 17 for 16, a
 /// TMMBN of 257 or the TMMBR that asks for the greatest rate.
 #[test]
 fn every_cut_of_what_is_sent(rt: HostRuntime) -> Result<(), Fail> {
-    let head = [
-        0x80, 0xc9, 0, 1, 0, 0, 0, 9, 0x81, 0xca, 0, 3, 0, 0, 0, 9, 1, 3, 0x73, 0x66, 0x75, 0, 0, 0,
-    ];
-    let feedback = [
-        [
-            0x83, 0xcd, 0, 4, 0, 0, 0, 0x11, 0, 0, 0, 0, 0, 0, 0, 0x10, 0, 7, 0xd0, 0x28,
-        ],
-        [
-            0x84, 0xcd, 0, 4, 0, 0, 1, 1, 0, 0, 0, 0, 0, 0, 0, 0x11, 0, 7, 0xd0, 0x28,
-        ],
-        [
-            0x83, 0xcd, 0, 4, 0, 0, 0, 0x11, 0, 0, 0, 0, 0, 0, 0, 0x10, 0xff, 0xff, 0xfe, 0,
-        ],
-    ];
-    for packet in feedback {
-        let mut datagram = head.to_vec(rt.alloc())?;
-        datagram.extend_from_slice(&packet)?;
+    for packet in &FEEDBACK {
+        let mut datagram = HEAD.to_vec(rt.alloc())?;
+        datagram.extend_from_slice(packet)?;
         every_prefix(&rt, datagram.as_slice(), &[8, 24, 44], Outcome::Read);
     }
     Ok(())
 }
+
+const HEAD: [u8; 24] = [
+    0x80, 0xc9, 0, 1, 0, 0, 0, 9, 0x81, 0xca, 0, 3, 0, 0, 0, 9, 1, 3, 0x73, 0x66, 0x75, 0, 0, 0,
+];
+
+const FEEDBACK: [[u8; 20]; 3] = [
+    [
+        0x83, 0xcd, 0, 4, 0, 0, 0, 0x11, 0, 0, 0, 0, 0, 0, 0, 0x10, 0, 7, 0xd0, 0x28,
+    ],
+    [
+        0x84, 0xcd, 0, 4, 0, 0, 1, 1, 0, 0, 0, 0, 0, 0, 0, 0x11, 0, 7, 0xd0, 0x28,
+    ],
+    [
+        0x83, 0xcd, 0, 4, 0, 0, 0, 0x11, 0, 0, 0, 0, 0, 0, 0, 0x10, 0xff, 0xff, 0xfe, 0,
+    ],
+];
 
 /// Each prefix of the body of a feedback packet: below 8 bytes it is short (1), and an FCI that ends within
 /// an entry is odd (2).

@@ -2,6 +2,8 @@
 //! 6.3.1, and RFC 5104, sections 4.2.1 and 4.2.2.
 ghost use Rattle.std.specs.Prelude.{◌≤◌, length};
 
+use crate::expected::same;
+use crate::packet_text::{feedback_text, packets_text};
 use bumpalo::Bump;
 use rtcp_feedback::*;
 use std::alloc::{AllocError, Allocator, Global};
@@ -57,36 +59,40 @@ fn written(
     packet: &[u8],
 ) -> Result<(), AllocError> {
     assert!(rt; !out.is_empty());
-    assert_eq!(rt; out.as_slice()[0], 7);
+    same(rt, &out.as_slice()[0], &7);
     match answer {
-        Ok(()) => assert_eq!(rt; &out.as_slice()[1..], packet),
-        Err(_) => assert_eq!(rt; out.len(), 1),
+        Ok(()) => same(rt, &&out.as_slice()[1..], &packet),
+        Err(_) => same(rt, &out.len(), &1),
     }
     answer
 }
 
+/// An entry of a NACK, and what it says was lost.
+const LOST: [(Nack, &[u16]); 4] = [
+    (Nack { pid: 65534, blp: 3 }, &[65534, 65535, 0]),
+    (Nack { pid: 7, blp: 0 }, &[7]),
+    (
+        Nack {
+            pid: 100,
+            blp: 0x8000,
+        },
+        &[100, 116],
+    ),
+    (
+        Nack {
+            pid: 65530,
+            blp: 0xffff,
+        },
+        &[
+            65530, 65531, 65532, 65533, 65534, 65535, 0, 1, 2, 3, 4, 5, 6, 7, 8, 9, 10,
+        ],
+    ),
+];
+
 #[test]
 fn lost_of_example_15(rt: HostRuntime) {
-    assert_eq!(rt;
-        lost(Nack { pid: 65534, blp: 3 }).as_slice(),
-        [65534, 65535, 0].as_slice()
-    );
-    assert_eq!(rt; lost(Nack { pid: 7, blp: 0 }).as_slice(), [7].as_slice());
-    assert_eq!(rt;
-        lost(Nack {
-            pid: 100,
-            blp: 0x8000
-        })
-        .as_slice(),
-        [100, 116].as_slice()
-    );
-    let all = lost(Nack {
-        pid: 65530,
-        blp: 0xffff,
-    });
-    assert_eq!(rt; all.len(), 17);
-    for (place, number) in all.as_slice().iter().enumerate() {
-        assert_eq!(rt; usize::from(*number), (65530 + place) % 65536);
+    for (nack, numbers) in &LOST {
+        assert_eq!(rt; lost(*nack).as_slice(), *numbers);
     }
 }
 
@@ -126,147 +132,118 @@ fn writers_read_again(rt: HostRuntime) -> Result<(), Fail> {
     tmmbn_written(&rt, rt.alloc(), &[], &EMPTY_TMMBN)?;
     tmmbr_written(&rt, rt.alloc())?;
     pli_written(&rt, rt.alloc())?;
-    written_are_read(&rt);
-    Ok(())
+    Ok(written_are_read(&rt, rt.alloc())?)
 }
 
 /// The packets say again what was written.
-fn written_are_read(rt: &impl Abort) {
-    match read(&TMMBN) {
-        Ok(
-            Feedback::Tmmbn {
-                sender,
-                mut entries,
-            },
-        ) => {
-            assert_eq!(rt; sender, Ssrc(1));
-            assert_eq!(rt; entries.next(), Some(entry(17, TUPLE)));
-            assert_eq!(rt; entries.next(), None);
-        }
-        _ => panic!(rt; "a TMMBN"),
-    }
-    match read(&TMMBR) {
-        Ok(
-            Feedback::Tmmbr {
-                sender,
-                mut entries,
-            },
-        ) => {
-            assert_eq!(rt; sender, Ssrc(17));
-            assert_eq!(rt; entries.next(), Some(entry(16, TUPLE)));
-            assert_eq!(rt; entries.next(), None);
-        }
-        _ => panic!(rt; "a TMMBR"),
-    }
-    assert_eq!(rt;
-        read(&PLI),
-        Ok(Feedback::Pli {
-            sender: Ssrc(9),
-            media: Ssrc(16)
-        })
-    );
-}
-
-#[test]
-fn nack_of_two_entries(rt: HostRuntime) {
-    let body = [
-        0, 0, 0, 17, 0, 0, 1, 1, // the sources 17 and 257
-        0xff, 0xfe, 0x00, 0x03, 0x00, 0x64, 0x80, 0x00, // 65534 and two more, 100 and one more
+fn written_are_read(rt: &impl Abort, alloc: Global) -> Result<(), AllocError> {
+    let packets: [(&[u8], &str); 3] = [
+        (
+            &TMMBN,
+            "feedback 4 205 0000000100000000000000110007d028 tmmbn 1 17 0007d028\n",
+        ),
+        (
+            &TMMBR,
+            "feedback 3 205 0000001100000000000000100007d028 tmmbr 17 16 0007d028\n",
+        ),
+        (&PLI, "feedback 1 206 0000000900000010 pli 9 16\n"),
     ];
-    match read_feedback(1, 205, &body) {
-        Ok(
-            Feedback::Nack {
-                sender,
-                media,
-                mut entries,
-            },
-        ) => {
-            assert_eq!(rt; (sender, media), (Ssrc(17), Ssrc(257)));
-            assert_eq!(rt; entries.next(), Some(Nack { pid: 65534, blp: 3 }));
-            assert_eq!(rt;
-                entries.next(),
-                Some(Nack {
-                    pid: 100,
-                    blp: 0x8000
-                })
-            );
-            assert_eq!(rt; entries.next(), None);
-            assert_eq!(rt; entries.next(), None);
-        }
-        _ => panic!(rt; "a NACK"),
+    for (packet, wanted) in packets {
+        assert_eq!(rt; packets_text(alloc, packet)?.as_str(), wanted);
     }
+    Ok(())
 }
 
-#[test]
-fn lists_without_entries(rt: HostRuntime) {
-    match read_feedback(1, 205, &[0, 0, 0, 1, 0, 0, 0, 2]) {
-        Ok(Feedback::Nack { mut entries, .. }) => assert_eq!(rt; entries.next(), None),
-        _ => panic!(rt; "a NACK"),
+/// The FMT, the type and the body of feedback, and what it says.
+type Case = (u8, u8, &'static [u8], &'static str);
+
+/// Each says what stands beside it.
+fn all_say(rt: &impl Abort, alloc: Global, cases: &[Case]) -> Result<(), AllocError> {
+    for (fmt, kind, body, wanted) in cases {
+        assert_eq!(rt; feedback_text(alloc, *fmt, *kind, body)?.as_str(), *wanted);
     }
-    match read_feedback(3, 205, &[0, 0, 0, 1, 0, 0, 0, 0]) {
-        Ok(Feedback::Tmmbr { mut entries, .. }) => assert_eq!(rt; entries.next(), None),
-        _ => panic!(rt; "a TMMBR"),
-    }
-    match read(&EMPTY_TMMBN) {
-        Ok(Feedback::Tmmbn { mut entries, .. }) => assert_eq!(rt; entries.next(), None),
-        _ => panic!(rt; "a TMMBN"),
-    }
+    Ok(())
 }
 
+/// The sources 17 and 257; 65534 and two more, 100 and one more.
+const TWO_NACKS: [Case; 1] = [(
+    1,
+    205,
+    &[
+        0, 0, 0, 17, 0, 0, 1, 1, 0xff, 0xfe, 0x00, 0x03, 0x00, 0x64, 0x80, 0x00,
+    ],
+    "nack 17 257 65534 3 100 32768",
+)];
+
 #[test]
-fn ignored_parts(rt: HostRuntime) {
-    // An FCI of three bytes behind a PLI.
-    assert_eq!(rt;
-        read_feedback(1, 206, &[0, 0, 0, 9, 0, 0, 0, 16, 1, 2, 3]),
-        Ok(Feedback::Pli {
-            sender: Ssrc(9),
-            media: Ssrc(16)
-        })
-    );
-    // The source of media of a TMMBR is 5 in place of 0.
-    match read_feedback(
+fn nack_of_two_entries(rt: HostRuntime) -> Result<(), Fail> {
+    Ok(all_say(&rt, rt.alloc(), &TWO_NACKS)?)
+}
+
+const WITHOUT_ENTRIES: [Case; 3] = [
+    (1, 205, &[0, 0, 0, 1, 0, 0, 0, 2], "nack 1 2"),
+    (3, 205, &[0, 0, 0, 1, 0, 0, 0, 0], "tmmbr 1"),
+    (4, 205, &[0, 0, 0, 1, 0, 0, 0, 0], "tmmbn 1"),
+];
+
+#[test]
+fn lists_without_entries(rt: HostRuntime) -> Result<(), Fail> {
+    Ok(all_say(&rt, rt.alloc(), &WITHOUT_ENTRIES)?)
+}
+
+/// A body whose FCI has one byte.
+const ODD: &[u8] = &[0, 0, 0, 9, 0, 0, 0, 16, 1];
+
+/// An FCI of three bytes behind a PLI; a TMMBR whose source of media is 5 in place of 0; a FIR (RFC 5104, section 4.3.1), FMTs that
+/// aren't known, and a type that isn't feedback.
+const IGNORED: [Case; 8] = [
+    (1, 206, &[0, 0, 0, 9, 0, 0, 0, 16, 1, 2, 3], "pli 9 16"),
+    (
         3,
         205,
         &[0, 0, 0, 17, 0, 0, 0, 5, 0, 0, 0, 16, 0x00, 0x07, 0xd0, 0x28],
-    ) {
-        Ok(
-            Feedback::Tmmbr {
-                sender,
-                mut entries,
-            },
-        ) => {
-            assert_eq!(rt; sender, Ssrc(17));
-            assert_eq!(rt; entries.next(), Some(entry(16, TUPLE)));
-        }
-        _ => panic!(rt; "a TMMBR"),
-    }
-    // A FIR (RFC 5104, section 4.3.1), an FMT that isn't known, and a type that isn't feedback.
-    let unknown = Ok(Feedback::Unknown { sender: Ssrc(9) });
-    for (fmt, kind) in [(4, 206), (3, 206), (2, 205), (5, 205), (15, 205), (1, 204)] {
-        assert_eq!(rt;
-            read_feedback(fmt, kind, &[0, 0, 0, 9, 0, 0, 0, 16, 1]),
-            unknown
-        );
-    }
+        "tmmbr 17 16 0007d028",
+    ),
+    (4, 206, ODD, "unknown 9"),
+    (3, 206, ODD, "unknown 9"),
+    (2, 205, ODD, "unknown 9"),
+    (5, 205, ODD, "unknown 9"),
+    (15, 205, ODD, "unknown 9"),
+    (1, 204, ODD, "unknown 9"),
+];
+
+#[test]
+fn ignored_parts(rt: HostRuntime) -> Result<(), Fail> {
+    Ok(all_say(&rt, rt.alloc(), &IGNORED)?)
 }
+
+/// 83cd0003000000110000000000000001: an FCI of four bytes.
+const HALF: &[u8] = &[0, 0, 0, 0x11, 0, 0, 0, 0, 0, 0, 0, 1];
+
+/// The FMT, the type and the body of feedback, and the number of its fault; 0 where it has none.
+const FAULTS: [(u8, u8, &[u8], u8); 7] = [
+    (3, 205, HALF, 2),
+    (4, 205, HALF, 2),
+    (1, 205, HALF, 0),
+    (1, 205, &[0; 11], 2),
+    (3, 205, &[0; 15], 2),
+    (3, 205, &[0; 16], 0),
+    (4, 205, &[0; 17], 2),
+];
 
 #[test]
 fn each_fault(rt: HostRuntime) {
-    let body = [0; 17];
     for (fmt, kind) in [(1, 205), (3, 205), (4, 205), (1, 206), (4, 206), (0, 200)] {
-        assert_eq!(rt; fault(fmt, kind, &[]), 1);
-        assert_eq!(rt; fault(fmt, kind, &body[..7]), 1);
-        assert_eq!(rt; fault(fmt, kind, &body[..8]), 0);
+        let faults = [
+            fault(fmt, kind, &[]),
+            fault(fmt, kind, &[0; 7]),
+            fault(fmt, kind, &[0; 8]),
+        ];
+        same(&rt, &faults, &[1, 1, 0]);
     }
-    // 83cd0003000000110000000000000001: an FCI of four bytes.
-    let half = [0, 0, 0, 0x11, 0, 0, 0, 0, 0, 0, 0, 1];
-    assert_eq!(rt; fault(3, 205, &half), 2);
-    assert_eq!(rt; fault(4, 205, &half), 2);
-    assert_eq!(rt; fault(1, 205, &half), 0);
-    assert_eq!(rt; fault(1, 205, &body[..11]), 2);
-    assert_eq!(rt; fault(3, 205, &body[..15]), 2);
-    assert_eq!(rt; fault(3, 205, &body[..16]), 0);
-    assert_eq!(rt; fault(4, 205, &body), 2);
+    for (fmt, kind, body, number) in &FAULTS {
+        same(&rt, &fault(*fmt, *kind, body), &*number);
+    }
 }
 
 /// The longest packet: 65,534 words behind its header.
@@ -276,10 +253,14 @@ fn as_many_entries_as_may_be(rt: HostRuntime) -> Result<(), Fail> {
     let mut out = vec![in rt.alloc()]?;
     write_tmmbr(&mut out, Ssrc(17), entries.as_slice())?;
     assert_eq!(rt; out.len(), 4 * 65_535);
-    assert_eq!(rt; &out.as_slice()[..4], [0x83, 0xcd, 0xff, 0xfe].as_slice());
+    same(
+        &rt,
+        &&out.as_slice()[..4],
+        &[0x83, 0xcd, 0xff, 0xfe].as_slice(),
+    );
     match read(out.as_slice()) {
         Ok(Feedback::Tmmbr { entries, .. }) => {
-            assert_eq!(rt; entries.take(MAX_ENTRIES + 1).count(), MAX_ENTRIES);
+            same(&rt, &entries.take(MAX_ENTRIES + 1).count(), &MAX_ENTRIES);
         }
         _ => panic!(rt; "a TMMBR"),
     }
@@ -291,22 +272,31 @@ fn as_many_entries_as_may_be(rt: HostRuntime) -> Result<(), Fail> {
 #[test]
 fn memory_refused(rt: HostRuntime) -> Result<(), Fail> {
     for writer in 0..3u8 {
-        let bump = Bump::new(rt.alloc());
-        bump.set_allocation_limit(Some(2000));
-        let mut out = Vec::new(&bump);
-        let mut refused = false;
-        for _ in 0..1000 {
-            let before = out.as_slice().to_vec(rt.alloc())?;
-            if write(writer, &mut out).is_err() {
-                assert_eq!(rt; out.as_slice(), before.as_slice());
-                assert!(rt; !before.is_empty());
-                refused = true;
-                break;
-            }
-        }
-        assert!(rt; refused, "writer {writer}");
+        assert!(rt; leaves_in_arena(rt.alloc(), writer)?, "writer {writer}");
     }
     Ok(())
+}
+
+/// Whether the writer is refused memory in an arena of 2,000 bytes, and leaves what was there.
+fn leaves_in_arena(alloc: Global, writer: u8) -> Result<bool, AllocError> {
+    let bump = Bump::new(alloc);
+    bump.set_allocation_limit(Some(2000));
+    leaves(alloc, writer, &mut Vec::new(&bump))
+}
+
+/// Whether the writer is refused memory in the end, and leaves what was there.
+fn leaves<A: Allocator>(
+    alloc: Global,
+    writer: u8,
+    out: &mut Vec<u8, A>,
+) -> Result<bool, AllocError> {
+    for _ in 0..1000 {
+        let before = out.as_slice().to_vec(alloc)?;
+        if write(writer, out).is_err() {
+            return Ok(!before.is_empty() && out.as_slice() == before.as_slice());
+        }
+    }
+    Ok(false)
 }
 
 /// What one of the three writers appends.

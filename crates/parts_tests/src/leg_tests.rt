@@ -1,33 +1,45 @@
 //! Packets in, numbers out.
+use crate::expected::same;
 use rewrite::*;
 use std::process::Abort;
 use std::test::Fail;
 
+/// A turn and a sequence number, and what the leg answers.
+type Step = (u64, u16, Result<u64, Skip>);
+
+/// The leg answers each step so.
+fn plays(rt: &impl Abort, leg: &mut Leg, steps: &[Step]) {
+    for (turn, seq, answer) in steps {
+        assert_eq!(rt; leg.next(*turn, *seq), *answer);
+    }
+}
+
+const EXAMPLE_14: [Step; 9] = [
+    (1, 65534, Ok(100)),
+    (1, 65535, Ok(101)),
+    (2, 3, Ok(102)),
+    // Two before its turn's first packet, across the wrap.
+    (2, 65534, Err(Skip::Old)),
+    (2, 5, Ok(104)),
+    (2, 4, Ok(103)),
+    (2, 5, Ok(104)),
+    (1, 65535, Err(Skip::Old)),
+    (3, 9, Ok(105)),
+];
+
 #[test]
 fn numbers_of_example_14(rt: HostRuntime) {
-    let mut leg = Leg::new(100);
-    assert_eq!(rt; leg.next(1, 65534), Ok(100));
-    assert_eq!(rt; leg.next(1, 65535), Ok(101));
-    assert_eq!(rt; leg.next(2, 3), Ok(102));
-    // Two before its turn's first packet, across the wrap.
-    assert_eq!(rt; leg.next(2, 65534), Err(Skip::Old));
-    assert_eq!(rt; leg.next(2, 5), Ok(104));
-    assert_eq!(rt; leg.next(2, 4), Ok(103));
-    assert_eq!(rt; leg.next(2, 5), Ok(104));
-    assert_eq!(rt; leg.next(1, 65535), Err(Skip::Old));
-    assert_eq!(rt; leg.next(3, 9), Ok(105));
+    plays(&rt, &mut Leg::new(100), &EXAMPLE_14);
 }
 
 #[test]
 fn copy_numbers_as_the_leg(rt: HostRuntime) {
     let mut leg = Leg::new(100);
-    assert_eq!(rt; leg.next(1, 65534), Ok(100));
+    plays(&rt, &mut leg, &[(1, 65534, Ok(100))]);
     let mut planned = leg;
-    assert_eq!(rt; planned.next(2, 3), Ok(101));
-    assert_eq!(rt; planned.next(2, 5), Ok(103));
+    plays(&rt, &mut planned, &[(2, 3, Ok(101)), (2, 5, Ok(103))]);
     // What was planned with the copy left the leg as it was.
-    assert_eq!(rt; leg.next(1, 65535), Ok(101));
-    assert_eq!(rt; leg.next(2, 3), Ok(102));
+    plays(&rt, &mut leg, &[(1, 65535, Ok(101)), (2, 3, Ok(102))]);
 }
 
 /// One packet after another on one turn, whose sequence numbers wrap where they reach 65,536.
@@ -36,12 +48,12 @@ fn counts_on(rt: &impl Abort, base: u16) {
     let start = u64::from(base);
     let mut seq = base;
     for above in 0..600 {
-        assert_eq!(rt; leg.next(0, seq), Ok(start + above));
+        same(rt, &leg.next(0, seq), &Ok(start + above));
         seq = seq.wrapping_add(1);
     }
     // A repeated packet gets its number again, and one from before the first none.
-    assert_eq!(rt; leg.next(0, base), Ok(start));
-    assert_eq!(rt; leg.next(0, base.wrapping_sub(1)), Err(Skip::Old));
+    same(rt, &leg.next(0, base), &Ok(start));
+    same(rt, &leg.next(0, base.wrapping_sub(1)), &Err(Skip::Old));
 }
 
 #[test]
@@ -78,6 +90,6 @@ fn jumps_round_every_wrap(rt: HostRuntime) {
 
 #[test]
 fn numbers_of_refusals(rt: HostRuntime) {
-    assert_eq!(rt; Skip::Old.number(), 1);
-    assert_eq!(rt; Skip::Spent.number(), 2);
+    same(&rt, &Skip::Old.number(), &1);
+    same(&rt, &Skip::Spent.number(), &2);
 }

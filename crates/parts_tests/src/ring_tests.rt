@@ -4,23 +4,8 @@ ghost use Rattle.std.specs.Prelude.{◌≤◌};
 use bumpalo::Bump;
 use resend_ring::*;
 use std::alloc::{AllocError, Global};
+use std::process::Abort;
 use std::test::Fail;
-
-/// A ring of this capacity that kept these numbers in turn, each with its number as its bytes, and the
-/// numbers that were pushed out.
-fn kept(alloc: Global, capacity: usize, numbers: &[u64]) -> Result<(Ring, Vec<u64>), Fail>
-    requires { 1 ≤ capacity × capacity ≤ MAX_CAPACITY }
-{
-    let mut ring = Ring::new(alloc, capacity)?;
-    let mut left = Vec::new(alloc);
-    for number in numbers {
-        let bytes = number.to_be_bytes().to_vec(alloc)?;
-        if let Some((number, _)) = ring.keep(*number, bytes) {
-            left.push(number)?;
-        }
-    }
-    Ok((ring, left))
-}
 
 /// Keeps a packet with its number as its bytes.
 fn keep(ring: &mut Ring, alloc: Global, number: u64) -> Result<(), AllocError> {
@@ -37,42 +22,108 @@ fn finds(ring: &Ring, seq: u16, number: u64) -> bool {
     }
 }
 
+/// Numbers that a ring of this capacity keeps in turn, each with its number as its bytes; those that it pushes out; those that it
+/// has then; and sequence numbers that it finds nothing for.
+#[derive(Drop)]
+struct Case<'a> {
+    capacity: usize,
+    numbers: &'a [u64],
+    left: &'a [u64],
+    kept: &'a [u64],
+    missing: &'a [u16],
+}
+
+/// The numbers that the ring pushes out while it keeps these.
+fn pushed_out(alloc: Global, ring: &mut Ring, numbers: &[u64]) -> Result<Vec<u64>, AllocError> {
+    let mut left = Vec::new(alloc);
+    for number in numbers {
+        let bytes = number.to_be_bytes().to_vec(alloc)?;
+        if let Some((number, _)) = ring.keep(*number, bytes) {
+            left.push(number)?;
+        }
+    }
+    Ok(left)
+}
+
+/// Finds these numbers, and nothing for those.
+fn finds_all(rt: &impl Abort, ring: &Ring, kept: &[u64], missing: &[u16]) {
+    for number in kept {
+        assert!(rt; finds(ring, (number % 65536) as u16, *number), "{number}");
+    }
+    for seq in missing {
+        assert!(rt; ring.find(*seq).is_none(), "{seq}");
+    }
+}
+
+/// The ring does so.
+fn keeps(
+    rt: &impl Abort,
+    alloc: Global,
+    ring: &mut Ring,
+    case: &Case<'_>,
+) -> Result<(), AllocError> {
+    let left = pushed_out(alloc, ring, case.numbers)?;
+    assert_eq!(rt; left.as_slice(), case.left);
+    finds_all(rt, ring, case.kept, case.missing);
+    Ok(())
+}
+
+/// A new ring does so.
+fn assert_keeps(rt: &impl Abort, alloc: Global, case: &Case<'_>) -> Result<(), Fail> {
+    if case.capacity == 0 || case.capacity > MAX_CAPACITY {
+        return Err(Fail::from("capacity"));
+    }
+    let mut ring = Ring::new(alloc, case.capacity)?;
+    Ok(keeps(rt, alloc, &mut ring, case)?)
+}
+
 #[test]
 fn finds_of_example_15(rt: HostRuntime) -> Result<(), Fail> {
-    let (ring, left) = kept(rt.alloc(), 2, &[65534, 65535, 65536])?;
-    assert_eq!(rt; left.as_slice(), [65534].as_slice());
-    assert!(rt; ring.find(65534).is_none());
-    assert!(rt; finds(&ring, 65535, 65535));
-    assert!(rt; finds(&ring, 0, 65536));
-    Ok(())
+    let case = Case {
+        capacity: 2,
+        numbers: &[65534, 65535, 65536],
+        left: &[65534],
+        kept: &[65535, 65536],
+        missing: &[65534],
+    };
+    assert_keeps(&rt, rt.alloc(), &case)
 }
 
 #[test]
 fn finds_the_latest_of_two(rt: HostRuntime) -> Result<(), Fail> {
-    let (ring, left) = kept(rt.alloc(), 2, &[100, 101])?;
-    assert_eq!(rt; left.len(), 0);
-    assert!(rt; ring.find(102).is_none());
+    let case = Case {
+        capacity: 2,
+        numbers: &[100, 101],
+        left: &[],
+        kept: &[],
+        missing: &[102],
+    };
+    assert_keeps(&rt, rt.alloc(), &case)?;
     // 65638 is 102 after a wrap.
-    let (ring, left) = kept(rt.alloc(), 2, &[100, 101, 102, 65638])?;
-    assert_eq!(rt; left.as_slice(), [100, 101].as_slice());
-    assert!(rt; finds(&ring, 102, 65638));
-    Ok(())
+    let case = Case {
+        numbers: &[100, 101, 102, 65638],
+        left: &[100, 101],
+        kept: &[65638],
+        missing: &[],
+        ..case
+    };
+    assert_keeps(&rt, rt.alloc(), &case)
 }
 
 #[test]
 fn keeps_round_every_wrap(rt: HostRuntime) -> Result<(), Fail> {
     for first in [0u16, 511, 32767, 32768, 65534, 65535] {
-        let first = u64::from(first);
-        let numbers = [first, first + 1, first + 2, first + 3, first + 4];
-        let (ring, left) = kept(rt.alloc(), 3, numbers.as_slice())?;
-        assert_eq!(rt; left.as_slice(), [first, first + 1].as_slice());
-        for number in left.as_slice() {
-            assert!(rt; ring.find((number % 65536) as u16).is_none());
-        }
-        for number in first + 2..first + 5 {
-            assert!(rt; finds(&ring, (number % 65536) as u16, number), "{number}");
-        }
-        assert!(rt; ring.find(((first + 5) % 65536) as u16).is_none());
+        let from = u64::from(first);
+        let numbers = [from, from + 1, from + 2, from + 3, from + 4];
+        let [a, b, ..] = numbers;
+        let case = Case {
+            capacity: 3,
+            numbers: &numbers,
+            left: &[a, b],
+            kept: &[from + 2, from + 3, from + 4],
+            missing: &[first, first.wrapping_add(1), first.wrapping_add(5)],
+        };
+        assert_keeps(&rt, rt.alloc(), &case)?;
     }
     Ok(())
 }
@@ -85,25 +136,22 @@ fn finds_in_a_run_of_512(rt: HostRuntime) -> Result<(), Fail> {
         keep(&mut ring, rt.alloc(), number)?;
     }
     for number in 65400u64..65912 {
-        assert!(rt; finds(&ring, (number % 65536) as u16, number), "{number}");
+        finds_all(&rt, &ring, &[number], &[65399, 376]);
     }
-    assert!(rt; ring.find(65399).is_none());
-    assert!(rt; ring.find(376).is_none());
     Ok(())
 }
 
+/// 65535 is missing, 65536 comes late, and 131075 has the low bits of 3 as 65539 has.
 #[test]
 fn finds_across_gaps(rt: HostRuntime) -> Result<(), Fail> {
-    // 65535 is missing, 65536 comes late, and 131075 has the low bits of 3 as 65539 has.
-    let numbers = [65533, 65534, 65537, 65538, 65536, 65539, 131075, 131076];
-    let (ring, left) = kept(rt.alloc(), 8, numbers.as_slice())?;
-    assert_eq!(rt; left.len(), 0);
-    assert!(rt; ring.find(65535).is_none());
-    assert!(rt; ring.find(5).is_none());
-    for number in [65533u64, 65534, 65536, 65537, 65538, 131075, 131076] {
-        assert!(rt; finds(&ring, (number % 65536) as u16, number), "{number}");
-    }
-    Ok(())
+    let case = Case {
+        capacity: 8,
+        numbers: &[65533, 65534, 65537, 65538, 65536, 65539, 131075, 131076],
+        left: &[],
+        kept: &[65533, 65534, 65536, 65537, 65538, 131075, 131076],
+        missing: &[65535, 5],
+    };
+    assert_keeps(&rt, rt.alloc(), &case)
 }
 
 /// The clock of a ring counts modulo 65,536: 65,536 packets after number 9 the head of its chain leads to
@@ -112,12 +160,11 @@ fn finds_across_gaps(rt: HostRuntime) -> Result<(), Fail> {
 fn follows_no_stale_head(rt: HostRuntime) -> Result<(), Fail> {
     let mut ring = Ring::new(rt.alloc(), 2)?;
     keep(&mut ring, rt.alloc(), 9)?;
-    assert!(rt; finds(&ring, 9, 9));
+    finds_all(&rt, &ring, &[9], &[]);
     for _ in 0..65536 {
         keep(&mut ring, rt.alloc(), 5)?;
     }
-    assert!(rt; ring.find(9).is_none());
-    assert!(rt; finds(&ring, 5, 5));
+    finds_all(&rt, &ring, &[5], &[9]);
     Ok(())
 }
 
@@ -140,6 +187,22 @@ fn last_with(numbers: &[u64], from: usize, seq: u16) -> Option<usize> {
     last
 }
 
+/// Whether a ring that kept these numbers in turn, each with its place as its bytes, finds each of the sequence numbers as a look
+/// through them from the place `from` on does.
+fn finds_last(ring: &Ring, numbers: &[u64], from: usize, asked: &[u16]) -> bool {
+    for seq in asked {
+        let is_right = match (ring.find(*seq), last_with(numbers, from, *seq)) {
+            (None, None) => true,
+            (Some(bytes), Some(last)) => bytes == last.to_be_bytes().as_slice(),
+            (None, Some(_)) | (Some(_), None) => false,
+        };
+        if !is_right {
+            return false;
+        }
+    }
+    true
+}
+
 /// Whether a ring that kept these numbers in turn, each with its place as its bytes, finds each of the sequence
 /// numbers as a look through the list of the last ones does: after each packet, from the place `from` on.
 fn agrees(
@@ -158,15 +221,8 @@ fn agrees(
             continue;
         }
         let oldest = (place + 1).saturating_sub(capacity);
-        for seq in asked {
-            let is_right = match (ring.find(*seq), last_with(&numbers[..=place], oldest, *seq)) {
-                (None, None) => true,
-                (Some(bytes), Some(last)) => bytes == last.to_be_bytes().as_slice(),
-                (None, Some(_)) | (Some(_), None) => false,
-            };
-            if !is_right {
-                return Ok(false);
-            }
+        if !finds_last(&ring, &numbers[..=place], oldest, asked) {
+            return Ok(false);
         }
     }
     Ok(true)
@@ -261,11 +317,21 @@ fn agrees_with_a_list(rt: HostRuntime) -> Result<(), Fail> {
     Ok(())
 }
 
+/// Whether a ring of this capacity is made in an arena of so many bytes, and how many of them are taken.
+fn made_in(alloc: Global, capacity: usize, limit: usize) -> (bool, usize)
+    requires { 1 ≤ capacity × capacity ≤ MAX_CAPACITY }
+{
+    let bump = Bump::new(alloc);
+    bump.set_allocation_limit(Some(limit));
+    let made = Ring::new(&bump, capacity).is_ok();
+    (made, bump.allocated_bytes())
+}
+
 /// A ring of 126 packets wants 4,032 bytes for them, then 252 for their links, then 2,048 for the heads. The
 /// memory comes in chunks, of which the first is full of the packets. A ring of 512 wants 16 KiB and 3 KiB, one
 /// of 8 wants 528 bytes in all.
 #[test]
-fn refused_without_memory(rt: HostRuntime) -> Result<(), Fail> {
+fn refused_without_memory(rt: HostRuntime) {
     for (capacity, limit, taken, is_made) in [
         (126, 0, 0, false),
         (126, 4_000, 0, false),
@@ -275,15 +341,11 @@ fn refused_without_memory(rt: HostRuntime) -> Result<(), Fail> {
         (8, 1_000, 528, true),
         (512, 20_480, 16_384 + 3_072, true),
     ] {
-        let bump = Bump::new(rt.alloc());
-        bump.set_allocation_limit(Some(limit));
-        let made = Ring::new(&bump, capacity).is_ok();
+        let (made, bytes) = made_in(rt.alloc(), capacity, limit);
         assert_eq!(rt; made, is_made, "{capacity} packets in {limit} bytes");
-        let bytes = bump.allocated_bytes();
         assert!(rt;
             taken <= bytes && bytes <= limit,
             "{bytes} of {limit} bytes"
         );
     }
-    Ok(())
 }

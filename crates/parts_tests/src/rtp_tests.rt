@@ -1,5 +1,10 @@
 //! Each public call on its happy path, and datagrams built by hand from RFC 3550, sections 5.1 and 5.3.1.
+use crate::expected::same;
+use crate::packet_text::{hex_text, write_hex};
 use rtp_packet::*;
+use std::alloc::{AllocError, Global};
+use std::fmt::Write;
+use std::process::Abort;
 use std::test::Fail;
 use tmmbr_tuple::Ssrc;
 
@@ -32,26 +37,58 @@ fn fault_of(datagram: &[u8]) -> Option<RtpFault> {
     }
 }
 
+/// A packet's parts, as text: the marker bit, the payload type, the numbers, and the bytes of each part. `whole` says that its bytes
+/// are those of the datagram.
+fn parts_text(alloc: Global, datagram: &[u8]) -> Result<String, Fail> {
+    let view = RtpView::parse(datagram).map_err(|_| "read")?;
+    let mut text = String::new(alloc);
+    write_header(&mut text, &view)?;
+    write_parts(&mut text, &view)?;
+    if view.datagram == datagram {
+        text.push_str(" whole")?;
+    }
+    Ok(text)
+}
+
+fn write_header(text: &mut String, view: &RtpView<'_>) -> Result<(), AllocError> {
+    let (marker, kind, seq) = (view.marker, view.payload_type, view.sequence_number);
+    write!(
+        text,
+        "{marker} {kind} {seq} {} {}",
+        view.timestamp, view.ssrc.0
+    )
+}
+
+fn write_parts(text: &mut String, view: &RtpView<'_>) -> Result<(), AllocError> {
+    text.push_str(" csrcs ")?;
+    write_hex(text, view.csrcs)?;
+    if let Some(extension) = &view.extension {
+        write!(text, " extension {:04x} ", extension.profile)?;
+        write_hex(text, extension.words)?;
+    }
+    text.push_str(" payload ")?;
+    write_hex(text, view.payload)?;
+    text.push_str(" padding ")?;
+    write_hex(text, view.padding)
+}
+
+/// The parts of this datagram are these.
+fn has_parts(rt: &impl Abort, alloc: Global, datagram: &[u8], wanted: &str) -> Result<(), Fail> {
+    assert_eq!(rt; parts_text(alloc, datagram)?.as_str(), wanted);
+    Ok(())
+}
+
 #[test]
 fn rewritten_under_ssrc_257_and_number_102(rt: HostRuntime) -> Result<(), Fail> {
-    let view = RtpView::parse(&PLAIN).map_err(|_| "read")?;
-    assert_eq!(rt;
-        (view.marker, view.payload_type, view.sequence_number),
-        (false, 96, 7)
-    );
-    assert_eq!(rt; (view.timestamp, view.ssrc), (3000, Ssrc(17)));
-    assert!(rt; view.csrcs.is_empty() && view.extension.is_none() && view.padding.is_empty());
-    assert_eq!(rt; view.payload, [0xaa, 0xbb].as_slice());
+    let wanted = "false 96 7 3000 17 csrcs  payload aabb padding  whole";
+    has_parts(&rt, rt.alloc(), &PLAIN, wanted)?;
     // Two bytes behind the packet stay as they were.
     let mut out = [0x55; 16];
-    let size = view
-        .rewritten_into(Ssrc(257), 102, &mut out)
-        .map_err(|_| "room")?;
-    assert_eq!(rt; size, 14);
-    let rewritten = [
-        0x80, 0x60, 0, 0x66, 0, 0, 0x0b, 0xb8, 0, 0, 1, 1, 0xaa, 0xbb, 0x55, 0x55,
-    ];
-    assert_eq!(rt; out.as_slice(), rewritten.as_slice());
+    let view = RtpView::parse(&PLAIN).map_err(|_| "read")?;
+    let size = view.rewritten_into(Ssrc(257), 102, &mut out);
+    same(&rt, &size, &Ok(14));
+    let text = hex_text(rt.alloc(), &out)?;
+    same(&rt, &text.as_str(), &"8060006600000bb800000101aabb5555");
     Ok(())
 }
 
@@ -60,33 +97,69 @@ fn no_room_in_thirteen_bytes(rt: HostRuntime) -> Result<(), Fail> {
     let view = RtpView::parse(&PLAIN).map_err(|_| "read")?;
     let mut out = [0x55; 13];
     let answer = view.rewritten_into(Ssrc(257), 102, &mut out);
-    assert_eq!(rt; answer, Err(RtpFault::Room));
-    assert_eq!(rt; out.as_slice(), [0x55; 13].as_slice());
+    same(&rt, &answer, &Err(RtpFault::Room));
+    same(&rt, &out.as_slice(), &[0x55; 13].as_slice());
     Ok(())
 }
 
+/// Datagrams, most of them the header of `PLAIN` with another first byte, and their faults.
+const FAULTS: [(&[u8], Option<RtpFault>); 11] = [
+    (
+        &[0x00, 0x60, 0, 7, 0, 0, 0x0b, 0xb8, 0, 0, 0],
+        Some(RtpFault::Short),
+    ),
+    (
+        &[0x00, 0x60, 0, 7, 0, 0, 0x0b, 0xb8, 0, 0, 0, 0x11],
+        Some(RtpFault::Version),
+    ),
+    (
+        &[0xc0, 0x60, 0, 7, 0, 0, 0x0b, 0xb8, 0, 0, 0, 0x11],
+        Some(RtpFault::Version),
+    ),
+    (
+        &[0x81, 0x60, 0, 7, 0, 0, 0x0b, 0xb8, 0, 0, 0, 0x11],
+        Some(RtpFault::CsrcShort),
+    ),
+    // CSRCs, an extension and padding are all missing: the least number is given.
+    (
+        &[0xbf, 0x60, 0, 7, 0, 0, 0x0b, 0xb8, 0, 0, 0, 0x11],
+        Some(RtpFault::CsrcShort),
+    ),
+    (
+        &[0xb0, 0x60, 0, 7, 0, 0, 0x0b, 0xb8, 0, 0, 0, 0x11],
+        Some(RtpFault::ExtensionShort),
+    ),
+    // The extension says one word, and none follows.
+    (
+        &[
+            0x90, 0x60, 0, 7, 0, 0, 0x0b, 0xb8, 0, 0, 0, 0x11, 0xbe, 0xde, 0, 1,
+        ],
+        Some(RtpFault::ExtensionShort),
+    ),
+    // Nothing follows the header; the header's last byte is no count.
+    (
+        &[0xa0, 0x60, 0, 7, 0, 0, 0x0b, 0xb8, 0, 0, 0, 0x11],
+        Some(RtpFault::Padding),
+    ),
+    (
+        &[0xa0, 0x60, 0, 7, 0, 0, 0x0b, 0xb8, 0, 0, 0, 0x11, 0],
+        Some(RtpFault::Padding),
+    ),
+    (
+        &[0xa0, 0x60, 0, 7, 0, 0, 0x0b, 0xb8, 0, 0, 0, 0x11, 1],
+        None,
+    ),
+    (
+        &[0xa0, 0x60, 0, 7, 0, 0, 0x0b, 0xb8, 0, 0, 0, 0x11, 2],
+        Some(RtpFault::Padding),
+    ),
+];
+
 #[test]
 fn each_fault(rt: HostRuntime) {
-    // The header of `PLAIN` with other first bytes.
-    let header = |first: u8| [first, 0x60, 0, 7, 0, 0, 0x0b, 0xb8, 0, 0, 0, 0x11];
-    assert_eq!(rt; fault_of(&header(0x00)[..11]), Some(RtpFault::Short));
-    assert_eq!(rt; fault_of(&header(0x00)), Some(RtpFault::Version));
-    assert_eq!(rt; fault_of(&header(0xc0)), Some(RtpFault::Version));
-    assert_eq!(rt; fault_of(&header(0x81)), Some(RtpFault::CsrcShort));
-    // CSRCs, an extension and padding are all missing: the least number is given.
-    assert_eq!(rt; fault_of(&header(0xbf)), Some(RtpFault::CsrcShort));
-    assert_eq!(rt; fault_of(&header(0xb0)), Some(RtpFault::ExtensionShort));
-    // The extension says one word, and none follows.
-    let extended = [
-        0x90, 0x60, 0, 7, 0, 0, 0x0b, 0xb8, 0, 0, 0, 0x11, 0xbe, 0xde, 0, 1,
-    ];
-    assert_eq!(rt; fault_of(&extended), Some(RtpFault::ExtensionShort));
-    // Nothing follows the header; the header's last byte is no count.
-    assert_eq!(rt; fault_of(&header(0xa0)), Some(RtpFault::Padding));
-    let count = |last: u8| [0xa0, 0x60, 0, 7, 0, 0, 0x0b, 0xb8, 0, 0, 0, 0x11, last];
-    assert_eq!(rt; fault_of(&count(0)), Some(RtpFault::Padding));
-    assert_eq!(rt; fault_of(&count(1)), None);
-    assert_eq!(rt; fault_of(&count(2)), Some(RtpFault::Padding));
+    for (datagram, fault) in &FAULTS {
+        assert_eq!(rt; fault_of(datagram), *fault);
+    }
 }
 
 #[test]
@@ -104,109 +177,106 @@ fn numbers(rt: HostRuntime) {
     }
 }
 
+/// The parts, joined again, are the datagram.
 #[test]
 fn parts_of_a_whole_packet(rt: HostRuntime) -> Result<(), Fail> {
-    let view = RtpView::parse(&WHOLE).map_err(|_| "read")?;
-    assert_eq!(rt;
-        (view.marker, view.payload_type, view.sequence_number),
-        (true, 96, 65535)
-    );
-    assert_eq!(rt;
-        (view.timestamp, view.ssrc),
-        (0x0102_0304, Ssrc(0xdead_beef))
-    );
-    let extension = view.extension.ok_or("an extension")?;
-    assert_eq!(rt; extension.profile, 0xbede);
-    // The parts, joined again, are the datagram.
-    assert_eq!(rt; view.csrcs, &WHOLE[12..20]);
-    assert_eq!(rt; extension.words, &WHOLE[24..28]);
-    assert_eq!(rt; view.payload, &WHOLE[28..31]);
-    assert_eq!(rt; view.padding, &WHOLE[31..]);
-    assert_eq!(rt; view.datagram, WHOLE.as_slice());
-    Ok(())
+    let wanted = "true 96 65535 16909060 3735928559 csrcs 0000000100000002 \
+        extension bede 10203040 payload 616263 padding 000003 whole";
+    has_parts(&rt, rt.alloc(), &WHOLE, wanted)
 }
 
 #[test]
 fn empty_parts(rt: HostRuntime) -> Result<(), Fail> {
-    let view = RtpView::parse(&EMPTY_PARTS).map_err(|_| "read")?;
-    let extension = view.extension.ok_or("an extension")?;
-    assert_eq!(rt; extension.profile, 0xffff);
-    assert!(rt; extension.words.is_empty() && view.payload.is_empty() && view.csrcs.is_empty());
-    assert_eq!(rt; view.padding, [9, 2].as_slice());
-    Ok(())
+    let wanted = "false 0 0 0 0 csrcs  extension ffff  payload  padding 0902 whole";
+    has_parts(&rt, rt.alloc(), &EMPTY_PARTS, wanted)
 }
+
+/// A datagram, and what is wrong with what is cut off below so many bytes of it; the first of these counts.
+type Cuts = (&'static [u8], &'static [(usize, RtpFault)]);
+
+/// What is wrong with a cut at this place.
+fn cut_fault(faults: &[(usize, RtpFault)], end: usize) -> Option<RtpFault> {
+    for (below, fault) in faults {
+        if end < *below {
+            return Some(*fault);
+        }
+    }
+    None
+}
+
+/// Each cut of the datagrams has the fault that stands beside them.
+fn every_cut_of(rt: &impl Abort, cuts: &[Cuts]) {
+    for (datagram, faults) in cuts {
+        for end in 0..datagram.len() + 1 {
+            assert_eq!(rt; fault_of(&datagram[..end]), cut_fault(faults, end), "{end}");
+        }
+    }
+}
+
+/// Without padding each cut of the payload is a packet. Header, CSRCs and extension are cut with their own faults; behind them the
+/// last byte is no count but at the end: 61, 62, 63 are more than what follows the extension, and 0 is none.
+const CUTS: [Cuts; 3] = [
+    (&PLAIN, &[(12, RtpFault::Short)]),
+    (
+        &WHOLE,
+        &[
+            (12, RtpFault::Short),
+            (20, RtpFault::CsrcShort),
+            (28, RtpFault::ExtensionShort),
+            (34, RtpFault::Padding),
+        ],
+    ),
+    (
+        &EMPTY_PARTS,
+        &[
+            (12, RtpFault::Short),
+            (16, RtpFault::ExtensionShort),
+            (18, RtpFault::Padding),
+        ],
+    ),
+];
 
 #[test]
 fn every_cut(rt: HostRuntime) {
-    // Without padding each cut of the payload is a packet.
-    for end in 0..PLAIN.len() + 1 {
-        let fault = if end < 12 {
-            Some(RtpFault::Short)
-        } else {
-            None
-        };
-        assert_eq!(rt; fault_of(&PLAIN[..end]), fault);
-    }
-    // Header, CSRCs and extension are cut with their own faults; behind them the last byte is no count
-    // but at the end: 61, 62, 63 are more than what follows the extension, and 0 is none.
-    for end in 0..WHOLE.len() + 1 {
-        let fault = match end {
-            0..12 => Some(RtpFault::Short),
-            12..20 => Some(RtpFault::CsrcShort),
-            20..28 => Some(RtpFault::ExtensionShort),
-            28..34 => Some(RtpFault::Padding),
-            _ => None,
-        };
-        assert_eq!(rt; fault_of(&WHOLE[..end]), fault);
-    }
-    for end in 0..EMPTY_PARTS.len() + 1 {
-        let fault = match end {
-            0..12 => Some(RtpFault::Short),
-            12..16 => Some(RtpFault::ExtensionShort),
-            16..18 => Some(RtpFault::Padding),
-            _ => None,
-        };
-        assert_eq!(rt; fault_of(&EMPTY_PARTS[..end]), fault);
-    }
+    every_cut_of(&rt, &CUTS);
 }
 
-/// Examples 18, 20 and 22: cut within the header each is `Short`; behind it the payload may end anywhere.
+/// Cut within the header each is `Short`; behind it the payload may end anywhere. Then one whose padding counts 0, and one without the
+/// CSRC that it counts.
+const CUTS_OF_EXAMPLES: [Cuts; 6] = [
+    (&PLAIN, &[(12, RtpFault::Short)]),
+    (
+        &[
+            0x80, 0x60, 0, 7, 0, 0, 0x0b, 0xb8, 0, 0, 0, 0x10, 0xaa, 0xbb,
+        ],
+        &[(12, RtpFault::Short)],
+    ),
+    (
+        &[
+            0x80, 0x60, 0, 8, 0, 0, 0x0b, 0xb8, 0, 0, 0, 0x10, 0xaa, 0xbb,
+        ],
+        &[(12, RtpFault::Short)],
+    ),
+    (
+        &[
+            0x80, 0x60, 0, 0x64, 0, 0, 0x0b, 0xb8, 0, 0, 1, 1, 0xaa, 0xbb,
+        ],
+        &[(12, RtpFault::Short)],
+    ),
+    (
+        &[0xa0, 0x60, 0, 7, 0, 0, 0x0b, 0xb8, 0, 0, 0, 0x11, 0],
+        &[(12, RtpFault::Short), (14, RtpFault::Padding)],
+    ),
+    (
+        &[0x81, 0x60, 0, 7, 0, 0, 0x0b, 0xb8, 0, 0, 0, 0x11],
+        &[(12, RtpFault::Short), (13, RtpFault::CsrcShort)],
+    ),
+];
+
+/// Examples 18, 20 and 22.
 #[test]
 fn every_cut_of_the_examples(rt: HostRuntime) {
-    let of_endpoint_0 = |number: u8| [
-        0x80, 0x60, 0, number, 0, 0, 0x0b, 0xb8, 0, 0, 0, 0x10, 0xaa, 0xbb,
-    ];
-    let sent_on = [
-        0x80, 0x60, 0, 0x64, 0, 0, 0x0b, 0xb8, 0, 0, 1, 1, 0xaa, 0xbb,
-    ];
-    for datagram in [PLAIN, of_endpoint_0(7), of_endpoint_0(8), sent_on] {
-        for end in 0..datagram.len() + 1 {
-            let fault = if end < 12 {
-                Some(RtpFault::Short)
-            } else {
-                None
-            };
-            assert_eq!(rt; fault_of(&datagram[..end]), fault);
-        }
-    }
-    let padded = [0xa0, 0x60, 0, 7, 0, 0, 0x0b, 0xb8, 0, 0, 0, 0x11, 0];
-    for end in 0..padded.len() + 1 {
-        let fault = if end < 12 {
-            RtpFault::Short
-        } else {
-            RtpFault::Padding
-        };
-        assert_eq!(rt; fault_of(&padded[..end]), Some(fault));
-    }
-    let counted = [0x81, 0x60, 0, 7, 0, 0, 0x0b, 0xb8, 0, 0, 0, 0x11];
-    for end in 0..counted.len() + 1 {
-        let fault = if end < 12 {
-            RtpFault::Short
-        } else {
-            RtpFault::CsrcShort
-        };
-        assert_eq!(rt; fault_of(&counted[..end]), Some(fault));
-    }
+    every_cut_of(&rt, &CUTS_OF_EXAMPLES);
 }
 
 /// The highest packet, a packet's sequence number, and its extended number: after a wrap, before it, and as far as a packet may

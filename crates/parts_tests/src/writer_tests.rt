@@ -2,6 +2,8 @@
 
 ghost use Rattle.std.specs.Prelude.{pos, negsuc, ◌≤ℤ◌, ◌≤◌, length};
 
+use crate::expected::same;
+use crate::packet_text::{hex_text, packets_text};
 use bumpalo::Bump;
 use rtcp_compound::*;
 use std::alloc::{AllocError, Allocator, Global};
@@ -11,6 +13,9 @@ use tmmbr_tuple::Ssrc;
 
 /// Feedback of FMT 1, to stand behind what was written.
 const BEHIND: [u8; 12] = [0x81, 0xce, 0, 2, 0, 0, 0, 9, 0, 0, 0, 0x11];
+
+/// What it says, behind the line of another packet.
+const BEHIND_TEXT: &str = "\nfeedback 1 206 0000000900000011 pli 9 17\n";
 
 /// A report of 16: eight packets, none lost, a jitter of 168, and a sender report 80 ms ago.
 fn quiet_block() -> Block {
@@ -83,45 +88,32 @@ fn receiver_report(alloc: Global, blocks: &[Block]) -> Result<Vec<u8>, AllocErro
 /// These bytes were written.
 fn are_written(
     rt: &impl Abort,
+    alloc: Global,
     written: Result<Vec<u8>, AllocError>,
-    bytes: &[u8],
+    digits: &str,
 ) -> Result<(), AllocError> {
     let out = written?;
-    assert_eq!(rt; out.as_slice(), bytes);
+    assert_eq!(rt; hex_text(alloc, out.as_slice())?.as_str(), digits);
     Ok(())
+}
+
+fn reports_are_written(rt: &impl Abort, alloc: Global) -> Result<(), AllocError> {
+    let written = sender_report(alloc, 0xa_8000_0000, 2, &[]);
+    let digits = "80c80006000001010000000a8000000000000bb80000000100000002";
+    are_written(rt, alloc, written, digits)?;
+    let written = receiver_report(alloc, &[quiet_block()]);
+    let digits = "81c9000700000009000000100000000000000008000000a8000a80000000147a";
+    are_written(rt, alloc, written, digits)
 }
 
 #[test]
 fn writers_give_the_examples(rt: HostRuntime) -> Result<(), Fail> {
     assert_eq!(rt; (ENTRY_LIMIT, CNAME_LIMIT), (31, 255));
-    // 81cb000100000012
-    let bye = [0x81, 0xcb, 0, 1, 0, 0, 0, 0x12];
-    are_written(&rt, goodbye(rt.alloc(), &[Ssrc(18)]), &bye)?;
-
-    // 80c900010000000981ca0003000000090103736675000000
-    let bytes = [
-        0x80, 0xc9, 0, 1, 0, 0, 0, 9, 0x81, 0xca, 0, 3, 0, 0, 0, 9, 1, 3, 0x73, 0x66, 0x75, 0, 0, 0,
-    ];
-    are_written(&rt, head(rt.alloc()), &bytes)?;
-
-    // 80c80006000001010000000a8000000000000bb80000000100000002
-    let report = [
-        0x80, 0xc8, 0, 6, 0, 0, 1, 1, 0, 0, 0, 0xa, 0x80, 0, 0, 0, 0, 0, 0xb, 0xb8, 0, 0, 0, 1, 0,
-        0, 0, 2,
-    ];
-    are_written(
-        &rt,
-        sender_report(rt.alloc(), 0xa_8000_0000, 2, &[]),
-        &report,
-    )?;
-
-    // 81c9000700000009000000100000000000000008000000a8000a80000000147a
-    let report = [
-        0x81, 0xc9, 0, 7, 0, 0, 0, 9, 0, 0, 0, 0x10, 0, 0, 0, 0, 0, 0, 0, 8, 0, 0, 0, 0xa8, 0, 0xa,
-        0x80, 0, 0, 0, 0x14, 0x7a,
-    ];
-    are_written(&rt, receiver_report(rt.alloc(), &[quiet_block()]), &report)?;
-    Ok(())
+    let alloc = rt.alloc();
+    are_written(&rt, alloc, goodbye(alloc, &[Ssrc(18)]), "81cb000100000012")?;
+    let digits = "80c900010000000981ca0003000000090103736675000000";
+    are_written(&rt, alloc, head(alloc), digits)?;
+    Ok(reports_are_written(&rt, alloc)?)
 }
 
 /// The report of 9 on a full block with these packets lost.
@@ -132,114 +124,59 @@ fn report_of(alloc: Global, lost: i32) -> Result<Vec<u8>, AllocError>
     receiver_report(alloc, &[full_block(lost)])
 }
 
-/// The same bytes, with the packets lost in 24 bits of two's complement.
-fn report_with(lost: [u8; 3]) -> [u8; 32] {
-    let [high, middle, low] = lost;
-    [
-        0x81, 0xc9, 0, 7, 0, 0, 0, 9, 0xff, 0xff, 0xff, 0xff, 0xff, high, middle, low, 0xff, 0xff,
-        0xff, 0xff, 0xff, 0xff, 0xff, 0xff, 0xff, 0xff, 0xff, 0xff, 0xff, 0xff, 0xff, 0xff,
-    ]
-}
-
+/// -1, the least and the greatest number of packets lost, in 24 bits of two's complement.
 #[test]
 fn lost_below_nothing(rt: HostRuntime) -> Result<(), Fail> {
-    are_written(
-        &rt,
-        report_of(rt.alloc(), -1),
-        &report_with([0xff, 0xff, 0xff]),
-    )?;
-    are_written(
-        &rt,
-        report_of(rt.alloc(), -8_388_608),
-        &report_with([0x80, 0, 0]),
-    )?;
-    are_written(
-        &rt,
-        report_of(rt.alloc(), 8_388_607),
-        &report_with([0x7f, 0xff, 0xff]),
-    )?;
+    let alloc = rt.alloc();
+    let digits = "81c9000700000009ffffffffffffffffffffffffffffffffffffffffffffffff";
+    are_written(&rt, alloc, report_of(alloc, -1), digits)?;
+    let digits = "81c9000700000009ffffffffff800000ffffffffffffffffffffffffffffffff";
+    are_written(&rt, alloc, report_of(alloc, -8_388_608), digits)?;
+    let digits = "81c9000700000009ffffffffff7fffffffffffffffffffffffffffffffffffff";
+    are_written(&rt, alloc, report_of(alloc, 8_388_607), digits)?;
     Ok(())
 }
 
-/// Reads a sender report again, which is written alone or in front of another packet.
-fn sender_report_again(
+/// What was written says this, alone and in front of another packet.
+fn says_again(
     rt: &impl Abort,
     alloc: Global,
-    blocks: &[Block],
-    more: bool,
-) -> Result<(), Fail>
-    requires { length blocks.now ≤ ENTRY_LIMIT }
-{
-    let mut out = sender_report(alloc, u64::MAX, u32::MAX, blocks)?;
-    put_behind(&mut out, more)?;
-    match read_first(rt, out.as_slice(), more)? {
-        RtcpView::Sr {
-            sender,
-            ntp,
-            rtp,
-            packets,
-            octets,
-            blocks: read,
-        } => {
-            assert_eq!(rt; (sender.0, ntp, rtp), (257, u64::MAX, 3000));
-            assert_eq!(rt; (packets, octets), (1, u32::MAX));
-            has_blocks(rt, read, blocks);
-        }
-        _ => assert!(rt; false),
-    }
+    written: Result<Vec<u8>, AllocError>,
+    wanted: &str,
+) -> Result<(), AllocError> {
+    let mut out = written?;
+    let text = packets_text(alloc, out.as_slice())?;
+    same(rt, &text.as_str().strip_suffix('\n'), &Some(wanted));
+    out.extend_from_slice(&BEHIND)?;
+    let text = packets_text(alloc, out.as_slice())?;
+    same(rt, &text.as_str().strip_suffix(BEHIND_TEXT), &Some(wanted));
     Ok(())
 }
 
-/// A receiver report likewise.
-fn receiver_report_again(
-    rt: &impl Abort,
-    alloc: Global,
-    blocks: &[Block],
-    more: bool,
-) -> Result<(), Fail>
-    requires { length blocks.now ≤ ENTRY_LIMIT }
-{
-    let mut out = receiver_report(alloc, blocks)?;
-    put_behind(&mut out, more)?;
-    match read_first(rt, out.as_slice(), more)? {
-        RtcpView::Rr {
-            sender,
-            blocks: read,
-        } => {
-            assert_eq!(rt; sender, Ssrc(9));
-            has_blocks(rt, read, blocks);
-        }
-        _ => assert!(rt; false),
-    }
-    Ok(())
+/// The blocks of `three_blocks` as text.
+const BLOCKS: &str = "; 16 0 0 8 168 688128 5242\
+    ; 4294967295 255 -8388608 4294967295 4294967295 4294967295 4294967295\
+    ; 4294967295 255 8388607 4294967295 4294967295 4294967295 4294967295";
+
+fn three_blocks() -> [Block; 3] {
+    [quiet_block(), full_block(-8_388_608), full_block(8_388_607)]
 }
 
-/// A goodbye likewise.
-fn goodbye_again(rt: &impl Abort, alloc: Global, more: bool) -> Result<(), Fail> {
-    let sources = [Ssrc(18), Ssrc(0), Ssrc(u32::MAX)];
-    let mut out = goodbye(alloc, &sources)?;
-    put_behind(&mut out, more)?;
-    match read_first(rt, out.as_slice(), more)? {
-        RtcpView::Bye { sources: mut read } => {
-            for source in sources {
-                assert_eq!(rt; read.next(), Some(source));
-            }
-            assert_eq!(rt; read.next(), None);
-        }
-        _ => assert!(rt; false),
-    }
-    Ok(())
+fn reports_again(rt: &impl Abort, alloc: Global) -> Result<(), AllocError> {
+    let blocks = three_blocks();
+    let text = format!(in alloc; "sr 257 ffffffffffffffff 3000 1 4294967295{BLOCKS}")?;
+    let written = sender_report(alloc, u64::MAX, u32::MAX, &blocks);
+    says_again(rt, alloc, written, text.as_str())?;
+    let text = format!(in alloc; "rr 9{BLOCKS}")?;
+    says_again(rt, alloc, receiver_report(alloc, &blocks), text.as_str())
 }
 
 #[test]
 fn writers_read_again(rt: HostRuntime) -> Result<(), Fail> {
-    let blocks = [quiet_block(), full_block(-8_388_608), full_block(8_388_607)];
-    for more in [false, true] {
-        sender_report_again(&rt, rt.alloc(), &blocks, more)?;
-        receiver_report_again(&rt, rt.alloc(), &blocks, more)?;
-        goodbye_again(&rt, rt.alloc(), more)?;
-    }
-    Ok(())
+    reports_again(&rt, rt.alloc())?;
+    let sources = [Ssrc(18), Ssrc(0), Ssrc(u32::MAX)];
+    let written = goodbye(rt.alloc(), &sources);
+    Ok(says_again(&rt, rt.alloc(), written, "bye 18 0 4294967295")?)
 }
 
 /// CNAMEs of each length round a word, and of none and the most bytes.
@@ -249,10 +186,7 @@ fn cnames_read_again(rt: HostRuntime) -> Result<(), Fail> {
     for len in [0usize, 1, 2, 3, 4, 5, 254, 255] {
         let cname = &text[..len.min(CNAME_LIMIT)];
         assert_eq!(rt; cname.len(), len);
-        let chunk = chunk_of(rt.alloc(), cname)?;
-        for more in [false, true] {
-            cname_again(&rt, rt.alloc(), cname, chunk.as_slice(), more)?;
-        }
+        cname_again(&rt, rt.alloc(), cname)?;
     }
     Ok(())
 }
@@ -270,56 +204,22 @@ fn chunk_of(alloc: Global, cname: &[u8]) -> Result<Vec<u8>, AllocError>
     Ok(chunk)
 }
 
-/// Reads a CNAME of 9 again, which is written alone or in front of another packet, as this chunk.
-fn cname_again(
-    rt: &impl Abort,
-    alloc: Global,
-    cname: &[u8],
-    chunk: &[u8],
-    more: bool,
-) -> Result<(), Fail>
+/// The description with this CNAME of 9.
+fn description(alloc: Global, cname: &[u8]) -> Result<Vec<u8>, AllocError>
     requires { length cname.now ≤ CNAME_LIMIT }
 {
     let mut out = Vec::new(alloc);
     write_sdes_cname(&mut out, Ssrc(9), cname)?;
-    put_behind(&mut out, more)?;
-    match read_first(rt, out.as_slice(), more)? {
-        RtcpView::Sdes { count: 1, chunks } => assert_eq!(rt; chunks, chunk),
-        _ => assert!(rt; false),
-    }
-    Ok(())
+    Ok(out)
 }
 
-/// Appends another packet where there is to be one.
-fn put_behind(out: &mut Vec<u8>, more: bool) -> Result<(), AllocError> {
-    if more {
-        out.extend_from_slice(&BEHIND)?;
-    }
-    Ok(())
-}
-
-/// The first packet of what was written, behind which the other one may stand, and nothing more.
-fn read_first<'a>(rt: &impl Abort, datagram: &'a [u8], more: bool) -> Result<RtcpView<'a>, Fail> {
-    let mut packets = split(datagram).map_err(|_| "a fault")?;
-    let first = packets.next().ok_or("a packet")?;
-    if more {
-        match packets.next().ok_or("a packet behind")? {
-            RtcpView::Feedback { fmt, kind, body } => {
-                assert_eq!(rt; (fmt, kind), (1, 206));
-                assert_eq!(rt; body, &BEHIND[4..]);
-            }
-            _ => assert!(rt; false),
-        }
-    }
-    assert!(rt; packets.next().is_none());
-    Ok(first)
-}
-
-fn has_blocks(rt: &impl Abort, mut read: Blocks<'_>, blocks: &[Block]) {
-    for block in blocks {
-        assert_eq!(rt; read.next(), Some(*block));
-    }
-    assert_eq!(rt; read.next(), None);
+/// Reads a CNAME of 9 again.
+fn cname_again(rt: &impl Abort, alloc: Global, cname: &[u8]) -> Result<(), AllocError>
+    requires { length cname.now ≤ CNAME_LIMIT }
+{
+    let chunk = chunk_of(alloc, cname)?;
+    let text = format!(in alloc; "sdes 1 {}", hex_text(alloc, chunk.as_slice())?)?;
+    says_again(rt, alloc, description(alloc, cname), text.as_str())
 }
 
 /// Each writer, again and again into memory of 2,000 bytes, until it is refused more: then the bytes that
@@ -327,22 +227,31 @@ fn has_blocks(rt: &impl Abort, mut read: Blocks<'_>, blocks: &[Block]) {
 #[test]
 fn no_memory_leaves_the_vec(rt: HostRuntime) -> Result<(), Fail> {
     for writer in 0..4u8 {
-        let bump = Bump::new(rt.alloc());
-        bump.set_allocation_limit(Some(2000));
-        let mut out = Vec::new(&bump);
-        let mut refused = false;
-        for _ in 0..1000 {
-            let before = out.as_slice().to_vec(rt.alloc())?;
-            if write(writer, &mut out).is_err() {
-                assert_eq!(rt; out.as_slice(), before.as_slice());
-                assert!(rt; !before.is_empty());
-                refused = true;
-                break;
-            }
-        }
-        assert!(rt; refused, "writer {writer}");
+        assert!(rt; leaves_in_arena(rt.alloc(), writer)?, "writer {writer}");
     }
     Ok(())
+}
+
+/// Whether the writer is refused memory in an arena of 2,000 bytes, and leaves what was there.
+fn leaves_in_arena(alloc: Global, writer: u8) -> Result<bool, AllocError> {
+    let bump = Bump::new(alloc);
+    bump.set_allocation_limit(Some(2000));
+    leaves(alloc, writer, &mut Vec::new(&bump))
+}
+
+/// Whether the writer is refused memory in the end, and leaves what was there.
+fn leaves<A: Allocator>(
+    alloc: Global,
+    writer: u8,
+    out: &mut Vec<u8, A>,
+) -> Result<bool, AllocError> {
+    for _ in 0..1000 {
+        let before = out.as_slice().to_vec(alloc)?;
+        if write(writer, out).is_err() {
+            return Ok(!before.is_empty() && out.as_slice() == before.as_slice());
+        }
+    }
+    Ok(false)
 }
 
 /// What one of the four writers appends.
