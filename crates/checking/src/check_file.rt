@@ -12,7 +12,8 @@ use arrayvec::ArrayVec;
 use endings::{Failure, Status, report, unreadable};
 use rate_cert::{Cert, CertFault, Implied, Kept, MAX_REQUESTS, Request, check};
 use request_text::{
-    Claim, Entry, LineFault, MAX_LINES, Reading, Refusal, answer_text, lines, read_line,
+    Claim, Entry, LineFault, MAX_LINES, Meter, Reading, Refusal, answer_text, line_count, lines,
+    read_line,
 };
 use std::alloc::{AllocError, Global};
 use std::io::{Read, Write};
@@ -32,9 +33,10 @@ struct Sheet {
 /// Checks the certificate that the file's lines spell, and prints the answer: `yes`, or `no` with the
 /// number of the first condition that fails and its least place, where it has one.
 ///
-/// A line that can't be read is said on the error output, and so is a file that can't, as line 0.
+/// A line that can't be read is said on the error output, and so is a file that can't, as line 0. The meter is shown each line.
 pub fn check_lines<I: Read, O: Write, E: Write>(
     alloc: Global,
+    meter: &Meter,
     file: &mut I,
     writer: &mut O,
     errors: &mut E,
@@ -53,7 +55,7 @@ pub fn check_lines<I: Read, O: Write, E: Write>(
     ensures understood { (result ≢ Status.CommandLine) × (result ≢ Status.Settings) }
     ensures said { SaysWhy (E.contents errors.old) (E.contents errors.new) result }
 {
-    match answer_lines(alloc, file, writer) {
+    match answer_lines(alloc, meter, file, writer) {
         Ok(Ok(())) => Status::Done,
         Ok(Err(_)) => Status::Refused,
         Err(failure) => report(alloc, errors, failure),
@@ -63,6 +65,7 @@ pub fn check_lines<I: Read, O: Write, E: Write>(
 /// Prints what `check` answers for the file's lines, and answers it.
 fn answer_lines<I: Read, O: Write>(
     alloc: Global,
+    meter: &Meter,
     file: &mut I,
     writer: &mut O,
 ) -> Result<Result<(), CertFault>, Failure>
@@ -77,22 +80,22 @@ fn answer_lines<I: Read, O: Write>(
     if let Err(error) = file.read_to_end(&mut text) {
         return Err(unreadable(&error));
     }
-    let answer = answer_for(alloc, text.as_slice())?;
+    let answer = answer_for(alloc, meter, text.as_slice())?;
     let line = answer_text(alloc, answer)?;
     writer.write_all(line.as_bytes())?;
     Ok(answer)
 }
 
 /// What `check` answers for the certificate that a text's lines spell.
-fn answer_for(alloc: Global, text: &[u8]) -> Result<Result<(), CertFault>, Refusal>
+fn answer_for(alloc: Global, meter: &Meter, text: &[u8]) -> Result<Result<(), CertFault>, Refusal>
     ensures { MatchResult result (TextAnswers text.now) (RefusesSheet text.now) }
 {
-    let sheet = read_sheet(alloc, text)?;
+    let sheet = read_sheet(alloc, meter, text)?;
     Ok(check_sheet(&sheet))
 }
 
 /// The requests and claims of a text's lines.
-fn read_sheet(alloc: Global, text: &[u8]) -> Result<Sheet, Refusal>
+fn read_sheet(alloc: Global, meter: &Meter, text: &[u8]) -> Result<Sheet, Refusal>
     ensures { MatchResult result (λ s. (entries : List Entry) × FileSpells text.now (Ok entries)
         × IsSheetOf entries s.requests.items s.kept.items s.claims.items) (RefusesSheet text.now) }
 {
@@ -102,9 +105,11 @@ fn read_sheet(alloc: Global, text: &[u8]) -> Result<Sheet, Refusal>
         claims: ArrayVec::new(),
     };
     let lines = lines(alloc, text)?;
+    let count = line_count(lines.as_slice());
     let mut number = 0;
     for line in lines.iter() {
         number += 1;
+        meter.show(number, count);
         take_line(alloc, &mut sheet, line, number)?;
     }
     Ok(sheet)

@@ -20,7 +20,7 @@ use drawing::set_picture;
 use endings::{
     Failure, Status, refuse_words, report, report_settings, say, say_no_memory, unreadable,
 };
-use request_text::{bound_text, read_lines};
+use request_text::{Meter, bound_text, read_lines};
 use scripts::Shown;
 use serving::{
     ControlFault, ErrorOutput, Gauges, RecordFault, ServedSettings, Term, close_control,
@@ -57,14 +57,14 @@ struct Paths<'a> {
 /// Runs the command that the words ask for, of which the first is the program's name.
 ///
 /// Nothing is done before the input was read to its end. What is printed goes to the writer, and why
-/// a command isn't done to the error output.
+/// a command isn't done to the error output. The meter is shown each line of what `bound`, `draw`, `check` and `replay` read.
 pub fn run_command<
     R: AllocGlobal + ErrorOutput + Files<File = File> + Net + Threads + Wait + Sync + time::Clock,
     S: AsStr,
     I: Read,
     O: Write,
     E: Write,
->(rt: &R, words: &[S], reader: &mut I, writer: &mut O, errors: &mut E) -> Status
+>(rt: &R, words: &[S], meter: &Meter, reader: &mut I, writer: &mut O, errors: &mut E) -> Status
     ensures bound_done { (media : ℕ) → asked_for (map S.text words.now) ≡ Some (bound media)
         → result ≡ Status.Done
         → IfSome (I.remaining reader.old)
@@ -126,11 +126,11 @@ pub fn run_command<
 {
     let alloc = rt.alloc();
     match read_words(alloc, words) {
-        Ok(Action::Bound { media }) => match run_bound(alloc, Ssrc(media), reader, writer) {
+        Ok(Action::Bound { media }) => match run_bound(alloc, Ssrc(media), meter, reader, writer) {
             Ok(()) => Status::Done,
             Err(failure) => report(alloc, errors, failure),
         },
-        Ok(Action::Check { file }) => run_check(rt, file, writer, errors),
+        Ok(Action::Check { file }) => run_check(rt, file, meter, writer, errors),
         Ok(
             Action::Replay {
                 file,
@@ -146,7 +146,7 @@ pub fn run_command<
                 from_ms: from.unwrap_or(0),
                 events,
             };
-            run_replay(rt, file, shown, reader, writer, errors)
+            run_replay(rt, file, shown, meter, reader, writer, errors)
         }
         Ok(
             Action::Serve {
@@ -163,7 +163,7 @@ pub fn run_command<
             };
             run_serve(rt, file, Term { ticks, status }, paths, writer, errors)
         }
-        Ok(Action::Draw { media }) => run_draw(alloc, Ssrc(media), reader, writer, errors),
+        Ok(Action::Draw { media }) => run_draw(alloc, Ssrc(media), meter, reader, writer, errors),
         Err(error) => refuse_words(alloc, errors, &error),
     }
 }
@@ -260,6 +260,7 @@ fn run_noted<
 fn run_check<R: AllocGlobal + Files, O: Write, E: Write>(
     rt: &R,
     file: &str,
+    meter: &Meter,
     writer: &mut O,
     errors: &mut E,
 ) -> Status
@@ -272,7 +273,7 @@ fn run_check<R: AllocGlobal + Files, O: Write, E: Write>(
     ensures said { SaysWhy (E.contents errors.old) (E.contents errors.new) result }
 {
     match fs::open(rt, file) {
-        Ok(mut file) => check_lines(rt.alloc(), &mut file, writer, errors),
+        Ok(mut file) => check_lines(rt.alloc(), meter, &mut file, writer, errors),
         Err(error) => report(rt.alloc(), errors, unreadable(&error)),
     }
 }
@@ -467,6 +468,7 @@ pub(crate) fn unreadable_settings(error: &io::Error) -> SettingsProblem {
 fn run_bound<I: Read, O: Write>(
     alloc: Global,
     media: Ssrc,
+    meter: &Meter,
     reader: &mut I,
     writer: &mut O,
 ) -> Result<(), Failure>
@@ -478,7 +480,7 @@ fn run_bound<I: Read, O: Write>(
 {
     let mut input = Vec::new(alloc);
     reader.read_to_end(&mut input)?;
-    let bounds = read_lines(alloc, input.as_slice(), media)?;
+    let bounds = read_lines(alloc, input.as_slice(), media, meter)?;
     let text = bound_text(alloc, media, &bounds)?;
     writer.write_all(text.as_bytes())?;
     Ok(())
@@ -488,6 +490,7 @@ fn run_bound<I: Read, O: Write>(
 fn run_draw<I: Read, O: Write, E: Write>(
     alloc: Global,
     media: Ssrc,
+    meter: &Meter,
     reader: &mut I,
     writer: &mut O,
     errors: &mut E,
@@ -500,7 +503,7 @@ fn run_draw<I: Read, O: Write, E: Write>(
     ensures understood { (result ≢ Status.CommandLine) × (result ≢ Status.Settings) }
     ensures said { SaysWhy (E.contents errors.old) (E.contents errors.new) result }
 {
-    match draw_lines(alloc, media, reader, writer) {
+    match draw_lines(alloc, media, meter, reader, writer) {
         Ok(()) => Status::Done,
         Err(failure) => report(alloc, errors, failure),
     }
@@ -510,6 +513,7 @@ fn run_draw<I: Read, O: Write, E: Write>(
 fn draw_lines<I: Read, O: Write>(
     alloc: Global,
     media: Ssrc,
+    meter: &Meter,
     reader: &mut I,
     writer: &mut O,
 ) -> Result<(), Failure>
@@ -521,7 +525,7 @@ fn draw_lines<I: Read, O: Write>(
 {
     let mut input = Vec::new(alloc);
     reader.read_to_end(&mut input)?;
-    let bounds = read_lines(alloc, input.as_slice(), media)?;
+    let bounds = read_lines(alloc, input.as_slice(), media, meter)?;
     let picture = set_picture(alloc, media, &bounds)?;
     writer.write_all(picture.as_bytes())?;
     Ok(())

@@ -21,7 +21,7 @@ pub use command::{Record, run_command, run_recorded, run_timed};
 pub use description::run_sdp;
 pub use endings::{Failure, Status, report, report_settings, report_words};
 pub use explaining::explain;
-pub use request_text::LineFault;
+pub use request_text::{LineFault, Meter};
 pub use scripts::{Shown, replay_lines};
 pub use serving::{
     AddressKey, Addresses, Client, ClientFault, ErrorOutput, Gauges, Listening, Location,

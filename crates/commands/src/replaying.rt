@@ -10,6 +10,7 @@ ghost use Rattle.settings_text.specs.SettingsText.{SaysProblem};
 
 use crate::command::unreadable_settings;
 use endings::{Status, report_settings, say};
+use request_text::Meter;
 use scripts::{Shown, Unknown, replay_lines};
 use settings_text::{FileSettings, SettingsProblem, read_settings};
 use std::alloc::Global;
@@ -23,6 +24,7 @@ pub(crate) fn run_replay<R: AllocGlobal + Files, I: Read, O: Write, E: Write>(
     rt: &R,
     file: &str,
     shown: Shown,
+    meter: &Meter,
     reader: &mut I,
     writer: &mut O,
     errors: &mut E,
@@ -44,7 +46,15 @@ pub(crate) fn run_replay<R: AllocGlobal + Files, I: Read, O: Write, E: Write>(
     match settings_in(rt, file) {
         Ok(file) => match shown.unknown_in(&file.settings) {
             Some(unknown) => say_unknown(errors, unknown),
-            None => replay_lines(rt.alloc(), &file.settings, shown, reader, writer, errors),
+            None => replay_lines(
+                rt.alloc(),
+                &file.settings,
+                shown,
+                meter,
+                reader,
+                writer,
+                errors,
+            ),
         },
         Err(problem) => report_settings(rt.alloc(), errors, &problem),
     }

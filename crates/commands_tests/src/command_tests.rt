@@ -33,7 +33,14 @@ fn bound(
     let mut output = Stream::new(alloc, "", output);
     let mut errors = Stream::new(alloc, "", errors);
     let words = ["sfu", "bound", "--sender", "1"];
-    let status = run_command(rt, words.as_slice(), &mut input, &mut output, &mut errors);
+    let status = run_command(
+        rt,
+        words.as_slice(),
+        &Meter::hidden(),
+        &mut input,
+        &mut output,
+        &mut errors,
+    );
     Ok((status, [output.text()?, errors.text()?]))
 }
 

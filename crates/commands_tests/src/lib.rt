@@ -11,6 +11,8 @@ mod ending_tests;
 #[cfg(test)]
 mod line_tests;
 #[cfg(test)]
+mod meter_tests;
+#[cfg(test)]
 mod record_tests;
 #[cfg(test)]
 mod replay_tests;

@@ -4,7 +4,7 @@ use checking::check_lines;
 use desk::Desk;
 use rate_cert::Request;
 use request_text::{
-    Entry, Reading, desk_text, is_word, lines, number_u16, number_u64, read_line, words_of,
+    Entry, Meter, Reading, desk_text, is_word, lines, number_u16, number_u64, read_line, words_of,
 };
 use std::alloc::Global;
 use std::io::ErrorKind;
@@ -61,7 +61,7 @@ fn checked(
 ) -> Result<(u8, [String; 2]), Fail> {
     let mut printed = Stream::new(alloc, "", fault);
     let mut said = Stream::new(alloc, "", None);
-    let status = check_lines(alloc, file, &mut printed, &mut said);
+    let status = check_lines(alloc, &Meter::hidden(), file, &mut printed, &mut said);
     Ok((status.code(), [printed.text()?, said.text()?]))
 }
 

@@ -9,7 +9,7 @@ use std::process::Abort;
 use std::test::Fail;
 
 /// The settings of the room.
-fn settings(alloc: Global) -> Result<Settings, Fail> {
+pub(crate) fn settings(alloc: Global) -> Result<Settings, Fail> {
     match read_settings(alloc, ROOM.as_bytes()) {
         Ok(FileSettings { settings, .. }) => Ok(settings),
         Err(_) => Err(Fail::from("settings")),
@@ -31,6 +31,7 @@ pub(crate) fn played(
         alloc,
         &room,
         Shown::all(),
+        &Meter::hidden(),
         &mut input,
         &mut printed,
         &mut said,

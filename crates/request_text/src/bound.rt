@@ -9,6 +9,7 @@ ghost use Rattle.request_text.specs.Lines.{Asked, AreRowsOf, after_change, after
 ghost use Rattle.request_text.specs.Outcome.{HasRowsOf, Leaves, LeavesDatagram, LeavesLine, LeavesText, undecoded_at};
 
 use crate::fault::LineFault;
+use crate::meter::{Meter, line_count};
 use bounding_set::Bounds;
 use hex::FromHexError;
 use rtcp_compound::{Packets, RtcpView, Sources, split};
@@ -34,15 +35,17 @@ impl From<AllocError> for Refusal {
     }
 }
 
-/// The live requests for the media sender that the lines of the text leave.
-pub fn read_lines(alloc: Global, text: &[u8], media: Ssrc) -> Result<Bounds, Refusal>
+/// The live requests for the media sender that the lines of the text leave. The meter is shown each line.
+pub fn read_lines(alloc: Global, text: &[u8], media: Ssrc, meter: &Meter) -> Result<Bounds, Refusal>
     ensures { LeavesText media.0 text.now result }
 {
     let mut bounds = Bounds::new();
     let lines = lines(alloc, text)?;
+    let count = line_count(lines.as_slice());
     let mut number = 0;
     for line in lines.iter() {
         number += 1;
+        meter.show(number, count);
         take_line(alloc, &mut bounds, line, media, number)?;
     }
     Ok(bounds)

@@ -14,7 +14,7 @@ use crate::shown::Shown;
 use core_steps::{World, run};
 use endings::{Failure, Status, report};
 use events::{Event, Out};
-use request_text::{LineFault, announced_line, lines};
+use request_text::{LineFault, Meter, announced_line, line_count, lines};
 use settings::Settings;
 use std::alloc::{AllocError, Global};
 use std::io::{Read, Write};
@@ -36,11 +36,12 @@ pub(crate) struct Progress<'t> {
 /// Plays the script's lines from a new world of these settings, and prints what is shown of what they give: a line for each thing
 /// that the machine gives out, and for each `show`.
 ///
-/// A line that can't be read stops it, and is said on the error output; what came before stays printed.
+/// A line that can't be read stops it, and is said on the error output; what came before stays printed. The meter is shown each line.
 pub fn replay_lines<I: Read, O: Write, E: Write>(
     alloc: Global,
     settings: &Settings,
     shown: Shown,
+    meter: &Meter,
     script: &mut I,
     writer: &mut O,
     errors: &mut E,
@@ -54,7 +55,7 @@ pub fn replay_lines<I: Read, O: Write, E: Write>(
     ensures understood { (result ≢ Status.CommandLine) × (result ≢ Status.Settings) }
     ensures said { SaysWhy (E.contents errors.old) (E.contents errors.new) result }
 {
-    match play(alloc, Choice { settings, shown }, script, writer) {
+    match play(alloc, Choice { settings, shown }, meter, script, writer) {
         Ok(()) => Status::Done,
         Err(failure) => report(alloc, errors, failure),
     }
@@ -64,6 +65,7 @@ pub fn replay_lines<I: Read, O: Write, E: Write>(
 fn play<I: Read, O: Write>(
     alloc: Global,
     choice: Choice<'_>,
+    meter: &Meter,
     script: &mut I,
     writer: &mut O,
 ) -> Result<(), Failure>
@@ -76,13 +78,14 @@ fn play<I: Read, O: Write>(
 {
     let mut text = Vec::new(alloc);
     script.read_to_end(&mut text)?;
-    play_lines(alloc, choice, text.as_slice(), writer)
+    play_lines(alloc, choice, meter, text.as_slice(), writer)
 }
 
 /// Plays the lines of a text.
 fn play_lines<O: Write>(
     alloc: Global,
     choice: Choice<'_>,
+    meter: &Meter,
     text: &[u8],
     writer: &mut O,
 ) -> Result<(), Failure>
@@ -93,6 +96,7 @@ fn play_lines<O: Write>(
         (O.contents writer.new)) }
 {
     let lines = lines(alloc, text)?;
+    let count = line_count(lines.as_slice());
     let mut world = World::new(alloc, choice.settings)?;
     let mut progress = Progress {
         latest: Latest::none(),
@@ -101,6 +105,7 @@ fn play_lines<O: Write>(
     let mut number = 0;
     for line in lines.iter() {
         number += 1;
+        meter.show(number, count);
         progress = play_line(alloc, choice, &mut world, line, number, progress, writer)?;
     }
     Ok(())

@@ -1,10 +1,12 @@
 //! `sfu`, the program of the unit.
 #![tactic(auto)]
 
+mod cleared;
 mod record_words;
 
+use cleared::Cleared;
 use commands::{
-    ErrorOutput, Status, explain, report_words, run_ask, run_command, run_recorded, run_sdp,
+    ErrorOutput, Meter, Status, explain, report_words, run_ask, run_command, run_recorded, run_sdp,
     run_timed, run_version,
 };
 use record_words::noted_in;
@@ -20,11 +22,12 @@ use std::{env, io};
 use web::run_page;
 
 fn main(rt: HostRuntime) -> ExitCode {
-    let mut errors = rt.stderr();
+    let meter = Meter::new(rt);
+    let mut errors = Cleared::new(&meter, rt.stderr());
     let status = match words_of(&rt) {
         Ok(words) => {
             let mut reader = rt.reader();
-            let mut writer = io::writer(&rt);
+            let mut writer = Cleared::new(&meter, io::writer(&rt));
             match words.as_slice() {
                 [_, ask, path, request @ ..] if ask.as_str() == "ask" => {
                     run_ask(&rt, path.as_str(), request, &mut writer, &mut errors)
@@ -41,7 +44,7 @@ fn main(rt: HostRuntime) -> ExitCode {
                     status
                 }
                 all => {
-                    let status = run_words(&rt, all, &mut reader, &mut writer, &mut errors);
+                    let status = run_words(&rt, all, &meter, &mut reader, &mut writer, &mut errors);
                     explain(&rt, all, status, &mut errors);
                     status
                 }
@@ -49,6 +52,7 @@ fn main(rt: HostRuntime) -> ExitCode {
         }
         Err(error) => report_words(&mut errors, &error),
     };
+    meter.clear();
     ExitCode::from(status.code())
 }
 
@@ -58,9 +62,16 @@ fn run_words<
     I: Read,
     O: Write,
     E: Write,
->(rt: &R, words: &[String], reader: &mut I, writer: &mut O, errors: &mut E) -> Status {
+>(
+    rt: &R,
+    words: &[String],
+    meter: &Meter,
+    reader: &mut I,
+    writer: &mut O,
+    errors: &mut E,
+) -> Status {
     let Ok(Some(noted)) = noted_in(rt.alloc(), words) else {
-        return run_command(rt, words, reader, writer, errors);
+        return run_command(rt, words, meter, reader, writer, errors);
     };
     let words = noted.words.as_slice();
     match noted.record {
