@@ -1,4 +1,4 @@
-//! Twenty mistakes, and the line for each.
+//! Twenty-one mistakes, and the line for each.
 
 use advice::{bind_advice, file_advice, settings_advice};
 use settings_text::{SettingsProblem, read_settings};
@@ -34,7 +34,7 @@ out_ssrc = 257
 ";
 
 /// What is put in place of what, and the line for that; where the settings alone don't tell, which key is wrong.
-const MISTAKES: [(&str, &str, &str); 14] = [
+const MISTAKES: [(&str, &str, &str); 15] = [
     (
         "workers = 1",
         "workers = 9",
@@ -83,7 +83,12 @@ const MISTAKES: [(&str, &str, &str); 14] = [
     (
         "address = \"192.0.2.8:6000\" # at home",
         "adress = \"192.0.2.8:6000\" # at home",
-        "line 18: adress = \"192.0.2.8:6000\" is no key of an endpoint: those are address, fmtp, learn_from, receive_only, rtcp_address, rtpmap and ssrc\n",
+        "line 18: adress = \"192.0.2.8:6000\" is no key of an endpoint: those are address, cname, fmtp, learn_from, receive_only, rtcp_address, rtpmap and ssrc\n",
+    ),
+    (
+        "ssrc = 17",
+        "ssrc = 17\ncname = \"\"",
+        "line 18: cname = \"\" is no text of 1 to 255 ASCII characters, as \"ann@192.0.2.7\"\n",
     ),
     (
         "subscriber = 1",
