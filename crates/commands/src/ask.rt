@@ -1,8 +1,9 @@
 //! `sfu ask PATH WORD..`: a unit that runs is asked, and what it answers is printed.
 
-ghost use Rattle.std.specs.Prelude.{◌≡◌, ◌≢◌, ◌++◌, ℕ, List, Some, codes, IfOk, OnOk};
+ghost use Rattle.std.specs.Prelude.{◌≡◌, ◌≢◌, ◌++◌, ℕ, List, Some, codes, flat_map, map, IfOk, OnOk};
 ghost use Rattle.std.specs.Io.KnownBytes.{Appends, Keeps};
 ghost use Rattle.std.specs.String.{string_bytes};
+ghost use Rattle.commands.specs.Asking.{asking_line, spaced};
 ghost use Rattle.control.specs.Asking.{answered_by, done, refused};
 
 use crate::ask_record::{print_record, write_record};
@@ -113,16 +114,28 @@ pub(crate) fn connect<R: Net>(rt: &R, path: &str) -> Result<UnixStream, AskFault
 }
 
 /// The words with single spaces between them, and the end of the line.
-fn line_of<S: AsStr>(alloc: Global, words: &[S]) -> Result<String, AllocError> {
+fn line_of<S: AsStr>(alloc: Global, words: &[S]) -> Result<String, AllocError>
+    ensures { IfOk result (λ line. string_bytes line ≡ asking_line (map S.text words.now)) }
+{
     let mut line = String::new(alloc);
-    for (number, word) in words.iter().enumerate() {
-        if number > 0 {
-            line.push(' ')?;
-        }
-        line.push_str(word.as_str())?;
+    if let Some((first, others)) = words.split_first() {
+        line.push_str(first.as_str())?;
+        push_spaced(&mut line, others)?;
     }
     line.push('\n')?;
     Ok(line)
+}
+
+/// Puts each word and a space before it behind the line.
+fn push_spaced<S: AsStr>(line: &mut String, words: &[S]) -> Result<(), AllocError>
+    ensures { OnOk result (string_bytes line.new
+        ≡ string_bytes line.old ++ flat_map spaced (map S.text words.now)) }
+{
+    for word in words {
+        line.push(' ')?;
+        line.push_str(word.as_str())?;
+    }
+    Ok(())
 }
 
 /// What comes from the stream until an answer is whole.
