@@ -1,12 +1,15 @@
 //! Requests, answers and lines, as docs/FORMATS.md has them.
 
+use crate::expected::{is_text, same};
 use control::{
     Answered, Course, Inbox, MAX_PEERS, Peers, Refused, Request, Screened, Unheard, counts_text,
     course_for, done_text, present_line, read_answer, read_request, refused_text, screened_text,
     stranger_line,
 };
 use outside::{Look, Received, Status};
+use std::alloc::{AllocError, Global};
 use std::io::{self, ErrorKind, Read, Write};
+use std::process::Abort;
 use std::test::Fail;
 use tmmbr_tuple::Ssrc;
 
@@ -43,141 +46,132 @@ fn reads_requests(rt: HostRuntime) -> Result<(), Fail> {
     Ok(())
 }
 
+/// What comes out next is this line, or nothing.
+fn gives(rt: &impl Abort, inbox: &mut Inbox, wanted: Option<&[u8]>) -> Result<(), Fail> {
+    let line = inbox.next_line()?;
+    assert_eq!(rt; line.as_ref().map(|line| line.as_slice()), wanted);
+    Ok(())
+}
+
 /// Lines come out as they end, whatever pieces they came in.
 #[test]
 fn parts_lines(rt: HostRuntime) -> Result<(), Fail> {
-    let alloc = rt.alloc();
-    let mut inbox = Inbox::new(alloc);
-    assert_eq!(rt; inbox.room(), 128);
+    let mut inbox = Inbox::new(rt.alloc());
+    same(&rt, &inbox.room(), &128);
     inbox.take_in(b"cou")?;
-    assert!(rt; inbox.next_line()?.is_none());
+    gives(&rt, &mut inbox, None)?;
     inbox.take_in(b"nts\n\nst")?;
-    assert_eq!(rt; inbox.room(), 118);
-    let first = inbox.next_line()?.ok_or("first")?;
-    assert!(rt; first.as_slice() == b"counts".as_slice());
-    let second = inbox.next_line()?.ok_or("second")?;
-    assert!(rt; second.is_empty());
-    assert!(rt; inbox.next_line()?.is_none());
+    same(&rt, &inbox.room(), &118);
+    for line in [Some(b"counts".as_slice()), Some(b"".as_slice()), None] {
+        gives(&rt, &mut inbox, line)?;
+    }
     inbox.take_in(b"op\n")?;
-    let last = inbox.next_line()?.ok_or("last")?;
-    assert!(rt; last.as_slice() == b"stop".as_slice());
-    assert_eq!(rt; inbox.room(), 128);
+    gives(&rt, &mut inbox, Some(b"stop"))?;
+    same(&rt, &inbox.room(), &128);
     Ok(())
+}
+
+const STATUS: Status = Status {
+    present: 1,
+    heard: 2,
+    sent: 3,
+    failed: 4,
+    lost: 5,
+    dropped: 6,
+};
+
+const SCREENED: Screened = Screened {
+    far: 1,
+    held: 2,
+    flooded: 3,
+};
+
+/// The counts, where so much is known of what wasn't heard.
+fn counts(alloc: Global, unread: Option<u64>) -> Result<String, AllocError> {
+    let unheard = Unheard {
+        strangers: 7,
+        unread,
+    };
+    counts_text(alloc, &STATUS, &unheard)
+}
+
+/// The counts, and that all was done.
+fn counts_done(alloc: Global) -> Result<String, AllocError> {
+    done_text(alloc, counts(alloc, None)?.as_str())
 }
 
 /// The texts of answers.
 #[test]
 fn answers_are_lines(rt: HostRuntime) -> Result<(), Fail> {
     let alloc = rt.alloc();
-    let status = Status {
-        present: 1,
-        heard: 2,
-        sent: 3,
-        failed: 4,
-        lost: 5,
-        dropped: 6,
-    };
-    let mut unheard = Unheard {
-        strangers: 7,
-        unread: None,
-    };
-    let counts = counts_text(alloc, &status, &unheard)?;
-    let whole = done_text(alloc, counts.as_str())?;
-    assert_eq!(rt;
-        whole.as_str(),
-        "present 1 heard 2 sent 3 failed 4 lost 5 dropped 6 strangers 7\nok\n"
-    );
-    unheard.unread = Some(9);
-    let counts = counts_text(alloc, &status, &unheard)?;
-    assert_eq!(rt;
-        counts.as_str(),
-        "present 1 heard 2 sent 3 failed 4 lost 5 dropped 6 strangers 7 unread 9\n"
-    );
-    let screened = Screened {
-        far: 1,
-        held: 2,
-        flooded: 3,
-    };
-    assert_eq!(rt;
-        screened_text(alloc, &screened)?.as_str(),
-        "far 1 held 2 flooded 3\n"
-    );
-    let address = "127.0.0.1:5004".parse().or(Err("address"))?;
-    let line = stranger_line(alloc, address, 12, 340)?;
-    assert_eq!(rt;
-        line.as_str(),
-        "127.0.0.1:5004 datagrams 12 heard 340 ms ago\n"
-    );
-    let line = present_line(alloc, 0, Ssrc(16), address, false, None, 0)?;
-    assert_eq!(rt;
-        line.as_str(),
-        "0 ssrc 16 at 127.0.0.1:5004 absent never heard refused 0\n"
-    );
-    let line = present_line(alloc, 0, Ssrc(16), address, true, Some(340), 17)?;
-    assert_eq!(rt;
-        line.as_str(),
-        "0 ssrc 16 at 127.0.0.1:5004 present heard 340 ms ago refused 17\n"
-    );
+    let wanted = "present 1 heard 2 sent 3 failed 4 lost 5 dropped 6 strangers 7\nok\n";
+    is_text(&rt, counts_done(alloc), wanted)?;
+    let wanted = "present 1 heard 2 sent 3 failed 4 lost 5 dropped 6 strangers 7 unread 9\n";
+    is_text(&rt, counts(alloc, Some(9)), wanted)?;
+    is_text(
+        &rt,
+        screened_text(alloc, &SCREENED),
+        "far 1 held 2 flooded 3\n",
+    )?;
     assert_eq!(rt; refused_text(Refused::Long), "refused long\n");
     Ok(())
 }
 
-const fn select_on(leg: u16) -> Request {
-    Request::Select { leg, on: true }
+/// The lines of who is there, or isn't, and of a stranger.
+#[test]
+fn lines_of_people(rt: HostRuntime) -> Result<(), Fail> {
+    let alloc = rt.alloc();
+    let address = "127.0.0.1:5004".parse().or(Err("address"))?;
+    let line = stranger_line(alloc, address, 12, 340);
+    is_text(&rt, line, "127.0.0.1:5004 datagrams 12 heard 340 ms ago\n")?;
+    let line = present_line(alloc, 0, Ssrc(16), address, false, None, 0);
+    is_text(
+        &rt,
+        line,
+        "0 ssrc 16 at 127.0.0.1:5004 absent never heard refused 0\n",
+    )?;
+    let line = present_line(alloc, 0, Ssrc(16), address, true, Some(340), 17);
+    let wanted = "0 ssrc 16 at 127.0.0.1:5004 present heard 340 ms ago refused 17\n";
+    Ok(is_text(&rt, line, wanted)?)
 }
 
-/// What requests lead to, in a room of two legs and three endpoints.
+/// What requests lead to, in a room of two legs and three endpoints, which is recorded or not.
+const COURSES: [(Request, bool, Course); 16] = [
+    (
+        Request::Select { leg: 1, on: true },
+        false,
+        Course::Do(Received::Select { leg: 1, on: true }),
+    ),
+    (
+        Request::Select { leg: 2, on: true },
+        false,
+        Course::Refuse(Refused::Leg),
+    ),
+    (Request::Show(2), false, Course::Look(Look::Desk(2))),
+    (Request::Show(3), false, Course::Refuse(Refused::Publisher)),
+    (Request::Stop, false, Course::Do(Received::Stop)),
+    (Request::Counts, false, Course::Counts),
+    (Request::Legs, false, Course::Legs),
+    (Request::Metrics, false, Course::Metrics),
+    (Request::Reports, false, Course::Reports),
+    (Request::Refusals, false, Course::Refusals),
+    (Request::Strangers, false, Course::Strangers),
+    (Request::Record, false, Course::Record),
+    (Request::Record, true, Course::Refuse(Refused::Recorded)),
+    (Request::EndRecord, true, Course::EndRecord),
+    (
+        Request::EndRecord,
+        false,
+        Course::Refuse(Refused::Unrecorded),
+    ),
+    (Request::Present, false, Course::Look(Look::Presence)),
+];
+
 #[test]
-fn leads_requests(rt: HostRuntime) -> Result<(), Fail> {
-    assert_eq!(rt;
-        course_for(select_on(1), 2, 3, false),
-        Course::Do(Received::Select { leg: 1, on: true })
-    );
-    assert_eq!(rt;
-        course_for(select_on(2), 2, 3, false),
-        Course::Refuse(Refused::Leg)
-    );
-    assert_eq!(rt;
-        course_for(Request::Show(2), 2, 3, false),
-        Course::Look(Look::Desk(2))
-    );
-    assert_eq!(rt;
-        course_for(Request::Show(3), 2, 3, false),
-        Course::Refuse(Refused::Publisher)
-    );
-    assert_eq!(rt;
-        course_for(Request::Stop, 2, 3, false),
-        Course::Do(Received::Stop)
-    );
-    assert_eq!(rt; course_for(Request::Counts, 2, 3, false), Course::Counts);
-    assert_eq!(rt; course_for(Request::Legs, 2, 3, false), Course::Legs);
-    assert_eq!(rt; course_for(Request::Metrics, 2, 3, false), Course::Metrics);
-    assert_eq!(rt; course_for(Request::Reports, 2, 3, false), Course::Reports);
-    assert_eq!(rt;
-        course_for(Request::Refusals, 2, 3, false),
-        Course::Refusals
-    );
-    assert_eq!(rt;
-        course_for(Request::Strangers, 2, 3, false),
-        Course::Strangers
-    );
-    for (request, is_recorded, wanted) in [
-        (Request::Record, false, Course::Record),
-        (Request::Record, true, Course::Refuse(Refused::Recorded)),
-        (Request::EndRecord, true, Course::EndRecord),
-        (
-            Request::EndRecord,
-            false,
-            Course::Refuse(Refused::Unrecorded),
-        ),
-    ] {
-        assert_eq!(rt; course_for(request, 2, 3, is_recorded), wanted);
+fn leads_requests(rt: HostRuntime) {
+    for (request, is_recorded, wanted) in &COURSES {
+        assert_eq!(rt; course_for(*request, 2, 3, *is_recorded), *wanted);
     }
-    assert_eq!(rt;
-        course_for(Request::Present, 2, 3, false),
-        Course::Look(Look::Presence)
-    );
-    Ok(())
 }
 
 /// Answers are taken apart once they are whole.
@@ -230,43 +224,13 @@ impl Write for Line {
     }
 }
 
-/// Of nine peers eight stay; each is looked at in turn, and nobody is waited for. Who says nothing for long, sends too much without an
-/// end, or doesn't take its answer is let go.
-#[test]
-fn looks_at_peers_in_turn(rt: HostRuntime) -> Result<(), Fail> {
-    let alloc = rt.alloc();
-    let mut peers = Peers::new(alloc);
-    peers.admit(
-        Line {
-            bytes: b"counts\nstop\n",
-            takes: 100,
-        },
-        0,
-    );
-    peers.admit(
-        Line {
-            bytes: b"present\n",
-            takes: 0,
-        },
-        0,
-    );
-    peers.admit(
-        Line {
-            bytes: &[b'x'; 1000],
-            takes: 100,
-        },
-        0,
-    );
-    for _peer in 0..7 {
-        peers.admit(
-            Line {
-                bytes: b"",
-                takes: 100,
-            },
-            0,
-        );
-    }
-    assert_eq!(rt; peers.count(), MAX_PEERS);
+/// One who says this, and takes so many bytes.
+const fn line_of(bytes: &'static [u8], takes: usize) -> Line {
+    Line { bytes, takes }
+}
+
+/// What peers ask in forty looks, each of whom is answered.
+fn asked(alloc: Global, peers: &mut Peers<Line>) -> Result<Vec<Request>, AllocError> {
     let mut asked = Vec::new(alloc);
     for _look in 0..40 {
         if let Some(request) = peers.next_request(1) {
@@ -274,12 +238,37 @@ fn looks_at_peers_in_turn(rt: HostRuntime) -> Result<(), Fail> {
             peers.answer(b"ok\n");
         }
     }
+    Ok(asked)
+}
+
+/// Each is looked at in turn.
+fn ask_in_turn(rt: &impl Abort, alloc: Global, peers: &mut Peers<Line>) -> Result<(), AllocError> {
+    let asked = asked(alloc, peers)?;
     assert!(rt; asked.as_slice() == [Request::Counts, Request::Present, Request::Stop].as_slice());
-    assert_eq!(rt; peers.count(), 6);
-    assert_eq!(rt; peers.next_request(9_999), None);
-    assert_eq!(rt; peers.count(), 6);
-    assert_eq!(rt; peers.next_request(10_001), None);
-    assert_eq!(rt; peers.count(), 0);
+    Ok(())
+}
+
+/// Of nine peers eight stay; each is looked at in turn, and nobody is waited for. Who says nothing for long, sends too much without an
+/// end, or doesn't take its answer is let go.
+#[test]
+fn looks_at_peers_in_turn(rt: HostRuntime) -> Result<(), Fail> {
+    let mut peers = Peers::new(rt.alloc());
+    peers.admit(line_of(b"counts\nstop\n", 100), 0);
+    peers.admit(line_of(b"present\n", 0), 0);
+    peers.admit(line_of(&[b'x'; 1000], 100), 0);
+    for _peer in 0..7 {
+        peers.admit(line_of(b"", 100), 0);
+    }
+    same(&rt, &peers.count(), &MAX_PEERS);
+    ask_in_turn(&rt, rt.alloc(), &mut peers)?;
+    same(&rt, &peers.count(), &6);
+    for (moment, count) in [(9_999, 6), (10_001, 0)] {
+        same(
+            &rt,
+            &(peers.next_request(moment), peers.count()),
+            &(None, count),
+        );
+    }
     Ok(())
 }
 
@@ -296,10 +285,10 @@ fn hands_over_who_asked_last(rt: HostRuntime) -> Result<(), Fail> {
             last = peers.next_request(1).or(last);
         }
     }
-    assert_eq!(rt; last, Some(Request::Record));
+    same(&rt, &last, &Some(Request::Record));
     let handed_over = peers.take_last().ok_or("nobody asked")?;
-    assert_eq!(rt; handed_over.takes, 77);
-    assert_eq!(rt; peers.count(), 1);
+    same(&rt, &handed_over.takes, &77);
+    same(&rt, &peers.count(), &1);
     Ok(())
 }
 
@@ -334,10 +323,10 @@ fn hears_again_once_the_answer_is_taken(rt: HostRuntime) -> Result<(), Fail> {
         takes: 0,
     };
     peers.admit(Sipping { line }, 0);
-    assert_eq!(rt; peers.next_request(1), Some(Request::Stop));
+    same(&rt, &peers.next_request(1), &Some(Request::Stop));
     peers.answer(b"ok\n");
-    assert_eq!(rt; peers.next_request(2), None);
-    assert_eq!(rt; peers.next_request(3), Some(Request::Legs));
-    assert_eq!(rt; peers.count(), 1);
+    same(&rt, &peers.next_request(2), &None);
+    same(&rt, &peers.next_request(3), &Some(Request::Legs));
+    same(&rt, &peers.count(), &1);
     Ok(())
 }

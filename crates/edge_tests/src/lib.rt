@@ -6,6 +6,10 @@ mod advice_tests;
 #[cfg(test)]
 mod control_tests;
 #[cfg(test)]
+mod expected;
+#[cfg(test)]
+mod outside_tests;
+#[cfg(test)]
 mod page_tests;
 #[cfg(test)]
 mod recording_tests;

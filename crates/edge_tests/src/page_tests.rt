@@ -4,7 +4,8 @@ use page::{
     AnnouncedSet, Flow, FlowRate, History, Kind, Said, Verdict, Way, Whose, answer_to, asked_for,
     is_known_host,
 };
-use std::alloc::Global;
+use std::alloc::{AllocError, Global};
+use std::process::Abort;
 use std::test::Fail;
 
 const PRESENT: &[u8] = b"0 ssrc 16 at 127.0.0.1:5004 present heard 340 ms ago refused 17\n\
@@ -27,64 +28,98 @@ const SET: &[u8] = b"8fcd0004\n\
     kept 3 030d4028 pair 1 99700 1\n\
     live 2 030d4014\n";
 
-/// Three sets: of a publisher whom nobody asks, of one who is asked, and of one for whom an owner is named twice.
-fn sets_said(alloc: Global) -> Result<Vec<AnnouncedSet>, Fail> {
-    let mut sets = Vec::new(alloc);
-    sets.push(AnnouncedSet {
-        publisher: 1,
-        text: Vec::new(alloc),
-    })?;
-    sets.push(AnnouncedSet {
-        publisher: 0,
-        text: bytes_of(alloc, SET)?,
-    })?;
-    sets.push(AnnouncedSet {
-        publisher: 2,
-        text: bytes_of(alloc, b"live 5 030d4014\nlive 5 030d4014\n")?,
-    })?;
-    Ok(sets)
+/// Puts a set after the others.
+fn push_set(
+    alloc: Global,
+    sets: &mut Vec<AnnouncedSet>,
+    publisher: u16,
+    text: &[u8],
+) -> Result<(), AllocError> {
+    let text = text.to_vec(alloc)?;
+    sets.push(AnnouncedSet { publisher, text })?;
+    Ok(())
 }
 
 /// What moved: of endpoint 0 half a minute ago and now, and of all endpoints together.
-fn rates_said(alloc: Global) -> Result<Vec<FlowRate>, Fail> {
-    let mut rates = Vec::new(alloc);
-    rates.push(flow_rate(Whose::Endpoint(0), Way::Heard, 30_000, 500_000))?;
-    rates.push(flow_rate(Whose::Endpoint(0), Way::Heard, 0, 1_250_000))?;
-    rates.push(flow_rate(Whose::Endpoint(0), Way::Sent, 0, 999))?;
-    rates.push(flow_rate(Whose::Unit, Way::Heard, 0, 12_399))?;
-    Ok(rates)
+const RATES: [FlowRate; 4] = [
+    FlowRate {
+        flow: Flow {
+            whose: Whose::Endpoint(0),
+            way: Way::Heard,
+        },
+        age_ms: 30_000,
+        rate: 500_000,
+    },
+    FlowRate {
+        flow: Flow {
+            whose: Whose::Endpoint(0),
+            way: Way::Heard,
+        },
+        age_ms: 0,
+        rate: 1_250_000,
+    },
+    FlowRate {
+        flow: Flow {
+            whose: Whose::Endpoint(0),
+            way: Way::Sent,
+        },
+        age_ms: 0,
+        rate: 999,
+    },
+    FlowRate {
+        flow: Flow {
+            whose: Whose::Unit,
+            way: Way::Heard,
+        },
+        age_ms: 0,
+        rate: 12_399,
+    },
+];
+
+/// Says all this. The sets are of a publisher whom nobody asks, of one who is asked, and of one for whom an owner is named twice.
+fn say(alloc: Global, said: &mut Said) -> Result<(), AllocError> {
+    said.metrics.extend_from_slice(b"# HELP x y\nx 1\n")?;
+    said.present.extend_from_slice(PRESENT)?;
+    said.legs.extend_from_slice(LEGS)?;
+    said.counts.extend_from_slice(COUNTS)?;
+    said.reports.extend_from_slice(REPORTS)?;
+    push_set(alloc, &mut said.sets, 1, b"")?;
+    push_set(alloc, &mut said.sets, 0, SET)?;
+    push_set(
+        alloc,
+        &mut said.sets,
+        2,
+        b"live 5 030d4014\nlive 5 030d4014\n",
+    )?;
+    for rate in RATES {
+        said.rates.push(rate)?;
+    }
+    Ok(())
 }
 
-const fn flow_rate(whose: Whose, way: Way, age_ms: u64, rate: u64) -> FlowRate {
-    FlowRate {
-        flow: Flow { whose, way },
-        age_ms,
-        rate,
+/// A unit that said nothing.
+fn nothing_said(alloc: Global) -> Said {
+    Said {
+        metrics: Vec::new(alloc),
+        present: Vec::new(alloc),
+        legs: Vec::new(alloc),
+        counts: Vec::new(alloc),
+        reports: Vec::new(alloc),
+        sets: Vec::new(alloc),
+        rates: Vec::new(alloc),
     }
 }
 
-fn bytes_of(alloc: Global, text: &[u8]) -> Result<Vec<u8>, Fail> {
-    let mut bytes = Vec::new(alloc);
-    bytes.extend_from_slice(text)?;
-    Ok(bytes)
-}
-
 /// A unit that said all this.
-fn unit_said(alloc: Global) -> Result<Option<Said>, Fail> {
-    Ok(Some(Said {
-        metrics: bytes_of(alloc, b"# HELP x y\nx 1\n")?,
-        present: bytes_of(alloc, PRESENT)?,
-        legs: bytes_of(alloc, LEGS)?,
-        counts: bytes_of(alloc, COUNTS)?,
-        reports: bytes_of(alloc, REPORTS)?,
-        sets: sets_said(alloc)?,
-        rates: rates_said(alloc)?,
-    }))
+fn unit_said(alloc: Global) -> Result<Option<Said>, AllocError> {
+    let mut said = nothing_said(alloc);
+    say(alloc, &mut said)?;
+    Ok(Some(said))
 }
 
 /// What a client is told: the status, and the body as text.
 fn told(
-    rt: &HostRuntime,
+    rt: &impl AllocGlobal,
     method: &[u8],
     path: &[u8],
     said: &Option<Said>,
@@ -119,7 +154,7 @@ fn word_of(kind: Kind) -> &'static str {
 
 /// What is told has this status, and these parts.
 fn expect_parts(
-    rt: &HostRuntime,
+    rt: &impl AllocGlobal,
     path: &[u8],
     said: &Option<Said>,
     status: u16,
@@ -136,84 +171,104 @@ fn expect_parts(
     }
 }
 
+/// What a client is told has this status and this text.
+fn tells(
+    rt: &(impl AllocGlobal + Abort),
+    method: &[u8],
+    path: &[u8],
+    said: &Option<Said>,
+    wanted: (u16, &str),
+) -> Result<(), Fail> {
+    let (given, body) = told(rt, method, path, said)?;
+    assert_eq!(rt; (given, body.as_str()), wanted);
+    Ok(())
+}
+
+/// A method, a path, and what is told.
+const PATHS: [(&[u8], &[u8], (u16, &str)); 7] = [
+    (b"GET", b"/metrics", (200, "metrics # HELP x y\nx 1\n")),
+    (b"HEAD", b"/metrics", (200, "metrics # HELP x y\nx 1\n")),
+    (b"POST", b"/metrics", (405, "plain method not allowed\n")),
+    (b"get", b"/metrics", (405, "plain method not allowed\n")),
+    (b"GET", b"/metrics/", (404, "plain not found\n")),
+    (b"GET", b"/../state.json", (404, "plain not found\n")),
+    (b"GET", b"/state.json", (200, STATE)),
+];
+
+const STATE: &str = "json {\"endpoints\":[\
+    {\"number\":0,\"ssrc\":16,\"address\":\"127.0.0.1:5004\",\"present\":true,\"heard_ago_ms\":340,\"refused\":17,\"heard_bps\":1250000,\"sent_bps\":999,\"fraction_lost\":null,\"jitter\":null},\
+    {\"number\":1,\"ssrc\":4294967295,\"address\":\"[2001:db8::7]:6000\",\"present\":false,\"heard_ago_ms\":null,\"refused\":4,\"heard_bps\":null,\"sent_bps\":null,\"fraction_lost\":1,\"jitter\":7},\
+    {\"number\":2,\"ssrc\":18,\"address\":\"127.0.0.1:5006\",\"present\":false,\"heard_ago_ms\":null,\"refused\":null,\"heard_bps\":null,\"sent_bps\":null,\"fraction_lost\":null,\"jitter\":null},\
+    {\"number\":3,\"ssrc\":19,\"address\":\"127.0.0.1:5008\",\"present\":false,\"heard_ago_ms\":null,\"refused\":null,\"heard_bps\":null,\"sent_bps\":null,\"fraction_lost\":null,\"jitter\":null}],\
+    \"legs\":[\
+    {\"leg\":0,\"publisher\":0,\"subscriber\":1,\"on\":true,\"stay\":9,\"packets\":7,\"octets\":700,\"resent\":2,\"missed\":3,\"next\":4,\"fraction_lost\":64,\"jitter\":90,\"round_trip_ms\":45},\
+    {\"leg\":1,\"publisher\":1,\"subscriber\":0,\"on\":false,\"stay\":null,\"packets\":0,\"octets\":0,\"resent\":0,\"missed\":0,\"next\":null,\"fraction_lost\":null,\"jitter\":null,\"round_trip_ms\":null}],\
+    \"counts\":{\"present\":1,\"heard\":2,\"sent\":3,\"failed\":4,\"lost\":5,\"dropped\":6,\"strangers\":7,\"unread\":8,\"heard_bps\":12399,\"sent_bps\":null}}";
+
+fn tells_all(rt: &(impl AllocGlobal + Abort), said: &Option<Said>) -> Result<(), Fail> {
+    for (method, path, wanted) in &PATHS {
+        tells(rt, method, path, said, *wanted)?;
+    }
+    Ok(())
+}
+
 /// Which path gives what, by which method.
 #[test]
 fn answers_by_path(rt: HostRuntime) -> Result<(), Fail> {
     let said = unit_said(rt.alloc())?;
-    let cases: [(&[u8], &[u8], u16, &str); 6] = [
-        (b"GET", b"/metrics", 200, "metrics # HELP x y\nx 1\n"),
-        (b"HEAD", b"/metrics", 200, "metrics # HELP x y\nx 1\n"),
-        (b"POST", b"/metrics", 405, "plain method not allowed\n"),
-        (b"get", b"/metrics", 405, "plain method not allowed\n"),
-        (b"GET", b"/metrics/", 404, "plain not found\n"),
-        (b"GET", b"/../state.json", 404, "plain not found\n"),
-    ];
-    for (method, path, status, text) in cases {
-        let (given, body) = told(&rt, method, path, &said)?;
-        assert_eq!(rt; given, status);
-        assert_eq!(rt; body.as_str(), text);
+    tells_all(&rt, &said)
+}
+
+/// A path, and the status and the parts of what is told.
+type Shown = (&'static [u8], u16, &'static [&'static str]);
+
+/// Each path has its parts.
+fn expect_all(rt: &impl AllocGlobal, said: &Option<Said>, shown: &[Shown]) -> Result<(), Fail> {
+    for (path, status, parts) in shown {
+        expect_parts(rt, path, said, *status, parts)?;
     }
-    let (given, body) = told(&rt, b"GET", b"/state.json", &said)?;
-    assert_eq!(rt; given, 200);
-    assert_eq!(rt;
-        body.as_str(),
-        "json {\"endpoints\":[\
-        {\"number\":0,\"ssrc\":16,\"address\":\"127.0.0.1:5004\",\"present\":true,\"heard_ago_ms\":340,\"refused\":17,\"heard_bps\":1250000,\"sent_bps\":999,\"fraction_lost\":null,\"jitter\":null},\
-        {\"number\":1,\"ssrc\":4294967295,\"address\":\"[2001:db8::7]:6000\",\"present\":false,\"heard_ago_ms\":null,\"refused\":4,\"heard_bps\":null,\"sent_bps\":null,\"fraction_lost\":1,\"jitter\":7},\
-        {\"number\":2,\"ssrc\":18,\"address\":\"127.0.0.1:5006\",\"present\":false,\"heard_ago_ms\":null,\"refused\":null,\"heard_bps\":null,\"sent_bps\":null,\"fraction_lost\":null,\"jitter\":null},\
-        {\"number\":3,\"ssrc\":19,\"address\":\"127.0.0.1:5008\",\"present\":false,\"heard_ago_ms\":null,\"refused\":null,\"heard_bps\":null,\"sent_bps\":null,\"fraction_lost\":null,\"jitter\":null}],\
-        \"legs\":[\
-        {\"leg\":0,\"publisher\":0,\"subscriber\":1,\"on\":true,\"stay\":9,\"packets\":7,\"octets\":700,\"resent\":2,\"missed\":3,\"next\":4,\"fraction_lost\":64,\"jitter\":90,\"round_trip_ms\":45},\
-        {\"leg\":1,\"publisher\":1,\"subscriber\":0,\"on\":false,\"stay\":null,\"packets\":0,\"octets\":0,\"resent\":0,\"missed\":0,\"next\":null,\"fraction_lost\":null,\"jitter\":null,\"round_trip_ms\":null}],\
-        \"counts\":{\"present\":1,\"heard\":2,\"sent\":3,\"failed\":4,\"lost\":5,\"dropped\":6,\"strangers\":7,\"unread\":8,\"heard_bps\":12399,\"sent_bps\":null}}"
-    );
     Ok(())
 }
+
+const PEOPLE: &[&str] = &[
+    "html <!doctype html>",
+    "<dt>strangers</dt><dd>7</dd>",
+    "<dt>unread</dt><dd>8</dd>",
+    "<dt>in, bit/s</dt><dd class=\"in\">12.3k</dd>",
+    "<tr><td>0</td><td class=\"word present\">present</td><td>340</td><td class=\"in\">1.2M</td><td class=\"out\">999</td><td><svg",
+    "<polyline class=\"in\" points=\"300,60 600,0 \"/><polyline class=\"out\" points=\"600,100 \"/></svg></td><td></td><td></td><td>17</td><td>16</td>\
+    <td class=\"word\">127.0.0.1:5004</td></tr>",
+    "<td>never</td><td class=\"in\"></td><td class=\"out\"></td><td><svg",
+    "</td><td>0.3%</td><td>7</td><td>4</td><td>4294967295</td><td class=\"word\">[2001:db8::7]:6000</td></tr>",
+    "<tr><th scope=\"row\">0</th><td></td><td><span class=\"off\">off</span></td><td></td><td></td></tr>",
+    "<tr><th scope=\"row\">1</th><td><span class=\"on\">on</span></td><td></td><td></td><td></td></tr>",
+    "<td class=\"word on\">on</td><td>7</td><td>700</td><td>2</td><td>3</td><td>4</td><td>25.0%</td><td>90</td><td>45</td></tr>",
+    "src=\"/publishers/1.svg\"",
+];
+
+const SILENT: &[&str] = &["plain the unit does not answer\n"];
+
+const NOT_FOUND: &[&str] = &["plain not found\n"];
 
 /// The page shows who is there, who sees whom, and an image for each publisher; a unit that says nothing has a page that says so.
 #[test]
 fn shows_people(rt: HostRuntime) -> Result<(), Fail> {
     let said = unit_said(rt.alloc())?;
-    expect_parts(
+    expect_all(&rt, &said, &[(b"/", 200, PEOPLE)])?;
+    expect_all(
         &rt,
-        b"/",
-        &said,
-        200,
-        &[
-            "html <!doctype html>",
-            "<dt>strangers</dt><dd>7</dd>",
-            "<dt>unread</dt><dd>8</dd>",
-            "<dt>in, bit/s</dt><dd class=\"in\">12.3k</dd>",
-            "<tr><td>0</td><td class=\"word present\">present</td><td>340</td><td class=\"in\">1.2M</td><td class=\"out\">999</td><td><svg",
-            "<polyline class=\"in\" points=\"300,60 600,0 \"/><polyline class=\"out\" points=\"600,100 \"/></svg></td><td></td><td></td><td>17</td><td>16</td>\
-            <td class=\"word\">127.0.0.1:5004</td></tr>",
-            "<td>never</td><td class=\"in\"></td><td class=\"out\"></td><td><svg",
-            "</td><td>0.3%</td><td>7</td><td>4</td><td>4294967295</td><td class=\"word\">[2001:db8::7]:6000</td></tr>",
-            "<tr><th scope=\"row\">0</th><td></td><td><span class=\"off\">off</span></td><td></td><td></td></tr>",
-            "<tr><th scope=\"row\">1</th><td><span class=\"on\">on</span></td><td></td><td></td><td></td></tr>",
-            "<td class=\"word on\">on</td><td>7</td><td>700</td><td>2</td><td>3</td><td>4</td><td>25.0%</td><td>90</td><td>45</td></tr>",
-            "src=\"/publishers/1.svg\"",
-        ],
-    )?;
-    expect_parts(&rt, b"/", &None, 503, &["<p>The unit does not answer.</p>"])?;
-    expect_parts(
-        &rt,
-        b"/metrics",
         &None,
-        503,
-        &["plain the unit does not answer\n"],
+        &[
+            (b"/", 503, &["<p>The unit does not answer.</p>"]),
+            (b"/metrics", 503, SILENT),
+            (b"/publishers/0.svg", 503, SILENT),
+        ],
     )
 }
 
-/// A publisher's picture is of the set that is announced to it; without requests it is empty. Who isn't there has none, and what names an
-/// owner twice is no set.
-#[test]
-fn draws_sets(rt: HostRuntime) -> Result<(), Fail> {
-    let said = unit_said(rt.alloc())?;
-    expect_parts(
-        &rt,
+const PICTURES: [Shown; 7] = [
+    (
         b"/publishers/0.svg",
-        &said,
         200,
         &[
             "svg <svg",
@@ -221,44 +276,21 @@ fn draws_sets(rt: HostRuntime) -> Result<(), Fail> {
             "1 of 2 live requests kept",
             "owner 3: 100000 bit/s, 40 bytes",
         ],
-    )?;
-    expect_parts(
-        &rt,
-        b"/publishers/1.svg",
-        &said,
-        200,
-        &["0 of 0 live requests kept"],
-    )?;
-    expect_parts(&rt, b"/publishers/2.svg", &said, 502, &["plain no set\n"])?;
-    expect_parts(
-        &rt,
-        b"/publishers/4.svg",
-        &said,
-        404,
-        &["plain not found\n"],
-    )?;
-    expect_parts(
-        &rt,
-        b"/publishers/3.svg",
-        &said,
-        503,
-        &["plain the unit does not answer\n"],
-    )?;
-    expect_parts(
-        &rt,
-        b"/publishers/0.svg",
-        &None,
-        503,
-        &["plain the unit does not answer\n"],
-    )?;
-    expect_parts(
-        &rt,
-        b"/publishers/x.svg",
-        &said,
-        404,
-        &["plain not found\n"],
-    )?;
-    expect_parts(&rt, b"/publishers/0", &said, 404, &["plain not found\n"])
+    ),
+    (b"/publishers/1.svg", 200, &["0 of 0 live requests kept"]),
+    (b"/publishers/2.svg", 502, &["plain no set\n"]),
+    (b"/publishers/4.svg", 404, NOT_FOUND),
+    (b"/publishers/3.svg", 503, SILENT),
+    (b"/publishers/x.svg", 404, NOT_FOUND),
+    (b"/publishers/0", 404, NOT_FOUND),
+];
+
+/// A publisher's picture is of the set that is announced to it; without requests it is empty. Who isn't there has none, and what names an
+/// owner twice is no set.
+#[test]
+fn draws_sets(rt: HostRuntime) -> Result<(), Fail> {
+    let said = unit_said(rt.alloc())?;
+    expect_all(&rt, &said, &PICTURES)
 }
 
 /// Addresses, localhost and the given name are known, with a port or without.

@@ -1,9 +1,15 @@
 //! A source that goes on, odd packets of it, and a source that begins anew.
 
+ghost use Rattle.std.specs.Prelude.{length};
+ghost use Rattle.outside.specs.Outside.{FitsIn};
+
+use crate::expected::same;
 use outside::{ReceiveFault, Received, Source};
 use screening::{Placement, Rules, Screen, Starts};
 use std::alloc::{AllocError, Global};
 use std::cell::Cell;
+use std::fmt::Write;
+use std::process::Abort;
 use std::test::Fail;
 use tmmbr_tuple::Ssrc;
 
@@ -38,20 +44,45 @@ fn starts_of_a_source(rt: HostRuntime) -> Result<(), Fail> {
         assert_eq!(rt; starts.note(1, seq), placement, "{}", seq);
     }
     // Another endpoint has numbers of its own, and one that isn't there has none.
-    assert_eq!(rt; starts.note(0, 20_000), Placement::Near);
-    assert_eq!(rt; starts.note(2, 7), Placement::Near);
-    assert_eq!(rt; starts.note(2, 50_000), Placement::Near);
+    same(&rt, &starts.note(0, 20_000), &Placement::Near);
+    same(&rt, &starts.note(2, 7), &Placement::Near);
+    same(&rt, &starts.note(2, 50_000), &Placement::Near);
     Ok(())
 }
 
-/// A source of datagrams of endpoint 1 in memory.
-#[derive(Drop)]
-struct Listed {
-    datagrams: Vec<Vec<u8>>,
-    next: usize,
+/// A datagram of endpoint 1.
+#[derive(Clone, Copy)]
+enum Cue {
+    /// An RTP packet of the source 16 with this number (RFC 3550, section 5.1).
+    Packet(u16),
+    /// A sender report, a receiver report and a PLI of the source 0x99.
+    OfAnother,
+    /// A receiver report of that source alone.
+    ReportOfAnother,
 }
 
-impl Source for Listed {
+/// A source of these datagrams.
+#[derive(Drop)]
+struct Listed<'a> {
+    cues: &'a [Cue],
+}
+
+/// Writes a datagram of endpoint 1 to the front of a buffer, and says what came: nothing if there is no room for it.
+fn give(out: &mut [u8], bytes: &[u8]) -> Received
+    ensures { FitsIn (length out.new) result }
+{
+    let length = bytes.len();
+    if length > out.len() {
+        return Received::Nothing;
+    }
+    out[..length].copy_from_slice(bytes);
+    Received::Datagram {
+        endpoint: 1,
+        length,
+    }
+}
+
+impl Source for Listed<'_> {
     ghost use Rattle.std.specs.Prelude.{None};
 
     ghost failures = { λ _. 0 };
@@ -59,78 +90,102 @@ impl Source for Listed {
     ghost given = { λ _. None };
 
     fn receive(&mut self, out: &mut [u8]) -> Result<Received, ReceiveFault> {
-        let Some(datagram) = self.datagrams.get(self.next) else {
+        let [cue, rest @ ..] = self.cues else {
             return Ok(Received::Nothing);
         };
-        if datagram.len() > out.len() {
-            return Ok(Received::Nothing);
-        }
-        self.next = self.next.wrapping_add(1);
-        out[..datagram.len()].copy_from_slice(datagram.as_slice());
-        Ok(Received::Datagram {
-            endpoint: 1,
-            length: datagram.len(),
+        let cue = *cue;
+        self.cues = rest;
+        Ok(match cue {
+            Cue::Packet(seq) => give(out, &packet(seq)),
+            Cue::OfAnother => give(out, &OF_ANOTHER),
+            Cue::ReportOfAnother => give(out, &[0x80, 0xc9, 0, 1, 0, 0, 0, 0x99]),
         })
     }
 }
 
-/// An RTP packet of the source 16 (RFC 3550, section 5.1).
-fn packet(alloc: Global, seq: u16) -> Result<Vec<u8>, AllocError> {
+fn packet(seq: u16) -> [u8; 13] {
     let [high, low] = seq.to_be_bytes();
-    [0x80, 0x60, high, low, 0, 0, 0, 0, 0, 0, 0, 16, 0xaa].to_vec(alloc)
+    [0x80, 0x60, high, low, 0, 0, 0, 0, 0, 0, 0, 16, 0xaa]
 }
-
-/// A goodbye of the source 16 (RFC 3550, section 6.6).
-const GOODBYE: [u8; 8] = [0x81, 0xcb, 0, 1, 0, 0, 0, 16];
 
 /// The sources of two endpoints; datagrams come from the second.
 const SOURCES: [Ssrc; 2] = [Ssrc(15), Ssrc(16)];
 
-/// What the next receive gives of endpoint 1.
-fn given<S: Source + Drop>(
-    alloc: Global,
-    screen: &mut Screen<'_, S>,
-) -> Result<Option<Vec<u8>>, Fail> {
+/// Bytes in hexadecimal digits.
+fn hex_of(alloc: Global, bytes: &[u8]) -> Result<String, AllocError> {
+    let mut text = String::new(alloc);
+    for byte in bytes {
+        write!(text, "{byte:02x}")?;
+    }
+    Ok(text)
+}
+
+/// What the next receive gives of endpoint 1, in hexadecimal digits; nothing if it gives nothing.
+fn given(alloc: Global, screen: &mut Screen<'_, Listed<'_>>) -> Result<String, Fail> {
     let mut buffer = [0; 64];
     match screen.receive(&mut buffer)? {
-        Received::Datagram { endpoint, length } => {
-            if endpoint != 1 {
-                return Ok(None);
-            }
-            Ok(Some(buffer[..length].to_vec(alloc)?))
-        }
-        Received::Nothing | Received::Select { .. } | Received::Stop => Ok(None),
+        Received::Datagram {
+            endpoint: 1,
+            length,
+        } => Ok(hex_of(alloc, &buffer[..length])?),
+        _ => Ok(String::new(alloc)),
     }
 }
+
+/// The next receives give these.
+fn gives(
+    rt: &impl Abort,
+    alloc: Global,
+    screen: &mut Screen<'_, Listed<'_>>,
+    wanted: &[&str],
+) -> Result<(), Fail> {
+    for digits in wanted {
+        assert_eq!(rt; given(alloc, screen)?.as_str(), *digits);
+    }
+    Ok(())
+}
+
+/// An odd packet after two that follow each other, and a source that begins anew.
+const ODD: [Cue; 7] = [
+    Cue::Packet(7),
+    Cue::Packet(8),
+    Cue::Packet(20_000),
+    Cue::Packet(9),
+    Cue::Packet(40_000),
+    Cue::Packet(40_001),
+    Cue::Packet(40_002),
+];
+
+/// Two packets, nothing, a packet, and nothing.
+const BEFORE: [&str; 5] = [
+    "806000070000000000000010aa",
+    "806000080000000000000010aa",
+    "",
+    "806000090000000000000010aa",
+    "",
+];
+
+/// A goodbye of the source 16 (RFC 3550, section 6.6), two packets, and nothing.
+const BEHIND: [&str; 4] = [
+    "81cb000100000010",
+    "80609c410000000000000010aa",
+    "80609c420000000000000010aa",
+    "",
+];
 
 /// An odd packet is left out, and the goodbye of a source that begins anew is given before its second packet.
 #[test]
 fn goodbye_before_a_new_start(rt: HostRuntime) -> Result<(), Fail> {
     let alloc = rt.alloc();
-    let mut datagrams = Vec::new(alloc);
-    for seq in [7, 8, 20_000, 9, 40_000, 40_001, 40_002] {
-        datagrams.push(packet(alloc, seq)?)?;
-    }
-    let source = Listed { datagrams, next: 0 };
     let far = Cell::new(0);
     let rules = Rules {
         new_starts: true,
         ..Rules::none()
     };
-    let mut screen = Screen::new(alloc, source, &SOURCES, rules, &far)?;
-    for seq in [7, 8] {
-        assert_eq!(rt; given(alloc, &mut screen)?, Some(packet(alloc, seq)?));
-    }
-    assert_eq!(rt; given(alloc, &mut screen)?, None);
-    assert_eq!(rt; given(alloc, &mut screen)?, Some(packet(alloc, 9)?));
-    assert_eq!(rt; given(alloc, &mut screen)?, None);
+    let mut screen = Screen::new(alloc, Listed { cues: &ODD }, &SOURCES, rules, &far)?;
+    gives(&rt, alloc, &mut screen, &BEFORE)?;
     assert_eq!(rt; far.get(), 2);
-    assert_eq!(rt; given(alloc, &mut screen)?, Some(GOODBYE.to_vec(alloc)?));
-    for seq in [40_001, 40_002] {
-        assert_eq!(rt; given(alloc, &mut screen)?, Some(packet(alloc, seq)?));
-    }
-    assert_eq!(rt; given(alloc, &mut screen)?, None);
-    Ok(())
+    gives(&rt, alloc, &mut screen, &BEHIND)
 }
 
 /// A receiver report and a PLI of the source 0x99, and a sender report of it before them.
@@ -139,28 +194,39 @@ const OF_ANOTHER: [u8; 48] = [
     0x80, 0xc9, 0, 1, 0, 0, 0, 0x99, 0x81, 0xce, 0, 2, 0, 0, 0, 0x99, 0, 0, 1, 1,
 ];
 
+/// Feedback of another source is given so, where the rules about sources are strict or not.
+fn gives_feedback(
+    rt: &impl Abort,
+    alloc: Global,
+    strict_ssrc: bool,
+    wanted: &[&str],
+) -> Result<(), Fail> {
+    let cues = [Cue::OfAnother, Cue::ReportOfAnother];
+    let far = Cell::new(0);
+    let rules = Rules {
+        strict_ssrc,
+        ..Rules::none()
+    };
+    let mut screen = Screen::new(alloc, Listed { cues: &cues }, &SOURCES, rules, &far)?;
+    gives(rt, alloc, &mut screen, wanted)
+}
+
+/// As they came.
+const AS_THEY_CAME: [&str; 2] = [
+    "80c8000600000099000000010000000200000003000000040000000580c900010000009981ce00020000009900000101",
+    "80c9000100000099",
+];
+
+/// The receiver reports and the PLI under source 16.
+const UNDER_16: [&str; 2] = [
+    "80c8000600000099000000010000000200000003000000040000000580c900010000001081ce00020000001000000101",
+    "80c9000100000010",
+];
+
 /// Feedback under a source that a client made up is the endpoint's, but where the rules are strict; what a sender report says is its own.
 /// So is a report of eight bytes that comes alone.
 #[test]
 fn feedback_under_another_source(rt: HostRuntime) -> Result<(), Fail> {
-    let alloc = rt.alloc();
-    for (strict_ssrc, sender) in [(true, 0x99), (false, 16)] {
-        let mut datagrams = Vec::new(alloc);
-        datagrams.push(OF_ANOTHER.to_vec(alloc)?)?;
-        datagrams.push([0x80, 0xc9, 0, 1, 0, 0, 0, 0x99].to_vec(alloc)?)?;
-        let source = Listed { datagrams, next: 0 };
-        let far = Cell::new(0);
-        let rules = Rules {
-            strict_ssrc,
-            ..Rules::none()
-        };
-        let mut screen = Screen::new(alloc, source, &SOURCES, rules, &far)?;
-        let mut wanted = OF_ANOTHER;
-        wanted[35] = sender;
-        wanted[43] = sender;
-        assert_eq!(rt; given(alloc, &mut screen)?, Some(wanted.to_vec(alloc)?));
-        let alone = [0x80, 0xc9, 0, 1, 0, 0, 0, sender];
-        assert_eq!(rt; given(alloc, &mut screen)?, Some(alone.to_vec(alloc)?));
-    }
-    Ok(())
+    gives_feedback(&rt, rt.alloc(), true, &AS_THEY_CAME)?;
+    gives_feedback(&rt, rt.alloc(), false, &UNDER_16)
 }

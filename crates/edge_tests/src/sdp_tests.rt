@@ -1,5 +1,6 @@
 //! Session descriptions word for word.
 
+use crate::expected::same;
 use sdp::{Session, Stream, is_video, payload_type, session_text};
 use std::net::SocketAddr;
 use std::test::Fail;
@@ -7,8 +8,8 @@ use std::test::Fail;
 /// Payload types and clocks (RFC 8866, section 6.6).
 #[test]
 fn reads_encodings(rt: HostRuntime) -> Result<(), Fail> {
-    assert_eq!(rt; payload_type("96 H264/90000"), "96");
-    assert_eq!(rt; payload_type("0"), "0");
+    same(&rt, &payload_type("96 H264/90000"), &"96");
+    same(&rt, &payload_type("0"), &"0");
     assert!(rt; is_video("96 H264/90000"));
     assert!(rt; !is_video("111 opus/48000/2"));
     Ok(())

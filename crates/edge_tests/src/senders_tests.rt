@@ -1,5 +1,6 @@
 //! Who sent what, and when reports are made.
 
+use crate::expected::same;
 use senders::{
     Arrived, Front, Kind, Learners, Listeners, Occupancy, Occupants, Origin, Seat, Senders,
     empty_report, is_control, read_network, says_goodbye, source_named,
@@ -24,14 +25,14 @@ const GOODBYE: [u8; 12] = [0x82, 203, 0, 2, 0, 0, 0, 17, 0, 0, 0, 18];
 #[test]
 fn finds_occupants(rt: HostRuntime) -> Result<(), Fail> {
     let mut there = Occupancy::new(rt.alloc());
-    assert_eq!(rt; there.at(7), None);
+    same(&rt, &there.at(7), &None);
     there.push(7, 1)?;
     there.push(7, 1)?;
     there.push(8, 2)?;
-    assert_eq!(rt; there.at(7), Some(Occupants::Alone(1)));
+    same(&rt, &there.at(7), &Some(Occupants::Alone(1)));
     there.push(7, 2)?;
-    assert_eq!(rt; there.at(7), Some(Occupants::Several));
-    assert_eq!(rt; there.at(8), Some(Occupants::Alone(2)));
+    same(&rt, &there.at(7), &Some(Occupants::Several));
+    same(&rt, &there.at(8), &Some(Occupants::Alone(2)));
     Ok(())
 }
 
@@ -40,11 +41,15 @@ fn finds_occupants(rt: HostRuntime) -> Result<(), Fail> {
 fn names_sources(rt: HostRuntime) -> Result<(), Fail> {
     assert!(rt; !is_control(&MEDIA));
     assert!(rt; is_control(&REPORTS));
-    assert_eq!(rt; source_named(&MEDIA), Some(16));
-    assert_eq!(rt; source_named(&REPORTS), Some(17));
-    assert_eq!(rt; source_named(&MEDIA[..11]), None);
-    assert_eq!(rt; source_named(&[0x80, 203, 0, 0, 0x80, 201, 0, 1]), None);
-    assert_eq!(rt; source_named(&[]), None);
+    same(&rt, &source_named(&MEDIA), &Some(16));
+    same(&rt, &source_named(&REPORTS), &Some(17));
+    same(&rt, &source_named(&MEDIA[..11]), &None);
+    same(
+        &rt,
+        &source_named(&[0x80, 203, 0, 0, 0x80, 201, 0, 1]),
+        &None,
+    );
+    same(&rt, &source_named(&[]), &None);
     Ok(())
 }
 
@@ -57,34 +62,37 @@ fn finds_senders(rt: HostRuntime) -> Result<(), Fail> {
         (origin(6002, 18), 2),
     ];
     let senders = Senders::new(rt.alloc(), &entries)?;
-    assert_eq!(rt; senders.sender(port(6000), Some(16)), Some(0));
-    assert_eq!(rt; senders.sender(port(6000), Some(99)), Some(0));
-    assert_eq!(rt; senders.sender(port(6002), Some(18)), Some(2));
-    assert_eq!(rt; senders.sender(port(6002), Some(99)), None);
-    assert_eq!(rt; senders.sender(port(6001), Some(16)), None);
+    same(&rt, &senders.sender(port(6000), Some(16)), &Some(0));
+    same(&rt, &senders.sender(port(6000), Some(99)), &Some(0));
+    same(&rt, &senders.sender(port(6002), Some(18)), &Some(2));
+    same(&rt, &senders.sender(port(6002), Some(99)), &None);
+    same(&rt, &senders.sender(port(6001), Some(16)), &None);
     let whole = senders.front(port(6000), &REPORTS);
-    assert_eq!(rt;
-        whole,
-        Front {
+    same(
+        &rt,
+        &whole,
+        &Front {
             endpoint: Some(0),
-            length: 16
-        }
+            length: 16,
+        },
     );
     let first = senders.front(port(6002), &REPORTS);
-    assert_eq!(rt;
-        first,
-        Front {
+    same(
+        &rt,
+        &first,
+        &Front {
             endpoint: Some(1),
-            length: 8
-        }
+            length: 8,
+        },
     );
     let second = senders.front(port(6002), &REPORTS[8..]);
-    assert_eq!(rt;
-        second,
-        Front {
+    same(
+        &rt,
+        &second,
+        &Front {
             endpoint: Some(2),
-            length: 8
-        }
+            length: 8,
+        },
     );
     Ok(())
 }
@@ -113,16 +121,16 @@ fn keeps_listeners(rt: HostRuntime) -> Result<(), Fail> {
         (106, None),
     ];
     for (moment, due) in calls {
-        assert_eq!(rt; listeners.report_due(moment), due);
+        same(&rt, &listeners.report_due(moment), &due);
     }
     listeners.heard(2, true);
     listeners.heard(0, true);
     for (moment, due) in [(205, Some(1)), (205, None)] {
-        assert_eq!(rt; listeners.report_due(moment), due);
+        same(&rt, &listeners.report_due(moment), &due);
     }
     listeners.heard(2, false);
     for (moment, due) in [(305, Some(1)), (305, Some(2))] {
-        assert_eq!(rt; listeners.report_due(moment), due);
+        same(&rt, &listeners.report_due(moment), &due);
     }
     Ok(())
 }
@@ -167,23 +175,23 @@ fn reads_networks(rt: HostRuntime) -> Result<(), Fail> {
 #[test]
 fn takes_seats(rt: HostRuntime) -> Result<(), Fail> {
     let empty = Seat::empty();
-    assert_eq!(rt; empty.address(Kind::Rtp), None);
+    same(&rt, &empty.address(Kind::Rtp), &None);
     let Some(first) = empty.claimed(Kind::Rtcp, port(6003), 5, 105) else {
         return Err(Fail::new("a free seat wasn't taken"));
     };
-    assert_eq!(rt; first.address(Kind::Rtp), Some(port(6003)));
+    same(&rt, &first.address(Kind::Rtp), &Some(port(6003)));
     let elsewhere = SocketAddr::new(IpAddr::V4(Ipv4Addr::new(192, 0, 2, 7)), 6002);
-    assert_eq!(rt; first.claimed(Kind::Rtp, elsewhere, 6, 106), None);
+    same(&rt, &first.claimed(Kind::Rtp, elsewhere, 6, 106), &None);
     let Some(both) = first.claimed(Kind::Rtp, port(6002), 6, 106) else {
         return Err(Fail::new("the other port wasn't taken"));
     };
-    assert_eq!(rt; both.address(Kind::Rtp), Some(port(6002)));
-    assert_eq!(rt; both.address(Kind::Rtcp), Some(port(6003)));
-    assert_eq!(rt; both.claimed(Kind::Rtp, port(6004), 105, 205), None);
+    same(&rt, &both.address(Kind::Rtp), &Some(port(6002)));
+    same(&rt, &both.address(Kind::Rtcp), &Some(port(6003)));
+    same(&rt, &both.claimed(Kind::Rtp, port(6004), 105, 205), &None);
     let Some(anew) = both.claimed(Kind::Rtp, elsewhere, 106, 206) else {
         return Err(Fail::new("a free seat wasn't taken"));
     };
-    assert_eq!(rt; anew.address(Kind::Rtcp), Some(elsewhere));
+    same(&rt, &anew.address(Kind::Rtcp), &Some(elsewhere));
     Ok(())
 }
 
@@ -193,18 +201,18 @@ fn learns_addresses(rt: HostRuntime) -> Result<(), Fail> {
     let mut learners = Learners::new(rt.alloc(), 100);
     learners.push_other()?;
     learners.push_learner(1, 17, read_network("127.0.0.0/8"))?;
-    assert_eq!(rt; learners.learner(0), None);
-    assert_eq!(rt; learners.claim(arrived(16, port(6002), 5)), None);
+    same(&rt, &learners.learner(0), &None);
+    same(&rt, &learners.claim(arrived(16, port(6002), 5)), &None);
     let elsewhere = SocketAddr::new(IpAddr::V4(Ipv4Addr::new(192, 0, 2, 7)), 6002);
-    assert_eq!(rt; learners.claim(arrived(17, elsewhere, 5)), None);
+    same(&rt, &learners.claim(arrived(17, elsewhere, 5)), &None);
     let Some((endpoint, seat)) = learners.claim(arrived(17, port(6002), 5)) else {
         return Err(Fail::new("nothing was learned"));
     };
-    assert_eq!(rt; endpoint, 1);
+    same(&rt, &endpoint, &1);
     learners.sit(endpoint, seat);
-    assert_eq!(rt; learners.claim(arrived(17, port(6004), 104)), None);
+    same(&rt, &learners.claim(arrived(17, port(6004), 104)), &None);
     learners.heard(1, 100, false);
-    assert_eq!(rt; learners.claim(arrived(17, port(6004), 199)), None);
+    same(&rt, &learners.claim(arrived(17, port(6004), 199)), &None);
     assert!(rt; learners.claim(arrived(17, port(6004), 200)).is_some());
     learners.heard(1, 150, true);
     assert!(rt; learners.claim(arrived(17, port(6004), 151)).is_some());

@@ -1,5 +1,6 @@
 //! Strangers who come and come again.
 
+use crate::expected::same;
 use std::net::SocketAddr;
 use std::test::Fail;
 use strangers::Strangers;
@@ -14,12 +15,12 @@ fn sixteen_strangers(rt: HostRuntime) -> Result<(), Fail> {
     strangers.note(at(8)?, 30)?;
     let latest = strangers.latest();
     assert_eq!(rt; latest.len(), 16);
-    assert_eq!(rt; latest[0].address, at(8)?);
-    assert_eq!(rt; latest[0].count, 2);
-    assert_eq!(rt; latest[0].moment, 30);
-    assert_eq!(rt; latest[1].address, at(20)?);
-    assert_eq!(rt; latest[1].count, 1);
-    assert_eq!(rt; latest[15].address, at(5)?);
+    same(&rt, &latest[0].address, &at(8)?);
+    same(&rt, &latest[0].count, &2);
+    same(&rt, &latest[0].moment, &30);
+    same(&rt, &latest[1].address, &at(20)?);
+    same(&rt, &latest[1].count, &1);
+    same(&rt, &latest[15].address, &at(5)?);
     Ok(())
 }
 

@@ -1,5 +1,6 @@
 //! Numbers across the wrap, feedback of a compound, what reports say, and what is told of it all.
 
+use crate::expected::{is_text, same};
 use events::{DeskRefusal, Refusal};
 use rtcp_compound::{Block, RtcpFault, write_rr, write_sr};
 use rtp_packet::RtpFault;
@@ -15,13 +16,26 @@ use traffic::{
     push_report_figures,
 };
 
+/// What went out with these numbers, of 100 octets each.
+fn counted(numbers: &[u16]) -> LegCount {
+    let mut count = LegCount::new();
+    for seq in numbers {
+        count = count.with(*seq, 100);
+    }
+    count
+}
+
+const LEG_3: LegLine = LegLine {
+    leg: 3,
+    publisher: 0,
+    subscriber: 12,
+    on: true,
+};
+
 /// Numbers rise across the wrap; what went out before, or is older than the newest, is counted as sent again.
 #[test]
 fn counts_of_a_leg(rt: HostRuntime) -> Result<(), Fail> {
-    let mut count = LegCount::new();
-    for seq in [65_534, 65_535, 0, 65_535, 2, 1, 3] {
-        count = count.with(seq, 100);
-    }
+    let count = counted(&[65_534, 65_535, 0, 65_535, 2, 1, 3]);
     let wanted = LegCount {
         packets: 7,
         octets: 700,
@@ -30,25 +44,14 @@ fn counts_of_a_leg(rt: HostRuntime) -> Result<(), Fail> {
         next: Some(4),
     };
     assert_eq!(rt; count, wanted);
-    let line = LegLine {
-        leg: 3,
-        publisher: 0,
-        subscriber: 12,
-        on: true,
-    };
     let count = LegCount { missed: 5, ..count };
-    let text = leg_line(rt.alloc(), line, Some(9), &count)?;
-    assert_eq!(rt;
-        text.as_str(),
-        "3 from 0 to 12 on stay 9 packets 7 octets 700 resent 2 missed 5 next 4\n"
-    );
-    let line = LegLine { on: false, ..line };
-    let text = leg_line(rt.alloc(), line, None, &LegCount::new())?;
-    assert_eq!(rt;
-        text.as_str(),
-        "3 from 0 to 12 off stay none packets 0 octets 0 resent 0 missed 0 next none\n"
-    );
-    Ok(())
+    let text = leg_line(rt.alloc(), LEG_3, Some(9), &count);
+    let wanted = "3 from 0 to 12 on stay 9 packets 7 octets 700 resent 2 missed 5 next 4\n";
+    is_text(&rt, text, wanted)?;
+    let off = LegLine { on: false, ..LEG_3 };
+    let text = leg_line(rt.alloc(), off, None, &LegCount::new());
+    let wanted = "3 from 0 to 12 off stay none packets 0 octets 0 resent 0 missed 0 next none\n";
+    Ok(is_text(&rt, text, wanted)?)
 }
 
 /// An empty receiver report, a PLI, a NACK and a TMMBR in one compound; half a packet is no compound.
@@ -65,8 +68,8 @@ fn kinds_of_a_compound(rt: HostRuntime) -> Result<(), Fail> {
         tmmbrs: 1,
         tmmbns: 0,
     };
-    assert_eq!(rt; kinds_of(&compound), wanted);
-    assert_eq!(rt; kinds_of(&compound[..15]), Kinds::none());
+    same(&rt, &kinds_of(&compound), &wanted);
+    same(&rt, &kinds_of(&compound[..15]), &Kinds::none());
     Ok(())
 }
 
@@ -148,19 +151,20 @@ fn round_trips(rt: HostRuntime) -> Result<(), Fail> {
         round_trip_ms: Some(6125),
         moment: 46_864_500,
     };
-    assert_eq!(rt; report, wanted);
-    assert_eq!(rt;
-        trip_after(&block, sent_at(u32::MAX), (1 << 32) + 5_999),
-        Some(750)
+    same(&rt, &report, &wanted);
+    same(
+        &rt,
+        &trip_after(&block, sent_at(u32::MAX), (1 << 32) + 5_999),
+        &Some(750),
     );
-    assert_eq!(rt; trip_after(&block, sent_at(1000), 6_249), Some(7));
-    assert_eq!(rt; trip_after(&block, sent_at(1000), 6_250), Some(0));
-    assert_eq!(rt; trip_after(&block, None, 6_250), Some(7));
+    same(&rt, &trip_after(&block, sent_at(1000), 6_249), &Some(7));
+    same(&rt, &trip_after(&block, sent_at(1000), 6_250), &Some(0));
+    same(&rt, &trip_after(&block, None, 6_250), &Some(7));
     let other = block_about(257, 0xb705_2001, 0x0005_4000);
-    assert_eq!(rt; trip_after(&other, sent_at(1000), 9_000), Some(7));
+    same(&rt, &trip_after(&other, sent_at(1000), 9_000), &Some(7));
     let none = block_about(257, 0, 0);
     let sent = Some(SentReport { lsr: 0, moment: 0 });
-    assert_eq!(rt; trip_after(&none, sent, 9_000), Some(7));
+    same(&rt, &trip_after(&none, sent, 9_000), &Some(7));
     Ok(())
 }
 
@@ -168,12 +172,7 @@ fn round_trips(rt: HostRuntime) -> Result<(), Fail> {
 #[test]
 fn lines_of_reports(rt: HostRuntime) -> Result<(), Fail> {
     let alloc = rt.alloc();
-    let line = LegLine {
-        leg: 3,
-        publisher: 0,
-        subscriber: 12,
-        on: false,
-    };
+    let line = LegLine { on: false, ..LEG_3 };
     let report = ReceptionReport {
         fraction: 255,
         lost: -8_388_608,
@@ -181,26 +180,21 @@ fn lines_of_reports(rt: HostRuntime) -> Result<(), Fail> {
         round_trip_ms: None,
         moment: 1000,
     };
-    let text = leg_report_line(alloc, line, &report, 1234)?;
-    assert_eq!(rt;
-        text.as_str(),
-        "leg 3 from 0 to 12 fraction 255 lost -8388608 jitter 4294967295 round_trip_ms none heard 234 ms ago\n"
-    );
+    let text = leg_report_line(alloc, line, &report, 1234);
+    let wanted =
+        "leg 3 from 0 to 12 fraction 255 lost -8388608 jitter 4294967295 round_trip_ms none heard 234 ms ago\n";
+    is_text(&rt, text, wanted)?;
     let report = ReceptionReport {
         round_trip_ms: Some(45),
         ..report
     };
-    let text = leg_report_line(alloc, line, &report, 1000)?;
-    assert_eq!(rt;
-        text.as_str(),
-        "leg 3 from 0 to 12 fraction 255 lost -8388608 jitter 4294967295 round_trip_ms 45 heard 0 ms ago\n"
-    );
-    let text = publisher_report_line(alloc, 7, &report, 3000)?;
-    assert_eq!(rt;
-        text.as_str(),
-        "publisher 7 fraction 255 lost -8388608 jitter 4294967295 sent 2000 ms ago\n"
-    );
-    Ok(())
+    let text = leg_report_line(alloc, line, &report, 1000);
+    let wanted =
+        "leg 3 from 0 to 12 fraction 255 lost -8388608 jitter 4294967295 round_trip_ms 45 heard 0 ms ago\n";
+    is_text(&rt, text, wanted)?;
+    let text = publisher_report_line(alloc, 7, &report, 3000);
+    let wanted = "publisher 7 fraction 255 lost -8388608 jitter 4294967295 sent 2000 ms ago\n";
+    Ok(is_text(&rt, text, wanted)?)
 }
 
 /// A report of the leg or publisher with this number.
@@ -221,9 +215,10 @@ const fn numbered(number: u16, fraction: u8, round_trip_ms: Option<u32>) -> Numb
 #[test]
 fn metrics_of_reports(rt: HostRuntime) -> Result<(), Fail> {
     let report = numbered(0, 1, Some(12_045)).report;
-    assert_eq!(rt;
-        ReportFigure::LegRoundTrip.of(&report),
-        Some(Reading::Milliseconds(12_045))
+    same(
+        &rt,
+        &ReportFigure::LegRoundTrip.of(&report),
+        &Some(Reading::Milliseconds(12_045)),
     );
     let mut text = String::new(rt.alloc());
     let legs = [numbered(4, 255, Some(12_045)), numbered(9, 1, None)];
@@ -233,7 +228,7 @@ fn metrics_of_reports(rt: HostRuntime) -> Result<(), Fail> {
     let of_publishers =
         "# HELP sfu_publisher_reported_loss_ratio The share of packets lost that the unit reported last.\n# TYPE sfu_publisher_reported_loss_ratio gauge\nsfu_publisher_reported_loss_ratio{endpoint=\"0\"} 0.25000000\n# HELP sfu_publisher_reported_lost_packets The packets lost that the unit reported last.\n# TYPE sfu_publisher_reported_lost_packets gauge\nsfu_publisher_reported_lost_packets{endpoint=\"0\"} -3\n# HELP sfu_publisher_reported_jitter_timestamp_units The jitter that the unit reported last.\n# TYPE sfu_publisher_reported_jitter_timestamp_units gauge\nsfu_publisher_reported_jitter_timestamp_units{endpoint=\"0\"} 90\n";
     let wanted = format!(in rt.alloc(); "{of_legs}{of_publishers}")?;
-    assert_eq!(rt; text.as_str(), wanted.as_str());
+    same(&rt, &text.as_str(), &wanted.as_str());
     Ok(())
 }
 
@@ -295,7 +290,7 @@ fn reports_of_a_room(rt: HostRuntime) -> Result<(), Fail> {
     let block = block_of_the_figure();
     let answer = receiver_report(alloc, 17, block)?;
     traffic.heard_reports(2, answer.as_slice());
-    assert_eq!(rt; traffic.leg_report(1), None);
+    same(&rt, &traffic.leg_report(1), &None);
     traffic.heard_reports(1, answer.as_slice());
     let wanted = ReceptionReport {
         fraction: 64,
@@ -304,8 +299,8 @@ fn reports_of_a_room(rt: HostRuntime) -> Result<(), Fail> {
         round_trip_ms: Some(50),
         moment: 6300,
     };
-    assert_eq!(rt; traffic.leg_report(1), Some(wanted));
-    assert_eq!(rt; traffic.leg_report(0), None);
+    same(&rt, &traffic.leg_report(1), &Some(wanted));
+    same(&rt, &traffic.leg_report(0), &None);
     let listed = traffic.leg_reports(alloc)?;
     let of_leg_1 = NumberedReport {
         number: 1,
@@ -314,15 +309,15 @@ fn reports_of_a_room(rt: HostRuntime) -> Result<(), Fail> {
     assert!(rt; listed.as_slice() == [of_leg_1].as_slice());
     let upstream = receiver_report(alloc, 9, block_about(16, 0, 0))?;
     traffic.sent(1, upstream.as_slice());
-    assert_eq!(rt; traffic.publisher_report(1), None);
+    same(&rt, &traffic.publisher_report(1), &None);
     traffic.sent(0, upstream.as_slice());
     let wanted = ReceptionReport {
         round_trip_ms: None,
         ..wanted
     };
-    assert_eq!(rt; traffic.publisher_report(0), Some(wanted));
+    same(&rt, &traffic.publisher_report(0), &Some(wanted));
     let listed = traffic.publisher_reports(alloc)?;
-    assert_eq!(rt; listed.len(), 1);
+    same(&rt, &listed.len(), &1);
     Ok(())
 }
 

@@ -1,5 +1,6 @@
 //! Tables as Linux writes them.
 
+use crate::expected::same;
 use std::test::Fail;
 use udp_table::{address_word, dropped_at};
 
@@ -24,11 +25,11 @@ fn rows_of_an_address(rt: HostRuntime) -> Result<(), Fail> {
             return Err(Fail::from("address"));
         };
         let named = address_word(rt.alloc(), address)?;
-        assert_eq!(rt; named.as_str(), word);
+        same(&rt, &named.as_str(), &word);
         let count = dropped_at(rt.alloc(), TABLE, named.as_bytes())?;
-        assert_eq!(rt; count, dropped);
+        same(&rt, &count, &dropped);
         let count = dropped_at(rt.alloc(), TABLE_6, named.as_bytes())?;
-        assert_eq!(rt; count, dropped_6);
+        same(&rt, &count, &dropped_6);
     }
     Ok(())
 }

@@ -1,8 +1,11 @@
 //! Units that answer, and visitors of each kind.
 
+use crate::expected::same;
+use page::Said;
 use std::alloc::Global;
 use std::hash::RandomState;
 use std::io::{self, ErrorKind, Read, Write};
+use std::process::Abort;
 use std::test::Fail;
 use web::{Inquiry, MAX_VISITORS, Step, Teller, Visitors};
 
@@ -72,33 +75,66 @@ const ALL_BUT_REPORTS: &[&[u8]] = &[
     b"live 2 030d4014\nok\n",
 ];
 
+/// What a unit with these answers has said by a moment, if all was asked.
+fn answered(alloc: Global, answers: &'static [&'static [u8]]) -> Option<Said> {
+    let mut inquiry = Inquiry::new(alloc, fake_unit(answers, false), 0);
+    match inquiry.step(10) {
+        Step::Answered => Some(inquiry.into_said()),
+        _ => None,
+    }
+}
+
+/// The answers, with a line between them, and the publishers of the sets.
+fn write_said(text: &mut String, said: &Said) -> Result<(), Fail> {
+    for part in [
+        &said.metrics,
+        &said.present,
+        &said.legs,
+        &said.counts,
+        &said.reports,
+    ] {
+        text.push_str(str::from_utf8(part.as_slice()).or(Err("no text"))?)?;
+        text.push_str("-\n")?;
+    }
+    for set in &said.sets {
+        write!(text, "set {}\n", set.publisher)?;
+    }
+    Ok(())
+}
+
+/// The same of a unit with these answers.
+fn said_text(alloc: Global, answers: &'static [&'static [u8]]) -> Result<String, Fail> {
+    let mut text = String::new(alloc);
+    let said = answered(alloc, answers).ok_or("no answer")?;
+    write_said(&mut text, &said)?;
+    Ok(text)
+}
+
+/// Whether an inquiry of a unit with these answers, which goes after them or is silent, fails at this moment and not before.
+fn fails_at(alloc: Global, answers: &'static [&'static [u8]], ends: bool, moment: u64) -> bool {
+    let mut inquiry = Inquiry::new(alloc, fake_unit(answers, ends), 0);
+    let goes_on = moment == 1 || matches!(inquiry.step(moment.wrapping_sub(1)), Step::Asking);
+    goes_on && matches!(inquiry.step(moment), Step::Failed)
+}
+
 /// All answers are heard, in pieces, that for the set of the one who is there, too; reports may be unknown. Who refuses, goes, or is silent for
 /// five seconds, has said nothing.
 #[test]
 fn asks_question_by_question(rt: HostRuntime) -> Result<(), Fail> {
     let alloc = rt.alloc();
-    let mut inquiry = Inquiry::new(alloc, fake_unit(ALL, false), 0);
-    assert!(rt; matches!(inquiry.step(10), Step::Answered));
-    let said = inquiry.into_said();
-    assert!(rt; said.metrics.as_slice() == b"x 1\n".as_slice());
-    assert!(rt; said.present.as_slice() == b"0 ssrc 16\n".as_slice());
-    assert!(rt; said.legs.is_empty());
-    assert!(rt; said.counts.as_slice() == b"present 1\n".as_slice());
-    assert!(rt; said.reports.as_slice() == b"leg 0 from 0 to 1\n".as_slice());
-    assert!(rt; said.sets.len() == 1);
-    assert!(rt; matches!(said.sets.first(), Some(set) if set.publisher == 0));
-    let mut silent = Inquiry::new(alloc, fake_unit(&ALL[..2], false), 0);
-    assert!(rt; matches!(silent.step(4_999), Step::Asking));
-    assert!(rt; matches!(silent.step(5_000), Step::Failed));
-    let mut refusing = Inquiry::new(alloc, fake_unit(&[b"refused full\n"], false), 0);
-    assert!(rt; matches!(refusing.step(1), Step::Failed));
-    let mut old = Inquiry::new(alloc, fake_unit(ALL_BUT_REPORTS, false), 0);
-    assert!(rt; matches!(old.step(1), Step::Answered));
-    let said = old.into_said();
-    assert!(rt; said.reports.is_empty());
-    assert!(rt; said.sets.len() == 1);
-    let mut gone = Inquiry::new(alloc, fake_unit(&ALL[..1], true), 0);
-    assert!(rt; matches!(gone.step(1), Step::Failed));
+    same(
+        &rt,
+        &said_text(alloc, ALL)?.as_str(),
+        &"x 1\n-\n0 ssrc 16\n-\n-\npresent 1\n-\nleg 0 from 0 to 1\n-\nset 0\n",
+    );
+    same(
+        &rt,
+        &said_text(alloc, ALL_BUT_REPORTS)?.as_str(),
+        &"x 1\n-\n0 ssrc 16\n-\n-\npresent 1\n-\n-\nset 0\n",
+    );
+    assert!(rt; fails_at(alloc, &ALL[..2], false, 5_000));
+    assert!(rt; fails_at(alloc, &[b"refused full\n"], false, 1));
+    assert!(rt; fails_at(alloc, &ALL[..1], true, 1));
     Ok(())
 }
 
@@ -136,54 +172,44 @@ impl Write for Caller {
     }
 }
 
-/// One who says nothing.
-const fn silent_caller() -> Caller {
-    Caller {
-        says: b"",
-        takes: 0,
-    }
+const fn make_caller(says: &'static [u8], takes: usize) -> Caller {
+    Caller { says, takes }
+}
+
+const ASKED: &[u8] = b"GET /metrics HTTP/1.1\r\nHost: localhost\r\n\r\n";
+
+/// At this moment so many are left.
+fn leaves(
+    rt: &impl Abort,
+    visitors: &mut Visitors<Caller>,
+    teller: &mut Teller,
+    moment: u64,
+    count: usize,
+) {
+    visitors.look(teller, moment);
+    assert_eq!(rt; visitors.count(), count);
 }
 
 /// Who asks and takes the answer is done at once; who asks half, or takes nothing, is let go after ten seconds, and the sixty-fifth takes
 /// the place of the first.
+fn come_and_go(rt: &impl Abort, visitors: &mut Visitors<Caller>, teller: &mut Teller) {
+    visitors.admit(make_caller(ASKED, 10_000), 0);
+    leaves(rt, visitors, teller, 1, 0);
+    visitors.admit(make_caller(ASKED, 10), 0);
+    visitors.admit(make_caller(b"GET /metrics HT", 10_000), 0);
+    leaves(rt, visitors, teller, 9_999, 2);
+    leaves(rt, visitors, teller, 10_000, 0);
+    visitors.admit(make_caller(b"", 0), 0);
+    for _visitor in 0..MAX_VISITORS {
+        visitors.admit(make_caller(b"", 0), 1);
+    }
+    leaves(rt, visitors, teller, 10_000, MAX_VISITORS);
+}
+
 #[test]
 fn waits_for_nobody(rt: HostRuntime) -> Result<(), Fail> {
-    let alloc = rt.alloc();
-    let mut teller = Teller::new(alloc, String::new(alloc));
-    let mut visitors = Visitors::new(alloc, RandomState::new(&rt)?);
-    let asked = b"GET /metrics HTTP/1.1\r\nHost: localhost\r\n\r\n";
-    visitors.admit(
-        Caller {
-            says: asked,
-            takes: 10_000,
-        },
-        0,
-    );
-    visitors.look(&mut teller, 1);
-    assert_eq!(rt; visitors.count(), 0);
-    visitors.admit(
-        Caller {
-            says: asked,
-            takes: 10,
-        },
-        0,
-    );
-    visitors.admit(
-        Caller {
-            says: b"GET /metrics HT",
-            takes: 10_000,
-        },
-        0,
-    );
-    visitors.look(&mut teller, 9_999);
-    assert_eq!(rt; visitors.count(), 2);
-    visitors.look(&mut teller, 10_000);
-    assert_eq!(rt; visitors.count(), 0);
-    visitors.admit(silent_caller(), 0);
-    for _visitor in 0..MAX_VISITORS {
-        visitors.admit(silent_caller(), 1);
-    }
-    visitors.look(&mut teller, 10_000);
-    assert_eq!(rt; visitors.count(), MAX_VISITORS);
+    let mut visitors = Visitors::new(rt.alloc(), RandomState::new(&rt)?);
+    let mut teller = Teller::new(rt.alloc(), String::new(rt.alloc()));
+    come_and_go(&rt, &mut visitors, &mut teller);
     Ok(())
 }

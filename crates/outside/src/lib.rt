@@ -9,8 +9,6 @@ mod datagram;
 mod gate;
 mod sink;
 mod source;
-#[cfg(test)]
-mod tests;
 mod ticks;
 mod watch;
 

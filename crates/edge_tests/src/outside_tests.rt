@@ -1,6 +1,6 @@
 //! When ticks are due, and what nobody does.
 
-use crate::{Gate, Look, Open, Status, Ticks, Unwatched, Watch};
+use outside::{Gate, Look, Open, Status, Ticks, Unwatched, Watch};
 use std::test::Fail;
 
 /// A tick is due at once, then each 10 ms at least; a moment that falls makes none.

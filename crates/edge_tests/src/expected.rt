@@ -1,0 +1,22 @@
+//! What values and texts must be.
+
+use std::alloc::AllocError;
+use std::fmt::Debug;
+use std::process::Abort;
+
+/// Both are the same. An `assert_eq!` is a branch, which costs several times what this call does to prove; where the code after it
+/// relies on what it found, it has to be one all the same.
+pub(crate) fn same<T: PartialEq + Debug>(rt: &impl Abort, left: &T, right: &T) {
+    assert_eq!(rt; *left, *right);
+}
+
+/// The text is there, and is this one.
+pub(crate) fn is_text(
+    rt: &impl Abort,
+    text: Result<String, AllocError>,
+    wanted: &str,
+) -> Result<(), AllocError> {
+    let text = text?;
+    assert_eq!(rt; text.as_str(), wanted);
+    Ok(())
+}
