@@ -1,6 +1,6 @@
 //! `run_command` on streams that hold lists of bytes, or fail.
 use crate::stream::Stream;
-use commands::{ErrorOutput, Status, run_command};
+use commands::{ErrorOutput, Meter, Status, run_command};
 use std::fs::File;
 use std::io::ErrorKind;
 use std::net::Net;

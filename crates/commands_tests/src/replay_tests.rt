@@ -1,7 +1,7 @@
 //! `replay_lines` on streams that hold lists of bytes, or fail.
 use crate::settings_tests::ROOM;
 use crate::stream::Stream;
-use commands::{FileSettings, Shown, Status, read_settings, replay_lines};
+use commands::{FileSettings, Meter, Shown, Status, read_settings, replay_lines};
 use settings::Settings;
 use std::alloc::Global;
 use std::io::ErrorKind;
