@@ -19,7 +19,7 @@ use std::thread;
 use std::time::{Clock, Duration, Instant};
 
 /// So many milliseconds lie between two inquiries.
-const ASK_EACH_MS: u64 = 1_000;
+const ASK_EACH_MS: u64 = 2_000;
 
 /// So many at least for each question that the last one had.
 const QUESTION_EACH_MS: u64 = 40;
