@@ -9,7 +9,7 @@ use commands::{
     ErrorOutput, Meter, Status, explain, report_words, run_ask, run_command, run_recorded, run_sdp,
     run_timed, run_version,
 };
-use record_words::noted_in;
+use record_words::{Noted, noted_in};
 use std::fs::File;
 use std::io::{Read, Write};
 use std::net::Net;
@@ -73,10 +73,14 @@ fn run_words<
     let Ok(Some(noted)) = noted_in(rt.alloc(), words) else {
         return run_command(rt, words, meter, reader, writer, errors);
     };
-    let words = noted.words.as_slice();
-    match noted.record {
-        Some(record) if !noted.log_time => run_recorded(rt, words, record, writer, errors),
-        record => run_timed(rt, words, record, writer, errors),
+    let Noted {
+        record,
+        log_time,
+        words,
+    } = noted;
+    match (record, log_time) {
+        (Some(record), false) => run_recorded(rt, words.as_slice(), record, writer, errors),
+        (record, _) => run_timed(rt, words.as_slice(), record, writer, errors),
     }
 }
 
