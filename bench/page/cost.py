@@ -1,16 +1,18 @@
 #!/usr/bin/env python3
 """What it costs a unit that people and Prometheus look at it.
 
-    bench/page/cost.py SFU FOLDER [--minutes M] [--pairs N] [--page PORT]
+    bench/page/cost.py SFU FOLDER [--minutes M] [--pairs N] [--packets A_SECOND] [--page PORT]
 
-SFU is the built program. Eight publishers send 1,200 bytes of payload each, and everyone sees everyone. N pairs of runs of M minutes all
-in all: in one of a pair headless chromium, if it is there, has the page open, which brings itself up to date each two seconds, and a scraper
-reads `/metrics` each second; in the other nobody looks, and no page runs. The order changes from pair to pair. Said of each run: what the
-unit's process took, user and system, of each datagram that it sent; at the end what being looked at adds. With --page a page that runs
-already, of the control FOLDER/control, is looked at. Ends with status 1 if it adds 3 % or more. By hand: nothing of it is proved.
+SFU is the built program. Eight publishers send so many packets of 1,200 bytes a second each, as a camera at 1.4 Mbit/s does, and everyone
+sees everyone. N pairs of runs of M minutes all in all: in one of a pair headless chromium, if it is there, has the page open, which brings
+itself up to date each two seconds, and a scraper reads `/metrics` each second; in the other nobody looks, and no page runs. The order changes
+from pair to pair. Said of each run: what the unit's process took, all its threads (`/proc/PID/task/*/schedstat`), of each datagram that it
+sent; at the end what being looked at adds. With --page a page that runs already, of the control FOLDER/control, is looked at. Ends with
+status 1 if it adds 3 % or more. By hand: nothing of it is proved.
 """
 
 import argparse
+import glob
 import http.client
 import os
 import shutil
@@ -25,7 +27,6 @@ import time
 
 ENDPOINTS = 8
 PAYLOAD = 1_200
-PACKETS_A_SECOND = 60
 HEAD = """workers = 1
 ring = 512
 history = 1024
@@ -36,7 +37,6 @@ unit_ssrc = 9
 cname = "sfu"
 listen = "127.0.0.1:{unit}"
 """
-TICKS = os.sysconf("SC_CLK_TCK")
 
 
 def free_port(kind):
@@ -60,9 +60,9 @@ def write_settings(path, unit, ports):
 class Load(threading.Thread):
     """Eight who send, and ask each other for rates; what comes to them is left to the system."""
 
-    def __init__(self, unit, sockets):
+    def __init__(self, unit, sockets, packets):
         super().__init__(daemon=True)
-        self.unit, self.sockets, self.ends = unit, sockets, False
+        self.unit, self.sockets, self.packets, self.ends = unit, sockets, packets, False
 
     def run(self):
         number, due = 0, time.monotonic()
@@ -73,7 +73,7 @@ class Load(threading.Thread):
                 if number % 300 == at:
                     it.sendto(self.asks(at), ("127.0.0.1", self.unit))
             number += 1
-            due += 1 / PACKETS_A_SECOND
+            due += 1 / self.packets
             time.sleep(max(0, due - time.monotonic()))
 
     def asks(self, at):
@@ -83,9 +83,11 @@ class Load(threading.Thread):
 
 
 def processor_seconds(pid):
-    with open(f"/proc/{pid}/stat", encoding="ascii") as it:
-        fields = it.read().rsplit(")", 1)[1].split()
-    return (int(fields[11]) + int(fields[12])) / TICKS
+    taken = 0
+    for task in glob.glob(f"/proc/{pid}/task/*/schedstat"):
+        with open(task, encoding="ascii") as it:
+            taken += int(it.read().split()[0])
+    return taken / 1e9
 
 
 def sent(program, control):
@@ -137,7 +139,7 @@ class Lookers:
         return self.scraped.count(200), len(self.scraped)
 
 
-def run(program, folder, seconds, looked_at, page_port):
+def run(program, folder, seconds, packets_a_second, looked_at, page_port):
     """Processor time of the unit for a datagram that it sent, in microseconds."""
     control, settings = f"{folder}/control", f"{folder}/room.toml"
     sockets = []
@@ -151,7 +153,7 @@ def run(program, folder, seconds, looked_at, page_port):
     lookers = None
     try:
         unit.stderr.readline()
-        load = Load(unit_port, sockets)
+        load = Load(unit_port, sockets, packets_a_second)
         load.start()
         if looked_at:
             lookers = Lookers(program, control, page_port)
@@ -161,7 +163,7 @@ def run(program, folder, seconds, looked_at, page_port):
         after, packets = processor_seconds(unit.pid), sent(program, control) - packets
         load.ends = True
         load.join()
-        if packets < seconds * PACKETS_A_SECOND * ENDPOINTS * (ENDPOINTS - 1) / 2:
+        if packets < seconds * packets_a_second * ENDPOINTS * (ENDPOINTS - 1) / 2:
             sys.exit(f"not so: {packets} datagrams in {seconds} s")
         if lookers:
             fine, asked = lookers.leave()
@@ -185,6 +187,7 @@ def main():
     words.add_argument("folder")
     words.add_argument("--minutes", type=float, default=10)
     words.add_argument("--pairs", type=int, default=5)
+    words.add_argument("--packets", type=int, default=150)
     words.add_argument("--page", type=int)
     asked = words.parse_args()
     os.makedirs(asked.folder, exist_ok=True)
@@ -195,7 +198,7 @@ def main():
     for pair in range(asked.pairs):
         cost = {}
         for looked_at in ((False, True) if pair % 2 else (True, False)):
-            cost[looked_at], packets = run(asked.program, asked.folder, seconds, looked_at, asked.page)
+            cost[looked_at], packets = run(asked.program, asked.folder, seconds, asked.packets, looked_at, asked.page)
             print(f"{'looked at' if looked_at else 'alone':9} {cost[looked_at]:.3f} us a datagram, {packets} in {seconds:.0f} s", flush=True)
         added.append(100 * (cost[True] / cost[False] - 1))
         print(f"pair {pair + 1}: {added[-1]:+.2f} %", flush=True)
