@@ -164,17 +164,25 @@ def gst_frames(log):
     return len(re.findall(r"last-message = .?chain ", log))
 
 
+def report_port(port, reports):
+    """From where reports leave: the port where they come, since the unit knows that one; to a relay, from any. Of two sockets of one port the
+    system gives what comes to either, by a hash that changes with each start of the machine."""
+    return f" bind-port={port}" if reports == UNIT + 1 else ""
+
+
 def gst_send(run, codec, frames=FRAMES, rate=RATE, keys=15, reports=UNIT + 1):
     """A publisher with rtpbin: RTP from 46000, reports from and to 46001; a key frame each so many frames."""
     encode = GST_ENCODE[codec].format(keys=keys)
-    gst(run, "publisher", f"rtpbin name=b rtp-profile=avpf videotestsrc is-live=true num-buffers={frames} ! video/x-raw,width=320,height=240,framerate={rate}/1 ! {encode} ssrc={SOURCE} ! b.send_rtp_sink_0 b.send_rtp_src_0 ! udpsink host={HOST} port={UNIT} bind-port=46000 sync=false b.send_rtcp_src_0 ! udpsink host={HOST} port={reports} bind-port=46001 sync=false async=false udpsrc port=46001 reuse=true ! b.recv_rtcp_sink_0")
+    bound = report_port(46001, reports)
+    gst(run, "publisher", f"rtpbin name=b rtp-profile=avpf videotestsrc is-live=true num-buffers={frames} ! video/x-raw,width=320,height=240,framerate={rate}/1 ! {encode} ssrc={SOURCE} ! b.send_rtp_sink_0 b.send_rtp_src_0 ! udpsink host={HOST} port={UNIT} bind-port=46000 sync=false b.send_rtcp_src_0 ! udpsink host={HOST} port={reports}{bound} sync=false async=false udpsrc port=46001 reuse=true ! b.recv_rtcp_sink_0")
 
 
 def gst_receive(run, codec, port, name="receiver", feedback="", reports=UNIT + 1):
     """A receiver with rtpbin: RTP at the port, reports from and to the next."""
     encoding = {"H.264": "H264", "VP8": "VP8"}[codec]
     caps = f"application/x-rtp,media=video,clock-rate=90000,encoding-name={encoding},payload=96{feedback}"
-    gst(run, name, f"rtpbin name=b rtp-profile=avpf do-retransmission=true latency=400 udpsrc port={port} caps={caps} ! b.recv_rtp_sink_0 b. ! {GST_DECODE[codec]} ! fakesink silent=false sync=false b.send_rtcp_src_0 ! udpsink host={HOST} port={reports} bind-port={port + 1} sync=false async=false udpsrc port={port + 1} reuse=true ! b.recv_rtcp_sink_0")
+    bound = report_port(port + 1, reports)
+    gst(run, name, f"rtpbin name=b rtp-profile=avpf do-retransmission=true latency=400 udpsrc port={port} caps={caps} ! b.recv_rtp_sink_0 b. ! {GST_DECODE[codec]} ! fakesink silent=false sync=false b.send_rtcp_src_0 ! udpsink host={HOST} port={reports}{bound} sync=false async=false udpsrc port={port + 1} reuse=true ! b.recv_rtcp_sink_0")
 
 
 class Lossy(threading.Thread):
