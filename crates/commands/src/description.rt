@@ -4,9 +4,9 @@ ghost use Rattle.std.specs.Prelude.{◌≢◌, ◌≡◌};
 ghost use Rattle.std.specs.Io.KnownBytes.{Keeps};
 
 use crate::command::served_in;
+use addressing::{Location, ServedSettings};
 use endings::{Status, report_settings, say, say_no_memory};
 use sdp::{Session, Stream, session_text};
-use serving::{Location, ServedSettings};
 use settings::LegSettings;
 use settings_text::{Place, SettingsProblem, problem_at};
 use std::alloc::{AllocError, Global};

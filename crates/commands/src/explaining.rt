@@ -1,8 +1,8 @@
 //! What is said to people beside the line that scripts read, where a command had no settings or no socket.
 
+use addressing::{ServedSettings, read_served};
 use advice::{bind_advice, file_advice, settings_advice};
 use endings::Status;
-use serving::{ServedSettings, read_served};
 use settings_text::read_settings;
 use std::alloc::{AllocError, Global};
 use std::convert::AsStr;

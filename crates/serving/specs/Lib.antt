@@ -1,6 +1,2 @@
-pub mod Clients
-pub mod Goodbyes
 pub mod ReportText
 pub mod Serving
-pub mod ServedFile
-pub mod Sockets

@@ -10,6 +10,8 @@ use Rattle.serving.specs.declared.serve_fault.ServeFault.{ServeFault}
 use Rattle.serving.specs.declared.serve_fault.ServeFault.TheVariants.{NoMemory, Socket}
 use Rattle.one_thread.specs.declared.driver.DriveFault.{DriveFault}
 use Rattle.one_thread.specs.declared.driver.DriveFault.TheVariants as drive_fault
+use Rattle.operating.specs.declared.courier.CourierFault.{CourierFault}
+use Rattle.operating.specs.declared.courier.CourierFault.TheVariants as courier_fault
 use Rattle.workers.specs.declared.fault.UnitFault.{UnitFault}
 use Rattle.workers.specs.declared.fault.UnitFault.TheVariants as unit_fault
 use Rattle.endings.specs.declared.status.Status.{Status}
@@ -24,6 +26,11 @@ serve_fault_of fault = Socket
 abbrev pub drive_fault_of : DriveFault → ServeFault
 drive_fault_of drive_fault.NoMemory = NoMemory
 drive_fault_of drive_fault.Receive = Socket
+
+-- the same of a thread that was to write its lines of counts
+abbrev pub courier_fault_of : CourierFault → ServeFault
+courier_fault_of courier_fault.NoMemory = NoMemory
+courier_fault_of courier_fault.System = Socket
 
 -- where the unit isn't served to its end for its socket and its threads, nothing was printed
 abbrev pub FailsServe : Option (List ℕ) → Option (List ℕ) → ServeFault → Type 0

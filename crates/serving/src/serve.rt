@@ -2,31 +2,19 @@
 
 ghost use Rattle.std.specs.Prelude.{◌≡◌, Option, None, MatchResult, length, string_bytes, IfErr, IfOk, OnOk};
 ghost use Rattle.std.specs.Io.KnownBytes.{Appends};
-ghost use Rattle.settings.specs.Settings.{IsInRange};
-ghost use Rattle.rate_desk.specs.Gathered.{AreDesksOf};
 ghost use Rattle.serving.specs.ReportText.{PrintsReport, report_text};
 ghost use Rattle.endings.specs.Endings.{SaysWhy};
 ghost use Rattle.serving.specs.Serving.{EndsServe, FailsServe, FailsToStart, SaysFault, SaysWhyServing, serving_line};
 
-use crate::arrivals::Arrivals;
-use crate::clients::Client;
-use crate::control_heard::ControlHeard;
-use crate::directory::Directory;
-use crate::drops::watch_drops;
-use crate::gauges::Gauges;
-use crate::goodbyes::say_goodbyes;
-use crate::lines::{ErrorOutput, Lines, TimedLines};
-use crate::recorded::{RecordedClock, RecordedSource};
 use crate::report_text::report_text;
+use crate::running::run_on;
 use crate::serve_fault::ServeFault;
-use crate::served_file::ServedSettings;
-use crate::socket::{RunClock, SocketSink, SocketSource, Sockets, socket_sinks};
-use crate::status_lines::StatusLines;
-use crate::steered::{SteeredSource, SteeredWatch};
+use addressing::{Client, ServedSettings};
 use endings::{Status, say, say_no_memory, unsaid};
-use one_thread::run_one_thread;
-use screening::{Rules, Screen};
+use operating::{ErrorOutput, Gauges, Lines, StatusLines, TimedLines};
+use screening::Rules;
 use settings::Settings;
+use sockets::{Sockets, watch_drops};
 use std::alloc::{AllocError, Global};
 use std::fs::File;
 use std::io::{self, Write};
@@ -35,12 +23,7 @@ use std::rt::Files;
 use std::sync::Wait;
 use std::thread::Threads;
 use std::time;
-use traffic::Traffic;
-use workers::{Open, Outside, Pace, Report, Unwatched, Watch, run_watched};
-
-/// How far the unit's moment rises at least between two ticks, in milliseconds. A desk records the moment at each, so that it lives
-/// for months.
-pub(crate) const TICK_MS: u64 = 10;
+use workers::{Report, Unwatched};
 
 /// How long the unit is served, and how often it says how it goes.
 #[derive(Clone, Copy, Debug, PartialEq, Eq)]
@@ -240,7 +223,7 @@ fn serve_lined<
                 lines.finish(rt);
                 ended(served, errors)
             }
-            Err(fault) => say_fault(errors, fault),
+            Err(fault) => say_fault(errors, ServeFault::from(fault)),
         },
         None => {
             let served = serve_socket(
@@ -336,267 +319,4 @@ fn print_report<O: Write>(
     let text = report_text(alloc, settings.endpoints(), report)?;
     writer.write_all(text.as_bytes())?;
     Ok(())
-}
-
-/// Runs the unit on the sockets for so many turns: in this thread if there is one worker, else with a thread for each. If somebody has it
-/// stopped, each endpoint that is present is sent a goodbye of the unit and of the legs to it (`goodbye_of`), which isn't counted in the
-/// report.
-pub fn run_on<R: AllocGlobal + Threads + Wait + Sync + time::Clock, W: Watch + Drop>(
-    rt: &R,
-    sockets: Sockets<'_>,
-    settings: &Settings,
-    clients: &[Client],
-    rules: Rules,
-    turns: u64,
-    gauges: &Gauges,
-    watch: W,
-) -> Result<Report, ServeFault>
-    ensures report { IfOk result (λ r. AreDesksOf settings.now.pli_gap_ms settings.now.request_ms
-        (length settings.now.endpoints) r.desks.items) }
-    ensures range { IfOk result (λ _. IsInRange settings.now) }
-{
-    if !sockets.waits_a_little() {
-        return Err(ServeFault::Socket);
-    }
-    let alloc = rt.alloc();
-    let common = Common::new(alloc, settings, clients)?;
-    let source = source_on(alloc, sockets, settings, clients, rules, gauges, &common)?;
-    let ends = Ends {
-        sockets,
-        common: &common,
-        source,
-    };
-    let report = run_by_workers(rt, ends, settings, turns, gauges, watch)?;
-    leave(alloc, sockets, settings, gauges, &common);
-    Ok(report)
-}
-
-/// What all threads of a run look at: where endpoints are, and what came and went; and what the receiving one keeps through a turn.
-#[derive(Drop)]
-struct Common {
-    directory: Directory,
-    traffic: Traffic,
-    control: ControlHeard,
-}
-
-impl Common {
-    /// Those of a run that begins.
-    fn new(alloc: Global, settings: &Settings, clients: &[Client]) -> Result<Common, AllocError> {
-        Ok(Common {
-            directory: Directory::new(alloc, clients)?,
-            traffic: Traffic::new(alloc, settings)?,
-            control: ControlHeard::new(alloc)?,
-        })
-    }
-}
-
-/// What comes to the sockets, screened by these rules.
-fn source_on<'a>(
-    alloc: Global,
-    sockets: Sockets<'a>,
-    settings: &'a Settings,
-    clients: &'a [Client],
-    rules: Rules,
-    gauges: &'a Gauges,
-    common: &'a Common,
-) -> Result<Screen<'a, SocketSource<'a>>, ServeFault> {
-    let Ok(listening) = sockets.listening() else {
-        return Err(ServeFault::Socket);
-    };
-    let Common {
-        directory,
-        traffic,
-        ..
-    } = common;
-    let flood_limit = rules.flood_limit;
-    let arrivals = Arrivals::new(
-        alloc,
-        listening,
-        settings,
-        clients,
-        flood_limit,
-        directory,
-        gauges,
-        traffic,
-    )?;
-    let source = SocketSource::new(sockets, arrivals, gauges);
-    let screen = Screen::new(alloc, source, settings.endpoints(), rules, &gauges.far)?;
-    let screen = screen.bounding(alloc, settings, &gauges.moment_ms, &gauges.held)?;
-    Ok(screen)
-}
-
-/// Says goodbye to who was present when somebody had the unit stopped.
-fn leave(
-    alloc: Global,
-    sockets: Sockets<'_>,
-    settings: &Settings,
-    gauges: &Gauges,
-    common: &Common,
-) {
-    if let Some(present) = gauges.present_at_stop() {
-        let mut sink = SocketSink::new(sockets, &common.directory, &common.traffic);
-        say_goodbyes(alloc, settings, present.as_slice(), &mut sink);
-    }
-}
-
-/// Runs the unit over these ends: in this thread if there is one worker, else with a thread for each.
-fn run_by_workers<R: AllocGlobal + Threads + Wait + Sync + time::Clock, W: Watch + Drop>(
-    rt: &R,
-    ends: Ends<'_>,
-    settings: &Settings,
-    turns: u64,
-    gauges: &Gauges,
-    watch: W,
-) -> Result<Report, ServeFault>
-    ensures report { IfOk result (λ r. AreDesksOf settings.now.pli_gap_ms settings.now.request_ms
-        (length settings.now.endpoints) r.desks.items) }
-    ensures range { IfOk result (λ _. IsInRange settings.now) }
-{
-    if settings.workers() == 1 {
-        run_in_this_thread(rt, ends, settings, turns, gauges, watch)
-    } else {
-        run_on_threads(rt, ends, settings, turns, gauges, watch)
-    }
-}
-
-/// Where datagrams come from and go to.
-#[derive(Drop)]
-struct Ends<'a> {
-    sockets: Sockets<'a>,
-    common: &'a Common,
-    source: Screen<'a, SocketSource<'a>>,
-}
-
-/// Runs the machine itself: what it gives out for what comes to the sockets goes out there.
-fn run_in_this_thread<R: AllocGlobal + time::Clock, W: Watch + Drop>(
-    rt: &R,
-    ends: Ends<'_>,
-    settings: &Settings,
-    turns: u64,
-    gauges: &Gauges,
-    watch: W,
-) -> Result<Report, ServeFault>
-    requires { settings.now.workers ≡ 1 }
-    ensures { IfOk result (λ r. AreDesksOf settings.now.pli_gap_ms settings.now.request_ms
-        (length settings.now.endpoints) r.desks.items) }
-{
-    let Ends {
-        sockets,
-        common,
-        source,
-    } = ends;
-    let Common {
-        directory,
-        traffic,
-        control,
-    } = common;
-    let source = SteeredSource { source, gauges };
-    let mut source = RecordedSource {
-        source,
-        gauges,
-        control,
-    };
-    let mut sink = SocketSink::new(sockets, directory, traffic);
-    let clock = RunClock::new(rt, &gauges.moment_ms);
-    let mut clock = RecordedClock {
-        clock,
-        gauges,
-        control,
-        traffic,
-    };
-    let mut watch = SteeredWatch {
-        watch,
-        gauges,
-        traffic,
-    };
-    let pace = one_thread::Pace {
-        turns,
-        tick_ms: TICK_MS,
-    };
-    match run_one_thread(
-        rt.alloc(),
-        settings,
-        &mut source,
-        &mut sink,
-        &mut clock,
-        &mut watch,
-        pace,
-    ) {
-        Ok(report) => Ok(report_of(report)),
-        Err(fault) => Err(ServeFault::from(fault)),
-    }
-}
-
-/// What a run in one thread came to; no job is ever lost or dropped there.
-fn report_of(report: one_thread::Report) -> Report
-    ensures desks { result.desks ≡ report.desks }
-    ensures counts { (result.heard ≡ report.counts.heard) × (result.sent ≡ report.counts.sent)
-        × (result.failed ≡ report.counts.failed) }
-    ensures none { (result.lost ≡ 0) × (result.dropped ≡ 0) }
-{
-    let one_thread::Report { counts, desks } = report;
-    Report {
-        heard: counts.heard,
-        sent: counts.sent,
-        failed: counts.failed,
-        lost: 0,
-        dropped: 0,
-        desks,
-    }
-}
-
-/// Runs the unit with a thread for each worker.
-fn run_on_threads<R: AllocGlobal + Threads + Wait + Sync + time::Clock, W: Watch + Drop>(
-    rt: &R,
-    ends: Ends<'_>,
-    settings: &Settings,
-    turns: u64,
-    gauges: &Gauges,
-    watch: W,
-) -> Result<Report, ServeFault>
-    ensures report { IfOk result (λ r. AreDesksOf settings.now.pli_gap_ms settings.now.request_ms
-        (length settings.now.endpoints) r.desks.items) }
-    ensures range { IfOk result (λ _. IsInRange settings.now) }
-{
-    let alloc = rt.alloc();
-    let count = settings.workers() as usize + 1;
-    let Ends {
-        sockets,
-        common,
-        source,
-    } = ends;
-    let Common {
-        directory,
-        traffic,
-        control,
-    } = common;
-    let source = SteeredSource { source, gauges };
-    let clock = RunClock::new(rt, &gauges.moment_ms);
-    let outside = Outside {
-        source: RecordedSource {
-            source,
-            gauges,
-            control,
-        },
-        sinks: socket_sinks(alloc, sockets, directory, traffic, count)?,
-        clock: RecordedClock {
-            clock,
-            gauges,
-            control,
-            traffic,
-        },
-        watch: SteeredWatch {
-            watch,
-            gauges,
-            traffic,
-        },
-    };
-    let pace = Pace {
-        turns,
-        pulse_ms: TICK_MS,
-    };
-    match run_watched(rt, alloc, settings, outside, &Open, pace) {
-        Ok(report) => Ok(report),
-        Err(fault) => Err(ServeFault::from(fault)),
-    }
 }

@@ -1,6 +1,7 @@
 //! Why a unit isn't served, or not to its end.
 
 use one_thread::DriveFault;
+use operating::CourierFault;
 use std::alloc::AllocError;
 use std::io;
 use thiserror::Error;
@@ -70,6 +71,20 @@ impl From<DriveFault> for ServeFault {
         match fault {
             DriveFault::NoMemory => ServeFault::NoMemory,
             DriveFault::Receive => ServeFault::Socket,
+        }
+    }
+}
+
+impl From<CourierFault> for ServeFault {
+    ghost use Rattle.std.specs.Prelude.{◌≡◌};
+    ghost use Rattle.serving.specs.Serving.{courier_fault_of};
+
+    ghost from_gives = { λ fault e. e ≡ courier_fault_of fault };
+
+    fn from(fault: CourierFault) -> ServeFault {
+        match fault {
+            CourierFault::NoMemory => ServeFault::NoMemory,
+            CourierFault::System => ServeFault::Socket,
         }
     }
 }

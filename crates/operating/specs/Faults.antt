@@ -1,0 +1,18 @@
+-- What a fault of one part is to the part above it.
+use Rattle.operating.specs.declared.control_socket.ControlFault.{ControlFault}
+use Rattle.operating.specs.declared.control_socket.ControlFault.TheVariants as control
+use Rattle.operating.specs.declared.courier.CourierFault.{CourierFault}
+use Rattle.operating.specs.declared.courier.CourierFault.TheVariants as courier
+use Rattle.operating.specs.declared.record_file.RecordFault.{RecordFault}
+use Rattle.operating.specs.declared.record_file.RecordFault.TheVariants as record_fault
+
+-- why a unit isn't recorded, if the thread that writes can't be had
+abbrev pub record_fault_of : CourierFault → RecordFault
+record_fault_of courier.NoMemory = record_fault.NoMemory
+record_fault_of courier.System = record_fault.Failed
+
+-- why it isn't steered, if what records it can't be had
+abbrev pub control_fault_of : RecordFault → ControlFault
+control_fault_of record_fault.NoMemory = control.NoMemory
+control_fault_of record_fault.Exists = control.Failed
+control_fault_of record_fault.Failed = control.Failed

@@ -1,0 +1,154 @@
+//! The Unix socket of a unit's control.
+
+use crate::gauges::Gauges;
+use crate::record_file::{RecordFault, idle_record};
+use crate::steering::{Listed, Steering};
+use addressing::{Location, ServedSettings};
+use settings::Settings;
+use std::alloc::{AllocError, Global};
+use std::fs::{self, Permissions};
+use std::io::ErrorKind;
+use std::net::{IpAddr, Ipv4Addr, Ipv6Addr, Net, SocketAddr};
+use std::os::unix::fs::{FileTypeExt, PermissionsExt};
+use std::os::unix::net::{UnixListener, UnixStream};
+use std::rt::Files;
+use std::thread::Threads;
+use std::time;
+use traffic::LegLine;
+
+/// Only its owner may connect to the socket.
+const MODE: u32 = 0o600;
+
+/// Why a unit can't be steered at a path.
+#[derive(Clone, Copy, Debug, PartialEq, Eq)]
+pub enum ControlFault {
+    /// Somebody listens there, or the file there is no socket.
+    InUse,
+    /// The system doesn't let a socket be there.
+    Failed,
+    NoMemory,
+}
+
+impl From<RecordFault> for ControlFault {
+    ghost use Rattle.std.specs.Prelude.{◌≡◌};
+    ghost use Rattle.operating.specs.Faults.{control_fault_of};
+
+    ghost from_gives = { λ fault e. e ≡ control_fault_of fault };
+
+    fn from(fault: RecordFault) -> ControlFault {
+        match fault {
+            RecordFault::NoMemory => ControlFault::NoMemory,
+            RecordFault::Exists | RecordFault::Failed => ControlFault::Failed,
+        }
+    }
+}
+
+/// Listens at the path, for a unit of these settings, which come from a file with this SHA-256. A socket file that a dead unit left is
+/// replaced.
+pub fn open_control<R: AllocGlobal + Files + Net + Threads + time::Clock>(
+    rt: &R,
+    path: &str,
+    file: &ServedSettings,
+    digest: &[u8],
+) -> Result<Gauges, ControlFault> {
+    let Ok(endpoints) = listed(rt.alloc(), file) else {
+        return Err(ControlFault::NoMemory);
+    };
+    let listener = listen(rt, path)?;
+    let Ok(legs) = legs_of(rt.alloc(), &file.settings) else {
+        return Err(ControlFault::NoMemory);
+    };
+    let recorder = idle_record(rt, digest)?;
+    match Steering::new(rt.alloc(), listener, legs, endpoints) {
+        Ok(steering) => Ok(Gauges::steered(steering, recorder)),
+        Err(_) => Err(ControlFault::NoMemory),
+    }
+}
+
+/// Takes the socket's file away, once the unit has ended.
+pub fn close_control<R: Files>(rt: &R, path: &str) {
+    let _ = fs::remove_file(rt, path);
+}
+
+/// The endpoints as peers are told of them.
+fn listed(alloc: Global, file: &ServedSettings) -> Result<Vec<Listed>, AllocError> {
+    let mut all = Vec::new(alloc);
+    for (source, client) in file.settings.endpoints().iter().zip(file.clients.iter()) {
+        all.push(Listed {
+            source: *source,
+            address: address_at_first(client.location, file.listen.media),
+        })?;
+    }
+    Ok(all)
+}
+
+/// The legs as peers are told of them, as they are selected at the start.
+fn legs_of(alloc: Global, settings: &Settings) -> Result<Vec<LegLine>, AllocError> {
+    let mut all = Vec::new(alloc);
+    for (number, leg) in settings.legs().iter().enumerate() {
+        all.push(LegLine {
+            leg: u16::try_from(number).unwrap_or(u16::MAX),
+            publisher: leg.publisher,
+            subscriber: leg.subscriber,
+            on: leg.on,
+        })?;
+    }
+    Ok(all)
+}
+
+/// Where a client is before anything came: where its address is learned, no host's of the version that the unit listens with.
+fn address_at_first(location: Location, listen: SocketAddr) -> SocketAddr {
+    match location {
+        Location::Fixed(addresses) => addresses.media,
+        Location::Learned(_) => {
+            let nobody = if listen.is_ipv4() {
+                IpAddr::V4(Ipv4Addr::UNSPECIFIED)
+            } else {
+                IpAddr::V6(Ipv6Addr::UNSPECIFIED)
+            };
+            SocketAddr::new(nobody, 0)
+        }
+    }
+}
+
+/// A listener at the path that waits for nobody, for its owner alone.
+fn listen<R: Files + Net>(rt: &R, path: &str) -> Result<UnixListener, ControlFault> {
+    let listener = bind(rt, path)?;
+    let mode = Permissions::from_mode(MODE);
+    if fs::set_permissions(rt, path, mode).is_err() || listener.set_nonblocking(true).is_err() {
+        return Err(ControlFault::Failed);
+    }
+    Ok(listener)
+}
+
+/// A listener at the path.
+fn bind<R: Files + Net>(rt: &R, path: &str) -> Result<UnixListener, ControlFault> {
+    match UnixListener::bind(rt, path) {
+        Ok(listener) => Ok(listener),
+        Err(error) if error.kind() == ErrorKind::AddrInUse => {
+            if !is_left(rt, path) {
+                return Err(ControlFault::InUse);
+            }
+            close_control(rt, path);
+            match UnixListener::bind(rt, path) {
+                Ok(listener) => Ok(listener),
+                Err(_) => Err(ControlFault::Failed),
+            }
+        }
+        Err(_) => Err(ControlFault::Failed),
+    }
+}
+
+/// Whether the file at the path is a socket where nobody listens any more.
+fn is_left<R: Files + Net>(rt: &R, path: &str) -> bool {
+    let Ok(found) = fs::symlink_metadata(rt, path) else {
+        return false;
+    };
+    if !found.file_type().is_socket() {
+        return false;
+    }
+    match UnixStream::connect(rt, path) {
+        Ok(_) => false,
+        Err(error) => error.kind() == ErrorKind::ConnectionRefused,
+    }
+}

@@ -1,0 +1,223 @@
+//! What a run shows while it goes on, who steers it, and who records it.
+
+use crate::recorder::Recorder;
+use crate::steering::{Steering, Wish};
+use control::{Screened, Unheard};
+use outside::{Look, Received, Status};
+use recording::End;
+use std::alloc::Global;
+use std::cell::{Cell, RefCell, RefMut};
+use std::net::SocketAddr;
+use std::sync::Arc;
+use std::sync::atomic::{AtomicU64, Ordering};
+use std::thread::Threads;
+
+/// How far the unit's moment rises at least between two ticks, in milliseconds. A desk records the moment at each, so that it lives
+/// for months.
+pub const TICK_MS: u64 = 10;
+
+/// What a source and a clock show of a run while it goes on.
+#[derive(Drop)]
+pub struct Gauges {
+    /// How many datagrams, or packets of one, came from nobody; they are let go.
+    pub strangers: Cell<u64>,
+    /// How many packets were far from the highest number of their source, and weren't heard.
+    pub far: Cell<u64>,
+    /// How many packets that were asked for again were held back.
+    pub held: Cell<u64>,
+    /// How many datagrams came beyond the limit of their endpoint and millisecond, and weren't heard.
+    pub flooded: Cell<u64>,
+    /// How many milliseconds went by since the run began, at the last turn.
+    pub moment_ms: Cell<u64>,
+    /// Whether lines of counts begin with the time.
+    pub log_time: Cell<bool>,
+    /// Whether what was received last is a report that was made in the name of an endpoint that only listens.
+    pub made: Cell<bool>,
+    /// One more than what the system dropped at the sockets, and 0 while that isn't known; nothing if nobody looks.
+    unread: RefCell<Option<Arc<AtomicU64, Global>>>,
+    /// Who steers the run, if anybody may.
+    steering: Option<RefCell<Steering>>,
+    /// Who records the run, if anybody does.
+    recorder: Option<RefCell<Recorder>>,
+}
+
+impl Gauges {
+    /// Those of a run that begins.
+    pub fn new() -> Gauges {
+        Gauges {
+            strangers: Cell::new(0),
+            far: Cell::new(0),
+            held: Cell::new(0),
+            flooded: Cell::new(0),
+            moment_ms: Cell::new(0),
+            log_time: Cell::new(false),
+            made: Cell::new(false),
+            unread: RefCell::new(None),
+            steering: None,
+            recorder: None,
+        }
+    }
+
+    /// Those of a run that begins, and is steered; it is recorded once a peer wants it.
+    pub(crate) fn steered(steering: Steering, recorder: Recorder) -> Gauges {
+        let mut gauges = Gauges::new();
+        gauges.steering = Some(RefCell::new(steering));
+        gauges.recorded(recorder)
+    }
+
+    /// The same, of a run that is recorded.
+    pub fn recorded(self, recorder: Recorder) -> Gauges {
+        let mut gauges = self;
+        gauges.recorder = Some(RefCell::new(recorder));
+        gauges
+    }
+
+    /// Who records the run.
+    pub(crate) fn recorder(&self) -> Option<RefMut<'_, Recorder>> {
+        let Some(recorder) = &self.recorder else {
+            return None;
+        };
+        recorder.try_borrow_mut().ok()
+    }
+
+    /// How many bytes were recorded of the run, and why the record ended, if it did; `None` if nobody wanted one.
+    pub(crate) fn record_state(&self) -> Option<(u64, Option<End>)> {
+        let recorder = self.recorder()?;
+        recorder.state()
+    }
+
+    /// The run has ended, and so has its record.
+    pub(crate) fn finish<R: Threads>(self, rt: &R) {
+        let Gauges { recorder, .. } = self;
+        if let Some(recorder) = recorder {
+            recorder.into_inner().finish(rt);
+        }
+    }
+
+    /// Whether the run is being recorded.
+    fn is_recorded(&self) -> bool {
+        match self.recorder() {
+            Some(recorder) => recorder.is_on(),
+            None => false,
+        }
+    }
+
+    /// Who steers the run.
+    pub(crate) fn steering(&self) -> Option<RefMut<'_, Steering>> {
+        let Some(steering) = &self.steering else {
+            return None;
+        };
+        steering.try_borrow_mut().ok()
+    }
+
+    /// The endpoint is at this address by now, as was learned.
+    pub fn show_moved(&self, endpoint: u16, address: SocketAddr) {
+        if let Some(mut steering) = self.steering() {
+            steering.show_moved(endpoint, address);
+        }
+    }
+
+    /// What peers want of the unit by now. What they want of its record is done here.
+    pub(crate) fn wished(&self) -> Received {
+        let (moment, is_recorded) = (self.moment_ms.get(), self.is_recorded());
+        let Some(mut steering) = self.steering() else {
+            return Received::Nothing;
+        };
+        match steering.receive(moment, is_recorded) {
+            Wish::Unit(received) => return received,
+            Wish::Record(peer) => {
+                if let Some(mut recorder) = self.recorder() {
+                    recorder.begin_for(peer, moment, steering.switched().as_slice());
+                }
+            }
+            Wish::EndRecord => {
+                if let Some(mut recorder) = self.recorder() {
+                    recorder.end();
+                }
+            }
+        }
+        Received::Nothing
+    }
+
+    /// Whether somebody waits for the totals.
+    pub(crate) fn wants_counts(&self) -> bool {
+        match self.steering() {
+            Some(steering) => steering.wants_counts(),
+            None => false,
+        }
+    }
+
+    /// What the system dropped is shown there from now on.
+    pub fn show_unread(&self, unread: Arc<AtomicU64, Global>) {
+        if let Ok(mut place) = self.unread.try_borrow_mut() {
+            *place = Some(unread);
+        }
+    }
+
+    /// What the system dropped at the sockets, in datagrams, if that is known.
+    fn unread(&self) -> Option<u64> {
+        let Ok(place) = self.unread.try_borrow() else {
+            return None;
+        };
+        let Some(unread) = &*place else {
+            return None;
+        };
+        unread.load(Ordering::SeqCst).checked_sub(1)
+    }
+
+    /// What came by now and wasn't heard.
+    pub(crate) fn unheard(&self) -> Unheard {
+        Unheard {
+            strangers: self.strangers.get(),
+            unread: self.unread(),
+        }
+    }
+
+    /// What came by now and was kept from the machine.
+    pub(crate) fn screened(&self) -> Screened {
+        Screened {
+            far: self.far.get(),
+            held: self.held.get(),
+            flooded: self.flooded.get(),
+        }
+    }
+
+    /// A datagram of this endpoint came beyond the limit.
+    pub fn count_flooded(&self, endpoint: u16) {
+        self.flooded.set(self.flooded.get().saturating_add(1));
+        if let Some(mut steering) = self.steering() {
+            steering.note_flooded(endpoint);
+        }
+    }
+
+    /// A datagram, or a packet of one, came from nobody, at this address.
+    pub fn count_stranger(&self, from: SocketAddr) {
+        self.strangers.set(self.strangers.get().saturating_add(1));
+        if let Some(mut steering) = self.steering() {
+            steering.note_stranger(from, self.moment_ms.get());
+        }
+    }
+
+    /// The totals are shown to who waits for them.
+    pub(crate) fn show_counts(&self, status: &Status) {
+        if let Some(mut steering) = self.steering() {
+            if steering.wants_counts() {
+                steering.show_counts(status, &self.unheard(), &self.screened());
+            }
+        }
+    }
+
+    /// What somebody wants to see of the room.
+    pub(crate) fn look(&self) -> Look {
+        match self.steering() {
+            Some(steering) => steering.look(),
+            None => Look::Nothing,
+        }
+    }
+
+    /// Which endpoints were present when somebody had the unit stopped, by their numbers; `None` if nobody did.
+    pub fn present_at_stop(&self) -> Option<Vec<bool>> {
+        let mut steering = self.steering()?;
+        steering.take_present()
+    }
+}

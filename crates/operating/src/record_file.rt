@@ -1,0 +1,144 @@
+//! Where a record goes: to a file, or to who asked for it. A thread of its own writes it.
+
+use crate::courier::{CourierFault, start_courier};
+use crate::gauges::{Gauges, TICK_MS};
+use crate::recorder::Recorder;
+use recording::{Header, header_text};
+use std::fs::{File, OpenOptions};
+use std::io::{self, ErrorKind, Write};
+use std::net::Net;
+use std::os::unix::fs::OpenOptionsExt;
+use std::os::unix::net::UnixStream;
+use std::rt::Files;
+use std::thread::Threads;
+use std::time::{self, SystemTime};
+
+/// Only its owner may read the file.
+const MODE: u32 = 0o600;
+
+/// So many blocks may wait for the disk. With one of 64 KB each that are 64 MB.
+const BLOCKS: usize = 1024;
+
+/// The version of the program that a record names.
+const VERSION: &str = "0.1.0";
+
+/// Why a unit isn't recorded in a file.
+#[derive(Clone, Copy, Debug, PartialEq, Eq)]
+pub enum RecordFault {
+    /// A file is there already.
+    Exists,
+    /// The system doesn't let a file be there, or has no thread for it.
+    Failed,
+    NoMemory,
+}
+
+/// Where a record is written.
+#[derive(Drop)]
+pub(crate) enum Scroll {
+    /// Nobody wants one.
+    Nobody,
+    File(File),
+    /// Who asked for it by the control.
+    Peer(UnixStream),
+}
+
+impl Write for Scroll {
+    fn write(&mut self, buf: &[u8]) -> io::Result<usize> {
+        match self {
+            Scroll::Nobody => Ok(buf.len()),
+            Scroll::File(file) => file.write(buf),
+            Scroll::Peer(stream) => stream.write(buf),
+        }
+    }
+
+    fn flush(&mut self) -> io::Result<()> {
+        match self {
+            Scroll::Nobody => Ok(()),
+            Scroll::File(file) => file.flush(),
+            Scroll::Peer(stream) => stream.flush(),
+        }
+    }
+}
+
+/// Makes a file at the path, which isn't there yet, and records there what a unit takes in, at most so many bytes. The settings that the
+/// unit has come from a file with this SHA-256.
+pub fn open_record<R: AllocGlobal + Files<File = File> + Net + Threads + time::Clock>(
+    rt: &R,
+    path: &str,
+    limit: u64,
+    settings: &[u8],
+) -> Result<Recorder, RecordFault> {
+    let head = head_of(rt, settings)?;
+    let file = create(rt, path)?;
+    let (outlet, thread) = start_courier(rt, BLOCKS, Scroll::File(file))?;
+    let mut recorder = Recorder::new(rt.alloc(), TICK_MS, head, outlet, thread);
+    recorder.begin(limit);
+    Ok(recorder)
+}
+
+/// Waits until somebody wants what a unit takes in. The settings that the unit has come from a file with this SHA-256.
+pub(crate) fn idle_record<R: AllocGlobal + Net + Threads + time::Clock>(
+    rt: &R,
+    settings: &[u8],
+) -> Result<Recorder, RecordFault> {
+    let head = head_of(rt, settings)?;
+    let (outlet, thread) = start_courier(rt, BLOCKS, Scroll::Nobody)?;
+    Ok(Recorder::new(rt.alloc(), TICK_MS, head, outlet, thread))
+}
+
+impl From<CourierFault> for RecordFault {
+    ghost use Rattle.std.specs.Prelude.{◌≡◌};
+    ghost use Rattle.operating.specs.Faults.{record_fault_of};
+
+    ghost from_gives = { λ fault e. e ≡ record_fault_of fault };
+
+    fn from(fault: CourierFault) -> RecordFault {
+        match fault {
+            CourierFault::NoMemory => RecordFault::NoMemory,
+            CourierFault::System => RecordFault::Failed,
+        }
+    }
+}
+
+/// The head of a record of a unit that begins now.
+fn head_of<R: AllocGlobal + time::Clock>(rt: &R, settings: &[u8]) -> Result<String, RecordFault> {
+    let header = Header {
+        version: VERSION,
+        settings,
+        began_ms: unix_ms(rt),
+    };
+    match header_text(rt.alloc(), &header) {
+        Ok(head) => Ok(head),
+        Err(_) => Err(RecordFault::NoMemory),
+    }
+}
+
+/// Ends the record of a unit that has ended, once all of it is written.
+pub fn close_record<R: Threads>(rt: &R, gauges: Gauges) {
+    gauges.finish(rt);
+}
+
+/// What the wall clock says, in milliseconds since the beginning of 1970; 0 where it says nothing, or an earlier time.
+fn unix_ms<R: time::Clock>(rt: &R) -> u64 {
+    let Ok(now) = SystemTime::now(rt) else {
+        return 0;
+    };
+    match now.duration_since(SystemTime::UNIX_EPOCH) {
+        Ok(since) => u64::try_from(since.as_millis()).unwrap_or(0),
+        Err(_) => 0,
+    }
+}
+
+/// A new file at the path, for its owner alone.
+fn create<R: Files<File = File>>(rt: &R, path: &str) -> Result<File, RecordFault> {
+    let opened = OpenOptions::new()
+        .write(true)
+        .create_new(true)
+        .mode(MODE)
+        .open(rt, path);
+    match opened {
+        Ok(file) => Ok(file),
+        Err(error) if error.kind() == ErrorKind::AlreadyExists => Err(RecordFault::Exists),
+        Err(_) => Err(RecordFault::Failed),
+    }
+}

@@ -1,0 +1,2 @@
+pub mod Goodbyes
+pub mod Sockets

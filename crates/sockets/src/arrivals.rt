@@ -1,0 +1,254 @@
+//! What came to the unit's sockets: who sent it, and what of it is heard by itself.
+
+ghost use Rattle.std.specs.Prelude.{◌≤◌, length, IfSome};
+
+use addressing::{
+    Client, Directory, Listening, is_reachable, learners_of, listeners_of, senders_of,
+};
+use operating::Gauges;
+use outside::MAX_DATAGRAM;
+use screening::Floods;
+use senders::{
+    Arrived, Kind, Learners, Listeners, Seat, Senders, empty_report, is_control, says_goodbye,
+    source_named,
+};
+use settings::Settings;
+use std::alloc::{AllocError, Global};
+use std::net::SocketAddr;
+use tmmbr_tuple::Ssrc;
+use traffic::Traffic;
+
+/// What came and isn't heard yet, who sent it, and for whom reports are made.
+#[derive(Drop)]
+pub struct Arrivals<'a> {
+    alloc: Global,
+    listening: Listening,
+    senders: Senders,
+    learners: Learners,
+    /// Where threads that send see what is learned.
+    directory: &'a Directory,
+    /// The source and the client of each endpoint, by its number.
+    sources: &'a [Ssrc],
+    clients: &'a [Client],
+    gauges: &'a Gauges,
+    traffic: &'a Traffic,
+    listeners: Listeners,
+    /// How many datagrams of each endpoint came.
+    floods: Floods,
+    rest: Rest,
+}
+
+/// The packets of a datagram behind those that were heard.
+#[derive(Drop)]
+struct Rest {
+    bytes: Vec<u8>,
+    /// How many of its bytes were heard.
+    heard: usize,
+    /// Where the datagram came from.
+    from: Option<SocketAddr>,
+}
+
+impl<'a> Arrivals<'a> {
+    /// Nothing came yet to a unit that listens there, with these settings and these clients. So many datagrams of one endpoint will be
+    /// heard in a millisecond; any number where that is 0.
+    pub fn new(
+        alloc: Global,
+        listening: Listening,
+        settings: &'a Settings,
+        clients: &'a [Client],
+        flood_limit: u32,
+        directory: &'a Directory,
+        gauges: &'a Gauges,
+        traffic: &'a Traffic,
+    ) -> Result<Arrivals<'a>, AllocError> {
+        let sources = settings.endpoints();
+        let learners = learners_of(alloc, sources, clients, settings.timeout_ms())?;
+        Ok(Arrivals {
+            alloc,
+            listening,
+            senders: senders_of(alloc, sources, clients, &learners)?,
+            learners,
+            directory,
+            sources,
+            clients,
+            gauges,
+            traffic,
+            listeners: listeners_of(alloc, clients, settings.timeout_ms())?,
+            floods: Floods::new(alloc, sources.len(), flood_limit)?,
+            rest: Rest {
+                bytes: Vec::with_capacity(alloc, MAX_DATAGRAM)?,
+                heard: 0,
+                from: None,
+            },
+        })
+    }
+
+    /// What is to be heard before anything that comes: the rest of a datagram, or a report in the name of an endpoint that only
+    /// listens. It is written to the beginning of `out`; its endpoint, and its length in bytes.
+    pub fn waiting(&mut self, out: &mut [u8]) -> Option<(u16, usize)>
+        ensures { IfSome result (λ heard. heard.1 ≤ length out.new) }
+    {
+        match self.rest_heard(out) {
+            Some(heard) => Some(heard),
+            None => self.report_made(out),
+        }
+    }
+
+    /// What is heard of a datagram that came from this address and is the beginning of `out`, so many bytes: its endpoint, and how
+    /// many of them. The rest is kept. `None` where a stranger sent it, or more than may come in a millisecond came of its endpoint before;
+    /// both are counted.
+    pub fn heard(&mut self, from: SocketAddr, size: usize, out: &[u8]) -> Option<(u16, usize)>
+        requires { size ≤ length out.now }
+        ensures { IfSome result (λ heard. heard.1 ≤ length out.now) }
+    {
+        let datagram = &out[..size];
+        self.learn(from, datagram);
+        let front = self.senders.front(from, datagram);
+        if !self.admits(front.endpoint) {
+            return None;
+        }
+        if front.length < datagram.len() {
+            self.keep(from, &datagram[front.length..]);
+        }
+        let endpoint = self.endpoint_or_stranger(from, front.endpoint)?;
+        self.note(endpoint, &datagram[..front.length]);
+        Some((endpoint, front.length))
+    }
+
+    /// Whether a datagram of this endpoint, or of a stranger, is looked at; if not, it is counted.
+    fn admits(&mut self, endpoint: Option<u16>) -> bool {
+        let Some(endpoint) = endpoint else {
+            return true;
+        };
+        let is_heard = self.floods.admit(endpoint, self.gauges.moment_ms.get());
+        if !is_heard {
+            self.gauges.count_flooded(endpoint);
+        }
+        is_heard
+    }
+
+    /// Learns the address of an endpoint from a datagram with its source, if it learns, and nobody else has its seat.
+    fn learn(&mut self, from: SocketAddr, datagram: &[u8]) {
+        let arrived = Arrived {
+            source: source_named(datagram),
+            kind: self.kind_of(datagram),
+            from,
+            moment: self.gauges.moment_ms.get(),
+        };
+        let Some((endpoint, seat)) = self.learners.claim(arrived) else {
+            return;
+        };
+        let Some(learner) = self.learners.learner(endpoint) else {
+            return;
+        };
+        let before = learner.seat;
+        if before.rtp == seat.rtp && before.rtcp == seat.rtcp {
+            self.learners.sit(endpoint, seat);
+        } else if is_reachable(self.listening, from) {
+            self.move_to(endpoint, seat, before);
+        }
+    }
+
+    /// An endpoint is at this seat from now on. Where memory is wanting, or a thread looks at its seat just now, it stays where it was
+    /// and is learned from a later datagram.
+    fn move_to(&mut self, endpoint: u16, seat: Seat, before: Seat) {
+        self.learners.sit(endpoint, seat);
+        match senders_of(self.alloc, self.sources, self.clients, &self.learners) {
+            Ok(senders) if self.directory.sit(endpoint, seat) => {
+                self.senders = senders;
+                if let Some(address) = seat.address(Kind::Rtp) {
+                    self.gauges.show_moved(endpoint, address);
+                }
+            }
+            _ => self.learners.sit(endpoint, before),
+        }
+    }
+
+    /// What goes to one address and comes from it: RTCP, where it has a port of its own; else all is of one kind.
+    fn kind_of(&self, datagram: &[u8]) -> Kind {
+        if self.listening.rtcp.is_some() && is_control(datagram) {
+            Kind::Rtcp
+        } else {
+            Kind::Rtp
+        }
+    }
+
+    /// Keeps the rest of a datagram.
+    fn keep(&mut self, from: SocketAddr, bytes: &[u8]) {
+        self.rest.bytes.clear();
+        self.rest.heard = 0;
+        self.rest.from = Some(from);
+        let _ = self.rest.bytes.extend_from_slice(bytes);
+    }
+
+    /// What is heard of the rest of a datagram. Packets of strangers are counted, and passed over one in a call.
+    fn rest_heard(&mut self, out: &mut [u8]) -> Option<(u16, usize)>
+        ensures { IfSome result (λ heard. heard.1 ≤ length out.new) }
+    {
+        let from = self.rest.from?;
+        let Some(datagram) = self.rest.bytes.as_slice().get(self.rest.heard..) else {
+            self.rest.from = None;
+            return None;
+        };
+        if datagram.is_empty() {
+            self.rest.from = None;
+            return None;
+        }
+        let front = self.senders.front(from, datagram);
+        let packet = &datagram[..front.length];
+        let length = written(packet, out)?;
+        self.rest.heard = self.rest.heard.saturating_add(front.length);
+        let endpoint = self.endpoint_or_stranger(from, front.endpoint)?;
+        self.note(endpoint, &out[..length]);
+        Some((endpoint, length))
+    }
+
+    /// The report that is due in the name of an endpoint that only listens.
+    fn report_made(&mut self, out: &mut [u8]) -> Option<(u16, usize)>
+        ensures { IfSome result (λ heard. heard.1 ≤ length out.new) }
+    {
+        let number = self.listeners.report_due(self.gauges.moment_ms.get())?;
+        let endpoint = u16::try_from(number).ok()?;
+        let source = self.sources.get(number).copied()?;
+        let length = written(&empty_report(source), out)?;
+        self.gauges.made.set(true);
+        Some((endpoint, length))
+    }
+
+    /// The endpoint; a stranger, who came from this address, is counted.
+    fn endpoint_or_stranger(&self, from: SocketAddr, endpoint: Option<u16>) -> Option<u16> {
+        if endpoint.is_none() {
+            self.gauges.count_stranger(from);
+        }
+        endpoint
+    }
+
+    /// Counts what came from the endpoint, and notes that it was heard if it only listens or its address is learned.
+    fn note(&mut self, endpoint: u16, datagram: &[u8]) {
+        self.traffic
+            .heard(endpoint, datagram, self.gauges.moment_ms.get());
+        let number = usize::from(endpoint);
+        let only_listens = self.listeners.only_listens(number);
+        let learns = self.learners.learner(endpoint).is_some();
+        if !only_listens && !learns {
+            return;
+        }
+        if let Some(source) = self.sources.get(number).copied() {
+            let is_goodbye = is_control(datagram) && says_goodbye(datagram, source);
+            self.listeners.heard(number, is_goodbye);
+            let moment = self.gauges.moment_ms.get();
+            self.learners.heard(endpoint, moment, is_goodbye);
+        }
+    }
+}
+
+/// Writes bytes to the beginning of `out`, and says how many; nothing where there is no room.
+fn written(bytes: &[u8], out: &mut [u8]) -> Option<usize>
+    ensures { IfSome result (λ written. written ≤ length out.new) }
+{
+    if out.len() < bytes.len() {
+        return None;
+    }
+    out[..bytes.len()].copy_from_slice(bytes);
+    Some(bytes.len())
+}
