@@ -70,9 +70,18 @@ fn run_words<
     writer: &mut O,
     errors: &mut E,
 ) -> Status {
-    let Ok(Some(noted)) = noted_in(rt.alloc(), words) else {
-        return run_command(rt, words, meter, reader, writer, errors);
-    };
+    match noted_in(rt.alloc(), words) {
+        Ok(Some(noted)) => run_noted(rt, noted, writer, errors),
+        Ok(None) | Err(_) => run_command(rt, words, meter, reader, writer, errors),
+    }
+}
+
+/// Runs the unit that the words ask for, and writes down of it what they say.
+fn run_noted<
+    R: AllocGlobal + ErrorOutput + Files<File = File> + Net + Threads + Wait + Sync + Clock,
+    O: Write,
+    E: Write,
+>(rt: &R, noted: Noted<'_>, writer: &mut O, errors: &mut E) -> Status {
     let Noted {
         record,
         log_time,
