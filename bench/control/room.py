@@ -156,8 +156,8 @@ def play(program, workers, folder):
         wants("what was never sent", [it for it in received(subscriber) if not is_rtcp(it)], [])
         sent = TURNS * PACKETS + 1
         legs = [re.sub(r" stay \d+ ", " stay S ", it) for it in ask(program, path, "legs").splitlines()]
-        wants("leg 0", legs[0], f"0 from 0 to 1 on stay S packets {sent} octets {sent * PAYLOAD} resent 1 missed 1 next {last + 1}")
-        wants("leg 1", legs[1], "1 from 0 to 2 on stay none packets 0 octets 0 resent 0 missed 0 next none")
+        wants("leg 0", legs[0], f"0 from 0 to 1 on stay S packets {sent} octets {sent * PAYLOAD} resent 1 missed 1 next {last + 1} skipped 0")
+        wants("leg 1", legs[1], "1 from 0 to 2 on stay none packets 0 octets 0 resent 0 missed 0 next none skipped 0")
         # a packet of version 1 is refused (RFC 3550, section 5.1), and so is a PLI about a source that is no leg's
         subscriber.sendto(struct.pack("!BBHII", 0x40, 96, 7, 3000, 17), unit_at)
         for _ in range(2):

@@ -41,16 +41,23 @@ fn counts_of_a_leg(rt: HostRuntime) -> Result<(), Fail> {
         octets: 700,
         resent: 2,
         missed: 0,
+        skipped: 0,
         next: Some(4),
     };
     assert_eq!(rt; count, wanted);
-    let count = LegCount { missed: 5, ..count };
+    let count = LegCount {
+        missed: 5,
+        skipped: 6,
+        ..count
+    };
     let text = leg_line(rt.alloc(), LEG_3, Some(9), &count);
-    let wanted = "3 from 0 to 12 on stay 9 packets 7 octets 700 resent 2 missed 5 next 4\n";
+    let wanted =
+        "3 from 0 to 12 on stay 9 packets 7 octets 700 resent 2 missed 5 next 4 skipped 6\n";
     is_text(&rt, text, wanted)?;
     let off = LegLine { on: false, ..LEG_3 };
     let text = leg_line(rt.alloc(), off, None, &LegCount::new());
-    let wanted = "3 from 0 to 12 off stay none packets 0 octets 0 resent 0 missed 0 next none\n";
+    let wanted =
+        "3 from 0 to 12 off stay none packets 0 octets 0 resent 0 missed 0 next none skipped 0\n";
     Ok(is_text(&rt, text, wanted)?)
 }
 

@@ -47,7 +47,10 @@ fn give_planned<S: Sink>(legs: &Legs, planned: &Planned, sink: &mut S, done: &mu
             None => {}
         },
         Planned::Report { endpoint, bytes } => hand_over(sink, *endpoint, bytes.as_slice(), done),
-        Planned::Skip { .. } => done.skipped += 1,
+        Planned::Skip { leg, .. } => {
+            sink.skipped(*leg);
+            done.skipped += 1;
+        }
         Planned::Miss { leg, .. } => {
             sink.missed(*leg);
             done.missed += 1;
@@ -64,7 +67,10 @@ fn give<S: Sink>(out: &Out, sink: &mut S, done: &mut Forwarded)
 {
     match out {
         Out::Send { endpoint, bytes } => hand_over(sink, *endpoint, bytes.as_slice(), done),
-        Out::Skip { .. } => done.skipped += 1,
+        Out::Skip { leg, .. } => {
+            sink.skipped(*leg);
+            done.skipped += 1;
+        }
         Out::Miss { leg, .. } => {
             sink.missed(*leg);
             done.missed += 1;

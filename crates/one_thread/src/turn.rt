@@ -228,7 +228,7 @@ fn hand_over<S: Sink>(sink: &mut S, endpoint: u16, bytes: &[u8], tally: &mut Tal
     }
 }
 
-/// Hands what the machine gave out to the sink, where it is a datagram; tells it a miss, and what was refused of whose datagram.
+/// Hands what the machine gave out to the sink, where it is a datagram; tells it a miss and a skip, and what was refused of whose datagram.
 #[tactic(auto, using(crate::proofs::TurnLemmas::hands_none))]
 fn give<S: Sink>(out: &Out, endpoint: Option<u16>, sink: &mut S, tally: &mut Tally)
     ensures { Hands (out.now ∷ []) (S.shown sink.old) (S.shown sink.new) tally.old tally.new }
@@ -236,8 +236,9 @@ fn give<S: Sink>(out: &Out, endpoint: Option<u16>, sink: &mut S, tally: &mut Tal
     match out {
         Out::Send { endpoint, bytes } => hand_over(sink, *endpoint, bytes.as_slice(), tally),
         Out::Miss { leg, .. } => sink.missed(*leg),
+        Out::Skip { leg, .. } => sink.skipped(*leg),
         Out::Refused(refusal) => sink.refused(endpoint, *refusal),
-        Out::Busy | Out::Lost(_) | Out::Skip { .. } | Out::Idle => {}
+        Out::Busy | Out::Lost(_) | Out::Idle => {}
     }
 }
 

@@ -172,11 +172,13 @@ impl Clock for Moved<'_> {
     }
 }
 
-/// A sink whose first send fails. It keeps the legs of packets that were asked for again in vain, and what was refused.
+/// A sink whose first send fails. It keeps the legs of packets that were asked for again in vain, and of those that weren't sent on,
+/// and what was refused.
 #[derive(Debug, Drop)]
 pub(super) struct Shaky {
     pub(super) failures: u64,
     pub(super) missed: Vec<u16>,
+    pub(super) skipped: Vec<u16>,
     pub(super) refused: Vec<(Option<u16>, Refusal)>,
 }
 
@@ -195,6 +197,10 @@ impl Sink for Shaky {
 
     fn missed(&mut self, leg: u16) {
         let _ = self.missed.push(leg);
+    }
+
+    fn skipped(&mut self, leg: u16) {
+        let _ = self.skipped.push(leg);
     }
 
     fn refused(&mut self, endpoint: Option<u16>, refusal: Refusal) {

@@ -16,13 +16,13 @@ use std::alloc::{AllocError, Global};
 use std::cell::Cell;
 use std::test::Fail;
 
-/// Both come, three packets are sent on, and one that never was is asked for again; then comes what is no packet, and a leg that isn't
-/// there is selected.
+/// Both come, three packets are sent on, one from before them isn't, and one that never was is asked for again; then comes what is no
+/// packet, and a leg that isn't there is selected.
 fn arrivals(alloc: Global) -> Result<Vec<Arrival>, AllocError> {
     let mut arrivals = Vec::new(alloc);
     arrivals.push(Arrival::Datagram(0, receiver_report(alloc, 16)?))?;
     arrivals.push(Arrival::Datagram(1, receiver_report(alloc, 17)?))?;
-    for seq in 7..10 {
+    for seq in [7, 8, 9, 6] {
         arrivals.push(Arrival::Datagram(0, media_packet(alloc, 16, seq)?))?;
     }
     arrivals.push(Arrival::Datagram(1, resend_request(alloc, 17, 5)?))?;
@@ -44,7 +44,7 @@ fn looker(alloc: Global) -> Result<Looker, AllocError> {
     })
 }
 
-/// Runs nine turns, whose receives take 10 ms each, and the last of which brings nothing. The first leg is to who never comes.
+/// Runs ten turns, whose receives take 10 ms each, and the last of which brings nothing. The first leg is to who never comes.
 fn run_watched(alloc: Global, sink: &mut Shaky, watch: &mut Looker) -> Result<bool, Fail> {
     let sources = [Some(16), Some(17), Some(18)];
     let settings = settings_with(alloc, &sources, &[(2, 258), (1, 257)])?;
@@ -62,14 +62,14 @@ fn run_watched(alloc: Global, sink: &mut Shaky, watch: &mut Looker) -> Result<bo
     };
     let mut clock = Moved { now: &now };
     let pace = Pace {
-        turns: 9,
+        turns: 10,
         tick_ms: 10,
     };
     let ran = run_one_thread(alloc, &settings, &mut source, sink, &mut clock, watch, pace);
     Ok(ran.is_ok())
 }
 
-/// The moment of a turn is that after its receive; its totals have what the turn itself did; a miss is told of its leg, and a refusal of
+/// The moment of a turn is that after its receive; its totals have what the turn itself did; a miss and a skip are told of their leg, and a refusal of
 /// whose datagram it is; of each endpoint it is shown whether it is present, of each leg its stay, a desk if it is there; and each look ends.
 #[test]
 fn shows_what_each_turn_came_to(rt: HostRuntime) -> Result<(), Fail> {
@@ -78,6 +78,7 @@ fn shows_what_each_turn_came_to(rt: HostRuntime) -> Result<(), Fail> {
     let mut sink = Shaky {
         failures: 0,
         missed: Vec::new(alloc),
+        skipped: Vec::new(alloc),
         refused: Vec::new(alloc),
     };
     assert!(rt; run_watched(alloc, &mut sink, &mut watch)?);
@@ -89,8 +90,9 @@ fn shows_what_each_turn_came_to(rt: HostRuntime) -> Result<(), Fail> {
         (50, 2, 5, 2, 1),
         (60, 2, 6, 2, 1),
         (70, 2, 7, 2, 1),
-        (80, 2, 7, 2, 1),
-        (90, 2, 7, 2, 1),
+        (80, 2, 8, 2, 1),
+        (90, 2, 8, 2, 1),
+        (100, 2, 8, 2, 1),
     ];
     assert_eq!(rt; watch.totals.len(), wanted.len());
     for ((moment, status), wanted) in watch.totals.iter().zip(wanted) {
@@ -107,6 +109,7 @@ fn shows_what_each_turn_came_to(rt: HostRuntime) -> Result<(), Fail> {
         assert_eq!(rt; (status.lost, status.dropped), (0, 0));
     }
     assert!(rt; sink.missed.as_slice() == [1].as_slice());
+    assert!(rt; sink.skipped.as_slice() == [1].as_slice());
     let refused = [
         (Some(1), Refusal::Rtp(RtpFault::Version)),
         (None, Refusal::Room(RoomFault::UnknownLeg)),

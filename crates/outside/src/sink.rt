@@ -29,6 +29,11 @@ pub trait Sink {
         ensures { shown self.new ≡ shown self.old }
     {}
 
+    /// A packet isn't sent on on the leg with this number: it is too old for it, or the leg's numbers are spent. Nothing is sent.
+    fn skipped(&mut self, _leg: u16)
+        ensures { shown self.new ≡ shown self.old }
+    {}
+
     /// Something was refused: of a datagram of the endpoint with this number, or of none, where it is `None`. Nothing is sent.
     fn refused(&mut self, _endpoint: Option<u16>, _refusal: Refusal)
         ensures { shown self.new ≡ shown self.old }

@@ -123,7 +123,7 @@ fn wanted_lines(
     stranger: &UdpSocket,
 ) -> Result<String, Fail> {
     let text = format!(in alloc;
-        "0 from 0 to 2 on stay none packets 0 octets 0 resent 0 missed 0 next none\n1 from 0 to 1 on stay 1 packets 2 octets 4 resent 0 missed 1 next 102\nok\n0 ssrc 16 at {} present heard \n1 ssrc 17 at {} present heard \n2 ssrc 18 at {} absent never heard refused 0\nok\n84cd00040000001000000000000000110007d028\nkept 17 0007d028 pair \nok\n84cd00020000001100000000\nok\npresent 2 heard 7 sent 4 failed 0 lost 0 dropped 0 strangers 1\nfar 0 held 0 flooded 0\nok\n{} datagrams 1 heard \nok\nendpoint 1 rtp 2 times 1: an RTP packet of another version than 2\nendpoint 1 room 3 times 1: no such leg, or no stay on it\nok\nok\n0 from 0 to 2 off stay none \n1 from 0 to 1 on stay 1 \nok\nok\n",
+        "0 from 0 to 2 on stay none packets 0 octets 0 resent 0 missed 0 next none skipped 0\n1 from 0 to 1 on stay 1 packets 2 octets 4 resent 0 missed 1 next 102 skipped 1\nok\n0 ssrc 16 at {} present heard \n1 ssrc 17 at {} present heard \n2 ssrc 18 at {} absent never heard refused 0\nok\n84cd00040000001000000000000000110007d028\nkept 17 0007d028 pair \nok\n84cd00020000001100000000\nok\npresent 2 heard 8 sent 4 failed 0 lost 0 dropped 0 strangers 1\nfar 0 held 0 flooded 0\nok\n{} datagrams 1 heard \nok\nendpoint 1 rtp 2 times 1: an RTP packet of another version than 2\nendpoint 1 room 3 times 1: no such leg, or no stay on it\nok\nok\n0 from 0 to 2 off stay none \n1 from 0 to 1 on stay 1 \nok\nok\n",
         room.publisher.local_addr()?,
         room.subscriber.local_addr()?,
         absent.local_addr()?,
@@ -218,8 +218,8 @@ fn assert_left(
 }
 
 /// A unit of so many workers at this path. Before the peers ask, the subscriber comes, asks for a rate and for a packet that
-/// was never sent, sends a packet of version 1, and asks for a picture of a source that it isn't sent; the publisher sends two packets,
-/// and a stranger one.
+/// was never sent, sends a packet of version 1, and asks for a picture of a source that it isn't sent; the publisher sends two packets and
+/// one from before them, and a stranger one.
 fn assert_steered(
     rt: &(impl Abort + AllocGlobal + Files + Net + Threads + Wait + Sync + Clock),
     path: &str,
@@ -241,7 +241,12 @@ fn assert_steered(
     room.send(
         alloc,
         &room.publisher,
-        [MEDIA_16, "8060000800000bb800000010aabb"].as_slice(),
+        [
+            MEDIA_16,
+            "8060000800000bb800000010aabb",
+            "8060000600000bb800000010aabb",
+        ]
+        .as_slice(),
     )?;
     room.send(
         alloc,
@@ -262,7 +267,7 @@ fn assert_steered(
     assert_left(rt, alloc, &room, &absent)
 }
 
-/// What was missed, sent and is announced is told of the leg and the publisher that it is of, to who asked, and what was refused of whose
+/// What was missed, skipped, sent and is announced is told of the leg and the publisher that it is of, to who asked, and what was refused of whose
 /// datagrams; a leg is switched off; and who stops the unit has it say goodbye to who is there.
 #[test]
 fn two_peers_steer_it(rt: HostRuntime) -> Result<(), Fail> {

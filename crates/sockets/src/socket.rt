@@ -223,6 +223,10 @@ impl Sink for SocketSink<'_> {
         self.traffic.missed(leg);
     }
 
+    fn skipped(&mut self, leg: u16) {
+        self.traffic.skipped(leg);
+    }
+
     fn refused(&mut self, endpoint: Option<u16>, refusal: Refusal) {
         self.traffic.refused(endpoint, refusal);
     }

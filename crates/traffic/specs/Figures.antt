@@ -85,25 +85,28 @@ endpoint_text f counts =
 -- ---- of a leg
 
 abbrev pub leg_figures : List LegFigure
-leg_figures = leg.Packets ∷ leg.Bytes ∷ leg.Resent ∷ leg.Missed ∷ []
+leg_figures = leg.Packets ∷ leg.Bytes ∷ leg.Resent ∷ leg.Missed ∷ leg.Skipped ∷ []
 
 abbrev pub leg_value : LegFigure → LegCount → ℕ
 leg_value leg.Packets c = c.packets
 leg_value leg.Bytes c = c.octets
 leg_value leg.Resent c = c.resent
 leg_value leg.Missed c = c.missed
+leg_value leg.Skipped c = c.skipped
 
 abbrev pub leg_name : LegFigure → List ℕ
 leg_name leg.Packets = codes "sfu_leg_packets_sent_total"
 leg_name leg.Bytes = codes "sfu_leg_payload_bytes_sent_total"
 leg_name leg.Resent = codes "sfu_leg_packets_resent_total"
 leg_name leg.Missed = codes "sfu_leg_packets_missed_total"
+leg_name leg.Skipped = codes "sfu_leg_packets_skipped_total"
 
 abbrev pub leg_help : LegFigure → List ℕ
 leg_help leg.Packets = codes "RTP packets that were sent on the leg, repeated ones too."
 leg_help leg.Bytes = codes "Payload bytes that were sent on the leg."
 leg_help leg.Resent = codes "RTP packets that were sent on the leg once more."
 leg_help leg.Missed = codes "RTP packets that were asked for on the leg and not kept."
+leg_help leg.Skipped = codes "RTP packets that were too old to be sent on on the leg."
 
 abbrev pub leg_sample : LegFigure → Numbered LegCount → Sample
 leg_sample f n = record { number = n.number; value = leg_value f n.count }

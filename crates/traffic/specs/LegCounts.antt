@@ -15,5 +15,6 @@ count_with count seq octets = record {
   octets = risen count.octets octets;
   resent = if is_new count.next seq then count.resent else risen count.resent 1;
   missed = count.missed;
+  skipped = count.skipped;
   next = if is_new count.next seq then Some ((seq + 1) % 65536) else count.next;
 }

@@ -32,7 +32,8 @@ flow_part c =
     ++ (decimal c.packets ++ (codes " octets " ++ (decimal c.octets
     ++ (codes " resent " ++ (decimal c.resent
     ++ (codes " missed " ++ (decimal c.missed
-    ++ (codes " next " ++ (next_word c.next ++ codes "\n")))))))))
+    ++ (codes " next " ++ (next_word c.next
+    ++ (codes " skipped " ++ (decimal c.skipped ++ codes "\n")))))))))))
 
 abbrev pub line_of_leg : LegLine → Option ℕ → LegCount → List ℕ
 line_of_leg l stay c = ends_part l ++ (stay_part stay ++ flow_part c)

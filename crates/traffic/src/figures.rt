@@ -35,6 +35,7 @@ pub enum LegFigure {
     Bytes,
     Resent,
     Missed,
+    Skipped,
 }
 
 /// The figures of an endpoint, in the order in which they are told.
@@ -55,11 +56,12 @@ const ENDPOINT_FIGURES: [EndpointFigure; 13] = [
 ];
 
 /// Those of a leg.
-const LEG_FIGURES: [LegFigure; 4] = [
+const LEG_FIGURES: [LegFigure; 5] = [
     LegFigure::Packets,
     LegFigure::Bytes,
     LegFigure::Resent,
     LegFigure::Missed,
+    LegFigure::Skipped,
 ];
 
 impl EndpointFigure {
@@ -141,6 +143,7 @@ impl LegFigure {
             LegFigure::Bytes => count.octets,
             LegFigure::Resent => count.resent,
             LegFigure::Missed => count.missed,
+            LegFigure::Skipped => count.skipped,
         }
     }
 
@@ -153,6 +156,7 @@ impl LegFigure {
             LegFigure::Bytes => "sfu_leg_payload_bytes_sent_total",
             LegFigure::Resent => "sfu_leg_packets_resent_total",
             LegFigure::Missed => "sfu_leg_packets_missed_total",
+            LegFigure::Skipped => "sfu_leg_packets_skipped_total",
         }
     }
 
@@ -165,6 +169,7 @@ impl LegFigure {
             LegFigure::Bytes => "Payload bytes that were sent on the leg.",
             LegFigure::Resent => "RTP packets that were sent on the leg once more.",
             LegFigure::Missed => "RTP packets that were asked for on the leg and not kept.",
+            LegFigure::Skipped => "RTP packets that were too old to be sent on on the leg.",
         }
     }
 }

@@ -17,6 +17,8 @@ pub struct LegCount {
     pub resent: u64,
     /// How many packets were asked for again and weren't kept any more.
     pub missed: u64,
+    /// How many packets of the publisher weren't sent on, since they were too old for the leg, or its numbers are spent.
+    pub skipped: u64,
     /// The sequence number after the newest; `None` before the first packet.
     pub next: Option<u16>,
 }
@@ -27,13 +29,21 @@ impl LegCount {
 
     /// Nothing went out.
     pub fn new() -> LegCount
-        ensures { result ≡ record { packets = 0; octets = 0; resent = 0; missed = 0; next = None } }
+        ensures { result ≡ record {
+          packets = 0;
+          octets = 0;
+          resent = 0;
+          missed = 0;
+          skipped = 0;
+          next = None;
+        } }
     {
         LegCount {
             packets: 0,
             octets: 0,
             resent: 0,
             missed: 0,
+            skipped: 0,
             next: None,
         }
     }
@@ -53,6 +63,7 @@ impl LegCount {
                 self.resent.saturating_add(1)
             },
             missed: self.missed,
+            skipped: self.skipped,
             next: if is_new {
                 Some(seq.wrapping_add(1))
             } else {

@@ -67,7 +67,7 @@ fn push_flow(text: &mut String, count: &LegCount) -> Result<(), AllocError>
         count.packets, count.octets, count.resent, count.missed,
     )?;
     push_next(text, count.next)?;
-    text.push_str("\n")
+    write!(text, " skipped {}\n", count.skipped)
 }
 
 /// The number that comes next.

@@ -97,6 +97,7 @@ struct LegCells {
     octets: AtomicU64,
     resent: AtomicU64,
     missed: AtomicU64,
+    skipped: AtomicU64,
     /// One more than the next number; 0 before the first packet.
     after_next: AtomicU64,
     /// The last sender report on it.
@@ -242,6 +243,13 @@ impl Traffic {
     pub fn missed(&self, leg: u16) {
         if let Some(cells) = self.legs.get(usize::from(leg)) {
             add(&cells.missed, 1);
+        }
+    }
+
+    /// A packet isn't sent on on this leg: it is too old for it, or the leg's numbers are spent.
+    pub fn skipped(&self, leg: u16) {
+        if let Some(cells) = self.legs.get(usize::from(leg)) {
+            add(&cells.skipped, 1);
         }
     }
 
@@ -433,6 +441,7 @@ impl LegCells {
             octets: AtomicU64::new(0),
             resent: AtomicU64::new(0),
             missed: AtomicU64::new(0),
+            skipped: AtomicU64::new(0),
             after_next: AtomicU64::new(0),
             sent_report: SentCell::new(),
             reported: ReportCells::new(),
@@ -445,6 +454,7 @@ impl LegCells {
             octets: self.octets.load(Ordering::SeqCst),
             resent: self.resent.load(Ordering::SeqCst),
             missed: self.missed.load(Ordering::SeqCst),
+            skipped: self.skipped.load(Ordering::SeqCst),
             next: number_before(self.after_next.load(Ordering::SeqCst)),
         }
     }
@@ -454,6 +464,7 @@ impl LegCells {
         self.octets.store(count.octets, Ordering::SeqCst);
         self.resent.store(count.resent, Ordering::SeqCst);
         self.missed.store(count.missed, Ordering::SeqCst);
+        self.skipped.store(count.skipped, Ordering::SeqCst);
         self.after_next
             .store(number_after(count.next), Ordering::SeqCst);
     }

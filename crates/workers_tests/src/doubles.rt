@@ -13,6 +13,7 @@ pub(super) struct MemorySink {
     pub(super) failures: u64,
     /// The leg of the last packet that was asked for again in vain.
     pub(super) missed_on: Option<u16>,
+    pub(super) skipped_on: Option<u16>,
     /// What was refused last, and of whose datagram.
     pub(super) refused: Option<(Option<u16>, Refusal)>,
 }
@@ -28,6 +29,7 @@ impl MemorySink {
             to_fail,
             failures: 0,
             missed_on: None,
+            skipped_on: None,
             refused: None,
         }
     }
@@ -59,6 +61,10 @@ impl Sink for MemorySink {
 
     fn missed(&mut self, leg: u16) {
         self.missed_on = Some(leg);
+    }
+
+    fn skipped(&mut self, leg: u16) {
+        self.skipped_on = Some(leg);
     }
 
     fn refused(&mut self, endpoint: Option<u16>, refusal: Refusal) {

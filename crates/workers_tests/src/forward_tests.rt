@@ -146,6 +146,7 @@ fn does_jobs<J: Naming>(rt: &impl Abort, bench: &mut Bench<'_, J>, first: &Job, 
         ..NOTHING
     };
     assert_eq!(rt; bench.forward(older), Ok(old));
+    assert_eq!(rt; bench.sink.skipped_on, Some(0));
     assert_eq!(rt; bench.sink.handed.len(), 3);
 }
 
