@@ -1,12 +1,13 @@
 #!/usr/bin/env python3
 """A publisher starts anew again and again under the same SSRC, with other sequence numbers and timestamps each time, while a subscriber
-watches: from its second packet on each has to come, under a number that wasn't used before.
+watches: each packet has to come, under a number that wasn't used before. Of two runs the second follows the first at once, so that with
+two workers packets of the first may still wait when the second begins.
 
     bench/field/restarts.py SFU [RESTARTS]
 
-SFU is the built program. Prints how many packets were sent and came, and how often a number came twice; ends with status 1 if more
-than one packet of a restart is missing, or a number came twice. With `--without` after SFU the file has no `new_starts`, to see what
-happens then. By hand: nothing of it is proved.
+SFU is the built program. Prints, with one worker and with two, how many packets were sent and came, how often a number came twice or late,
+and what the unit counted; ends with status 1 if a packet is missing, or a number came twice. With `--without` after SFU the file has no
+`new_starts`, to see what happens then. By hand: nothing of it is proved.
 """
 
 import os
@@ -19,7 +20,7 @@ import sys
 import tempfile
 import time
 
-SETTINGS = """workers = 1
+SETTINGS = """workers = {}
 ring = 64
 history = 1024
 timeout_ms = 60000
@@ -59,33 +60,40 @@ def packet(seq, timestamp):
 
 
 def main(program, restarts, rule):
+    return max(serve(program, restarts, rule, workers) for workers in (1, 2))
+
+
+def serve(program, restarts, rule, workers):
     publisher, subscriber = bound_socket(), bound_socket()
     listener = bound_socket()
     unit_at = listener.getsockname()
     listener.close()
     with tempfile.TemporaryDirectory() as folder:
-        file = os.path.join(folder, "room.toml")
+        file, control = os.path.join(folder, "room.toml"), os.path.join(folder, "control")
         with open(file, "w") as out:
-            out.write(SETTINGS.format(unit_at[1], rule, publisher.getsockname()[1], subscriber.getsockname()[1]))
-        unit = subprocess.Popen([program, "serve", file], stdout=subprocess.DEVNULL, stderr=subprocess.PIPE)
+            out.write(SETTINGS.format(workers, unit_at[1], rule, publisher.getsockname()[1], subscriber.getsockname()[1]))
+        unit = subprocess.Popen([program, "serve", file, "--control", control], stdout=subprocess.DEVNULL, stderr=subprocess.PIPE)
         unit.stderr.readline()
         try:
-            return play(publisher, subscriber, unit_at, restarts)
+            sent, came, twice = play(publisher, subscriber, unit_at, restarts)
+            said = [subprocess.run([program, "ask", control, it], capture_output=True, text=True).stdout for it in ("legs", "counts")]
         finally:
             unit.kill()
+    print(f"workers {workers}: {restarts} restarts, {sent} packets sent, {came} came; {twice} numbers came twice or late")
+    print("   ", "; ".join("".join(said).splitlines()), flush=True)
+    return 1 if came < sent or twice else 0
 
 
 def play(publisher, subscriber, unit_at, restarts):
+    """How many packets were sent and came, and how many numbers came twice or late."""
     subscriber.sendto(struct.pack("!BBHI", 0x80, 201, 1, 17), unit_at)
     time.sleep(0.05)
-    came, missing, twice, highest = 0, 0, 0, None
+    came, twice, highest, seq = set(), 0, None, 0
     for run in range(restarts + 1):
-        seq, timestamp = random.randrange(65536), random.randrange(2**32)
-        got = set()
+        seq, timestamp = seq + random.randrange(5000, 60000), random.randrange(2**32)
         for place in range(PACKETS):
-            publisher.sendto(packet(seq + place, timestamp + 3000 * place) + bytes([run % 256, place]), unit_at)
-            time.sleep(0.0005)
-        while select.select([subscriber], [], [], 0.05)[0]:
+            publisher.sendto(packet(seq + place, timestamp + 3000 * place) + struct.pack("!HB", run, place), unit_at)
+        while (run % 2 or run == restarts) and select.select([subscriber], [], [], 0.05)[0]:
             datagram = subscriber.recv(2048)
             if datagram[1] != 96:
                 continue
@@ -93,12 +101,8 @@ def play(publisher, subscriber, unit_at, restarts):
             if highest is not None and not 0 < (number - highest) % 65536 < 32768:
                 twice += 1
             highest = number
-            got.add(datagram[13])
-        came += len(got)
-        if len(got) < PACKETS - 1:
-            missing += 1
-    print(f"{restarts} restarts, {(restarts + 1) * PACKETS} packets sent, {came} came; {missing} runs lost more than one packet; {twice} numbers came twice or late")
-    return 1 if missing or twice else 0
+            came.add(datagram[12:])
+    return (restarts + 1) * PACKETS, len(came), twice
 
 
 if __name__ == "__main__":

@@ -1,3 +1,4 @@
 pub mod UnitFaults
 pub mod Counted
 pub mod Faults
+pub mod Patience

@@ -4,6 +4,7 @@ ghost use Rattle.std.specs.Prelude.{◌≡◌, IfSome};
 ghost use Rattle.core_steps.specs.Happening.{capped_count};
 ghost use Rattle.workers.specs.Counted.{outcome_of};
 
+use crate::settling::Recess;
 use crossbeam_utils::CachePadded;
 use forwarding::{ForwardFault, Forwarded};
 use outside::Status;
@@ -19,6 +20,7 @@ pub struct Counts {
     lost: AtomicU64,
     ingress: Tally,
     stations: Vec<CachePadded<Station>>,
+    recess: Recess,
 }
 
 impl Counts {
@@ -34,6 +36,7 @@ impl Counts {
             lost: AtomicU64::new(0),
             ingress: Tally::new(),
             stations,
+            recess: Recess::new(),
         })
     }
 
@@ -86,18 +89,24 @@ impl Counts {
         }
     }
 
+    /// Where the ingress sleeps until the workers are done.
+    pub(crate) fn recess(&self) -> &Recess {
+        &self.recess
+    }
+
     /// The workers' stations, by their numbers.
     pub(crate) fn stations(&self) -> &[CachePadded<Station>] {
         self.stations.as_slice()
     }
 }
 
-/// What a worker shows to others: its number, where it sleeps while its ring is empty, and its tally.
+/// What a worker shows to others: its number, where it sleeps while its ring is empty, its tally, and how many jobs it has done.
 #[derive(Drop)]
 pub(crate) struct Station {
     pub(crate) number: u16,
     pub(crate) parker: Parker,
     pub(crate) tally: Tally,
+    done: AtomicU64,
 }
 
 impl Station {
@@ -107,7 +116,18 @@ impl Station {
             number,
             parker: Parker::new(),
             tally: Tally::new(),
+            done: AtomicU64::new(0),
         }
+    }
+
+    /// The worker has done one job more. It alone calls this.
+    pub(crate) fn note_done(&self) {
+        raise(&self.done, 1);
+    }
+
+    /// Whether the worker has done so many jobs.
+    pub(crate) fn has_done(&self, jobs: u64) -> bool {
+        self.done.load(Ordering::SeqCst) >= jobs
     }
 }
 

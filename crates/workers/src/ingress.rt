@@ -12,6 +12,7 @@ use crate::counts::{Counts, Outcome, outcome_of};
 use crate::gear::Gear;
 use crate::item::Item;
 use crate::lane::Crew;
+use crate::settling::{Patience, settle};
 use core_steps::{Duty, IngressCore};
 use desk::{Answer, Call, Change, Signal};
 use events::{DeskRefusal, Job, Out, Refusal};
@@ -40,6 +41,9 @@ pub(crate) struct Ingress<'a, D: DeskCalls, C: SeatCalls, J: Naming, S: Drop> {
     pub(crate) ticks: Ticks,
     /// How many endpoints are present at this tick, of those that were counted.
     pub(crate) present: u64,
+    /// Whether a packet was put into a ring since the workers were waited for.
+    pub(crate) is_unsettled: bool,
+    pub(crate) patience: Patience,
     /// What was refused of what came last.
     pub(crate) refusals: Vec<Out>,
     /// Whose datagram is being done, if one is.
@@ -171,7 +175,10 @@ impl<'a, D: DeskCalls, C: SeatCalls, J: Naming, S: Sink + Drop> Ingress<'a, D, C
         match order {
             Order::Arrive { leg, stay } => self.ask_in_stay(rt, leg, stay, Change::Arrive),
             Order::Depart { leg, stay } => self.ask_in_stay(rt, leg, stay, Change::Depart),
-            Order::Route { .. } => publish(rt, self.writer, &order),
+            Order::Route { .. } => {
+                self.settle(rt);
+                publish(rt, self.writer, &order)
+            }
         }
     }
 
@@ -207,9 +214,19 @@ impl<'a, D: DeskCalls, C: SeatCalls, J: Naming, S: Sink + Drop> Ingress<'a, D, C
         self.count(told)
     }
 
+    /// Waits, for a little, until the packets that were heard are sent on, by the rows as they are.
+    fn settle<R: Wait>(&mut self, rt: &R) {
+        if self.is_unsettled {
+            let moment = self.core.moment();
+            settle(rt, &self.crew, self.counts, &mut self.patience, moment);
+            self.is_unsettled = false;
+        }
+    }
+
     /// Puts a job into the worker's ring; it is lost where the ring is full.
     fn push(&mut self, worker: u16, job: Job) {
         let note = self.writer.note();
+        self.is_unsettled = self.is_unsettled || matches!(job, Job::Packet { .. });
         if self
             .crew
             .push(self.counts, worker, Item::Work { job, note })

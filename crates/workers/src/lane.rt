@@ -27,6 +27,8 @@ pub(crate) fn new_ring<J: Naming>(
 #[derive(Drop)]
 pub(crate) struct Lane<J: Naming, C: SeatCalls> {
     pub(crate) ring: Producer<Item<J>, Global>,
+    /// How many items were put into the ring.
+    pub(crate) put: u64,
     pub(crate) thread: JoinHandle<DeskSeat<C>>,
 }
 
@@ -38,6 +40,7 @@ impl<J: Naming, C: SeatCalls> Lane<J, C> {
     {
         match self.ring.push(item) {
             Ok(()) => {
+                self.put = self.put.saturating_add(1);
                 station.parker.unpark();
                 None
             }
@@ -58,7 +61,11 @@ impl<J: Naming, C: SeatCalls> Lane<J, C> {
 
     /// The worker's seat, once it has ended.
     fn join<R: Threads>(self, rt: &R) -> DeskSeat<C> {
-        let Lane { ring: _, thread } = self;
+        let Lane {
+            ring: _,
+            put: _,
+            thread,
+        } = self;
         thread.join(rt)
     }
 }
@@ -108,6 +115,16 @@ impl<J: Naming, C: SeatCalls> Crew<J, C> {
             Some(station) => self.lanes[at].push(station, item),
             None => Some(item),
         }
+    }
+
+    /// Whether each worker has done all that was put into its ring.
+    pub(crate) fn is_done(&self, counts: &Counts) -> bool {
+        for (lane, station) in self.lanes.iter().zip(counts.stations()) {
+            if !station.has_done(lane.put) {
+                return false;
+            }
+        }
+        true
     }
 
     /// Stops all workers, and takes their seats once they have ended, and the ingress's last.

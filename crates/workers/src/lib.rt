@@ -14,6 +14,7 @@ mod ingress;
 mod item;
 mod lane;
 mod scope;
+mod settling;
 mod turns;
 mod unit;
 mod worker;

@@ -7,6 +7,7 @@ use crate::fault::UnitFault;
 use crate::gear::{Gear, gears_of};
 use crate::ingress::{Ingress, core_and_notifier};
 use crate::lane::{Crew, Lane, new_ring};
+use crate::settling::Patience;
 use crate::turns::Inlet;
 use crate::unit::{Outside, Pace};
 use crate::worker::Worker;
@@ -220,6 +221,8 @@ fn run_manned<
         crew,
         ticks: Ticks::new(pace.pulse_ms),
         present: 0,
+        is_unsettled: false,
+        patience: Patience::new(0),
         refusals: Vec::new(shared.alloc),
         endpoint: None,
     };
@@ -295,9 +298,14 @@ fn start<
         house: shared.house,
         gate: shared.gate,
         station,
+        recess: shared.counts.recess(),
     };
     let thread = spawn(scope, rt, worker)?;
-    Ok(Lane { ring, thread })
+    Ok(Lane {
+        ring,
+        put: 0,
+        thread,
+    })
 }
 
 /// Runs a worker in a thread of its own.

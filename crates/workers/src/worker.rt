@@ -3,6 +3,7 @@
 use crate::counts::{Station, outcome_of};
 use crate::gear::Gear;
 use crate::item::Item;
+use crate::settling::Recess;
 use events::Job;
 use forwarding::{ForwardFault, Forwarded, Forwarder};
 use outside::{Gate, Sink};
@@ -21,6 +22,7 @@ pub(crate) struct Worker<'a, D: DeskCalls, C: SeatCalls, J: Naming, S: Drop, G> 
     pub(crate) house: &'a House<D, C>,
     pub(crate) gate: &'a G,
     pub(crate) station: &'a Station,
+    pub(crate) recess: &'a Recess,
 }
 
 impl<'a, D: DeskCalls, C: SeatCalls, J: Naming, S: Sink + Drop, G: Gate> Worker<'a, D, C, J, S, G> {
@@ -38,7 +40,10 @@ impl<'a, D: DeskCalls, C: SeatCalls, J: Naming, S: Sink + Drop, G: Gate> Worker<
             match self.ring.pop() {
                 Ok(Item::Work { job, note }) => self.work(rt, &job, note),
                 Ok(Item::Stop) => return,
-                Err(_) => self.station.parker.park(rt),
+                Err(_) => {
+                    self.recess.note_idle();
+                    self.station.parker.park(rt);
+                }
             }
         }
         unreachable!()
@@ -50,6 +55,7 @@ impl<'a, D: DeskCalls, C: SeatCalls, J: Naming, S: Sink + Drop, G: Gate> Worker<
         let done = self.forward(rt, job, note);
         self.station.tally.add(outcome_of(done));
         self.gate.done(self.station.number);
+        self.station.note_done();
     }
 
     /// The one step of a job.
