@@ -15,13 +15,14 @@ use Rattle.addressing.specs.declared.served_file.ServedSettings.{ServedSettings}
 use Rattle.settings_text.specs.declared.settings_file.FileSettings.{FileSettings}
 
 -- what is looked at, where a file says so: sources that begin anew go unnoticed unless it says otherwise, and feedback has to name
--- the endpoint's own source; and what one client may cost the others
+-- the endpoint's own source; what one client may cost the others; and how often a publisher is asked again
 abbrev pub rules_in : Option Bool → Option Bool → BoundKeys → Rules
 rules_in new_starts strict_ssrc bounds = record {
   new_starts = option_map_or (λ b. b) new_starts false;
   strict_ssrc = option_map_or (λ b. b) strict_ssrc true;
   resends = record { gap_ms = bounds.resend_gap_ms; share = bounds.resend_share };
   flood_limit = bounds.flood_limit;
+  repeat_ms = bounds.repeat_ms;
 }
 
 -- where RTCP is listened for apart: nowhere without a text, else where it spells, with the same version of IP

@@ -69,7 +69,7 @@ fn placed(alloc: Global, file: FileSettings) -> Result<ServedSettings, SettingsP
 }
 
 /// What is looked at, where a file says so: sources that begin anew go unnoticed unless it says otherwise, and feedback has to name
-/// the endpoint's own source; and what one client may cost the others.
+/// the endpoint's own source; what one client may cost the others, and how often a publisher is asked again.
 fn rules_in(new_starts: Option<bool>, strict_ssrc: Option<bool>, bounds: BoundKeys) -> Rules
     ensures { result ≡ rules_in new_starts strict_ssrc bounds }
 {
@@ -81,6 +81,7 @@ fn rules_in(new_starts: Option<bool>, strict_ssrc: Option<bool>, bounds: BoundKe
             share: bounds.resend_share,
         },
         flood_limit: bounds.flood_limit,
+        repeat_ms: bounds.repeat_ms,
     }
 }
 

@@ -7,11 +7,11 @@ use Rattle.rtp_packet.specs.declared.header.TheConstants.{SEQ_CYCLE}
 use Rattle.rtcp_compound.specs.declared.writer.TheConstants.{CNAME_LIMIT}
 use Rattle.settings.specs.declared.settings.TheConstants.{LEAST_HISTORY, MAX_ENDPOINTS, MAX_HISTORY, MAX_LEGS, MAX_PERIOD_MS, MAX_RING, MAX_WORKERS, SSRCS}
 use Rattle.settings_text.specs.SettingsFaults.{Spot, endpoint, leg, sources, top}
-use Rattle.settings_text.specs.declared.bound_keys.TheConstants.{FLOODS, GAPS_MS, SHARES}
+use Rattle.settings_text.specs.declared.bound_keys.TheConstants.{FLOODS, GAPS_MS, LEAST_REPEAT_MS, REPEATS_MS, SHARES}
 use Rattle.advice.specs.declared.wanted.Kind.{Kind}
 use Rattle.advice.specs.declared.wanted.Kind.TheVariants as kind
 use Rattle.advice.specs.declared.wanted.Wanted.{Wanted}
-use Rattle.advice.specs.declared.wanted.Wanted.TheVariants.{Whole, Name, Endpoints, Legs, Other}
+use Rattle.advice.specs.declared.wanted.Wanted.TheVariants.{Whole, WholeOrZero, Name, Endpoints, Legs, Other}
 
 -- a key, and what it takes
 pub record KeyRow : Type 0 where
@@ -39,6 +39,7 @@ value_rows =
     ∷ key_row (codes "listen_rtcp") (Other kind.ListenRtcp)
     ∷ key_row (codes "new_starts") (Other kind.Truth)
     ∷ key_row (codes "pli_gap_ms") (Whole 0 MAX_PERIOD_MS)
+    ∷ key_row (codes "repeat_ms") (WholeOrZero LEAST_REPEAT_MS (REPEATS_MS - 1))
     ∷ key_row (codes "report_ms") (Whole 1 MAX_PERIOD_MS)
     ∷ key_row (codes "request_ms") (Whole 0 MAX_PERIOD_MS)
     ∷ key_row (codes "resend_gap_ms") (Whole 0 (GAPS_MS - 1))
@@ -106,6 +107,8 @@ kind_words kind.Publisher =
 abbrev pub wanted_words : Wanted → List ℕ
 wanted_words (Whole least most) =
     codes "whole number from " ++ (decimal least ++ (codes " to " ++ decimal most))
+wanted_words (WholeOrZero least most) =
+    codes "whole number from " ++ (decimal least ++ (codes " to " ++ (decimal most ++ codes ", nor 0")))
 wanted_words (Name most) =
     codes "text of 1 to " ++ (decimal most ++ codes " ASCII characters, as \"sfu@192.0.2.1\"")
 wanted_words (Endpoints most) =

@@ -13,6 +13,8 @@ use std::alloc::{AllocError, Global};
 pub(crate) enum Wanted {
     /// A whole number from the first to the second.
     Whole(u64, u64),
+    /// 0, or a whole number from the first to the second.
+    WholeOrZero(u64, u64),
     /// A name of one to so many characters.
     Name(u64),
     /// One to so many tables of endpoints.
@@ -65,6 +67,7 @@ fn wanted_top(key: &str) -> Option<Wanted>
         "listen_rtcp" => Some(Wanted::Other(Kind::ListenRtcp)),
         "new_starts" => Some(Wanted::Other(Kind::Truth)),
         "pli_gap_ms" => Some(Wanted::Whole(0, 86_400_000)),
+        "repeat_ms" => Some(Wanted::WholeOrZero(100, 60_000)),
         "report_ms" => Some(Wanted::Whole(1, 86_400_000)),
         "request_ms" => Some(Wanted::Whole(0, 86_400_000)),
         "resend_gap_ms" => Some(Wanted::Whole(0, 60_000)),
@@ -113,6 +116,9 @@ pub(crate) fn wanted_text(alloc: Global, wanted: Wanted) -> Result<String, Alloc
 {
     match wanted {
         Wanted::Whole(least, most) => format!(in alloc; "whole number from {least} to {most}"),
+        Wanted::WholeOrZero(least, most) => {
+            format!(in alloc; "whole number from {least} to {most}, nor 0")
+        }
         Wanted::Name(most) => counted(
             alloc,
             "text of 1 to ",
@@ -172,7 +178,7 @@ pub(crate) fn keys(place: Place<'_>) -> &'static str
         }
         Place::Leg(_, _) => "first_seq, on, out_ssrc, publisher and subscriber",
         Place::Top(_) | Place::Sources => {
-            "cname, early_pictures, flood_limit, history, leg_goodbyes, listen, listen_rtcp, new_starts, pli_gap_ms, report_ms, request_ms, resend_gap_ms, resend_share, ring, strict_ssrc, timeout_ms, unit_ssrc and workers"
+            "cname, early_pictures, flood_limit, history, leg_goodbyes, listen, listen_rtcp, new_starts, pli_gap_ms, repeat_ms, report_ms, request_ms, resend_gap_ms, resend_share, ring, strict_ssrc, timeout_ms, unit_ssrc and workers"
         }
     }
 }

@@ -14,6 +14,8 @@ mod page_tests;
 #[cfg(test)]
 mod recording_tests;
 #[cfg(test)]
+mod repeats_tests;
+#[cfg(test)]
 mod resend_tests;
 #[cfg(test)]
 mod screening_tests;

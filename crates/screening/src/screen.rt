@@ -31,7 +31,7 @@ struct Waiting {
     len: usize,
 }
 
-/// What of a source is screened.
+/// What of a source is screened, and what is asked for again.
 #[derive(Clone, Copy, Debug, PartialEq, Eq)]
 pub struct Rules {
     /// Whether a source that begins anew is noticed (RFC 3550, appendix A.1).
@@ -43,6 +43,8 @@ pub struct Rules {
     pub resends: ResendBounds,
     /// How many datagrams of one endpoint are heard in a millisecond; 0 for any number.
     pub flood_limit: u32,
+    /// How many milliseconds there are between two repeats of what a publisher is asked for; 0 for none. A screen repeats nothing.
+    pub repeat_ms: u64,
 }
 
 impl Rules {
@@ -55,6 +57,7 @@ impl Rules {
           strict_ssrc = true;
           resends = record { gap_ms = 0; share = 0 };
           flood_limit = 0;
+          repeat_ms = 0;
         } }
     {
         Rules {
@@ -65,6 +68,7 @@ impl Rules {
                 share: 0,
             },
             flood_limit: 0,
+            repeat_ms: 0,
         }
     }
 }

@@ -4,20 +4,18 @@ ghost use Rattle.std.specs.Prelude.{◌≡◌, length, IfOk};
 ghost use Rattle.settings.specs.Settings.{IsInRange};
 ghost use Rattle.rate_desk.specs.Gathered.{AreDesksOf};
 
+use crate::ends::{Common, Ends, source_on, watch_on};
 use crate::serve_fault::ServeFault;
-use addressing::{Client, Directory};
+use addressing::Client;
 use one_thread::run_one_thread;
-use operating::{
-    ControlHeard, Gauges, RecordedClock, RecordedSource, SteeredSource, SteeredWatch, TICK_MS,
-};
-use screening::{Rules, Screen};
+use operating::{Gauges, RecordedClock, RecordedSource, SteeredSource, TICK_MS};
+use screening::Rules;
 use settings::Settings;
-use sockets::{Arrivals, RunClock, SocketSink, SocketSource, Sockets, say_goodbyes, socket_sinks};
-use std::alloc::{AllocError, Global};
+use sockets::{RunClock, SocketSink, Sockets, say_goodbyes, socket_sinks};
+use std::alloc::Global;
 use std::sync::Wait;
 use std::thread::Threads;
 use std::time;
-use traffic::Traffic;
 use workers::{Open, Outside, Pace, Report, Watch, run_watched};
 
 /// Runs the unit on the sockets for so many turns: in this thread if there is one worker, else with a thread for each. If somebody has it
@@ -41,7 +39,7 @@ pub fn run_on<R: AllocGlobal + Threads + Wait + Sync + time::Clock, W: Watch + D
         return Err(ServeFault::Socket);
     }
     let alloc = rt.alloc();
-    let common = Common::new(alloc, settings, clients)?;
+    let common = Common::new(alloc, settings, clients, rules)?;
     let source = source_on(alloc, sockets, settings, clients, rules, gauges, &common)?;
     let ends = Ends {
         sockets,
@@ -51,60 +49,6 @@ pub fn run_on<R: AllocGlobal + Threads + Wait + Sync + time::Clock, W: Watch + D
     let report = run_by_workers(rt, ends, settings, turns, gauges, watch)?;
     leave(alloc, sockets, settings, gauges, &common);
     Ok(report)
-}
-
-/// What all threads of a run look at: where endpoints are, and what came and went; and what the receiving one keeps through a turn.
-#[derive(Drop)]
-struct Common {
-    directory: Directory,
-    traffic: Traffic,
-    control: ControlHeard,
-}
-
-impl Common {
-    /// Those of a run that begins.
-    fn new(alloc: Global, settings: &Settings, clients: &[Client]) -> Result<Common, AllocError> {
-        Ok(Common {
-            directory: Directory::new(alloc, clients)?,
-            traffic: Traffic::new(alloc, settings)?,
-            control: ControlHeard::new(alloc)?,
-        })
-    }
-}
-
-/// What comes to the sockets, screened by these rules.
-fn source_on<'a>(
-    alloc: Global,
-    sockets: Sockets<'a>,
-    settings: &'a Settings,
-    clients: &'a [Client],
-    rules: Rules,
-    gauges: &'a Gauges,
-    common: &'a Common,
-) -> Result<Screen<'a, SocketSource<'a>>, ServeFault> {
-    let Ok(listening) = sockets.listening() else {
-        return Err(ServeFault::Socket);
-    };
-    let Common {
-        directory,
-        traffic,
-        ..
-    } = common;
-    let flood_limit = rules.flood_limit;
-    let arrivals = Arrivals::new(
-        alloc,
-        listening,
-        settings,
-        clients,
-        flood_limit,
-        directory,
-        gauges,
-        traffic,
-    )?;
-    let source = SocketSource::new(sockets, arrivals, gauges);
-    let screen = Screen::new(alloc, source, settings.endpoints(), rules, &gauges.far)?;
-    let screen = screen.bounding(alloc, settings, &gauges.moment_ms, &gauges.held)?;
-    Ok(screen)
 }
 
 /// Says goodbye to who was present when somebody had the unit stopped.
@@ -141,14 +85,6 @@ fn run_by_workers<R: AllocGlobal + Threads + Wait + Sync + time::Clock, W: Watch
     }
 }
 
-/// Where datagrams come from and go to.
-#[derive(Drop)]
-struct Ends<'a> {
-    sockets: Sockets<'a>,
-    common: &'a Common,
-    source: Screen<'a, SocketSource<'a>>,
-}
-
 /// Runs the machine itself: what it gives out for what comes to the sockets goes out there.
 fn run_in_this_thread<R: AllocGlobal + time::Clock, W: Watch + Drop>(
     rt: &R,
@@ -167,10 +103,12 @@ fn run_in_this_thread<R: AllocGlobal + time::Clock, W: Watch + Drop>(
         common,
         source,
     } = ends;
+    let mut watch = watch_on(rt.alloc(), sockets, settings, gauges, common, watch)?;
     let Common {
         directory,
         traffic,
         control,
+        ..
     } = common;
     let source = SteeredSource { source, gauges };
     let mut source = RecordedSource {
@@ -184,11 +122,6 @@ fn run_in_this_thread<R: AllocGlobal + time::Clock, W: Watch + Drop>(
         clock,
         gauges,
         control,
-        traffic,
-    };
-    let mut watch = SteeredWatch {
-        watch,
-        gauges,
         traffic,
     };
     let pace = one_thread::Pace {
@@ -251,6 +184,7 @@ fn run_on_threads<R: AllocGlobal + Threads + Wait + Sync + time::Clock, W: Watch
         directory,
         traffic,
         control,
+        ..
     } = common;
     let source = SteeredSource { source, gauges };
     let clock = RunClock::new(rt, &gauges.moment_ms);
@@ -267,11 +201,7 @@ fn run_on_threads<R: AllocGlobal + Threads + Wait + Sync + time::Clock, W: Watch
             control,
             traffic,
         },
-        watch: SteeredWatch {
-            watch,
-            gauges,
-            traffic,
-        },
+        watch: watch_on(alloc, sockets, settings, gauges, common, watch)?,
     };
     let pace = Pace {
         turns,

@@ -17,7 +17,7 @@ use Rattle.settings_text.specs.declared.settings_file.SettingsProblem.{SettingsP
 use Rattle.settings_text.specs.declared.settings_file.SettingsProblem.TheVariants.{NoMemory, File, Toml, Top, Endpoint, Leg, SameSsrc}
 use Rattle.settings_text.specs.declared.settings_keys.Place.{Place}
 use Rattle.settings_text.specs.declared.settings_keys.Place.TheVariants as place
-use Rattle.settings_text.specs.SettingsFile.{ArePartsOf, HoldsSettings, items_in, list_of}
+use Rattle.settings_text.specs.SettingsFile.{ArePartsOf, HoldsSettings, items_in, list_of, repeat_of}
 
 -- where a fault stands: a key of the settings, of an endpoint or of a leg; or the sources together
 pub data Spot : Type 0 where
@@ -73,6 +73,10 @@ is_text value = is_some (as_str value)
 abbrev pub is_under : ℕ → Data → Bool
 is_under limit value = is_some (number_below (as_integer value) limit)
 
+-- a time between two repeats
+abbrev pub is_repeat : Data → Bool
+is_repeat value = is_some (repeat_of (as_integer value))
+
 -- a list of such values
 abbrev pub has_all : (Data → Bool) → Data → Bool
 has_all is_such (array items) = list_all is_such (list_of items)
@@ -104,6 +108,7 @@ takes_top key value =
     then is_some (as_bool value)
     else if bytes_eq key (codes "request_ms") then is_some (as_integer value)
     else if bytes_eq key (codes "flood_limit") then is_under FLOODS value
+    else if bytes_eq key (codes "repeat_ms") then is_repeat value
     else if bytes_eq key (codes "resend_gap_ms") then is_under GAPS_MS value
     else if bytes_eq key (codes "resend_share") then is_under SHARES value
     else is_required key

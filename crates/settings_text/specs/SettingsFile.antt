@@ -1,13 +1,13 @@
 -- What a settings file says: a TOML table, as the parts of a room's settings.
-use Rattle.std.specs.Prelude.{◌≡◌, ℕ, ℤ, Bool, false, List, [], ◌∷◌, map, Option, None, Some, option_map, option_and_then, unwrap_or, codes, string_bytes, String}
+use Rattle.std.specs.Prelude.{◌≡◌, ◌==◌, ◌||◌, ℕ, ℤ, nat_le, Bool, false, List, [], ◌∷◌, map, Option, None, Some, option_map, option_and_then, unwrap_or, codes, string_bytes, String, if◌then◌else◌}
 use Rattle.std.specs.Global.{Global}
 use Rattle.toml.specs.Data.{Data, Items, Members, array, as_bool, as_integer, as_str, get, get_member, item, no_items}
 use Rattle.settings.specs.declared.parts.EndpointParts.{EndpointParts}
 use Rattle.settings.specs.declared.parts.LegParts.{LegParts}
 use Rattle.settings.specs.declared.parts.Parts.{Parts}
-use Rattle.settings.specs.Settings.{checks, configuration_of, first_fault, number_or_zero}
+use Rattle.settings.specs.Settings.{checks, configuration_of, first_fault, number_below, number_or_zero}
 use Rattle.settings_text.specs.declared.bound_keys.BoundKeys.{BoundKeys}
-use Rattle.settings_text.specs.declared.bound_keys.TheConstants.{FLOODS, GAPS_MS, SHARES}
+use Rattle.settings_text.specs.declared.bound_keys.TheConstants.{FLOODS, GAPS_MS, LEAST_REPEAT_MS, REPEATS_MS, SHARES}
 use Rattle.settings_text.specs.declared.settings_file.ClientText.{ClientText}
 use Rattle.settings_text.specs.declared.settings_file.FileSettings.{FileSettings}
 
@@ -98,10 +98,20 @@ client_says client = record {
   fmtp = map string_bytes client.fmtp.items;
 }
 
--- what one client may cost the others: the numbers at their keys; 0, which bounds nothing, where there is none
+abbrev pub repeat_if : Option ℕ → Option ℕ
+repeat_if None = None
+repeat_if (Some n) = if (n == 0) || nat_le LEAST_REPEAT_MS n then Some n else None
+
+-- the time between two repeats that a number is, where it is there: 0, or from the least to the greatest
+abbrev pub repeat_of : Option ℤ → Option ℕ
+repeat_of value = repeat_if (number_below value REPEATS_MS)
+
+-- what one client may cost the others, and how often a publisher is asked again: the numbers at their keys; 0, which bounds and repeats
+-- nothing, where there is none
 abbrev pub bounds_in : Members → BoundKeys
 bounds_in t = record {
   flood_limit = number_or_zero (integer_in (get_member (codes "flood_limit") t)) FLOODS;
+  repeat_ms = unwrap_or (repeat_of (integer_in (get_member (codes "repeat_ms") t))) 0;
   resend_gap_ms = number_or_zero (integer_in (get_member (codes "resend_gap_ms") t)) GAPS_MS;
   resend_share = number_or_zero (integer_in (get_member (codes "resend_share") t)) SHARES;
 }

@@ -1,9 +1,9 @@
-//! The keys that bound what one client may cost the others.
+//! The keys of bounds: what one client may cost the others, and how often a publisher is asked again.
 
 ghost use Rattle.std.specs.Prelude.{◌≡◌, ◌<◌, ◌≤◌, IfSome};
 ghost use Rattle.settings.specs.Settings.{number_below, number_or_zero};
-ghost use Rattle.settings_text.specs.SettingsFile.{bounds_in, integer_in};
-ghost use Rattle.settings_text.specs.SettingsFaults.{is_under};
+ghost use Rattle.settings_text.specs.SettingsFile.{bounds_in, integer_in, repeat_of};
+ghost use Rattle.settings_text.specs.SettingsFaults.{is_repeat, is_under};
 ghost use Rattle.toml.specs.Data.{get_member};
 ghost use Rattle.toml.specs.View.{table_view, view};
 
@@ -19,11 +19,19 @@ pub const SHARES: u64 = 101;
 /// One more than the greatest number of datagrams in a millisecond.
 pub const FLOODS: u64 = 1_000_001;
 
-/// What a settings file says of bounds; each is 0, which bounds nothing, where the file says nothing.
+/// The least time between two repeats of what a publisher is asked for, in milliseconds, if it isn't 0.
+pub const LEAST_REPEAT_MS: u64 = 100;
+
+/// One more than the greatest such time.
+pub const REPEATS_MS: u64 = 60_001;
+
+/// What a settings file says of bounds; each is 0, which bounds and repeats nothing, where the file says nothing.
 #[derive(Clone, Copy, Debug, PartialEq, Eq)]
 pub struct BoundKeys {
     /// How many datagrams of one endpoint are heard in a millisecond.
     pub flood_limit: u32,
+    /// How many milliseconds there are between two repeats of what a publisher is asked for.
+    pub repeat_ms: u64,
     /// Within how many milliseconds a packet isn't sent again twice on a leg.
     pub resend_gap_ms: u64,
     /// How many packets are sent again on a leg, in percent of those that came.
@@ -36,6 +44,7 @@ pub(crate) fn bounds_at(table: &Table) -> BoundKeys
 {
     BoundKeys {
         flood_limit: bound_at(table, "flood_limit", FLOODS) as u32,
+        repeat_ms: repeat_of(integer_at(table, "repeat_ms")).unwrap_or(0),
         resend_gap_ms: bound_at(table, "resend_gap_ms", GAPS_MS),
         resend_share: bound_at(table, "resend_share", SHARES) as u8,
     }
@@ -56,6 +65,25 @@ pub(crate) fn is_under(value: &Value, limit: u64) -> bool
     ensures { result ≡ is_under limit (view value.now) }
 {
     number_under(value.as_integer(), limit).is_some()
+}
+
+/// Whether the value is a time between two repeats.
+pub(crate) fn is_repeat(value: &Value) -> bool
+    ensures { result ≡ is_repeat (view value.now) }
+{
+    repeat_of(value.as_integer()).is_some()
+}
+
+/// The time between two repeats that a number is, where it is there: 0, or from the least to the greatest.
+fn repeat_of(value: Option<i64>) -> Option<u64>
+    ensures { result ≡ repeat_of value }
+{
+    let number = number_under(value, REPEATS_MS)?;
+    if number == 0 || LEAST_REPEAT_MS <= number {
+        Some(number)
+    } else {
+        None
+    }
 }
 
 /// The number, where it is there and lies from 0 to below the limit.

@@ -8,7 +8,7 @@ mod problem_text;
 mod settings_file;
 mod settings_keys;
 
-pub use bound_keys::{BoundKeys, FLOODS, GAPS_MS, SHARES};
+pub use bound_keys::{BoundKeys, FLOODS, GAPS_MS, LEAST_REPEAT_MS, REPEATS_MS, SHARES};
 pub use problem_text::problem_line;
 pub use settings_file::{ClientText, FileSettings, SettingsProblem, problem_at, read_settings};
 pub use settings_keys::{Place, items_at};

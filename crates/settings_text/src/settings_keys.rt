@@ -8,7 +8,7 @@ ghost use Rattle.toml.specs.View.{table_view, view};
 ghost use Rattle.settings_text.specs.SettingsFaults.{endpoint, has_tables, has_texts, is_required, is_table, is_text, leg, list_misfit, misfit_in, misfit_of, spot_of, table_misfit, takes_endpoint, takes_leg, takes_top};
 ghost use Rattle.settings_text.specs.SettingsFile.{items_in};
 
-use crate::bound_keys::{FLOODS, GAPS_MS, SHARES, is_under};
+use crate::bound_keys::{FLOODS, GAPS_MS, SHARES, is_repeat, is_under};
 use toml::{Table, Value};
 
 /// Where a fault of settings stands. Faults are given in the order of these places: the keys of the table by their names,
@@ -60,6 +60,7 @@ fn takes_top(key: &str, value: &Value) -> bool
         "new_starts" | "strict_ssrc" => value.is_bool(),
         "request_ms" => value.is_integer(),
         "flood_limit" => is_under(value, FLOODS),
+        "repeat_ms" => is_repeat(value),
         "resend_gap_ms" => is_under(value, GAPS_MS),
         "resend_share" => is_under(value, SHARES),
         _ => is_required(key),

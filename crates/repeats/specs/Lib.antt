@@ -1,0 +1,6 @@
+pub mod Again
+pub mod Held
+pub mod Presence
+pub mod Requests
+pub mod Sets
+pub mod Told

@@ -1,0 +1,21 @@
+//! What is so of every list of happenings. These functions do nothing: their contracts are the laws.
+
+ghost use Rattle.std.specs.Prelude.{◌≡◌, ℕ, List, Some, true, slice_get};
+ghost use Rattle.rtcp_feedback.specs.declared.tmmb.TmmbrEntry.{TmmbrEntry};
+ghost use Rattle.settings.specs.declared.settings.LegSettings.{LegSettings};
+ghost use Rattle.repeats.specs.Requests.{Happening, HoldsLast};
+ghost use Rattle.repeats.specs.Sets.{IsUntold, SetHappening, asks_again, set_after};
+
+/// What is held for a leg is what its subscriber asked for last on it since it left last, whatever else was asked for and whoever else left.
+#[tactic(auto, using(crate::proofs::RequestLemmas::holds_last))]
+pub fn holds_what_was_asked_last()
+    ensures { (legs : List LegSettings) (happenings : List Happening) (leg : ℕ) (s : LegSettings)
+        → slice_get legs leg ≡ Some s → HoldsLast legs happenings leg s }
+{}
+
+/// A set is asked for again only if it isn't empty and what its publisher notified of last, since it came, doesn't list all of it.
+#[tactic(auto, using(crate::proofs::SetLemmas::asks_untold))]
+pub fn asks_for_what_was_not_told()
+    ensures { (happenings : List SetHappening) (set : List TmmbrEntry)
+        → asks_again (set_after happenings) set ≡ true → IsUntold happenings set }
+{}

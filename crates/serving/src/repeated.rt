@@ -1,0 +1,178 @@
+//! What is asked of publishers again, while a unit is served.
+
+ghost use Rattle.std.specs.Prelude.{◌≡◌, ◌++◌, [], OnOk};
+ghost use Rattle.bounding_set.specs.State.{announced_of};
+ghost use Rattle.serving.specs.Repeated.{AsksForAll};
+
+use desk::{Desk, Effect};
+use events::Out;
+use notices::{Head, Notification, entries_of, notify};
+use outside::{Look, Sink, Status, Watch};
+use repeats::Sets;
+use settings::{Links, Settings};
+use sockets::SocketSink;
+use std::alloc::{AllocError, Global};
+use std::cell::{Cell, RefCell};
+
+/// A watch that looks at desks for itself while nobody else looks, and asks publishers again for what they didn't notify of.
+#[derive(Drop)]
+pub(crate) struct RepeatingWatch<'a, W: Drop> {
+    watch: W,
+    repeater: Repeater<'a>,
+    sets: &'a RefCell<Sets>,
+    /// The moment of the last turn, in milliseconds.
+    moment_ms: &'a Cell<u64>,
+    /// Whether the desk that is looked at is looked at for itself.
+    is_own: Cell<bool>,
+}
+
+/// What is wanted to ask a publisher again.
+#[derive(Drop)]
+struct Repeater<'a> {
+    alloc: Global,
+    links: Links,
+    head: Head,
+    sink: SocketSink<'a>,
+    /// What is to be sent; empty between looks.
+    outs: Vec<Out>,
+}
+
+impl<'a, W: Watch + Drop> RepeatingWatch<'a, W> {
+    /// Looks at the desks of a unit of these settings when `sets` says so, and sends by this sink.
+    pub(crate) fn new(
+        alloc: Global,
+        settings: &Settings,
+        sink: SocketSink<'a>,
+        sets: &'a RefCell<Sets>,
+        moment_ms: &'a Cell<u64>,
+        watch: W,
+    ) -> Result<RepeatingWatch<'a, W>, AllocError> {
+        Ok(RepeatingWatch {
+            watch,
+            repeater: Repeater {
+                alloc,
+                links: Links::new(alloc, settings)?,
+                head: Head::new(alloc, settings.unit_ssrc(), settings.cname())?,
+                sink,
+                outs: Vec::new(alloc),
+            },
+            sets,
+            moment_ms,
+            is_own: Cell::new(false),
+        })
+    }
+
+    /// Whose desk is to be looked at by now.
+    fn look_due(&self) -> Option<u16> {
+        let Ok(mut sets) = self.sets.try_borrow_mut() else {
+            return None;
+        };
+        let publisher = sets.look_due(self.moment_ms.get())?;
+        u16::try_from(publisher).ok()
+    }
+
+    /// Asks the publisher for the members of its announced set again, if that is due. Where memory is wanting it isn't asked this time.
+    fn ask_again(&mut self, publisher: u16, desk: &Desk) -> Result<(), AllocError> {
+        let set = desk.announced();
+        let entries = entries_of(self.repeater.alloc, set.as_slice())?;
+        let Ok(mut sets) = self.sets.try_borrow_mut() else {
+            return Ok(());
+        };
+        if sets.look(publisher, entries.as_slice())? {
+            self.repeater.ask(publisher, desk)?;
+        }
+        Ok(())
+    }
+}
+
+impl Repeater<'_> {
+    /// Sends the publisher a TMMBR for each member of what is announced to it.
+    fn ask(&mut self, publisher: u16, desk: &Desk) -> Result<(), AllocError> {
+        self.outs.clear();
+        ask_for_all(
+            self.alloc,
+            &self.links,
+            &self.head,
+            publisher,
+            desk,
+            &mut self.outs,
+        )?;
+        for out in self.outs.iter() {
+            if let Out::Send { endpoint, bytes } = out {
+                let _ = self.sink.send(*endpoint, bytes.as_slice());
+            }
+        }
+        self.outs.clear();
+        Ok(())
+    }
+}
+
+/// Appends what a publisher is sent where its whole announced set is fresh, and nobody asked.
+fn ask_for_all(
+    alloc: Global,
+    links: &Links,
+    head: &Head,
+    publisher: u16,
+    desk: &Desk,
+    outs: &mut Vec<Out>,
+) -> Result<(), AllocError>
+    ensures { OnOk result (AsksForAll links.now head.now publisher (announced_of desk.now.bounds)
+        outs.old.items outs.new.items) }
+{
+    let mut effect = Effect::new();
+    effect.set = desk.announced();
+    effect.fresh = desk.announced();
+    let notification = Notification {
+        publisher,
+        asked_by: None,
+        pli: false,
+    };
+    notify(alloc, links, head, &[], &notification, &effect, outs)
+}
+
+impl<W: Watch + Drop> Watch for RepeatingWatch<'_, W> {
+    fn is_due(&self, moment: u64) -> bool {
+        self.watch.is_due(moment)
+    }
+
+    fn show(&mut self, moment: u64, status: &Status) {
+        self.watch.show(moment, status);
+    }
+
+    fn look(&self) -> Look {
+        let wanted = self.watch.look();
+        self.is_own.set(false);
+        if wanted != Look::Nothing {
+            return wanted;
+        }
+        match self.look_due() {
+            Some(publisher) => {
+                self.is_own.set(true);
+                Look::Desk(publisher)
+            }
+            None => Look::Nothing,
+        }
+    }
+
+    fn show_endpoint(&mut self, endpoint: u16, is_present: bool) {
+        self.watch.show_endpoint(endpoint, is_present);
+    }
+
+    fn show_stay(&mut self, leg: u16, stay: Option<u64>) {
+        self.watch.show_stay(leg, stay);
+    }
+
+    fn show_desk(&mut self, publisher: u16, desk: &Desk) {
+        if self.is_own.get() {
+            let _ = self.ask_again(publisher, desk);
+        } else {
+            self.watch.show_desk(publisher, desk);
+        }
+    }
+
+    fn end_look(&mut self) {
+        if !self.is_own.get() {
+            self.watch.end_look();
+        }
+    }
+}
