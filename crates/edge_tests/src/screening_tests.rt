@@ -165,15 +165,16 @@ const BEFORE: [&str; 5] = [
     "",
 ];
 
-/// A goodbye of the source 16 (RFC 3550, section 6.6), two packets, and nothing.
-const BEHIND: [&str; 4] = [
+/// A goodbye of the source 16 (RFC 3550, section 6.6), three packets, and nothing.
+const BEHIND: [&str; 5] = [
     "81cb000100000010",
+    "80609c400000000000000010aa",
     "80609c410000000000000010aa",
     "80609c420000000000000010aa",
     "",
 ];
 
-/// An odd packet is left out, and the goodbye of a source that begins anew is given before its second packet.
+/// An odd packet is left out, and the goodbye of a source that begins anew is given before its first packet, once the second one came.
 #[test]
 fn goodbye_before_a_new_start(rt: HostRuntime) -> Result<(), Fail> {
     let alloc = rt.alloc();

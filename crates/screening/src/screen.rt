@@ -24,11 +24,13 @@ const FIRST_RTCP: u8 = 192;
 /// The last packet type of RTCP (RFC 5761, section 4).
 const LAST_RTCP: u8 = 223;
 
-/// A packet that is given next: the number of the endpoint that it came from, and its length in bytes.
+/// What is given next, of the endpoint with this number.
 #[derive(Clone, Copy, Debug)]
-struct Waiting {
-    endpoint: u16,
-    len: usize,
+enum Waiting {
+    /// Its last far packet, and then the packet of so many bytes that followed that one.
+    Far { endpoint: u16, len: usize },
+    /// That packet.
+    Packet { endpoint: u16, len: usize },
 }
 
 /// What of a source is screened, and what is asked for again.
@@ -85,9 +87,9 @@ struct Bounded<'a> {
     given: Vec<u8>,
 }
 
-/// The datagrams of a source, screened by its rules. A packet that is far from the highest number of its endpoint isn't given, and
-/// counted; before the first packet of an endpoint that began anew a goodbye of it is given (RFC 3550, section 6.6), so that who hears
-/// both takes the endpoint as one that left and came again. Receiver reports and feedback name the endpoint's own source.
+/// The datagrams of a source, screened by its rules. A packet that is far from the highest number of its endpoint is counted, and put by.
+/// If the next one shows that the endpoint began anew, a goodbye of it is given (RFC 3550, section 6.6), then both packets, so that who
+/// hears them takes the endpoint as one that left and came again. Receiver reports and feedback name the endpoint's own source.
 #[derive(Drop)]
 pub struct Screen<'a, S: Source + Drop> {
     source: S,
@@ -97,11 +99,13 @@ pub struct Screen<'a, S: Source + Drop> {
     /// The goodbye of each endpoint, by its number.
     goodbyes: Vec<Vec<u8>>,
     starts: Starts,
-    /// The packet that comes after a goodbye that was given.
+    /// The last far packet of each endpoint, by its number; empty if there is none, or no memory for it.
+    odd: Vec<Vec<u8>>,
+    /// What comes after a goodbye that was given.
     waiting: Option<Waiting>,
-    /// Where its bytes stand.
+    /// Where the bytes of the packet stand with which an endpoint was seen to have begun anew.
     bytes: Vec<u8>,
-    /// How many packets were far from the highest number, and weren't given.
+    /// How many packets were far from the highest number.
     far: &'a Cell<u64>,
     /// How resends are bounded, if they are.
     bounded: Option<Bounded<'a>>,
@@ -118,10 +122,19 @@ fn goodbyes_of(alloc: Global, sources: &[Ssrc]) -> Result<Vec<Vec<u8>>, AllocErr
     Ok(goodbyes)
 }
 
+/// Room for a packet of each of so many endpoints.
+fn empty_of(alloc: Global, endpoints: usize) -> Result<Vec<Vec<u8>>, AllocError> {
+    let mut odd = Vec::with_capacity(alloc, endpoints)?;
+    for _endpoint in 0..endpoints {
+        odd.push(Vec::new(alloc))?;
+    }
+    Ok(odd)
+}
+
 impl<'a, S: Source + Drop> Screen<'a, S> {
     ghost use Rattle.std.specs.Prelude.{◌≡◌, IfOk};
 
-    /// Screens what a source gives from now on, of the endpoints with these sources. Raises `far` for each packet that isn't given.
+    /// Screens what a source gives from now on, of the endpoints with these sources. Raises `far` for each far packet.
     pub fn new(
         alloc: Global,
         source: S,
@@ -137,6 +150,7 @@ impl<'a, S: Source + Drop> Screen<'a, S> {
             rules,
             goodbyes: goodbyes_of(alloc, sources)?,
             starts: Starts::new(alloc, sources.len())?,
+            odd: empty_of(alloc, sources.len())?,
             waiting: None,
             bytes: vec![in alloc; 0; MAX_DATAGRAM]?,
             far,
@@ -216,8 +230,23 @@ impl<'a, S: Source + Drop> Screen<'a, S> {
         }
     }
 
-    /// Writes the goodbye of the endpoint over the packet at the front of `out`, which is given next. Says how long the goodbye is; if
-    /// there is no room for one or the other, the packet stays, and is given now.
+    /// Counts a far packet of the endpoint, and puts it by, in place of the one before.
+    fn put_by(&mut self, endpoint: u16, packet: &[u8])
+        ensures source { self.new.source ≡ self.old.source }
+    {
+        self.far.set(self.far.get().saturating_add(1));
+        let at = usize::from(endpoint);
+        if at < self.odd.len() {
+            let odd = &mut self.odd[at];
+            odd.clear();
+            if odd.extend_from_slice(packet).is_err() {
+                odd.clear();
+            }
+        }
+    }
+
+    /// Writes the goodbye of the endpoint over the packet at the front of `out`, which is given after the far one before it. Says how long
+    /// the goodbye is; if there is no room for it or the packet, the packet stays, and is given now.
     fn say_goodbye(&mut self, endpoint: u16, len: usize, out: &mut [u8]) -> usize
         requires { len ≤ length out.old }
         ensures source { self.new.source ≡ self.old.source }
@@ -231,24 +260,42 @@ impl<'a, S: Source + Drop> Screen<'a, S> {
         }
         self.bytes[..len].copy_from_slice(&out[..len]);
         out[..goodbye.len()].copy_from_slice(goodbye.as_slice());
-        self.waiting = Some(Waiting { endpoint, len });
+        self.waiting = Some(Waiting::Far { endpoint, len });
         goodbye.len()
     }
 
-    /// Gives the packet that waits, if there is room for it.
-    fn give(&self, waiting: Waiting, out: &mut [u8]) -> Received
-        ensures { FitsIn (length out.new) result }
+    /// Gives what waits, if there is room for it.
+    fn give(&mut self, waiting: Waiting, out: &mut [u8]) -> Received
+        ensures source { self.new.source ≡ self.old.source }
+        ensures within { FitsIn (length out.new) result }
     {
-        let Waiting { endpoint, len } = waiting;
-        if len > out.len() || len > self.bytes.len() {
-            return Received::Nothing;
-        }
-        out[..len].copy_from_slice(&self.bytes.as_slice()[..len]);
-        Received::Datagram {
-            endpoint,
-            length: len,
+        match waiting {
+            Waiting::Far { endpoint, len } => {
+                self.waiting = Some(Waiting::Packet { endpoint, len });
+                self.count_packet(endpoint);
+                match self.odd.get(usize::from(endpoint)) {
+                    Some(odd) => copied(odd.as_slice(), endpoint, out),
+                    None => Received::Nothing,
+                }
+            }
+            Waiting::Packet { endpoint, len } => match self.bytes.as_slice().get(..len) {
+                Some(packet) => copied(packet, endpoint, out),
+                None => Received::Nothing,
+            },
         }
     }
+}
+
+/// Gives a packet of the endpoint, if there is one, and room for it.
+fn copied(packet: &[u8], endpoint: u16, out: &mut [u8]) -> Received
+    ensures { FitsIn (length out.new) result }
+{
+    let length = packet.len();
+    if length == 0 || length > out.len() {
+        return Received::Nothing;
+    }
+    out[..length].copy_from_slice(packet);
+    Received::Datagram { endpoint, length }
 }
 
 impl Bounded<'_> {
@@ -327,7 +374,7 @@ impl<S: Source + Drop> Source for Screen<'_, S> {
                 None => Ok(Received::Nothing),
             },
             Placement::Far => {
-                self.far.set(self.far.get().saturating_add(1));
+                self.put_by(endpoint, &out[..length]);
                 Ok(Received::Nothing)
             }
             Placement::Anew => {

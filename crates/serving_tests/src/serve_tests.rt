@@ -101,8 +101,8 @@ fn a_silent_endpoint_is_gone(rt: HostRuntime) -> Result<(), Fail> {
     Ok(())
 }
 
-/// The publisher begins anew with other numbers: its first packet is left out, and from the second one on it is sent on, under the
-/// numbers after those that were used. With threads that is so once a worker has sent on what came before.
+/// The publisher begins anew with other numbers: from its first packet on it is sent on, under the numbers after those that were used.
+/// With threads that is so once a worker has sent on what came before.
 #[test]
 fn serves_a_publisher_that_starts_anew(rt: HostRuntime) -> Result<(), Fail> {
     let alloc = rt.alloc();
@@ -122,8 +122,8 @@ fn serves_a_publisher_that_starts_anew(rt: HostRuntime) -> Result<(), Fail> {
     };
     let _ = served(&rt, &room, 1, rules, 20)?;
     assert_eq!(rt;
-        come(alloc, &room.subscriber, 4)?.as_str(),
-        "8060006400000bb800000101aabb\n8060006500000bb800000101aabb\n8060006600000bb800000101aabb\n8060006700000bb800000101aabb\n"
+        come(alloc, &room.subscriber, 5)?.as_str(),
+        "8060006400000bb800000101aabb\n8060006500000bb800000101aabb\n8060006600000bb800000101aabb\n8060006700000bb800000101aabb\n8060006800000bb800000101aabb\n"
     );
     Ok(())
 }
