@@ -22,7 +22,7 @@ PUBLISHER = 18
 SETTINGS = """workers = 2
 ring = 8
 history = 1024
-timeout_ms = 60000
+timeout_ms = 86400000
 report_ms = 60000
 pli_gap_ms = 500
 unit_ssrc = 9

@@ -1,13 +1,14 @@
 #!/usr/bin/env python3
 """One endpoint floods the unit with rubbish, while another one's media go to a third.
 
-    bench/field/flood.py SFU [SECONDS] [--without]
+    bench/field/flood.py SFU [SECONDS] [--without] [--goings]
 
 SFU is the built program. A publisher sends 500 packets a second to one subscriber, for 10 seconds if nothing else is said. Each 20 ms another endpoint sends
 BURST datagrams in a row: RTCP that holds thousands of empty packets, so that each is dear to read. Prints how many of the publisher's packets came,
 what of the flood was heard and what wasn't, by endpoint, and the processor time of the unit; ends with status 1 if a packet of the publisher is missing
 though the system dropped nothing, if nothing of the flood was let go, or if a line of counts doesn't begin with the time (`--log-time`). With
-`--without` the file has no `flood_limit`. By hand: nothing of it is proved.
+`--without` the file has no `flood_limit`. With `--goings` there are two workers, and the other endpoint, which is sent the publisher's packets, too,
+comes and goes: every other datagram is its goodbye, so that rows change with each. By hand: nothing of it is proved.
 """
 
 import os
@@ -21,7 +22,7 @@ import tempfile
 import threading
 import time
 
-SETTINGS = """workers = 1
+SETTINGS = """workers = {}
 ring = 64
 history = 1024
 timeout_ms = 60000
@@ -48,10 +49,19 @@ subscriber = 1
 publisher = 0
 out_ssrc = 257
 """
+SECOND_LEG = """
+[[leg]]
+subscriber = 2
+publisher = 0
+out_ssrc = 258
+"""
 LIMIT = "flood_limit = 5\n"
 RATE, PAUSE, BURST = 500, 0.02, 60
 # Packets of application-defined RTCP without a body (RFC 3550, section 6.7), after an empty report of source 18.
-RUBBISH = struct.pack("!BBHI", 0x80, 201, 1, 18) + struct.pack("!BBH", 0x80, 204, 0) * 500
+HERE = struct.pack("!BBHI", 0x80, 201, 1, 18)
+RUBBISH = [HERE + struct.pack("!BBH", 0x80, 204, 0) * 500]
+# It comes, and it goes (RFC 3550, section 6.6).
+GOINGS = [HERE, HERE + struct.pack("!BBHI", 0x81, 203, 1, 18)]
 
 
 def bound_socket():
@@ -68,13 +78,14 @@ def cpu_seconds(pid):
     return (int(fields[11]) + int(fields[12])) / os.sysconf("SC_CLK_TCK")
 
 
-def play(program, seconds, limit, folder):
+def play(program, seconds, limit, goings, folder):
     publisher, subscriber, flooder, free = (bound_socket() for _ in range(4))
     unit_at = free.getsockname()
     free.close()
     file, control = os.path.join(folder, "room.toml"), os.path.join(folder, "control")
     with open(file, "w") as out:
-        out.write(SETTINGS.format(limit, unit_at[1], *(it.getsockname()[1] for it in (publisher, subscriber, flooder))))
+        ports = (it.getsockname()[1] for it in (publisher, subscriber, flooder))
+        out.write(SETTINGS.format(2 if goings else 1, limit, unit_at[1], *ports) + (SECOND_LEG if goings else ""))
     unit = subprocess.Popen([program, "serve", file, "--log-time", "--status", "1", "--control", control], stdout=subprocess.DEVNULL, stderr=subprocess.PIPE, text=True)
     unit.stderr.readline()
     lines = []
@@ -107,8 +118,8 @@ def play(program, seconds, limit, folder):
                 sent += 1
             if now >= next_burst:
                 next_burst += PAUSE
-                for _ in range(BURST):
-                    flooder.sendto(RUBBISH, unit_at)
+                for number in range(BURST):
+                    flooder.sendto((GOINGS if goings else RUBBISH)[number % (1 + goings)], unit_at)
                 flood += BURST
             time.sleep(0.0005)
         time.sleep(1.5)
@@ -125,15 +136,15 @@ def play(program, seconds, limit, folder):
     flooded = int(re.search(r'^sfu_endpoint_flooded_total\{endpoint="2"\} (\d+)$', metrics, re.M).group(1))
     lines = [it for it in lines if " present " in it or it.startswith("present")]
     timed = [it for it in lines if re.match(r"\d{4}-\d\d-\d\dT\d\d:\d\d:\d\dZ present ", it)]
-    print(f"{len(came)} of {sent} packets came; of {flood} datagrams of rubbish {flooded} weren't heard; unread {counts.get('unread', 0)}; the unit took {cost:.2f} s of processor time")
+    print(f"{len(came)} of {sent} packets came; of {flood} datagrams of the other one {flooded} weren't heard; unread {counts.get('unread', 0)}; the unit took {cost:.2f} s of processor time")
     print(f"{len(timed)} of {len(lines)} lines begin with the time; the last: {lines[-1].strip() if lines else 'none'}")
     is_missing = len(came) < sent and not counts.get("unread", 0)
     return 1 if is_missing or not lines or len(timed) < len(lines) or (limit and not flooded) else 0
 
 
 if __name__ == "__main__":
-    asked = [it for it in sys.argv[1:] if it != "--without"]
+    asked = [it for it in sys.argv[1:] if it not in ("--without", "--goings")]
     if len(asked) not in (1, 2):
         sys.exit(__doc__)
     with tempfile.TemporaryDirectory() as room:
-        sys.exit(play(asked[0], int(asked[1]) if len(asked) == 2 else 10, "" if "--without" in sys.argv else LIMIT, room))
+        sys.exit(play(asked[0], int(asked[1]) if len(asked) == 2 else 10, "" if "--without" in sys.argv else LIMIT, "--goings" in sys.argv, room))
