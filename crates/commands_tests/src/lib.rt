@@ -5,15 +5,11 @@
 #![tactic(auto)]
 
 #[cfg(test)]
-mod command_tests;
-#[cfg(test)]
 mod ending_tests;
 #[cfg(test)]
 mod line_tests;
 #[cfg(test)]
 mod meter_tests;
-#[cfg(test)]
-mod record_tests;
 #[cfg(test)]
 mod replay_tests;
 #[cfg(test)]

@@ -242,8 +242,8 @@ fn goodbyes(rt: HostRuntime) -> Result<(), Fail> {
 }
 
 /// A fault comes before a goodbye, and nothing is asked for. Then the first of two faults; faults of RTCP come before those of feedback;
-/// and packet types 191 and 224 are read as RTP, 192 and 223 as RTCP.
-const REFUSALS: [Case; 8] = [
+/// packet types 191 and 224 are read as RTP, 192 and 223 as RTCP; and so is as RTP what has no bytes.
+const REFUSALS: [Case; 9] = [
     (17, "RR ODD", "refused feedback OddFci"),
     (17, "TMMBR BYE ODD", "refused feedback OddFci"),
     (17, "TMMBR 81cd000100000011 ODD", "refused feedback Short"),
@@ -252,6 +252,7 @@ const REFUSALS: [Case; 8] = [
     (17, "80c0000100000011", "control 17"),
     (17, "80df000100000011", "control 17"),
     (17, "80e0000100000011", "refused rtp Short"),
+    (17, "", "refused rtp Short"),
 ];
 
 #[test]

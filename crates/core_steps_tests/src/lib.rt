@@ -9,19 +9,11 @@ mod cut_tests;
 #[cfg(test)]
 mod intake_tests;
 #[cfg(test)]
-mod legs_tests;
-#[cfg(test)]
 mod listener;
 #[cfg(test)]
 mod memory_tests;
 #[cfg(test)]
-mod notification_tests;
-#[cfg(test)]
-mod prefix_tests;
-#[cfg(test)]
 mod quiet_run_tests;
-#[cfg(test)]
-mod quiet_tests;
 #[cfg(test)]
 mod random_room;
 #[cfg(test)]

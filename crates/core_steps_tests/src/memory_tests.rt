@@ -6,8 +6,8 @@ use std::alloc::Global;
 use std::process::Abort;
 use std::test::Fail;
 
-/// Examples 21 to 23, step by step.
-const STEPS: [Step<'static>; 21] = [
+/// Examples 21 to 23, step by step, and in the end a worker that isn't there, which has nothing to do.
+const STEPS: [Step<'static>; 22] = [
     Hear(0, 0, "8060000700000bb800000010aabb"),
     Hear(0, 1, "80c9000100000011"),
     Ingress,
@@ -29,20 +29,20 @@ const STEPS: [Step<'static>; 21] = [
     Ingress,
     Ingress,
     Ingress,
+    Work(2),
 ];
 
 /// The events of the examples.
 fn events(alloc: Global) -> Option<Vec<Event>> {
     let mut events = Vec::new(alloc);
     for step in &STEPS {
-        let event = event_of(alloc, step).ok()?;
-        events.push(event?).ok()?;
+        events.push(event_of(alloc, step).ok()?).ok()?;
     }
     Some(events)
 }
 
 fn new_world(alloc: Global) -> Option<World> {
-    let settings = settings(alloc, 1000, 60_000, 0).ok()?;
+    let settings = settings(alloc).ok()?;
     World::new(alloc, &settings).ok()
 }
 
@@ -138,7 +138,7 @@ fn is_left(
     let left = left_by(alloc, world, outs).ok_or("no memory")?;
     let wanted = wanted_of(alloc, events).ok_or("no memory")?;
     assert_eq!(rt; left.as_str(), wanted.as_str());
-    assert!(rt; left.as_str().starts_with("send 0 80c9"));
+    assert!(rt; left.as_str().starts_with("send 0 80c9") && left.as_str().contains("\nidle\n"));
     Ok(())
 }
 

@@ -12,44 +12,19 @@ use std::test::Fail;
 #[derive(Clone, Copy)]
 pub(crate) enum Step<'a> {
     Hear(u64, u16, &'a str),
-    Tick(u64),
     Ingress,
     Work(u16),
-    /// The ingress until nothing waits for it, then each worker until it has nothing to do.
-    Settle,
 }
 
-pub(crate) use Step::{Hear, Ingress, Settle, Tick, Work};
-
-/// Both endpoints come, and 17 asks 16 for 1000/40.
-pub(crate) const ASKED: [Step<'static>; 6] = [
-    Hear(0, 0, "8060000700000bb800000010aabb"),
-    Settle,
-    Hear(0, 1, "80c9000100000011"),
-    Settle,
-    Hear(10, 1, "83cd00040000001100000000000001010007d028"),
-    Settle,
-];
-
-/// The times of most examples: an endpoint is silent for 1 s before it has left, reports are 60 s apart, and requests never grow
-/// too old.
-pub(crate) const TIMES: [i64; 3] = [1000, 60_000, 0];
+pub(crate) use Step::{Hear, Ingress, Work};
 
 /// The settings of the examples: endpoints 16 and 17, and a leg of what the first publishes to the second.
-pub(crate) fn settings(
-    alloc: Global,
-    timeout_ms: i64,
-    report_ms: i64,
-    request_ms: i64,
-) -> Result<Settings, SettingsFault> {
-    let mut parts = parts(alloc).map_err(|_| SettingsFault::NoMemory)?;
-    parts.timeout_ms = Some(timeout_ms);
-    parts.report_ms = Some(report_ms);
-    parts.request_ms = Some(request_ms);
+pub(crate) fn settings(alloc: Global) -> Result<Settings, SettingsFault> {
+    let parts = parts(alloc).map_err(|_| SettingsFault::NoMemory)?;
     Settings::new(alloc, &parts)
 }
 
-/// Those settings, with the times of the examples.
+/// What they are made of.
 fn parts(alloc: Global) -> Result<Parts, AllocError> {
     let leg = LegParts {
         subscriber: Some(1),
@@ -72,17 +47,6 @@ fn digit(byte: u8) -> u8
         b'a'..=b'f' => byte - b'a' + 10,
         _ => 0,
     }
-}
-
-/// The number that these hexadecimal digits spell.
-pub(crate) fn number_of(hex: &str) -> u64 {
-    let mut number: u64 = 0;
-    for byte in hex.as_bytes() {
-        number = number
-            .wrapping_mul(16)
-            .wrapping_add(u64::from(digit(*byte)));
-    }
-    number
 }
 
 /// The bytes that these hexadecimal digits spell.
@@ -125,50 +89,17 @@ pub(crate) fn settle(world: &mut World, outs: &mut Vec<Out>) -> Result<(), Fail>
     Ok(())
 }
 
-/// The event of a step; `None` where it settles.
-pub(crate) fn event_of(alloc: Global, step: &Step<'_>) -> Result<Option<Event>, AllocError> {
+/// The event of a step.
+pub(crate) fn event_of(alloc: Global, step: &Step<'_>) -> Result<Event, AllocError> {
     Ok(match *step {
-        Hear(moment, endpoint, hex) => Some(Event::Hear {
+        Hear(moment, endpoint, hex) => Event::Hear {
             moment,
             endpoint,
             bytes: Bytes::new(bytes_of(alloc, hex)?),
-        }),
-        Tick(moment) => Some(Event::Tick { moment }),
-        Ingress => Some(Event::Ingress),
-        Work(worker) => Some(Event::Work(worker)),
-        Settle => None,
+        },
+        Ingress => Event::Ingress,
+        Work(worker) => Event::Work(worker),
     })
-}
-
-/// A new world of the examples' room with these times: of silence until an endpoint has left, from report to report, and until
-/// a request is too old.
-pub(crate) fn new_world(alloc: Global, times: [i64; 3]) -> Result<World, Fail> {
-    let [timeout_ms, report_ms, request_ms] = times;
-    let settings = settings(alloc, timeout_ms, report_ms, request_ms)?;
-    Ok(World::new(alloc, &settings)?)
-}
-
-/// Does these steps; nobody looks at what they give out.
-pub(crate) fn play(alloc: Global, world: &mut World, steps: &[Step<'_>]) -> Result<(), Fail> {
-    let mut outs = Vec::new(alloc);
-    for step in steps {
-        do_step(alloc, world, step, &mut outs)?;
-    }
-    Ok(())
-}
-
-/// Does one step; what it gives out stands in `outs`.
-fn do_step(
-    alloc: Global,
-    world: &mut World,
-    step: &Step<'_>,
-    outs: &mut Vec<Out>,
-) -> Result<(), Fail> {
-    match event_of(alloc, step)? {
-        Some(event) => do_events(world, [event].as_slice(), outs)?,
-        None => settle(world, outs)?,
-    }
-    Ok(())
 }
 
 /// What was given out, a line each.

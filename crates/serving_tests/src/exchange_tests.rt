@@ -1,14 +1,14 @@
 //! Two sockets that exchange packets through the unit, and ask for every tenth again.
 use crate::loopback::{ANY_PORT, client_at, ran, settings_in};
 use serving::{Client, Gauges, Sockets};
-use std::alloc::Global;
+use std::alloc::{AllocError, Global};
+use std::fmt::Write;
 use std::net::{Net, SocketAddr, UdpSocket};
-use std::process::Abort;
 use std::sync::Wait;
 use std::test::Fail;
 use std::thread::Threads;
 use std::time::{Clock, Duration};
-use workers::{Status, Watch};
+use workers::{Report, Status, Watch};
 
 /// How many packets each endpoint sends to the other.
 const PACKETS: u32 = 50_000;
@@ -26,7 +26,7 @@ const LENGTH: usize = 200;
 const FIRST: u16 = 65_500;
 
 /// What an endpoint is known by, and what it is sent.
-#[derive(Clone, Copy, Debug, PartialEq, Eq)]
+#[derive(Clone, Copy)]
 struct Sources {
     /// Its own source.
     own: u8,
@@ -233,7 +233,7 @@ impl Watch for Exchange<'_, '_> {
 }
 
 /// The settings of a unit that sends each endpoint what the other publishes, from number 65,500 on.
-const BOTH_WAYS: &str =
+pub(crate) const BOTH_WAYS: &str =
     "workers = 2\nring = 64\nhistory = 128\ntimeout_ms = 86400000\nreport_ms = 86400000\npli_gap_ms = 500\nunit_ssrc = 9\ncname = \"sfu\"\n[[endpoint]]\nssrc = 16\n[[endpoint]]\nssrc = 17\n[[leg]]\nsubscriber = 0\npublisher = 1\nout_ssrc = 129\nfirst_seq = 65500\n[[leg]]\nsubscriber = 1\npublisher = 0\nout_ssrc = 130\nfirst_seq = 65500\n";
 
 /// A socket of the test, whose receives wait for some seconds.
@@ -243,13 +243,22 @@ fn patient_socket(rt: &impl Net) -> Result<UdpSocket, Fail> {
     Ok(socket)
 }
 
-/// That all came to an endpoint that should, each tenth packet again, and nothing else.
-fn assert_done(rt: &impl Abort, alloc: Global, peer: &mut Peer, to: SocketAddr) {
+/// Has an endpoint take what is left to come, and writes what came to it.
+fn write_come(
+    text: &mut String,
+    alloc: Global,
+    peer: &mut Peer,
+    to: SocketAddr,
+) -> Result<(), AllocError> {
     let _ = peer.take_rest(alloc, to);
-    assert_eq!(rt; peer.wrong, 0);
-    assert_eq!(rt; peer.come, PACKETS);
-    assert_eq!(rt; peer.again, PACKETS / AGAIN);
-    assert!(rt; peer.asked.is_empty());
+    let Peer {
+        wrong,
+        come,
+        again,
+        ..
+    } = peer;
+    write!(text, "\n{come} came, {again} again, {wrong} wrong")?;
+    write!(text, ", {} are missing", peer.asked.len())
 }
 
 /// The two endpoints at these sockets; each says that it is there.
@@ -272,7 +281,6 @@ fn exchanged(
     rt: &(impl AllocGlobal + Threads + Wait + Sync + Clock),
     unit: &UdpSocket,
     clients: &[Client],
-    turns: u64,
     first: &mut Peer,
     second: &mut Peer,
 ) -> Result<String, Fail> {
@@ -286,39 +294,61 @@ fn exchanged(
     };
     let gauges = Gauges::new();
     let sockets = Sockets::one(unit);
-    let report = ran(rt, sockets, &settings, clients, turns, &gauges, exchange)?;
-    let text = format!(in rt.alloc();
-        "heard {} sent {} failed {} lost {} dropped {} strangers {}",
-        report.heard,
-        report.sent,
-        report.failed,
-        report.lost,
-        report.dropped,
-        gauges.strangers.get()
-    )?;
+    let report = ran(rt, sockets, &settings, clients, TURNS, &gauges, exchange)?;
+    let strangers = gauges.strangers.get();
+    Ok(report_text(rt.alloc(), &report, strangers)?)
+}
+
+/// The counts of a report, and how many strangers came.
+fn report_text(alloc: Global, report: &Report, strangers: u64) -> Result<String, AllocError> {
+    let mut text = String::new(alloc);
+    write!(text, "heard {} sent {}", report.heard, report.sent)?;
+    write!(text, " failed {} lost {}", report.failed, report.lost)?;
+    write!(text, " dropped {} strangers {strangers}", report.dropped)?;
     Ok(text)
 }
+
+/// What the run came to, and what came to each of the two.
+fn exchanged_between(
+    rt: &(impl AllocGlobal + Threads + Wait + Sync + Clock),
+    unit: &UdpSocket,
+    clients: &[Client],
+    first: &mut Peer,
+    second: &mut Peer,
+) -> Result<String, Fail> {
+    let to = unit.local_addr()?;
+    let mut text = exchanged(rt, unit, clients, first, second)?;
+    write_come(&mut text, rt.alloc(), first, to)?;
+    write_come(&mut text, rt.alloc(), second, to)?;
+    Ok(text)
+}
+
+/// The same of two new sockets.
+fn exchanged_at(
+    rt: &(impl AllocGlobal + Net + Threads + Wait + Sync + Clock),
+    unit: &UdpSocket,
+) -> Result<String, Fail> {
+    let first = patient_socket(rt)?;
+    let second = patient_socket(rt)?;
+    let clients = [client_at(&first)?, client_at(&second)?];
+    let [mut first, mut second] = peers(rt.alloc(), first, second, unit.local_addr()?)?;
+    exchanged_between(rt, unit, &clients, &mut first, &mut second)
+}
+
+/// In the turns of a run each endpoint says that it is there, and both send all packets and ask for every tenth again.
+const TURNS: u64 = 2 + 2 * (50_000 + 5_000);
 
 /// Two endpoints send each other packets through the unit, each asks for every tenth again, and none is lost: what comes is
 /// numbered without gaps, over the end of the sequence numbers, and what comes again is what came before.
 #[test]
 fn exchanges_packets(rt: HostRuntime) -> Result<(), Fail> {
-    let alloc = rt.alloc();
     let unit = UdpSocket::bind(&rt, ANY_PORT)?;
-    let to = unit.local_addr()?;
-    let first = patient_socket(&rt)?;
-    let second = patient_socket(&rt)?;
-    let clients = [client_at(&first)?, client_at(&second)?];
-    let [mut first, mut second] = peers(alloc, first, second, to)?;
-    let again = PACKETS / AGAIN;
-    let turns = 2 + 2 * u64::from(PACKETS + again);
-    let came_to = exchanged(&rt, &unit, &clients, turns, &mut first, &mut second)?;
-    let wanted = format!(in alloc;
-        "heard {turns} sent {} failed 0 lost 0 dropped 0 strangers 0",
-        2 * u64::from(PACKETS + again)
-    )?;
-    assert_done(&rt, alloc, &mut first, to);
-    assert_done(&rt, alloc, &mut second, to);
-    assert_eq!(rt; came_to.as_str(), wanted.as_str());
+    let text = exchanged_at(&rt, &unit)?;
+    assert_eq!(rt;
+        text.as_str(),
+        "heard 110002 sent 110000 failed 0 lost 0 dropped 0 strangers 0\n\
+        50000 came, 5000 again, 0 wrong, 0 are missing\n\
+        50000 came, 5000 again, 0 wrong, 0 are missing"
+    );
     Ok(())
 }

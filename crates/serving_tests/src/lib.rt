@@ -1,15 +1,12 @@
-//! The tests of `serving` on sockets of the loopback interface, in a crate of their own so that it isn't proved a second time with them.
+//! The tests of `serving`, in a crate of their own so that it isn't proved a second time with them. What can be seen of a unit by its
+//! clients and its peers are cases of `cases/`.
 //!
-//! `loopback` is a unit's socket and the sockets of two endpoints.
+//! `loopback` has what tests need of sockets and settings.
 #![tactic(auto)]
 
 #[cfg(test)]
 mod exchange_tests;
 #[cfg(test)]
-mod file_tests;
-#[cfg(test)]
 mod loopback;
 #[cfg(test)]
-mod serve_tests;
-#[cfg(test)]
-mod steering_tests;
+mod sink_tests;
