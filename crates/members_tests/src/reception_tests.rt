@@ -1,211 +1,207 @@
-//! Packets in, blocks out.
+//! Packets in, blocks out. A script's first word names what is done, as in `scripts`: `packet MOMENT SEQ TIMESTAMP`, `report MOMENT NTP
+//! RTP`, `block MOMENT`, `last`, and `new`, which begins anew.
+use crate::scripts::{low_16, low_32, numbers_of, write_last, write_some_block};
 use members::reception::Reception;
 use members::stream::{self, Stream};
 use members::*;
+use std::alloc::{AllocError, Global};
+use std::fmt::Write;
+use std::process::Abort;
 use std::test::Fail;
 use tmmbr_tuple::Ssrc;
 
 const SOURCE: Ssrc = Ssrc(16);
 
-/// The block about `SOURCE` that is made at this moment, as its fields in order.
-fn fields(
-    reception: &mut Reception,
-    moment: u64,
-) -> Result<(u32, u8, i32, u32, u32, u32, u32), Fail> {
-    let block = reception.block(moment, SOURCE).ok_or("no block")?;
-    Ok((
-        block.source.0,
-        block.fraction,
-        block.lost,
-        block.highest,
-        block.jitter,
-        block.last_sr,
-        block.delay,
-    ))
+/// The block at this moment, with the highest number as it stands above this one.
+fn block_above(reception: &mut Reception, moment: u64, base: u16) -> Option<Block> {
+    let block = reception.block(moment, SOURCE)?;
+    Some(Block {
+        source: block.source,
+        fraction: block.fraction,
+        lost: block.lost,
+        highest: block.highest.wrapping_sub(u32::from(base)),
+        jitter: block.jitter,
+        last_sr: block.last_sr,
+        delay: block.delay,
+    })
 }
 
+/// Does what these words say, and writes what it gives.
+fn play_words(
+    reception: &mut Reception,
+    base: u16,
+    name: &str,
+    words: &str,
+    text: &mut String,
+) -> Result<(), AllocError> {
+    let [moment, first, second] = numbers_of(words);
+    match name {
+        "packet" => reception.received(moment, base.wrapping_add(low_16(first)), low_32(second)),
+        "report" => reception.sender_report(moment, first, low_32(second)),
+        "block" => write_some_block(text, block_above(reception, moment, base))?,
+        "last" => write_last(text, reception.last_sr())?,
+        _ => *reception = Reception::new(),
+    }
+    Ok(())
+}
+
+/// The script again, with what its lines gave, where sequence numbers begin at this one.
+fn played(alloc: Global, base: u16, script: &str) -> Result<String, Fail> {
+    let mut reception = Reception::new();
+    let mut text = String::new(alloc);
+    for line in script.lines() {
+        let (step, _) = line.split_once(':').ok_or("a line")?;
+        let (name, words) = step.split_once(' ').unwrap_or((step, ""));
+        write!(text, "{step}:")?;
+        play_words(&mut reception, base, name, words, &mut text)?;
+        text.push('\n')?;
+    }
+    Ok(text)
+}
+
+/// Each line of the script gives what it says.
+fn plays(rt: &impl Abort, alloc: Global, base: u16, script: &str) -> Result<(), Fail> {
+    let text = played(alloc, base, script)?;
+    assert_eq!(rt; text.as_str(), script);
+    Ok(())
+}
+
+/// One of four lost, which is 64 of 256; transits 0, 0 and -900, so 900 / 16 of jitter.
 #[test]
 fn block_of_example_19(rt: HostRuntime) -> Result<(), Fail> {
-    let mut reception = Reception::new();
-    reception.received(0, 10, 0);
-    reception.received(20, 11, 1800);
-    reception.received(50, 13, 5400);
-    // One of four lost, which is 64 of 256; transits 0, 0 and -900, so 900 / 16 of jitter.
-    assert_eq!(rt; fields(&mut reception, 50)?, (16, 0x40, 1, 13, 56, 0, 0));
-    Ok(())
+    let script = "packet 0 10 0:\n\
+        packet 20 11 1800:\n\
+        packet 50 13 5400:\n\
+        block 50: 16 64 1 13 56 0 0\n";
+    plays(&rt, rt.alloc(), 0, script)
 }
 
+/// 2700 / 16 of jitter; 80 ms are 5242.88 units of 1/65536 s.
 #[test]
 fn block_with_a_sender_report(rt: HostRuntime) -> Result<(), Fail> {
-    let mut reception = Reception::new();
-    reception.received(0, 7, 3000);
-    reception.sender_report(20, 0x0000_000a_8000_0000, 3000);
-    reception.received(30, 8, 3000);
-    // 2700 / 16 of jitter; 80 ms are 5242.88 units of 1/65536 s.
-    assert_eq!(rt;
-        fields(&mut reception, 100)?,
-        (16, 0, 0, 8, 0xa8, 0x000a_8000, 0x147a)
-    );
-    Ok(())
+    let script = "packet 0 7 3000:\n\
+        report 20 45097156608 3000:\n\
+        packet 30 8 3000:\n\
+        block 100: 16 0 0 8 168 688128 5242\n";
+    plays(&rt, rt.alloc(), 0, script)
 }
 
 #[test]
-fn no_block_before_a_packet(rt: HostRuntime) {
-    let mut reception = Reception::new();
-    assert_eq!(rt; reception.last_sr(), None);
-    assert!(rt; reception.block(0, SOURCE).is_none());
-    reception.sender_report(5, 0x0123_4567_89ab_cdef, 90);
-    assert!(rt; reception.block(9, SOURCE).is_none());
-    assert_eq!(rt; reception.last_sr(), Some((0x0123_4567_89ab_cdef, 90)));
-    reception.sender_report(6, 1, 2);
-    assert_eq!(rt; reception.last_sr(), Some((1, 2)));
+fn no_block_before_a_packet(rt: HostRuntime) -> Result<(), Fail> {
+    let script = "last: none\n\
+        block 0: none\n\
+        report 5 81985529216486895 90:\n\
+        block 9: none\n\
+        last: 81985529216486895 90\n\
+        report 6 1 2:\n\
+        last: 1 2\n";
+    plays(&rt, rt.alloc(), 0, script)
 }
 
-/// Packets of one stream as offsets from the first one's sequence number, and the block after each: the
-/// fraction lost of the packets expected since the one before, how many are lost in all, and how far the
-/// highest number is above the first (RFC 3550, appendix A.3).
-const ROUND_A_WRAP: [(u16, u8, i32, u32); 12] = [
-    (0, 0, 0, 0),
-    (1, 0, 0, 1),
-    // Two of three are missing.
-    (4, 170, 2, 4),
-    // A packet that comes twice counts twice.
-    (4, 0, 1, 4),
-    (2, 0, 0, 4),
-    (3, 0, -1, 4),
-    // One before the first.
-    (65535, 0, -2, 4),
-    // As far above the highest as is seen as above it: 32,766 of 32,767 are missing.
-    (32771, 255, 32764, 32771),
-    // As far below it as is seen as below it.
-    (3, 0, 32763, 32771),
-    (2, 255, 65529, 65538),
-    (3, 0, 65529, 65539),
-    (5, 128, 65530, 65541),
-];
+/// The fraction lost of the packets expected since the block before, how many are lost in all, and how far the highest number is above
+/// the first (RFC 3550, appendix A.3). Two of three are missing; a packet that comes twice counts twice; then one before the first; one
+/// as far above the highest as is seen as above it, of which 32,766 of 32,767 are missing; and one as far below as is seen as below.
+const ROUND_A_WRAP: &str = "packet 0 0 0:\nblock 0: 16 0 0 0 0 0 0\n\
+    packet 0 1 0:\nblock 0: 16 0 0 1 0 0 0\n\
+    packet 0 4 0:\nblock 0: 16 170 2 4 0 0 0\n\
+    packet 0 4 0:\nblock 0: 16 0 1 4 0 0 0\n\
+    packet 0 2 0:\nblock 0: 16 0 0 4 0 0 0\n\
+    packet 0 3 0:\nblock 0: 16 0 -1 4 0 0 0\n\
+    packet 0 65535 0:\nblock 0: 16 0 -2 4 0 0 0\n\
+    packet 0 32771 0:\nblock 0: 16 255 32764 32771 0 0 0\n\
+    packet 0 3 0:\nblock 0: 16 0 32763 32771 0 0 0\n\
+    packet 0 2 0:\nblock 0: 16 255 65529 65538 0 0 0\n\
+    packet 0 3 0:\nblock 0: 16 0 65529 65539 0 0 0\n\
+    packet 0 5 0:\nblock 0: 16 128 65530 65541 0 0 0\n";
 
 #[test]
 fn counts_round_every_wrap(rt: HostRuntime) -> Result<(), Fail> {
     for base in [0u16, 511, 32767, 32768, 65534, 65535] {
-        let mut reception = Reception::new();
-        for (offset, fraction, lost, above) in ROUND_A_WRAP {
-            reception.received(0, base.wrapping_add(offset), 0);
-            let highest = u32::from(base).wrapping_add(above);
-            assert_eq!(rt;
-                fields(&mut reception, 0)?,
-                (16, fraction, lost, highest, 0, 0, 0)
-            );
-        }
+        plays(&rt, rt.alloc(), base, ROUND_A_WRAP)?;
     }
     Ok(())
 }
 
+/// Three of seven are missing since the first block, and four of eleven in all.
 #[test]
 fn interval_is_since_the_last_block(rt: HostRuntime) -> Result<(), Fail> {
-    let mut reception = Reception::new();
-    for seq in [10, 11, 13] {
-        reception.received(0, seq, 0);
-    }
-    assert_eq!(rt; fields(&mut reception, 0)?, (16, 64, 1, 13, 0, 0, 0));
-    // Three of seven are missing since then, and four of eleven in all.
-    for seq in [14, 15, 17, 20] {
-        reception.received(0, seq, 0);
-    }
-    assert_eq!(rt; fields(&mut reception, 0)?, (16, 109, 4, 20, 0, 0, 0));
-    assert_eq!(rt; fields(&mut reception, 0)?, (16, 0, 4, 20, 0, 0, 0));
-    Ok(())
+    let script = "packet 0 10 0:\npacket 0 11 0:\npacket 0 13 0:\n\
+        block 0: 16 64 1 13 0 0 0\n\
+        packet 0 14 0:\npacket 0 15 0:\npacket 0 17 0:\npacket 0 20 0:\n\
+        block 0: 16 109 4 20 0 0 0\n\
+        block 0: 16 0 4 20 0 0 0\n";
+    plays(&rt, rt.alloc(), 0, script)
 }
 
 #[test]
 fn fractions(rt: HostRuntime) {
-    assert_eq!(rt; stream::fraction(0, 0), 0);
-    assert_eq!(rt; stream::fraction(3, 5), 0);
-    assert_eq!(rt; stream::fraction(257, 256), 0);
-    assert_eq!(rt; stream::fraction(256, 255), 1);
-    assert_eq!(rt; stream::fraction(2, 1), 128);
-    assert_eq!(rt; stream::fraction(1, 0), 255);
+    let fractions = [
+        stream::fraction(0, 0),
+        stream::fraction(3, 5),
+        stream::fraction(257, 256),
+        stream::fraction(256, 255),
+        stream::fraction(2, 1),
+        stream::fraction(1, 0),
+    ];
+    assert!(rt; fractions == [0, 0, 0, 1, 128, 255]);
 }
 
 #[test]
 fn lost_keeps_within_24_bits(rt: HostRuntime) {
-    assert_eq!(rt; stream::lost(5, 9), -4);
-    assert_eq!(rt; stream::lost(8_388_607, 0), 8_388_607);
-    assert_eq!(rt; stream::lost(8_388_608, 0), 8_388_607);
-    assert_eq!(rt; stream::lost(0, 8_388_608), -8_388_608);
-    assert_eq!(rt; stream::lost(0, 8_388_609), -8_388_608);
+    let lost = [
+        stream::lost(5, 9),
+        stream::lost(8_388_607, 0),
+        stream::lost(8_388_608, 0),
+        stream::lost(0, 8_388_608),
+        stream::lost(0, 8_388_609),
+    ];
+    assert!(rt; lost == [-4, 8_388_607, 8_388_607, -8_388_608, -8_388_608]);
 }
 
+/// 16 times the jitter is 24, and falls by (J + 8) / 16 with each packet that comes evenly: to 22, 21, 20, 19, 18, 17, 16 and 15.
 #[test]
 fn jitter_is_rounded(rt: HostRuntime) -> Result<(), Fail> {
-    let mut reception = Reception::new();
-    reception.received(0, 0, 0);
-    reception.received(0, 1, 24);
-    // 16 times the jitter is 24, and falls by (J + 8) / 16 with each packet that comes evenly: to 22, 21,
-    // 20, 19, 18, 17, 16 and 15.
-    for seq in 2..9 {
-        reception.received(0, seq, 24);
-        assert_eq!(rt; fields(&mut reception, 0)?.4, 1);
-    }
-    reception.received(0, 9, 24);
-    assert_eq!(rt; fields(&mut reception, 0)?.4, 0);
-    Ok(())
+    let script = "packet 0 0 0:\npacket 0 1 24:\n\
+        packet 0 2 24:\nblock 0: 16 0 0 2 1 0 0\n\
+        packet 0 3 24:\nblock 0: 16 0 0 3 1 0 0\n\
+        packet 0 4 24:\nblock 0: 16 0 0 4 1 0 0\n\
+        packet 0 5 24:\nblock 0: 16 0 0 5 1 0 0\n\
+        packet 0 6 24:\nblock 0: 16 0 0 6 1 0 0\n\
+        packet 0 7 24:\nblock 0: 16 0 0 7 1 0 0\n\
+        packet 0 8 24:\nblock 0: 16 0 0 8 1 0 0\n\
+        packet 0 9 24:\nblock 0: 16 0 0 9 0 0 0\n";
+    plays(&rt, rt.alloc(), 0, script)
 }
 
-/// The jitter of a packet at moment 0 with timestamp 0 and one more.
-fn jitter_with(moment: u64, timestamp: u32) -> Result<u32, Fail> {
-    let mut reception = Reception::new();
-    reception.received(0, 0, 0);
-    reception.received(moment, 1, timestamp);
-    Ok(fields(&mut reception, moment)?.4)
-}
-
+/// A difference of -1 or 1 is no jitter yet, and one of -16 or 16 is 1. The greatest difference is 2^31. In the end 2^64 - 1 ms, and
+/// (2^64 - 1) * 90 is -90 modulo 2^32.
 #[test]
 fn transits_wrap(rt: HostRuntime) -> Result<(), Fail> {
-    let rows = [
-        // A difference of -1 or 1 is no jitter yet, and one of -16 or 16 is 1.
-        (0, 1, 0),
-        (0, 0xffff_ffff, 0),
-        (0, 16, 1),
-        (0, 0xffff_fff0, 1),
-        // The greatest difference is 2^31.
-        (0, 0x7fff_ffff, 0x07ff_ffff),
-        (0, 0x8000_0000, 0x0800_0000),
-        (0, 0x8000_0001, 0x07ff_ffff),
-        // (2^64 - 1) * 90 is -90 modulo 2^32.
-        (u64::MAX, 0xffff_ffa6, 0),
-    ];
-    for (moment, timestamp, jitter) in rows {
-        assert_eq!(rt;
-            jitter_with(moment, timestamp)?,
-            jitter,
-            "{timestamp} at {moment}"
-        );
-    }
-    Ok(())
+    let script = "packet 0 0 0:\npacket 0 1 1:\nblock 0: 16 0 0 1 0 0 0\n\
+        new:\npacket 0 0 0:\npacket 0 1 4294967295:\nblock 0: 16 0 0 1 0 0 0\n\
+        new:\npacket 0 0 0:\npacket 0 1 16:\nblock 0: 16 0 0 1 1 0 0\n\
+        new:\npacket 0 0 0:\npacket 0 1 4294967280:\nblock 0: 16 0 0 1 1 0 0\n\
+        new:\npacket 0 0 0:\npacket 0 1 2147483647:\nblock 0: 16 0 0 1 134217727 0 0\n\
+        new:\npacket 0 0 0:\npacket 0 1 2147483648:\nblock 0: 16 0 0 1 134217728 0 0\n\
+        new:\npacket 0 0 0:\npacket 0 1 2147483649:\nblock 0: 16 0 0 1 134217727 0 0\n\
+        new:\npacket 0 0 0:\npacket 18446744073709551615 1 4294967206:\n\
+        block 18446744073709551615: 16 0 0 1 0 0 0\n";
+    plays(&rt, rt.alloc(), 0, script)
 }
 
+/// 65.536 units a millisecond, and 2^32 units after 65,536 seconds.
 #[test]
 fn delays(rt: HostRuntime) -> Result<(), Fail> {
-    let mut reception = Reception::new();
-    reception.received(0, 0, 0);
-    reception.sender_report(1000, 0x0123_4567_89ab_cdef, 0);
-    // 65.536 units a millisecond, and 2^32 units after 65,536 seconds.
-    let cases = [
-        (0, 0),
-        (999, 0),
-        (1000, 0),
-        (1001, 65),
-        (1015, 983),
-        (65_537_000, 0),
-        (65_537_001, 65),
-    ];
-    for (moment, delay) in cases {
-        assert_eq!(rt;
-            fields(&mut reception, moment)?,
-            (16, 0, 0, 0, 0, 0x4567_89ab, delay)
-        );
-    }
-    Ok(())
+    let script = "packet 0 0 0:\n\
+        report 1000 81985529216486895 0:\n\
+        block 0: 16 0 0 0 0 1164413355 0\n\
+        block 999: 16 0 0 0 0 1164413355 0\n\
+        block 1000: 16 0 0 0 0 1164413355 0\n\
+        block 1001: 16 0 0 0 0 1164413355 65\n\
+        block 1015: 16 0 0 0 0 1164413355 983\n\
+        block 65537000: 16 0 0 0 0 1164413355 0\n\
+        block 65537001: 16 0 0 0 0 1164413355 65\n";
+    plays(&rt, rt.alloc(), 0, script)
 }
 
 #[test]
@@ -213,11 +209,9 @@ fn later_packets_change_nothing(rt: HostRuntime) {
     let mut stream = Stream::begin(10, 0);
     stream.received = COUNTED_PACKETS - 1;
     stream.count(11, 0);
-    assert_eq!(rt; stream.received, 140_737_488_355_328);
-    let highest = stream.max_seq;
+    let (counted, highest) = (stream.received, stream.max_seq);
     stream.count(12, 900);
-    assert_eq!(rt; stream.received, COUNTED_PACKETS);
-    assert_eq!(rt; stream.max_seq, highest);
-    assert_eq!(rt; stream.transit, 0);
-    assert_eq!(rt; stream.jitter, 0);
+    let left = [stream.received, stream.max_seq];
+    assert!(rt; [counted, left[0]] == [140_737_488_355_328; 2] && left[1] == highest);
+    assert!(rt; stream.transit == 0 && stream.jitter == 0);
 }
