@@ -102,11 +102,31 @@ pub(crate) fn by_house<D: DeskCalls, S: SeatCalls, R: Wait>(
     }
 }
 
+/// Whether two effects are the same.
+fn is_same_effect(effect: &Effect, other: &Effect) -> bool {
+    effect.set.as_slice() == other.set.as_slice()
+        && effect.lifted.as_slice() == other.lifted.as_slice()
+        && effect.fresh.as_slice() == other.fresh.as_slice()
+}
+
 /// Receipt and effect are those of the reply that a desk gave.
 pub(crate) fn assert_same(rt: &impl Abort, receipt: &Receipt, effect: &Effect, reply: &Reply) {
-    assert_eq!(rt; receipt.number, reply.number);
-    assert_eq!(rt; receipt.answer, reply.answer, "at {}", reply.number);
-    assert_eq!(rt; effect.set.as_slice(), reply.effect.set.as_slice());
-    assert_eq!(rt; effect.lifted.as_slice(), reply.effect.lifted.as_slice());
-    assert_eq!(rt; effect.fresh.as_slice(), reply.effect.fresh.as_slice());
+    let is_same = receipt.number == reply.number
+        && receipt.answer == reply.answer
+        && is_same_effect(effect, &reply.effect);
+    assert!(rt; is_same, "at {}", reply.number);
+}
+
+/// The same of the receipt of this call to this publisher.
+pub(crate) fn assert_made(
+    rt: &impl Abort,
+    publisher: usize,
+    call: Call,
+    receipt: &Receipt,
+    effect: &Effect,
+    reply: &Reply,
+) {
+    let is_made = receipt.publisher == publisher && receipt.call == call;
+    assert!(rt; is_made, "at {}", reply.number);
+    assert_same(rt, receipt, effect, reply);
 }

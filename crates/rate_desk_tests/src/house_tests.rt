@@ -2,7 +2,7 @@
 
 ghost use Rattle.std.specs.Prelude.{◌≡◌, ◌<◌};
 
-use crate::calls::{ask, assert_same, at, by_desk, by_house, of};
+use crate::calls::{ask, assert_made, at, by_desk, by_house, of};
 use rate_desk::*;
 use std::alloc::Global;
 use std::marker::Brand;
@@ -75,13 +75,11 @@ fn call_each<D: DeskCalls, S: SeatCalls, R: Wait + Abort>(
 {
     let reply = by_desk(desk, call).ok_or("a reply")?;
     let (receipt, mut effect) = by_house(rt, house, seat, 1, call).ok_or("a receipt")?;
-    assert_eq!(rt; (receipt.publisher, receipt.call), (1, call));
-    assert_same(rt, &receipt, &effect, &reply);
+    assert_made(rt, 1, call, &receipt, &effect, &reply);
     receipts.push(receipt)?;
     let receipt = by_value(rt, house, seat, call, &mut effect).ok_or("a receipt")?;
-    assert_eq!(rt; (receipt.publisher, receipt.call), (0, call));
     // A pulse leaves what the other call filled in, which a tick doesn't change.
-    assert_same(rt, &receipt, &effect, &reply);
+    assert_made(rt, 0, call, &receipt, &effect, &reply);
     receipts.push(receipt)?;
     Ok(())
 }
@@ -121,7 +119,7 @@ fn call_all<D: DeskCalls, S: SeatCalls, R: Wait + Abort>(
 /// Each desk has those calls, and these words.
 fn assert_words(rt: &impl Abort, desks: &[Desk], words: u128) {
     for desk in desks {
-        assert_eq!(rt; (desk.calls(), desk.words()), (24, words));
+        assert!(rt; desk.calls() == 24 && desk.words() == words);
     }
 }
 
@@ -184,8 +182,7 @@ fn call_held_once<D: DeskCalls, S: SeatCalls, R: Wait + Abort>(
     let made = by_hold(rt, house, seat, hold, call, &mut effect);
     let receipt = made.ok_or("a receipt")?;
     let reply = by_desk(desk, call).ok_or("a reply")?;
-    assert_eq!(rt; (receipt.publisher, receipt.call), (1, call));
-    assert_same(rt, &receipt, &effect, &reply);
+    assert_made(rt, 1, call, &receipt, &effect, &reply);
     Ok(())
 }
 
@@ -218,8 +215,8 @@ fn hold_and_call<D: DeskCalls, S: SeatCalls, R: Wait + Abort>(
     let mut desk = Desk::new(alloc, 500, 1000)?;
     let mut hold = house.hold(rt, 1);
     call_held_all(rt, house, seat, &mut hold, &mut desk)?;
-    assert_eq!(rt; hold.desk().live(), desk.live());
-    assert_eq!(rt; hold.desk().announced(), desk.announced());
+    let is_same = hold.desk().live() == desk.live() && hold.desk().announced() == desk.announced();
+    assert!(rt; is_same);
     Ok(())
 }
 

@@ -197,10 +197,8 @@ fn assert_live(rt: &impl Abort, desk: &Desk) {
         owner: Ssrc(owner),
         tuple,
     };
-    assert_eq!(rt;
-        desk.live(),
-        [row(17), row(18), row(19), row(20)].as_slice()
-    );
+    let rows = [row(17), row(18), row(19), row(20)];
+    assert!(rt; desk.live() == rows.as_slice());
 }
 
 /// The words of the requests that each seat makes of a publisher.
@@ -209,10 +207,9 @@ const WORDS: u128 = 50 * ((1000 << 9) | 40) + ((49 * 50 / 2) << 9);
 /// Each seat counted so many calls to each of the two publishers, and their words.
 fn assert_counted<S: SeatCalls>(rt: &impl Abort, seats: &[DeskSeat<S>], calls: u64) {
     for seat in seats {
-        for p in 0..2_usize {
-            assert_eq!(rt; (seat.calls(p), seat.words(p)), (calls, WORDS));
-        }
-        assert_eq!(rt; (seat.calls(2), seat.words(2)), (0, 0));
+        let made = [seat.calls(0), seat.calls(1), seat.calls(2)] == [calls, calls, 0];
+        let words = [seat.words(0), seat.words(1), seat.words(2)] == [WORDS, WORDS, 0];
+        assert!(rt; made && words);
     }
 }
 
@@ -250,9 +247,9 @@ fn assert_desks(
     calls: u64,
     told: &Told,
 ) -> Result<(), Fail> {
-    assert_eq!(rt; desks.len(), 2);
+    assert!(rt; desks.len() == 2);
     for (p, desk) in desks.iter().enumerate() {
-        assert_eq!(rt; (desk.calls(), desk.words()), (calls, 4 * WORDS));
+        assert!(rt; desk.calls() == calls && desk.words() == 4 * WORDS);
         if calls < 1024 {
             assert_told(rt, alloc, desk, p, told)?;
         }
