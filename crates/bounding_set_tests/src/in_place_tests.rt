@@ -3,7 +3,9 @@ ghost use Rattle.std.specs.Prelude.{◌≡◌, false, All};
 ghost use Rattle.bounding_set.specs.Canonical.{StopsMedia};
 
 use crate::lists::{Generator, KINDS, Kind};
-use crate::set_tests::{Step, assert_as_defined, play, printed, tuple_of_64};
+use crate::set_tests::{
+    Step, assert_as_defined, play, printed, says_change, sixty_four, tuple_of_64,
+};
 use crate::slow::canonical_places;
 use crate::slow_certificate::certificate;
 use arrayvec::ArrayVec;
@@ -40,39 +42,45 @@ fn put_defined(
     Ok(())
 }
 
+/// The places of these requests among the rows.
+fn places_of(alloc: Global, rows: &[Request], lines: &[Request]) -> Result<Vec<usize>, Fail> {
+    let mut places = Vec::new(alloc);
+    for line in lines {
+        let place = rows.binary_search_by_key(&line.owner.0, |row| row.owner.0);
+        places.push(place.map_err(|_| Fail::from("no row"))?)?;
+    }
+    Ok(places)
+}
+
+/// Whether these requests are announced, with their certificate.
+fn announces(alloc: Global, bounds: &Bounds, lines: &[Request]) -> Result<bool, Fail> {
+    let places = places_of(alloc, bounds.rows(), lines)?;
+    let wanted = certificate(bounds.rows(), places.as_slice())?;
+    Ok(bounds.announced().as_slice() == lines && *bounds.cert() == wanted)
+}
+
 /// How many tests the plain walk takes over all rows; `None` where a rate is 0, and the definition is asked
 /// instead. That way finds the announced requests, and their certificate is the same.
 fn assert_as_walked(rt: &impl Abort, alloc: Global, bounds: &Bounds) -> Result<Option<u32>, Fail> {
-    let rows = bounds.rows();
     let mut lines = ArrayVec::new();
     let mut count = 0;
-    let is_stopped = has_stop(rows);
+    let is_stopped = has_stop(bounds.rows());
     if is_stopped {
-        put_defined(alloc, rows, &mut lines)?;
+        put_defined(alloc, bounds.rows(), &mut lines)?;
     } else {
-        walk(rows, &mut lines, &mut count);
+        walk(bounds.rows(), &mut lines, &mut count);
     }
-    let announced = lines.as_slice();
-    assert_eq!(rt; bounds.announced().as_slice(), announced, "{rows:?}");
-    let mut places = Vec::new(alloc);
-    for line in announced {
-        let place = rows.binary_search_by_key(&line.owner.0, |row| row.owner.0);
-        let place = place.map_err(|_| Fail::from("no row"))?;
-        places.push(place)?;
-    }
-    let wanted = certificate(rows, places.as_slice())?;
-    assert_eq!(rt; bounds.cert(), &wanted, "{rows:?}");
+    let is_so = announces(alloc, bounds, lines.as_slice())?;
+    assert!(rt; is_so, "{:?}", bounds.rows());
     Ok(if is_stopped { None } else { Some(count) })
 }
 
 /// Puts or removes a request, and says truly whether the announced set changed.
-fn change(rt: &impl Abort, bounds: &mut Bounds, asked: &Request, goes: bool) -> Result<(), Fail> {
-    let before = bounds.announced();
+fn change(bounds: &mut Bounds, asked: &Request, goes: bool) -> Result<(), Fail> {
     if goes {
         let _removed = bounds.remove(asked.owner);
-    } else {
-        let changed = bounds.set(asked.owner, asked.tuple)?;
-        assert_eq!(rt; changed, bounds.announced() != before, "{asked:?}");
+    } else if !says_change(bounds, asked)? {
+        return Err(Fail::from("a change, or none, that isn't said"));
     }
     Ok(())
 }
@@ -89,7 +97,7 @@ fn in_place_equals_definition(rt: HostRuntime) -> Result<(), Fail> {
         };
         let asked = generator.request(kind);
         let goes = generator.once_in(4);
-        change(&rt, &mut bounds, &asked, goes)?;
+        change(&mut bounds, &asked, goes)?;
         assert_as_defined(&rt, rt.alloc(), &bounds)?;
         assert_as_walked(&rt, rt.alloc(), &bounds)?;
     }
@@ -121,7 +129,7 @@ fn in_place_equals_plain(rt: HostRuntime) -> Result<(), Fail> {
     let (mut walked, mut most_live, mut most_kept) = (0_u32, 0, 0);
     for number in 0..2000_usize {
         let (asked, goes) = call(&mut generator, number);
-        change(&rt, &mut bounds, &asked, goes)?;
+        change(&mut bounds, &asked, goes)?;
         if assert_as_walked(&rt, rt.alloc(), &bounds)?.is_some() {
             walked = walked.saturating_add(1);
         }
@@ -138,61 +146,60 @@ fn in_place_equals_plain(rt: HostRuntime) -> Result<(), Fail> {
 }
 
 /// How the certificate of 64 owners begins where owner 64 hides all but the farthest of the others.
-const HIDDEN: [&str; 3] = [
-    "kept 64 00000200 pair 8968 506 505",
-    "kept 63 0046123f pair 17937 505 1008",
-    "implied 1 00271201 by 64 63 times 62 1 63",
-];
+const HIDDEN: &str = "kept 64 00000200 pair 8968 506 505\n\
+    kept 63 0046123f pair 17937 505 1008\n\
+    implied 1 00271201 by 64 63 times 62 1 63\n";
 
-/// The certificate has 64 lines, of which these are the first.
-fn assert_begins(
-    rt: &impl Abort,
-    alloc: Global,
-    bounds: &Bounds,
-    first: &[&str],
-) -> Result<(), Fail> {
-    let lines = printed(alloc, bounds)?;
-    assert_eq!(rt; lines.len(), 64);
-    for (line, text) in lines.iter().zip(first) {
-        assert_eq!(rt; line.as_str(), *text);
-    }
+/// The certificate has 64 lines and begins so.
+fn begins(alloc: Global, bounds: &Bounds, first: &str) -> Result<bool, Fail> {
+    let text = printed(alloc, bounds)?;
+    Ok(text.as_str().lines().count() == 64 && text.as_str().starts_with(first))
+}
+
+/// The last comes behind the others and hides none: one test of it, and one of the line before it. The walk looks at each.
+fn come_in_few_steps(rt: &impl Abort, alloc: Global, bounds: &Bounds) -> Result<(), Fail> {
+    let walk_steps = assert_as_walked(rt, alloc, bounds)?;
+    assert!(rt; bounds.steps() == 2 && walk_steps.is_some_and(|steps| steps >= 62));
     Ok(())
+}
+
+/// One bit per second without overhead: only the farthest of the others still bounds. It goes from behind all others, which hides
+/// nothing. Then one test of it, 62 of lines that it hides, and one of the line that it doesn't.
+fn hides_the_others(rt: &impl Abort, alloc: Global, bounds: &mut Bounds) -> Result<(), Fail> {
+    let one_bit = Tuple::from_word(0x0000_0200);
+    play(
+        rt,
+        bounds,
+        &[Step::Set(64, one_bit, Ok(true)), Step::Steps(64)],
+    );
+    let hides = begins(alloc, bounds, HIDDEN)?;
+    assert!(rt; hides);
+    assert_as_defined(rt, alloc, bounds)
+}
+
+/// Nothing is left of that once it asks for what it did before. The 62 that were hidden came back from the least overhead on: two tests
+/// of the first, which has no line before it, and three of each other one. Then two of owner 64. Nobody to be removed leaves that.
+fn comes_back(rt: &impl Abort, bounds: &mut Bounds) {
+    let steps = [
+        Step::Set(64, tuple_of_64(64), Ok(true)),
+        Step::Steps(2 + 61 * 3 + 2),
+        Step::Remove(65, None),
+        Step::Steps(187),
+    ];
+    play(rt, bounds, &steps);
 }
 
 #[test]
 fn steps_of_sixty_four_owners(rt: HostRuntime) -> Result<(), Fail> {
     let mut bounds = Bounds::new();
-    assert_eq!(rt; bounds.steps(), 0);
-    for i in 1..=64_u16 {
-        let _changed = bounds.set(Ssrc(u32::from(i)), tuple_of_64(i))?;
-    }
-    // The last comes behind the others and hides none: one test of it, and one of the line before
-    // it. The walk looks at each.
-    assert_eq!(rt; bounds.steps(), 2);
-    let walk_steps = assert_as_walked(&rt, rt.alloc(), &bounds)?;
-    assert!(rt; walk_steps.is_some_and(|steps| steps >= 62));
+    play(&rt, &mut bounds, &[Step::Steps(0)]);
+    bounds = sixty_four()?;
+    come_in_few_steps(&rt, rt.alloc(), &bounds)?;
     let before = printed(rt.alloc(), &bounds)?;
-    // One bit per second without overhead: only the farthest of the others still bounds. It goes from
-    // behind all others, which hides nothing. Then one test of it, 62 of lines that it hides, and one of
-    // the line that it doesn't.
-    let one_bit = Tuple::from_word(0x0000_0200);
-    let steps = [Step::Set(64, one_bit, Ok(true)), Step::Steps(64)];
-    play(&rt, &mut bounds, &steps);
-    assert_begins(&rt, rt.alloc(), &bounds, &HIDDEN)?;
-    assert_as_defined(&rt, rt.alloc(), &bounds)?;
-    // Nothing is left of that once it asks for what it did before. The 62 that were hidden came back from
-    // the least overhead on: two tests of the first, which has no line before it, and three of each other
-    // one. Then two of owner 64.
-    let steps = [
-        Step::Set(64, tuple_of_64(64), Ok(true)),
-        Step::Steps(2 + 61 * 3 + 2),
-        // Nobody to be removed leaves that.
-        Step::Remove(65, None),
-        Step::Steps(187),
-    ];
-    play(&rt, &mut bounds, &steps);
-    let after = printed(rt.alloc(), &bounds)?;
-    assert_eq!(rt; after.as_slice(), before.as_slice());
+    hides_the_others(&rt, rt.alloc(), &mut bounds)?;
+    comes_back(&rt, &mut bounds);
+    let is_back = begins(rt.alloc(), &bounds, before.as_str())?;
+    assert!(rt; is_back);
     let steps = [
         // Asking for the same again takes no test, nor does a removal from behind all others.
         Step::Set(64, tuple_of_64(64), Ok(false)),

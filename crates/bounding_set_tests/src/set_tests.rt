@@ -2,12 +2,13 @@
 use crate::examples::{
     EXAMPLE_4, EXAMPLES, Example, LEFT_OF_EXAMPLE_4, NO_REQUEST, SAME_LINE_TWICE, STOPS,
 };
-use crate::lists::{Generator, KINDS};
+use crate::lists::{Generator, KINDS, Kind};
 use crate::slow::canonical_places;
 use crate::slow_certificate::certificate;
 use bounding_set::{Bounds, Full, LIVE_LIMIT, RowsFault};
-use rate_cert::{Request, check};
+use rate_cert::{Implied, Kept, Request, check};
 use std::alloc::{AllocError, Global};
+use std::fmt::Write;
 use std::process::Abort;
 use std::test::Fail;
 use tmmbr_tuple::{Pair, Ssrc, Tuple};
@@ -19,47 +20,102 @@ fn request(owner: u32, word: u32) -> Request {
     }
 }
 
-/// The owners of the announced requests, in listed order.
-fn announced_owners(alloc: Global, bounds: &Bounds) -> Result<Vec<u32>, AllocError> {
-    let mut owners = Vec::new(alloc);
-    for request in bounds.announced().as_slice() {
-        owners.push(request.owner.0)?;
+/// Whether the owners of the announced requests are these, in listed order.
+fn announces_owners(bounds: &Bounds, owners: &[u32]) -> bool {
+    let announced = bounds.announced();
+    let announced = announced.as_slice();
+    for (request, owner) in announced.iter().zip(owners) {
+        if request.owner.0 != *owner {
+            return false;
+        }
     }
-    Ok(owners)
+    announced.len() == owners.len()
 }
 
-/// The owner of the row at this place.
-fn owner_at(bounds: &Bounds, place: u16) -> Result<u32, Fail> {
-    let request = bounds.rows().get(usize::from(place)).ok_or("no row")?;
-    Ok(request.owner.0)
+/// Whether the announced requests are those of so many owners, 1, 2, 3 and so on.
+fn announces_all(bounds: &Bounds, count: usize) -> bool {
+    let announced = bounds.announced();
+    let announced = announced.as_slice();
+    for (place, request) in announced.iter().enumerate() {
+        if request.owner.0 as usize != place.wrapping_add(1) {
+            return false;
+        }
+    }
+    announced.len() == count
 }
 
-/// The owner and the word of the row at this place.
-fn row_at(alloc: Global, bounds: &Bounds, place: u16) -> Result<String, Fail> {
-    let request = bounds.rows().get(usize::from(place)).ok_or("no row")?;
-    let (owner, word) = (request.owner.0, request.tuple.to_word());
-    Ok(format!(in alloc; "{owner} {word:08x}")?)
+/// Writes the owner and the word of the row at this place.
+fn write_row(text: &mut String, bounds: &Bounds, place: u16) -> Result<(), AllocError> {
+    match bounds.rows().get(usize::from(place)) {
+        Some(request) => {
+            let word = request.tuple.to_word();
+            write!(text, " {} {word:08x}", request.owner.0)
+        }
+        None => text.push_str(" no row"),
+    }
 }
 
-/// The certificate as it is printed, line by line.
-pub fn printed(alloc: Global, bounds: &Bounds) -> Result<Vec<String>, Fail> {
-    let mut lines = Vec::new(alloc);
-    for k in bounds.cert().kept.as_slice() {
-        let row = row_at(alloc, bounds, k.place)?;
-        let (n, m, d) = (k.pair.packets, k.pair.bits, k.pair.seconds);
-        lines.push(format!(in alloc; "kept {row} pair {n} {m} {d}")?)?;
+/// Writes the owner of the row at this place.
+fn write_owner(text: &mut String, bounds: &Bounds, place: u16) -> Result<(), AllocError> {
+    match bounds.rows().get(usize::from(place)) {
+        Some(request) => write!(text, " {}", request.owner.0),
+        None => text.push_str(" no row"),
     }
-    for i in bounds.cert().implied.as_slice() {
-        let row = row_at(alloc, bounds, i.place)?;
-        let (a, b) = (owner_at(bounds, i.a)?, owner_at(bounds, i.b)?);
-        let (p, q, r) = (i.p, i.q, i.r);
-        lines.push(format!(in alloc; "implied {row} by {a} {b} times {p} {q} {r}")?)?;
+}
+
+/// Writes a line for a kept request.
+fn write_kept(text: &mut String, bounds: &Bounds, kept: &Kept) -> Result<(), AllocError> {
+    let pair = kept.pair;
+    text.push_str("kept")?;
+    write_row(text, bounds, kept.place)?;
+    write!(text, " pair {} {}", pair.packets, pair.bits)?;
+    write!(text, " {}\n", pair.seconds)
+}
+
+/// Writes a line for an implied request.
+fn write_implied(text: &mut String, bounds: &Bounds, implied: &Implied) -> Result<(), AllocError> {
+    text.push_str("implied")?;
+    write_row(text, bounds, implied.place)?;
+    text.push_str(" by")?;
+    write_owner(text, bounds, implied.a)?;
+    write_owner(text, bounds, implied.b)?;
+    write!(text, " times {} {}", implied.p, implied.q)?;
+    write!(text, " {}\n", implied.r)
+}
+
+/// The certificate as it is printed.
+pub fn printed(alloc: Global, bounds: &Bounds) -> Result<String, AllocError> {
+    let mut text = String::new(alloc);
+    for kept in bounds.cert().kept.as_slice() {
+        write_kept(&mut text, bounds, kept)?;
     }
-    Ok(lines)
+    for implied in bounds.cert().implied.as_slice() {
+        write_implied(&mut text, bounds, implied)?;
+    }
+    Ok(text)
+}
+
+/// Whether the lines of a text are these.
+fn has_lines(text: &str, lines: &[&str]) -> bool {
+    let mut found = text.lines();
+    for line in lines {
+        if found.next() != Some(*line) {
+            return false;
+        }
+    }
+    found.next().is_none()
+}
+
+/// Whether a text has so many lines, of which these are the first and the last.
+fn has_ends(text: &str, count: usize, first: &str, last: &str) -> bool {
+    let lines = text.lines().count();
+    lines == count
+        && text.lines().next() == Some(first)
+        && text.trim_end().as_bytes().ends_with(last.as_bytes())
 }
 
 /// A call with what it answers, or what is then seen.
-#[derive(Clone, Copy, Debug)]
+#[derive(Clone, Copy)]
 pub enum Step<'a> {
     /// An owner asks for this: whether the announced set changes.
     Set(u32, Tuple, Result<bool, Full>),
@@ -73,23 +129,30 @@ pub enum Step<'a> {
     Steps(u32),
 }
 
-/// Takes the steps.
-pub fn play(rt: &impl Abort, bounds: &mut Bounds, steps: &[Step<'_>]) {
-    for step in steps {
-        match *step {
-            Step::Set(owner, tuple, answer) => {
-                assert_eq!(rt; bounds.set(Ssrc(owner), tuple), answer, "{step:?}");
-            }
-            Step::Remove(owner, gone) => {
-                assert_eq!(rt; bounds.remove(Ssrc(owner)), gone, "{step:?}");
-            }
-            Step::Live(count) => assert_eq!(rt; bounds.rows().len(), count),
-            Step::Announced(requests) => {
-                assert_eq!(rt; bounds.announced().as_slice(), requests, "{step:?}");
-            }
-            Step::Steps(count) => assert_eq!(rt; bounds.steps(), count),
+/// Takes a step, and says whether all is as it says.
+fn takes(bounds: &mut Bounds, step: &Step<'_>) -> bool {
+    match *step {
+        Step::Set(owner, tuple, answer) => bounds.set(Ssrc(owner), tuple) == answer,
+        Step::Remove(owner, gone) => bounds.remove(Ssrc(owner)) == gone,
+        Step::Live(count) => bounds.rows().len() == count,
+        Step::Announced(requests) => bounds.announced().as_slice() == requests,
+        Step::Steps(count) => bounds.steps() == count,
+    }
+}
+
+/// The place of the first step after which something isn't as it says.
+fn first_wrong(bounds: &mut Bounds, steps: &[Step<'_>]) -> Option<usize> {
+    for (place, step) in steps.iter().enumerate() {
+        if !takes(bounds, step) {
+            return Some(place);
         }
     }
+    None
+}
+
+/// Takes the steps.
+pub fn play(rt: &impl Abort, bounds: &mut Bounds, steps: &[Step<'_>]) {
+    assert_eq!(rt; first_wrong(bounds, steps), None);
 }
 
 fn set_in_order(example: &Example) -> Result<Bounds, Full> {
@@ -100,74 +163,80 @@ fn set_in_order(example: &Example) -> Result<Bounds, Full> {
     Ok(bounds)
 }
 
-/// The announced places, as the certificate keeps them.
-fn kept_places(alloc: Global, bounds: &Bounds) -> Result<Vec<usize>, AllocError> {
-    let mut places = Vec::new(alloc);
-    for k in bounds.cert().kept.as_slice() {
-        places.push(usize::from(k.place))?;
+/// Whether the rows at these places are kept, and announced.
+fn announces_places(bounds: &Bounds, places: &[usize]) -> bool {
+    let kept = bounds.cert().kept.as_slice();
+    let announced = bounds.announced();
+    let announced = announced.as_slice();
+    for (at, place) in places.iter().enumerate() {
+        let kept_place = kept.get(at).map(|k| usize::from(k.place));
+        if kept_place != Some(*place) || announced.get(at) != bounds.rows().get(*place) {
+            return false;
+        }
     }
-    Ok(places)
+    kept.len() == places.len() && announced.len() == places.len()
 }
 
-/// The announced requests are those of the definition, the certificate is the one of the formulas,
-/// and `check` accepts it.
-pub fn assert_as_defined(rt: &impl Abort, alloc: Global, bounds: &Bounds) -> Result<(), Fail> {
+/// Whether the announced requests are those of the definition, the certificate is the one of the formulas, and `check` accepts it.
+fn is_as_defined(alloc: Global, bounds: &Bounds) -> Result<bool, Fail> {
     let rows = bounds.rows();
     let places = canonical_places(alloc, rows)?;
-    let kept = kept_places(alloc, bounds)?;
-    assert_eq!(rt; kept.as_slice(), places.as_slice(), "{rows:?}");
-    let announced = bounds.announced();
-    assert_eq!(rt; announced.len(), places.len(), "{rows:?}");
-    for (request, place) in announced.as_slice().iter().zip(places.as_slice()) {
-        assert_eq!(rt; Some(request), rows.get(*place), "{rows:?}");
-    }
     let wanted = certificate(rows, places.as_slice())?;
-    assert_eq!(rt; bounds.cert(), &wanted, "{rows:?}");
-    assert_eq!(rt; check(rows, bounds.cert()), Ok(()), "{rows:?}");
+    Ok(
+        announces_places(bounds, places.as_slice())
+            && *bounds.cert() == wanted
+            && check(rows, bounds.cert()) == Ok(()),
+    )
+}
+
+/// All of that is so.
+pub fn assert_as_defined(rt: &impl Abort, alloc: Global, bounds: &Bounds) -> Result<(), Fail> {
+    let is_so = is_as_defined(alloc, bounds)?;
+    assert!(rt; is_so, "{:?}", bounds.rows());
     Ok(())
 }
 
-/// These requests are announced with this certificate, which is as it should be.
+/// Whether the example's requests are announced with its certificate.
+fn shows(alloc: Global, bounds: &Bounds, example: &Example) -> Result<bool, AllocError> {
+    let text = printed(alloc, bounds)?;
+    Ok(announces_owners(bounds, example.announced) && has_lines(text.as_str(), example.printed))
+}
+
+/// They are, and it is as it should be.
 fn assert_shows(
     rt: &impl Abort,
     alloc: Global,
     bounds: &Bounds,
     example: &Example,
 ) -> Result<(), Fail> {
-    let owners = announced_owners(alloc, bounds)?;
-    assert_eq!(rt; owners.as_slice(), example.announced);
-    let lines = printed(alloc, bounds)?;
-    let wanted = example.printed;
-    assert_eq!(rt; lines.len(), wanted.len(), "{wanted:?}");
-    for (line, text) in lines.iter().zip(wanted) {
-        assert_eq!(rt; line.as_str(), *text);
-    }
+    let is_so = shows(alloc, bounds, example)?;
+    assert!(rt; is_so, "{:?}", bounds.cert());
     assert_as_defined(rt, alloc, bounds)
+}
+
+/// The requests of an example, one after the other.
+fn shows_example(rt: &impl Abort, alloc: Global, example: &Example) -> Result<(), Fail> {
+    assert_shows(rt, alloc, &set_in_order(example)?, example)
 }
 
 #[test]
 fn examples_as_printed(rt: HostRuntime) -> Result<(), Fail> {
-    for example in &EXAMPLES {
-        let bounds = set_in_order(example)?;
-        assert_shows(&rt, rt.alloc(), &bounds, example)?;
+    for example in EXAMPLES.iter().chain(&STOPS) {
+        shows_example(&rt, rt.alloc(), example)?;
     }
-    for example in &STOPS {
-        let bounds = set_in_order(example)?;
-        assert_shows(&rt, rt.alloc(), &bounds, example)?;
-    }
-    let bounds = set_in_order(&SAME_LINE_TWICE)?;
-    assert_shows(&rt, rt.alloc(), &bounds, &SAME_LINE_TWICE)?;
-    Ok(())
+    shows_example(&rt, rt.alloc(), &SAME_LINE_TWICE)
 }
 
 #[test]
 fn removed_as_in_example_12(rt: HostRuntime) -> Result<(), Fail> {
     let mut bounds = set_in_order(&EXAMPLE_4)?;
     // Who asks for nothing has nothing removed.
-    for gone in [Some(Tuple::from_word(0x01d4_c014)), None] {
-        play(&rt, &mut bounds, &[Step::Remove(18, gone)]);
-        assert_shows(&rt, rt.alloc(), &bounds, &LEFT_OF_EXAMPLE_4)?;
-    }
+    let steps = [
+        Step::Remove(18, Some(Tuple::from_word(0x01d4_c014))),
+        Step::Remove(18, None),
+    ];
+    play(&rt, &mut bounds, &steps);
+    assert_shows(&rt, rt.alloc(), &bounds, &LEFT_OF_EXAMPLE_4)?;
     let steps = [
         Step::Remove(17, Some(Tuple::from_word(0x01f4_0028))),
         Step::Remove(19, Some(Tuple::from_word(0x01e4_601e))),
@@ -204,24 +273,41 @@ pub fn tuple_of_64(i: u16) -> Tuple {
     Tuple::new(0, 5000 + number * number, i % 128).unwrap_or_default()
 }
 
-#[test]
-fn sixty_four_owners(rt: HostRuntime) -> Result<(), Fail> {
+/// 64 owners ask, each of whom changes the announced set.
+pub fn sixty_four() -> Result<Bounds, Fail> {
     let mut bounds = Bounds::new();
     for i in 1..=64_u16 {
-        assert_eq!(rt; bounds.set(Ssrc(u32::from(i)), tuple_of_64(i)), Ok(true));
+        if !bounds.set(Ssrc(u32::from(i)), tuple_of_64(i))? {
+            return Err(Fail::from("no change"));
+        }
     }
-    // All are kept in the order of their numbers.
-    let owners = announced_owners(rt.alloc(), &bounds)?;
-    let all: Vec<u32> = (1..=64_u32).collect(rt.alloc())?;
-    assert_eq!(rt; owners.as_slice(), all.as_slice());
-    let lines = printed(rt.alloc(), &bounds)?;
-    assert_eq!(rt; lines.len(), 64);
-    assert_eq!(rt; lines[0].as_str(), "kept 1 00271201 pair 3 44986 9");
-    assert_eq!(rt; lines[63].as_str(), "kept 64 00471040 pair 9223 7745 520");
+    Ok(bounds)
+}
+
+/// Whether all are kept in the order of their numbers, so many, and the certificate begins and ends so.
+fn keeps_all(
+    alloc: Global,
+    bounds: &Bounds,
+    count: usize,
+    first: &str,
+    last: &str,
+) -> Result<bool, AllocError> {
+    let text = printed(alloc, bounds)?;
+    Ok(announces_all(bounds, count) && has_ends(text.as_str(), count, first, last))
+}
+
+/// One more is taken in, and kept like the others.
+#[test]
+fn sixty_four_owners(rt: HostRuntime) -> Result<(), Fail> {
+    let mut bounds = sixty_four()?;
+    let (first, last) = (
+        "kept 1 00271201 pair 3 44986 9",
+        "\nkept 64 00471040 pair 9223 7745 520",
+    );
+    let keeps = keeps_all(rt.alloc(), &bounds, 64, first, last)?;
     assert_as_defined(&rt, rt.alloc(), &bounds)?;
-    // One more is taken in, and kept like the others.
-    assert_eq!(rt; bounds.set(Ssrc(65), tuple_of_64(65)), Ok(true));
-    assert_eq!(rt; bounds.announced().len(), 65);
+    let changes = bounds.set(Ssrc(65), tuple_of_64(65)) == Ok(true);
+    assert!(rt; keeps && changes && bounds.announced().len() == 65);
     Ok(())
 }
 
@@ -240,110 +326,166 @@ fn all_live() -> Result<Bounds, Full> {
     Ok(bounds)
 }
 
+/// Whether all 256 are kept in the order of their numbers, with a certificate that begins and ends so, and is accepted.
+fn keeps_all_live(alloc: Global, bounds: &Bounds) -> Result<bool, AllocError> {
+    let (first, last) = (
+        "kept 1 01ffba01 pair 3 589486 9",
+        "\nkept 256 03ffb900 pair 131547 1761 2056",
+    );
+    let keeps = keeps_all(alloc, bounds, 256, first, last)?;
+    Ok(keeps && check(bounds.rows(), bounds.cert()) == Ok(()))
+}
+
 #[test]
 fn as_many_as_may_be_live(rt: HostRuntime) -> Result<(), Fail> {
-    let bounds = all_live()?;
-    // All are kept in the order of their numbers.
-    let owners = announced_owners(rt.alloc(), &bounds)?;
-    let all: Vec<u32> = (1..=256_u32).collect(rt.alloc())?;
-    assert_eq!(rt; owners.as_slice(), all.as_slice());
-    let lines = printed(rt.alloc(), &bounds)?;
-    assert_eq!(rt; lines.len(), 256);
-    assert_eq!(rt; lines[0].as_str(), "kept 1 01ffba01 pair 3 589486 9");
-    assert_eq!(rt;
-        lines[255].as_str(),
-        "kept 256 03ffb900 pair 131547 1761 2056"
-    );
-    assert_eq!(rt; check(bounds.rows(), bounds.cert()), Ok(()));
+    let keeps = keeps_all_live(rt.alloc(), &all_live()?)?;
+    assert!(rt; keeps);
     Ok(())
 }
 
-/// One more than may be live is refused, whatever it asks for, and changes nothing.
-#[test]
-fn one_more_is_refused(rt: HostRuntime) -> Result<(), Fail> {
-    let mut bounds = all_live()?;
-    let before = printed(rt.alloc(), &bounds)?;
+/// Whether one more is refused, whatever it asks for, and changes nothing.
+fn refuses_one_more(alloc: Global, bounds: &mut Bounds) -> Result<bool, AllocError> {
     let steps = [
         Step::Set(257, Tuple::from_word(0), Err(Full)),
         Step::Set(0, tuple_of_256(257), Err(Full)),
         Step::Live(256),
         Step::Steps(bounds.steps()),
     ];
-    play(&rt, &mut bounds, &steps);
-    let after = printed(rt.alloc(), &bounds)?;
-    assert_eq!(rt; after.as_slice(), before.as_slice());
-    // An owner that is live may ask for something else: owner 256 now hides the others.
+    let before = printed(alloc, bounds)?;
+    let wrong = first_wrong(bounds, &steps);
+    let after = printed(alloc, bounds)?;
+    Ok(wrong.is_none() && after == before)
+}
+
+/// An owner that is live may ask for something else: owner 256 then hides the others.
+#[test]
+fn one_more_is_refused(rt: HostRuntime) -> Result<(), Fail> {
+    let mut bounds = all_live()?;
+    let refuses = refuses_one_more(rt.alloc(), &mut bounds)?;
+    assert!(rt; refuses);
+    let alone = [request(256, 0x0000_0300)];
     let steps = [
         Step::Set(256, Tuple::from_word(0x0000_0300), Ok(true)),
         Step::Live(256),
+        Step::Announced(&alone),
     ];
     play(&rt, &mut bounds, &steps);
-    let alone = request(256, 0x0000_0300);
-    assert_eq!(rt; bounds.announced().as_slice(), [alone].as_slice());
     assert_as_defined(&rt, rt.alloc(), &bounds)
 }
 
-/// The requests of these bounds, taken all at once, are shown as the definition says.
-fn assert_same_at_once(
-    rt: &impl Abort,
-    alloc: Global,
-    bounds: &Bounds,
-    at_once: &mut Bounds,
-) -> Result<(), Fail> {
-    assert_eq!(rt; at_once.set_all(bounds.rows()), Ok(()));
-    assert_eq!(rt; at_once.rows(), bounds.rows());
-    assert_as_defined(rt, alloc, at_once)
+/// Whether the rows of these bounds, taken all at once, are the rows then.
+fn takes_all(at_once: &mut Bounds, bounds: &Bounds) -> bool {
+    at_once.set_all(bounds.rows()) == Ok(()) && at_once.rows() == bounds.rows()
 }
 
-/// The same bounds take one list after the other, with rates of 0 and without: each in place of the one before.
+/// An example's requests, taken all at once by these bounds.
+fn shows_at_once(
+    rt: &impl Abort,
+    alloc: Global,
+    at_once: &mut Bounds,
+    example: &Example,
+) -> Result<(), Fail> {
+    let takes = takes_all(at_once, &set_in_order(example)?);
+    assert!(rt; takes);
+    assert_shows(rt, alloc, at_once, example)
+}
+
+/// The same bounds take one list after the other, with rates of 0 and without: each in place of the one before. What comes after a list
+/// is put as after any call.
 #[test]
 fn examples_at_once(rt: HostRuntime) -> Result<(), Fail> {
     let mut at_once = Bounds::new();
     for example in EXAMPLES.iter().chain(&STOPS) {
-        let bounds = set_in_order(example)?;
-        assert_eq!(&rt; at_once.set_all(bounds.rows()), Ok(()));
-        assert_shows(&rt, rt.alloc(), &at_once, example)?;
+        shows_at_once(&rt, rt.alloc(), &mut at_once, example)?;
     }
-    assert_eq!(rt; at_once.set_all(&[]), Ok(()));
-    assert_shows(&rt, rt.alloc(), &at_once, &NO_REQUEST)?;
-    // What comes after a list is put as after any call.
+    shows_at_once(&rt, rt.alloc(), &mut at_once, &NO_REQUEST)?;
     let steps = [Step::Set(17, Tuple::from_word(0x0007_d028), Ok(true))];
     play(&rt, &mut at_once, &steps);
     assert_shows(&rt, rt.alloc(), &at_once, &EXAMPLES[0])
 }
 
+/// Of each but the first it is asked whether the last line implies it, and whether it makes that line needless.
 #[test]
 fn all_live_at_once(rt: HostRuntime) -> Result<(), Fail> {
-    let bounds = all_live()?;
     let mut at_once = Bounds::new();
-    assert_eq!(rt; at_once.set_all(bounds.rows()), Ok(()));
-    // Of each but the first it is asked whether the last line implies it, and whether it makes that line needless.
-    assert_eq!(rt; at_once.steps(), 2 * 255);
-    let lines = printed(rt.alloc(), &at_once)?;
-    assert_eq!(rt; lines.len(), 256);
-    assert_eq!(rt; lines[0].as_str(), "kept 1 01ffba01 pair 3 589486 9");
-    assert_eq!(rt;
-        lines[255].as_str(),
-        "kept 256 03ffb900 pair 131547 1761 2056"
-    );
-    assert_eq!(rt; check(at_once.rows(), at_once.cert()), Ok(()));
+    let takes = takes_all(&mut at_once, &all_live()?);
+    let keeps = keeps_all_live(rt.alloc(), &at_once)?;
+    assert!(rt; takes && keeps && at_once.steps() == 2 * 255);
     Ok(())
+}
+
+/// Whether requests of these owners, for the same, are refused since they don't rise.
+fn dont_rise(at_once: &mut Bounds, owners: [u32; 3]) -> bool {
+    let [first, second, third] = owners;
+    let asked = [
+        request(first, 0x0007_d028),
+        request(second, 0x0007_d028),
+        request(third, 0x0007_d028),
+    ];
+    at_once.set_all(&asked) == Err(RowsFault::NotRising)
+}
+
+/// One request more than may be live.
+fn one_too_many(alloc: Global) -> Result<Vec<Request>, AllocError> {
+    let mut many = Vec::new(alloc);
+    for owner in 0..=LIVE_LIMIT as u32 {
+        many.push(request(owner, 0x0007_d028))?;
+    }
+    Ok(many)
+}
+
+/// Whether these are refused.
+fn are_too_many(alloc: Global, at_once: &mut Bounds) -> Result<bool, AllocError> {
+    let many = one_too_many(alloc)?;
+    Ok(at_once.set_all(many.as_slice()) == Err(RowsFault::TooMany))
 }
 
 /// Too many requests, or two of one owner, or owners that fall: refused, and nothing changes.
 #[test]
 fn refused_at_once(rt: HostRuntime) -> Result<(), Fail> {
     let mut at_once = set_in_order(&EXAMPLE_4)?;
-    let mut many: Vec<Request> = Vec::new(rt.alloc());
-    for owner in 0..=LIVE_LIMIT as u32 {
-        many.push(request(owner, 0x0007_d028))?;
-    }
-    assert_eq!(rt; at_once.set_all(many.as_slice()), Err(RowsFault::TooMany));
-    for owners in [[17, 17, 18], [17, 19, 19], [18, 17, 19]] {
-        let asked = owners.map(|owner| request(owner, 0x0007_d028));
-        assert_eq!(rt; at_once.set_all(&asked), Err(RowsFault::NotRising));
-    }
+    let many = are_too_many(rt.alloc(), &mut at_once)?;
+    let first = dont_rise(&mut at_once, [17, 17, 18]);
+    let last = dont_rise(&mut at_once, [17, 19, 19]);
+    let fall = dont_rise(&mut at_once, [18, 17, 19]);
+    assert!(rt; [many, first, last, fall] == [true; 4]);
     assert_shows(&rt, rt.alloc(), &at_once, &EXAMPLE_4)
+}
+
+/// Puts a request by chance, and says whether it is truly said if the announced set changed.
+pub fn says_change(bounds: &mut Bounds, asked: &Request) -> Result<bool, Full> {
+    let before = bounds.announced();
+    let changed = bounds.set(asked.owner, asked.tuple)?;
+    Ok(changed == (bounds.announced() != before))
+}
+
+/// The bounds of a list by chance of this kind; of one in four an owner goes in the end.
+fn drawn(generator: &mut Generator, kind: Kind) -> Result<Bounds, Fail> {
+    let mut bounds = Bounds::new();
+    for _ in 0..generator.count() {
+        let asked = generator.request(kind);
+        if !says_change(&mut bounds, &asked)? {
+            return Err(Fail::from("a change, or none, that isn't said"));
+        }
+    }
+    if generator.once_in(4) {
+        let gone = generator.request(kind);
+        let _removed = bounds.remove(gone.owner);
+    }
+    Ok(bounds)
+}
+
+/// A list by chance is shown as the definition says, put one after the other, and all at once.
+fn list_as_defined(
+    rt: &impl Abort,
+    alloc: Global,
+    at_once: &mut Bounds,
+    bounds: &Bounds,
+) -> Result<(), Fail> {
+    assert_as_defined(rt, alloc, bounds)?;
+    let takes = takes_all(at_once, bounds);
+    assert!(rt; takes);
+    assert_as_defined(rt, alloc, at_once)
 }
 
 #[test]
@@ -351,20 +493,8 @@ fn lists_as_defined(rt: HostRuntime) -> Result<(), Fail> {
     let mut generator = Generator::new();
     let mut at_once = Bounds::new();
     for number in 0..1000_usize {
-        let kind = KINDS[number % 5];
-        let mut bounds = Bounds::new();
-        for _ in 0..generator.count() {
-            let asked = generator.request(kind);
-            let before = bounds.announced();
-            let changed = bounds.set(asked.owner, asked.tuple)?;
-            assert_eq!(rt; changed, bounds.announced() != before, "list {number}");
-        }
-        if generator.once_in(4) {
-            let gone = generator.request(kind);
-            let _removed = bounds.remove(gone.owner);
-        }
-        assert_as_defined(&rt, rt.alloc(), &bounds)?;
-        assert_same_at_once(&rt, rt.alloc(), &bounds, &mut at_once)?;
+        let bounds = drawn(&mut generator, KINDS[number % 5])?;
+        list_as_defined(&rt, rt.alloc(), &mut at_once, &bounds)?;
     }
     Ok(())
 }
