@@ -30,13 +30,6 @@ const EMPTY_PARTS: [u8; 18] = [
     9, 2, // the padding
 ];
 
-fn fault_of(datagram: &[u8]) -> Option<RtpFault> {
-    match RtpView::parse(datagram) {
-        Ok(_) => None,
-        Err(fault) => Some(fault),
-    }
-}
-
 /// A packet's parts, as text: the marker bit, the payload type, the numbers, and the bytes of each part. `whole` says that its bytes
 /// are those of the datagram.
 fn parts_text(alloc: Global, datagram: &[u8]) -> Result<String, Fail> {
@@ -102,64 +95,10 @@ fn no_room_in_thirteen_bytes(rt: HostRuntime) -> Result<(), Fail> {
     Ok(())
 }
 
-/// Datagrams, most of them the header of `PLAIN` with another first byte, and their faults.
-const FAULTS: [(&[u8], Option<RtpFault>); 11] = [
-    (
-        &[0x00, 0x60, 0, 7, 0, 0, 0x0b, 0xb8, 0, 0, 0],
-        Some(RtpFault::Short),
-    ),
-    (
-        &[0x00, 0x60, 0, 7, 0, 0, 0x0b, 0xb8, 0, 0, 0, 0x11],
-        Some(RtpFault::Version),
-    ),
-    (
-        &[0xc0, 0x60, 0, 7, 0, 0, 0x0b, 0xb8, 0, 0, 0, 0x11],
-        Some(RtpFault::Version),
-    ),
-    (
-        &[0x81, 0x60, 0, 7, 0, 0, 0x0b, 0xb8, 0, 0, 0, 0x11],
-        Some(RtpFault::CsrcShort),
-    ),
-    // CSRCs, an extension and padding are all missing: the least number is given.
-    (
-        &[0xbf, 0x60, 0, 7, 0, 0, 0x0b, 0xb8, 0, 0, 0, 0x11],
-        Some(RtpFault::CsrcShort),
-    ),
-    (
-        &[0xb0, 0x60, 0, 7, 0, 0, 0x0b, 0xb8, 0, 0, 0, 0x11],
-        Some(RtpFault::ExtensionShort),
-    ),
-    // The extension says one word, and none follows.
-    (
-        &[
-            0x90, 0x60, 0, 7, 0, 0, 0x0b, 0xb8, 0, 0, 0, 0x11, 0xbe, 0xde, 0, 1,
-        ],
-        Some(RtpFault::ExtensionShort),
-    ),
-    // Nothing follows the header; the header's last byte is no count.
-    (
-        &[0xa0, 0x60, 0, 7, 0, 0, 0x0b, 0xb8, 0, 0, 0, 0x11],
-        Some(RtpFault::Padding),
-    ),
-    (
-        &[0xa0, 0x60, 0, 7, 0, 0, 0x0b, 0xb8, 0, 0, 0, 0x11, 0],
-        Some(RtpFault::Padding),
-    ),
-    (
-        &[0xa0, 0x60, 0, 7, 0, 0, 0x0b, 0xb8, 0, 0, 0, 0x11, 1],
-        None,
-    ),
-    (
-        &[0xa0, 0x60, 0, 7, 0, 0, 0x0b, 0xb8, 0, 0, 0, 0x11, 2],
-        Some(RtpFault::Padding),
-    ),
-];
-
+/// A datagram of no bytes, which no script can have; what else is refused are cases of `cases/`.
 #[test]
-fn each_fault(rt: HostRuntime) {
-    for (datagram, fault) in &FAULTS {
-        assert_eq!(rt; fault_of(datagram), *fault);
-    }
+fn no_bytes(rt: HostRuntime) {
+    same(&rt, &RtpView::parse(&[]).err(), &Some(RtpFault::Short));
 }
 
 #[test]
@@ -172,9 +111,8 @@ fn numbers(rt: HostRuntime) {
         RtpFault::Padding,
         RtpFault::Room,
     ];
-    for (place, fault) in faults.iter().enumerate() {
-        assert_eq!(rt; usize::from(fault.number()), place + 1);
-    }
+    let [a, b, c, d, e, f] = faults.map(|fault| fault.number());
+    assert!(rt; [a, b, c, d, e, f] == [1, 2, 3, 4, 5, 6]);
 }
 
 /// The parts, joined again, are the datagram.
@@ -189,94 +127,6 @@ fn parts_of_a_whole_packet(rt: HostRuntime) -> Result<(), Fail> {
 fn empty_parts(rt: HostRuntime) -> Result<(), Fail> {
     let wanted = "false 0 0 0 0 csrcs  extension ffff  payload  padding 0902 whole";
     has_parts(&rt, rt.alloc(), &EMPTY_PARTS, wanted)
-}
-
-/// A datagram, and what is wrong with what is cut off below so many bytes of it; the first of these counts.
-type Cuts = (&'static [u8], &'static [(usize, RtpFault)]);
-
-/// What is wrong with a cut at this place.
-fn cut_fault(faults: &[(usize, RtpFault)], end: usize) -> Option<RtpFault> {
-    for (below, fault) in faults {
-        if end < *below {
-            return Some(*fault);
-        }
-    }
-    None
-}
-
-/// Each cut of the datagrams has the fault that stands beside them.
-fn every_cut_of(rt: &impl Abort, cuts: &[Cuts]) {
-    for (datagram, faults) in cuts {
-        for end in 0..datagram.len() + 1 {
-            assert_eq!(rt; fault_of(&datagram[..end]), cut_fault(faults, end), "{end}");
-        }
-    }
-}
-
-/// Without padding each cut of the payload is a packet. Header, CSRCs and extension are cut with their own faults; behind them the
-/// last byte is no count but at the end: 61, 62, 63 are more than what follows the extension, and 0 is none.
-const CUTS: [Cuts; 3] = [
-    (&PLAIN, &[(12, RtpFault::Short)]),
-    (
-        &WHOLE,
-        &[
-            (12, RtpFault::Short),
-            (20, RtpFault::CsrcShort),
-            (28, RtpFault::ExtensionShort),
-            (34, RtpFault::Padding),
-        ],
-    ),
-    (
-        &EMPTY_PARTS,
-        &[
-            (12, RtpFault::Short),
-            (16, RtpFault::ExtensionShort),
-            (18, RtpFault::Padding),
-        ],
-    ),
-];
-
-#[test]
-fn every_cut(rt: HostRuntime) {
-    every_cut_of(&rt, &CUTS);
-}
-
-/// Cut within the header each is `Short`; behind it the payload may end anywhere. Then one whose padding counts 0, and one without the
-/// CSRC that it counts.
-const CUTS_OF_EXAMPLES: [Cuts; 6] = [
-    (&PLAIN, &[(12, RtpFault::Short)]),
-    (
-        &[
-            0x80, 0x60, 0, 7, 0, 0, 0x0b, 0xb8, 0, 0, 0, 0x10, 0xaa, 0xbb,
-        ],
-        &[(12, RtpFault::Short)],
-    ),
-    (
-        &[
-            0x80, 0x60, 0, 8, 0, 0, 0x0b, 0xb8, 0, 0, 0, 0x10, 0xaa, 0xbb,
-        ],
-        &[(12, RtpFault::Short)],
-    ),
-    (
-        &[
-            0x80, 0x60, 0, 0x64, 0, 0, 0x0b, 0xb8, 0, 0, 1, 1, 0xaa, 0xbb,
-        ],
-        &[(12, RtpFault::Short)],
-    ),
-    (
-        &[0xa0, 0x60, 0, 7, 0, 0, 0x0b, 0xb8, 0, 0, 0, 0x11, 0],
-        &[(12, RtpFault::Short), (14, RtpFault::Padding)],
-    ),
-    (
-        &[0x81, 0x60, 0, 7, 0, 0, 0x0b, 0xb8, 0, 0, 0, 0x11],
-        &[(12, RtpFault::Short), (13, RtpFault::CsrcShort)],
-    ),
-];
-
-/// Examples 18, 20 and 22.
-#[test]
-fn every_cut_of_the_examples(rt: HostRuntime) {
-    every_cut_of(&rt, &CUTS_OF_EXAMPLES);
 }
 
 /// The highest packet, a packet's sequence number, and its extended number: after a wrap, before it, and as far as a packet may
