@@ -1,32 +1,107 @@
-//! What stands for the outside of a unit in tests: a script of arrivals, a clock that goes on, and lists of what was told and handed
+//! What stands for the outside of a unit in tests: a script of cues, a clock that goes on, and lists of what was told and handed
 //! over, which contracts see for as long as there was room for all of it; and a slow source, a sink that fails, and a watch.
+
+ghost use Rattle.std.specs.Prelude.{length, IfSome};
+ghost use Rattle.outside.specs.Outside.{FitsIn};
 
 use desk::Desk;
 use events::{Bytes, Refusal};
 use outside::{
     Clock, Datagram, Look, ReceiveFault, Received, SendFault, Sink, Source, Status, Watch,
 };
-use std::alloc::{AllocError, Global};
+use std::alloc::Global;
 use std::cell::Cell;
 
-/// What a receive comes to.
-#[derive(Debug, Drop)]
-pub(super) enum Arrival {
-    Datagram(u16, Vec<u8>),
+/// What a receive comes to. A datagram comes from an endpoint, and names a source.
+#[derive(Clone, Copy)]
+pub(super) enum Cue {
+    /// A receiver report without blocks (RFC 3550, section 6.4.2).
+    Report(u16, u8),
+    /// An RTP packet with this number and two bytes of payload (RFC 3550, section 5.1).
+    Packet(u16, u8, u8),
+    /// A packet in version 1, which is none.
+    Version1(u16, u8),
+    /// A NACK for one packet of the leg whose source is 257 (RFC 4585, section 6.2.1).
+    Nack(u16, u8, u8),
     Select(u16, bool),
     Stop,
     Fault,
 }
 
-/// A source that plays its arrivals one after the other; after them nothing comes.
-#[derive(Debug, Drop)]
-pub(super) struct Script {
-    pub(super) arrivals: Vec<Arrival>,
-    pub(super) next: usize,
+/// A source that plays its cues one after the other, each so many times; after them nothing comes.
+#[derive(Drop)]
+pub(super) struct Script<'a> {
+    cues: &'a [(u16, Cue)],
+    next: usize,
+    /// How often the next one was played.
+    times: u16,
     pub(super) failures: u64,
 }
 
-impl Source for Script {
+impl<'a> Script<'a> {
+    ghost use Rattle.std.specs.Prelude.{◌≡◌};
+
+    pub(super) fn of(cues: &'a [(u16, Cue)]) -> Script<'a> {
+        Script {
+            cues,
+            next: 0,
+            times: 0,
+            failures: 0,
+        }
+    }
+
+    /// The next cue; `None` after the last one.
+    fn next_cue(&mut self) -> Option<Cue>
+        ensures { self.new.failures ≡ self.old.failures }
+    {
+        let (times, cue) = self.cues.get(self.next).copied()?;
+        self.times = self.times.wrapping_add(1);
+        if self.times >= times {
+            self.next = self.next.wrapping_add(1);
+            self.times = 0;
+        }
+        Some(cue)
+    }
+}
+
+/// Writes a datagram to the front of a buffer, and says what came: nothing if there is no room for it.
+fn give(out: &mut [u8], endpoint: u16, bytes: &[u8]) -> Received
+    ensures { FitsIn (length out.new) result }
+{
+    let length = bytes.len();
+    if length > out.len() {
+        return Received::Nothing;
+    }
+    out[..length].copy_from_slice(bytes);
+    Received::Datagram { endpoint, length }
+}
+
+/// What a cue comes to; `None` for a fault.
+fn give_cue(out: &mut [u8], cue: Cue) -> Option<Received>
+    ensures { IfSome result (FitsIn (length out.new)) }
+{
+    Some(match cue {
+        Cue::Report(endpoint, source) => give(out, endpoint, &[0x80, 0xc9, 0, 1, 0, 0, 0, source]),
+        Cue::Packet(endpoint, source, seq) => give(out, endpoint, &packet(0x80, source, seq)),
+        Cue::Version1(endpoint, source) => give(out, endpoint, &packet(0x40, source, 7)),
+        Cue::Nack(endpoint, source, seq) => {
+            let nack = [0x81, 205, 0, 3, 0, 0, 0, source, 0, 0, 1, 1, 0, seq, 0, 0];
+            give(out, endpoint, &nack)
+        }
+        Cue::Select(leg, on) => Received::Select { leg, on },
+        Cue::Stop => Received::Stop,
+        Cue::Fault => return None,
+    })
+}
+
+/// An RTP packet that begins with this byte.
+const fn packet(first: u8, source: u8, seq: u8) -> [u8; 14] {
+    [
+        first, 0x60, 0, seq, 0, 0, 0x0b, 0xb8, 0, 0, 0, source, 0xaa, 0xbb,
+    ]
+}
+
+impl Source for Script<'_> {
     ghost use Rattle.std.specs.Prelude.{None};
 
     ghost failures = { λ s. s.failures };
@@ -34,38 +109,22 @@ impl Source for Script {
     ghost given = { λ _. None };
 
     fn receive(&mut self, out: &mut [u8]) -> Result<Received, ReceiveFault> {
-        let at = self.next;
-        if at >= self.arrivals.len() {
+        let Some(cue) = self.next_cue() else {
+            return Ok(Received::Nothing);
+        };
+        if let Some(received) = give_cue(out, cue) {
+            return Ok(received);
+        }
+        if self.failures == u64::MAX {
             return Ok(Received::Nothing);
         }
-        self.next = at + 1;
-        match &self.arrivals[at] {
-            Arrival::Datagram(endpoint, bytes) => {
-                let length = bytes.len();
-                if length > out.len() {
-                    return Ok(Received::Nothing);
-                }
-                out[..length].copy_from_slice(bytes.as_slice());
-                Ok(Received::Datagram {
-                    endpoint: *endpoint,
-                    length,
-                })
-            }
-            Arrival::Select(leg, on) => Ok(Received::Select { leg: *leg, on: *on }),
-            Arrival::Stop => Ok(Received::Stop),
-            Arrival::Fault => {
-                if self.failures == u64::MAX {
-                    return Ok(Received::Nothing);
-                }
-                self.failures += 1;
-                Err(ReceiveFault)
-            }
-        }
+        self.failures += 1;
+        Err(ReceiveFault)
     }
 }
 
 /// A clock that goes on by a step each time that it is asked, and keeps what it told.
-#[derive(Debug, Drop)]
+#[derive(Drop)]
 pub(super) struct Steps {
     pub(super) step_ms: u64,
     pub(super) now: u64,
@@ -89,7 +148,7 @@ impl Clock for Steps {
 }
 
 /// A sink in memory.
-#[derive(Debug, Drop)]
+#[derive(Drop)]
 pub(super) struct ListSink {
     pub(super) alloc: Global,
     pub(super) handed: Vec<Datagram>,
@@ -117,29 +176,10 @@ impl Sink for ListSink {
     }
 }
 
-/// A receiver report of this source, without blocks (RFC 3550, section 6.4.2).
-pub(super) fn receiver_report(alloc: Global, source: u8) -> Result<Vec<u8>, AllocError> {
-    [0x80, 0xc9, 0, 1, 0, 0, 0, source].to_vec(alloc)
-}
-
-/// An RTP packet of this source with two bytes of payload (RFC 3550, section 5.1).
-pub(super) fn media_packet(alloc: Global, source: u8, seq: u16) -> Result<Vec<u8>, AllocError> {
-    let [high, low] = seq.to_be_bytes();
-    [
-        0x80, 0x60, high, low, 0, 0, 0x0b, 0xb8, 0, 0, 0, source, 0xaa, 0xbb,
-    ]
-    .to_vec(alloc)
-}
-
-/// The same packet in version 1, which is none (RFC 3550, section 5.1).
-pub(super) fn packet_of_version_1(alloc: Global, source: u8) -> Result<Vec<u8>, AllocError> {
-    [0x40, 0x60, 0, 7, 0, 0, 0x0b, 0xb8, 0, 0, 0, source].to_vec(alloc)
-}
-
 /// A source that plays its script; each receive takes 10 ms, by which a clock that is asked behind it is later.
-#[derive(Debug, Drop)]
+#[derive(Drop)]
 pub(super) struct Slow<'a> {
-    pub(super) script: Script,
+    pub(super) script: Script<'a>,
     pub(super) now: &'a Cell<u64>,
 }
 
@@ -157,7 +197,7 @@ impl Source for Slow<'_> {
 }
 
 /// A clock that somebody else moves.
-#[derive(Debug, Drop)]
+#[derive(Drop)]
 pub(super) struct Moved<'a> {
     pub(super) now: &'a Cell<u64>,
 }
@@ -174,7 +214,7 @@ impl Clock for Moved<'_> {
 
 /// A sink whose first send fails. It keeps the legs of packets that were asked for again in vain, and of those that weren't sent on,
 /// and what was refused.
-#[derive(Debug, Drop)]
+#[derive(Drop)]
 pub(super) struct Shaky {
     pub(super) failures: u64,
     pub(super) missed: Vec<u16>,
@@ -209,7 +249,7 @@ impl Sink for Shaky {
 }
 
 /// A watch that is due after each turn, and looks at one thing after the other. It keeps what it was shown.
-#[derive(Debug, Drop)]
+#[derive(Drop)]
 pub(super) struct Looker {
     pub(super) wanted: Vec<Look>,
     pub(super) ended: usize,
@@ -250,9 +290,4 @@ impl Watch for Looker {
     fn end_look(&mut self) {
         self.ended = self.ended.saturating_add(1);
     }
-}
-
-/// A NACK of this source for one packet of the leg whose source is 257 (RFC 4585, section 6.2.1).
-pub(super) fn resend_request(alloc: Global, source: u8, seq: u8) -> Result<Vec<u8>, AllocError> {
-    [0x81, 205, 0, 3, 0, 0, 0, source, 0, 0, 1, 1, 0, seq, 0, 0].to_vec(alloc)
 }

@@ -2,11 +2,13 @@
 
 ghost use Rattle.std.specs.Prelude.{◌≡◌};
 
-use crate::doubles::{Arrival, ListSink, Script, Steps, media_packet, receiver_report};
+use crate::doubles::{Cue, ListSink, Script, Steps};
 use one_thread::{DriveFault, Pace, Report, run_one_thread};
-use outside::Unwatched;
+use outside::{Datagram, Unwatched};
 use settings::{EndpointParts, LegParts, Parts, Settings};
-use std::alloc::Global;
+use std::alloc::{AllocError, Global};
+use std::fmt::Write;
+use std::process::Abort;
 use std::test::Fail;
 
 /// One worker, and endpoint 0 (source 16) sends to endpoint 1 (source 17) as source 257, from number 100 on.
@@ -48,22 +50,18 @@ pub(super) fn settings_with(
     Ok(Settings::new(alloc, &parts)?)
 }
 
-/// Runs these arrivals for so many turns, of 10 ms each.
-fn run_arrivals(
+/// Runs these cues for so many turns, of 10 ms each: what was heard, sent and failed, and how many desks there are.
+fn run_cues(
     alloc: Global,
-    arrivals: Vec<Arrival>,
+    cues: &[(u16, Cue)],
     turns: u64,
     sink: &mut ListSink,
-) -> Result<Result<Report, DriveFault>, Fail> {
+) -> Result<Result<[u64; 4], DriveFault>, Fail> {
     let settings = settings_of(alloc)?;
     if settings.workers() != 1 {
         return Err("workers".into());
     }
-    let mut source = Script {
-        arrivals,
-        next: 0,
-        failures: 0,
-    };
+    let mut source = Script::of(cues);
     let mut clock = Steps {
         step_ms: 10,
         now: 0,
@@ -71,7 +69,7 @@ fn run_arrivals(
         is_whole: true,
     };
     let pace = Pace { turns, tick_ms: 10 };
-    Ok(run_one_thread(
+    let ran = run_one_thread(
         alloc,
         &settings,
         &mut source,
@@ -79,89 +77,107 @@ fn run_arrivals(
         &mut clock,
         &mut Unwatched,
         pace,
-    ))
+    );
+    Ok(match ran {
+        Ok(report) => Ok(counts_of(&report)),
+        Err(fault) => Err(fault),
+    })
 }
 
-fn empty_sink(alloc: Global) -> ListSink {
-    ListSink {
+/// What a report says.
+fn counts_of(report: &Report) -> [u64; 4] {
+    let counts = &report.counts;
+    let desks = report.desks.len() as u64;
+    [counts.heard, counts.sent, counts.failed, desks]
+}
+
+/// What a sink was handed, a line for each datagram.
+fn handed_text(alloc: Global, handed: &[Datagram]) -> Result<String, AllocError> {
+    let mut text = String::new(alloc);
+    for datagram in handed {
+        write!(text, "{} ", datagram.endpoint)?;
+        for byte in datagram.bytes.as_slice() {
+            write!(text, "{byte:02x}")?;
+        }
+        text.push('\n')?;
+    }
+    Ok(text)
+}
+
+/// What these cues come to, and what the sink was handed.
+fn played(
+    alloc: Global,
+    cues: &[(u16, Cue)],
+    turns: u64,
+) -> Result<(Result<[u64; 4], DriveFault>, String), Fail> {
+    let mut sink = ListSink {
         alloc,
         handed: Vec::new(alloc),
         is_whole: true,
-    }
+    };
+    let counts = run_cues(alloc, cues, turns, &mut sink)?;
+    let handed = handed_text(alloc, sink.handed.as_slice())?;
+    Ok((counts, handed))
+}
+
+/// These cues come to these counts, and the sink was handed this.
+fn plays(
+    rt: &(impl Abort + AllocGlobal),
+    cues: &[(u16, Cue)],
+    turns: u64,
+    wanted: Result<[u64; 4], DriveFault>,
+    to_hand: &str,
+) -> Result<(), Fail> {
+    let (counts, handed) = played(rt.alloc(), cues, turns)?;
+    assert_eq!(rt; counts, wanted);
+    assert_eq!(rt; handed.as_str(), to_hand);
+    Ok(())
+}
+
+/// Both come.
+const COME: [(u16, Cue); 2] = [(1, Cue::Report(0, 16)), (1, Cue::Report(1, 17))];
+
+/// A packet of the publisher.
+const fn packet(seq: u8) -> (u16, Cue) {
+    (1, Cue::Packet(0, 16, seq))
 }
 
 /// Both come, and a packet goes to the subscriber under the leg's source and its first number.
 #[test]
 fn sends_in_one_thread(rt: HostRuntime) -> Result<(), Fail> {
-    let alloc = rt.alloc();
-    let mut arrivals = Vec::new(alloc);
-    arrivals.push(Arrival::Datagram(0, receiver_report(alloc, 16)?))?;
-    arrivals.push(Arrival::Datagram(1, receiver_report(alloc, 17)?))?;
-    arrivals.push(Arrival::Datagram(0, media_packet(alloc, 16, 7)?))?;
-    let mut sink = empty_sink(alloc);
-    let run = run_arrivals(alloc, arrivals, 5, &mut sink)?;
-    let Ok(report) = run else {
-        return Err("run".into());
-    };
-    let counts = report.counts;
-    assert_eq!(rt; (counts.heard, counts.sent, counts.failed), (3, 1, 0));
-    assert_eq!(rt; report.desks.len(), 2);
-    assert_eq!(rt; sink.handed.len(), 1);
-    let wanted = [0x80, 0x60, 0, 100, 0, 0, 0x0b, 0xb8, 0, 0, 1, 1, 0xaa, 0xbb];
-    assert_eq!(rt; sink.handed[0].endpoint, 1);
-    assert!(rt; sink.handed[0].bytes.as_slice() == wanted.as_slice());
-    Ok(())
+    let cues = [COME[0], COME[1], packet(7)];
+    plays(
+        &rt,
+        &cues,
+        5,
+        Ok([3, 1, 0, 2]),
+        "1 8060006400000bb800000101aabb\n",
+    )
 }
 
 /// A leg that is switched off sends nothing, and sends on with the next number once it is on; a stop ends the run with what came
 /// before, and what comes after it isn't heard.
 #[test]
 fn selects_and_stops_in_one_thread(rt: HostRuntime) -> Result<(), Fail> {
-    let alloc = rt.alloc();
-    let mut arrivals = Vec::new(alloc);
-    arrivals.push(Arrival::Datagram(0, receiver_report(alloc, 16)?))?;
-    arrivals.push(Arrival::Datagram(1, receiver_report(alloc, 17)?))?;
-    arrivals.push(Arrival::Datagram(0, media_packet(alloc, 16, 7)?))?;
-    arrivals.push(Arrival::Select(0, false))?;
-    arrivals.push(Arrival::Datagram(0, media_packet(alloc, 16, 8)?))?;
-    arrivals.push(Arrival::Select(0, true))?;
-    arrivals.push(Arrival::Datagram(0, media_packet(alloc, 16, 9)?))?;
-    arrivals.push(Arrival::Stop)?;
-    arrivals.push(Arrival::Datagram(0, media_packet(alloc, 16, 10)?))?;
-    let mut sink = empty_sink(alloc);
-    let run = run_arrivals(alloc, arrivals, 20, &mut sink)?;
-    let Ok(report) = run else {
-        return Err("run".into());
-    };
-    assert_eq!(rt; report.counts.heard, 5);
-    let mut numbers = Vec::new(alloc);
-    for datagram in &sink.handed {
-        if let [0x80, 0x60, high, low, ..] = datagram.bytes.as_slice() {
-            numbers.push(u16::from_be_bytes([*high, *low]))?;
-        }
-    }
-    assert!(rt; numbers.as_slice() == [100, 101].as_slice());
-    Ok(())
-}
-
-/// So many receives fail, and then a datagram comes.
-fn run_faults(alloc: Global, faults: u64) -> Result<Result<Report, DriveFault>, Fail> {
-    let mut arrivals = Vec::new(alloc);
-    for _fault in 0..faults {
-        arrivals.push(Arrival::Fault)?;
-    }
-    arrivals.push(Arrival::Datagram(1, receiver_report(alloc, 17)?))?;
-    run_arrivals(alloc, arrivals, 200, &mut empty_sink(alloc))
+    let cues = [
+        COME[0],
+        COME[1],
+        packet(7),
+        (1, Cue::Select(0, false)),
+        packet(8),
+        (1, Cue::Select(0, true)),
+        packet(9),
+        (1, Cue::Stop),
+        packet(10),
+    ];
+    let handed = "1 8060006400000bb800000101aabb\n1 8060006500000bb800000101aabb\n";
+    plays(&rt, &cues, 20, Ok([5, 2, 0, 2]), handed)
 }
 
 /// 99 receives in a row that fail don't end a run, and 100 do.
 #[test]
 fn receive_faults_in_one_thread(rt: HostRuntime) -> Result<(), Fail> {
-    let Ok(report) = run_faults(rt.alloc(), 99)? else {
-        return Err("run".into());
-    };
-    assert_eq!(rt; report.counts.heard, 1);
-    let fault = run_faults(rt.alloc(), 100)?.err();
-    assert_eq!(rt; fault, Some(DriveFault::Receive));
-    Ok(())
+    plays(&rt, &[(99, Cue::Fault), COME[1]], 200, Ok([1, 0, 0, 2]), "")?;
+    let fault = Err(DriveFault::Receive);
+    plays(&rt, &[(100, Cue::Fault), COME[1]], 200, fault, "")
 }

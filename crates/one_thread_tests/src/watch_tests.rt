@@ -2,14 +2,11 @@
 
 ghost use Rattle.std.specs.Prelude.{◌≡◌};
 
-use crate::doubles::{
-    Arrival, Looker, Moved, Script, Shaky, Slow, media_packet, packet_of_version_1,
-    receiver_report, resend_request,
-};
+use crate::doubles::{Cue, Looker, Moved, Script, Shaky, Slow};
 use crate::run_tests::settings_with;
 use events::Refusal;
 use one_thread::{Pace, run_one_thread};
-use outside::Look;
+use outside::{Look, Status};
 use rtp_packet::RtpFault;
 use settings::RoomFault;
 use std::alloc::{AllocError, Global};
@@ -18,18 +15,17 @@ use std::test::Fail;
 
 /// Both come, three packets are sent on, one from before them isn't, and one that never was is asked for again; then comes what is no
 /// packet, and a leg that isn't there is selected.
-fn arrivals(alloc: Global) -> Result<Vec<Arrival>, AllocError> {
-    let mut arrivals = Vec::new(alloc);
-    arrivals.push(Arrival::Datagram(0, receiver_report(alloc, 16)?))?;
-    arrivals.push(Arrival::Datagram(1, receiver_report(alloc, 17)?))?;
-    for seq in [7, 8, 9, 6] {
-        arrivals.push(Arrival::Datagram(0, media_packet(alloc, 16, seq)?))?;
-    }
-    arrivals.push(Arrival::Datagram(1, resend_request(alloc, 17, 5)?))?;
-    arrivals.push(Arrival::Datagram(1, packet_of_version_1(alloc, 17)?))?;
-    arrivals.push(Arrival::Select(7, true))?;
-    Ok(arrivals)
-}
+const CUES: [(u16, Cue); 9] = [
+    (1, Cue::Report(0, 16)),
+    (1, Cue::Report(1, 17)),
+    (1, Cue::Packet(0, 16, 7)),
+    (1, Cue::Packet(0, 16, 8)),
+    (1, Cue::Packet(0, 16, 9)),
+    (1, Cue::Packet(0, 16, 6)),
+    (1, Cue::Nack(1, 17, 5)),
+    (1, Cue::Version1(1, 17)),
+    (1, Cue::Select(7, true)),
+];
 
 /// A watch that looks at presence, at stays, at a desk, and at a desk that isn't there.
 fn looker(alloc: Global) -> Result<Looker, AllocError> {
@@ -53,11 +49,7 @@ fn run_watched(alloc: Global, sink: &mut Shaky, watch: &mut Looker) -> Result<bo
     }
     let now = Cell::new(0);
     let mut source = Slow {
-        script: Script {
-            arrivals: arrivals(alloc)?,
-            next: 0,
-            failures: 0,
-        },
+        script: Script::of(&CUES),
         now: &now,
     };
     let mut clock = Moved { now: &now };
@@ -67,6 +59,57 @@ fn run_watched(alloc: Global, sink: &mut Shaky, watch: &mut Looker) -> Result<bo
     };
     let ran = run_one_thread(alloc, &settings, &mut source, sink, &mut clock, watch, pace);
     Ok(ran.is_ok())
+}
+
+/// The moment of each turn; who is present then, and what was heard, sent and failed by then.
+const TOTALS: [(u64, [u64; 6]); 10] = [
+    (10, [1, 1, 0, 0, 0, 0]),
+    (20, [2, 2, 0, 0, 0, 0]),
+    (30, [2, 3, 0, 1, 0, 0]),
+    (40, [2, 4, 1, 1, 0, 0]),
+    (50, [2, 5, 2, 1, 0, 0]),
+    (60, [2, 6, 2, 1, 0, 0]),
+    (70, [2, 7, 2, 1, 0, 0]),
+    (80, [2, 8, 2, 1, 0, 0]),
+    (90, [2, 8, 2, 1, 0, 0]),
+    (100, [2, 8, 2, 1, 0, 0]),
+];
+
+/// Whether these totals were shown; nothing was lost or dropped.
+fn has_totals(totals: &[(u64, Status)]) -> bool {
+    for ((moment, status), (at, numbers)) in totals.iter().zip(&TOTALS) {
+        let shown = [
+            status.present,
+            status.heard,
+            status.sent,
+            status.failed,
+            status.lost,
+            status.dropped,
+        ];
+        if *moment != *at || shown != *numbers {
+            return false;
+        }
+    }
+    totals.len() == TOTALS.len()
+}
+
+/// Whether the sink was told so of a miss, of a skip and of refusals.
+fn is_told(sink: &Shaky) -> bool {
+    let refused = [
+        (Some(1), Refusal::Rtp(RtpFault::Version)),
+        (None, Refusal::Room(RoomFault::UnknownLeg)),
+    ];
+    sink.missed.as_slice() == [1].as_slice()
+        && sink.skipped.as_slice() == [1].as_slice()
+        && sink.refused.as_slice() == refused.as_slice()
+}
+
+/// Whether the watch was shown so who is present, stays and desks.
+fn is_shown(watch: &Looker) -> bool {
+    watch.present.as_slice() == [(0, true), (1, false), (2, false)].as_slice()
+        && watch.stays.as_slice() == [(0, None), (1, Some(1))].as_slice()
+        && watch.desks.as_slice() == [0].as_slice()
+        && watch.ended == 4
 }
 
 /// The moment of a turn is that after its receive; its totals have what the turn itself did; a miss and a skip are told of their leg, and a refusal of
@@ -81,43 +124,12 @@ fn shows_what_each_turn_came_to(rt: HostRuntime) -> Result<(), Fail> {
         skipped: Vec::new(alloc),
         refused: Vec::new(alloc),
     };
-    assert!(rt; run_watched(alloc, &mut sink, &mut watch)?);
-    let wanted = [
-        (10, 1, 1, 0, 0),
-        (20, 2, 2, 0, 0),
-        (30, 2, 3, 0, 1),
-        (40, 2, 4, 1, 1),
-        (50, 2, 5, 2, 1),
-        (60, 2, 6, 2, 1),
-        (70, 2, 7, 2, 1),
-        (80, 2, 8, 2, 1),
-        (90, 2, 8, 2, 1),
-        (100, 2, 8, 2, 1),
+    let ran = run_watched(alloc, &mut sink, &mut watch)?;
+    let shown = [
+        has_totals(watch.totals.as_slice()),
+        is_told(&sink),
+        is_shown(&watch),
     ];
-    assert_eq!(rt; watch.totals.len(), wanted.len());
-    for ((moment, status), wanted) in watch.totals.iter().zip(wanted) {
-        assert_eq!(rt;
-            (
-                *moment,
-                status.present,
-                status.heard,
-                status.sent,
-                status.failed
-            ),
-            wanted
-        );
-        assert_eq!(rt; (status.lost, status.dropped), (0, 0));
-    }
-    assert!(rt; sink.missed.as_slice() == [1].as_slice());
-    assert!(rt; sink.skipped.as_slice() == [1].as_slice());
-    let refused = [
-        (Some(1), Refusal::Rtp(RtpFault::Version)),
-        (None, Refusal::Room(RoomFault::UnknownLeg)),
-    ];
-    assert!(rt; sink.refused.as_slice() == refused.as_slice());
-    assert!(rt; watch.present.as_slice() == [(0, true), (1, false), (2, false)].as_slice());
-    assert!(rt; watch.stays.as_slice() == [(0, None), (1, Some(1))].as_slice());
-    assert!(rt; watch.desks.as_slice() == [0].as_slice());
-    assert_eq!(rt; watch.ended, 4);
+    assert!(rt; ran && shown == [true; 3], "{shown:?}");
     Ok(())
 }
