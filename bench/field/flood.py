@@ -133,12 +133,12 @@ def play(program, seconds, limit, goings, folder):
         is_over.set()
         unit.kill()
     reader.join(2)
-    flooded = int(re.search(r'^sfu_endpoint_flooded_total\{endpoint="2"\} (\d+)$', metrics, re.M).group(1))
+    own, flooded = (int(re.search(rf'^sfu_endpoint_flooded_total\{{endpoint="{it}"\}} (\d+)$', metrics, re.M).group(1)) for it in (0, 2))
     lines = [it for it in lines if " present " in it or it.startswith("present")]
     timed = [it for it in lines if re.match(r"\d{4}-\d\d-\d\dT\d\d:\d\d:\d\dZ present ", it)]
-    print(f"{len(came)} of {sent} packets came; of {flood} datagrams of the other one {flooded} weren't heard; unread {counts.get('unread', 0)}; the unit took {cost:.2f} s of processor time")
+    print(f"{len(came)} of {sent} packets came, {own} were beyond the limit themselves; of {flood} datagrams of the other one {flooded} weren't heard; unread {counts.get('unread', 0)}; the unit took {cost:.2f} s of processor time")
     print(f"{len(timed)} of {len(lines)} lines begin with the time; the last: {lines[-1].strip() if lines else 'none'}")
-    is_missing = len(came) < sent and not counts.get("unread", 0)
+    is_missing = len(came) + own < sent and not counts.get("unread", 0)
     return 1 if is_missing or not lines or len(timed) < len(lines) or (limit and not flooded) else 0
 
 
