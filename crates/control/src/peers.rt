@@ -215,7 +215,8 @@ impl<S: Read + Write + Drop> Peers<S> {
     /// Answers who asked last. What it doesn't take at once is written when it is looked at next, and it is heard again after that; who
     /// isn't there any more is let go.
     pub fn answer(&mut self, text: &[u8])
-        ensures { self.new ≤ self.old }
+        ensures answered { self.new ≤ self.old }
+        ensures others { self.old ≤ self.new + 1 }
     {
         let Some(mut peer) = self.peers.pop() else {
             return;
@@ -246,7 +247,8 @@ impl<S: Read + Write + Drop> Peers<S> {
 
     /// The peer is looked at again, after the others.
     fn keep(&mut self, peer: Peer<S>)
-        ensures { self.new ≤ self.old + 1 }
+        ensures kept { self.new ≤ self.old + 1 }
+        ensures others { self.old ≤ self.new }
     {
         if self.peers.len() < MAX_PEERS {
             let _ = self.peers.push(peer);
