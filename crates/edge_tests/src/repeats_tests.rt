@@ -1,6 +1,6 @@
 //! Requests that are held until their publisher comes, and sets that are asked for again.
 
-use crate::expected::same;
+use crate::expected::{is_text, same};
 use outside::{ReceiveFault, Received, Source};
 use repeats::{Holding, Sets};
 use rtcp_feedback::TmmbrEntry;
@@ -9,7 +9,6 @@ use settings_text::read_settings;
 use std::alloc::{AllocError, Global};
 use std::cell::{Cell, RefCell};
 use std::fmt::Write;
-use std::process::Abort;
 use std::test::Fail;
 use tmmbr_tuple::Ssrc;
 
@@ -41,19 +40,22 @@ const REPORT_AND_ASK: &[u8] = &[
 /// A report of source 17 that says no more than that it is there.
 const REPORT: &[u8] = &[0x80, 201, 0, 1, 0, 0, 0, 17];
 
-/// A datagram of an endpoint, at a moment in milliseconds, and what is given by then: endpoints and bytes in hexadecimal digits.
+/// A datagram of an endpoint, at a moment in milliseconds, and what is given by then, as `given` has it.
 struct Cue {
     moment: u64,
     endpoint: u16,
     bytes: &'static [u8],
-    given: &'static [&'static str],
+    given: &'static str,
 }
 
-const MEDIA_GIVEN: &str = "0 806000070000000000000010aa";
+const MEDIA_GIVEN: &str = "0 806000070000000000000010aa\n";
 
-const REPORT_GIVEN: &str = "1 80c9000100000011";
+const REPORT_GIVEN: &str = "1 80c9000100000011\n";
 
-const ASK_GIVEN: &str = "1 83cd00040000001100000000000001010007d028";
+const ASK_GIVEN: &str = "1 83cd00040000001100000000000001010007d028\n";
+
+const MEDIA_AND_ASK_GIVEN: &str =
+    "0 806000070000000000000010aa\n1 83cd00040000001100000000000001010007d028\n";
 
 /// What a subscriber asks for before its publisher is there, and as that comes again and again.
 const CUES: [Cue; 10] = [
@@ -62,67 +64,67 @@ const CUES: [Cue; 10] = [
         moment: 0,
         endpoint: 1,
         bytes: ASK,
-        given: &[REPORT_GIVEN],
+        given: REPORT_GIVEN,
     },
     // The publisher comes, and the request is heard after its packet; once.
     Cue {
         moment: 10,
         endpoint: 0,
         bytes: MEDIA,
-        given: &[MEDIA_GIVEN, ASK_GIVEN],
+        given: MEDIA_AND_ASK_GIVEN,
     },
     Cue {
         moment: 20,
         endpoint: 0,
         bytes: MEDIA,
-        given: &[MEDIA_GIVEN],
+        given: MEDIA_GIVEN,
     },
     // A request of a publisher that is there is given on.
     Cue {
         moment: 30,
         endpoint: 1,
         bytes: ASK,
-        given: &[ASK_GIVEN],
+        given: ASK_GIVEN,
     },
     // Of a compound the rest is.
     Cue {
         moment: 40,
         endpoint: 1,
         bytes: REPORT_AND_ASK,
-        given: &[REPORT_GIVEN],
+        given: REPORT_GIVEN,
     },
     // The publisher leaves and comes.
     Cue {
         moment: 50,
         endpoint: 0,
         bytes: BYE_16,
-        given: &["0 81cb000100000010"],
+        given: "0 81cb000100000010\n",
     },
     Cue {
         moment: 60,
         endpoint: 0,
         bytes: MEDIA,
-        given: &[MEDIA_GIVEN, ASK_GIVEN],
+        given: MEDIA_AND_ASK_GIVEN,
     },
     // It comes after a silence of half the timeout, since it may have been gone; its subscriber is there.
     Cue {
         moment: 560,
         endpoint: 0,
         bytes: MEDIA,
-        given: &[MEDIA_GIVEN, ASK_GIVEN],
+        given: MEDIA_AND_ASK_GIVEN,
     },
     // The subscriber leaves, and nothing is held for it.
     Cue {
         moment: 570,
         endpoint: 1,
         bytes: BYE_17,
-        given: &["1 81cb000100000011"],
+        given: "1 81cb000100000011\n",
     },
     Cue {
         moment: 5_000,
         endpoint: 0,
         bytes: MEDIA,
-        given: &[MEDIA_GIVEN],
+        given: MEDIA_GIVEN,
     },
 ];
 
@@ -161,31 +163,20 @@ fn room(alloc: Global) -> Result<Settings, Fail> {
     }
 }
 
-/// What the next receive gives: the endpoint, and the bytes in hexadecimal digits; nothing if it gives nothing.
+/// What the next four receives give: a line for each datagram, its endpoint and its bytes in hexadecimal digits.
 fn given(alloc: Global, source: &mut Holding<'_, Put<'_>>) -> Result<String, Fail> {
     let mut buffer = [0; 64];
     let mut text = String::new(alloc);
-    if let Received::Datagram { endpoint, length } = source.receive(&mut buffer)? {
-        write!(text, "{endpoint} ")?;
-        for byte in &buffer[..length] {
-            write!(text, "{byte:02x}")?;
+    for _receive in 0..4 {
+        if let Received::Datagram { endpoint, length } = source.receive(&mut buffer)? {
+            write!(text, "{endpoint} ")?;
+            for byte in &buffer[..length] {
+                write!(text, "{byte:02x}")?;
+            }
+            text.push('\n')?;
         }
     }
     Ok(text)
-}
-
-/// The next receives give these, and then nothing.
-fn gives(
-    rt: &impl Abort,
-    alloc: Global,
-    source: &mut Holding<'_, Put<'_>>,
-    wanted: &[&str],
-) -> Result<(), Fail> {
-    for digits in wanted {
-        assert_eq!(rt; given(alloc, source)?.as_str(), *digits);
-    }
-    assert_eq!(rt; given(alloc, source)?.as_str(), "");
-    Ok(())
 }
 
 /// What is asked for is held until the publisher comes, and heard again each time that it does, until the subscriber leaves.
@@ -205,7 +196,8 @@ fn heard_once_the_publisher_comes(rt: HostRuntime) -> Result<(), Fail> {
         moment_ms.set(cue.moment);
         endpoint.set(cue.endpoint);
         bytes.set(cue.bytes);
-        gives(&rt, alloc, &mut source, cue.given)?;
+        let text = given(alloc, &mut source)?;
+        is_text(&rt, Ok(text), cue.given)?;
     }
     Ok(())
 }
@@ -223,10 +215,13 @@ fn given_as_it_comes(rt: HostRuntime) -> Result<(), Fail> {
         bytes: &bytes,
     };
     let mut source = Holding::new(alloc, put, &settings, 0, &moment_ms, &sets)?;
-    gives(&rt, alloc, &mut source, &[ASK_GIVEN])?;
+    let asked = given(alloc, &mut source)?;
+    is_text(&rt, Ok(asked), ASK_GIVEN)?;
     endpoint.set(0);
     bytes.set(MEDIA);
-    gives(&rt, alloc, &mut source, &[MEDIA_GIVEN])
+    let sent = given(alloc, &mut source)?;
+    is_text(&rt, Ok(sent), MEDIA_GIVEN)?;
+    Ok(())
 }
 
 /// The request of owner 17 for the word of `ASK`, as a set and as the entry of a TMMBN (RFC 5104, section 4.2.2.1).
