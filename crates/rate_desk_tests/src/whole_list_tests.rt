@@ -12,24 +12,39 @@ use std::test::Fail;
 /// How often each desk is called.
 const CALLS: u32 = 2500;
 
-/// Whether the answer is the one that is owed to a call behind calls that come to this, but for the rows that are
+/// The answer is the one that is owed to a call behind calls that come to this, but for the rows that are
 /// announced.
-fn is_owed(gap: u64, before: &Base, call: &Call, answer: &Answer) -> bool {
-    match (refusal_after(before, call), *answer) {
-        (Some(refusal), _) => *answer == refusal,
-        (None, Answer::Done { pli, .. }) => pli == is_sent(gap, before, call),
-        (None, _) => false,
+fn assert_owed(rt: &impl Abort, gap: u64, before: &Base, call: &Call, answer: &Answer) {
+    match refusal_after(before, call) {
+        Some(refusal) => assert_eq!(rt; *answer, refusal),
+        None => {
+            let Answer::Done { pli, .. } = *answer else {
+                assert!(rt; false, "{call:?} is refused: {answer:?}");
+                return;
+            };
+            assert_eq!(rt; pli, is_sent(gap, before, call), "{call:?}");
+        },
     }
 }
 
-/// Whether a base is as it has to be.
-fn is_base(base: &Base, want: &Base) -> bool {
-    base.present.as_slice() == want.present.as_slice()
-        && base.wanted == want.wanted
-        && base.greatest == want.greatest
-        && base.last_up == want.last_up
-        && base.calls == want.calls
-        && base.words == want.words
+fn assert_base(rt: &impl Abort, base: &Base, want: &Base) {
+    assert_eq!(rt; base.present.as_slice(), want.present.as_slice());
+    assert_eq!(rt;
+        (
+            base.wanted,
+            base.greatest,
+            base.last_up,
+            base.calls,
+            base.words
+        ),
+        (
+            want.wanted,
+            want.greatest,
+            want.last_up,
+            want.calls,
+            want.words
+        )
+    );
 }
 
 /// What came to pass on all desks.
@@ -110,21 +125,26 @@ impl Past {
     }
 }
 
-/// Whether the bits of an answer are those of the rows that the past says.
-fn has_bits(answer: &Answer, past: &Past) -> bool {
-    match *answer {
-        Answer::Done { kept, .. } => kept == past.bits,
-        _ => true,
+/// The desk is as the past says.
+fn assert_desk(
+    rt: &impl Abort,
+    desk: &Desk,
+    past: &Past,
+    base: &Base,
+    entry: &Entry,
+    effect: &Effect,
+) {
+    assert_base(rt, desk.base(), base);
+    assert_eq!(rt; desk.history().len(), past.entries.len().min(1024));
+    assert_eq!(rt; desk.live(), past.live.as_slice());
+    assert_eq!(rt;
+        effect.set.as_slice(),
+        past.announced.as_slice(),
+        "{entry:?}"
+    );
+    if let Answer::Done { kept, .. } = entry.answer {
+        assert_eq!(rt; kept, past.bits);
     }
-}
-
-/// Whether the desk is as the past says.
-fn is_desk(desk: &Desk, past: &Past, base: &Base, answer: &Answer, effect: &Effect) -> bool {
-    is_base(desk.base(), base)
-        && desk.history().len() == past.entries.len().min(1024)
-        && desk.live() == past.live.as_slice()
-        && effect.set.as_slice() == past.announced.as_slice()
-        && has_bits(answer, past)
 }
 
 /// Makes a call, and looks at all that the desk says then.
@@ -142,14 +162,15 @@ fn call_once(
     }
     let mut effect = Effect::new();
     let Recorded { number, answer } = desk.call(&call, &mut effect)?;
-    let owed = number == past.entries.len() as u64 && is_owed(gap, &past.base, &call, &answer);
-    let base = past.take_in(alloc, Entry { call, answer })?;
+    assert_eq!(rt; number, past.entries.len() as u64);
+    assert_owed(rt, gap, &past.base, &call, &answer);
+    let entry = Entry { call, answer };
+    let base = past.take_in(alloc, entry)?;
     let gone = past.announce();
     if matches!(call, Call::Time { .. }) {
         seen.taken = seen.taken.saturating_add(gone);
     }
-    let is_so = owed && is_desk(desk, past, &base, &answer, &effect);
-    assert!(rt; is_so, "{call:?}, {answer:?}");
+    assert_desk(rt, desk, past, &base, &entry, &effect);
     seen.note(&answer, past.live.len(), past.announced.len());
     Ok(())
 }
@@ -186,19 +207,8 @@ fn call_in_turn(
     call_often(rt, alloc, &mut desk, &mut past, plan, draws, seen)
 }
 
-impl Seen {
-    /// Whether all that may come to pass did.
-    fn is_all(&self) -> bool {
-        self.full > 60
-            && self.sent > 100
-            && self.taken > 100
-            && self.most_live == 256
-            && self.most_announced > 100
-    }
-}
-
 /// Five of the desks, from this number on: 12,500 calls.
-fn call_five(rt: &impl Abort, alloc: Global, first: usize) -> Result<Seen, Fail> {
+fn call_five(rt: &impl Abort, alloc: Global, first: usize) -> Result<(), Fail> {
     let mut draws = Draws((first as u64).wrapping_add(1));
     let mut seen = Seen::default();
     for more in 0..5_usize {
@@ -210,15 +220,56 @@ fn call_five(rt: &impl Abort, alloc: Global, first: usize) -> Result<Seen, Fail>
             &mut seen,
         )?;
     }
-    Ok(seen)
+    assert!(rt; seen.full > 60, "Full {} times", seen.full);
+    assert!(rt; seen.sent > 100, "{} PLIs", seen.sent);
+    assert!(rt; seen.taken > 100, "{} requests taken", seen.taken);
+    assert_eq!(rt; seen.most_live, 256);
+    assert!(rt;
+        seen.most_announced > 100,
+        "{} announced",
+        seen.most_announced
+    );
+    Ok(())
 }
 
-/// 100,000 calls of 40 desks, five by five.
+// All in all 100,000 calls. They are parted so that each test ends in time under the interpreter, too.
+
 #[test]
-fn whole_lists(rt: HostRuntime) -> Result<(), Fail> {
-    for first in [0, 5, 10, 15, 20, 25, 30, 35] {
-        let seen = call_five(&rt, rt.alloc(), first)?;
-        assert!(rt; seen.is_all(), "from {first}");
-    }
-    Ok(())
+fn whole_lists_from_0(rt: HostRuntime) -> Result<(), Fail> {
+    call_five(&rt, rt.alloc(), 0)
+}
+
+#[test]
+fn whole_lists_from_5(rt: HostRuntime) -> Result<(), Fail> {
+    call_five(&rt, rt.alloc(), 5)
+}
+
+#[test]
+fn whole_lists_from_10(rt: HostRuntime) -> Result<(), Fail> {
+    call_five(&rt, rt.alloc(), 10)
+}
+
+#[test]
+fn whole_lists_from_15(rt: HostRuntime) -> Result<(), Fail> {
+    call_five(&rt, rt.alloc(), 15)
+}
+
+#[test]
+fn whole_lists_from_20(rt: HostRuntime) -> Result<(), Fail> {
+    call_five(&rt, rt.alloc(), 20)
+}
+
+#[test]
+fn whole_lists_from_25(rt: HostRuntime) -> Result<(), Fail> {
+    call_five(&rt, rt.alloc(), 25)
+}
+
+#[test]
+fn whole_lists_from_30(rt: HostRuntime) -> Result<(), Fail> {
+    call_five(&rt, rt.alloc(), 30)
+}
+
+#[test]
+fn whole_lists_from_35(rt: HostRuntime) -> Result<(), Fail> {
+    call_five(&rt, rt.alloc(), 35)
 }
