@@ -51,8 +51,8 @@ V4 = {"any": "0.0.0.0", "one": "192.0.2.7", "two": "192.0.2.8", "unit": "192.0.2
 V6 = {"any": "[::]", "one": "[2001:db8::7]", "two": "[2001:db8::8]", "unit": "[2001:db8::1]"}
 
 
-def rtp(seq, ssrc):
-    return bytes([0x80, 96]) + seq.to_bytes(2, "big") + bytes(4) + ssrc.to_bytes(4, "big") + b"\xaa"
+def rtp(seq, ssrc, timestamp=0):
+    return bytes([0x80, 96]) + seq.to_bytes(2, "big") + timestamp.to_bytes(4, "big") + ssrc.to_bytes(4, "big") + b"\xaa"
 
 
 RR = bytes.fromhex("80c9000100000010")
@@ -66,6 +66,9 @@ SENT = [
     (12, "two", 6000, 5004, PLI),
     (25, "one", 6000, 5004, rtp(30000, 16)),  # far, until the next one follows it
     (25, "one", 6000, 5004, rtp(30001, 16)),  # it began anew
+    (25, "one", 6000, 5004, rtp(29999, 16)),  # late
+    (25, "one", 6000, 5004, rtp(29990, 16, 2**31)),  # no more behind, but with another timestamp: far
+    (25, "one", 6000, 5004, rtp(29991, 16, 2**31)),  # it began anew
     (26, "two", 6001, 5004, rtp(1, 18)),  # a stranger
     (27, "one", 6000, 5006, rtp(2, 16)),  # to somebody else
     (31, "unit", 5004, 6000, rtp(3, 16)),  # from the unit
@@ -82,6 +85,10 @@ tick 20
 hear 25 0 81cb000100000010
 hear 25 0 {rtp(30000, 16).hex()}
 hear 25 0 {rtp(30001, 16).hex()}
+hear 25 0 {rtp(29999, 16).hex()}
+hear 25 0 81cb000100000010
+hear 25 0 {rtp(29990, 16, 2**31).hex()}
+hear 25 0 {rtp(29991, 16, 2**31).hex()}
 """
 WANTED = "".join(f"{line}\nfollow\n" for line in WANTED.splitlines())
 

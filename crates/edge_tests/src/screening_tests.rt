@@ -5,13 +5,18 @@ ghost use Rattle.outside.specs.Outside.{FitsIn};
 
 use crate::expected::same;
 use outside::{ReceiveFault, Received, Source};
-use screening::{Placement, Rules, Screen, Starts};
+use screening::{Placement, Rules, Screen, Stamp, Starts};
 use std::alloc::{AllocError, Global};
 use std::cell::Cell;
 use std::fmt::Write;
 use std::process::Abort;
 use std::test::Fail;
 use tmmbr_tuple::Ssrc;
+
+/// A packet with this number and timestamp.
+fn stamp(seq: u16, timestamp: u32) -> Stamp {
+    Stamp { seq, timestamp }
+}
 
 /// What each number is, by the rules of RFC 3550, appendix A.1: 3,000 numbers may be left out, and a packet may come 99 late.
 #[test]
@@ -41,12 +46,46 @@ fn starts_of_a_source(rt: HostRuntime) -> Result<(), Fail> {
         (0, Placement::Anew),
     ];
     for (seq, placement) in cases {
-        assert_eq!(rt; starts.note(1, seq), placement, "{}", seq);
+        assert_eq!(rt; starts.note(1, stamp(seq, 9)), placement, "{}", seq);
     }
     // Another endpoint has numbers of its own, and one that isn't there has none.
-    same(&rt, &starts.note(0, 20_000), &Placement::Near);
-    same(&rt, &starts.note(2, 7), &Placement::Near);
-    same(&rt, &starts.note(2, 50_000), &Placement::Near);
+    same(&rt, &starts.note(0, stamp(20_000, 9)), &Placement::Near);
+    same(&rt, &starts.note(2, stamp(7, 9)), &Placement::Near);
+    same(&rt, &starts.note(2, stamp(50_000, 9)), &Placement::Near);
+    Ok(())
+}
+
+/// What comes late is near only if its timestamp is fewer than 16,777,216 units from that of the highest number, before or after it; what is
+/// ahead is judged by its number alone.
+#[test]
+fn late_by_timestamps(rt: HostRuntime) -> Result<(), Fail> {
+    let mut starts = Starts::new(rt.alloc(), 1)?;
+    let cases = [
+        // It begins.
+        (1_000, 5_000_000, Placement::Near),
+        // 50 late: before it, across the wrap, and after it.
+        (950, 4_283_190_081, Placement::Near),
+        (950, 21_777_215, Placement::Near),
+        (950, 4_283_190_080, Placement::Far),
+        (950, 21_777_216, Placement::Far),
+        // A hundred late it is far whatever its timestamp is.
+        (900, 5_000_000, Placement::Far),
+        // It begins anew 50 behind, by other timestamps, and goes on.
+        (950, 2_000_000_000, Placement::Far),
+        (951, 2_000_003_000, Placement::Anew),
+        (952, 2_000_006_000, Placement::Near),
+        // A packet of it that comes late; then it is silent for long, and goes on.
+        (950, 2_000_000_000, Placement::Near),
+        (953, 4_000_000_000, Placement::Near),
+        // By then that one would be another's.
+        (950, 2_000_000_000, Placement::Far),
+        // The same number, and one that leaves many out.
+        (953, 1, Placement::Near),
+        (3_952, 2_000_000_000, Placement::Near),
+    ];
+    for (seq, timestamp, placement) in cases {
+        assert_eq!(rt; starts.note(0, stamp(seq, timestamp)), placement, "{}", seq);
+    }
     Ok(())
 }
 

@@ -1,13 +1,12 @@
 -- An entry that is written for some numbers names just these.
-use Rattle.std.proofs.Common.{◌≡◌, ◌==◌, ◌∙◌, ℕ, ◌+◌, ◌-◌, ◌/◌, ◌%◌, ◌^◌, ◌<◌, ◌≤◌, ◌≢◌, inl, inr, Bool, true, false, List, [], ◌∷◌, refl, sym, ap, arith, max}
-use Rattle.std.specs.Prelude.{◌||◌, bit_or, nat_lt, Option, None, Some, if◌then◌else◌}
+use Rattle.std.proofs.Common.{◌≡◌, ◌==◌, ◌∙◌, ℕ, ◌-◌, ◌^◌, ◌<◌, ◌≤◌, ◌≢◌, inl, inr, Bool, true, false, List, [], ◌∷◌, refl, sym, ap, arith, max}
+use Rattle.std.specs.Prelude.{◌||◌, bit_or, nat_lt, Some, if◌then◌else◌}
 use Rattle.std.specs.List.{list_any}
 use Rattle.std.proofs.lemmas.Bool.{cases_Bool, eqb-true}
 use Rattle.std.proofs.lemmas.Bool.Decides.{nat_tests}
 use Rattle.std.proofs.lemmas.Nat.Bits.{bit_at_or, bit_at-zero, bit_at-lt, bit_at-pow_same, bit_at-pow_other}
 use Rattle.std.specs.Int.{bit_at}
 use Rattle.rtcp_feedback.specs.Nack.{is_set}
-use Rattle.rtcp_feedback.specs.declared.nack.Nack.{Nack}
 use Rattle.screening.specs.Nacks.{NamesJust, behind_by, bit_behind, entry_from}
 
 or_false : (x : Bool) → (x || false) ≡ x

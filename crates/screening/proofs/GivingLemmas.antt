@@ -1,7 +1,6 @@
 -- What is given on of a NACK's numbers and entries, and of a datagram's packets, one after the other.
 use Rattle.std.proofs.Common.{◌≡◌, ◌∙◌, ℕ, ◌+◌, ◌<◌, Bool, true, false, List, [], ◌∷◌, ◌++◌, length, get_or, take, drop, refl, sym, ap, subst, arith, append_assoc, append-nil, add-one, drop-cons}
 use Rattle.std.specs.Prelude.{Option, Some, if◌then◌else◌}
-use Rattle.rtcp_feedback.specs.Nack.{lost_numbers}
 use Rattle.rtcp_feedback.specs.declared.nack.Nack.{Nack}
 use Rattle.senders.specs.Naming.{heard_size}
 use Rattle.screening.specs.Nacks.{GivesOn, Terms, books_given, ended, entry_from, joined, packet, packet_given}

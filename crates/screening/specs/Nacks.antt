@@ -1,6 +1,6 @@
 -- What of an RTCP datagram is given on: in NACKs those entries, and those bits of them, that are let through; all else as it came
 -- (RFC 4585, section 6.2.1).
-use Rattle.std.specs.Prelude.{◌≡◌, ◌==◌, ℕ, zero, ◌+◌, ◌-◌, ◌*◌, ◌/◌, ◌%◌, ◌^◌, ◌<◌, ◌≤◌, nat_lt, nat_le, ◌&&◌, ◌||◌, Bool, bit_or, List, [], ◌∷◌, ◌++◌, length, take, drop, Option, None, Some, option_to_list, slice_get, slice_index, slice_set, if◌then◌else◌}
+use Rattle.std.specs.Prelude.{◌≡◌, ◌==◌, ℕ, ◌+◌, ◌-◌, ◌*◌, ◌/◌, ◌%◌, ◌^◌, ◌<◌, ◌≤◌, nat_lt, nat_le, ◌&&◌, ◌||◌, Bool, bit_or, List, [], ◌∷◌, ◌++◌, length, take, drop, Option, None, Some, option_to_list, slice_get, slice_index, slice_set, if◌then◌else◌}
 use Rattle.std.specs.List.{flat_map, list_any}
 use Rattle.byteorder.specs.Endian.{big_bytes, big_number}
 use Rattle.rtp_packet.specs.declared.header.TheConstants.{SEQ_CYCLE}

@@ -1,5 +1,5 @@
 -- Which packets are let through as asked for again (RFC 4585, section 6.2.1): not too soon, and not too many in a second.
-use Rattle.std.specs.Prelude.{◌≡◌, ◌==◌, ℕ, ◌+◌, ◌-◌, ◌*◌, ◌/◌, ◌%◌, ◌^◌, nat_lt, nat_le, not, ◌&&◌, ◌||◌, Bool, true, false, List, [], ◌∷◌, Option, None, Some, max, min, slice_get, slice_set, if◌then◌else◌}
+use Rattle.std.specs.Prelude.{◌==◌, ℕ, ◌+◌, ◌-◌, ◌*◌, ◌/◌, ◌%◌, ◌^◌, nat_lt, nat_le, not, ◌&&◌, ◌||◌, Bool, true, false, List, [], ◌∷◌, Option, None, Some, max, min, slice_get, slice_set, if◌then◌else◌}
 use Rattle.screening.specs.declared.resends.Allowance.{Allowance}
 use Rattle.screening.specs.declared.resends.Flow.{Flow}
 use Rattle.screening.specs.declared.resends.Passed.{Passed}

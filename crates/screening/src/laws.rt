@@ -3,14 +3,15 @@
 ghost use Rattle.std.specs.Prelude.{◌≡◌, ℕ, List};
 ghost use Rattle.screening.specs.Nacks.{NamesJust};
 ghost use Rattle.screening.specs.Starts.{FollowsFar, first_or_placed, run_of};
+ghost use Rattle.screening.specs.declared.run.Stamp.{Stamp};
 ghost use Rattle.screening.specs.declared.run.Placement.TheVariants.{Anew};
 
 /// A source begins anew only with a packet that comes after another one which was far from the highest, too, and whose number is
 /// the one before: one odd packet never suffices.
 #[tactic(auto, using(crate::proofs::StartLemmas::anew_follows))]
 pub fn anew_follows_far()
-    ensures { (packets : List ℕ) (seq : ℕ) → first_or_placed (run_of packets) seq ≡ Anew
-        → FollowsFar packets seq }
+    ensures { (packets : List Stamp) (stamp : Stamp)
+        → first_or_placed (run_of packets) stamp ≡ Anew → FollowsFar packets stamp.seq }
 {}
 
 /// An entry of a NACK that is written for some numbers names just these (RFC 4585, section 6.2.1): the first of them is PID, and each bit of

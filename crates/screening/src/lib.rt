@@ -18,6 +18,6 @@ mod starts;
 
 pub use floods::Floods;
 pub use resends::{REMEMBERED, ResendBounds};
-pub use run::{MAX_DROPOUT, MAX_MISORDER, Placement, Run};
+pub use run::{MAX_DROPOUT, MAX_LATE_TICKS, MAX_MISORDER, Placement, Run, Stamp};
 pub use screen::{Rules, Screen};
 pub use starts::Starts;

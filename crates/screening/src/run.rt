@@ -1,13 +1,17 @@
 //! Whether a packet goes on where its source was, or begins anew (RFC 3550, appendix A.1).
 
 ghost use Rattle.std.specs.Prelude.{◌≡◌};
-ghost use Rattle.screening.specs.Starts.{ahead_of, successor_of};
+ghost use Rattle.screening.specs.Starts.{ahead_of, is_close, is_near, successor_of};
 
 /// A packet goes on where its source was if fewer numbers than this were left out before it.
 pub const MAX_DROPOUT: u16 = 3000;
 
-/// A packet that comes late goes on where its source was if it is fewer numbers than this behind the highest.
+/// A packet that comes late goes on where its source was if it is fewer numbers than this behind the highest, and its timestamp is close.
 pub const MAX_MISORDER: u16 = 100;
+
+/// The timestamp of a packet that comes late is close if it is fewer units than this from that of the packet with the highest number, before
+/// or after it. In RTP timestamp units: 186 seconds at 90 kHz, 349 at 48 kHz.
+pub const MAX_LATE_TICKS: u32 = 1 << 24;
 
 /// Where the packet of a source stands.
 #[derive(Clone, Copy, Debug, PartialEq, Eq)]
@@ -20,11 +24,20 @@ pub enum Placement {
     Anew,
 }
 
+/// What the header of a packet says of its place in its source (RFC 3550, section 5.1).
+#[derive(Clone, Copy, Debug, PartialEq, Eq)]
+pub struct Stamp {
+    /// The sequence number.
+    pub seq: u16,
+    /// The timestamp, in units of the payload's clock.
+    pub timestamp: u32,
+}
+
 /// The numbers of a source since it began.
 #[derive(Clone, Copy, Debug, PartialEq, Eq)]
 pub struct Run {
-    /// The number that is highest.
-    pub highest: u16,
+    /// The number that is highest, and the timestamp of the last packet with it.
+    pub highest: Stamp,
     /// The number after that of the last packet that was far from the highest; `None` before any.
     pub awaited: Option<u16>,
 }
@@ -33,39 +46,38 @@ impl Run {
     ghost use Rattle.std.specs.Prelude.{◌≡◌, None};
     ghost use Rattle.screening.specs.Starts.{placement_in, run_with};
 
-    /// A source begins with this number.
-    pub fn new(seq: u16) -> Run
-        ensures { result ≡ record { highest = seq; awaited = None } }
+    /// A source begins with this packet.
+    pub fn new(stamp: Stamp) -> Run
+        ensures { result ≡ record { highest = stamp; awaited = None } }
     {
         Run {
-            highest: seq,
+            highest: stamp,
             awaited: None,
         }
     }
 
-    /// Where the packet with this number stands.
-    pub fn placement(self, seq: u16) -> Placement
-        ensures { result ≡ placement_in self seq }
+    /// Where this packet stands.
+    pub fn placement(self, stamp: Stamp) -> Placement
+        ensures { result ≡ placement_in self stamp }
     {
-        let ahead = ahead_of(self.highest, seq);
-        if ahead < MAX_DROPOUT || ahead > u16::MAX - (MAX_MISORDER - 1) {
+        if is_near(self.highest, stamp) {
             return Placement::Near;
         }
-        if self.awaited == Some(seq) {
+        if self.awaited == Some(stamp.seq) {
             Placement::Anew
         } else {
             Placement::Far
         }
     }
 
-    /// The numbers, this one too.
-    pub fn with(self, seq: u16) -> Run
-        ensures { result ≡ run_with self seq }
+    /// The numbers, that of this packet too.
+    pub fn with(self, stamp: Stamp) -> Run
+        ensures { result ≡ run_with self stamp }
     {
-        match self.placement(seq) {
+        match self.placement(stamp) {
             Placement::Near => Run {
-                highest: if ahead_of(self.highest, seq) < MAX_DROPOUT {
-                    seq
+                highest: if ahead_of(self.highest.seq, stamp.seq) < MAX_DROPOUT {
+                    stamp
                 } else {
                     self.highest
                 },
@@ -73,11 +85,28 @@ impl Run {
             },
             Placement::Far => Run {
                 highest: self.highest,
-                awaited: Some(successor_of(seq)),
+                awaited: Some(successor_of(stamp.seq)),
             },
-            Placement::Anew => Run::new(seq),
+            Placement::Anew => Run::new(stamp),
         }
     }
+}
+
+/// Whether the packet goes on where its source was: by its number alone if it isn't behind the highest, else by its timestamp, too.
+fn is_near(highest: Stamp, stamp: Stamp) -> bool
+    ensures { result ≡ is_near highest stamp }
+{
+    let ahead = ahead_of(highest.seq, stamp.seq);
+    ahead < MAX_DROPOUT
+        || ahead > u16::MAX - (MAX_MISORDER - 1) && is_close(highest.timestamp, stamp.timestamp)
+}
+
+/// Whether a timestamp is close to the one of the highest number, across the wrap.
+fn is_close(highest: u32, timestamp: u32) -> bool
+    ensures { result ≡ is_close highest timestamp }
+{
+    let after = timestamp.wrapping_sub(highest);
+    after < MAX_LATE_TICKS || after > u32::MAX - (MAX_LATE_TICKS - 1)
 }
 
 /// How far a number is ahead of the highest, across the wrap.

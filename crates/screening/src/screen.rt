@@ -3,13 +3,13 @@
 ghost use Rattle.std.specs.Prelude.{◌≡◌, ◌≢◌, ◌≤◌, true, false, length, IfOk, IfSome};
 ghost use Rattle.outside.specs.Outside.{FitsIn};
 ghost use Rattle.screening.specs.declared.run.Placement.TheVariants.{Near};
-ghost use Rattle.screening.specs.Starts.{placement_at, runs_with};
+ghost use Rattle.screening.specs.Starts.{placement_at, runs_with, stamp_of};
 
 use crate::bounded::Resends;
 use crate::feedback::sign;
 use crate::nacks::Asking;
 use crate::resends::ResendBounds;
-use crate::run::Placement;
+use crate::run::{Placement, Stamp};
 use crate::starts::Starts;
 use outside::{MAX_DATAGRAM, ReceiveFault, Received, Source};
 use rtcp_compound::write_bye;
@@ -336,11 +336,17 @@ fn place_of(
     ensures off { rules.new_starts ≡ false → (result ≡ Near) × (starts.new ≡ starts.old) }
     ensures other { packet.now.ssrc.0 ≢ own.0 → (result ≡ Near) × (starts.new ≡ starts.old) }
     ensures noted { rules.new_starts ≡ true → packet.now.ssrc.0 ≡ own.0
-        → (result ≡ placement_at starts.old endpoint packet.now.sequence_number)
-        × (starts.new ≡ runs_with starts.old endpoint packet.now.sequence_number) }
+        → (result ≡ placement_at starts.old endpoint
+        (stamp_of packet.now.sequence_number packet.now.timestamp))
+        × (starts.new ≡ runs_with starts.old endpoint
+        (stamp_of packet.now.sequence_number packet.now.timestamp)) }
 {
     if rules.new_starts && packet.ssrc.0 == own.0 {
-        starts.note(endpoint, packet.sequence_number)
+        let stamp = Stamp {
+            seq: packet.sequence_number,
+            timestamp: packet.timestamp,
+        };
+        starts.note(endpoint, stamp)
     } else {
         Placement::Near
     }

@@ -1,6 +1,6 @@
 //! What is known of each endpoint's numbers.
 
-use crate::run::{Placement, Run};
+use crate::run::{Placement, Run, Stamp};
 use std::alloc::{AllocError, Global};
 use std::marker::Model;
 
@@ -33,9 +33,9 @@ impl Starts {
     }
 
     /// Where this packet of the endpoint stands, which is noted: `Near` for its first one, and for an endpoint that isn't there.
-    pub fn note(&mut self, endpoint: u16, seq: u16) -> Placement
-        ensures placement { result ≡ placement_at self.old endpoint seq }
-        ensures noted { self.new ≡ runs_with self.old endpoint seq }
+    pub fn note(&mut self, endpoint: u16, stamp: Stamp) -> Placement
+        ensures placement { result ≡ placement_at self.old endpoint stamp }
+        ensures noted { self.new ≡ runs_with self.old endpoint stamp }
     {
         let at = usize::from(endpoint);
         if at >= self.runs.len() {
@@ -43,11 +43,11 @@ impl Starts {
         }
         match self.runs[at] {
             Some(run) => {
-                self.runs[at] = Some(run.with(seq));
-                run.placement(seq)
+                self.runs[at] = Some(run.with(stamp));
+                run.placement(stamp)
             }
             None => {
-                self.runs[at] = Some(Run::new(seq));
+                self.runs[at] = Some(Run::new(stamp));
                 Placement::Near
             }
         }

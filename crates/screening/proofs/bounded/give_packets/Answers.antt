@@ -1,4 +1,4 @@
-use Rattle.std.proofs.Common.{◌≡◌, ◌<◌, ◌++◌, length, arith}
+use Rattle.std.proofs.Common.{◌<◌, ◌++◌, length, arith}
 use Rattle.std.proofs.lemmas.Bool.Decides.{nat_tests}
 use Rattle.screening.specs.Bounded.{terms_of}
 use Rattle.screening.specs.Nacks.{packet_given}

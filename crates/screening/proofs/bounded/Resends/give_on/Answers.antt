@@ -1,4 +1,4 @@
-use Rattle.std.proofs.Common.{Ok, Err, sym, ◌∙◌}
+use Rattle.std.proofs.Common.{sym, ◌∙◌}
 use Rattle.screening.proofs.bounded.Resends.give_on.Goals as goal
 
 pub returns-in-Ok-clause-faulty : goal.returns-in-Ok-clause-faulty
