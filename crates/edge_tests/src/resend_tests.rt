@@ -1,6 +1,7 @@
 //! What of NACKs is let through on a leg, and how many datagrams of one endpoint are heard.
 
 use outside::{ReceiveFault, Received, Source};
+use rtcp_compound::{Block, write_rr, write_sr};
 use screening::{Floods, ResendBounds, Rules, Screen};
 use settings::Settings;
 use settings_text::read_settings;
@@ -8,6 +9,7 @@ use std::alloc::{AllocError, Global};
 use std::cell::Cell;
 use std::test::Fail;
 use tmmbr_tuple::Ssrc;
+use traffic::Traffic;
 
 /// Endpoint 1 is sent what 0 publishes as 257, and what 2 publishes as 258.
 const ROOM: &str =
@@ -144,8 +146,9 @@ fn asks_again_too_soon(rt: HostRuntime) -> Result<(), Fail> {
         length: &length,
         moment_ms: &moment_ms,
     };
+    let traffic = Traffic::new(alloc, &settings)?;
     let screen = Screen::new(alloc, source, &SOURCES, bounding(100, 0), &far)?;
-    let mut screen = screen.bounding(alloc, &settings, &moment_ms, &held)?;
+    let mut screen = screen.bounding(alloc, &settings, &traffic, &moment_ms, &held)?;
     let steps = [
         // 100, 101 and 103.
         (1000, nack(1, 100, 0b101), [28, 3, 100, 0b101]),
@@ -175,6 +178,108 @@ fn asks_again_too_soon(rt: HostRuntime) -> Result<(), Fail> {
     Ok(())
 }
 
+/// At these moments a sender report goes out on the leg of 257, and its subscriber's report comes that names it, with no delay (RFC 3550,
+/// section 6.4.1).
+fn report(alloc: Global, traffic: &Traffic, sent: u64, heard: u64) -> Result<(), Fail> {
+    let mut bytes = Vec::new(alloc);
+    write_sr(&mut bytes, Ssrc(257), 0x0000_0001_0000_0000, 0, 0, 0, &[])?;
+    traffic.turned(sent);
+    traffic.sent(1, bytes.as_slice());
+    let block = Block {
+        source: Ssrc(257),
+        fraction: 0,
+        lost: 0,
+        highest: 7,
+        jitter: 0,
+        last_sr: 0x0001_0000,
+        delay: 0,
+    };
+    let mut bytes = Vec::new(alloc);
+    write_rr(&mut bytes, Ssrc(17), &[block])?;
+    traffic.turned(heard);
+    traffic.heard_reports(1, bytes.as_slice());
+    Ok(())
+}
+
+/// What is done: reports, by the moments at which one is sent and the answer comes; and a NACK of the number 100, at a moment, on the leg of
+/// 257 (1) or 258 (2), and what is given of it.
+#[derive(Clone, Copy)]
+enum Deed {
+    Report { sent: u64, heard: u64 },
+    Ask(u64, u8, [usize; 4]),
+}
+
+/// What is given of such a NACK if the number is let through, and if it isn't.
+const LEFT: [usize; 4] = [28, 3, 100, 0];
+
+const HELD: [usize; 4] = [24, 2, 206, 2];
+
+const DEEDS: [Deed; 16] = [
+    // A round trip of 200 ms on the one leg, and none that is known on the other.
+    Deed::Report {
+        sent: 1_000,
+        heard: 1_200,
+    },
+    Deed::Ask(2_000, 1, LEFT),
+    Deed::Ask(2_100, 1, HELD),
+    Deed::Ask(2_199, 1, HELD),
+    Deed::Ask(2_200, 1, LEFT),
+    Deed::Ask(2_200, 2, LEFT),
+    Deed::Ask(2_249, 2, HELD),
+    Deed::Ask(2_250, 2, LEFT),
+    // Of five seconds one counts.
+    Deed::Report {
+        sent: 3_000,
+        heard: 8_000,
+    },
+    Deed::Ask(10_000, 1, LEFT),
+    Deed::Ask(10_999, 1, HELD),
+    Deed::Ask(11_000, 1, LEFT),
+    // Ten milliseconds are less than the gap.
+    Deed::Report {
+        sent: 20_000,
+        heard: 20_010,
+    },
+    Deed::Ask(30_049, 1, LEFT),
+    Deed::Ask(30_098, 1, HELD),
+    Deed::Ask(30_099, 1, LEFT),
+];
+
+/// A number is let through once in fifty milliseconds, but where the round trip is longer once in that, of which a second counts at most; on a
+/// leg of which none is known the gap is as it was.
+#[test]
+fn asks_again_within_a_round_trip(rt: HostRuntime) -> Result<(), Fail> {
+    let alloc = rt.alloc();
+    let (endpoint, packet, length) = (Cell::new(1), Cell::new(MEDIA), Cell::new(28));
+    let (moment_ms, far, held) = (Cell::new(0), Cell::new(0), Cell::new(0));
+    let settings = room(alloc)?;
+    let source = Put {
+        endpoint: &endpoint,
+        packet: &packet,
+        length: &length,
+    };
+    let inlet = Inlet {
+        endpoint: &endpoint,
+        packet: &packet,
+        length: &length,
+        moment_ms: &moment_ms,
+    };
+    let traffic = Traffic::new(alloc, &settings)?;
+    let screen = Screen::new(alloc, source, &SOURCES, bounding(50, 0), &far)?;
+    let mut screen = screen.bounding(alloc, &settings, &traffic, &moment_ms, &held)?;
+    for deed in DEEDS {
+        match deed {
+            Deed::Report { sent, heard } => report(alloc, &traffic, sent, heard)?,
+            Deed::Ask(moment, media, wanted) => {
+                let left = given(&mut screen, &inlet, moment, nack(media, 100, 0))?;
+                assert_eq!(rt; left, wanted, "{}", moment);
+            }
+        }
+    }
+    assert_eq!(rt; held.get(), 5);
+    Ok(())
+}
+
 /// Half as many are let through in a second as came in the second before, or by now if these are more.
 #[test]
 fn asks_for_too_many(rt: HostRuntime) -> Result<(), Fail> {
@@ -193,8 +298,9 @@ fn asks_for_too_many(rt: HostRuntime) -> Result<(), Fail> {
         length: &length,
         moment_ms: &moment_ms,
     };
+    let traffic = Traffic::new(alloc, &settings)?;
     let screen = Screen::new(alloc, source, &SOURCES, bounding(0, 50), &far)?;
-    let mut screen = screen.bounding(alloc, &settings, &moment_ms, &held)?;
+    let mut screen = screen.bounding(alloc, &settings, &traffic, &moment_ms, &held)?;
     // Nothing came yet.
     assert_eq!(rt;
         given(&mut screen, &inlet, 0, nack(1, 7, 0))?,

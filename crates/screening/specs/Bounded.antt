@@ -8,10 +8,12 @@ use Rattle.screening.specs.declared.nacks.Asking.{Asking}
 use Rattle.screening.specs.declared.resends.Flow.{Flow}
 
 abbrev pub terms_of : Known → Terms
-terms_of k = record { table = k.links.now; bounds = k.bounds; flows = k.flows.now }
+terms_of k =
+    record { table = k.links.now; bounds = k.bounds; flows = k.flows.now; trips = k.trips.now }
 
 abbrev pub terms_in : Resends → Terms
-terms_in r = record { table = r.links; bounds = r.bounds; flows = r.flows.items }
+terms_in r =
+    record { table = r.links; bounds = r.bounds; flows = r.flows.items; trips = r.trips.items }
 
 abbrev pub flow_noted : List Flow → ℕ → ℕ → Option Flow → List Flow
 flow_noted flows endpoint moment None = flows

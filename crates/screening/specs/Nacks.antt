@@ -1,6 +1,6 @@
 -- What of an RTCP datagram is given on: in NACKs those entries, and those bits of them, that are let through; all else as it came
 -- (RFC 4585, section 6.2.1).
-use Rattle.std.specs.Prelude.{◌≡◌, ◌==◌, ℕ, ◌+◌, ◌-◌, ◌*◌, ◌/◌, ◌%◌, ◌^◌, ◌<◌, ◌≤◌, nat_lt, nat_le, ◌&&◌, ◌||◌, Bool, bit_or, List, [], ◌∷◌, ◌++◌, length, take, drop, Option, None, Some, option_to_list, slice_get, slice_index, slice_set, if◌then◌else◌}
+use Rattle.std.specs.Prelude.{◌≡◌, ◌==◌, ℕ, ◌+◌, ◌-◌, ◌*◌, ◌/◌, ◌%◌, ◌^◌, ◌<◌, ◌≤◌, nat_lt, nat_le, ◌&&◌, ◌||◌, Bool, bit_or, List, [], ◌∷◌, ◌++◌, length, take, drop, Option, None, Some, option_to_list, slice_get, slice_index, slice_set, unwrap_or, if◌then◌else◌}
 use Rattle.std.specs.List.{flat_map, list_any}
 use Rattle.byteorder.specs.Endian.{big_bytes, big_number}
 use Rattle.rtp_packet.specs.declared.header.TheConstants.{SEQ_CYCLE}
@@ -12,7 +12,7 @@ use Rattle.rtcp_feedback.specs.declared.nack.Nack.{Nack}
 use Rattle.senders.specs.Naming.{heard_size}
 use Rattle.settings.specs.Links.{LinkTable, leg_to}
 use Rattle.settings.specs.declared.settings.LegSettings.{LegSettings}
-use Rattle.screening.specs.Resends.{Book, book_after, most_at, numbers_passed}
+use Rattle.screening.specs.Resends.{Book, book_after, gap_by, most_at, numbers_passed}
 use Rattle.screening.specs.declared.nacks.Asking.{Asking}
 use Rattle.screening.specs.declared.resends.Allowance.{Allowance}
 use Rattle.screening.specs.declared.resends.Flow.{Flow}
@@ -96,11 +96,12 @@ packet_with packet entries =
 
 -- ---- who asks, of which leg, and what may be let through there
 
--- who is sent what; how resends are bounded; and what came of each endpoint
+-- who is sent what; how resends are bounded; what came of each endpoint; and the round trip on each leg, in milliseconds, where it is known
 pub record Terms : Type 0 where
   pub table : LinkTable
   pub bounds : ResendBounds
   pub flows : List Flow
+  pub trips : List (Option ℕ)
 
 abbrev pub most_by : Terms → ℕ → Option Flow → ℕ
 most_by t moment None = 0
@@ -110,17 +111,20 @@ abbrev pub most_on : Terms → ℕ → Option LegSettings → ℕ
 most_on t moment None = 0
 most_on t moment (Some leg) = most_by t moment (slice_get t.flows leg.publisher)
 
+abbrev pub trip_on : Terms → ℕ → Option ℕ
+trip_on t leg = unwrap_or (slice_get t.trips leg) None
+
 abbrev pub allowance_on : Terms → ℕ → ℕ → Allowance
 allowance_on t moment leg = record {
   moment = moment;
-  gap_ms = t.bounds.gap_ms;
+  gap_ms = gap_by t.bounds.gap_ms (trip_on t leg);
   most = most_on t moment (slice_get t.table.legs leg);
 }
 
 -- the leg to who sent it that a packet asks of, if it is a NACK
-abbrev pub leg_asked : Terms → Asking → List ℕ → Option ℕ
-leg_asked t who packet =
-    if is_nack packet then leg_to t.table who.endpoint (media_at packet) else None
+abbrev pub leg_asked : LinkTable → Asking → List ℕ → Option ℕ
+leg_asked table who packet =
+    if is_nack packet then leg_to table who.endpoint (media_at packet) else None
 
 -- what is given on of a packet that asks of this leg, of which that is known
 abbrev pub asked_given : Option Book → Allowance → List ℕ → List ℕ
@@ -144,10 +148,10 @@ books_by t who books packet (Some leg) =
 
 -- what is given on of a packet, and what is noted of each leg then
 unfoldable pub packet_given : Terms → Asking → List Book → List ℕ → List ℕ
-packet_given t who books packet = given_by t who books packet (leg_asked t who packet)
+packet_given t who books packet = given_by t who books packet (leg_asked t.table who packet)
 
 unfoldable pub books_given : Terms → Asking → List Book → List ℕ → List Book
-books_given t who books packet = books_by t who books packet (leg_asked t who packet)
+books_given t who books packet = books_by t who books packet (leg_asked t.table who packet)
 
 -- ---- a datagram
 

@@ -3,7 +3,7 @@ use Rattle.std.specs.Prelude.{◌==◌, ℕ, ◌+◌, ◌-◌, ◌*◌, ◌/◌,
 use Rattle.screening.specs.declared.resends.Allowance.{Allowance}
 use Rattle.screening.specs.declared.resends.Flow.{Flow}
 use Rattle.screening.specs.declared.resends.Passed.{Passed}
-use Rattle.screening.specs.declared.resends.TheConstants.{REMEMBERED}
+use Rattle.screening.specs.declared.resends.TheConstants.{MAX_TRIP_MS, REMEMBERED}
 
 -- the second of the clock that a moment is in
 abbrev pub second_of : ℕ → ℕ
@@ -45,6 +45,16 @@ pub record Book : Type 0 where
   pub second : ℕ
   pub count : ℕ
   pub held : ℕ
+
+-- ---- how long a number has to be let through before
+
+-- The gap where this round trip is known: the longer of both, but of a round trip no more than MAX_TRIP_MS count. Where no gap is wanted,
+-- none.
+abbrev pub gap_by : ℕ → Option ℕ → ℕ
+gap_by gap None = gap
+gap_by gap (Some trip) = if gap == 0 then 0 else max gap (min trip MAX_TRIP_MS)
+
+-- ---- whether a number is let through
 
 -- as many in this second by now
 abbrev pub count_at : Book → ℕ → ℕ

@@ -1,28 +1,31 @@
 //! The resends on all legs of a unit, bounded.
 
-ghost use Rattle.std.specs.Prelude.{◌≡◌, ◌<◌, ◌≤◌, ◌+◌, ◌^◌, ◌++◌, ℕ, List, length, replicate, slice_get, IfOk, IfSome, OnOk};
+ghost use Rattle.std.specs.Prelude.{◌≡◌, ◌<◌, ◌≤◌, ◌+◌, ◌^◌, ◌++◌, ℕ, List, length, replicate, slice_get, OnOk};
 ghost use Rattle.rtcp_compound.specs.Fault.{Refuses};
 ghost use Rattle.rtcp_compound.specs.Grammar.{RtcpPacket, ReadsRtcp};
 ghost use Rattle.rtcp_compound.specs.declared.fault.RtcpFault.{RtcpFault};
 ghost use Rattle.screening.specs.Bounded.{GivesDatagram, flows_with, terms_of, terms_in};
-ghost use Rattle.screening.specs.Nacks.{allowance_on, asked_books, asked_given, books_given, leg_asked, most_by, most_on, packet_given, padding_at};
+ghost use Rattle.screening.specs.Nacks.{allowance_on, asked_books, asked_given, books_given, most_by, most_on, packet_given, padding_at, trip_on};
 
-use crate::nacks::{Asking, give_nack, is_nack, media_in, push};
-use crate::resends::{Allowance, Flow, LegBook, REMEMBERED, ResendBounds};
+use crate::nacks::{Asking, give_nack, leg_asked, push};
+use crate::resends::{Allowance, Flow, LegBook, REMEMBERED, ResendBounds, gap_by};
+use crate::trips::note_trips;
 use rtcp_compound::split;
 use rtcp_feedback::Nack;
 use senders::first_size;
 use settings::{LegSettings, Links, Settings};
 use std::alloc::{AllocError, Global};
-use tmmbr_tuple::Ssrc;
+use traffic::Traffic;
 
-/// What came of each endpoint, and what was let through on each leg.
+/// What came of each endpoint, what was let through on each leg, and the round trip there.
 #[derive(Drop)]
 pub(crate) struct Resends {
     links: Links,
     bounds: ResendBounds,
     /// What came of each endpoint, by its number.
     flows: Vec<Flow>,
+    /// The round trip on each leg in milliseconds, by its number; `None` where it isn't known.
+    trips: Vec<Option<u32>>,
     /// What was let through on each leg, by its number.
     books: Vec<LegBook>,
     /// The entries that are given on of the NACK that is looked at.
@@ -35,6 +38,7 @@ pub(crate) struct Known<'a> {
     links: &'a Links,
     bounds: ResendBounds,
     flows: &'a [Flow],
+    trips: &'a [Option<u32>],
 }
 
 impl Resends {
@@ -53,6 +57,7 @@ impl Resends {
             links: Links::new(alloc, settings)?,
             bounds,
             flows: vec![in alloc; idle; settings.endpoints().len()]?,
+            trips: vec![in alloc; None; settings.legs().len()]?,
             books: books_of(alloc, settings.legs().len(), remembered)?,
             kept: Vec::new(alloc),
         })
@@ -62,11 +67,23 @@ impl Resends {
     pub(crate) fn came(&mut self, endpoint: u16, moment: u64)
         ensures flows { self.new.flows.items ≡ flows_with self.old.flows.items endpoint moment }
         ensures others { (self.new.books.items ≡ self.old.books.items)
+            × (self.new.trips.items ≡ self.old.trips.items)
             × (self.new.links ≡ self.old.links) × (self.new.bounds ≡ self.old.bounds) }
     {
         let at = usize::from(endpoint);
         if at < self.flows.len() {
             self.flows[at] = self.flows[at].with(moment);
+        }
+    }
+
+    /// Notes the round trip on each leg that a datagram of RTCP asks of, as it is known by now, if a gap is wanted.
+    pub(crate) fn note_trips(&mut self, who: Asking, datagram: &[u8], traffic: &Traffic)
+        ensures { (self.new.books.items ≡ self.old.books.items)
+            × (self.new.flows.items ≡ self.old.flows.items)
+            × (self.new.links ≡ self.old.links) × (self.new.bounds ≡ self.old.bounds) }
+    {
+        if self.bounds.gap_ms > 0 {
+            note_trips(&mut self.trips, &self.links, who, datagram, traffic);
         }
     }
 
@@ -90,6 +107,7 @@ impl Resends {
             links: &self.links,
             bounds: self.bounds,
             flows: &self.flows,
+            trips: &self.trips,
         };
         match split(datagram) {
             Ok(_) => give_packets(out, &mut self.kept, &mut self.books, known, who, datagram),
@@ -149,7 +167,7 @@ fn give_packet(
     ensures noted { OnOk result
         (books.new ≡ books_given (terms_of known.entry) who books.old packet.now) }
 {
-    match leg_asked(known, who, packet) {
+    match leg_asked(known.links, who, packet) {
         Some(leg) => {
             let allowance = allowance_on(known, who, leg);
             give_asked(out, kept, books, leg, allowance, packet)
@@ -161,28 +179,22 @@ fn give_packet(
     }
 }
 
-/// The leg to who sent it that the packet asks of, if it is a NACK.
-fn leg_asked(known: Known<'_>, who: Asking, packet: &[u8]) -> Option<u16>
-    ensures leg { result ≡ leg_asked (terms_of known.entry) who packet.now }
-    ensures front { IfSome result (λ _. 12 ≤ length packet.now) }
-    ensures padding { IfSome result (λ _. 12 + padding_at packet.now ≤ length packet.now) }
-{
-    if is_nack(packet) {
-        known.links.leg_to(who.endpoint, Ssrc(media_in(packet)))
-    } else {
-        None
-    }
-}
-
 /// What may be let through on a leg.
 fn allowance_on(known: Known<'_>, who: Asking, leg: u16) -> Allowance
     ensures { result ≡ allowance_on (terms_of known.entry) who.moment leg }
 {
     Allowance {
         moment: who.moment,
-        gap_ms: known.bounds.gap_ms,
+        gap_ms: gap_by(known.bounds.gap_ms, trip_on(known, leg)),
         most: most_on(known, who.moment, known.links.leg(leg).copied()),
     }
+}
+
+/// The round trip on a leg, where it is known.
+fn trip_on(known: Known<'_>, leg: u16) -> Option<u32>
+    ensures { result ≡ trip_on (terms_of known.entry) leg }
+{
+    known.trips.get(usize::from(leg)).copied().unwrap_or(None)
 }
 
 /// How many may be let through on a leg in the second of this moment.

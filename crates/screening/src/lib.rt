@@ -2,8 +2,8 @@
 //! which packets may be sent again (RFC 4585, section 6.2.1), and how many datagrams of one endpoint are heard.
 //!
 //! Read `run` first, what is known of one source's numbers, then `starts`, the same of each endpoint. Of resends read `resends` first, what
-//! is let through on one leg, then `nacks`, what is left of a NACK, and `bounded`, the same of each leg. `floods` stands for itself. What is
-//! so of every list of packets stands in `laws`.
+//! is let through on one leg, then `nacks`, what is left of a NACK, and `bounded`, the same of each leg; `trips` are the round trips there.
+//! `floods` stands for itself. What is so of every list of packets stands in `laws`.
 #![tactic(auto)]
 
 mod bounded;
@@ -15,9 +15,10 @@ mod resends;
 mod run;
 mod screen;
 mod starts;
+mod trips;
 
 pub use floods::Floods;
-pub use resends::{REMEMBERED, ResendBounds};
+pub use resends::{MAX_TRIP_MS, REMEMBERED, ResendBounds};
 pub use run::{MAX_DROPOUT, MAX_LATE_TICKS, MAX_MISORDER, Placement, Run, Stamp};
 pub use screen::{Rules, Screen};
 pub use starts::Starts;

@@ -1,20 +1,22 @@
 //! What of a NACK is given on: the packets that are let through.
 
-ghost use Rattle.std.specs.Prelude.{◌≡◌, ◌+◌, ◌*◌, ◌-◌, ◌^◌, ◌<◌, ◌≤◌, ◌++◌, ◌∷◌, ℕ, List, [], length, take, drop, slice_get, MatchOption, OnOk, Some, option_to_list, IfOk};
+ghost use Rattle.std.specs.Prelude.{◌≡◌, ◌+◌, ◌*◌, ◌-◌, ◌^◌, ◌<◌, ◌≤◌, ◌++◌, ◌∷◌, ℕ, List, [], length, take, drop, slice_get, MatchOption, OnOk, Some, option_to_list, IfOk, IfSome};
 ghost use Rattle.std.specs.List.{flat_map};
 ghost use Rattle.byteorder.specs.Endian.{big_bytes};
 ghost use Rattle.rtcp_feedback.specs.Grammar.{nack_bytes};
 ghost use Rattle.rtcp_feedback.specs.Nack.{lost_numbers};
 ghost use Rattle.rtcp_feedback.specs.Reading.{nacks_in};
 ghost use Rattle.senders.specs.Naming.{heard_size};
-ghost use Rattle.screening.specs.Nacks.{asked_books, asked_given, bit_behind, book_through, books_given, entries_given, entry_of, fci_of, is_nack, joined, media_at, packet_given, packet_with, padding_at, padding_of};
+ghost use Rattle.screening.specs.Nacks.{asked_books, asked_given, bit_behind, book_through, books_given, entries_given, entry_of, fci_of, is_nack, joined, leg_asked, media_at, packet_given, packet_with, padding_at, padding_of};
 ghost use Rattle.screening.specs.Resends.{book_after, numbers_passed};
 
 use crate::resends::{Allowance, LegBook};
 use byteorder::{BigEndian, ByteOrder};
 use rtcp_compound::RTPFB;
 use rtcp_feedback::{Nack, lost};
+use settings::Links;
 use std::alloc::AllocError;
+use tmmbr_tuple::Ssrc;
 
 /// The FMT of a generic NACK (RFC 4585, section 6.2.1).
 const FMT_NACK: u8 = 1;
@@ -44,8 +46,21 @@ pub(crate) struct Asking {
     pub(crate) moment: u64,
 }
 
+/// The leg to who sent it that the packet asks of, if it is a NACK.
+pub(crate) fn leg_asked(links: &Links, who: Asking, packet: &[u8]) -> Option<u16>
+    ensures leg { result ≡ leg_asked links.now who packet.now }
+    ensures front { IfSome result (λ _. 12 ≤ length packet.now) }
+    ensures padding { IfSome result (λ _. 12 + padding_at packet.now ≤ length packet.now) }
+{
+    if is_nack(packet) {
+        links.leg_to(who.endpoint, Ssrc(media_in(packet)))
+    } else {
+        None
+    }
+}
+
 /// Whether the packet is a NACK with its two sources.
-pub(crate) fn is_nack(packet: &[u8]) -> bool
+fn is_nack(packet: &[u8]) -> bool
     ensures { result ≡ is_nack packet.now }
 {
     packet.len() >= FRONT
@@ -68,7 +83,7 @@ fn padding_len(packet: &[u8]) -> usize
 }
 
 /// The source of media of a NACK.
-pub(crate) fn media_in(packet: &[u8]) -> u32
+fn media_in(packet: &[u8]) -> u32
     requires { 12 ≤ length packet.now }
     ensures { result ≡ media_at packet.now }
 {

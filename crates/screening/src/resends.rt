@@ -1,7 +1,7 @@
 //! Which packets are let through as asked for again on a leg: not too soon, and not too many in a second.
 
 ghost use Rattle.std.specs.Prelude.{◌≡◌, ◌*◌, slice_get, slice_set, IfOk, Some};
-ghost use Rattle.screening.specs.Resends.{flow_at, is_due, most_at, most_of, place_of, second_of};
+ghost use Rattle.screening.specs.Resends.{flow_at, gap_by, is_due, most_at, most_of, place_of, second_of};
 
 use std::alloc::{AllocError, Global};
 use std::marker::Model;
@@ -10,13 +10,17 @@ use std::marker::Model;
 /// that follow each other none that is still kept is forgotten.
 pub const REMEMBERED: u16 = 512;
 
+/// Of a round trip that is longer only so many milliseconds count: it follows from what the subscriber says itself.
+pub const MAX_TRIP_MS: u32 = 1000;
+
 /// The length of the second in which resends are counted, in milliseconds.
 const SECOND_MS: u64 = 1000;
 
 /// How resends are bounded, on each leg by itself.
 #[derive(Clone, Copy, Debug, PartialEq, Eq)]
 pub struct ResendBounds {
-    /// A packet isn't sent again within so many milliseconds after it was asked for and let through. 0: it may.
+    /// A packet isn't sent again within so many milliseconds after it was asked for and let through, nor within the round trip to the
+    /// subscriber where that is known and longer. 0: it may.
     pub gap_ms: u64,
     /// In a second no more are let through than so many percent of the packets that came. 0: any number.
     pub share: u8,
@@ -38,6 +42,22 @@ pub(crate) struct Allowance {
     pub(crate) gap_ms: u64,
     /// How many may be let through in this second.
     pub(crate) most: u64,
+}
+
+/// How long a number has to be let through before, where this gap is wanted and this round trip is known.
+pub(crate) fn gap_by(gap_ms: u64, trip: Option<u32>) -> u64
+    ensures { result ≡ gap_by gap_ms trip }
+{
+    match trip {
+        Some(trip) => {
+            if gap_ms == 0 {
+                0
+            } else {
+                gap_ms.max(u64::from(trip.min(MAX_TRIP_MS)))
+            }
+        }
+        None => gap_ms,
+    }
 }
 
 /// How many packets came of a publisher, in a second and in the one before. Each count stays at its greatest.

@@ -18,6 +18,7 @@ use settings::Settings;
 use std::alloc::{AllocError, Global};
 use std::cell::Cell;
 use tmmbr_tuple::Ssrc;
+use traffic::Traffic;
 
 /// The first packet type of RTCP (RFC 5761, section 4).
 const FIRST_RTCP: u8 = 192;
@@ -79,6 +80,8 @@ impl Rules {
 #[derive(Drop)]
 struct Bounded<'a> {
     resends: Resends,
+    /// What is known of the round trips on legs.
+    traffic: &'a Traffic,
     /// The moment of the last turn, in milliseconds.
     moment_ms: &'a Cell<u64>,
     /// How many packets that were asked for again weren't let through.
@@ -158,12 +161,13 @@ impl<'a, S: Source + Drop> Screen<'a, S> {
         })
     }
 
-    /// The same, with resends bounded as its rules say on the legs of these settings. The moment of the last turn is looked at there;
-    /// `held` is raised for each packet that is asked for again and isn't let through.
+    /// The same, with resends bounded as its rules say on the legs of these settings. `traffic` says the round trips there, and `moment_ms` the
+    /// moment of the last turn; `held` is raised for each packet that is asked for again and isn't let through.
     pub fn bounding(
         self,
         alloc: Global,
         settings: &Settings,
+        traffic: &'a Traffic,
         moment_ms: &'a Cell<u64>,
         held: &'a Cell<u64>,
     ) -> Result<Screen<'a, S>, AllocError> {
@@ -174,6 +178,7 @@ impl<'a, S: Source + Drop> Screen<'a, S> {
         }
         screen.bounded = Some(Bounded {
             resends: Resends::new(alloc, settings, bounds)?,
+            traffic,
             moment_ms,
             held,
             given: Vec::with_capacity(alloc, MAX_DATAGRAM)?,
@@ -312,6 +317,7 @@ impl Bounded<'_> {
             endpoint,
             moment: self.moment_ms.get(),
         };
+        self.resends.note_trips(who, datagram, self.traffic);
         self.given.clear();
         let held = self.resends.give_on(&mut self.given, who, datagram).ok()?;
         self.held.set(self.held.get().saturating_add(held));

@@ -77,7 +77,7 @@ pub(crate) fn source_on<'a>(
     let source = SocketSource::new(sockets, arrivals, gauges);
     let screen = Screen::new(alloc, source, settings.endpoints(), rules, &gauges.far)?;
     let moment_ms = &gauges.moment_ms;
-    let screen = screen.bounding(alloc, settings, moment_ms, &gauges.held)?;
+    let screen = screen.bounding(alloc, settings, traffic, moment_ms, &gauges.held)?;
     let source = Holding::new(alloc, screen, settings, rules.repeat_ms, moment_ms, sets)?;
     Ok(source)
 }
