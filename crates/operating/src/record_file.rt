@@ -16,8 +16,8 @@ use std::time::{self, SystemTime};
 /// Only its owner may read the file.
 const MODE: u32 = 0o600;
 
-/// So many blocks may wait for the disk. With one of 64 KB each that are 64 MB.
-const BLOCKS: usize = 1024;
+/// So many blocks may wait for the disk. With one of 256 KB each that are 64 MB.
+const BLOCKS: usize = 256;
 
 /// The version of the program that a record names.
 const VERSION: &str = "0.1.0";

@@ -12,8 +12,9 @@ use std::time::Duration;
 /// How many bytes a record has at most, unless it is said: 1 GiB.
 pub const RECORD_LIMIT: u64 = 1_073_741_824;
 
-/// From so many bytes on what waits is handed on.
-const BLOCK: usize = 65_536;
+/// From so many bytes on what waits is handed on: so many that waking the thread that writes, and its call of the system, cost little
+/// for a packet of them.
+const BLOCK: usize = 262_144;
 
 /// So many milliseconds pass at most until what waits is handed on.
 const FLUSH_MS: u64 = 1000;

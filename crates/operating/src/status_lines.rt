@@ -41,27 +41,42 @@ impl<'a, E: Write> StatusLines<'a, E> {
 
     /// Writes one line.
     fn write_line(&mut self, status: &Status) -> Result<(), AllocError> {
-        let screened = self.screened_part()?;
-        let unread = self.unread_part()?;
-        let (recorded, unsaid) = (self.recorded_part()?, self.unsaid_part()?);
-        let line = format!(in self.alloc;
-            "present {} heard {} sent {} failed {} lost {} strangers {} far {}{}{}{}{}\n",
-            status.present,
-            status.heard,
-            status.sent,
-            status.failed,
-            status.lost,
-            self.gauges.strangers.get(),
-            self.gauges.far.get(),
-            screened.as_str(),
-            unread.as_str(),
-            recorded.as_str(),
-            unsaid.as_str(),
-        )?;
+        let line = self.line_of(status)?;
         if self.errors.write_all(line.as_bytes()).is_err() {
             self.unsaid = self.unsaid.saturating_add(1);
         }
         Ok(())
+    }
+
+    /// The line of these counts.
+    fn line_of(&self, status: &Status) -> Result<String, AllocError> {
+        let mut line = self.totals_part(status)?;
+        line.push_str(self.strange_part()?.as_str())?;
+        line.push_str(self.screened_part()?.as_str())?;
+        line.push_str(self.unread_part()?.as_str())?;
+        line.push_str(self.recorded_part()?.as_str())?;
+        line.push_str(self.unsaid_part()?.as_str())?;
+        line.push_str("\n")?;
+        Ok(line)
+    }
+
+    /// What the unit itself counts.
+    fn totals_part(&self, status: &Status) -> Result<String, AllocError> {
+        let Status {
+            present,
+            heard,
+            sent,
+            failed,
+            lost,
+            ..
+        } = *status;
+        format!(in self.alloc; "present {present} heard {heard} sent {sent} failed {failed} lost {lost}")
+    }
+
+    /// How many datagrams came from nobody's address, and how many packets were far from their source's highest number.
+    fn strange_part(&self) -> Result<String, AllocError> {
+        let (strangers, far) = (self.gauges.strangers.get(), self.gauges.far.get());
+        format!(in self.alloc; " strangers {strangers} far {far}")
     }
 
     /// How many resends were held back, and how many datagrams came beyond the limit, if any.
