@@ -1,14 +1,15 @@
 #!/usr/bin/env python3
 """What it costs a unit that people and Prometheus look at it.
 
-    bench/page/cost.py SFU FOLDER [--minutes M] [--pairs N] [--packets A_SECOND] [--page PORT]
+    bench/page/cost.py SFU FOLDER [--minutes M] [--stretch S] [--packets A_SECOND]
 
 SFU is the built program. Eight publishers send so many packets of 1,200 bytes a second each, as a camera at 1.4 Mbit/s does, and everyone
-sees everyone. N pairs of runs of M minutes all in all: in one of a pair headless chromium, if it is there, has the page open, which brings
-itself up to date each two seconds, and a scraper reads `/metrics` each second; in the other nobody looks, and no page runs. The order changes
-from pair to pair. Said of each run: what the unit's process took, all its threads (`/proc/PID/task/*/schedstat`), of each datagram that it
-sent; at the end what being looked at adds. With --page a page that runs already, of the control FOLDER/control, is looked at. Ends with
-status 1 if it adds 3 % or more. By hand: nothing of it is proved.
+sees everyone. For M minutes one unit is looked at: headless chromium, if it is there, has the page open, which brings itself up to date each
+two seconds, and a scraper reads `/metrics` each second. Beside each stretch of S seconds of that stands one in which browser, scraper
+and page are stopped (SIGSTOP), in the order looked at, alone, alone, looked at; so the machine's own drift is in both. Said of each
+pair: what the unit's process took, all its threads (`/proc/PID/task/*/schedstat`), of each datagram that it sent; at the end what being
+looked at adds, in the mean of all pairs, with its standard error. Ends with status 1 if that mean is 3 % or more. By hand: nothing of it
+is proved.
 """
 
 import argparse
@@ -16,6 +17,7 @@ import glob
 import http.client
 import os
 import shutil
+import signal
 import socket
 import statistics
 import struct
@@ -95,90 +97,107 @@ def sent(program, control):
     return int(words[words.index(b"sent") + 1])
 
 
-def scrape(port, ends, scraped):
-    while not ends.is_set():
-        try:
-            it = http.client.HTTPConnection("127.0.0.1", port, timeout=5)
-            it.request("GET", "/metrics")
-            scraped.append(it.getresponse().status)
-            it.close()
-        except OSError:
-            scraped.append(0)
-        ends.wait(1)
-
-
 class Lookers:
-    """A browser and a scraper at a page of their own."""
+    """A browser and a scraper at a page of their own, who look or rest."""
 
-    def __init__(self, program, control, port):
-        self.page, self.port = None, port
-        if port is None:
-            self.port = free_port(socket.SOCK_STREAM)
-            self.page = subprocess.Popen([program, "page", control, f"127.0.0.1:{self.port}"], stderr=subprocess.PIPE)
-            self.page.stderr.readline()
-        self.ends, self.scraped, self.browser = threading.Event(), [], None
-        self.scraper = threading.Thread(target=scrape, args=(self.port, self.ends, self.scraped), daemon=True)
-        self.scraper.start()
+    def __init__(self, program, control):
+        self.port = free_port(socket.SOCK_STREAM)
+        page = [program, "page", control, f"127.0.0.1:{self.port}"]
+        self.processes = [subprocess.Popen(page, stderr=subprocess.PIPE, start_new_session=True)]
+        self.processes[0].stderr.readline()
+        self.profile = tempfile.mkdtemp(prefix="sfu-page-")
         chromium = shutil.which("chromium")
         if chromium:
-            self.profile = tempfile.mkdtemp(prefix="sfu-page-")
-            self.browser = subprocess.Popen(
+            self.processes.append(subprocess.Popen(
                 [chromium, "--headless", "--no-sandbox", "--disable-gpu", f"--user-data-dir={self.profile}",
                  "--remote-debugging-port=0", f"http://127.0.0.1:{self.port}/"],
-                stdout=subprocess.DEVNULL, stderr=subprocess.DEVNULL)
+                stdout=subprocess.DEVNULL, stderr=subprocess.DEVNULL, start_new_session=True))
+        self.looking, self.ends, self.scraped = threading.Event(), threading.Event(), []
+        self.looking.set()
+        self.scraper = threading.Thread(target=self.scrape, daemon=True)
+        self.scraper.start()
+
+    def scrape(self):
+        while not self.ends.is_set():
+            self.looking.wait()
+            try:
+                it = http.client.HTTPConnection("127.0.0.1", self.port, timeout=5)
+                it.request("GET", "/metrics")
+                self.scraped.append(it.getresponse().status)
+                it.close()
+            except OSError:
+                self.scraped.append(0)
+            self.ends.wait(1)
+
+    def signal(self, number):
+        for it in self.processes:
+            os.killpg(it.pid, number)
+
+    def look(self):
+        self.signal(signal.SIGCONT)
+        self.looking.set()
+
+    def rest(self):
+        # (a request under way is answered first)
+        self.looking.clear()
+        time.sleep(0.2)
+        self.signal(signal.SIGSTOP)
 
     def leave(self):
         self.ends.set()
+        self.look()
         self.scraper.join()
-        for it in (self.browser, self.page):
-            if it:
-                it.terminate()
-                it.wait(20)
-        if self.browser:
-            shutil.rmtree(self.profile, ignore_errors=True)
+        self.signal(signal.SIGKILL)
+        for it in self.processes:
+            it.wait(20)
+        shutil.rmtree(self.profile, ignore_errors=True)
         return self.scraped.count(200), len(self.scraped)
 
 
-def run(program, folder, seconds, packets_a_second, looked_at, page_port):
-    """Processor time of the unit for a datagram that it sent, in microseconds."""
-    control, settings = f"{folder}/control", f"{folder}/room.toml"
-    sockets = []
-    for _ in range(ENDPOINTS):
-        it = socket.socket(socket.AF_INET, socket.SOCK_DGRAM)
-        it.bind(("127.0.0.1", 0))
-        sockets.append(it)
-    unit_port = free_port(socket.SOCK_DGRAM)
-    write_settings(settings, unit_port, [it.getsockname()[1] for it in sockets])
-    unit = subprocess.Popen([program, "serve", settings, "--control", control], stdout=subprocess.DEVNULL, stderr=subprocess.PIPE)
-    lookers = None
-    try:
-        unit.stderr.readline()
-        load = Load(unit_port, sockets, packets_a_second)
-        load.start()
-        if looked_at:
-            lookers = Lookers(program, control, page_port)
-        time.sleep(3)
-        before, packets = processor_seconds(unit.pid), sent(program, control)
+class Unit:
+    """A unit under a load of its own, and what it has taken and sent so far."""
+
+    def __init__(self, program, folder, packets):
+        self.program, self.control, settings = program, f"{folder}/control", f"{folder}/room.toml"
+        self.sockets = []
+        for _ in range(ENDPOINTS):
+            it = socket.socket(socket.AF_INET, socket.SOCK_DGRAM)
+            it.bind(("127.0.0.1", 0))
+            self.sockets.append(it)
+        port = free_port(socket.SOCK_DGRAM)
+        write_settings(settings, port, [it.getsockname()[1] for it in self.sockets])
+        self.process = subprocess.Popen(
+            [program, "serve", settings, "--control", self.control], stdout=subprocess.DEVNULL, stderr=subprocess.PIPE)
+        self.process.stderr.readline()
+        self.load = Load(port, self.sockets, packets)
+        self.load.start()
+
+    def stretch(self, seconds):
+        """Microseconds of processor time for a datagram that is sent in so many seconds, and how many are."""
+        before, packets = processor_seconds(self.process.pid), sent(self.program, self.control)
         time.sleep(seconds)
-        after, packets = processor_seconds(unit.pid), sent(program, control) - packets
-        load.ends = True
-        load.join()
-        if packets < seconds * packets_a_second * ENDPOINTS * (ENDPOINTS - 1) / 2:
+        after, packets = processor_seconds(self.process.pid), sent(self.program, self.control) - packets
+        if packets < seconds * self.load.packets * ENDPOINTS * (ENDPOINTS - 1) / 2:
             sys.exit(f"not so: {packets} datagrams in {seconds} s")
-        if lookers:
-            fine, asked = lookers.leave()
-            lookers = None
-            print(f"  scraped {fine} of {asked} times")
-            if fine < asked - 3:
-                sys.exit("not so: the page doesn't answer")
-        return 1e6 * (after - before) / packets, packets
-    finally:
-        if lookers:
-            lookers.leave()
-        unit.kill()
-        unit.wait()
-        for it in sockets:
+        return 1e6 * (after - before) / packets
+
+    def end(self):
+        self.load.ends = True
+        self.load.join()
+        self.process.kill()
+        self.process.wait()
+        for it in self.sockets:
             it.close()
+
+
+def pair_of(unit, lookers, seconds, looked_at_first):
+    """What a datagram costs alone and looked at."""
+    cost = {}
+    for looked_at in (looked_at_first, not looked_at_first):
+        (lookers.look if looked_at else lookers.rest)()
+        time.sleep(1)
+        cost[looked_at] = unit.stretch(seconds)
+    return cost[False], cost[True]
 
 
 def main():
@@ -186,25 +205,36 @@ def main():
     words.add_argument("program")
     words.add_argument("folder")
     words.add_argument("--minutes", type=float, default=10)
-    words.add_argument("--pairs", type=int, default=5)
+    words.add_argument("--stretch", type=float, default=10)
     words.add_argument("--packets", type=int, default=150)
-    words.add_argument("--page", type=int)
     asked = words.parse_args()
     os.makedirs(asked.folder, exist_ok=True)
     if not shutil.which("chromium"):
         print("no chromium: only a scraper looks")
-    seconds = asked.minutes * 60 / (2 * asked.pairs)
-    added = []
-    for pair in range(asked.pairs):
-        cost = {}
-        for looked_at in ((False, True) if pair % 2 else (True, False)):
-            cost[looked_at], packets = run(asked.program, asked.folder, seconds, asked.packets, looked_at, asked.page)
-            print(f"{'looked at' if looked_at else 'alone':9} {cost[looked_at]:.3f} us a datagram, {packets} in {seconds:.0f} s", flush=True)
-        added.append(100 * (cost[True] / cost[False] - 1))
-        print(f"pair {pair + 1}: {added[-1]:+.2f} %", flush=True)
-    middle = statistics.median(added)
-    print(f"being looked at adds {middle:+.2f} % (median of {asked.pairs}; {min(added):+.2f} to {max(added):+.2f}), load {os.getloadavg()[0]:.1f}")
-    if middle >= 3:
+    unit, lookers = Unit(asked.program, asked.folder, asked.packets), None
+    try:
+        lookers = Lookers(asked.program, unit.control)
+        time.sleep(3)
+        alone, looked, added = [], [], []
+        for pair in range(max(2, round(asked.minutes * 30 / asked.stretch))):
+            one, other = pair_of(unit, lookers, asked.stretch, pair % 2 == 0)
+            alone.append(one)
+            looked.append(other)
+            added.append(100 * (other / one - 1))
+            print(f"pair {pair + 1}: {one:.3f} us a datagram alone, {other:.3f} looked at, {added[-1]:+.2f} %", flush=True)
+        fine, scrapes = lookers.leave()
+        lookers = None
+        print(f"scraped {fine} of {scrapes} times")
+        if fine < scrapes - 3:
+            sys.exit("not so: the page doesn't answer")
+    finally:
+        if lookers:
+            lookers.leave()
+        unit.end()
+    mean, error = statistics.mean(added), statistics.stdev(added) / len(added) ** 0.5
+    print(f"{statistics.mean(alone):.3f} us a datagram alone, {statistics.mean(looked):.3f} looked at; being looked at adds {mean:+.2f} %"
+          f" (standard error {error:.2f}, {len(added)} pairs from {min(added):+.2f} to {max(added):+.2f}), load {os.getloadavg()[0]:.1f}")
+    if mean >= 3:
         sys.exit("not so: 3 % or more")
 
 
