@@ -8,7 +8,9 @@ PROGRAM is the built program (crates/sfu_main/out/sfu_main). 50,000 packets a ru
 else in the system's folder for such files. Runs come in pairs, one without and one with a record, every other pair the other way round: 7
 pairs with one worker and 7 with two unless it is said. What counts is user's and system's time of all threads
 (/proc/PID/task/*/schedstat), the median of the pairs' differences; their least and greatest say how much other work on the machine
-disturbs. Up to 32 packets are under way, and what is lost ends the run.
+disturbs. Up to 32 packets are under way, and what is lost ends the run. Before each run a file as long as its record is written to FOLDER
+and deleted, so that both kinds of run find memory that was used before: the host of a virtual machine takes back what isn't, and its next
+use costs 2 us a page then, whoever it is.
 """
 import glob
 import os
@@ -52,6 +54,15 @@ def port(number):
     return s
 
 
+def use_memory(folder, size):
+    """Uses as much memory for files as so many bytes take, and gives it back."""
+    block, path = bytes(1 << 20), os.path.join(folder, "used")
+    with open(path, "wb") as it:
+        for _ in range(0, size, len(block)):
+            it.write(block)
+    os.unlink(path)
+
+
 def nanoseconds(pid):
     return sum(int(open(path).read().split()[0]) for path in glob.glob(f"/proc/{pid}/task/*/schedstat"))
 
@@ -62,6 +73,7 @@ def run(program, folder, workers, packets, is_recorded):
     open(file, "w").write(SETTINGS % workers)
     if os.path.exists(record):
         os.unlink(record)
+    use_memory(folder, packets * 2_500)
     words = [program, "serve", file] + (["--record", record, "--record-limit", "4000000000"] if is_recorded else [])
     sender, watcher = port(SENDER), port(WATCHER)
     unit = subprocess.Popen(words, stderr=subprocess.PIPE, text=True)

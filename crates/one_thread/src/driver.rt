@@ -57,11 +57,13 @@ fn new_engine(alloc: Global, settings: &Settings, tick_ms: u64) -> Result<Engine
     ensures counts { IfOk result (λ e. (e.faults ≡ 0)
         × (e.tally ≡ record { heard = 0; sent = 0; failed = 0 })) }
 {
+    let buffer = vec![in alloc; 0; MAX_DATAGRAM]?;
+    let world = World::new(alloc, settings)?;
     Ok(Engine {
         alloc,
-        world: World::new(alloc, settings)?,
+        world,
         outs: Vec::new(alloc),
-        buffer: vec![in alloc; 0; MAX_DATAGRAM]?,
+        buffer,
         ticks: Ticks::new(tick_ms),
         faults: 0,
         is_stopped: false,

@@ -84,22 +84,41 @@ impl<'a, S: Source + Drop> Holding<'a, S> {
         if repeat_ms == 0 {
             return Ok(Holding { source, held: None });
         }
-        let held = Held {
-            links: Links::new(alloc, settings)?,
-            presence: Presence::new(alloc, settings.endpoints().len(), settings.timeout_ms())?,
-            requests: Requests::new(alloc, settings.legs())?,
-            request_ms: settings.request_ms(),
-            sets,
-            moment_ms,
-            coming: None,
-            asks: Vec::with_capacity(alloc, intake::MAX_ENTRIES)?,
-            given: Vec::with_capacity(alloc, MAX_DATAGRAM)?,
-        };
+        let held = new_held(alloc, settings, moment_ms, sets)?;
         Ok(Holding {
             source,
             held: Some(held),
         })
     }
+}
+
+/// Nobody is there yet in a unit of these settings, and nothing is held.
+fn new_held<'a>(
+    alloc: Global,
+    settings: &Settings,
+    moment_ms: &'a Cell<u64>,
+    sets: &'a RefCell<Sets>,
+) -> Result<Held<'a>, AllocError> {
+    let (asks, given) = room_for_one(alloc)?;
+    let requests = Requests::new(alloc, settings.legs())?;
+    let presence = Presence::new(alloc, settings.endpoints().len(), settings.timeout_ms())?;
+    Ok(Held {
+        links: Links::new(alloc, settings)?,
+        presence,
+        requests,
+        request_ms: settings.request_ms(),
+        sets,
+        moment_ms,
+        coming: None,
+        asks,
+        given,
+    })
+}
+
+/// Room for what a datagram asks for, and for what is given on of it.
+fn room_for_one(alloc: Global) -> Result<(Vec<Ask>, Vec<u8>), AllocError> {
+    let asks = Vec::with_capacity(alloc, intake::MAX_ENTRIES)?;
+    Ok((asks, Vec::with_capacity(alloc, MAX_DATAGRAM)?))
 }
 
 impl Held<'_> {

@@ -44,16 +44,28 @@ impl Common {
 /// What comes to the sockets, screened by these rules, and what is to be heard once more.
 pub(crate) type RunSource<'a> = Holding<'a, Screen<'a, SocketSource<'a>>>;
 
-/// What comes to the sockets, screened and held by these rules.
+/// What a run stands between: sockets, and the clients there; and by which rules what comes is looked at.
+#[derive(Clone, Copy)]
+pub(crate) struct Ends<'a> {
+    pub(crate) sockets: Sockets<'a>,
+    pub(crate) clients: &'a [Client],
+    pub(crate) rules: Rules,
+    pub(crate) common: &'a Common,
+}
+
+/// What comes to the sockets, screened and held.
 pub(crate) fn source_on<'a>(
     alloc: Global,
-    sockets: Sockets<'a>,
+    ends: Ends<'a>,
     settings: &'a Settings,
-    clients: &'a [Client],
-    rules: Rules,
     gauges: &'a Gauges,
-    common: &'a Common,
 ) -> Result<RunSource<'a>, ServeFault> {
+    let Ends {
+        sockets,
+        clients,
+        rules,
+        common,
+    } = ends;
     let Ok(listening) = sockets.listening() else {
         return Err(ServeFault::Socket);
     };
@@ -82,21 +94,12 @@ pub(crate) fn source_on<'a>(
     Ok(source)
 }
 
-/// Where datagrams come from and go to.
-#[derive(Drop)]
-pub(crate) struct Ends<'a> {
-    pub(crate) sockets: Sockets<'a>,
-    pub(crate) common: &'a Common,
-    pub(crate) source: RunSource<'a>,
-}
-
 /// Who looks at the run: this watch, what peers are shown beside, and who looks at desks so that publishers are asked again.
 pub(crate) fn watch_on<'a, W: Watch + Drop>(
     alloc: Global,
-    sockets: Sockets<'a>,
+    ends: Ends<'a>,
     settings: &Settings,
     gauges: &'a Gauges,
-    common: &'a Common,
     watch: W,
 ) -> Result<RepeatingWatch<'a, SteeredWatch<'a, W>>, AllocError> {
     let Common {
@@ -104,12 +107,12 @@ pub(crate) fn watch_on<'a, W: Watch + Drop>(
         traffic,
         sets,
         ..
-    } = common;
+    } = ends.common;
     let watch = SteeredWatch {
         watch,
         gauges,
         traffic,
     };
-    let sink = SocketSink::new(sockets, directory, traffic);
+    let sink = SocketSink::new(ends.sockets, directory, traffic);
     RepeatingWatch::new(alloc, settings, sink, sets, &gauges.moment_ms, watch)
 }

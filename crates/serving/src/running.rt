@@ -40,11 +40,11 @@ pub fn run_on<R: AllocGlobal + Threads + Wait + Sync + time::Clock, W: Watch + D
     }
     let alloc = rt.alloc();
     let common = Common::new(alloc, settings, clients, rules)?;
-    let source = source_on(alloc, sockets, settings, clients, rules, gauges, &common)?;
     let ends = Ends {
         sockets,
+        clients,
+        rules,
         common: &common,
-        source,
     };
     let report = run_by_workers(rt, ends, settings, turns, gauges, watch)?;
     leave(alloc, sockets, settings, gauges, &common);
@@ -98,25 +98,21 @@ fn run_in_this_thread<R: AllocGlobal + time::Clock, W: Watch + Drop>(
     ensures { IfOk result (λ r. AreDesksOf settings.now.pli_gap_ms settings.now.request_ms
         (length settings.now.endpoints) r.desks.items) }
 {
-    let Ends {
-        sockets,
-        common,
-        source,
-    } = ends;
-    let mut watch = watch_on(rt.alloc(), sockets, settings, gauges, common, watch)?;
+    let mut watch = watch_on(rt.alloc(), ends, settings, gauges, watch)?;
+    let source = source_on(rt.alloc(), ends, settings, gauges)?;
     let Common {
         directory,
         traffic,
         control,
         ..
-    } = common;
+    } = ends.common;
     let source = SteeredSource { source, gauges };
     let mut source = RecordedSource {
         source,
         gauges,
         control,
     };
-    let mut sink = SocketSink::new(sockets, directory, traffic);
+    let mut sink = SocketSink::new(ends.sockets, directory, traffic);
     let clock = RunClock::new(rt, &gauges.moment_ms);
     let mut clock = RecordedClock {
         clock,
@@ -175,17 +171,15 @@ fn run_on_threads<R: AllocGlobal + Threads + Wait + Sync + time::Clock, W: Watch
 {
     let alloc = rt.alloc();
     let count = settings.workers() as usize + 1;
-    let Ends {
-        sockets,
-        common,
-        source,
-    } = ends;
     let Common {
         directory,
         traffic,
         control,
         ..
-    } = common;
+    } = ends.common;
+    let sinks = socket_sinks(alloc, ends.sockets, directory, traffic, count)?;
+    let watch = watch_on(alloc, ends, settings, gauges, watch)?;
+    let source = source_on(alloc, ends, settings, gauges)?;
     let source = SteeredSource { source, gauges };
     let clock = RunClock::new(rt, &gauges.moment_ms);
     let outside = Outside {
@@ -194,14 +188,14 @@ fn run_on_threads<R: AllocGlobal + Threads + Wait + Sync + time::Clock, W: Watch
             gauges,
             control,
         },
-        sinks: socket_sinks(alloc, sockets, directory, traffic, count)?,
+        sinks,
         clock: RecordedClock {
             clock,
             gauges,
             control,
             traffic,
         },
-        watch: watch_on(alloc, sockets, settings, gauges, common, watch)?,
+        watch,
     };
     let pace = Pace {
         turns,

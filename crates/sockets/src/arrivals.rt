@@ -62,24 +62,21 @@ impl<'a> Arrivals<'a> {
         traffic: &'a Traffic,
     ) -> Result<Arrivals<'a>, AllocError> {
         let sources = settings.endpoints();
-        let learners = learners_of(alloc, sources, clients, settings.timeout_ms())?;
+        let (senders, learners) = known_of(alloc, settings, clients)?;
+        let (listeners, floods, rest) = looks_of(alloc, settings, clients, flood_limit)?;
         Ok(Arrivals {
             alloc,
             listening,
-            senders: senders_of(alloc, sources, clients, &learners)?,
+            senders,
             learners,
             directory,
             sources,
             clients,
             gauges,
             traffic,
-            listeners: listeners_of(alloc, clients, settings.timeout_ms())?,
-            floods: Floods::new(alloc, sources.len(), flood_limit)?,
-            rest: Rest {
-                bytes: Vec::with_capacity(alloc, MAX_DATAGRAM)?,
-                heard: 0,
-                from: None,
-            },
+            listeners,
+            floods,
+            rest,
         })
     }
 
@@ -240,6 +237,35 @@ impl<'a> Arrivals<'a> {
             self.learners.heard(endpoint, moment, is_goodbye);
         }
     }
+}
+
+/// Who is known by an address, and whose is learned.
+fn known_of(
+    alloc: Global,
+    settings: &Settings,
+    clients: &[Client],
+) -> Result<(Senders, Learners), AllocError> {
+    let sources = settings.endpoints();
+    let learners = learners_of(alloc, sources, clients, settings.timeout_ms())?;
+    let senders = senders_of(alloc, sources, clients, &learners)?;
+    Ok((senders, learners))
+}
+
+/// Who only listens, how many datagrams came, and what isn't heard yet, before anything came.
+fn looks_of(
+    alloc: Global,
+    settings: &Settings,
+    clients: &[Client],
+    flood_limit: u32,
+) -> Result<(Listeners, Floods, Rest), AllocError> {
+    let rest = Rest {
+        bytes: Vec::with_capacity(alloc, MAX_DATAGRAM)?,
+        heard: 0,
+        from: None,
+    };
+    let floods = Floods::new(alloc, settings.endpoints().len(), flood_limit)?;
+    let listeners = listeners_of(alloc, clients, settings.timeout_ms())?;
+    Ok((listeners, floods, rest))
 }
 
 /// Writes bytes to the beginning of `out`, and says how many; nothing where there is no room.

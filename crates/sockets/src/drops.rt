@@ -46,23 +46,46 @@ pub fn watch_drops<R: AllocGlobal + Files<File = File> + Net + Threads>(
     sockets: Sockets<'_>,
     gauges: &Gauges,
 ) -> Option<DropWatch> {
-    let alloc = rt.alloc();
-    let unread = Arc::new(alloc, AtomicU64::new(0)).ok()?;
-    let shown = Arc::try_clone(&unread).ok()?;
-    let (bell, heard) = UnixStream::pair(rt).ok()?;
-    heard
-        .set_read_timeout(Some(Duration::from_millis(LOOK_MS)))
-        .ok()?;
-    let looker = Looker {
-        alloc,
-        tables: tables_of(rt)?,
-        addresses: addresses_of(alloc, sockets)?,
-        bell: heard,
-        unread,
-    };
+    let (bell, heard) = bells(rt)?;
+    let (looker, shown) = looker_with(rt, sockets, heard)?;
     let thread = thread::spawn(rt, move || look_on(looker)).ok()?;
     gauges.show_unread(shown);
     Some(DropWatch { bell, thread })
+}
+
+/// Who rings, and who hears it, or that it is time for the next look.
+fn bells<R: Net>(rt: &R) -> Option<(UnixStream, UnixStream)> {
+    let (bell, heard) = UnixStream::pair(rt).ok()?;
+    let wait = Some(Duration::from_millis(LOOK_MS));
+    heard.set_read_timeout(wait).ok()?;
+    Some((bell, heard))
+}
+
+/// Who looks at what there is of these sockets until it hears this bell, and where it says what it saw.
+fn looker_with<R: AllocGlobal + Files<File = File>>(
+    rt: &R,
+    sockets: Sockets<'_>,
+    bell: UnixStream,
+) -> Option<(Looker, Arc<AtomicU64, Global>)> {
+    let alloc = rt.alloc();
+    let addresses = addresses_of(alloc, sockets)?;
+    let tables = tables_of(rt)?;
+    let (unread, shown) = cells(alloc)?;
+    let looker = Looker {
+        alloc,
+        tables,
+        addresses,
+        bell,
+        unread,
+    };
+    Some((looker, shown))
+}
+
+/// A count for the thread that looks, and the same for those who show it.
+fn cells(alloc: Global) -> Option<(Arc<AtomicU64, Global>, Arc<AtomicU64, Global>)> {
+    let unread = Arc::new(alloc, AtomicU64::new(0)).ok()?;
+    let shown = Arc::try_clone(&unread).ok()?;
+    Some((unread, shown))
 }
 
 impl DropWatch {

@@ -27,9 +27,8 @@ pub(crate) fn gears_of<C: SeatCalls, J: Naming, S: Drop>(
     readers: Vec<RouteReader<J>>,
     sinks: Vec<S>,
 ) -> Result<Vec<Gear<C, J, S>>, AllocError> {
-    let mut gears = Vec::with_capacity(alloc, seats.len())?;
-    for (seat, (reader, sink)) in seats.into_iter().zip(readers.into_iter().zip(sinks)) {
-        gears.push(Gear { seat, reader, sink })?;
-    }
-    Ok(gears)
+    let threads = seats.into_iter().zip(readers.into_iter().zip(sinks));
+    threads
+        .map(|(seat, (reader, sink))| Gear { seat, reader, sink })
+        .collect(alloc)
 }

@@ -55,8 +55,8 @@ pub(crate) fn core_and_notifier(
     alloc: Global,
     settings: &Settings,
 ) -> Result<(IngressCore, Notifier), AllocError> {
-    let core = IngressCore::new(alloc, settings)?;
-    Ok((core, Notifier::new(alloc, settings)?))
+    let notifier = Notifier::new(alloc, settings)?;
+    Ok((IngressCore::new(alloc, settings)?, notifier))
 }
 
 impl<'a, D: DeskCalls, C: SeatCalls, J: Naming, S: Sink + Drop> Ingress<'a, D, C, J, S> {

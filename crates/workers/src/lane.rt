@@ -14,10 +14,11 @@ use std::sync::Wait;
 use std::thread;
 use std::thread::{JoinHandle, Threads};
 
+/// The two ends of a worker's ring: where items are put, and where they are taken.
+pub(crate) type RingEnds<J> = (Producer<Item<J>, Global>, Consumer<Item<J>, Global>);
+
 /// The two ends of a worker's ring.
-pub(crate) fn new_ring<J: Naming>(
-    alloc: Global,
-) -> Result<(Producer<Item<J>, Global>, Consumer<Item<J>, Global>), AllocError>
+pub(crate) fn new_ring<J: Naming>(alloc: Global) -> Result<RingEnds<J>, AllocError>
     ensures { IfOk result (λ ends. producer_capacity ends.0 ≡ 1024) }
 {
     RingBuffer::new(alloc, RING)

@@ -6,7 +6,7 @@ use crate::counts::{Counts, Station};
 use crate::fault::UnitFault;
 use crate::gear::{Gear, gears_of};
 use crate::ingress::{Ingress, core_and_notifier};
-use crate::lane::{Crew, Lane, new_ring};
+use crate::lane::{Crew, Lane, RingEnds, new_ring};
 use crate::settling::Patience;
 use crate::turns::Inlet;
 use crate::unit::{Outside, Pace};
@@ -179,8 +179,8 @@ fn ingress_parts<J: Naming, C: SeatCalls>(
     alloc: Global,
     settings: &Settings,
 ) -> Result<IngressParts<J, C>, AllocError> {
-    let (core, notifier) = core_and_notifier(alloc, settings)?;
     let crew = Crew::new(alloc, settings.workers() as usize)?;
+    let (core, notifier) = core_and_notifier(alloc, settings)?;
     Ok((core, notifier, crew))
 }
 
@@ -289,8 +289,7 @@ fn start<
     station: &'a Station,
     gear: Gear<C, J, S>,
 ) -> Result<Lane<J, C>, UnitFault> {
-    let forwarder = Forwarder::new(shared.alloc, shared.settings, station.number)?;
-    let (ring, jobs) = new_ring(shared.alloc)?;
+    let ((ring, jobs), forwarder) = worker_parts(shared.alloc, shared.settings, station.number)?;
     let worker = Worker {
         ring: jobs,
         forwarder,
@@ -306,6 +305,16 @@ fn start<
         put: 0,
         thread,
     })
+}
+
+/// The ring of the worker with this number, and what forwards for it.
+fn worker_parts<J: Naming>(
+    alloc: Global,
+    settings: &Settings,
+    number: u16,
+) -> Result<(RingEnds<J>, Forwarder), AllocError> {
+    let ring = new_ring(alloc)?;
+    Ok((ring, Forwarder::new(alloc, settings, number)?))
 }
 
 /// Runs a worker in a thread of its own.
