@@ -1,6 +1,6 @@
 //! A run of the unit on UDP sockets: in one thread, or with a thread for each worker.
 
-ghost use Rattle.std.specs.Prelude.{◌≡◌, length, IfOk};
+ghost use Rattle.std.specs.Prelude.{◌≡◌, ◌+◌, length, vec_len, IfOk};
 ghost use Rattle.settings.specs.Settings.{IsInRange};
 ghost use Rattle.rate_desk.specs.Gathered.{AreDesksOf};
 
@@ -8,7 +8,8 @@ use crate::ends::{Common, Ends, source_on, watch_on};
 use crate::serve_fault::ServeFault;
 use addressing::Client;
 use one_thread::run_one_thread;
-use operating::{Gauges, RecordedClock, RecordedSource, SteeredSource, TICK_MS};
+use operating::{ControlHeard, Gauges, RecordedClock, RecordedSource, SteeredSource, TICK_MS};
+use outside::{Sink, Source};
 use screening::Rules;
 use settings::Settings;
 use sockets::{RunClock, SocketSink, Sockets, say_goodbyes, socket_sinks};
@@ -98,20 +99,49 @@ fn run_in_this_thread<R: AllocGlobal + time::Clock, W: Watch + Drop>(
     ensures { IfOk result (λ r. AreDesksOf settings.now.pli_gap_ms settings.now.request_ms
         (length settings.now.endpoints) r.desks.items) }
 {
-    let mut watch = watch_on(rt.alloc(), ends, settings, gauges, watch)?;
+    let watch = watch_on(rt.alloc(), ends, settings, gauges, watch)?;
+    run_watched_here(rt, ends, settings, turns, gauges, watch)
+}
+
+/// The same, once there is who looks at it all.
+fn run_watched_here<R: AllocGlobal + time::Clock, W: Watch + Drop>(
+    rt: &R,
+    ends: Ends<'_>,
+    settings: &Settings,
+    turns: u64,
+    gauges: &Gauges,
+    watch: W,
+) -> Result<Report, ServeFault>
+    requires { settings.now.workers ≡ 1 }
+    ensures { IfOk result (λ r. AreDesksOf settings.now.pli_gap_ms settings.now.request_ms
+        (length settings.now.endpoints) r.desks.items) }
+{
     let source = source_on(rt.alloc(), ends, settings, gauges)?;
+    drive(rt, ends, settings, turns, gauges, source, watch)
+}
+
+/// Drives the machine over this source and this watch.
+fn drive<R: AllocGlobal + time::Clock, Src: Source + Drop, W: Watch + Drop>(
+    rt: &R,
+    ends: Ends<'_>,
+    settings: &Settings,
+    turns: u64,
+    gauges: &Gauges,
+    source: Src,
+    watch: W,
+) -> Result<Report, ServeFault>
+    requires { settings.now.workers ≡ 1 }
+    ensures { IfOk result (λ r. AreDesksOf settings.now.pli_gap_ms settings.now.request_ms
+        (length settings.now.endpoints) r.desks.items) }
+{
     let Common {
         directory,
         traffic,
         control,
         ..
     } = ends.common;
-    let source = SteeredSource { source, gauges };
-    let mut source = RecordedSource {
-        source,
-        gauges,
-        control,
-    };
+    let mut watch = watch;
+    let mut source = recorded(source, gauges, control);
     let mut sink = SocketSink::new(ends.sockets, directory, traffic);
     let clock = RunClock::new(rt, &gauges.moment_ms);
     let mut clock = RecordedClock {
@@ -135,6 +165,20 @@ fn run_in_this_thread<R: AllocGlobal + time::Clock, W: Watch + Drop>(
     ) {
         Ok(report) => Ok(report_of(report)),
         Err(fault) => Err(ServeFault::from(fault)),
+    }
+}
+
+/// This source, steered and recorded.
+fn recorded<'a, Src: Source + Drop>(
+    source: Src,
+    gauges: &'a Gauges,
+    control: &'a ControlHeard,
+) -> RecordedSource<'a, SteeredSource<'a, Src>> {
+    let source = SteeredSource { source, gauges };
+    RecordedSource {
+        source,
+        gauges,
+        control,
     }
 }
 
@@ -169,28 +213,74 @@ fn run_on_threads<R: AllocGlobal + Threads + Wait + Sync + time::Clock, W: Watch
         (length settings.now.endpoints) r.desks.items) }
     ensures range { IfOk result (λ _. IsInRange settings.now) }
 {
+    let watch = watch_on(rt.alloc(), ends, settings, gauges, watch)?;
+    run_watched_on_threads(rt, ends, settings, turns, gauges, watch)
+}
+
+/// The same, once there is who looks at it all.
+fn run_watched_on_threads<R: AllocGlobal + Threads + Wait + Sync + time::Clock, W: Watch + Drop>(
+    rt: &R,
+    ends: Ends<'_>,
+    settings: &Settings,
+    turns: u64,
+    gauges: &Gauges,
+    watch: W,
+) -> Result<Report, ServeFault>
+    ensures report { IfOk result (λ r. AreDesksOf settings.now.pli_gap_ms settings.now.request_ms
+        (length settings.now.endpoints) r.desks.items) }
+    ensures range { IfOk result (λ _. IsInRange settings.now) }
+{
     let alloc = rt.alloc();
     let count = settings.workers() as usize + 1;
     let Common {
         directory,
         traffic,
-        control,
         ..
     } = ends.common;
     let sinks = socket_sinks(alloc, ends.sockets, directory, traffic, count)?;
-    let watch = watch_on(alloc, ends, settings, gauges, watch)?;
     let source = source_on(alloc, ends, settings, gauges)?;
-    let source = SteeredSource { source, gauges };
-    let clock = RunClock::new(rt, &gauges.moment_ms);
+    spread(
+        rt,
+        ends.common,
+        settings,
+        turns,
+        gauges,
+        source,
+        sinks,
+        watch,
+    )
+}
+
+/// Runs threads over this source, these sinks and this watch.
+fn spread<
+    R: AllocGlobal + Threads + Wait + Sync + time::Clock,
+    Src: Source + Drop,
+    Snk: Sink + Send + Drop,
+    W: Watch + Drop,
+>(
+    rt: &R,
+    common: &Common,
+    settings: &Settings,
+    turns: u64,
+    gauges: &Gauges,
+    source: Src,
+    sinks: Vec<Snk>,
+    watch: W,
+) -> Result<Report, ServeFault>
+    requires { vec_len sinks ≡ settings.now.workers + 1 }
+    ensures { IfOk result (λ r. AreDesksOf settings.now.pli_gap_ms settings.now.request_ms
+        (length settings.now.endpoints) r.desks.items) }
+{
+    let Common {
+        traffic,
+        control,
+        ..
+    } = common;
     let outside = Outside {
-        source: RecordedSource {
-            source,
-            gauges,
-            control,
-        },
+        source: recorded(source, gauges, control),
         sinks,
         clock: RecordedClock {
-            clock,
+            clock: RunClock::new(rt, &gauges.moment_ms),
             gauges,
             control,
             traffic,
@@ -201,7 +291,7 @@ fn run_on_threads<R: AllocGlobal + Threads + Wait + Sync + time::Clock, W: Watch
         turns,
         pulse_ms: TICK_MS,
     };
-    match run_watched(rt, alloc, settings, outside, &Open, pace) {
+    match run_watched(rt, rt.alloc(), settings, outside, &Open, pace) {
         Ok(report) => Ok(report),
         Err(fault) => Err(ServeFault::from(fault)),
     }
