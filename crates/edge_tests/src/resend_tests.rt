@@ -7,6 +7,7 @@ use settings::Settings;
 use settings_text::read_settings;
 use std::alloc::{AllocError, Global};
 use std::cell::Cell;
+use std::process::Abort;
 use std::test::Fail;
 use tmmbr_tuple::Ssrc;
 use traffic::Traffic;
@@ -60,8 +61,9 @@ const MEDIA: [u8; 28] = [
     0x80, 0x60, 0, 7, 0, 0, 0, 0, 0, 0, 0, 16, 0xaa, 0, 0, 0, 0, 0, 0, 0, 0, 0, 0, 0, 0, 0, 0, 0,
 ];
 
-/// A NACK of source 17 for this source with one entry, and a PLI behind it (RFC 4585, sections 6.2.1 and 6.3.1).
-fn nack(media: u8, pid: u8, blp: u8) -> [u8; 28] {
+/// A NACK of source 17 for this source with one entry, of this PID and BLP, and a PLI behind it (RFC 4585, sections 6.2.1 and 6.3.1).
+fn nack(media: u8, entry: [u8; 2]) -> [u8; 28] {
+    let [pid, blp] = entry;
     [
         0x81, 0xcd, 0, 3, 0, 0, 0, 17, 0, 0, 1, media, 0, pid, 0, blp, 0x81, 0xce, 0, 2, 0, 0, 0,
         17, 0, 0, 1, 1,
@@ -127,57 +129,6 @@ fn bounding(gap_ms: u64, share: u8) -> Rules {
     }
 }
 
-/// A number is let through once in a hundred milliseconds on each leg; what is left of an entry begins with the first number that is; a NACK
-/// of which nothing is left has no entry, and what stands behind it stays.
-#[test]
-fn asks_again_too_soon(rt: HostRuntime) -> Result<(), Fail> {
-    let alloc = rt.alloc();
-    let (endpoint, packet, length) = (Cell::new(1), Cell::new(MEDIA), Cell::new(28));
-    let (moment_ms, far, held) = (Cell::new(0), Cell::new(0), Cell::new(0));
-    let settings = room(alloc)?;
-    let source = Put {
-        endpoint: &endpoint,
-        packet: &packet,
-        length: &length,
-    };
-    let inlet = Inlet {
-        endpoint: &endpoint,
-        packet: &packet,
-        length: &length,
-        moment_ms: &moment_ms,
-    };
-    let traffic = Traffic::new(alloc, &settings)?;
-    let screen = Screen::new(alloc, source, &SOURCES, bounding(100, 0), &far)?;
-    let mut screen = screen.bounding(alloc, &settings, &traffic, &moment_ms, &held)?;
-    let steps = [
-        // 100, 101 and 103.
-        (1000, nack(1, 100, 0b101), [28, 3, 100, 0b101]),
-        // Of 100, 101, 102 and 104 the last two.
-        (1050, nack(1, 100, 0b1011), [28, 3, 102, 0b10]),
-        // On the other leg none was asked for.
-        (1050, nack(2, 100, 0b1011), [28, 3, 100, 0b1011]),
-        // Of 100 and 101 none: the NACK has two words behind its header, and the PLI follows.
-        (1099, nack(1, 100, 0b1), [24, 2, 206, 2]),
-        // The gap is over, for 102 it isn't.
-        (1100, nack(1, 100, 0b11), [28, 3, 100, 0b1]),
-        // Nobody's leg: it is given as it came.
-        (1100, nack(9, 100, 0b11), [28, 3, 100, 0b11]),
-        // The gap counts from the last time.
-        (1199, nack(1, 100, 0), [24, 2, 206, 2]),
-        (1200, nack(1, 100, 0), [28, 3, 100, 0]),
-    ];
-    for (moment, asked, wanted) in steps {
-        assert_eq!(rt;
-            given(&mut screen, &inlet, moment, asked)?,
-            wanted,
-            "{}",
-            moment
-        );
-    }
-    assert_eq!(rt; held.get(), 6);
-    Ok(())
-}
-
 /// At these moments a sender report goes out on the leg of 257, and its subscriber's report comes that names it, with no delay (RFC 3550,
 /// section 6.4.1).
 fn report(alloc: Global, traffic: &Traffic, sent: u64, heard: u64) -> Result<(), Fail> {
@@ -201,58 +152,34 @@ fn report(alloc: Global, traffic: &Traffic, sent: u64, heard: u64) -> Result<(),
     Ok(())
 }
 
-/// What is done: reports, by the moments at which one is sent and the answer comes; and a NACK of the number 100, at a moment, on the leg of
-/// 257 (1) or 258 (2), and what is given of it.
+/// What is done.
 #[derive(Clone, Copy)]
 enum Deed {
-    Report { sent: u64, heard: u64 },
-    Ask(u64, u8, [usize; 4]),
+    /// A sender report goes out, and the answer comes, at these moments.
+    Report(u64, u64),
+    /// So many packets come of endpoint 0 at a moment.
+    Publish(u64, u32),
+    /// At a moment a NACK comes with this PID and BLP, for the leg of 257 (1), of 258 (2) or of nobody (9), and so it is given on.
+    Ask(u64, u8, [u8; 2], [usize; 4]),
 }
 
-/// What is given of such a NACK if the number is let through, and if it isn't.
+/// A NACK of the number 100 as it is given if that is let through, and any if nothing is.
 const LEFT: [usize; 4] = [28, 3, 100, 0];
 
 const HELD: [usize; 4] = [24, 2, 206, 2];
 
-const DEEDS: [Deed; 16] = [
-    // A round trip of 200 ms on the one leg, and none that is known on the other.
-    Deed::Report {
-        sent: 1_000,
-        heard: 1_200,
-    },
-    Deed::Ask(2_000, 1, LEFT),
-    Deed::Ask(2_100, 1, HELD),
-    Deed::Ask(2_199, 1, HELD),
-    Deed::Ask(2_200, 1, LEFT),
-    Deed::Ask(2_200, 2, LEFT),
-    Deed::Ask(2_249, 2, HELD),
-    Deed::Ask(2_250, 2, LEFT),
-    // Of five seconds one counts.
-    Deed::Report {
-        sent: 3_000,
-        heard: 8_000,
-    },
-    Deed::Ask(10_000, 1, LEFT),
-    Deed::Ask(10_999, 1, HELD),
-    Deed::Ask(11_000, 1, LEFT),
-    // Ten milliseconds are less than the gap.
-    Deed::Report {
-        sent: 20_000,
-        heard: 20_010,
-    },
-    Deed::Ask(30_049, 1, LEFT),
-    Deed::Ask(30_098, 1, HELD),
-    Deed::Ask(30_099, 1, LEFT),
-];
-
-/// A number is let through once in fifty milliseconds, but where the round trip is longer once in that, of which a second counts at most; on a
-/// leg of which none is known the gap is as it was.
-#[test]
-fn asks_again_within_a_round_trip(rt: HostRuntime) -> Result<(), Fail> {
-    let alloc = rt.alloc();
+/// Does what is listed in a room with these bounds, and says how many packets were held back.
+fn held_in(
+    rt: &impl Abort,
+    alloc: Global,
+    gap_ms: u64,
+    share: u8,
+    deeds: &[Deed],
+) -> Result<u64, Fail> {
     let (endpoint, packet, length) = (Cell::new(1), Cell::new(MEDIA), Cell::new(28));
     let (moment_ms, far, held) = (Cell::new(0), Cell::new(0), Cell::new(0));
     let settings = room(alloc)?;
+    let traffic = Traffic::new(alloc, &settings)?;
     let source = Put {
         endpoint: &endpoint,
         packet: &packet,
@@ -264,68 +191,102 @@ fn asks_again_within_a_round_trip(rt: HostRuntime) -> Result<(), Fail> {
         length: &length,
         moment_ms: &moment_ms,
     };
-    let traffic = Traffic::new(alloc, &settings)?;
-    let screen = Screen::new(alloc, source, &SOURCES, bounding(50, 0), &far)?;
+    let screen = Screen::new(alloc, source, &SOURCES, bounding(gap_ms, share), &far)?;
     let mut screen = screen.bounding(alloc, &settings, &traffic, &moment_ms, &held)?;
-    for deed in DEEDS {
-        match deed {
-            Deed::Report { sent, heard } => report(alloc, &traffic, sent, heard)?,
-            Deed::Ask(moment, media, wanted) => {
-                let left = given(&mut screen, &inlet, moment, nack(media, 100, 0))?;
+    for deed in deeds {
+        match *deed {
+            Deed::Report(sent, heard) => report(alloc, &traffic, sent, heard)?,
+            Deed::Publish(moment, packets) => publish(&mut screen, &inlet, moment, packets)?,
+            Deed::Ask(moment, media, entry, wanted) => {
+                let left = given(&mut screen, &inlet, moment, nack(media, entry))?;
                 assert_eq!(rt; left, wanted, "{}", moment);
             }
         }
     }
-    assert_eq!(rt; held.get(), 5);
+    Ok(held.get())
+}
+
+/// Of a room where a number is let through once in a hundred milliseconds.
+const TOO_SOON: [Deed; 8] = [
+    // 100, 101 and 103.
+    Deed::Ask(1000, 1, [100, 0b101], [28, 3, 100, 0b101]),
+    // Of 100, 101, 102 and 104 the last two.
+    Deed::Ask(1050, 1, [100, 0b1011], [28, 3, 102, 0b10]),
+    // On the other leg none was asked for.
+    Deed::Ask(1050, 2, [100, 0b1011], [28, 3, 100, 0b1011]),
+    // Of 100 and 101 none: the NACK has two words behind its header, and the PLI follows.
+    Deed::Ask(1099, 1, [100, 0b1], HELD),
+    // The gap is over, for 102 it isn't.
+    Deed::Ask(1100, 1, [100, 0b11], [28, 3, 100, 0b1]),
+    // Nobody's leg: it is given as it came.
+    Deed::Ask(1100, 9, [100, 0b11], [28, 3, 100, 0b11]),
+    // The gap counts from the last time.
+    Deed::Ask(1199, 1, [100, 0], HELD),
+    Deed::Ask(1200, 1, [100, 0], LEFT),
+];
+
+/// A number is let through once in a hundred milliseconds on each leg; what is left of an entry begins with the first number that is; a NACK
+/// of which nothing is left has no entry, and what stands behind it stays.
+#[test]
+fn asks_again_too_soon(rt: HostRuntime) -> Result<(), Fail> {
+    let held = held_in(&rt, rt.alloc(), 100, 0, &TOO_SOON)?;
+    assert!(rt; held == 6);
     Ok(())
 }
+
+/// Of a room where a number is let through once in fifty milliseconds.
+const WITHIN_A_TRIP: [Deed; 16] = [
+    // A round trip of 200 ms on the one leg, and none that is known on the other.
+    Deed::Report(1_000, 1_200),
+    Deed::Ask(2_000, 1, [100, 0], LEFT),
+    Deed::Ask(2_100, 1, [100, 0], HELD),
+    Deed::Ask(2_199, 1, [100, 0], HELD),
+    Deed::Ask(2_200, 1, [100, 0], LEFT),
+    Deed::Ask(2_200, 2, [100, 0], LEFT),
+    Deed::Ask(2_249, 2, [100, 0], HELD),
+    Deed::Ask(2_250, 2, [100, 0], LEFT),
+    // Of five seconds one counts.
+    Deed::Report(3_000, 8_000),
+    Deed::Ask(10_000, 1, [100, 0], LEFT),
+    Deed::Ask(10_999, 1, [100, 0], HELD),
+    Deed::Ask(11_000, 1, [100, 0], LEFT),
+    // Ten milliseconds are less than the gap.
+    Deed::Report(20_000, 20_010),
+    Deed::Ask(30_049, 1, [100, 0], LEFT),
+    Deed::Ask(30_098, 1, [100, 0], HELD),
+    Deed::Ask(30_099, 1, [100, 0], LEFT),
+];
+
+/// Where the round trip is longer than the gap a number is let through once in that, of which a second counts at most; on a leg of which none
+/// is known the gap is as it was.
+#[test]
+fn asks_again_within_a_round_trip(rt: HostRuntime) -> Result<(), Fail> {
+    let held = held_in(&rt, rt.alloc(), 50, 0, &WITHIN_A_TRIP)?;
+    assert!(rt; held == 5);
+    Ok(())
+}
+
+/// Of a room where half as many are let through as came.
+const TOO_MANY: [Deed; 8] = [
+    // Nothing came yet.
+    Deed::Ask(0, 1, [7, 0], HELD),
+    Deed::Publish(5, 5),
+    // Five came: two are let through.
+    Deed::Ask(6, 1, [7, 0b11], [28, 3, 7, 0b1]),
+    Deed::Ask(999, 1, [7, 0], HELD),
+    // Another publisher's leg: nothing came of it.
+    Deed::Ask(999, 2, [7, 0], HELD),
+    // As many in the next second, and none in the one after.
+    Deed::Ask(1000, 1, [7, 0b1], [28, 3, 7, 0b1]),
+    Deed::Ask(1999, 1, [7, 0b1], HELD),
+    Deed::Ask(2000, 1, [7, 0b1], HELD),
+];
 
 /// Half as many are let through in a second as came in the second before, or by now if these are more.
 #[test]
 fn asks_for_too_many(rt: HostRuntime) -> Result<(), Fail> {
-    let alloc = rt.alloc();
-    let (endpoint, packet, length) = (Cell::new(1), Cell::new(MEDIA), Cell::new(28));
-    let (moment_ms, far, held) = (Cell::new(0), Cell::new(0), Cell::new(0));
-    let settings = room(alloc)?;
-    let source = Put {
-        endpoint: &endpoint,
-        packet: &packet,
-        length: &length,
-    };
-    let inlet = Inlet {
-        endpoint: &endpoint,
-        packet: &packet,
-        length: &length,
-        moment_ms: &moment_ms,
-    };
-    let traffic = Traffic::new(alloc, &settings)?;
-    let screen = Screen::new(alloc, source, &SOURCES, bounding(0, 50), &far)?;
-    let mut screen = screen.bounding(alloc, &settings, &traffic, &moment_ms, &held)?;
-    // Nothing came yet.
-    assert_eq!(rt;
-        given(&mut screen, &inlet, 0, nack(1, 7, 0))?,
-        [24, 2, 206, 2]
-    );
-    publish(&mut screen, &inlet, 5, 5)?;
-    let steps = [
-        // Five came: two are let through.
-        (6, nack(1, 7, 0b11), [28, 3, 7, 0b1]),
-        (999, nack(1, 7, 0), [24, 2, 206, 2]),
-        // Another publisher's leg: nothing came of it.
-        (999, nack(2, 7, 0), [24, 2, 206, 2]),
-        // As many in the next second, and none in the one after.
-        (1000, nack(1, 7, 0b1), [28, 3, 7, 0b1]),
-        (1999, nack(1, 7, 0b1), [24, 2, 206, 2]),
-        (2000, nack(1, 7, 0b1), [24, 2, 206, 2]),
-    ];
-    for (moment, asked, wanted) in steps {
-        assert_eq!(rt;
-            given(&mut screen, &inlet, moment, asked)?,
-            wanted,
-            "{}",
-            moment
-        );
-    }
+    let held = held_in(&rt, rt.alloc(), 0, 50, &TOO_MANY)?;
+    assert!(rt; held == 8);
     Ok(())
 }
 
