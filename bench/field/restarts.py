@@ -1,7 +1,7 @@
 #!/usr/bin/env python3
 """A publisher starts anew again and again under the same SSRC, with other sequence numbers and timestamps each time, while a subscriber
 watches: each packet has to come, under a number that wasn't used before. Of two runs the second follows the first at once, so that with
-two workers packets of the first may still wait when the second begins.
+two workers packets of the first may still wait when the second begins. Each third run begins 2 to 99 numbers behind the last one.
 
     bench/field/restarts.py SFU [RESTARTS]
 
@@ -90,7 +90,11 @@ def play(publisher, subscriber, unit_at, restarts):
     time.sleep(0.05)
     came, twice, highest, seq = set(), 0, None, 0
     for run in range(restarts + 1):
-        seq, timestamp = seq + random.randrange(5000, 60000), random.randrange(2**32)
+        if run % 3 == 2:
+            seq += PACKETS - 1 - random.randrange(2, 100)
+            timestamp += random.randrange(2**25, 2**31)
+        else:
+            seq, timestamp = seq + random.randrange(5000, 60000), random.randrange(2**32)
         for place in range(PACKETS):
             publisher.sendto(packet(seq + place, timestamp + 3000 * place) + struct.pack("!HB", run, place), unit_at)
         while (run % 2 or run == restarts) and select.select([subscriber], [], [], 0.05)[0]:
