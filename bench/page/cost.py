@@ -6,7 +6,8 @@
 SFU is the built program. Eight publishers send so many packets of 1,200 bytes a second each, as a camera at 1.4 Mbit/s does, and everyone
 sees everyone. For M minutes one unit is looked at: headless chromium, if it is there, has the page open, which brings itself up to date each
 two seconds, and a scraper reads `/metrics` each second. Beside each stretch of S seconds of that stands one in which browser, scraper
-and page are stopped (SIGSTOP), in the order looked at, alone, alone, looked at; so the machine's own drift is in both. Said of each
+and page are stopped (SIGSTOP), in the order looked at, alone, alone, looked at; so the machine's own drift is in both. Where there are
+several processors the unit has the first one for itself, and all else the others: what they do to each other's caches is no part of it. Said of each
 pair: what the unit's process took, all its threads (`/proc/PID/task/*/schedstat`), of each datagram that it sent; at the end what being
 looked at adds, in the mean of all pairs, with its standard error. Ends with status 1 if that mean is 3 % or more. By hand: nothing of it
 is proved.
@@ -154,10 +155,18 @@ class Lookers:
         return self.scraped.count(200), len(self.scraped)
 
 
+def part():
+    """Leaves the first processor to the unit, if there are others: from now on this process, and what it starts, runs on those."""
+    first, *others = sorted(os.sched_getaffinity(0))
+    if others:
+        os.sched_setaffinity(0, others)
+    return first
+
+
 class Unit:
     """A unit under a load of its own, and what it has taken and sent so far."""
 
-    def __init__(self, program, folder, packets):
+    def __init__(self, program, folder, packets, processor):
         self.program, self.control, settings = program, f"{folder}/control", f"{folder}/room.toml"
         self.sockets = []
         for _ in range(ENDPOINTS):
@@ -169,6 +178,8 @@ class Unit:
         self.process = subprocess.Popen(
             [program, "serve", settings, "--control", self.control], stdout=subprocess.DEVNULL, stderr=subprocess.PIPE)
         self.process.stderr.readline()
+        for task in os.listdir(f"/proc/{self.process.pid}/task"):
+            os.sched_setaffinity(int(task), [processor])
         self.load = Load(port, self.sockets, packets)
         self.load.start()
 
@@ -211,7 +222,7 @@ def main():
     os.makedirs(asked.folder, exist_ok=True)
     if not shutil.which("chromium"):
         print("no chromium: only a scraper looks")
-    unit, lookers = Unit(asked.program, asked.folder, asked.packets), None
+    unit, lookers = Unit(asked.program, asked.folder, asked.packets, part()), None
     try:
         lookers = Lookers(asked.program, unit.control)
         time.sleep(3)

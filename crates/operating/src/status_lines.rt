@@ -70,7 +70,9 @@ impl<'a, E: Write> StatusLines<'a, E> {
             lost,
             ..
         } = *status;
-        format!(in self.alloc; "present {present} heard {heard} sent {sent} failed {failed} lost {lost}")
+        format!(in self.alloc;
+            "present {present} heard {heard} sent {sent} failed {failed} lost {lost}"
+        )
     }
 
     /// How many datagrams came from nobody's address, and how many packets were far from their source's highest number.
