@@ -9,8 +9,8 @@ two seconds, and a scraper reads `/metrics` each second. Beside each stretch of 
 and page are stopped (SIGSTOP), in the order looked at, alone, alone, looked at; so the machine's own drift is in both. Where there are
 several processors the unit has the first one for itself, and all else the others: what they do to each other's caches is no part of it. Said of each
 pair: what the unit's process took, all its threads (`/proc/PID/task/*/schedstat`), of each datagram that it sent; at the end what being
-looked at adds, in the mean of all pairs, with its standard error. Ends with status 1 if that mean is 3 % or more. By hand: nothing of it
-is proved.
+looked at adds, over all pairs, with the standard error, and how many milliseconds of processor time that is in a second: with few packets
+(`--packets 2`) that alone is seen. Ends with status 1 if it adds 3 % or more. By hand: nothing of it is proved.
 """
 
 import argparse
@@ -242,10 +242,13 @@ def main():
         if lookers:
             lookers.leave()
         unit.end()
-    mean, error = statistics.mean(added), statistics.stdev(added) / len(added) ** 0.5
-    print(f"{statistics.mean(alone):.3f} us a datagram alone, {statistics.mean(looked):.3f} looked at; being looked at adds {mean:+.2f} %"
-          f" (standard error {error:.2f}, {len(added)} pairs from {min(added):+.2f} to {max(added):+.2f}), load {os.getloadavg()[0]:.1f}")
-    if mean >= 3:
+    more = [other - one for one, other in zip(alone, looked)]
+    each_second = asked.packets * ENDPOINTS * (ENDPOINTS - 1) / 1000
+    mean, error, base = statistics.mean(more), statistics.stdev(more) / len(more) ** 0.5, statistics.mean(alone)
+    share = 100 * mean / base
+    print(f"{base:.3f} us a datagram alone; being looked at adds {mean:+.3f} (standard error {error:.3f}), {share:+.2f} % ({100 * error / base:.2f}),"
+          f" {len(more)} pairs; {each_second * mean:+.2f} ms ({each_second * error:.2f}) to {each_second * base:.1f} in a second; load {os.getloadavg()[0]:.1f}")
+    if share >= 3:
         sys.exit("not so: 3 % or more")
 
 
