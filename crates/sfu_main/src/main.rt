@@ -71,7 +71,7 @@ fn run_words<
     errors: &mut E,
 ) -> Status {
     match noted_in(rt.alloc(), words) {
-        Ok(Some(noted)) => run_noted(rt, noted, writer, errors),
+        Ok(Some(noted)) => run_noted(rt, &noted, writer, errors),
         Ok(None) | Err(_) => run_command(rt, words, meter, reader, writer, errors),
     }
 }
@@ -81,15 +81,11 @@ fn run_noted<
     R: AllocGlobal + ErrorOutput + Files<File = File> + Net + Threads + Wait + Sync + Clock,
     O: Write,
     E: Write,
->(rt: &R, noted: Noted<'_>, writer: &mut O, errors: &mut E) -> Status {
-    let Noted {
-        record,
-        log_time,
-        words,
-    } = noted;
-    match (record, log_time) {
-        (Some(record), false) => run_recorded(rt, words.as_slice(), record, writer, errors),
-        (record, _) => run_timed(rt, words.as_slice(), record, writer, errors),
+>(rt: &R, noted: &Noted<'_>, writer: &mut O, errors: &mut E) -> Status {
+    let words = noted.words.as_slice();
+    match (noted.record, noted.log_time) {
+        (Some(record), false) => run_recorded(rt, words, record, writer, errors),
+        (record, _) => run_timed(rt, words, record, writer, errors),
     }
 }
 
