@@ -1,14 +1,15 @@
 #!/usr/bin/env python3
 """One endpoint floods the unit with rubbish, while another one's media go to a third.
 
-    bench/field/flood.py SFU [SECONDS] [--without] [--goings]
+    bench/field/flood.py SFU [SECONDS] [--without] [--goings] [--strangers]
 
 SFU is the built program. A publisher sends 500 packets a second to one subscriber, for 10 seconds if nothing else is said. Each 20 ms another endpoint sends
 BURST datagrams in a row: RTCP that holds thousands of empty packets, so that each is dear to read. Prints how many of the publisher's packets came,
 what of the flood was heard and what wasn't, by endpoint, and the processor time of the unit; ends with status 1 if a packet of the publisher is missing
 though the system dropped nothing, if nothing of the flood was let go, or if a line of counts doesn't begin with the time (`--log-time`). With
 `--without` the file has no `flood_limit`. With `--goings` there are two workers, and the other endpoint, which is sent the publisher's packets, too,
-comes and goes: every other datagram is its goodbye, so that rows change with each. By hand: nothing of it is proved.
+comes and goes: every other datagram is its goodbye, so that rows change with each. With `--strangers` the flood comes from an address that is
+nobody's. By hand: nothing of it is proved.
 """
 
 import os
@@ -78,8 +79,8 @@ def cpu_seconds(pid):
     return (int(fields[11]) + int(fields[12])) / os.sysconf("SC_CLK_TCK")
 
 
-def play(program, seconds, limit, goings, folder):
-    publisher, subscriber, flooder, free = (bound_socket() for _ in range(4))
+def play(program, seconds, limit, goings, strangers, folder):
+    publisher, subscriber, flooder, stranger, free = (bound_socket() for _ in range(5))
     unit_at = free.getsockname()
     free.close()
     file, control = os.path.join(folder, "room.toml"), os.path.join(folder, "control")
@@ -119,7 +120,7 @@ def play(program, seconds, limit, goings, folder):
             if now >= next_burst:
                 next_burst += PAUSE
                 for number in range(BURST):
-                    flooder.sendto((GOINGS if goings else RUBBISH)[number % (1 + goings)], unit_at)
+                    (stranger if strangers else flooder).sendto((GOINGS if goings else RUBBISH)[number % (1 + goings)], unit_at)
                 flood += BURST
             time.sleep(0.0005)
         time.sleep(1.5)
@@ -139,12 +140,12 @@ def play(program, seconds, limit, goings, folder):
     print(f"{len(came)} of {sent} packets came, {own} were beyond the limit themselves; of {flood} datagrams of the other one {flooded} weren't heard; unread {counts.get('unread', 0)}; the unit took {cost:.2f} s of processor time")
     print(f"{len(timed)} of {len(lines)} lines begin with the time; the last: {lines[-1].strip() if lines else 'none'}")
     is_missing = len(came) + own < sent and not counts.get("unread", 0)
-    return 1 if is_missing or not lines or len(timed) < len(lines) or (limit and not flooded) else 0
+    return 1 if is_missing or not lines or len(timed) < len(lines) or (limit and not flooded and not strangers) else 0
 
 
 if __name__ == "__main__":
-    asked = [it for it in sys.argv[1:] if it not in ("--without", "--goings")]
+    asked = [it for it in sys.argv[1:] if it not in ("--without", "--goings", "--strangers")]
     if len(asked) not in (1, 2):
         sys.exit(__doc__)
     with tempfile.TemporaryDirectory() as room:
-        sys.exit(play(asked[0], int(asked[1]) if len(asked) == 2 else 10, "" if "--without" in sys.argv else LIMIT, "--goings" in sys.argv, room))
+        sys.exit(play(asked[0], int(asked[1]) if len(asked) == 2 else 10, "" if "--without" in sys.argv else LIMIT, "--goings" in sys.argv, "--strangers" in sys.argv, room))
