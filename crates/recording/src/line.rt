@@ -1,11 +1,12 @@
 //! The lines of each event that a unit takes in: the event, and what follows from it.
 
-ghost use Rattle.std.specs.Prelude.{◌≡◌, ◌++◌, IfOk};
+ghost use Rattle.std.specs.Prelude.{◌≡◌, ◌++◌, IfOk, OnOk};
 ghost use Rattle.std.specs.String.{string_bytes};
 ghost use Rattle.events.specs.declared.event.Event.TheVariants.{Hear, Tick, Select};
 ghost use Rattle.recording.specs.Lines.{begun_line, event_lines, heard_head, made_mark, switch_word};
 
 use std::alloc::{AllocError, Global};
+use std::fmt::Write;
 
 /// The lines of a datagram that an endpoint's number sent, heard at this moment in milliseconds; none of one without bytes, which does
 /// nothing. Refused for want of memory alone.
@@ -25,11 +26,16 @@ pub fn heard_lines(
     format!(in alloc; "hear {moment} {endpoint} {hex}\nfollow\n")
 }
 
-/// The beginning of a datagram's line, before its digits. Refused for want of memory alone.
-pub fn heard_head(alloc: Global, moment: u64, endpoint: u16) -> Result<String, AllocError>
-    ensures { IfOk result (λ text. string_bytes text ≡ heard_head moment endpoint) }
+/// Writes the beginning of a datagram's line, before its digits, in place of what the text was. Refused for want of memory alone.
+pub(crate) fn write_heard_head(
+    text: &mut String,
+    moment: u64,
+    endpoint: u16,
+) -> Result<(), AllocError>
+    ensures { OnOk result (string_bytes text.new ≡ heard_head moment endpoint) }
 {
-    format!(in alloc; "hear {moment} {endpoint} ")
+    text.clear();
+    write!(text, "hear {moment} {endpoint} ")
 }
 
 /// The lines of a report that the unit made in the name of an endpoint that only listens: those of a datagram that it sent, after a

@@ -7,9 +7,10 @@ ghost use Rattle.recording.specs.Lines.{event_lines, follow_line};
 ghost use Rattle.recording.specs.Tapes.{IsMadeAndPut, IsPut, end_name, ended, new_tape, taken};
 
 use crate::digits::append_digits;
-use crate::line::heard_head;
+use crate::line::write_heard_head;
 use std::alloc::{AllocError, Global};
 use std::marker::Model;
+use std::mem;
 
 /// Why a record ends before its unit.
 #[derive(Clone, Copy, Debug, PartialEq, Eq)]
@@ -27,10 +28,12 @@ pub enum End {
 }
 
 /// A record that is being written: what waits to be handed to its file, and how many bytes it has so far.
-#[derive(Debug, Drop)]
+#[derive(Drop)]
 pub struct Tape {
     alloc: Global,
     waiting: Vec<u8>,
+    /// Where the beginning of a datagram's line is written, so that its memory serves for the next one.
+    head: String,
     /// How many bytes were put, those that wait too.
     written: u64,
     limit: u64,
@@ -53,6 +56,7 @@ impl Tape {
         Tape {
             alloc,
             waiting: Vec::new(alloc),
+            head: String::new(alloc),
             written: 0,
             limit,
             end: None,
@@ -85,10 +89,12 @@ impl Tape {
         if bytes.is_empty() {
             return self.put("");
         }
-        let Ok(head) = heard_head(self.alloc, moment, endpoint) else {
-            return self.end(End::Memory);
-        };
-        self.put_line(head.as_str(), bytes);
+        let mut head = mem::replace(&mut self.head, String::new(self.alloc));
+        match write_heard_head(&mut head, moment, endpoint) {
+            Ok(()) => self.put_line(head.as_str(), bytes),
+            Err(_) => self.end(End::Memory),
+        }
+        self.head = head;
     }
 
     /// Puts a line of this beginning and the digits of these bytes, and the line for what follows.
@@ -114,7 +120,7 @@ impl Tape {
     {
         let mut next = other;
         next.clear();
-        std::mem::replace(&mut self.waiting, next)
+        mem::replace(&mut self.waiting, next)
     }
 
     /// Ends the record, unless it has ended.
