@@ -65,9 +65,26 @@ IsUnsaid status.UnsaidNoMemory = Unit {0}
 IsUnsaid status.UnsaidIo = Unit {0}
 IsUnsaid s = ⊥
 
+-- how a command ends whose error output failed so
+abbrev pub unsaid_at : ErrorKind → Status
+unsaid_at OutOfMemory = status.UnsaidNoMemory
+unsaid_at kind = status.UnsaidIo
+
 -- the text is on the error output and the command ends so, or it couldn't be written
 abbrev pub EndsSaying : Status → List ℕ → Option (List ℕ) → Option (List ℕ) → Status → Type 0
 EndsSaying wanted text old new s = ((s ≡ wanted) × Appends old new text) ⊎ IsUnsaid s
+
+-- it says that memory is wanting, and ends so
+abbrev pub EndsWanting : Option (List ℕ) → Option (List ℕ) → Status → Type 0
+EndsWanting old new s = EndsSaying status.NoMemory (codes "no memory\n") old new s
+
+-- it says of this failure what there is to say, and ends so; or there is no memory for the line
+abbrev pub EndsAsFailed : Failure → Option (List ℕ) → Option (List ℕ) → Status → Type 0
+EndsAsFailed NoMemory old new s = EndsWanting old new s
+EndsAsFailed Io old new s = EndsSaying status.Io (codes "io\n") old new s
+EndsAsFailed (RefusedLine line fault) old new s =
+    EndsSaying status.Refused (refused_text (record { line = line; fault = fault })) old new s
+    ⊎ EndsWanting old new s
 
 -- What the error output says of a status: nothing where the command is done, else why it isn't. What refuses a line or
 -- words is said elsewhere; and where the error output fails, nothing is.
@@ -86,3 +103,4 @@ pub record ShowsFailure (failure : Failure) (old new : Option (List ℕ)) (s : S
   pub refused : s ≡ status.Refused
       → (status_of failure ≡ status.Refused) × ShowsLine failure old new
   pub said : SaysWhy old new s
+  pub ends : EndsAsFailed failure old new s

@@ -2,8 +2,9 @@
 
 ghost use Rattle.std.specs.Prelude.{◌≡◌, ◌≢◌, codes};
 ghost use Rattle.std.specs.Io.KnownBytes.{Appends};
+ghost use Rattle.std.specs.IoError.{error_kind};
 ghost use Rattle.clap.specs.Words.{kind_of};
-ghost use Rattle.endings.specs.Endings.{EndsSaying, IsOutOfMemory, IsUnsaid, SaysWhy, ShowsFailure};
+ghost use Rattle.endings.specs.Endings.{EndsSaying, EndsWanting, IsOutOfMemory, IsUnsaid, SaysWhy, ShowsFailure, unsaid_at};
 ghost use Rattle.settings_text.specs.SettingsText.{problem_line};
 
 use crate::status::{Failure, Status};
@@ -19,6 +20,8 @@ pub fn report_words<E: Write>(errors: &mut E, error: &io::Error) -> Status
     ensures failed { (result ≢ Status.Done) × (result ≢ Status.Refused)
         × (result ≢ Status.Settings) }
     ensures memory { IsOutOfMemory error.now → result ≢ Status.CommandLine }
+    ensures wanting { IsOutOfMemory error.now
+        → EndsWanting (E.contents errors.old) (E.contents errors.new) result }
     ensures shown { result ≡ Status.CommandLine
         → Appends (E.contents errors.old) (E.contents errors.new) (codes "a word is no text\n") }
     ensures said { SaysWhy (E.contents errors.old) (E.contents errors.new) result }
@@ -49,6 +52,8 @@ pub fn report_settings<E: Write>(alloc: Global, errors: &mut E, problem: &Settin
         × (result ≢ Status.CommandLine) }
     ensures settings { result ≡ Status.Settings → (problem.now ≢ SettingsProblem.NoMemory)
         × Appends (E.contents errors.old) (E.contents errors.new) (problem_line problem.now) }
+    ensures wanting { problem.now ≡ SettingsProblem.NoMemory
+        → EndsWanting (E.contents errors.old) (E.contents errors.new) result }
     ensures said { SaysWhy (E.contents errors.old) (E.contents errors.new) result }
 {
     match problem {
@@ -66,6 +71,8 @@ pub fn refuse_words<E: Write>(alloc: Global, errors: &mut E, error: &clap::Error
     ensures done { result ≢ Status.Done }
     ensures settings { result ≢ Status.Settings }
     ensures memory { kind_of error.now ≡ ErrorKind.OutOfMemory → result ≢ Status.CommandLine }
+    ensures wanting { kind_of error.now ≡ ErrorKind.OutOfMemory
+        → EndsWanting (E.contents errors.old) (E.contents errors.new) result }
     ensures said { SaysWhy (E.contents errors.old) (E.contents errors.new) result }
 {
     if error.kind() == ErrorKind::OutOfMemory {
@@ -97,7 +104,8 @@ pub fn say<E: Write>(errors: &mut E, text: &[u8], status: Status) -> Status
 
 /// How a command ends that couldn't say what there was to say.
 pub fn unsaid(error: &io::Error) -> Status
-    ensures { IsUnsaid result }
+    ensures unsaid { IsUnsaid result }
+    ensures why { result ≡ unsaid_at (error_kind error.now) }
 {
     if error.kind() == io::ErrorKind::OutOfMemory {
         Status::UnsaidNoMemory
