@@ -1,9 +1,10 @@
 //! The Unix socket of a unit's control.
 
 use crate::gauges::Gauges;
-use crate::record_file::{RecordFault, idle_record};
+use crate::record_file::idle_record;
 use crate::steering::{Listed, Steering};
 use addressing::{Location, ServedSettings};
+use recording::ControlFault;
 use settings::Settings;
 use std::alloc::{AllocError, Global};
 use std::fs::{self, Permissions};
@@ -18,30 +19,6 @@ use traffic::LegLine;
 
 /// Only its owner may connect to the socket.
 const MODE: u32 = 0o600;
-
-/// Why a unit can't be steered at a path.
-#[derive(Clone, Copy, Debug, PartialEq, Eq)]
-pub enum ControlFault {
-    /// Somebody listens there, or the file there is no socket.
-    InUse,
-    /// The system doesn't let a socket be there.
-    Failed,
-    NoMemory,
-}
-
-impl From<RecordFault> for ControlFault {
-    ghost use Rattle.std.specs.Prelude.{◌≡◌};
-    ghost use Rattle.operating.specs.Faults.{control_fault_of};
-
-    ghost from_gives = { λ fault e. e ≡ control_fault_of fault };
-
-    fn from(fault: RecordFault) -> ControlFault {
-        match fault {
-            RecordFault::NoMemory => ControlFault::NoMemory,
-            RecordFault::Exists | RecordFault::Failed => ControlFault::Failed,
-        }
-    }
-}
 
 /// Listens at the path, for a unit of these settings, which come from a file with this SHA-256. A socket file that a dead unit left is
 /// replaced.

@@ -1,5 +1,6 @@
 //! Blocks of bytes that nobody waits for: one thread hands them on, and one of its own writes them.
 
+use recording::CourierFault;
 use rtrb::{Consumer, Producer, RingBuffer};
 use std::alloc::Global;
 use std::io::{ErrorKind, Read, Write};
@@ -11,14 +12,6 @@ use std::thread::{self, JoinHandle, Threads};
 
 /// So many lists whose bytes were written are kept for the next blocks.
 const SPARES: usize = 4;
-
-/// Why there is no thread that writes.
-#[derive(Clone, Copy, Debug, PartialEq, Eq)]
-pub enum CourierFault {
-    NoMemory,
-    /// The system has no thread for it, or no socket pair.
-    System,
-}
 
 /// What is handed on.
 #[derive(Drop)]

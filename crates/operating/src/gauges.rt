@@ -62,14 +62,13 @@ impl Gauges {
     pub(crate) fn steered(steering: Steering, recorder: Recorder) -> Gauges {
         let mut gauges = Gauges::new();
         gauges.steering = Some(RefCell::new(steering));
-        gauges.recorded(recorder)
+        gauges.set_recorder(recorder);
+        gauges
     }
 
-    /// The same, of a run that is recorded.
-    pub fn recorded(self, recorder: Recorder) -> Gauges {
-        let mut gauges = self;
-        gauges.recorder = Some(RefCell::new(recorder));
-        gauges
+    /// The run is recorded from now on.
+    pub fn set_recorder(&mut self, recorder: Recorder) {
+        self.recorder = Some(RefCell::new(recorder));
     }
 
     /// Who records the run.

@@ -19,13 +19,13 @@ mod steered;
 mod steering;
 
 pub use control_heard::ControlHeard;
-pub use control_socket::{ControlFault, close_control, open_control};
-pub use courier::CourierFault;
+pub use control_socket::{close_control, open_control};
 pub use gauges::{Gauges, TICK_MS};
 pub use lines::{ErrorOutput, Lines, TimedLines};
-pub use record_file::{RecordFault, close_record, open_record};
+pub use record_file::{close_record, open_record};
 pub use recorded::{RecordedClock, RecordedSource};
 pub use recorder::{RECORD_LIMIT, Recorder};
+pub use recording::{ControlFault, CourierFault, RecordFault};
 pub use status_lines::StatusLines;
 pub use steered::{SteeredSource, SteeredWatch};
 pub use steering::{Listed, Steering};

@@ -1,6 +1,7 @@
 //! Lines for people, which a thread of its own writes: nobody waits for who reads them.
 
-use crate::courier::{CourierFault, Outlet, start_courier};
+use crate::courier::{Outlet, start_courier};
+use recording::CourierFault;
 use std::alloc::{AllocError, Global};
 use std::io::{self, ErrorKind, Stderr, Write};
 use std::net::Net;

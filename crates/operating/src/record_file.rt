@@ -1,9 +1,9 @@
 //! Where a record goes: to a file, or to who asked for it. A thread of its own writes it.
 
-use crate::courier::{CourierFault, start_courier};
+use crate::courier::start_courier;
 use crate::gauges::{Gauges, TICK_MS};
 use crate::recorder::Recorder;
-use recording::{Header, header_text};
+use recording::{Header, RecordFault, header_text};
 use std::fs::{File, OpenOptions};
 use std::io::{self, ErrorKind, Write};
 use std::net::Net;
@@ -21,16 +21,6 @@ const BLOCKS: usize = 256;
 
 /// The version of the program that a record names.
 const VERSION: &str = "0.1.0";
-
-/// Why a unit isn't recorded in a file.
-#[derive(Clone, Copy, Debug, PartialEq, Eq)]
-pub enum RecordFault {
-    /// A file is there already.
-    Exists,
-    /// The system doesn't let a file be there, or has no thread for it.
-    Failed,
-    NoMemory,
-}
 
 /// Where a record is written.
 #[derive(Drop)]
@@ -84,20 +74,6 @@ pub(crate) fn idle_record<R: AllocGlobal + Net + Threads + time::Clock>(
     let head = head_of(rt, settings)?;
     let (outlet, thread) = start_courier(rt, BLOCKS, Scroll::Nobody)?;
     Ok(Recorder::new(rt.alloc(), TICK_MS, head, outlet, thread))
-}
-
-impl From<CourierFault> for RecordFault {
-    ghost use Rattle.std.specs.Prelude.{◌≡◌};
-    ghost use Rattle.operating.specs.Faults.{record_fault_of};
-
-    ghost from_gives = { λ fault e. e ≡ record_fault_of fault };
-
-    fn from(fault: CourierFault) -> RecordFault {
-        match fault {
-            CourierFault::NoMemory => RecordFault::NoMemory,
-            CourierFault::System => RecordFault::Failed,
-        }
-    }
 }
 
 /// The head of a record of a unit that begins now.

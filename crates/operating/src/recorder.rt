@@ -23,7 +23,7 @@ const FLUSH_MS: u64 = 1000;
 const PATIENCE_S: u64 = 10;
 
 /// What came in this turn and wasn't written down yet, since its moment isn't told.
-#[derive(Clone, Copy, Debug)]
+#[derive(Clone, Copy)]
 enum Came {
     Nothing,
     Datagram {
@@ -38,7 +38,7 @@ enum Came {
 }
 
 /// A leg that is sent on or not, unlike at the start of its unit.
-#[derive(Clone, Copy, Debug, PartialEq, Eq)]
+#[derive(Clone, Copy, PartialEq, Eq)]
 pub(crate) struct Switched {
     pub(crate) leg: u16,
     pub(crate) on: bool,

@@ -7,7 +7,7 @@ ghost use Rattle.recording.specs.Lines.{header_text, program_part, time_part};
 use std::alloc::{AllocError, Global};
 
 /// What a record says of itself.
-#[derive(Clone, Copy, Debug)]
+#[derive(Clone, Copy)]
 pub struct Header<'a> {
     /// The version of the program.
     pub version: &'a str,

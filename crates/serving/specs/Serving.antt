@@ -10,8 +10,8 @@ use Rattle.serving.specs.declared.serve_fault.ServeFault.{ServeFault}
 use Rattle.serving.specs.declared.serve_fault.ServeFault.TheVariants.{NoMemory, Socket}
 use Rattle.one_thread.specs.declared.driver.DriveFault.{DriveFault}
 use Rattle.one_thread.specs.declared.driver.DriveFault.TheVariants as drive_fault
-use Rattle.operating.specs.declared.courier.CourierFault.{CourierFault}
-use Rattle.operating.specs.declared.courier.CourierFault.TheVariants as courier_fault
+use Rattle.recording.specs.declared.faults.CourierFault.{CourierFault}
+use Rattle.recording.specs.declared.faults.CourierFault.TheVariants as courier_fault
 use Rattle.workers.specs.declared.fault.UnitFault.{UnitFault}
 use Rattle.workers.specs.declared.fault.UnitFault.TheVariants as unit_fault
 use Rattle.endings.specs.declared.status.Status.{Status}

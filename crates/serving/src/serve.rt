@@ -26,7 +26,7 @@ use std::time;
 use workers::{Report, Unwatched};
 
 /// How long the unit is served, and how often it says how it goes.
-#[derive(Clone, Copy, Debug, PartialEq, Eq)]
+#[derive(Clone, Copy, PartialEq, Eq)]
 pub struct Term {
     /// How many turns it makes; until it is stopped where there are none.
     pub ticks: Option<u32>,

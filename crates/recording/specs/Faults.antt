@@ -1,10 +1,10 @@
 -- What a fault of one part is to the part above it.
-use Rattle.operating.specs.declared.control_socket.ControlFault.{ControlFault}
-use Rattle.operating.specs.declared.control_socket.ControlFault.TheVariants as control
-use Rattle.operating.specs.declared.courier.CourierFault.{CourierFault}
-use Rattle.operating.specs.declared.courier.CourierFault.TheVariants as courier
-use Rattle.operating.specs.declared.record_file.RecordFault.{RecordFault}
-use Rattle.operating.specs.declared.record_file.RecordFault.TheVariants as record_fault
+use Rattle.recording.specs.declared.faults.ControlFault.{ControlFault}
+use Rattle.recording.specs.declared.faults.ControlFault.TheVariants as control
+use Rattle.recording.specs.declared.faults.CourierFault.{CourierFault}
+use Rattle.recording.specs.declared.faults.CourierFault.TheVariants as courier
+use Rattle.recording.specs.declared.faults.RecordFault.{RecordFault}
+use Rattle.recording.specs.declared.faults.RecordFault.TheVariants as record_fault
 
 -- why a unit isn't recorded, if the thread that writes can't be had
 abbrev pub record_fault_of : CourierFault → RecordFault
