@@ -28,7 +28,7 @@ const PIECE: usize = 4_096;
 const MAX_PIECES: u32 = 4_096;
 
 /// Why there is no answer.
-#[derive(Clone, Copy, Debug, PartialEq, Eq)]
+#[derive(Clone, Copy, PartialEq, Eq)]
 pub(crate) enum AskFault {
     NoMemory,
     /// Nobody listens at the path.

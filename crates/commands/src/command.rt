@@ -40,7 +40,7 @@ use std::{fs, time};
 use tmmbr_tuple::Ssrc;
 
 /// Where a unit is recorded, and how many bytes the record has at most.
-#[derive(Clone, Copy, Debug)]
+#[derive(Clone, Copy)]
 pub struct Record<'a> {
     pub path: &'a str,
     pub limit: u64,
@@ -251,9 +251,16 @@ fn run_noted<
             | Action::Check { .. }
             | Action::Replay { .. }
             | Action::Draw { .. },
-        ) => say(errors, refusal, Status::CommandLine),
+        ) => refuse_other(errors, refusal),
         Err(error) => refuse_words(rt.alloc(), errors, &error),
     }
+}
+
+/// Says of words that ask for another command that nothing is done.
+fn refuse_other<E: Write>(errors: &mut E, refusal: &[u8]) -> Status
+    ensures { (result ≢ Status.Done) × (result ≢ Status.Socket) }
+{
+    say(errors, refusal, Status::CommandLine)
 }
 
 /// `sfu check`: prints whether the file's lines certify a smallest choice.
@@ -317,8 +324,9 @@ fn serve_steered<
     ensures said { SaysWhyServing (E.contents errors.old) (E.contents errors.new) result }
 {
     match gauges_for(rt, file, paths.control) {
-        Ok(gauges) => {
-            let status = serve_recorded(rt, file, term, paths, gauges, writer, errors);
+        Ok(mut gauges) => {
+            let status = serve_recorded(rt, file, term, paths, &mut gauges, writer, errors);
+            close_record(rt, gauges);
             close_control_at(rt, paths.control);
             status
         }
@@ -337,7 +345,7 @@ fn serve_recorded<
     file: &ServedFile,
     term: Term,
     paths: Paths<'_>,
-    gauges: Gauges,
+    gauges: &mut Gauges,
     writer: &mut O,
     errors: &mut E,
 ) -> Status
@@ -349,31 +357,24 @@ fn serve_recorded<
         × (result ≢ Status.Settings) }
     ensures said { SaysWhyServing (E.contents errors.old) (E.contents errors.new) result }
 {
-    match gauges_with(rt, file, paths, gauges) {
-        Ok(gauges) => {
-            let status = serve_file(rt, &file.settings, term, &gauges, writer, errors);
-            close_record(rt, gauges);
-            status
-        }
+    match set_noted(rt, file, paths, gauges) {
+        Ok(()) => serve_file(rt, &file.settings, term, gauges, writer, errors),
         Err(fault) => say_record(errors, fault),
     }
 }
 
-/// What a run shows whose lines begin with the time, if they are to, and that is recorded, if it is to be from its start.
-fn gauges_with<R: AllocGlobal + Files<File = File> + Net + Threads + time::Clock>(
+/// The run's lines begin with the time, if they are to, and it is recorded, if it is to be from its start.
+fn set_noted<R: AllocGlobal + Files<File = File> + Net + Threads + time::Clock>(
     rt: &R,
     file: &ServedFile,
     paths: Paths<'_>,
-    gauges: Gauges,
-) -> Result<Gauges, RecordFault> {
+    gauges: &mut Gauges,
+) -> Result<(), RecordFault> {
     gauges.log_time.set(paths.log_time);
-    match paths.record {
-        Some(Record { path, limit }) => {
-            let recorder = open_record(rt, path, limit, file.digest.as_slice())?;
-            Ok(gauges.recorded(recorder))
-        }
-        None => Ok(gauges),
+    if let Some(Record { path, limit }) = paths.record {
+        gauges.set_recorder(open_record(rt, path, limit, file.digest.as_slice())?);
     }
+    Ok(())
 }
 
 /// What a run shows that is steered at the path, if there is one.
