@@ -16,7 +16,7 @@ const LEARN: &str = "learn";
 const SPARE_MS: u64 = 1000;
 
 /// Where a unit listens.
-#[derive(Clone, Copy, Debug, PartialEq, Eq)]
+#[derive(Clone, Copy, PartialEq, Eq)]
 pub struct Listening {
     /// For all, or for all but RTCP.
     pub media: SocketAddr,
@@ -66,7 +66,7 @@ impl Client {
 }
 
 /// A key of an endpoint that says where its client is.
-#[derive(Clone, Copy, Debug, PartialEq, Eq)]
+#[derive(Clone, Copy, PartialEq, Eq)]
 pub enum AddressKey {
     Address,
     LearnFrom,
@@ -87,7 +87,7 @@ impl AddressKey {
 }
 
 /// Why texts say nothing of where clients are.
-#[derive(Clone, Copy, Debug, PartialEq, Eq)]
+#[derive(Clone, Copy, PartialEq, Eq)]
 pub enum ClientFault {
     NoMemory,
     /// Of the endpoint with this number the first key that is missing where it is needed, or stands where it can't, or spells no

@@ -3,7 +3,7 @@
 use settings_text::Place;
 
 /// A line of a file, by its number from 1.
-#[derive(Clone, Copy, Debug, PartialEq, Eq)]
+#[derive(Clone, Copy, PartialEq, Eq)]
 pub(crate) struct Spotted<'a> {
     pub(crate) line: usize,
     /// What stands there, without blanks around it and without a comment behind it.
@@ -11,7 +11,7 @@ pub(crate) struct Spotted<'a> {
 }
 
 /// What was found of a place.
-#[derive(Clone, Copy, Debug, PartialEq, Eq)]
+#[derive(Clone, Copy, PartialEq, Eq)]
 pub(crate) enum Found<'a> {
     /// The line of its key.
     Key(Spotted<'a>),
@@ -21,7 +21,7 @@ pub(crate) enum Found<'a> {
 }
 
 /// The tables whose keys a line may have.
-#[derive(Clone, Copy, Debug, PartialEq, Eq)]
+#[derive(Clone, Copy, PartialEq, Eq)]
 enum Section {
     Top,
     Endpoint(usize),

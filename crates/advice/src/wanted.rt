@@ -9,7 +9,7 @@ use settings_text::Place;
 use std::alloc::{AllocError, Global};
 
 /// What a key takes.
-#[derive(Clone, Copy, Debug, PartialEq, Eq)]
+#[derive(Clone, Copy, PartialEq, Eq)]
 pub(crate) enum Wanted {
     /// A whole number from the first to the second.
     Whole(u64, u64),
@@ -25,7 +25,7 @@ pub(crate) enum Wanted {
 }
 
 /// What a key takes of which no number has to be told.
-#[derive(Clone, Copy, Debug, PartialEq, Eq)]
+#[derive(Clone, Copy, PartialEq, Eq)]
 pub(crate) enum Kind {
     Truth,
     Listen,

@@ -14,7 +14,7 @@ use std::marker::Model;
 use tmmbr_tuple::{Ssrc, Tuple};
 
 /// The live requests for one media sender, the set that is announced for them, and its certificate.
-#[derive(Debug, Drop)]
+#[derive(Drop)]
 pub struct Bounds {
     /// By rising owner, each owner once.
     rows: ArrayVec<Request, MAX_REQUESTS>,

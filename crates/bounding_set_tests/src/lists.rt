@@ -4,7 +4,7 @@ use rate_cert::Request;
 use tmmbr_tuple::{Ssrc, Tuple};
 
 /// A generator of numbers that look random: xorshift with shifts of 13, 7 and 17 bits.
-#[derive(Debug, Drop)]
+#[derive(Drop)]
 pub struct Generator {
     state: u64,
 }
@@ -125,7 +125,7 @@ impl Generator {
 }
 
 /// What the requests of a list have in common.
-#[derive(Clone, Copy, Debug)]
+#[derive(Clone, Copy)]
 pub enum Kind {
     FewLines,
     MeetAtZero,

@@ -20,7 +20,7 @@ use std::io::{Read, Write};
 use tmmbr_tuple::{Pair, Ssrc};
 
 /// The requests of a file in order, and what its lines say of them.
-#[derive(Debug, Drop)]
+#[derive(Drop)]
 struct Sheet {
     requests: Vec<Request>,
     /// The kept ones, with their owners.

@@ -6,7 +6,7 @@ use desk::Desk;
 use rate_cert::{Cert, Request};
 
 /// The live requests to a publisher, and the certificate of the set that is announced for them.
-#[derive(Clone, Copy, Debug)]
+#[derive(Clone, Copy)]
 pub struct Certified<'a> {
     /// By rising owner, each owner once.
     pub live: &'a [Request],

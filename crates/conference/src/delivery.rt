@@ -8,7 +8,7 @@ ghost use Rattle.conference.specs.Conference.{datagram_of, is_datagram};
 use events::Out;
 
 /// A datagram to be sent to an endpoint, which is named by its number.
-#[derive(Clone, Copy, Debug)]
+#[derive(Clone, Copy)]
 pub struct Delivery<'a> {
     pub endpoint: u16,
     pub bytes: &'a [u8],

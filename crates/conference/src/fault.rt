@@ -4,7 +4,7 @@ use settings_text::SettingsProblem;
 use thiserror::Error;
 
 /// Why a conference isn't opened.
-#[derive(Debug, Drop)]
+#[derive(Drop)]
 pub enum OpenFault {
     /// There was no memory.
     NoMemory,

@@ -57,7 +57,7 @@ pub fn done_text(alloc: Global, lines: &str) -> Result<String, AllocError>
 }
 
 /// What came to the unit's sockets and wasn't heard, in datagrams.
-#[derive(Clone, Copy, Debug, PartialEq, Eq)]
+#[derive(Clone, Copy, PartialEq, Eq)]
 pub struct Unheard {
     /// From nobody's address.
     pub strangers: u64,

@@ -11,7 +11,7 @@ use std::marker::Model;
 pub const MAX_INBOX: usize = 128;
 
 /// The bytes that came from a peer and were not read yet. Contracts see them as a list.
-#[derive(Debug, Drop)]
+#[derive(Drop)]
 pub struct Inbox {
     alloc: Global,
     bytes: Vec<u8>,

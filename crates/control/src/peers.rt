@@ -28,7 +28,7 @@ struct Peer<S: Drop> {
 }
 
 /// What came of a look at a peer.
-#[derive(Clone, Copy, Debug)]
+#[derive(Clone, Copy)]
 enum Heard {
     Nothing,
     /// It is let go.

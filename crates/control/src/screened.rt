@@ -7,7 +7,7 @@ ghost use Rattle.control.specs.Screened.{screened_line};
 use std::alloc::{AllocError, Global};
 
 /// What came from endpoints and was kept from the machine.
-#[derive(Clone, Copy, Debug, PartialEq, Eq)]
+#[derive(Clone, Copy, PartialEq, Eq)]
 pub struct Screened {
     /// Packets whose number was far from the highest of their source.
     pub far: u64,

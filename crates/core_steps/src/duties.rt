@@ -26,7 +26,7 @@ use std::alloc::{AllocError, Global};
 use std::marker::Model;
 
 /// What the ingress has to do: one task of the machine.
-#[derive(Debug, Drop)]
+#[derive(Drop)]
 pub enum Duty {
     /// An order of the room: a stay begins or ends at the publisher's desk, or a row is published.
     Order(Order),

@@ -14,7 +14,7 @@ use settings::{LegRules, Links};
 use std::alloc::Global;
 
 /// The machine's parts. Contracts see them as `state_of` says.
-#[derive(Debug, Drop)]
+#[derive(Drop)]
 pub(crate) struct Machine {
     pub(crate) alloc: Global,
     pub(crate) setup: Setup,
@@ -42,7 +42,7 @@ pub(crate) struct Machine {
 }
 
 /// What the settings say once and for all.
-#[derive(Debug, Drop)]
+#[derive(Drop)]
 pub(crate) struct Setup {
     pub(crate) links: Links,
     pub(crate) head: Head,
@@ -53,7 +53,7 @@ pub(crate) struct Setup {
 }
 
 /// A worker.
-#[derive(Debug, Drop)]
+#[derive(Drop)]
 pub(crate) struct Worker {
     pub(crate) jobs: JobRing,
     pub(crate) hand: Hand,
@@ -63,7 +63,7 @@ pub(crate) struct Worker {
 }
 
 /// What a worker has in hand.
-#[derive(Debug, Drop)]
+#[derive(Drop)]
 pub(crate) enum Hand {
     Free,
     Doing(Job),

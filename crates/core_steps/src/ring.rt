@@ -9,7 +9,7 @@ use std::marker::Model;
 pub const JOB_LIMIT: usize = 1024;
 
 /// The jobs that wait for a worker, oldest first. Its memory is taken when it is made.
-#[derive(Debug, Drop)]
+#[derive(Drop)]
 pub(crate) struct JobRing {
     jobs: VecDeque<Job>,
 }

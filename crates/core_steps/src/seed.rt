@@ -8,7 +8,7 @@ use rtcp_feedback::Nack;
 use std::alloc::{AllocError, Global};
 
 /// A job that waits to be pushed, without the bytes of its packet: those are the datagram's, which is kept once for all workers.
-#[derive(Clone, Copy, Debug, PartialEq, Eq)]
+#[derive(Clone, Copy, PartialEq, Eq)]
 pub(crate) enum Seed {
     Packet {
         publisher: u16,

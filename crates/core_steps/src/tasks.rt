@@ -7,7 +7,7 @@ use std::alloc::{AllocError, Global};
 /// What waits for the ingress, oldest first: orders of the room; then what follows from the datagram or the moment that was
 /// taken in. Nothing is taken in while anything waits, so the orders are of one call of the room, and packets to be
 /// pushed are of one datagram.
-#[derive(Debug, Drop)]
+#[derive(Drop)]
 pub(crate) struct Tasks {
     pub(crate) orders: Vec<Order>,
     /// How many of the orders are done.
@@ -20,7 +20,7 @@ pub(crate) struct Tasks {
 }
 
 /// What follows from a datagram or a moment.
-#[derive(Clone, Copy, Debug, PartialEq, Eq)]
+#[derive(Clone, Copy, PartialEq, Eq)]
 pub(crate) enum FollowUp {
     /// The worker gets the job of this seed.
     Push { worker: u16, seed: Seed },
@@ -33,7 +33,7 @@ pub(crate) enum FollowUp {
 }
 
 /// The oldest task.
-#[derive(Clone, Copy, Debug, PartialEq, Eq)]
+#[derive(Clone, Copy, PartialEq, Eq)]
 pub(crate) enum NextTask {
     Order(Order),
     FollowUp(FollowUp),

@@ -22,7 +22,7 @@ use std::marker::Model;
 
 /// The unit as one machine: the room, the tasks of the ingress, the desks, the route table, and the workers with their
 /// rings of jobs and their legs.
-#[derive(Debug, Drop)]
+#[derive(Drop)]
 pub struct World {
     pub(crate) machine: Machine,
 }

@@ -1,11 +1,11 @@
 //! Events by chance in one call and in many.
 
 use crate::random_room::{Draws, hear, media, packet, room, source, tmmbr};
-use crate::steps::{do_events, lines};
+use crate::steps::{do_events, lines, shown};
 use core_steps::*;
 use settings::Settings;
 use std::alloc::{AllocError, Global};
-use std::fmt::{self, Write};
+use std::fmt;
 use std::test::Fail;
 
 /// How many events by chance there are; some 100,000 of them are datagrams.
@@ -117,10 +117,11 @@ fn run_cut(
     Ok(())
 }
 
-/// What was given out, and the whole world behind it.
+/// What was given out, and what the world behind it shows.
 fn text_of(alloc: Global, world: &World, outs: &[Out]) -> Result<String, fmt::Error> {
     let mut text = lines(alloc, outs)?;
-    write!(text, "{world:?}")?;
+    let behind = shown(alloc, world)?;
+    text.push_str(behind.as_str())?;
     Ok(text)
 }
 

@@ -9,7 +9,7 @@
 //! - `goodbye`; `refused WHAT FAULT`.
 //! - `rate SOURCE WORD`, `resend SOURCE PID BLP`, `picture SOURCE`: what is asked for.
 
-use crate::steps::bytes_of;
+use crate::steps::{bytes_of, refusal_parts};
 use core_steps::*;
 use std::alloc::{AllocError, Global};
 use std::fmt::{self, Write};
@@ -74,7 +74,10 @@ fn write_refusal(text: &mut String, refusal: &Refusal) -> Result<(), fmt::Error>
         Refusal::Rtp(fault) => write!(text, "refused rtp {fault:?}")?,
         Refusal::Rtcp(fault) => write!(text, "refused rtcp {fault:?}")?,
         Refusal::Feedback(fault) => write!(text, "refused feedback {fault:?}")?,
-        _ => write!(text, "refused {refusal}")?,
+        _ => {
+            let (what, number) = refusal_parts(*refusal);
+            write!(text, "refused {what} {number}")?;
+        }
     }
     Ok(())
 }

@@ -106,9 +106,50 @@ pub(crate) fn event_of(alloc: Global, step: &Step<'_>) -> Result<Event, AllocErr
 pub(crate) fn lines(alloc: Global, outs: &[Out]) -> Result<String, fmt::Error> {
     let mut text = String::new(alloc);
     for out in outs {
-        writeln!(text, "{out}")?;
+        write_out(&mut text, out)?;
+        text.push_str("\n")?;
     }
     Ok(text)
+}
+
+/// Writes one of these: `send ENDPOINT HEX`, `refused WHAT NUMBER`, `busy`, `lost WORKER`, `skip LEG NUMBER`, `miss LEG SEQ` or `idle`.
+fn write_out(text: &mut String, out: &Out) -> Result<(), fmt::Error> {
+    match out {
+        Out::Send { endpoint, bytes } => write_send(text, *endpoint, bytes.as_slice())?,
+        Out::Refused(refusal) => {
+            let (what, number) = refusal_parts(*refusal);
+            write!(text, "refused {what} {number}")?;
+        }
+        Out::Busy => text.push_str("busy")?,
+        Out::Lost(worker) => write!(text, "lost {worker}")?,
+        Out::Skip { leg, skip } => {
+            let number = skip.number();
+            write!(text, "skip {leg} {number}")?;
+        }
+        Out::Miss { leg, seq } => write!(text, "miss {leg} {seq}")?,
+        Out::Idle => text.push_str("idle")?,
+    }
+    Ok(())
+}
+
+/// Writes a datagram as its digits.
+fn write_send(text: &mut String, endpoint: u16, bytes: &[u8]) -> Result<(), fmt::Error> {
+    write!(text, "send {endpoint} ")?;
+    for byte in bytes {
+        write!(text, "{byte:02x}")?;
+    }
+    Ok(())
+}
+
+/// What was refused, and the number of the cause.
+pub(crate) fn refusal_parts(refusal: Refusal) -> (&'static str, u8) {
+    match refusal {
+        Refusal::Rtp(fault) => ("rtp", fault.number()),
+        Refusal::Rtcp(fault) => ("rtcp", fault.number()),
+        Refusal::Feedback(fault) => ("feedback", fault.number()),
+        Refusal::Room(fault) => ("room", fault.number()),
+        Refusal::Desk(refusal) => ("desk", refusal.number()),
+    }
 }
 
 /// What the world shows: rows, what waits, counts, and the calls, live requests and announced set of each desk.

@@ -14,7 +14,7 @@ pub const CALL_LIMIT: u64 = 1 << 31;
 
 /// What calls come to: who is present and asks for what, and whether a PLI is wanted and when the last one
 /// was sent upstream. It stands for the calls of a desk that its history lists no more.
-#[derive(Debug, Drop)]
+#[derive(Drop)]
 pub struct Base {
     /// By rising owner, each owner once.
     pub present: ArrayVec<Present, MAX_REQUESTS>,

@@ -23,7 +23,7 @@ pub const HISTORY_LIMIT: usize = 1024;
 pub struct HistoryFull;
 
 /// How a call was recorded.
-#[derive(Clone, Copy, Debug, PartialEq, Eq)]
+#[derive(Clone, Copy, PartialEq, Eq)]
 pub struct Recorded {
     /// How many calls were recorded before it.
     pub number: u64,
@@ -31,7 +31,7 @@ pub struct Recorded {
 }
 
 /// What a desk replies to a call that it records.
-#[derive(Debug, Drop)]
+#[derive(Drop)]
 pub struct Reply {
     /// How many calls were recorded before it.
     pub number: u64,
@@ -42,7 +42,7 @@ pub struct Reply {
 
 /// One publisher's desk. It records each call with its answer, and announces the smallest set of the live
 /// requests (RFC 5104, sections 3.5.4.2 and 4.2.2).
-#[derive(Debug, Drop)]
+#[derive(Drop)]
 pub struct Desk {
     standing: Standing,
     /// What stands for the calls before the listed ones.

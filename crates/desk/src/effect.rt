@@ -15,7 +15,7 @@ use tmmbr_tuple::Ssrc;
 
 /// The announced set, and what is new in it: what has to be told to the publisher and its subscribers
 /// (RFC 5104, sections 4.2.1 and 4.2.2).
-#[derive(Debug, Drop)]
+#[derive(Drop)]
 pub struct Effect {
     /// The announced set, by rising overhead.
     pub set: ArrayVec<Request, MAX_REQUESTS>,

@@ -17,7 +17,7 @@ use std::marker::Model;
 use tmmbr_tuple::Ssrc;
 
 /// What the calls of a desk come to, and the live requests of those present with what is announced for them.
-#[derive(Debug, Drop)]
+#[derive(Drop)]
 pub struct Standing {
     whole: Base,
     bounds: Bounds,

@@ -9,7 +9,7 @@ use tmmbr_tuple::Tuple;
 
 /// The part of a request's line that is in the plot: from a place on its left or upper edge to one on its lower or right edge, in
 /// tenths of a pixel. A line that runs above the plot is the upper right corner twice, or lies on the upper edge.
-#[derive(Clone, Copy, Debug, PartialEq, Eq)]
+#[derive(Clone, Copy, PartialEq, Eq)]
 pub struct Line {
     pub left: u128,
     pub upper: u128,

@@ -31,7 +31,7 @@ pub const REACH: u128 = 4_400;
 pub const LEVEL: u128 = 3_200;
 
 /// The packet rate and the media rate at four fifths of the axes.
-#[derive(Clone, Copy, Debug, PartialEq, Eq)]
+#[derive(Clone, Copy, PartialEq, Eq)]
 pub struct Scale {
     /// Packets in `seconds`, 1 to 2^80 - 1.
     pub packets: u128,

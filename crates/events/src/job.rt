@@ -5,7 +5,7 @@ use rtcp_feedback::Nack;
 
 /// A job of a worker. Stays are numbered from 1; a job that names a leg, a publisher or a stay that isn't there does
 /// nothing.
-#[derive(Debug, Drop)]
+#[derive(Drop)]
 pub enum Job {
     /// An RTP datagram of this publisher: it goes to each leg of it that the worker owns and whose row is on.
     Packet {

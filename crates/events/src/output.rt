@@ -6,10 +6,9 @@ use rtcp_compound::RtcpFault;
 use rtcp_feedback::FbFault;
 use rtp_packet::RtpFault;
 use settings::RoomFault;
-use std::fmt::{self, Display, Formatter, Write};
 
 /// One thing that the machine gives out.
-#[derive(Debug, Drop)]
+#[derive(Drop)]
 pub enum Out {
     /// This datagram goes to this endpoint.
     Send { endpoint: u16, bytes: Bytes },
@@ -63,41 +62,6 @@ impl DeskRefusal {
             DeskRefusal::AlreadyPresent => 2,
             DeskRefusal::Full => 3,
             DeskRefusal::HistoryFull => 4,
-        }
-    }
-}
-
-impl Display for Refusal {
-    /// What was refused, and the number of the cause.
-    fn fmt<W: Write>(&self, f: &mut Formatter<W>) -> fmt::Result {
-        match self {
-            Refusal::Rtp(fault) => write!(f, "rtp {}", fault.number()),
-            Refusal::Rtcp(fault) => write!(f, "rtcp {}", fault.number()),
-            Refusal::Feedback(fault) => write!(f, "feedback {}", fault.number()),
-            Refusal::Room(fault) => write!(f, "room {}", fault.number()),
-            Refusal::Desk(refusal) => write!(f, "desk {}", refusal.number()),
-        }
-    }
-}
-
-impl Display for Out {
-    /// One line, without its end: `send ENDPOINT HEX`, `refused WHAT NUMBER`, `busy`, `lost WORKER`, `skip LEG NUMBER`,
-    /// `miss LEG SEQ` or `idle`.
-    fn fmt<W: Write>(&self, f: &mut Formatter<W>) -> fmt::Result {
-        match self {
-            Out::Send { endpoint, bytes } => {
-                write!(f, "send {endpoint} ")?;
-                for byte in bytes.as_slice() {
-                    write!(f, "{byte:02x}")?;
-                }
-                Ok(())
-            }
-            Out::Refused(refusal) => write!(f, "refused {refusal}"),
-            Out::Busy => write!(f, "busy"),
-            Out::Lost(worker) => write!(f, "lost {worker}"),
-            Out::Skip { leg, skip } => write!(f, "skip {leg} {}", skip.number()),
-            Out::Miss { leg, seq } => write!(f, "miss {leg} {seq}"),
-            Out::Idle => write!(f, "idle"),
         }
     }
 }

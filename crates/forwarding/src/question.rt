@@ -3,7 +3,7 @@
 use desk::Call;
 
 /// What a publisher's desk is asked: a call, by the leg whose subscriber asks for a rate, where one does.
-#[derive(Clone, Copy, Debug, PartialEq, Eq)]
+#[derive(Clone, Copy, PartialEq, Eq)]
 pub struct Question {
     /// The number of the publisher.
     pub publisher: u16,

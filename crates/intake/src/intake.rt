@@ -26,7 +26,7 @@ const LAST_RTCP: u8 = 223;
 pub const MAX_ENTRIES: usize = 256;
 
 /// What an entry of feedback asks for.
-#[derive(Clone, Copy, Debug, PartialEq, Eq)]
+#[derive(Clone, Copy, PartialEq, Eq)]
 pub enum Ask {
     /// The media source shall send no more than this word says (RFC 5104, section 4.2.1).
     Rate { media: Ssrc, word: u32 },
@@ -37,7 +37,7 @@ pub enum Ask {
 }
 
 /// What a datagram says, but for what it asks for.
-#[derive(Clone, Copy, Debug, PartialEq, Eq)]
+#[derive(Clone, Copy, PartialEq, Eq)]
 pub enum Heard {
     /// An RTP packet: its source, sequence number and timestamp (RFC 3550, section 5.1).
     Media {
@@ -53,7 +53,7 @@ pub enum Heard {
 }
 
 /// What RTCP packets say, but for what they ask for.
-#[derive(Clone, Copy, Debug, PartialEq, Eq)]
+#[derive(Clone, Copy, PartialEq, Eq)]
 pub struct Control {
     /// The first sender of a report or of feedback that isn't the endpoint's own source, else that.
     pub speaker: Ssrc,
@@ -64,7 +64,7 @@ pub struct Control {
 }
 
 /// Why a datagram isn't heard.
-#[derive(Clone, Copy, Debug, PartialEq, Eq)]
+#[derive(Clone, Copy, PartialEq, Eq)]
 pub enum Unheard {
     NoMemory,
     /// The first fault: of the RTP packet, of the RTCP datagram, else of its first faulty feedback

@@ -12,7 +12,7 @@ use std::alloc::{AllocError, Global};
 const COUNTS: u64 = 1 << 32;
 
 /// A leg that a worker owns: all that what it gives out depends on, beside its row.
-#[derive(Debug, Drop)]
+#[derive(Drop)]
 pub struct LegState {
     /// Its number.
     pub number: u16,

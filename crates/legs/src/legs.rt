@@ -22,7 +22,7 @@ use std::marker::Model;
 
 /// The legs that one worker owns, by rising number: those to the subscribers whose number, modulo the number of
 /// workers, is the worker's. A leg's numbers, its kept packets and its counts outlive its stays.
-#[derive(Debug, Drop)]
+#[derive(Drop)]
 pub struct Legs {
     legs: Vec<LegState>,
     /// Of each endpoint, the places of the legs that it publishes.

@@ -12,7 +12,7 @@ use std::alloc::{AllocError, Global};
 use std::marker::Model;
 
 /// One thing that is planned. The place of a leg is the one among its worker's legs.
-#[derive(Debug, Drop)]
+#[derive(Drop)]
 pub enum Planned {
     /// A packet goes out under a new number, and is kept.
     Forward {
@@ -50,7 +50,7 @@ pub enum Planned {
 }
 
 /// A plan: what is planned, in order. It takes its bytes from buffers that were used before.
-#[derive(Debug, Drop)]
+#[derive(Drop)]
 pub struct Plan {
     planned: Vec<Planned>,
     /// Buffers that nobody needs; a plan is the same whatever they are.

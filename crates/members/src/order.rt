@@ -6,7 +6,7 @@ use std::alloc::{AllocError, Global};
 use std::marker::Model;
 
 /// An order that follows from a call of a room. Stays are numbered from 1.
-#[derive(Clone, Copy, Debug, PartialEq, Eq)]
+#[derive(Clone, Copy, PartialEq, Eq)]
 pub enum Order {
     /// A stay of the leg begins: its subscriber arrives at its publisher's desk.
     Arrive {
@@ -39,7 +39,7 @@ pub struct Row {
 }
 
 /// Orders in the making. Once no memory was left for one they are short, and stay so.
-#[derive(Debug, Drop)]
+#[derive(Drop)]
 pub struct Draft {
     orders: Vec<Order>,
     is_short: bool,

@@ -10,7 +10,7 @@ use tmmbr_tuple::Ssrc;
 pub const LAST_MOMENT: u64 = u64::MAX;
 
 /// An endpoint of a room.
-#[derive(Clone, Copy, Debug)]
+#[derive(Clone, Copy)]
 pub struct Endpoint {
     /// Its source.
     pub ssrc: Ssrc,

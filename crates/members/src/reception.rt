@@ -9,7 +9,7 @@ use std::marker::Model;
 use tmmbr_tuple::Ssrc;
 
 /// A sender report that was heard (RFC 3550, section 6.4.1).
-#[derive(Clone, Copy, Debug)]
+#[derive(Clone, Copy)]
 pub struct SenderReport {
     /// When it came, in milliseconds.
     pub moment: u64,
@@ -21,7 +21,7 @@ pub struct SenderReport {
 
 /// What was received of a publisher since it came: its packets, and its last sender report. A new one
 /// has heard nothing. Moments are in milliseconds.
-#[derive(Clone, Copy, Debug)]
+#[derive(Clone, Copy)]
 pub struct Reception {
     /// The packets; `None` before any.
     stream: Option<Stream>,

@@ -25,7 +25,7 @@ use tmmbr_tuple::Ssrc;
 ///
 /// What is received of an endpoint while it is present is counted at the room's moment, anew whenever it
 /// comes.
-#[derive(Debug, Drop)]
+#[derive(Drop)]
 pub struct Room {
     alloc: Global,
     timeout_ms: u64,

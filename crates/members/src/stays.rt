@@ -14,7 +14,7 @@ use settings::{MAX_LEGS, RoomFault};
 pub const MAX_STAY: u64 = 1 << 62;
 
 /// A leg of a room.
-#[derive(Clone, Copy, Debug)]
+#[derive(Clone, Copy)]
 pub struct LegStay {
     /// The number of the endpoint that is sent to.
     pub subscriber: u16,

@@ -24,7 +24,7 @@ const MOST_LOST: i64 = (1 << 23) - 1;
 
 /// The counted packets of one stream. Their extended numbers count on where sequence numbers wrap, and
 /// begin one cycle up, so that those before the first packet's are whole numbers too.
-#[derive(Clone, Copy, Debug)]
+#[derive(Clone, Copy)]
 pub struct Stream {
     /// The extended number of the first packet.
     pub base_seq: u64,

@@ -12,7 +12,7 @@ use std::alloc::{AllocError, Global};
 use tmmbr_tuple::Ssrc;
 
 /// The endpoints and the legs.
-#[derive(Debug, Drop)]
+#[derive(Drop)]
 pub struct Table {
     pub endpoints: Vec<Endpoint>,
     pub legs: Vec<LegStay>,

@@ -19,7 +19,7 @@ const BLOCK_LEN: usize = 24;
 
 /// What each compound of the unit begins with: a receiver report without blocks, and a description with its CNAME
 /// (RFC 3550, section 6.1).
-#[derive(Debug, Drop)]
+#[derive(Drop)]
 pub struct Head {
     unit_ssrc: Ssrc,
     cname: Vec<u8>,
@@ -109,7 +109,7 @@ impl Head {
 
 /// A report upstream in the making: where the receiver report and the whole datagram will be written, and the
 /// description.
-#[derive(Debug, Drop)]
+#[derive(Drop)]
 pub struct Draft {
     report: Vec<u8>,
     datagram: Vec<u8>,

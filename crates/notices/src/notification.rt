@@ -31,7 +31,7 @@ const FRONT_LEN: usize = 12;
 const ENTRY_LEN: usize = 8;
 
 /// A desk's call that something follows from; its effect goes beside it.
-#[derive(Clone, Copy, Debug, PartialEq, Eq)]
+#[derive(Clone, Copy, PartialEq, Eq)]
 pub struct Notification {
     /// The number of the publisher whose desk was called.
     pub publisher: u16,

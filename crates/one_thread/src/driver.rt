@@ -21,7 +21,7 @@ use std::alloc::{AllocError, Global};
 use thiserror::Error;
 
 /// How long the unit runs, and how often it ticks.
-#[derive(Clone, Copy, Debug, PartialEq, Eq)]
+#[derive(Clone, Copy, PartialEq, Eq)]
 pub struct Pace {
     /// How many turns it makes, unless it is stopped: as good as no end at `u64::MAX`.
     pub turns: u64,

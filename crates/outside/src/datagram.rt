@@ -3,7 +3,7 @@
 use events::Bytes;
 
 /// A datagram to an endpoint, which is named by its number.
-#[derive(Debug, Drop)]
+#[derive(Drop)]
 pub struct Datagram {
     pub endpoint: u16,
     pub bytes: Bytes,

@@ -5,7 +5,7 @@ ghost use Rattle.std.specs.Prelude.{◌≡◌, ◌+◌, nat_le};
 use std::marker::Model;
 
 /// How far the moment rises between ticks, and the moment of the last one.
-#[derive(Debug, Drop)]
+#[derive(Drop)]
 pub struct Ticks {
     step_ms: u64,
     last: Option<u64>,

@@ -61,7 +61,7 @@ pub trait Watch {
 }
 
 /// Nobody looks.
-#[derive(Clone, Copy, Debug)]
+#[derive(Clone, Copy)]
 pub struct Unwatched;
 
 impl Watch for Unwatched {

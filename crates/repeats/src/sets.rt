@@ -11,7 +11,7 @@ use std::alloc::{AllocError, Global};
 use std::marker::Model;
 
 /// What is known of a publisher since it came last. An entry is an owner with its word.
-#[derive(Debug, Drop)]
+#[derive(Drop)]
 pub(crate) struct PublisherSet {
     /// Whether anybody asked it for a rate.
     is_asked: bool,
@@ -149,7 +149,7 @@ fn is_told(told: &[TmmbrEntry], entry: TmmbrEntry) -> bool
 
 /// What is known of each publisher, by its number, and whose desk is to be looked at. Looks are made in rounds: one at each publisher
 /// that was asked for a rate, by rising number, one in each call.
-#[derive(Debug, Drop)]
+#[derive(Drop)]
 pub struct Sets {
     publishers: Vec<PublisherSet>,
     /// How far rounds are apart, in milliseconds; there are none where that is 0.

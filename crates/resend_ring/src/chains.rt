@@ -21,7 +21,7 @@ pub const MANY_CHAINS: usize = SEQ_CYCLE as usize / MAX_CHAIN;
 const END: u16 = u16::MAX;
 
 /// The packets of a ring by their sequence numbers. A place is counted from the newest packet back.
-#[derive(Debug, Drop)]
+#[derive(Drop)]
 pub struct Chains<A: Allocator> {
     /// For each packet, from the newest to the oldest, how far behind it the next of its chain stands.
     pub links: HeapCircularBuffer<u16, A>,

@@ -17,7 +17,7 @@ pub const MAX_CAPACITY: usize = 512;
 pub type Packets<A> = HeapCircularBuffer<(u64, Vec<u8>), A>;
 
 /// The last packets of a leg, each with its outgoing number and its bytes.
-#[derive(Debug, Drop)]
+#[derive(Drop)]
 pub struct Ring<A: Allocator = Global> {
     packets: Packets<A>,
     /// The same packets by their sequence numbers.

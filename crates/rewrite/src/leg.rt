@@ -8,7 +8,7 @@ use std::cmp::Ordering;
 use std::marker::Model;
 
 /// The numbers of what one subscriber is sent of one publisher. What is sent carries their low 16 bits.
-#[derive(Clone, Copy, Debug)]
+#[derive(Clone, Copy)]
 pub struct Leg {
     /// The number of the very first packet.
     first: u16,

@@ -11,7 +11,7 @@ pub const NUMBER_LIMIT: u64 = 1 << 62;
 
 /// The packets of one turn. Their extended numbers count on where sequence numbers wrap (RFC 3550,
 /// appendix A.1), and begin one cycle up, so that those before the first are whole numbers too.
-#[derive(Clone, Copy, Debug)]
+#[derive(Clone, Copy)]
 pub struct Segment {
     /// The turn of its packets.
     pub turn: u64,

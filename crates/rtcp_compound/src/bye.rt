@@ -5,7 +5,7 @@ use byteorder::{BigEndian, ByteOrder};
 use tmmbr_tuple::Ssrc;
 
 /// The sources that a goodbye names, each four bytes of the datagram.
-#[derive(Clone, Copy, Debug)]
+#[derive(Clone, Copy)]
 pub struct Sources<'a> {
     pub(crate) bytes: &'a [u8],
 }

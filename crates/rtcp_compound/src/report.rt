@@ -8,7 +8,7 @@ use byteorder::{BigEndian, ByteOrder};
 use tmmbr_tuple::Ssrc;
 
 /// What a receiver reports of one source (RFC 3550, section 6.4.1).
-#[derive(Clone, Copy, Debug, PartialEq, Eq)]
+#[derive(Clone, Copy, PartialEq, Eq)]
 pub struct Block {
     /// The source that is reported, any 32 bits.
     pub source: Ssrc,
@@ -63,7 +63,7 @@ fn read_lost(bytes: &[u8]) -> i32
 }
 
 /// The blocks of a report, each 24 bytes of the datagram.
-#[derive(Clone, Copy, Debug)]
+#[derive(Clone, Copy)]
 pub struct Blocks<'a> {
     pub(crate) bytes: &'a [u8],
 }

@@ -6,7 +6,7 @@ use crate::packet::read_again;
 use crate::view::{RtcpView, view_of};
 
 /// The packets of a datagram.
-#[derive(Clone, Copy, Debug)]
+#[derive(Clone, Copy)]
 pub struct Packets<'a> {
     /// What is left, of which every packet was read.
     pub(crate) rest: &'a [u8],

@@ -12,7 +12,7 @@ use tmmbr_tuple::Ssrc;
 
 /// A packet of a datagram, without its header and padding; the parts are slices of the datagram. What
 /// stands behind the last block, chunk or source that is counted is ignored.
-#[derive(Clone, Copy, Debug)]
+#[derive(Clone, Copy)]
 pub enum RtcpView<'a> {
     /// A sender report (RFC 3550, section 6.4.1): its sender, the NTP timestamp in 2^-32 seconds, the
     /// RTP timestamp, the packets and payload octets sent, and its blocks.

@@ -15,7 +15,7 @@ use tmmbr_tuple::Ssrc;
 
 /// A feedback packet without its header (RFC 4585, section 6.1). Entries are slices of the body. A NACK,
 /// TMMBR or TMMBN may have none; the first two then ask for nothing.
-#[derive(Clone, Copy, Debug, PartialEq, Eq)]
+#[derive(Clone, Copy, PartialEq, Eq)]
 pub enum Feedback<'a> {
     /// A generic NACK (RFC 4585, section 6.2.1): packets of `media` were lost.
     Nack {

@@ -15,7 +15,7 @@ const FOLLOWING: u16 = 16;
 
 /// One entry of a generic NACK (RFC 4585, section 6.2.1): a lost packet, and which of the 16 behind it are
 /// lost too.
-#[derive(Clone, Copy, Debug, PartialEq, Eq)]
+#[derive(Clone, Copy, PartialEq, Eq)]
 pub struct Nack {
     /// The sequence number of a lost packet.
     pub pid: u16,
@@ -24,7 +24,7 @@ pub struct Nack {
 }
 
 /// The entries of a generic NACK, in order; a slice of the body.
-#[derive(Clone, Copy, Debug, PartialEq, Eq)]
+#[derive(Clone, Copy, PartialEq, Eq)]
 pub struct Nacks<'a> {
     rest: &'a [u8],
 }

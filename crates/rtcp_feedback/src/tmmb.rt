@@ -17,7 +17,7 @@ const ENTRY: usize = 8;
 pub const MAX_ENTRIES: usize = 32_766;
 
 /// One entry of a TMMBR or a TMMBN (RFC 5104, section 4.2.1.1).
-#[derive(Clone, Copy, Debug, PartialEq, Eq)]
+#[derive(Clone, Copy, PartialEq, Eq)]
 pub struct TmmbrEntry {
     /// Of a TMMBR the media sender whose rate is meant; of a TMMBN the owner, who asked for it.
     pub ssrc: Ssrc,
@@ -26,7 +26,7 @@ pub struct TmmbrEntry {
 }
 
 /// The entries of a TMMBR or a TMMBN, in order; a slice of the body.
-#[derive(Clone, Copy, Debug, PartialEq, Eq)]
+#[derive(Clone, Copy, PartialEq, Eq)]
 pub struct TmmbEntries<'a> {
     rest: &'a [u8],
 }

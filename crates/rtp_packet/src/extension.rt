@@ -1,7 +1,7 @@
 //! Header extensions.
 
 /// A header extension (RFC 3550, section 5.3.1), whose words nobody looks at.
-#[derive(Clone, Copy, Debug)]
+#[derive(Clone, Copy)]
 pub struct Extension<'a> {
     /// The sixteen bits that the profile defines.
     pub profile: u16,

@@ -12,7 +12,7 @@ use tmmbr_tuple::Ssrc;
 /// An RTP packet of version 2 (RFC 3550, section 5.1). Its parts are slices of the datagram that it was
 /// read from: the twelve bytes of the header, `csrcs`, the extension, `payload` and `padding`, one
 /// after the other, are that datagram.
-#[derive(Clone, Copy, Debug)]
+#[derive(Clone, Copy)]
 pub struct RtpView<'a> {
     /// The whole datagram.
     pub datagram: &'a [u8],

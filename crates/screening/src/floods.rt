@@ -7,14 +7,14 @@ use std::alloc::{AllocError, Global};
 use std::marker::Model;
 
 /// How many datagrams of an endpoint came in a millisecond, heard or not. It stays at its greatest.
-#[derive(Clone, Copy, Debug, PartialEq, Eq)]
+#[derive(Clone, Copy, PartialEq, Eq)]
 pub(crate) struct Tally {
     pub(crate) moment: u64,
     pub(crate) count: u32,
 }
 
 /// How many datagrams of each endpoint came in the millisecond in which its last one came.
-#[derive(Debug, Drop)]
+#[derive(Drop)]
 pub struct Floods {
     limit: u32,
     tallies: Vec<Tally>,

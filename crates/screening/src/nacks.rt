@@ -38,7 +38,7 @@ const ENTRY: usize = 4;
 const FOLLOWING: u16 = 16;
 
 /// Who sent a datagram, and when it came.
-#[derive(Clone, Copy, Debug, PartialEq, Eq)]
+#[derive(Clone, Copy, PartialEq, Eq)]
 pub(crate) struct Asking {
     /// The number of the endpoint.
     pub(crate) endpoint: u16,

@@ -17,7 +17,7 @@ pub const MAX_TRIP_MS: u32 = 1000;
 const SECOND_MS: u64 = 1000;
 
 /// How resends are bounded, on each leg by itself.
-#[derive(Clone, Copy, Debug, PartialEq, Eq)]
+#[derive(Clone, Copy, PartialEq, Eq)]
 pub struct ResendBounds {
     /// A packet isn't sent again within so many milliseconds after it was asked for and let through, nor within the round trip to the
     /// subscriber where that is known and longer. 0: it may.
@@ -27,14 +27,14 @@ pub struct ResendBounds {
 }
 
 /// A number that was let through, and the moment, in milliseconds.
-#[derive(Clone, Copy, Debug, PartialEq, Eq)]
+#[derive(Clone, Copy, PartialEq, Eq)]
 pub(crate) struct Passed {
     pub(crate) seq: u16,
     pub(crate) moment: u64,
 }
 
 /// What may be let through on a leg at a moment.
-#[derive(Clone, Copy, Debug, PartialEq, Eq)]
+#[derive(Clone, Copy, PartialEq, Eq)]
 pub(crate) struct Allowance {
     /// The moment, in milliseconds.
     pub(crate) moment: u64,
@@ -61,7 +61,7 @@ pub(crate) fn gap_by(gap_ms: u64, trip: Option<u32>) -> u64
 }
 
 /// How many packets came of a publisher, in a second and in the one before. Each count stays at its greatest.
-#[derive(Clone, Copy, Debug, PartialEq, Eq)]
+#[derive(Clone, Copy, PartialEq, Eq)]
 pub(crate) struct Flow {
     /// The second, from the beginning of the clock.
     pub(crate) second: u64,
@@ -149,7 +149,7 @@ fn second_of(moment: u64) -> u64
 }
 
 /// What was let through on a leg.
-#[derive(Debug, Drop)]
+#[derive(Drop)]
 pub(crate) struct LegBook {
     /// By number modulo `REMEMBERED` the last one that was let through; no places where nothing is remembered.
     last: Vec<Option<Passed>>,

@@ -25,7 +25,7 @@ pub enum Placement {
 }
 
 /// What the header of a packet says of its place in its source (RFC 3550, section 5.1).
-#[derive(Clone, Copy, Debug, PartialEq, Eq)]
+#[derive(Clone, Copy, PartialEq, Eq)]
 pub struct Stamp {
     /// The sequence number.
     pub seq: u16,
@@ -34,7 +34,7 @@ pub struct Stamp {
 }
 
 /// The numbers of a source since it began.
-#[derive(Clone, Copy, Debug, PartialEq, Eq)]
+#[derive(Clone, Copy, PartialEq, Eq)]
 pub struct Run {
     /// The number that is highest, and the timestamp of the last packet with it.
     pub highest: Stamp,

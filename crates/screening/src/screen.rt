@@ -35,7 +35,7 @@ enum Waiting {
 }
 
 /// What of a source is screened, and what is asked for again.
-#[derive(Clone, Copy, Debug, PartialEq, Eq)]
+#[derive(Clone, Copy, PartialEq, Eq)]
 pub struct Rules {
     /// Whether a source that begins anew is noticed (RFC 3550, appendix A.1).
     pub new_starts: bool,

@@ -5,7 +5,7 @@ use std::alloc::{AllocError, Global};
 use std::marker::Model;
 
 /// The numbers of each endpoint's packets since it began, by the endpoint's number.
-#[derive(Debug, Drop)]
+#[derive(Drop)]
 pub struct Starts {
     runs: Vec<Option<Run>>,
 }

@@ -7,7 +7,7 @@ use crate::script::{Command, Reading};
 use events::Event;
 
 /// What came from outside last: the number of its line, from 1, or 0 before anything came; its moment, in milliseconds, and the line.
-#[derive(Clone, Copy, Debug)]
+#[derive(Clone, Copy)]
 pub(crate) struct Latest<'t> {
     pub(crate) number: u64,
     pub(crate) moment: u64,

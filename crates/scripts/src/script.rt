@@ -35,7 +35,7 @@ pub enum Reading {
 }
 
 /// How many endpoints and workers there are.
-#[derive(Clone, Copy, Debug, PartialEq, Eq)]
+#[derive(Clone, Copy, PartialEq, Eq)]
 pub struct Numbers {
     pub endpoints: u16,
     pub workers: u16,

@@ -8,7 +8,7 @@ use senders::{first_size, is_control, source_named};
 use settings::{LegSettings, Settings};
 
 /// What is printed of what a script gives. The script is played to its end whatever this is.
-#[derive(Clone, Copy, Debug, PartialEq, Eq)]
+#[derive(Clone, Copy, PartialEq, Eq)]
 pub struct Shown {
     /// The number of a leg: nothing that the machine gives out but datagrams to its subscriber that name its `out_ssrc`.
     pub only_leg: Option<u32>,
@@ -21,7 +21,7 @@ pub struct Shown {
 }
 
 /// Whom the settings lack.
-#[derive(Clone, Copy, Debug, PartialEq, Eq)]
+#[derive(Clone, Copy, PartialEq, Eq)]
 pub enum Unknown {
     Endpoint,
     Leg,

@@ -20,7 +20,7 @@ pub struct Learner {
 }
 
 /// What came from where: datagrams are told apart by the source that they name, and by their kind.
-#[derive(Clone, Copy, Debug, PartialEq, Eq)]
+#[derive(Clone, Copy, PartialEq, Eq)]
 pub struct Arrived {
     /// The source, any 32 bits, if the datagram names one.
     pub source: Option<u32>,

@@ -7,7 +7,7 @@ use std::alloc::{AllocError, Global};
 use std::marker::Model;
 
 /// What is known of an endpoint.
-#[derive(Clone, Copy, Debug, PartialEq, Eq)]
+#[derive(Clone, Copy, PartialEq, Eq)]
 pub enum Standing {
     /// It speaks for itself.
     Speaks,
@@ -51,7 +51,7 @@ impl Standing {
 
 /// What is known of each endpoint, by its number, and when reports are made. They are made in rounds: one for each endpoint that only
 /// listens, by rising number, one in each call.
-#[derive(Debug, Drop)]
+#[derive(Drop)]
 pub struct Listeners {
     standings: Vec<Standing>,
     /// How far rounds are apart, in milliseconds.

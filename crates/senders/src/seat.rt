@@ -6,7 +6,7 @@ ghost use Rattle.senders.specs.Seat.{first_known, may_take};
 use std::net::{IpAddr, SocketAddr};
 
 /// What goes to an address and comes from it, where RTP and RTCP have one each (RFC 3550, section 11).
-#[derive(Clone, Copy, Debug, PartialEq, Eq)]
+#[derive(Clone, Copy, PartialEq, Eq)]
 pub enum Kind {
     Rtp,
     Rtcp,

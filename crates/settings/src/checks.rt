@@ -14,7 +14,7 @@ use rtcp_compound::CNAME_LIMIT;
 use rtp_packet::SEQ_CYCLE;
 
 /// The plain numbers of settings.
-#[derive(Clone, Copy, Debug)]
+#[derive(Clone, Copy)]
 pub struct Numbers {
     pub workers: u64,
     pub ring: u64,

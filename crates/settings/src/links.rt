@@ -16,7 +16,7 @@ use tmmbr_tuple::Ssrc;
 
 /// How many workers, endpoints and legs there are, what is said of each endpoint, and what each leg joins. No look-up passes over
 /// all legs.
-#[derive(Debug, Drop)]
+#[derive(Drop)]
 pub struct Links {
     workers: u16,
     endpoints: Vec<Ssrc>,

@@ -3,7 +3,7 @@
 use std::alloc::{AllocError, Global};
 
 /// What was found of the settings. A number is `None` where it is missing or of the wrong kind.
-#[derive(Debug, Drop)]
+#[derive(Drop)]
 pub struct Parts {
     /// Threads that forward, 1 to 8.
     pub workers: Option<i64>,
@@ -62,7 +62,7 @@ impl Parts {
 }
 
 /// What was found of an endpoint's settings.
-#[derive(Debug, Drop)]
+#[derive(Drop)]
 pub struct EndpointParts {
     /// Its source, 32 bits.
     pub ssrc: Option<i64>,
@@ -91,7 +91,7 @@ impl EndpointParts {
 }
 
 /// What was found of a leg's settings.
-#[derive(Clone, Copy, Debug)]
+#[derive(Clone, Copy)]
 pub struct LegParts {
     /// The number of the endpoint that is sent to.
     pub subscriber: Option<i64>,

@@ -1,7 +1,7 @@
 //! What the unit does of its own accord as legs begin and end.
 
 /// What the unit does of its own accord as legs begin and end; nothing, unless the settings say otherwise.
-#[derive(Clone, Copy, Debug, PartialEq, Eq)]
+#[derive(Clone, Copy, PartialEq, Eq)]
 pub struct LegRules {
     /// Whether a leg that begins, or is switched on, asks its publisher for a picture at once (a PLI, RFC 4585, section 6.3.1).
     pub early_pictures: bool,

@@ -39,7 +39,7 @@ pub const MAX_PERIOD_MS: u64 = 86_400_000;
 pub const SSRCS: u64 = 1 << 32;
 
 /// A leg: what one endpoint publishes, sent on to another.
-#[derive(Clone, Copy, Debug, PartialEq, Eq)]
+#[derive(Clone, Copy, PartialEq, Eq)]
 pub struct LegSettings {
     /// The number of the endpoint that is sent to.
     pub subscriber: u16,
@@ -54,7 +54,7 @@ pub struct LegSettings {
 }
 
 /// The settings of a room. All sources are distinct, and no two legs have one pair of endpoints.
-#[derive(Debug, Drop)]
+#[derive(Drop)]
 pub struct Settings {
     numbers: Numbers,
     unit_ssrc: Ssrc,

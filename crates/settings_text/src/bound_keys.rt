@@ -26,7 +26,7 @@ pub const LEAST_REPEAT_MS: u64 = 100;
 pub const REPEATS_MS: u64 = 60_001;
 
 /// What a settings file says of bounds; each is 0, which bounds and repeats nothing, where the file says nothing.
-#[derive(Clone, Copy, Debug, PartialEq, Eq)]
+#[derive(Clone, Copy, PartialEq, Eq)]
 pub struct BoundKeys {
     /// How many datagrams of one endpoint are heard in a millisecond.
     pub flood_limit: u32,

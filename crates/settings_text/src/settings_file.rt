@@ -13,7 +13,7 @@ use std::alloc::{AllocError, Global};
 use toml::{Table, Value};
 
 /// What a settings file says.
-#[derive(Debug, Drop)]
+#[derive(Drop)]
 pub struct FileSettings {
     /// The settings of the room.
     pub settings: Settings,
@@ -32,7 +32,7 @@ pub struct FileSettings {
 }
 
 /// What a settings file says of the client that an endpoint is.
-#[derive(Debug, Drop)]
+#[derive(Drop)]
 pub struct ClientText {
     /// Where its datagrams come from and go to, as the file spells it; or that this is learned.
     pub address: Option<String>,
@@ -49,7 +49,7 @@ pub struct ClientText {
 }
 
 /// Why a text isn't settings: the first fault in the order of `Place`.
-#[derive(Debug, Drop)]
+#[derive(Drop)]
 pub enum SettingsProblem {
     /// There is no memory.
     NoMemory,

@@ -13,7 +13,7 @@ use toml::{Table, Value};
 
 /// Where a fault of settings stands. Faults are given in the order of these places: the keys of the table by their names,
 /// the endpoints and the legs by their numbers with their keys by name, and then the sources.
-#[derive(Clone, Copy, Debug, PartialEq, Eq, PartialOrd, Ord)]
+#[derive(Clone, Copy, PartialEq, Eq, PartialOrd, Ord)]
 pub enum Place<'a> {
     Top(&'a str),
     Endpoint(usize, &'a str),

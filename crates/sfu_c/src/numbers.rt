@@ -2,7 +2,7 @@
 
 /// What `sfu_open` answers.
 #[repr(C)]
-#[derive(Clone, Copy, Debug, PartialEq, Eq)]
+#[derive(Clone, Copy, PartialEq, Eq)]
 pub struct SfuOpened {
     pub fault: u32,
     /// The number that the fault tells; else 0.
@@ -11,7 +11,7 @@ pub struct SfuOpened {
 
 /// What `sfu_next_out` answers.
 #[repr(C)]
-#[derive(Clone, Copy, Debug, PartialEq, Eq)]
+#[derive(Clone, Copy, PartialEq, Eq)]
 pub struct SfuNext {
     pub fault: u32,
     /// The endpoint that the datagram goes to; 0 where there is none.
@@ -22,7 +22,7 @@ pub struct SfuNext {
 
 /// A rate request by the parts of its word (RFC 5104, section 4.2.1.1).
 #[repr(C)]
-#[derive(Clone, Copy, Debug, Default, PartialEq, Eq)]
+#[derive(Clone, Copy, Default, PartialEq, Eq)]
 pub struct SfuRequest {
     pub ssrc: u32,
     pub exponent: u32,
@@ -32,7 +32,7 @@ pub struct SfuRequest {
 
 /// What `sfu_announced` answers.
 #[repr(C)]
-#[derive(Clone, Copy, Debug, PartialEq, Eq)]
+#[derive(Clone, Copy, PartialEq, Eq)]
 pub struct SfuAnnounced {
     pub fault: u32,
     /// How many requests there are; 0 where there is no such endpoint.
@@ -42,7 +42,7 @@ pub struct SfuAnnounced {
 /// An entry of a certificate for a request that is announced, with a pair that it forbids and every other announced one permits: so
 /// many packets and bits of net media in so many seconds (RFC 5104, section 2.2).
 #[repr(C)]
-#[derive(Clone, Copy, Debug, Default, PartialEq, Eq)]
+#[derive(Clone, Copy, Default, PartialEq, Eq)]
 pub struct SfuKept {
     /// The upper 64 bits of the pair's packets.
     pub packets_high: u64,
@@ -60,7 +60,7 @@ pub struct SfuKept {
 /// An entry for a request that isn't announced, with two announced ones that imply it: `p` times the one and `q` times the other are
 /// at least as strict as `r` times this one.
 #[repr(C)]
-#[derive(Clone, Copy, Debug, Default, PartialEq, Eq)]
+#[derive(Clone, Copy, Default, PartialEq, Eq)]
 pub struct SfuImplied {
     /// The request's place among the live ones, from 0.
     pub place: u32,
@@ -75,7 +75,7 @@ pub struct SfuImplied {
 
 /// What `sfu_certified` answers.
 #[repr(C)]
-#[derive(Clone, Copy, Debug, PartialEq, Eq)]
+#[derive(Clone, Copy, PartialEq, Eq)]
 pub struct SfuCertified {
     pub fault: u32,
     /// How many requests are live; 0 where there is no such endpoint.
@@ -88,7 +88,7 @@ pub struct SfuCertified {
 
 /// What `sfu_waiting` answers.
 #[repr(C)]
-#[derive(Clone, Copy, Debug, PartialEq, Eq)]
+#[derive(Clone, Copy, PartialEq, Eq)]
 pub struct SfuWaiting {
     pub fault: u32,
     pub tasks: usize,

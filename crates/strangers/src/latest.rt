@@ -11,7 +11,7 @@ use std::net::SocketAddr;
 pub const MAX_STRANGERS: usize = 16;
 
 /// An address from which datagrams came that are nobody's.
-#[derive(Clone, Copy, Debug, PartialEq, Eq)]
+#[derive(Clone, Copy, PartialEq, Eq)]
 pub struct Stranger {
     pub address: SocketAddr,
     /// How many came since it is listed.

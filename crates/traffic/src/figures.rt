@@ -11,7 +11,7 @@ use crate::traffic::EndpointCount;
 use std::alloc::{AllocError, Global};
 
 /// A figure of an endpoint.
-#[derive(Clone, Copy, Debug, PartialEq, Eq)]
+#[derive(Clone, Copy, PartialEq, Eq)]
 pub enum EndpointFigure {
     HeardRtp,
     HeardRtcp,
@@ -29,7 +29,7 @@ pub enum EndpointFigure {
 }
 
 /// A figure of a leg.
-#[derive(Clone, Copy, Debug, PartialEq, Eq)]
+#[derive(Clone, Copy, PartialEq, Eq)]
 pub enum LegFigure {
     Packets,
     Bytes,
@@ -175,7 +175,7 @@ impl LegFigure {
 }
 
 /// What was counted of the endpoint, or of the leg, with this number.
-#[derive(Clone, Copy, Debug, PartialEq, Eq)]
+#[derive(Clone, Copy, PartialEq, Eq)]
 pub struct Numbered<T> {
     pub number: u16,
     pub count: T,

@@ -8,7 +8,7 @@ use crate::leg_count::LegCount;
 use std::alloc::{AllocError, Global};
 
 /// Which leg a line is of.
-#[derive(Clone, Copy, Debug, PartialEq, Eq)]
+#[derive(Clone, Copy, PartialEq, Eq)]
 pub struct LegLine {
     /// Its number.
     pub leg: u16,

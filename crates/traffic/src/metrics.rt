@@ -7,7 +7,7 @@ ghost use Rattle.traffic.specs.Metrics.{help_line, metric_text, sample_line, typ
 use std::alloc::AllocError;
 
 /// What a metric's value does.
-#[derive(Clone, Copy, Debug, PartialEq, Eq)]
+#[derive(Clone, Copy, PartialEq, Eq)]
 pub enum MetricType {
     /// It only rises.
     Counter,
@@ -16,7 +16,7 @@ pub enum MetricType {
 }
 
 /// A metric.
-#[derive(Clone, Copy, Debug)]
+#[derive(Clone, Copy)]
 pub struct Metric {
     /// Its name, with its unit, and with `_total` at its end if it only rises.
     pub name: &'static str,
@@ -26,7 +26,7 @@ pub struct Metric {
 }
 
 /// What a metric was of one endpoint, or of one leg.
-#[derive(Clone, Copy, Debug, PartialEq, Eq)]
+#[derive(Clone, Copy, PartialEq, Eq)]
 pub struct Sample {
     /// The number of the endpoint, or of the leg.
     pub number: u16,

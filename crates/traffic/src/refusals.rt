@@ -10,7 +10,7 @@ use rtp_packet::RtpFault;
 use settings::RoomFault;
 
 /// How often something was refused for this reason of what came from an endpoint.
-#[derive(Clone, Copy, Debug, PartialEq, Eq)]
+#[derive(Clone, Copy, PartialEq, Eq)]
 pub struct RefusedCount {
     /// Whose datagrams it came of; `None` where it came of none.
     pub endpoint: Option<u16>,

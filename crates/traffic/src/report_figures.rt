@@ -10,7 +10,7 @@ use crate::reports::ReceptionReport;
 use std::alloc::AllocError;
 
 /// A figure of a report: of a leg, by its subscriber; or of a publisher, by the unit.
-#[derive(Clone, Copy, Debug, PartialEq, Eq)]
+#[derive(Clone, Copy, PartialEq, Eq)]
 pub enum ReportFigure {
     LegLossRatio,
     LegLostPackets,
@@ -35,7 +35,7 @@ pub enum Reading {
 }
 
 /// What was last reported of the leg, or of the publisher, with this number.
-#[derive(Clone, Copy, Debug, PartialEq, Eq)]
+#[derive(Clone, Copy, PartialEq, Eq)]
 pub struct NumberedReport {
     pub number: u16,
     pub report: ReceptionReport,

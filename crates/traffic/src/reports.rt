@@ -11,7 +11,7 @@ use rtcp_compound::{Block, Blocks, RtcpView};
 pub(crate) const WORD_VALUES: u64 = 1 << 32;
 
 /// A sender report that was sent.
-#[derive(Clone, Copy, Debug, PartialEq, Eq)]
+#[derive(Clone, Copy, PartialEq, Eq)]
 pub struct SentReport {
     /// By what report blocks name it, as LSR: the middle 32 bits of its NTP timestamp.
     pub lsr: u32,

@@ -24,7 +24,7 @@ const FIRST_RTCP: u8 = 192;
 const LAST_RTCP: u8 = 223;
 
 /// What went in from an endpoint and out to it so far. Each count goes round at 2^64.
-#[derive(Clone, Copy, Debug, PartialEq, Eq)]
+#[derive(Clone, Copy, PartialEq, Eq)]
 pub struct EndpointCount {
     /// RTP packets that came from it, RTCP datagrams, and the bytes of both.
     pub heard_rtp: u64,

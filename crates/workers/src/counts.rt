@@ -167,7 +167,7 @@ impl Tally {
 
 /// What jobs and notifications came to: datagrams that were sent, datagrams that couldn't be, and how many jobs and notifications were
 /// given up.
-#[derive(Clone, Copy, Debug, PartialEq, Eq)]
+#[derive(Clone, Copy, PartialEq, Eq)]
 pub(crate) struct Outcome {
     sent: u64,
     failed: u64,

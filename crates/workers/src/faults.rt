@@ -4,7 +4,7 @@ use outside::{MAX_FAULTS, ReceiveFault, Received};
 use std::marker::Model;
 
 /// How many receives failed since the last one that didn't. Contracts see it as that number.
-#[derive(Debug, Drop)]
+#[derive(Drop)]
 pub(crate) struct Faults {
     in_a_row: u64,
 }

@@ -22,7 +22,7 @@ const LOOK_MS: u64 = 1;
 const SECOND_MS: u64 = 1_000;
 
 /// How often the ingress may still look in a second, which began at this moment, in milliseconds.
-#[derive(Clone, Copy, Debug, PartialEq, Eq)]
+#[derive(Clone, Copy, PartialEq, Eq)]
 pub(crate) struct Patience {
     since: u64,
     left: u32,

@@ -18,7 +18,7 @@ use std::sync::ledger::Blank;
 use std::thread::Threads;
 
 /// What a run came to. Each count stays at `u64::MAX` once there.
-#[derive(Debug, Drop)]
+#[derive(Drop)]
 pub struct Report {
     /// How many datagrams came from endpoints.
     pub heard: u64,
@@ -44,7 +44,7 @@ pub struct Outside<Src: Drop, Snk: Drop, Clk: Drop, W: Drop> {
 }
 
 /// How long the unit runs, and how often it ticks.
-#[derive(Clone, Copy, Debug, PartialEq, Eq)]
+#[derive(Clone, Copy, PartialEq, Eq)]
 pub struct Pace {
     /// How many turns it makes, unless it is stopped: as good as no end at `u64::MAX`.
     pub turns: u64,

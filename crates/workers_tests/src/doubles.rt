@@ -5,7 +5,7 @@ use std::alloc::{AllocError, Global};
 use workers::*;
 
 /// A sink in memory, which promises nothing of its list: tests read that. Its first sends fail, so many as it was made with.
-#[derive(Debug, Drop)]
+#[derive(Drop)]
 pub(super) struct MemorySink {
     alloc: Global,
     pub(super) handed: Vec<Datagram>,
@@ -73,7 +73,7 @@ impl Sink for MemorySink {
 }
 
 /// A sink in memory whose list contracts see, for as long as there was room for all that came.
-#[derive(Debug, Drop)]
+#[derive(Drop)]
 pub(super) struct ListSink {
     alloc: Global,
     pub(super) handed: Vec<Datagram>,
@@ -116,7 +116,7 @@ impl Sink for ListSink {
 }
 
 /// A source of datagrams in memory.
-#[derive(Debug, Drop)]
+#[derive(Drop)]
 pub(super) struct MemorySource {
     pub(super) waiting: Vec<Datagram>,
     pub(super) failures: u64,
@@ -151,7 +151,7 @@ impl Source for MemorySource {
 }
 
 /// A clock that stands still.
-#[derive(Debug, Drop)]
+#[derive(Drop)]
 pub(super) struct StoppedClock;
 
 impl Clock for StoppedClock {
@@ -165,7 +165,7 @@ impl Clock for StoppedClock {
 }
 
 /// A clock that rises by 20 ms each time it is asked.
-#[derive(Debug, Drop)]
+#[derive(Drop)]
 pub(super) struct RisingClock {
     pub(super) moment: u64,
 }
@@ -182,7 +182,7 @@ impl Clock for RisingClock {
 }
 
 /// A gate that holds nobody.
-#[derive(Debug, Drop)]
+#[derive(Drop)]
 pub(super) struct OpenGate;
 
 impl Gate for OpenGate {

@@ -109,7 +109,7 @@ fn holds_four(rt: &impl Abort, sink: &MemorySink) {
 }
 
 /// A sink that keeps nothing, so that it takes no memory.
-#[derive(Debug, Drop)]
+#[derive(Drop)]
 struct CountingSink {
     handed: u64,
 }

@@ -92,7 +92,7 @@ pub(super) fn sinks_of(alloc: Global, count: u64) -> Result<Vec<MemorySink>, All
 }
 
 /// What a receive comes to.
-#[derive(Debug, Drop)]
+#[derive(Drop)]
 pub(super) enum Arrival {
     Datagram(u16, Vec<u8>),
     Stop,

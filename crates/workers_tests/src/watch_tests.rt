@@ -16,7 +16,7 @@ use std::thread::Threads;
 use workers::*;
 
 /// What was shown, and how many looks ended.
-#[derive(Debug, Drop)]
+#[derive(Drop)]
 struct Shown {
     present: Vec<(u16, bool)>,
     stays: Vec<(u16, Option<u64>)>,
