@@ -3,8 +3,8 @@
 ghost use Rattle.std.specs.Prelude.{◌≡◌, ◌≢◌, ◌⊎◌, Bool, ℕ, List, Option, map, None, Some, Ok, Err, IfSome, IfOk, IfErr, OnOk, codes};
 ghost use Rattle.std.specs.Io.KnownBytes.{Appends, Keeps};
 ghost use Rattle.command_line.specs.CommandLine.{AsksToServe, Request, Types, asked_for, bound, check, draw, replay, serve};
-ghost use Rattle.commands.specs.Command.{FailsBound, PrintsBound, PrintsPicture, RefusesBound};
-ghost use Rattle.commands.specs.Replaying.{NamesNobody, shown_by};
+ghost use Rattle.offline.specs.Printed.{PrintsBound, PrintsPicture, RefusesBound};
+ghost use Rattle.offline.specs.Replaying.{NamesNobody, shown_by};
 ghost use Rattle.checking.specs.Sheet.{SaysNo};
 ghost use Rattle.endings.specs.Endings.{SaysWhy};
 ghost use Rattle.scripts.specs.Replay.{PrintsByFile, RefusesByFile};
@@ -13,14 +13,12 @@ ghost use Rattle.serving.specs.ReportText.{PrintsReport};
 ghost use Rattle.serving.specs.Serving.{SaysWhyServing};
 ghost use Rattle.settings_text.specs.SettingsText.{SaysProblem};
 
-use crate::replaying::run_replay;
-use checking::check_lines;
 use command_line::{Action, read_words};
-use drawing::set_picture;
 use endings::{
-    Failure, Status, refuse_words, report, report_settings, say, say_no_memory, unreadable,
+    Status, refuse_words, report, report_settings, say, say_no_memory,
 };
-use request_text::{Meter, bound_text, read_lines};
+use offline::{run_bound, run_check, run_draw, run_replay, unreadable_settings};
+use request_text::Meter;
 use scripts::Shown;
 use serving::{
     ControlFault, ErrorOutput, Gauges, RecordFault, ServedSettings, Term, close_control,
@@ -31,7 +29,7 @@ use sha2::{Digest, Sha256};
 use std::alloc::Global;
 use std::convert::AsStr;
 use std::fs::File;
-use std::io::{self, Read, Write};
+use std::io::{Read, Write};
 use std::net::Net;
 use std::rt::Files;
 use std::sync::Wait;
@@ -263,28 +261,6 @@ fn refuse_other<E: Write>(errors: &mut E, refusal: &[u8]) -> Status
     say(errors, refusal, Status::CommandLine)
 }
 
-/// `sfu check`: prints whether the file's lines certify a smallest choice.
-fn run_check<R: AllocGlobal + Files, O: Write, E: Write>(
-    rt: &R,
-    file: &str,
-    meter: &Meter,
-    writer: &mut O,
-    errors: &mut E,
-) -> Status
-    ensures yes { result ≡ Status.Done
-        → Appends (O.contents writer.old) (O.contents writer.new) (codes "yes\n") }
-    ensures no { result ≡ Status.Refused
-        → SaysNo (O.contents writer.old) (O.contents writer.new) (E.contents errors.old)
-        (E.contents errors.new) }
-    ensures understood { (result ≢ Status.CommandLine) × (result ≢ Status.Settings) }
-    ensures said { SaysWhy (E.contents errors.old) (E.contents errors.new) result }
-{
-    match fs::open(rt, file) {
-        Ok(mut file) => check_lines(rt.alloc(), meter, &mut file, writer, errors),
-        Err(error) => report(rt.alloc(), errors, unreadable(&error)),
-    }
-}
-
 /// `sfu serve`: serves the endpoints that the settings of the file name.
 #[tactic(auto, using(serving::proofs::ServeLemmas::says_alone))]
 fn run_serve<
@@ -454,80 +430,4 @@ fn served_from<I: Read>(alloc: Global, file: &mut I) -> Result<ServedFile, Setti
         }),
         Err(error) => Err(unreadable_settings(&error)),
     }
-}
-
-/// Why there are no settings in a file that can't be opened or read.
-pub(crate) fn unreadable_settings(error: &io::Error) -> SettingsProblem {
-    if error.kind() == io::ErrorKind::OutOfMemory {
-        SettingsProblem::NoMemory
-    } else {
-        SettingsProblem::File
-    }
-}
-
-/// `sfu bound`: prints the set that is announced for the requests of the input's lines.
-fn run_bound<I: Read, O: Write>(
-    alloc: Global,
-    media: Ssrc,
-    meter: &Meter,
-    reader: &mut I,
-    writer: &mut O,
-) -> Result<(), Failure>
-    ensures done { OnOk result (IfSome (I.remaining reader.old) (λ input.
-        PrintsBound media.0 input (O.contents writer.old) (O.contents writer.new))) }
-    ensures refused { IfErr result
-        (FailsBound media.0 (I.remaining reader.old) (O.contents writer.old)
-        (O.contents writer.new)) }
-{
-    let mut input = Vec::new(alloc);
-    reader.read_to_end(&mut input)?;
-    let bounds = read_lines(alloc, input.as_slice(), media, meter)?;
-    let text = bound_text(alloc, media, &bounds)?;
-    writer.write_all(text.as_bytes())?;
-    Ok(())
-}
-
-/// `sfu draw`: draws the requests of the input's lines and the set that is announced for them.
-fn run_draw<I: Read, O: Write, E: Write>(
-    alloc: Global,
-    media: Ssrc,
-    meter: &Meter,
-    reader: &mut I,
-    writer: &mut O,
-    errors: &mut E,
-) -> Status
-    ensures done { result ≡ Status.Done → IfSome (I.remaining reader.old) (λ input.
-        PrintsPicture media.0 input (O.contents writer.old) (O.contents writer.new)) }
-    ensures refused { result ≡ Status.Refused → IfSome (I.remaining reader.old) (λ input.
-        Keeps (O.contents writer.old) (O.contents writer.new)
-        × RefusesBound media.0 input (E.contents errors.old) (E.contents errors.new)) }
-    ensures understood { (result ≢ Status.CommandLine) × (result ≢ Status.Settings) }
-    ensures said { SaysWhy (E.contents errors.old) (E.contents errors.new) result }
-{
-    match draw_lines(alloc, media, meter, reader, writer) {
-        Ok(()) => Status::Done,
-        Err(failure) => report(alloc, errors, failure),
-    }
-}
-
-/// Prints the picture for the lines of the input, or nothing.
-fn draw_lines<I: Read, O: Write>(
-    alloc: Global,
-    media: Ssrc,
-    meter: &Meter,
-    reader: &mut I,
-    writer: &mut O,
-) -> Result<(), Failure>
-    ensures done { OnOk result (IfSome (I.remaining reader.old) (λ input.
-        PrintsPicture media.0 input (O.contents writer.old) (O.contents writer.new))) }
-    ensures refused { IfErr result
-        (FailsBound media.0 (I.remaining reader.old) (O.contents writer.old)
-        (O.contents writer.new)) }
-{
-    let mut input = Vec::new(alloc);
-    reader.read_to_end(&mut input)?;
-    let bounds = read_lines(alloc, input.as_slice(), media, meter)?;
-    let picture = set_picture(alloc, media, &bounds)?;
-    writer.write_all(picture.as_bytes())?;
-    Ok(())
 }

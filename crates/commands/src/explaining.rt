@@ -1,13 +1,13 @@
 //! What is said to people beside the line that scripts read, where a command had no settings or no socket.
 
 use addressing::{ServedSettings, read_served};
-use advice::{bind_advice, file_advice, settings_advice};
+use advice::bind_advice;
 use endings::Status;
-use settings_text::read_settings;
+use offline::{bytes_in, replay_advice, settings_line};
+use settings_text::SettingsProblem;
 use std::alloc::{AllocError, Global};
 use std::convert::AsStr;
-use std::fs;
-use std::io::{ErrorKind, Read, Write};
+use std::io::{ErrorKind, Write};
 use std::net::{Net, SocketAddr, UdpSocket};
 use std::rt::Files;
 
@@ -39,23 +39,16 @@ fn explain_settings<R: AllocGlobal + Files>(
     command: &str,
     file: &str,
 ) -> Result<String, AllocError> {
-    let alloc = rt.alloc();
-    let bytes = match bytes_in(rt, file) {
-        Ok(bytes) => bytes,
-        Err(kind) => return file_advice(alloc, file, kind),
-    };
-    let Ok(text) = str::from_utf8(bytes.as_slice()) else {
-        return file_advice(alloc, file, ErrorKind::InvalidData);
-    };
-    let problem = if command == "replay" {
-        read_settings(alloc, bytes.as_slice()).err()
+    if command == "replay" {
+        replay_advice(rt, file)
     } else {
-        read_served(alloc, bytes.as_slice()).err()
-    };
-    match problem {
-        Some(problem) => settings_advice(alloc, text, &problem),
-        None => Ok(String::new(alloc)),
+        settings_line(rt, file, served_problem)
     }
+}
+
+/// What is wrong with the settings of a unit that these bytes spell.
+fn served_problem(alloc: Global, bytes: &[u8]) -> Option<SettingsProblem> {
+    read_served(alloc, bytes).err()
 }
 
 /// Which socket of a unit can't be had.
@@ -87,18 +80,5 @@ fn unbound<R: Net>(rt: &R, served: &ServedSettings) -> Option<(SocketAddr, Error
     match UdpSocket::bind(rt, rtcp) {
         Ok(_) => None,
         Err(error) => Some((rtcp, error.kind())),
-    }
-}
-
-/// What a file holds.
-fn bytes_in<R: AllocGlobal + Files>(rt: &R, file: &str) -> Result<Vec<u8>, ErrorKind> {
-    let mut file = match fs::open(rt, file) {
-        Ok(file) => file,
-        Err(error) => return Err(error.kind()),
-    };
-    let mut bytes = Vec::new(rt.alloc());
-    match file.read_to_end(&mut bytes) {
-        Ok(_) => Ok(bytes),
-        Err(error) => Err(error.kind()),
     }
 }

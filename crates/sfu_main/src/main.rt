@@ -1,12 +1,10 @@
 //! `sfu`, the program of the unit.
 #![tactic(auto)]
 
-mod cleared;
 mod record_words;
 
-use cleared::Cleared;
 use commands::{
-    ErrorOutput, Meter, Status, explain, report_words, run_ask, run_command, run_recorded, run_sdp,
+    Cleared, ErrorOutput, Meter, Status, explain, report_words, run_ask, run_command, run_recorded, run_sdp,
     run_timed, run_version,
 };
 use record_words::{Noted, noted_in};

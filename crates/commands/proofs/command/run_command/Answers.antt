@@ -1,5 +1,6 @@
 use Rattle.std.proofs.Common.{◌≡◌, ◌∙◌, sym}
-use Rattle.commands.proofs.CommandLemmas.{shown_refusal, shown_set, same_media, same_drawn, shown_picture, shown_fault}
+use Rattle.commands.proofs.CommandLemmas.{same_media, same_drawn}
+use Rattle.offline.proofs.OfflineLemmas.{shown_refusal, shown_set, shown_picture, shown_fault}
 use Rattle.serving.proofs.ServeLemmas.{says_alone}
 use Rattle.commands.proofs.command.run_command.Goals as goal
 

@@ -1,17 +1,18 @@
 //! Streams that what a meter says gives way to.
 
-use commands::Meter;
+use request_text::Meter;
 use std::io::{self, Write};
 
 /// A stream. Before anything is written to it, what the meter says is taken away.
 #[derive(Drop)]
-pub(crate) struct Cleared<'m, W> {
+pub struct Cleared<'m, W> {
     meter: &'m Meter,
     stream: W,
 }
 
 impl<'m, W> Cleared<'m, W> {
-    pub(crate) fn new(meter: &'m Meter, stream: W) -> Cleared<'m, W> {
+    /// A stream that this meter gives way to.
+    pub fn new(meter: &'m Meter, stream: W) -> Cleared<'m, W> {
         Cleared { meter, stream }
     }
 }

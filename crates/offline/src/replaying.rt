@@ -2,25 +2,24 @@
 
 ghost use Rattle.std.specs.Prelude.{◌≡◌, ◌≢◌, ◌⊎◌, ◌∷◌, [], ℕ, List, Ok, Some, IfOk, IfSome};
 ghost use Rattle.std.specs.Io.KnownBytes.{Appends, Keeps};
-ghost use Rattle.commands.specs.Replaying.{NamesNobody, unknown_text};
+ghost use Rattle.offline.specs.Replaying.{NamesNobody, unknown_text};
 ghost use Rattle.endings.specs.Endings.{SaysWhy};
 ghost use Rattle.scripts.specs.Replay.{PrintsByFile, RefusesByFile};
 ghost use Rattle.settings_text.specs.SettingsFaults.{TextGives};
 ghost use Rattle.settings_text.specs.SettingsText.{SaysProblem};
 
-use crate::command::unreadable_settings;
 use endings::{Status, report_settings, say};
 use request_text::Meter;
 use scripts::{Shown, Unknown, replay_lines};
 use settings_text::{FileSettings, SettingsProblem, read_settings};
 use std::alloc::Global;
 use std::fs;
-use std::io::{Read, Write};
+use std::io::{self, Read, Write};
 use std::rt::Files;
 
 /// Plays the script of the input by the settings of the file, and prints what is to be shown of what it gives. Nothing is played where
 /// the settings lack the endpoint or the leg that is to be shown: that ends as `Refused`, as a line does that can't be read.
-pub(crate) fn run_replay<R: AllocGlobal + Files, I: Read, O: Write, E: Write>(
+pub fn run_replay<R: AllocGlobal + Files, I: Read, O: Write, E: Write>(
     rt: &R,
     file: &str,
     shown: Shown,
@@ -94,5 +93,14 @@ fn settings_from<I: Read>(alloc: Global, file: &mut I) -> Result<FileSettings, S
     match file.read_to_end(&mut text) {
         Ok(_) => read_settings(alloc, text.as_slice()),
         Err(error) => Err(unreadable_settings(&error)),
+    }
+}
+
+/// Why there are no settings in a file that can't be opened or read.
+pub fn unreadable_settings(error: &io::Error) -> SettingsProblem {
+    if error.kind() == io::ErrorKind::OutOfMemory {
+        SettingsProblem::NoMemory
+    } else {
+        SettingsProblem::File
     }
 }

@@ -1,7 +1,7 @@
 use Rattle.std.proofs.Common.{inl, inr, sym}
 use Rattle.std.proofs.KnownBytes.{Keeps-refl}
-use Rattle.commands.proofs.CommandLemmas.{printed_by_file, refused_by_file}
-use Rattle.commands.proofs.replaying.run_replay.Goals as goal
+use Rattle.offline.proofs.OfflineLemmas.{printed_by_file, refused_by_file}
+use Rattle.offline.proofs.replaying.run_replay.Goals as goal
 
 pub returns-in-Some-clause-refused : goal.returns-in-Some-clause-refused
 returns-in-Some-clause-refused g c = λ is. inl (record {

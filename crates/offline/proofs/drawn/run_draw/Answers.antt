@@ -1,6 +1,6 @@
-use Rattle.commands.proofs.CommandLemmas.{shown_refusal}
+use Rattle.offline.proofs.OfflineLemmas.{shown_refusal}
 use Rattle.std.proofs.Common.{refl}
-use Rattle.commands.proofs.command.run_draw.Goals as goal
+use Rattle.offline.proofs.drawn.run_draw.Goals as goal
 
 pub returns-in-Err-clause-refused : goal.returns-in-Err-clause-refused
 returns-in-Err-clause-refused g c = λ is.

@@ -1,0 +1,35 @@
+//! `sfu check FILE`: reads a certificate and checks it.
+
+ghost use Rattle.std.specs.Prelude.{◌≡◌, ◌≢◌, codes};
+ghost use Rattle.std.specs.Io.KnownBytes.{Appends};
+ghost use Rattle.checking.specs.Sheet.{SaysNo};
+ghost use Rattle.endings.specs.Endings.{SaysWhy};
+
+use checking::check_lines;
+use endings::{Status, report, unreadable};
+use request_text::Meter;
+use std::fs;
+use std::io::Write;
+use std::rt::Files;
+
+/// `sfu check`: prints whether the file's lines certify a smallest choice.
+pub fn run_check<R: AllocGlobal + Files, O: Write, E: Write>(
+    rt: &R,
+    file: &str,
+    meter: &Meter,
+    writer: &mut O,
+    errors: &mut E,
+) -> Status
+    ensures yes { result ≡ Status.Done
+        → Appends (O.contents writer.old) (O.contents writer.new) (codes "yes\n") }
+    ensures no { result ≡ Status.Refused
+        → SaysNo (O.contents writer.old) (O.contents writer.new) (E.contents errors.old)
+        (E.contents errors.new) }
+    ensures understood { (result ≢ Status.CommandLine) × (result ≢ Status.Settings) }
+    ensures said { SaysWhy (E.contents errors.old) (E.contents errors.new) result }
+{
+    match fs::open(rt, file) {
+        Ok(mut file) => check_lines(rt.alloc(), meter, &mut file, writer, errors),
+        Err(error) => report(rt.alloc(), errors, unreadable(&error)),
+    }
+}
