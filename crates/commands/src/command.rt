@@ -14,9 +14,7 @@ ghost use Rattle.serving.specs.Serving.{SaysWhyServing};
 ghost use Rattle.settings_text.specs.SettingsText.{SaysProblem};
 
 use command_line::{Action, read_words};
-use endings::{
-    Status, refuse_words, report, report_settings, say, say_no_memory,
-};
+use endings::{Status, refuse_words, report, report_settings, say, say_no_memory};
 use offline::{run_bound, run_check, run_draw, run_replay, unreadable_settings};
 use request_text::Meter;
 use scripts::Shown;

@@ -4,8 +4,8 @@
 mod record_words;
 
 use commands::{
-    Cleared, ErrorOutput, Meter, Status, explain, report_words, run_ask, run_command, run_recorded, run_sdp,
-    run_timed, run_version,
+    Cleared, ErrorOutput, Meter, Status, explain, report_words, run_ask, run_command, run_recorded,
+    run_sdp, run_timed, run_version,
 };
 use record_words::{Noted, noted_in};
 use std::fs::File;

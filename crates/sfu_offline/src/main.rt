@@ -68,7 +68,11 @@ fn run_words<R: AllocGlobal + Files, I: Read, O: Write, E: Write>(
             status
         }
         Ok(Action::Draw { media }) => run_draw(alloc, Ssrc(media), meter, reader, writer, errors),
-        Ok(Action::Serve { .. }) => say(errors, b"this program does not serve\n", Status::CommandLine),
+        Ok(Action::Serve { .. }) => say(
+            errors,
+            b"this program does not serve\n",
+            Status::CommandLine,
+        ),
         Err(error) => refuse_words(alloc, errors, &error),
     }
 }
