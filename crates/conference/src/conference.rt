@@ -15,7 +15,7 @@ use crate::delivery::{Delivery, let_go, next_delivery, place_after};
 use crate::fault::EventFault;
 use arrayvec::ArrayVec;
 use core_steps::{Waiting, World};
-use events::{Bytes, Event, Out};
+use events::{Event, Out, SharedBytes};
 use one_thread::settle::{settle, step};
 use rate_cert::{MAX_REQUESTS, Request};
 use settings::Settings;
@@ -146,7 +146,7 @@ impl Conference {
         if !is_idle(&self.world) {
             return Err(EventFault::Busy);
         }
-        let Ok(bytes) = Bytes::copy_of(self.alloc, bytes) else {
+        let Ok(bytes) = SharedBytes::copy_of(self.alloc, bytes) else {
             return Err(EventFault::NoMemory);
         };
         self.take(Event::Hear {

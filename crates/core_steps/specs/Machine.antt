@@ -30,7 +30,7 @@ task_in bytes (Follows next) = task_of bytes next
 -- those that aren't done yet
 abbrev pub tasks_of : Tasks → List Task
 tasks_of t = map order (drop t.orders_done t.orders.items)
-    ++ map (task_of t.datagram.items) (drop t.follow_ups_done t.follow_ups.items)
+    ++ map (task_of t.datagram) (drop t.follow_ups_done t.follow_ups.items)
 
 abbrev pub hand_in : Effect → HandParts → Hand
 hand_in effect Free = free

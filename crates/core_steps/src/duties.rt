@@ -17,7 +17,7 @@ use crate::tasks::{FollowUp, NextTask, Tasks};
 use crate::ticking::tick;
 use crate::world::standing;
 use desk::Effect;
-use events::{Bytes, Job, Out};
+use events::{Bytes, Job, Out, SharedBytes};
 use legs::Plan;
 use members::{Order, Room};
 use notices::Head;
@@ -97,8 +97,8 @@ impl IngressCore {
         })
     }
 
-    /// A datagram came from this endpoint at this moment, in milliseconds. Appends what was refused of it; `Busy` alone
-    /// where a duty waits. Refused for want of memory alone; then nothing was done.
+    /// A datagram came from this endpoint at this moment, in milliseconds: it is copied once, for all workers. Appends what was
+    /// refused of it; `Busy` alone where a duty waits. Refused for want of memory alone; then nothing was done.
     pub fn hear(
         &mut self,
         moment: u64,
@@ -113,7 +113,8 @@ impl IngressCore {
         if self.machine.is_busy() {
             return busy(&self.machine, outs);
         }
-        hear(&mut self.machine, moment, endpoint, bytes, outs)
+        let bytes = SharedBytes::copy_of(self.machine.alloc, bytes)?;
+        hear(&mut self.machine, moment, endpoint, &bytes, outs)
     }
 
     /// It is this moment. Appends nothing, but `Busy` where a duty waits. Refused for want of memory alone; then nothing
@@ -145,8 +146,7 @@ impl IngressCore {
         select(&mut self.machine, moment, leg, on, outs)
     }
 
-    /// Takes the oldest duty; `None` where none waits. Refused for want of memory alone, which a packet's copy needs; then
-    /// it still waits.
+    /// Takes the oldest duty; `None` where none waits. Refused where a packet's bytes have too many holders; then it still waits.
     pub fn next_duty(&mut self) -> Result<Option<Duty>, AllocError>
         ensures ok { IfOk result (HandsOut self.old self.new) }
         ensures err { OnErr result (self.new ≡ self.old) }
@@ -155,7 +155,7 @@ impl IngressCore {
         let Some(next) = m.tasks.oldest() else {
             return Ok(None);
         };
-        let duty = duty_of(m.alloc, m.tasks.datagram.as_slice(), next)?;
+        let duty = duty_of(&m.tasks.datagram, next)?;
         m.tasks.finish();
         Ok(Some(duty))
     }
@@ -227,23 +227,23 @@ fn tick_or_busy(m: &mut Machine, moment: u64, outs: &mut Vec<Out>) -> Result<(),
 }
 
 /// The duty that this task is, where the datagram has these bytes.
-fn duty_of(alloc: Global, datagram: &[u8], next: NextTask) -> Result<Duty, AllocError>
+fn duty_of(datagram: &SharedBytes, next: NextTask) -> Result<Duty, AllocError>
     ensures { IfOk result (λ duty. task_by duty ≡ task_in datagram.now next) }
 {
     match next {
         NextTask::Order(order) => Ok(Duty::Order(order)),
-        NextTask::FollowUp(next) => duty_that_follows(alloc, datagram, next),
+        NextTask::FollowUp(next) => duty_that_follows(datagram, next),
     }
 }
 
 /// The duty that this follow-up is, where the datagram has these bytes.
-fn duty_that_follows(alloc: Global, datagram: &[u8], next: FollowUp) -> Result<Duty, AllocError>
+fn duty_that_follows(datagram: &SharedBytes, next: FollowUp) -> Result<Duty, AllocError>
     ensures { IfOk result (λ duty. task_by duty ≡ task_in datagram.now (AFollowUp next)) }
 {
     Ok(match next {
         FollowUp::Push { worker, seed } => Duty::Push {
             worker,
-            job: job_of(alloc, datagram, seed)?,
+            job: job_of(datagram, seed)?,
         },
         FollowUp::Pulse(publisher) => Duty::Pulse(publisher),
         FollowUp::Expire(publisher) => Duty::Expire(publisher),

@@ -15,7 +15,7 @@ ghost use Rattle.core_steps.specs.Run.{Leaves, Stays};
 use crate::follow_ups::{push_asks, push_packet};
 use crate::machine::Machine;
 use crate::order_follow_ups::push_after;
-use events::{Out, Refusal};
+use events::{Out, Refusal, SharedBytes};
 use intake::{Control, Heard, Unheard, hear_datagram};
 use members::Room;
 use settings::{Links, RoomFault};
@@ -27,7 +27,7 @@ pub(crate) fn hear(
     m: &mut Machine,
     moment: u64,
     endpoint: u16,
-    bytes: &[u8],
+    bytes: &SharedBytes,
     outs: &mut Vec<Out>,
 ) -> Result<(), AllocError>
     requires { is_busy (state_of m.old) ≡ false }
@@ -39,7 +39,7 @@ pub(crate) fn hear(
     m.knows_counts();
     let own = own_source(&m.setup.links, endpoint);
     m.asks.clear();
-    match hear_datagram(bytes, own, &mut m.asks) {
+    match hear_datagram(bytes.as_slice(), own, &mut m.asks) {
         Ok(
             Heard::Media {
                 ssrc,
@@ -69,7 +69,7 @@ fn hear_media(
     m: &mut Machine,
     moment: u64,
     endpoint: u16,
-    bytes: &[u8],
+    bytes: &SharedBytes,
     packet: (Ssrc, u16, u32),
     outs: &mut Vec<Out>,
 ) -> Result<(), AllocError>

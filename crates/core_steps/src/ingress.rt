@@ -86,7 +86,7 @@ fn do_task(m: &mut Machine, next: NextTask, outs: &mut Vec<Out>) -> Result<(), A
     requires idle { m.old.pending ≡ None }
     requires room { vec_len outs.old < vec_capacity outs.old }
     ensures ok { OnOk result (Leaves
-        (DoesTask (state_of m.old) (task_in m.old.tasks.datagram.items next))
+        (DoesTask (state_of m.old) (task_in m.old.tasks.datagram next))
         (state_of m.old) outs.old.items (state_of m.new) outs.new.items) }
     ensures err { OnErr result (Stays (state_of m.old) outs.old.items
         (state_of m.new) outs.new.items) }
@@ -175,7 +175,7 @@ fn do_follow_up(m: &mut Machine, next: FollowUp, outs: &mut Vec<Out>) -> Result<
     requires idle { m.old.pending ≡ None }
     requires room { vec_len outs.old < vec_capacity outs.old }
     ensures ok { OnOk result (Leaves
-        (DoesTask (state_of m.old) (task_of m.old.tasks.datagram.items next))
+        (DoesTask (state_of m.old) (task_of m.old.tasks.datagram next))
         (state_of m.old) outs.old.items (state_of m.new) outs.new.items) }
     ensures err { OnErr result (Stays (state_of m.old) outs.old.items
         (state_of m.new) outs.new.items) }
@@ -211,13 +211,13 @@ fn push_seed(
     requires idle { m.old.pending ≡ None }
     requires room { vec_len outs.old < vec_capacity outs.old }
     ensures ok { OnOk result (Leaves
-        (λ h. h ≡ pushing (state_of m.old) worker (job_of m.old.tasks.datagram.items seed)
+        (λ h. h ≡ pushing (state_of m.old) worker (job_of m.old.tasks.datagram seed)
         (slice_get (state_of m.old).workers worker))
         (state_of m.old) outs.old.items (state_of m.new) outs.new.items) }
     ensures err { OnErr result (Stays (state_of m.old) outs.old.items
         (state_of m.new) outs.new.items) }
 {
-    let job = job_of(m.alloc, m.tasks.datagram.as_slice(), seed)?;
+    let job = job_of(&m.tasks.datagram, seed)?;
     push(m, worker, job, outs);
     Ok(())
 }

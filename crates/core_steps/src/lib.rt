@@ -25,9 +25,9 @@ mod working;
 mod world;
 
 pub use duties::{Duty, IngressCore};
-pub use events::{Bytes, DeskRefusal, Event, Job, Out, Refusal, RunFault};
+pub use events::{Bytes, DeskRefusal, Event, Job, Out, Refusal, RunFault, SharedBytes};
 pub use intake::{Ask, Control, Heard, Unheard, hear_datagram, says_one_thing};
-pub use legs::{LegState, Legs, Plan, Planned, rtp_laws};
+pub use legs::{LegState, Legs, Plan, rtp_laws};
 pub use notices::{
     Asks, Head, Notification, asked_by, entries_of, notification_of, notify, picture_call,
     stay_call, tells_each_change, upstream_report, waiting,

@@ -72,7 +72,7 @@ fn step(m: &mut Machine, event: &Event, outs: &mut Vec<Out>) -> Result<(), Alloc
             if m.is_busy() {
                 return busy(m, outs);
             }
-            hear(m, *moment, *endpoint, bytes.as_slice(), outs)
+            hear(m, *moment, *endpoint, bytes, outs)
         }
         Event::Tick { moment } => {
             if m.is_busy() {

@@ -3,9 +3,9 @@
 ghost use Rattle.std.specs.Prelude.{◌≡◌, IfOk};
 ghost use Rattle.core_steps.specs.Seed.{job_of};
 
-use events::{Bytes, Job};
+use events::{Job, SharedBytes};
 use rtcp_feedback::Nack;
-use std::alloc::{AllocError, Global};
+use std::alloc::AllocError;
 
 /// A job that waits to be pushed, without the bytes of its packet: those are the datagram's, which is kept once for all workers.
 #[derive(Clone, Copy, PartialEq, Eq)]
@@ -37,14 +37,14 @@ pub(crate) enum Seed {
     },
 }
 
-/// The job of this seed, if the datagram has these bytes; a packet takes a copy of them.
-pub(crate) fn job_of(alloc: Global, datagram: &[u8], seed: Seed) -> Result<Job, AllocError>
+/// The job of this seed, if the datagram has these bytes, which a packet shares.
+pub(crate) fn job_of(datagram: &SharedBytes, seed: Seed) -> Result<Job, AllocError>
     ensures { IfOk result (λ job. job ≡ job_of datagram.now seed) }
 {
     Ok(match seed {
         Seed::Packet { publisher } => Job::Packet {
             publisher,
-            bytes: Bytes::copy_of(alloc, datagram)?,
+            bytes: datagram.share()?,
         },
         Seed::Request { leg, stay, word } => Job::Request { leg, stay, word },
         Seed::Resend { leg, stay, nack } => Job::Resend { leg, stay, nack },

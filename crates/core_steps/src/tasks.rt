@@ -1,6 +1,7 @@
 //! What waits for the ingress.
 
 use crate::seed::Seed;
+use events::SharedBytes;
 use members::Order;
 use std::alloc::{AllocError, Global};
 
@@ -16,7 +17,7 @@ pub(crate) struct Tasks {
     /// How many of the follow-ups are done.
     pub(crate) follow_ups_done: usize,
     /// The datagram that a packet to be pushed is of.
-    pub(crate) datagram: Vec<u8>,
+    pub(crate) datagram: SharedBytes,
 }
 
 /// What follows from a datagram or a moment.
@@ -53,7 +54,7 @@ impl Tasks {
             orders_done: 0,
             follow_ups: Vec::new(alloc),
             follow_ups_done: 0,
-            datagram: Vec::new(alloc),
+            datagram: SharedBytes::none(),
         }
     }
 
@@ -74,15 +75,15 @@ impl Tasks {
     }
 
     /// Keeps the datagram that packets to be pushed are of, while nothing waits.
-    pub(crate) fn take_datagram(&mut self, bytes: &[u8]) -> Result<(), AllocError>
-        ensures datagram { OnOk result (self.new.datagram.items ≡ bytes.now) }
+    pub(crate) fn take_datagram(&mut self, bytes: &SharedBytes) -> Result<(), AllocError>
+        ensures datagram { OnOk result (self.new.datagram ≡ bytes.now) }
         ensures orders { self.new.orders ≡ self.old.orders }
         ensures orders_done { self.new.orders_done ≡ self.old.orders_done }
         ensures follow_ups { self.new.follow_ups ≡ self.old.follow_ups }
         ensures follow_ups_done { self.new.follow_ups_done ≡ self.old.follow_ups_done }
     {
-        self.datagram.clear();
-        self.datagram.extend_from_slice(bytes)
+        self.datagram = bytes.share()?;
+        Ok(())
     }
 
     /// How many wait.
@@ -105,7 +106,7 @@ impl Tasks {
     pub(crate) fn oldest(&self) -> Option<NextTask>
         ensures { MatchOption result (tasks_of self.now ≡ [])
             (λ next. tasks_of self.now
-            ≡ task_in self.now.datagram.items next ∷ drop 1 (tasks_of self.now)) }
+            ≡ task_in self.now.datagram next ∷ drop 1 (tasks_of self.now)) }
     {
         if self.orders_done < self.orders.len() {
             return Some(NextTask::Order(self.orders[self.orders_done]));

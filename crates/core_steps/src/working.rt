@@ -1,11 +1,8 @@
 //! What a worker does: it takes a job, does the job in its hand, or sends a notification.
 
-ghost use Rattle.std.specs.Prelude.{◌≡◌, ◌<◌, ◌++◌, ◌∷◌, [], slice_get, vec_len, vec_capacity, IfOk, OnOk, OnErr};
+ghost use Rattle.std.specs.Prelude.{◌≡◌, ◌<◌, slice_get, vec_len, vec_capacity, OnOk, OnErr};
 ghost use Rattle.desk.specs.Call.{HasStay};
-ghost use Rattle.events.specs.declared.output.Out.TheVariants.{Send};
-ghost use Rattle.legs.specs.Legs.{job_datagrams, legs_after};
 ghost use Rattle.core_steps.specs.Machine.{state_of, setup_of, worker_state};
-ghost use Rattle.legs.specs.Plan.{out_of, plan_outs};
 ghost use Rattle.core_steps.specs.Rule.{Works};
 ghost use Rattle.core_steps.specs.Run.{Leaves, Stays};
 ghost use Rattle.core_steps.specs.Turns.{IsDeskTold, Turns};
@@ -13,8 +10,8 @@ ghost use Rattle.core_steps.specs.Turns.{IsDeskTold, Turns};
 use crate::asking::ask;
 use crate::machine::{Hand, Machine, Setup, Worker};
 use desk::{Call, Desk};
-use events::{Bytes, Job, Out};
-use legs::{Legs, Plan, Planned};
+use events::Out;
+use legs::Plan;
 use members::Row;
 use notices::{Asks, asked_by, notify};
 use std::alloc::{AllocError, Global};
@@ -88,7 +85,7 @@ fn turn(
                 Ok(())
             }
             Asks::Legs => {
-                forward(alloc, rows, job, plan, &mut w.legs, outs)?;
+                w.legs.do_job(alloc, rows, job, plan, outs)?;
                 w.hand = Hand::Free;
                 Ok(())
             }
@@ -124,87 +121,4 @@ fn ask_desk(
         Some(notification) => w.hand = Hand::Telling(notification),
         None => w.hand = Hand::Free,
     }
-}
-
-/// Does a job on the legs: what it gives out is copied first, so that want of memory changes nothing.
-fn forward(
-    alloc: Global,
-    rows: &[Row],
-    job: &Job,
-    plan: &mut Plan,
-    legs: &mut Legs,
-    outs: &mut Vec<Out>,
-) -> Result<(), AllocError>
-    ensures outs { OnOk result (outs.new.items ≡ outs.old.items
-        ++ job_datagrams rows.now legs.old job.now) }
-    ensures legs { OnOk result (legs.new ≡ legs_after rows.now legs.old job.now) }
-    ensures err { OnErr result ((legs.new ≡ legs.old) × (outs.new.items ≡ outs.old.items)) }
-{
-    legs.plan(alloc, rows, job, plan)?;
-    let mut given = planned_outs(alloc, legs, plan.as_slice())?;
-    outs.append(&mut given)?;
-    legs.apply(plan);
-    Ok(())
-}
-
-/// What a plan on these legs gives out.
-fn planned_outs(alloc: Global, legs: &Legs, plan: &[Planned]) -> Result<Vec<Out>, AllocError>
-    ensures { IfOk result (λ given. given.items ≡ plan_outs legs.now plan.now) }
-{
-    let mut given = Vec::with_capacity(alloc, plan.len())?;
-    for planned in plan {
-        give(alloc, legs, planned, &mut given)?;
-    }
-    Ok(given)
-}
-
-/// Appends what one thing that is planned gives out.
-fn give(
-    alloc: Global,
-    legs: &Legs,
-    planned: &Planned,
-    given: &mut Vec<Out>,
-) -> Result<(), AllocError>
-    ensures { OnOk result (given.new.items ≡ given.old.items ++ out_of legs.now planned.now) }
-{
-    match planned {
-        Planned::Forward {
-            endpoint,
-            bytes,
-            ..
-        } => send(alloc, *endpoint, bytes.as_slice(), given),
-        Planned::Resend {
-            place,
-            endpoint,
-            seq,
-            ..
-        } => match legs.kept(*place, *seq) {
-            Some(bytes) => send(alloc, *endpoint, bytes, given),
-            None => Ok(()),
-        },
-        Planned::Report { endpoint, bytes } => send(alloc, *endpoint, bytes.as_slice(), given),
-        Planned::Skip { leg, skip } => {
-            given.push(Out::Skip {
-                leg: *leg,
-                skip: *skip,
-            })?;
-            Ok(())
-        }
-        Planned::Miss { leg, seq } => {
-            given.push(Out::Miss {
-                leg: *leg,
-                seq: *seq,
-            })?;
-            Ok(())
-        }
-    }
-}
-
-/// These bytes go to this endpoint.
-fn send(alloc: Global, endpoint: u16, bytes: &[u8], given: &mut Vec<Out>) -> Result<(), AllocError>
-    ensures { OnOk result (given.new.items ≡ given.old.items ++ Send endpoint bytes.now ∷ []) }
-{
-    let bytes = Bytes::copy_of(alloc, bytes)?;
-    given.push(Out::Send { endpoint, bytes })?;
-    Ok(())
 }

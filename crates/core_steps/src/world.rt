@@ -1,6 +1,6 @@
 //! The unit as one machine.
 
-ghost use Rattle.std.specs.Prelude.{◌≡◌, ◌≢◌, ◌≤◌, ◌<◌, All, length, map, sum_by, IfOk, slice_get, Some, MatchOption};
+ghost use Rattle.std.specs.Prelude.{◌≡◌, ◌≢◌, ◌≤◌, ◌<◌, [], All, length, map, sum_by, IfOk, slice_get, Some, MatchOption};
 ghost use Rattle.routes.specs.Rows.{opening_rows};
 ghost use Rattle.desk.specs.declared.effect.Effect.{Effect as EffectValue};
 ghost use Rattle.settings.specs.declared.settings.TheConstants.{MAX_WORKERS};
@@ -13,6 +13,7 @@ use crate::machine::{Hand, Machine, Setup, Worker};
 use crate::ring::JobRing;
 use crate::tasks::Tasks;
 use desk::{Desk, Effect};
+use events::Out;
 use legs::{Legs, Plan};
 use members::{Room, Row};
 use notices::Head;
@@ -251,6 +252,14 @@ impl World {
         ensures { result.now ≡ self.now.rows }
     {
         self.machine.rows.as_slice()
+    }
+
+    /// Takes back the buffers of what was given out, for what goes out next: nothing is left of that.
+    pub fn take_back(&mut self, outs: &mut Vec<Out>)
+        ensures world { self.new ≡ self.old }
+        ensures none { outs.new.items ≡ [] }
+    {
+        self.machine.plan.take_back(outs);
     }
 
     /// What waits.

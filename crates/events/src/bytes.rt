@@ -1,12 +1,12 @@
-//! The bytes of a datagram.
+//! The bytes of a datagram that goes out.
 
 ghost use Rattle.std.specs.Prelude.{◌≡◌, IfOk};
 
 use std::alloc::{AllocError, Global};
 use std::marker::Model;
 
-/// The bytes of a datagram; contracts see them as a list.
-#[derive(Debug, Drop)]
+/// The bytes of a datagram that goes out; contracts see them as a list.
+#[derive(Drop)]
 pub struct Bytes {
     bytes: Vec<u8>,
 }

@@ -1,15 +1,15 @@
 //! What goes into the machine.
 
-use crate::bytes::Bytes;
+use rewrite::SharedBytes;
 
 /// One atomic step of the machine. Moments are in milliseconds; the room works with the greatest that it was handed.
-#[derive(Debug, Drop)]
+#[derive(Drop)]
 pub enum Event {
     /// A datagram came from this endpoint at this moment.
     Hear {
         moment: u64,
         endpoint: u16,
-        bytes: Bytes,
+        bytes: SharedBytes,
     },
     /// It is this moment.
     Tick {

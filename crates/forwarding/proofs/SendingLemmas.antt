@@ -5,10 +5,7 @@ use Rattle.std.proofs.lemmas.List.{length-append, append-nil, take_more}
 use Rattle.std.proofs.lemmas.List.Elements.{filter-append}
 use Rattle.std.proofs.lemmas.Option.{same_Some}
 use Rattle.std.specs.Prelude.{Option, None, Some, filter, flat_map}
-use Rattle.legs.specs.declared.leg.LegState.{LegState}
 use Rattle.events.specs.declared.output.Out.{Out}
-use Rattle.legs.specs.declared.plan.Planned.{Planned}
-use Rattle.legs.specs.Plan.{out_of, plan_outs}
 use Rattle.outside.specs.Outside.{SinkView, Grows, datagram_in, datagrams_of}
 use Rattle.outside.proofs.GrowsLemmas.{grows_more}
 use Rattle.forwarding.specs.declared.done.Forwarded.{Forwarded}
@@ -32,18 +29,6 @@ adds_more xs ys a b c d e f first last =
     }
 
 -- ---- the next of a list
-
-pub planned_more : (legs : List LegState) (plan : List Planned) (i : ℕ) (p : Planned) (a b c : SinkView) (d e : Forwarded)
-    → i < length plan → Hands (plan_outs legs (take i plan)) a b d → p ≡ get_or plan i p → Adds (out_of legs p) b c d e
-    → Hands (plan_outs legs (take (i + 1) plan)) a c e
-planned_more legs plan i p a b c d e within before is one =
-    let all : plan_outs legs (take (i + 1) plan) ≡ plan_outs legs (take i plan) ++ out_of legs p =
-    ap (λ (l : List Planned). plan_outs legs l) (take_more plan i p within)
-    ∙ flat_map-append (out_of legs) (take i plan) (get_or plan i p ∷ [])
-    ∙ ap (λ (l : List Out). plan_outs legs (take i plan) ++ l) (append-nil (out_of legs (get_or plan i p)))
-    ∙ ap (λ (q : Planned). plan_outs legs (take i plan) ++ out_of legs q) (sym is) in
-    subst (λ (outs : List Out). Hands outs a c e) (sym all) (adds_more (plan_outs legs (take i plan)) (out_of legs p) a b c nothing_done d e before one)
-
 pub given_more : (outs : List Out) (i : ℕ) (o : Out) (a b c : SinkView) (d e : Forwarded) → i < length outs
     → Hands (take i outs) a b d → o ≡ get_or outs i o → Adds (o ∷ []) b c d e → Hands (take (i + 1) outs) a c e
 given_more outs i o a b c d e within before is one =

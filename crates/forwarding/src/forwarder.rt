@@ -7,8 +7,8 @@ ghost use Rattle.forwarding.specs.Asking.{is_owned, is_asking, QuestionOf, subsc
 use crate::done::{ForwardFault, Forwarded};
 use crate::notifier::Notifier;
 use crate::question::Question;
-use crate::sending::send_planned;
-use events::Job;
+use crate::sending::send_all;
+use events::{Job, Out};
 use legs::{Legs, Plan};
 use notices::{Asks, asked_by};
 use outside::Sink;
@@ -25,8 +25,10 @@ pub struct Forwarder {
     notifier: Notifier,
     worker: u16,
     legs: Legs,
-    /// Where a job is planned; empty between jobs.
+    /// Where a job is planned.
     plan: Plan,
+    /// What a job gives out.
+    outs: Vec<Out>,
 }
 
 impl Model for Forwarder {
@@ -56,6 +58,7 @@ impl Forwarder {
             worker,
             legs,
             plan: Plan::new(alloc),
+            outs: Vec::new(alloc),
         })
     }
 
@@ -85,11 +88,13 @@ impl Forwarder {
             return Err(ForwardFault::NoView);
         }
         let alloc = self.notifier.alloc;
-        let Ok(()) = self.legs.plan(alloc, reader.rows(), job, &mut self.plan) else {
+        let (plan, outs) = (&mut self.plan, &mut self.outs);
+        outs.clear();
+        let Ok(()) = self.legs.do_job(alloc, reader.rows(), job, plan, outs) else {
             return Err(ForwardFault::NoMemory);
         };
-        let done = send_planned(&self.legs, self.plan.as_slice(), sink);
-        self.legs.apply(&mut self.plan);
+        let done = send_all(outs.as_slice(), sink);
+        plan.take_back(outs);
         Ok(done)
     }
 

@@ -18,12 +18,13 @@ use Rattle.events.specs.declared.job.Job.{Job}
 use Rattle.events.specs.declared.job.Job.TheVariants as job
 use Rattle.legs.specs.declared.leg.LegState.{LegState}
 use Rattle.legs.specs.declared.plan.Planned.{Planned}
-use Rattle.legs.specs.declared.plan.Planned.TheVariants.{Forward, Resend, Report, Skip, Miss}
+use Rattle.legs.specs.declared.plan.Change.{Change}
+use Rattle.legs.specs.declared.plan.Change.TheVariants.{Nothing, Keep, Count}
 use Rattle.legs.specs.Legs.{stands, row_of, answer_on, leg_report_bytes, leg_goodbye_bytes, owned_by, new_legs, new_leg_of, leg_after_packet, handed_out}
 use Rattle.settings.specs.Links.{LinkTable, IsLinkTable, worker_of}
 use Rattle.settings.specs.Places.{Sources}
-use Rattle.legs.specs.Plan.{changed_at, applied_one, legs_after_plan}
-use Rattle.legs.specs.Planning.{packet_planned, resends, leg_plan, job_plan, plan_by, plan_of, publisher_places, leg_place, ListsPlaces, FindsPlaces, IsRising, AreFound, HasNoNumber, IsNowhere, IsNumbered, IsStandingAt}
+use Rattle.legs.specs.Plan.{changed_at, changed_by, applied_one, legs_after_plan}
+use Rattle.legs.specs.Planning.{packet_planned, resends, sent_alone, leg_plan, job_plan, plan_by, plan_of, publisher_places, leg_place, ListsPlaces, FindsPlaces, IsRising, AreFound, HasNoNumber, IsNowhere, IsNumbered, IsStandingAt}
 use Rattle.legs.specs.Rtp.{is_rtp, sequence_number}
 use Rattle.legs.proofs.PlanLemmas.{at_behind}
 
@@ -115,7 +116,7 @@ standing_resend rows leg stay place nack legs s h =
 
 pub standing_report : (rows : List Row) (leg stay place : ℕ) (sr : Option (ℕ × ℕ)) (legs : List LegState) (s : LegState)
     → IsStandingAt rows leg stay legs place s
-    → job_plan rows legs (job.Report leg stay sr) ≡ Report s.link.subscriber (leg_report_bytes s sr) ∷ []
+    → job_plan rows legs (job.Report leg stay sr) ≡ sent_alone s.link.subscriber (leg_report_bytes s sr) ∷ []
 standing_report rows leg stay place sr legs s h =
     only rows (job.Report leg stay sr) s 0 place legs h.rising h.at
     (λ k t other. off _ _ _ (stands_only rows leg stay s t h.stands_here other))
@@ -132,7 +133,7 @@ nowhere_goodbye rows leg legs h =
 
 -- where a leg has it, its goodbye is planned
 pub numbered_goodbye : (rows : List Row) (leg : ℕ) (legs : List LegState) (s : LegState) → IsNumbered leg legs s
-    → job_plan rows legs (job.Goodbye leg) ≡ Report s.link.subscriber (leg_goodbye_bytes s) ∷ []
+    → job_plan rows legs (job.Goodbye leg) ≡ sent_alone s.link.subscriber (leg_goodbye_bytes s) ∷ []
 numbered_goodbye rows leg legs s h =
     only rows (job.Goodbye leg) s 0 h.place legs h.rising h.at
     (λ k t other. off _ _ _ (no_number t.number leg (λ e. other (e ∙ sym h.is_number))))
@@ -353,22 +354,20 @@ found_changed lists places legs i change leaves h = record {
   finds_places = λ number. h.finds_places number ∙ sym (place_changed number 0 legs i change leaves);
 }
 
-found_one : (lists : List (Vec ℕ)) (places : Sources) (legs : List LegState) (p : Planned) → AreFound lists places legs
-    → AreFound lists places (applied_one legs p)
-found_one lists places legs (Forward place endpoint numbers number octets bytes) h =
-    found_changed lists places legs place (λ s. leg_after_packet s numbers number octets bytes)
+found_one : (lists : List (Vec ℕ)) (places : Sources) (legs : List LegState) (c : Change) → AreFound lists places legs
+    → AreFound lists places (changed_by legs c)
+found_one lists places legs Nothing h = h
+found_one lists places legs (Keep place numbers number octets packet) h =
+    found_changed lists places legs place (λ s. leg_after_packet s numbers number octets packet)
     (record { number = λ s. refl; link = λ s. refl }) h
-found_one lists places legs (Resend place endpoint seq octets) h =
+found_one lists places legs (Count place octets) h =
     found_changed lists places legs place (λ s. handed_out s octets) (record { number = λ s. refl; link = λ s. refl }) h
-found_one lists places legs (Report endpoint bytes) h = h
-found_one lists places legs (Skip leg skip) h = h
-found_one lists places legs (Miss leg seq) h = h
 
 -- legs are found as before once a plan is done
 pub found_applied : (lists : List (Vec ℕ)) (places : Sources) (legs : List LegState) (plan : List Planned) → AreFound lists places legs
     → AreFound lists places (legs_after_plan legs plan)
 found_applied lists places legs [] h = h
-found_applied lists places legs (p ∷ plan) h = found_applied lists places (applied_one legs p) plan (found_one lists places legs p h)
+found_applied lists places legs (p ∷ plan) h = found_applied lists places (applied_one legs p) plan (found_one lists places legs p.change h)
 
 -- ---- new legs
 

@@ -1,9 +1,9 @@
 -- What a plan gives out, and what the legs are once it is done.
 use Rattle.std.proofs.Common.{◌≡◌, ℕ, ◌+◌, ◌<◌, ◌≤◌, Bool, true, false, List, [], ◌∷◌, ◌++◌, length, get_or, set, zero, suc, refl, sym, ap, ◌∙◌, arith, length-append, append_assoc}
-use Rattle.std.proofs.lemmas.Grind.{flat_map-append}
+use Rattle.std.proofs.lemmas.List.{map-append}
 use Rattle.std.proofs.lemmas.List.Sums.{fold-append}
 use Rattle.circular_buffer.proofs.Places.{slice_get-append_right}
-use Rattle.std.specs.Prelude.{◌==◌, Option, None, Some, Result, Ok, Err, slice_get, option_and_then, map, fold, if◌then◌else◌}
+use Rattle.std.specs.Prelude.{◌==◌, Option, None, Some, Result, Ok, Err, slice_get, map, fold, if◌then◌else◌}
 use Rattle.std.specs.List.{flat_map, enumerate_from}
 use Rattle.members.specs.declared.order.Row.{Row}
 use Rattle.resend_ring.specs.Kept.{Kept, last_kept_with}
@@ -14,10 +14,11 @@ use Rattle.events.specs.declared.job.Job.TheVariants as job
 use Rattle.legs.specs.declared.leg.LegState.{LegState}
 use Rattle.events.specs.declared.output.Out.{Out}
 use Rattle.events.specs.declared.output.Out.TheVariants as out
-use Rattle.legs.specs.declared.plan.Planned.TheVariants.{Report}
+use Rattle.legs.specs.declared.plan.Planned.{Planned}
+use Rattle.legs.specs.declared.plan.Change.TheVariants.{Nothing, Keep, Count}
 use Rattle.legs.specs.Legs.{takes, stands, row_of, answer_on, leg_report_bytes, leg_goodbye_bytes, packet_outs, packet_after, resend_outs, resent, leg_datagrams, leg_after, job_datagrams, legs_after}
-use Rattle.legs.specs.Plan.{kept_at, sent_out, out_of, plan_outs, changed_at, applied_one, legs_after_plan}
-use Rattle.legs.specs.Planning.{packet_planned, resend_planned, resends, leg_plan, job_plan}
+use Rattle.legs.specs.Plan.{plan_outs, changed_at, changed_by, applied_one, legs_after_plan}
+use Rattle.legs.specs.Planning.{packet_planned, resend_planned, resends, sent_alone, leg_plan, job_plan}
 
 -- ---- a leg at a place
 
@@ -54,67 +55,58 @@ count_before front s n e = omega (arith, length-append front (s ∷ []))
 
 -- ---- what it gives out
 
-packet_out : (whole : List LegState) (n turn : ℕ) (s : LegState) (bytes : List ℕ) (r : Result ℕ Cause) (b : Bool)
-    → flat_map (out_of whole) (if b then packet_planned n s turn bytes r ∷ [] else []) ≡ (if b then packet_outs s bytes r else [])
-packet_out whole n turn s bytes (Ok number) true = refl
-packet_out whole n turn s bytes (Err cause) true = refl
-packet_out whole n turn s bytes (Ok number) false = refl
-packet_out whole n turn s bytes (Err cause) false = refl
+packet_out : (n turn : ℕ) (s : LegState) (bytes : List ℕ) (r : Result ℕ Cause) (b : Bool)
+    → plan_outs (if b then packet_planned n s turn bytes r ∷ [] else []) ≡ (if b then packet_outs s bytes r else [])
+packet_out n turn s bytes (Ok number) true = refl
+packet_out n turn s bytes (Err cause) true = refl
+packet_out n turn s bytes (Ok number) false = refl
+packet_out n turn s bytes (Err cause) false = refl
 
-again_out : (whole : List LegState) (n seq : ℕ) (s : LegState) (r : Option (List ℕ)) → slice_get whole n ≡ Some s
-    → r ≡ last_kept_with s.kept.items seq → out_of whole (resend_planned n s seq r) ≡ resend_outs s seq r
-again_out whole n seq s None at e = refl
-again_out whole n seq s (Some bytes) at e =
-    let kept : kept_at whole n seq ≡ Some bytes =
-    ap (option_and_then (λ (t : LegState). last_kept_with t.kept.items seq)) at ∙ sym e in
-    ap (sent_out s.link.subscriber) kept
+again_out : (n seq : ℕ) (s : LegState) (r : Option (List ℕ)) → (resend_planned n s seq r).out ∷ [] ≡ resend_outs s seq r
+again_out n seq s None = refl
+again_out n seq s (Some bytes) = refl
 
-resends_out : (whole : List LegState) (n : ℕ) (s : LegState) (numbers : List ℕ) → slice_get whole n ≡ Some s
-    → flat_map (out_of whole) (resends n s numbers) ≡ flat_map (λ seq. resend_outs s seq (last_kept_with s.kept.items seq)) numbers
-resends_out whole n s [] at = refl
-resends_out whole n s (seq ∷ numbers) at =
-    let here = again_out whole n seq s (last_kept_with s.kept.items seq) at refl in
-    let rest = resends_out whole n s numbers at in
+resends_out : (n : ℕ) (s : LegState) (numbers : List ℕ)
+    → plan_outs (resends n s numbers) ≡ flat_map (λ seq. resend_outs s seq (last_kept_with s.kept.items seq)) numbers
+resends_out n s [] = refl
+resends_out n s (seq ∷ numbers) =
+    let here = again_out n seq s (last_kept_with s.kept.items seq) in
+    let rest = resends_out n s numbers in
     cc
 
-resend_out : (whole : List LegState) (n : ℕ) (s : LegState) (numbers : List ℕ) (b : Bool) → slice_get whole n ≡ Some s
-    → flat_map (out_of whole) (if b then resends n s numbers else [])
+resend_out : (n : ℕ) (s : LegState) (numbers : List ℕ) (b : Bool)
+    → plan_outs (if b then resends n s numbers else [])
     ≡ (if b then flat_map (λ seq. resend_outs s seq (last_kept_with s.kept.items seq)) numbers else [])
-resend_out whole n s numbers true at = resends_out whole n s numbers at
-resend_out whole n s numbers false at = refl
+resend_out n s numbers true = resends_out n s numbers
+resend_out n s numbers false = refl
 
-report_out : (whole : List LegState) (endpoint : ℕ) (bytes : List ℕ) (b : Bool)
-    → flat_map (out_of whole) (if b then Report endpoint bytes ∷ [] else []) ≡ (if b then out.Send endpoint bytes ∷ [] else [])
-report_out whole endpoint bytes true = refl
-report_out whole endpoint bytes false = refl
+report_out : (endpoint : ℕ) (bytes : List ℕ) (b : Bool)
+    → plan_outs (if b then sent_alone endpoint bytes ∷ [] else []) ≡ (if b then out.Send endpoint bytes ∷ [] else [])
+report_out endpoint bytes true = refl
+report_out endpoint bytes false = refl
 
-outs_here : (rows : List Row) (work : Job) (whole : List LegState) (n : ℕ) (s : LegState)
-    → slice_get whole n ≡ Some s → flat_map (out_of whole) (leg_plan rows work (n, s)) ≡ leg_datagrams rows work s
-outs_here rows (job.Packet publisher bytes) whole n s at =
-    packet_out whole n (row_of rows s).turn s bytes (answer_on rows bytes s) (takes rows publisher bytes s)
-outs_here rows (job.Resend leg stay nack) whole n s at = resend_out whole n s (lost_numbers nack) (stands rows leg stay s) at
-outs_here rows (job.Report leg stay sr) whole n s at =
-    report_out whole s.link.subscriber (leg_report_bytes s sr) (stands rows leg stay s)
-outs_here rows (job.Goodbye leg) whole n s at =
-    report_out whole s.link.subscriber (leg_goodbye_bytes s) (s.number == leg)
-outs_here rows (job.Request leg stay word) whole n s at = refl
-outs_here rows (job.Pli leg moment) whole n s at = refl
+outs_here : (rows : List Row) (work : Job) (n : ℕ) (s : LegState) → plan_outs (leg_plan rows work (n, s)) ≡ leg_datagrams rows work s
+outs_here rows (job.Packet publisher bytes) n s =
+    packet_out n (row_of rows s).turn s bytes (answer_on rows bytes s) (takes rows publisher bytes s)
+outs_here rows (job.Resend leg stay nack) n s = resend_out n s (lost_numbers nack) (stands rows leg stay s)
+outs_here rows (job.Report leg stay sr) n s = report_out s.link.subscriber (leg_report_bytes s sr) (stands rows leg stay s)
+outs_here rows (job.Goodbye leg) n s = report_out s.link.subscriber (leg_goodbye_bytes s) (s.number == leg)
+outs_here rows (job.Request leg stay word) n s = refl
+outs_here rows (job.Pli leg moment) n s = refl
 
-outs_from : (rows : List Row) (work : Job) (whole front : List LegState) (n : ℕ) (rest : List LegState)
-    → n ≡ length front → whole ≡ front ++ rest
-    → plan_outs whole (flat_map (leg_plan rows work) (enumerate_from n rest)) ≡ flat_map (leg_datagrams rows work) rest
-outs_from rows work whole front n [] e is = refl
-outs_from rows work whole front n (s ∷ rest) e is =
-    let here = outs_here rows work whole n s (at_behind whole front n s rest e is) in
-    let more = outs_from rows work whole (front ++ s ∷ []) (n + 1) rest (count_before front s n e) (one_before whole front s rest is) in
-    flat_map-append (out_of whole) (leg_plan rows work (n, s)) (flat_map (leg_plan rows work) (enumerate_from (n + 1) rest))
-    ∙ ap (λ (l : List Out). l ++ plan_outs whole (flat_map (leg_plan rows work) (enumerate_from (n + 1) rest))) here
-    ∙ ap (λ (l : List Out). leg_datagrams rows work s ++ l) more
+outs_from : (rows : List Row) (work : Job) (n : ℕ) (rest : List LegState)
+    → plan_outs (flat_map (leg_plan rows work) (enumerate_from n rest)) ≡ flat_map (leg_datagrams rows work) rest
+outs_from rows work n [] = refl
+outs_from rows work n (s ∷ rest) =
+    let behind = flat_map (leg_plan rows work) (enumerate_from (n + 1) rest) in
+    map-append (λ (p : Planned). p.out) (leg_plan rows work (n, s)) behind
+    ∙ ap (λ (l : List Out). l ++ plan_outs behind) (outs_here rows work n s)
+    ∙ ap (λ (l : List Out). leg_datagrams rows work s ++ l) (outs_from rows work (n + 1) rest)
 
 -- the plan of a job gives out what the job does
 pub plan_gives : (rows : List Row) (legs : List LegState) (work : Job)
-    → plan_outs legs (job_plan rows legs work) ≡ job_datagrams rows legs work
-plan_gives rows legs work = outs_from rows work legs [] 0 legs refl refl
+    → plan_outs (job_plan rows legs work) ≡ job_datagrams rows legs work
+plan_gives rows legs work = outs_from rows work 0 legs
 
 -- ---- what the legs are then
 
@@ -157,7 +149,7 @@ resend_applied front n s rest numbers true e = resends_applied front n s s rest 
 resend_applied front n s rest numbers false e = refl
 
 report_applied : (legs : List LegState) (endpoint : ℕ) (bytes : List ℕ) (b : Bool)
-    → legs_after_plan legs (if b then Report endpoint bytes ∷ [] else []) ≡ legs
+    → legs_after_plan legs (if b then sent_alone endpoint bytes ∷ [] else []) ≡ legs
 report_applied legs endpoint bytes true = refl
 report_applied legs endpoint bytes false = refl
 

@@ -11,7 +11,8 @@ use Rattle.rtp_packet.specs.Fault.{HasRtpFault, IsNoCount, csrc_end, extension_e
 use Rattle.rtp_packet.specs.Grammar.{RtpPacket, ReadsRtp, IsPadding, bit_of, fixed_bytes, body_bytes, first_byte, second_byte, bytes_of, with_address}
 use Rattle.rtp_packet.proofs.PacketLemmas.{laid_out}
 use Rattle.rtp_packet.proofs.PartLemmas.{count_of_padding}
-use Rattle.legs.specs.Rtp.{is_rtp, is_padded, padding_of, sequence_number, payload_octets, readdressed_bytes}
+use Rattle.legs.specs.Rtp.{is_rtp, is_padded, padding_of, sequence_number, payload_octets}
+use Rattle.rewrite.specs.Readdressed.{readdressed_bytes}
 
 -- ---- tests
 
@@ -83,6 +84,10 @@ reads_rtp d p reads =
     ap (λ (x : Bool). not x || nat_lt 0 (padding_of d)) padded ∙ ap (λ (x : Bool). not (nat_lt 0 (length p.padding)) || x) some
     ∙ excluded (nat_lt 0 (length p.padding)) in
     rw (a, b, c, e) refl
+
+-- a packet has a whole fixed header
+pub header_read : (d : List ℕ) (p : RtpPacket) → ReadsRtp d p → 12 ≤ length d
+header_read d p reads = (laid_out d p reads).whole
 
 -- the octets of a packet's payload
 pub payload_read : (d : List ℕ) (p : RtpPacket) → ReadsRtp d p → payload_octets d ≡ length p.payload

@@ -12,23 +12,31 @@ use Rattle.events.specs.declared.job.Job.{Job}
 use Rattle.events.specs.declared.job.Job.TheVariants as job
 use Rattle.legs.specs.declared.leg.LegState.{LegState}
 use Rattle.legs.specs.declared.plan.Planned.{Planned}
-use Rattle.legs.specs.declared.plan.Planned.TheVariants.{Forward, Resend, Report, Skip, Miss}
+use Rattle.legs.specs.declared.plan.Change.TheVariants.{Nothing, Keep, Count}
+use Rattle.events.specs.declared.output.Out.TheVariants.{Send, Skip, Miss}
 use Rattle.legs.specs.Legs.{takes, stands, row_of, answer_on, outgoing_bytes, leg_report_bytes, leg_goodbye_bytes}
 use Rattle.settings.specs.Places.{Sources}
 use Rattle.legs.specs.Rtp.{sequence_number, payload_octets}
 
 -- ---- what a leg does
 
+-- these bytes go to an endpoint, and no leg changes
+abbrev pub sent_alone : ℕ → List ℕ → Planned
+sent_alone endpoint bytes = record { out = Send endpoint bytes; change = Nothing }
+
 abbrev pub packet_planned : ℕ → LegState → ℕ → List ℕ → Result ℕ Cause → Planned
-packet_planned place s turn bytes (Ok number) =
-    Forward place s.link.subscriber
-    (held_with s.numbers turn (sequence_number bytes) (Ok number)) number
-    (payload_octets bytes) (outgoing_bytes s bytes number)
-packet_planned place s turn bytes (Err cause) = Skip s.number cause
+packet_planned place s turn bytes (Ok number) = record {
+  out = Send s.link.subscriber (outgoing_bytes s bytes number);
+  change = Keep place (held_with s.numbers turn (sequence_number bytes) (Ok number)) number
+      (payload_octets bytes) (outgoing_bytes s bytes number);
+}
+packet_planned place s turn bytes (Err cause) =
+    record { out = Skip s.number cause; change = Nothing }
 
 abbrev pub resend_planned : ℕ → LegState → ℕ → Option (List ℕ) → Planned
-resend_planned place s seq None = Miss s.number seq
-resend_planned place s seq (Some bytes) = Resend place s.link.subscriber seq (payload_octets bytes)
+resend_planned place s seq None = record { out = Miss s.number seq; change = Nothing }
+resend_planned place s seq (Some bytes) =
+    record { out = Send s.link.subscriber bytes; change = Count place (payload_octets bytes) }
 
 abbrev pub resends : ℕ → LegState → List ℕ → List Planned
 resends place s numbers =
@@ -41,10 +49,10 @@ leg_plan rows (job.Packet publisher bytes) (place, s) =
 leg_plan rows (job.Resend leg stay nack) (place, s) =
     if stands rows leg stay s then resends place s (lost_numbers nack) else []
 leg_plan rows (job.Report leg stay sr) (place, s) =
-    if stands rows leg stay s then Report s.link.subscriber (leg_report_bytes s sr) ∷ []
+    if stands rows leg stay s then sent_alone s.link.subscriber (leg_report_bytes s sr) ∷ []
     else []
 leg_plan rows (job.Goodbye leg) (place, s) =
-    if s.number == leg then Report s.link.subscriber (leg_goodbye_bytes s) ∷ [] else []
+    if s.number == leg then sent_alone s.link.subscriber (leg_goodbye_bytes s) ∷ [] else []
 leg_plan rows (job.Request leg stay word) (place, s) = []
 leg_plan rows (job.Pli leg moment) (place, s) = []
 

@@ -1,8 +1,9 @@
 -- What a datagram says as an RTP packet (RFC 3550, sections 5.1 and 5.3.1), by its bytes.
-use Rattle.std.specs.Prelude.{◌≡◌, ◌==◌, ◌&&◌, ◌||◌, not, ℕ, ◌+◌, ◌-◌, ◌/◌, ◌%◌, nat_le, nat_lt, Bool, true, List, ◌++◌, length, take, drop, slice_index, if◌then◌else◌}
-use Rattle.byteorder.specs.Endian.{big_bytes, big_number}
+use Rattle.std.specs.Prelude.{◌≡◌, ◌==◌, ◌&&◌, ◌||◌, not, ℕ, ◌+◌, ◌-◌, ◌/◌, ◌%◌, nat_le, nat_lt, Bool, true, List, length, drop, slice_index, if◌then◌else◌}
+use Rattle.byteorder.specs.Endian.{big_number}
 use Rattle.rtp_packet.specs.Fault.{extension_end}
 use Rattle.rtp_packet.specs.Grammar.{RtpPacket, bytes_of, with_address}
+use Rattle.rewrite.specs.Readdressed.{readdressed_bytes}
 
 -- the padding bit is set
 abbrev pub is_padded : List ℕ → Bool
@@ -25,11 +26,6 @@ sequence_number d = big_number 2 (drop 2 d)
 -- the octets of a packet's payload, which stands between the extension and the padding
 unfoldable pub payload_octets : List ℕ → ℕ
 payload_octets d = if is_rtp d then length d - (extension_end d + padding_of d) else 0
-
--- the packet's bytes under another source and sequence number
-unfoldable pub readdressed_bytes : ℕ → ℕ → List ℕ → List ℕ
-readdressed_bytes ssrc number d =
-    take 2 d ++ (big_bytes 2 number ++ (take 4 (drop 4 d) ++ (big_bytes 4 ssrc ++ drop 12 d)))
 
 -- these words say of the datagram what the packet has
 pub record SaysAs (d : List ℕ) (p : RtpPacket) : Type 0 where

@@ -3,7 +3,7 @@
 ghost use Rattle.std.specs.Prelude.{◌≡◌, ◌≤◌, ◌+◌, ◌%◌, ◌^◌, ◌<◌, length, IfOk};
 
 use resend_ring::{MAX_CAPACITY, Ring};
-use rewrite::Leg;
+use rewrite::{Leg, Readdressed};
 use rtcp_compound::CNAME_LIMIT;
 use settings::{Cname, LegSettings};
 use std::alloc::{AllocError, Global};
@@ -73,19 +73,12 @@ impl LegState {
         self.octets = counted(self.octets, octets);
     }
 
-    /// A packet was handed out under a new number. Answers the bytes of the packet that isn't kept any more.
-    pub(crate) fn forward(
-        &mut self,
-        numbers: Leg,
-        number: u64,
-        octets: u64,
-        bytes: Vec<u8>,
-    ) -> Option<Vec<u8>>
-        ensures { self.new ≡ leg_after_packet self.old numbers number octets bytes.items }
+    /// A packet was handed out under a new number, and is kept.
+    pub(crate) fn keep(&mut self, numbers: Leg, number: u64, octets: u64, packet: Readdressed)
+        ensures { self.new ≡ leg_after_packet self.old numbers number octets packet }
     {
         self.hand_out(octets);
         self.numbers = numbers;
-        let (_, left) = self.kept.keep(number, bytes)?;
-        Some(left)
+        let _left = self.kept.keep(number, packet);
     }
 }

@@ -1,5 +1,5 @@
 //! The legs that one worker owns. A job is planned first, which may fail and changes no leg, and then applied, which
-//! can't fail; between the two what is planned is handed out.
+//! can't fail.
 
 ghost use Rattle.std.specs.Prelude.{◌≡◌, ◌≤◌, ◌++◌, [], length, IfOk, OnOk, OnErr};
 ghost use Rattle.std.specs.Prelude.{List};
@@ -10,7 +10,7 @@ ghost use Rattle.legs.specs.Planning.{publisher_places, plan_of, ListsPlaces, Fi
 use crate::leg::LegState;
 use crate::plan::Plan;
 use crate::planning::{plan_goodbye, plan_packet, plan_report, plan_resends};
-use events::Job;
+use events::{Job, Out, SharedBytes};
 use members::Row;
 use resend_ring::MAX_CAPACITY;
 use rtcp_feedback::{Nack, lost};
@@ -123,15 +123,17 @@ fn row_of(rows: &[Row], leg: &LegState) -> Row
     }
 }
 
-/// Plans what the leg at a place does with a packet of its publisher.
+/// Plans what the leg at a place does with a packet of its publisher, which has these bytes.
 fn plan_place(
     legs: &[LegState],
     alloc: Global,
     place: u16,
     rows: &[Row],
     packet: &RtpView<'_>,
+    bytes: &SharedBytes,
     plan: &mut Plan,
 ) -> Result<(), AllocError>
+    requires same { bytes.now ≡ packet.now.datagram.now }
     ensures { OnOk result (plan.new
         ≡ plan.old ++ plan_of rows.now packet.now.datagram.now legs.now place) }
 {
@@ -142,7 +144,7 @@ fn plan_place(
     if !row.on {
         return Ok(());
     }
-    let planned = plan_packet(leg, alloc, place, row.turn, packet, plan)?;
+    let planned = plan_packet(leg, alloc, place, row.turn, packet, bytes, plan)?;
     plan.push(planned)
 }
 
@@ -153,21 +155,23 @@ fn plan_places(
     places: &[u16],
     rows: &[Row],
     packet: &RtpView<'_>,
+    bytes: &SharedBytes,
     plan: &mut Plan,
 ) -> Result<(), AllocError>
+    requires same { bytes.now ≡ packet.now.datagram.now }
     ensures { OnOk result (plan.new
         ≡ plan.old ++ flat_map (plan_of rows.now packet.now.datagram.now legs.now) places.now) }
 {
     for place in places {
-        plan_place(legs, alloc, *place, rows, packet, plan)?;
+        plan_place(legs, alloc, *place, rows, packet, bytes, plan)?;
     }
     Ok(())
 }
 
 impl Legs {
-    ghost use Rattle.std.specs.Prelude.{option_copied, MatchOption};
+    ghost use Rattle.std.specs.Prelude.{◌+◌, MatchOption, vec_len, vec_capacity};
     ghost use Rattle.legs.specs.Legs.{job_datagrams, legs_after};
-    ghost use Rattle.legs.specs.Plan.{kept_at, plan_outs, legs_after_plan};
+    ghost use Rattle.legs.specs.Plan.{plan_outs, legs_after_plan};
     ghost use Rattle.legs.specs.Planning.{job_plan, HasNoNumber, IsNowhere, IsNumbered, IsStandingAt};
     ghost use Rattle.events.specs.declared.job.Job.TheVariants as job;
     ghost use Rattle.members.specs.declared.order.Row.{Row};
@@ -197,45 +201,51 @@ impl Legs {
         self.legs.as_slice()
     }
 
-    /// The latest packet with this sequence number that the leg at this place keeps, as it was sent.
-    pub fn kept(&self, place: u16, seq: u16) -> Option<&[u8]>
-        ensures { option_copied result ≡ kept_at self.now place seq }
+    /// Does a job, and appends what it gives out. A job for the desk does nothing, nor does one that names a leg, a
+    /// publisher or a stay that isn't there. Refused for want of memory alone; then nothing was done. What was planned before
+    /// doesn't matter: the plan lends its memory.
+    pub fn do_job(
+        &mut self,
+        alloc: Global,
+        rows: &[Row],
+        job: &Job,
+        plan: &mut Plan,
+        outs: &mut Vec<Out>,
+    ) -> Result<(), AllocError>
+        ensures outs { OnOk result (outs.new.items
+            ≡ outs.old.items ++ job_datagrams rows.now self.old job.now) }
+        ensures legs { OnOk result (self.new ≡ legs_after rows.now self.old job.now) }
+        ensures err { OnErr result ((self.new ≡ self.old) × (outs.new.items ≡ outs.old.items)) }
     {
-        self.legs.get(usize::from(place))?.kept.find(seq)
+        self.plan(alloc, rows, job, plan)?;
+        outs.reserve(plan.len())?;
+        self.apply(plan, outs);
+        Ok(())
     }
 
-    /// Plans a job, in place of what was planned: all copies are made, and no leg changes. A job for the desk plans
-    /// nothing, nor does one that names a leg, a publisher or a stay that isn't there. Refused for want of memory
-    /// alone; then nothing is planned.
-    pub fn plan(
+    /// Plans a job, in place of what was planned: all copies are made, and no leg changes. Refused for want of memory alone.
+    fn plan(
         &self,
         alloc: Global,
         rows: &[Row],
         job: &Job,
         plan: &mut Plan,
     ) -> Result<(), AllocError>
-        ensures outs { OnOk result (plan_outs self.now plan.new
-            ≡ job_datagrams rows.now self.now job.now) }
+        ensures outs { OnOk result (plan_outs plan.new ≡ job_datagrams rows.now self.now job.now) }
         ensures after { OnOk result (legs_after_plan self.now plan.new
             ≡ legs_after rows.now self.now job.now) }
-        ensures err { OnErr result (plan.new ≡ []) }
     {
         plan.clear();
-        match self.plan_job(alloc, rows, job, plan) {
-            Ok(()) => Ok(()),
-            Err(error) => {
-                plan.clear();
-                Err(error)
-            }
-        }
+        self.plan_job(alloc, rows, job, plan)
     }
 
-    /// Does what is planned on these legs, and plans nothing any more: packets that went out are kept and count.
-    pub fn apply(&mut self, plan: &mut Plan)
+    /// Does what is planned on these legs: packets that go out are kept and count.
+    fn apply(&mut self, plan: &mut Plan, outs: &mut Vec<Out>)
+        requires room { vec_len outs.old + length plan.old ≤ vec_capacity outs.old }
         ensures legs { self.new ≡ legs_after_plan self.old plan.old }
-        ensures done { plan.new ≡ [] }
+        ensures outs { outs.new.items ≡ outs.old.items ++ plan_outs plan.old }
     {
-        plan.apply_to(self.legs.as_mut_slice());
+        plan.apply_to(self.legs.as_mut_slice(), outs);
     }
 
     /// Appends what a job does.
@@ -251,9 +261,11 @@ impl Legs {
     {
         match job {
             Job::Packet { publisher, bytes } => {
-                self.plan_packets(alloc, rows, *publisher, bytes.as_slice(), plan)
+                self.plan_packets(alloc, rows, *publisher, bytes, plan)
             }
-            Job::Resend { leg, stay, nack } => self.plan_wanted(rows, *leg, *stay, *nack, plan),
+            Job::Resend { leg, stay, nack } => {
+                self.plan_wanted(alloc, rows, *leg, *stay, *nack, plan)
+            }
             Job::Report { leg, stay, sr } => {
                 self.plan_reported(alloc, rows, *leg, *stay, *sr, plan)
             }
@@ -269,7 +281,7 @@ impl Legs {
         alloc: Global,
         rows: &[Row],
         publisher: u16,
-        bytes: &[u8],
+        bytes: &SharedBytes,
         plan: &mut Plan,
     ) -> Result<(), AllocError>
         ensures { OnOk result (plan.new ≡ plan.old
@@ -279,8 +291,8 @@ impl Legs {
             return Ok(());
         };
         let (legs, places) = (self.legs.as_slice(), places.as_slice());
-        match RtpView::parse(bytes) {
-            Ok(packet) => plan_places(legs, alloc, places, rows, &packet, plan),
+        match RtpView::parse(bytes.as_slice()) {
+            Ok(packet) => plan_places(legs, alloc, places, rows, &packet, bytes, plan),
             Err(_) => Ok(()),
         }
     }
@@ -288,6 +300,7 @@ impl Legs {
     /// Appends what an entry of a NACK does.
     fn plan_wanted(
         &self,
+        alloc: Global,
         rows: &[Row],
         leg: u16,
         stay: u64,
@@ -301,7 +314,7 @@ impl Legs {
             return Ok(());
         };
         let numbers = lost(nack);
-        plan_resends(leg, place, numbers.as_slice(), plan)
+        plan_resends(leg, alloc, place, numbers.as_slice(), plan)
     }
 
     /// Appends a report.

@@ -12,4 +12,4 @@ pub mod rtp_laws;
 
 pub use leg::LegState;
 pub use legs::Legs;
-pub use plan::{Plan, Planned};
+pub use plan::Plan;

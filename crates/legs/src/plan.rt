@@ -1,52 +1,45 @@
 //! What a job is about to do on the legs of a worker.
 
-ghost use Rattle.std.specs.Prelude.{◌≡◌, ◌-◌, ◌<◌, ◌++◌, ◌∷◌, [], length, take, slice_index_or, vec_len, vec_capacity, ℕ, IfOk, IfNone, IfSome, OnOk, OnErr};
+ghost use Rattle.std.specs.Prelude.{◌≡◌, ◌-◌, ◌+◌, ◌<◌, ◌≤◌, ◌++◌, ◌∷◌, [], length, take, slice_index_or, vec_len, vec_capacity, ℕ, IfOk, IfNone, IfSome, OnOk, OnErr};
 ghost use Rattle.std.specs.Global.{Vec as Buffer};
 ghost use Rattle.legs.specs.Legs.{leg_after_packet, handed_out};
-ghost use Rattle.legs.specs.Plan.{legs_after_plan, applied_one, changed_at};
+ghost use Rattle.legs.specs.Plan.{changed_at, changed_by, legs_after_plan, plan_outs};
 
 use crate::leg::LegState;
-use events::Bytes;
-use rewrite::{Leg, Skip};
+use events::Out;
+use rewrite::{Leg, Readdressed};
 use std::alloc::{AllocError, Global};
 use std::marker::Model;
 
-/// One thing that is planned. The place of a leg is the one among its worker's legs.
+/// The most buffers that are kept for the next packets.
+const SPARE_LIMIT: usize = 1_024;
+
+/// One thing that is planned.
 #[derive(Drop)]
-pub enum Planned {
-    /// A packet goes out under a new number, and is kept.
-    Forward {
+pub struct Planned {
+    /// What is given out.
+    pub out: Out,
+    /// What becomes of the legs.
+    pub change: Change,
+}
+
+/// What becomes of a worker's legs. The place of a leg is the one among them.
+#[derive(Drop)]
+pub enum Change {
+    /// They stay as they are.
+    Nothing,
+    /// The leg at this place keeps a packet that goes out under a new number, and counts it.
+    Keep {
         place: u16,
-        endpoint: u16,
         /// The leg's numbers from then on.
         numbers: Leg,
         number: u64,
         /// The octets of its payload.
         octets: u64,
-        bytes: Bytes,
+        packet: Readdressed,
     },
-    /// The packet that the leg keeps with this sequence number goes out again: see `Legs::kept`.
-    Resend {
-        place: u16,
-        endpoint: u16,
-        seq: u16,
-        octets: u64,
-    },
-    /// A report of the leg's source goes out, or its goodbye.
-    Report {
-        endpoint: u16,
-        bytes: Bytes,
-    },
-    /// A packet isn't sent on this leg.
-    Skip {
-        leg: u16,
-        skip: Skip,
-    },
-    /// A packet that is wanted again on this leg isn't kept any more.
-    Miss {
-        leg: u16,
-        seq: u16,
-    },
+    /// The leg at this place counts a packet that goes out again, with so many octets of payload.
+    Count { place: u16, octets: u64 },
 }
 
 /// A plan: what is planned, in order. It takes its bytes from buffers that were used before.
@@ -66,22 +59,20 @@ impl Model for Plan {
     ghost view = { λ p. p.planned.items };
 }
 
-/// A packet goes out on the leg at a place, if there is one. Answers the bytes of the packet that isn't kept any more.
-fn forward_at(
+/// A packet goes out on the leg at a place, if there is one.
+fn keep_at(
     legs: &mut [LegState],
     place: usize,
     numbers: Leg,
     number: u64,
     octets: u64,
-    bytes: Vec<u8>,
-) -> Option<Vec<u8>>
+    packet: Readdressed,
+)
     ensures { legs.new
-        ≡ changed_at legs.old place (λ s. leg_after_packet s numbers number octets bytes.items) }
+        ≡ changed_at legs.old place (λ s. leg_after_packet s numbers number octets packet) }
 {
     if place < legs.len() {
-        legs[place].forward(numbers, number, octets, bytes)
-    } else {
-        None
+        legs[place].keep(numbers, number, octets, packet);
     }
 }
 
@@ -94,13 +85,29 @@ fn hand_out_at(legs: &mut [LegState], place: usize, octets: u64)
     }
 }
 
-/// Puts a buffer by for the next packet; without memory for that it is given back.
-fn save(spare: &mut Vec<Vec<u8>>, left: Option<Vec<u8>>)
-    ensures put_by { vec_len spare.old < vec_capacity spare.old
-        → IfSome left (λ buffer. spare.new.items ≡ spare.old.items ++ buffer ∷ []) }
-    ensures none { IfNone left (spare.new.items ≡ spare.old.items) }
+/// Makes one change on these legs.
+fn make(change: Change, legs: &mut [LegState])
+    ensures { legs.new ≡ changed_by legs.old change }
 {
-    if let Some(buffer) = left {
+    match change {
+        Change::Nothing => {}
+        Change::Keep {
+            place,
+            numbers,
+            number,
+            octets,
+            packet,
+        } => keep_at(legs, usize::from(place), numbers, number, octets, packet),
+        Change::Count { place, octets } => hand_out_at(legs, usize::from(place), octets),
+    }
+}
+
+/// Puts a buffer by for the next packet, if there is room for it.
+fn save(spare: &mut Vec<Vec<u8>>, buffer: Vec<u8>)
+    ensures { vec_len spare.old < vec_capacity spare.old → vec_len spare.old < SPARE_LIMIT
+        → spare.new.items ≡ spare.old.items ++ buffer ∷ [] }
+{
+    if spare.len() < SPARE_LIMIT {
         let _ = spare.push(buffer);
     }
 }
@@ -117,28 +124,6 @@ fn taken(spare: &mut Vec<Vec<u8>>, alloc: Global) -> Vec<u8>
     }
 }
 
-/// Does one thing that is planned on these legs. What a leg doesn't keep any more goes to the spare buffers.
-fn apply_one(planned: Planned, legs: &mut [LegState], spare: &mut Vec<Vec<u8>>)
-    ensures { legs.new ≡ applied_one legs.old planned }
-{
-    match planned {
-        Planned::Forward {
-            place,
-            numbers,
-            number,
-            octets,
-            bytes,
-            ..
-        } => {
-            let place = usize::from(place);
-            let left = forward_at(legs, place, numbers, number, octets, bytes.into_vec());
-            save(spare, left);
-        }
-        Planned::Resend { place, octets, .. } => hand_out_at(legs, usize::from(place), octets),
-        Planned::Report { .. } | Planned::Skip { .. } | Planned::Miss { .. } => {}
-    }
-}
-
 impl Plan {
     /// Nothing is planned.
     pub fn new(alloc: Global) -> Plan
@@ -150,15 +135,15 @@ impl Plan {
         }
     }
 
-    /// What is planned, in order.
-    pub fn as_slice(&self) -> &[Planned]
-        ensures { result.now ≡ self.now }
+    /// How much is planned.
+    pub(crate) fn len(&self) -> usize
+        ensures { result ≡ length self.now }
     {
-        self.planned.as_slice()
+        self.planned.len()
     }
 
     /// Nothing is planned any more.
-    pub fn clear(&mut self)
+    pub(crate) fn clear(&mut self)
         ensures { self.new ≡ [] }
     {
         self.planned.clear();
@@ -183,14 +168,30 @@ impl Plan {
         Ok(buffer)
     }
 
-    /// Does on these legs what is planned, and plans nothing any more.
-    pub(crate) fn apply_to(&mut self, legs: &mut [LegState])
+    /// Makes on these legs the changes that are planned, appends what is given out, and plans nothing any more.
+    pub(crate) fn apply_to(&mut self, legs: &mut [LegState], outs: &mut Vec<Out>)
+        requires room { vec_len outs.old + length self.old ≤ vec_capacity outs.old }
         ensures legs { legs.new ≡ legs_after_plan legs.old self.old }
+        ensures outs { outs.new.items ≡ outs.old.items ++ plan_outs self.old }
         ensures done { self.new ≡ [] }
     {
         self.planned.reverse();
         while let Some(planned) = self.planned.pop() {
-            apply_one(planned, legs, &mut self.spare);
+            let Planned { out, change } = planned;
+            make(change, legs);
+            outs.push_reserved(out);
+        }
+    }
+
+    /// Takes back the buffers of what was given out, for the next packets: nothing is left of that.
+    pub fn take_back(&mut self, outs: &mut Vec<Out>)
+        ensures plan { self.new ≡ self.old }
+        ensures none { outs.new.items ≡ [] }
+    {
+        while let Some(out) = outs.pop() {
+            if let Out::Send { bytes, .. } = out {
+                save(&mut self.spare, bytes.into_vec());
+            }
         }
     }
 }

@@ -4,12 +4,14 @@ ghost use Rattle.std.specs.Prelude.{◌≡◌, ◌++◌, ◌∷◌, [], length, 
 ghost use Rattle.rewrite.specs.Leg.{answer_to};
 ghost use Rattle.resend_ring.specs.Kept.{last_kept_with};
 ghost use Rattle.legs.specs.Legs.{leg_goodbye_bytes, leg_report_bytes};
-ghost use Rattle.legs.specs.Planning.{packet_planned, resend_planned, resends};
-ghost use Rattle.legs.specs.Rtp.{sequence_number, payload_octets, readdressed_bytes};
+ghost use Rattle.legs.specs.Planning.{packet_planned, resend_planned, resends, sent_alone};
+ghost use Rattle.legs.specs.Rtp.{sequence_number, payload_octets};
+ghost use Rattle.rewrite.specs.Readdressed.{readdressed_bytes};
 
 use crate::leg::LegState;
-use crate::plan::{Plan, Planned};
-use events::Bytes;
+use crate::plan::{Change, Plan, Planned};
+use events::{Bytes, Out, SharedBytes};
+use rewrite::Readdressed;
 use rtcp_compound::{write_bye, write_rr, write_sdes_cname, write_sr};
 use rtp_packet::{RtpView, SEQ_CYCLE};
 use std::alloc::{AllocError, Global};
@@ -50,15 +52,17 @@ fn readdressed(
     Ok(Bytes::new(bytes))
 }
 
-/// What the leg at this place does with a packet of its publisher that comes on this turn.
+/// What the leg at this place does with a packet of its publisher that comes on this turn, and has these bytes.
 pub fn plan_packet(
     leg: &LegState,
     alloc: Global,
     place: u16,
     turn: u64,
     packet: &RtpView<'_>,
+    bytes: &SharedBytes,
     plan: &mut Plan,
 ) -> Result<Planned, AllocError>
+    requires same { bytes.now ≡ packet.now.datagram.now }
     ensures ok { IfOk result (λ planned. planned
         ≡ packet_planned place leg.now turn packet.now.datagram.now
         (answer_to leg.now.numbers turn (sequence_number packet.now.datagram.now))) }
@@ -67,45 +71,85 @@ pub fn plan_packet(
     let mut numbers = leg.numbers;
     match numbers.next(turn, packet.sequence_number) {
         Ok(number) => {
-            let seq = (number % SEQ_CYCLE) as u16;
-            let bytes = readdressed(packet, alloc, leg.link.out_ssrc, seq, plan)?;
-            Ok(Planned::Forward {
-                place,
-                endpoint: leg.link.subscriber,
-                numbers,
-                number,
-                octets: packet.payload.len() as u64,
-                bytes,
+            let (ssrc, seq) = (leg.link.out_ssrc, (number % SEQ_CYCLE) as u16);
+            let kept = Readdressed::new(bytes.share()?, ssrc, seq);
+            let bytes = readdressed(packet, alloc, ssrc, seq, plan)?;
+            Ok(Planned {
+                out: Out::Send {
+                    endpoint: leg.link.subscriber,
+                    bytes,
+                },
+                change: Change::Keep {
+                    place,
+                    numbers,
+                    number,
+                    octets: packet.payload.len() as u64,
+                    packet: kept,
+                },
             })
         }
-        Err(skip) => Ok(Planned::Skip {
-            leg: leg.number,
-            skip,
+        Err(skip) => Ok(Planned {
+            out: Out::Skip {
+                leg: leg.number,
+                skip,
+            },
+            change: Change::Nothing,
         }),
     }
 }
 
+/// The bytes of a packet that is kept.
+fn kept_bytes(
+    packet: &Readdressed,
+    alloc: Global,
+    plan: &mut Plan,
+) -> Result<Bytes, AllocError>
+    ensures ok { IfOk result (λ bytes. bytes ≡ packet.now) }
+    ensures plan { plan.new ≡ plan.old }
+{
+    let mut bytes = plan.buffer(alloc, packet.len())?;
+    packet.copy_to(bytes.as_mut_slice());
+    Ok(Bytes::new(bytes))
+}
+
 /// What the leg at this place does where a packet with this sequence number is wanted again.
-fn plan_again(leg: &LegState, place: u16, seq: u16) -> Planned
-    ensures { result ≡ resend_planned place leg.now seq (last_kept_with leg.now.kept.items seq) }
+fn plan_again(
+    leg: &LegState,
+    alloc: Global,
+    place: u16,
+    seq: u16,
+    plan: &mut Plan,
+) -> Result<Planned, AllocError>
+    ensures ok { IfOk result (λ planned. planned
+        ≡ resend_planned place leg.now seq (last_kept_with leg.now.kept.items seq)) }
+    ensures plan { plan.new ≡ plan.old }
 {
     match leg.kept.find(seq) {
-        Some(bytes) => Planned::Resend {
-            place,
-            endpoint: leg.link.subscriber,
-            seq,
-            octets: payload_octets(bytes),
-        },
-        None => Planned::Miss {
-            leg: leg.number,
-            seq,
-        },
+        Some(packet) => {
+            let bytes = kept_bytes(packet, alloc, plan)?;
+            let octets = payload_octets(bytes.as_slice());
+            Ok(Planned {
+                out: Out::Send {
+                    endpoint: leg.link.subscriber,
+                    bytes,
+                },
+                change: Change::Count { place, octets },
+            })
+        }
+        None => Ok(Planned {
+            out: Out::Miss {
+                leg: leg.number,
+                seq,
+            },
+            change: Change::Nothing,
+        }),
     }
 }
 
 /// Plans what the leg at this place does where packets with these sequence numbers are wanted again.
 pub fn plan_resends(
     leg: &LegState,
+    alloc: Global,
     place: u16,
     numbers: &[u16],
     plan: &mut Plan,
@@ -113,9 +157,23 @@ pub fn plan_resends(
     ensures { OnOk result (plan.new ≡ plan.old ++ resends place leg.now numbers.now) }
 {
     for seq in numbers {
-        plan.push(plan_again(leg, place, *seq))?;
+        let planned = plan_again(leg, alloc, place, *seq, plan)?;
+        plan.push(planned)?;
     }
     Ok(())
+}
+
+/// These bytes go to the leg's subscriber, and no leg changes.
+fn sent_alone(leg: &LegState, bytes: Vec<u8>) -> Planned
+    ensures { result ≡ sent_alone leg.now.link.subscriber bytes.items }
+{
+    Planned {
+        out: Out::Send {
+            endpoint: leg.link.subscriber,
+            bytes: Bytes::new(bytes),
+        },
+        change: Change::Nothing,
+    }
 }
 
 /// The bytes of the report of the leg's source, with its name, by the NTP and RTP timestamps of a sender report of its publisher.
@@ -143,24 +201,18 @@ pub fn plan_report(
     sr: Option<(u64, u32)>,
 ) -> Result<Planned, AllocError>
     ensures { IfOk result (λ planned. planned
-        ≡ Planned.Report leg.now.link.subscriber (leg_report_bytes leg.now sr)) }
+        ≡ sent_alone leg.now.link.subscriber (leg_report_bytes leg.now sr)) }
 {
     let bytes = report_bytes(leg, alloc, sr)?;
-    Ok(Planned::Report {
-        endpoint: leg.link.subscriber,
-        bytes: Bytes::new(bytes),
-    })
+    Ok(sent_alone(leg, bytes))
 }
 
 /// The goodbye of the leg's source.
 pub fn plan_goodbye(leg: &LegState, alloc: Global) -> Result<Planned, AllocError>
     ensures { IfOk result (λ planned. planned
-        ≡ Planned.Report leg.now.link.subscriber (leg_goodbye_bytes leg.now)) }
+        ≡ sent_alone leg.now.link.subscriber (leg_goodbye_bytes leg.now)) }
 {
     let mut bytes = report_bytes(leg, alloc, None)?;
     write_bye(&mut bytes, &[leg.link.out_ssrc])?;
-    Ok(Planned::Report {
-        endpoint: leg.link.subscriber,
-        bytes: Bytes::new(bytes),
-    })
+    Ok(sent_alone(leg, bytes))
 }

@@ -13,7 +13,7 @@ use crate::settle::take_in;
 use crate::tally::Tally;
 use core_steps::World;
 use desk::Desk;
-use events::{Bytes, Event, Out};
+use events::{Event, Out, SharedBytes};
 use outside::{Clock, Look, ReceiveFault, Received, Sink, Source, Status, Ticks, Watch};
 use std::alloc::{AllocError, Global};
 
@@ -56,7 +56,7 @@ fn hear_datagram(
     ensures idle { OnOk result (IsIdle world.new) }
     ensures one { length world.new.workers ≡ 1 }
 {
-    let bytes = Bytes::copy_of(alloc, bytes)?;
+    let bytes = SharedBytes::copy_of(alloc, bytes)?;
     let event = Event::Hear {
         moment,
         endpoint,
@@ -355,7 +355,7 @@ pub(crate) fn turn<Src: Source, Snk: Sink, Clk: Clock, W: Watch>(
     engine.is_stopped = is_stop(received);
     engine.tally.heard = heard_with(engine.tally.heard, received);
     give_all(engine.outs.as_slice(), origin, sink, &mut engine.tally);
-    engine.outs.clear();
+    engine.world.take_back(&mut engine.outs);
     show(&engine.world, moment, &engine.tally, watch);
     show_room(&engine.world, watch);
     Ok(())

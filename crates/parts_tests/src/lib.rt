@@ -15,6 +15,8 @@ mod leg_tests;
 #[cfg(test)]
 mod packet_text;
 #[cfg(test)]
+mod readdressed_tests;
+#[cfg(test)]
 mod ring_tests;
 #[cfg(test)]
 mod rtcp_tests;

@@ -3,26 +3,45 @@ ghost use Rattle.std.specs.Prelude.{◌≤◌};
 
 use bumpalo::Bump;
 use resend_ring::*;
+use rewrite::{Readdressed, SharedBytes};
 use std::alloc::{AllocError, Global};
 use std::process::Abort;
 use std::test::Fail;
+use tmmbr_tuple::Ssrc;
 
-/// Keeps a packet with its number as its bytes.
+/// A packet with this number as its payload.
+fn packet(alloc: Global, payload: u64) -> Result<Readdressed, AllocError> {
+    let mut bytes = [0; 20];
+    bytes[12..].copy_from_slice(payload.to_be_bytes().as_slice());
+    let bytes = SharedBytes::copy_of(alloc, bytes.as_slice())?;
+    Ok(Readdressed::new(bytes, Ssrc(0), 0))
+}
+
+/// Whether the packet's payload is this number.
+fn has(packet: &Readdressed, payload: u64) -> bool {
+    let mut bytes = [0; 20];
+    if packet.len() != bytes.len() {
+        return false;
+    }
+    packet.copy_to(bytes.as_mut_slice());
+    &bytes[12..] == payload.to_be_bytes().as_slice()
+}
+
+/// Keeps a packet with its number as its payload.
 fn keep(ring: &mut Ring, alloc: Global, number: u64) -> Result<(), AllocError> {
-    let bytes = number.to_be_bytes().to_vec(alloc)?;
-    let _left = ring.keep(number, bytes);
+    let _left = ring.keep(number, packet(alloc, number)?);
     Ok(())
 }
 
-/// Whether the packet with this sequence number is found, and its bytes are this number.
+/// Whether the packet with this sequence number is found, and its payload is this number.
 fn finds(ring: &Ring, seq: u16, number: u64) -> bool {
     match ring.find(seq) {
-        Some(bytes) => bytes == number.to_be_bytes().as_slice(),
+        Some(packet) => has(packet, number),
         None => false,
     }
 }
 
-/// Numbers that a ring of this capacity keeps in turn, each with its number as its bytes; those that it pushes out; those that it
+/// Numbers that a ring of this capacity keeps in turn, each with its number as its payload; those that it pushes out; those that it
 /// has then; and sequence numbers that it finds nothing for.
 #[derive(Drop)]
 struct Case<'a> {
@@ -37,8 +56,7 @@ struct Case<'a> {
 fn pushed_out(alloc: Global, ring: &mut Ring, numbers: &[u64]) -> Result<Vec<u64>, AllocError> {
     let mut left = Vec::new(alloc);
     for number in numbers {
-        let bytes = number.to_be_bytes().to_vec(alloc)?;
-        if let Some((number, _)) = ring.keep(*number, bytes) {
+        if let Some((number, _)) = ring.keep(*number, packet(alloc, *number)?) {
             left.push(number)?;
         }
     }
@@ -187,13 +205,13 @@ fn last_with(numbers: &[u64], from: usize, seq: u16) -> Option<usize> {
     last
 }
 
-/// Whether a ring that kept these numbers in turn, each with its place as its bytes, finds each of the sequence numbers as a look
+/// Whether a ring that kept these numbers in turn, each with its place as its payload, finds each of the sequence numbers as a look
 /// through them from the place `from` on does.
 fn finds_last(ring: &Ring, numbers: &[u64], from: usize, asked: &[u16]) -> bool {
     for seq in asked {
         let is_right = match (ring.find(*seq), last_with(numbers, from, *seq)) {
             (None, None) => true,
-            (Some(bytes), Some(last)) => bytes == last.to_be_bytes().as_slice(),
+            (Some(packet), Some(last)) => has(packet, last as u64),
             (None, Some(_)) | (Some(_), None) => false,
         };
         if !is_right {
@@ -203,7 +221,7 @@ fn finds_last(ring: &Ring, numbers: &[u64], from: usize, asked: &[u16]) -> bool 
     true
 }
 
-/// Whether a ring that kept these numbers in turn, each with its place as its bytes, finds each of the sequence
+/// Whether a ring that kept these numbers in turn, each with its place as its payload, finds each of the sequence
 /// numbers as a look through the list of the last ones does: after each packet, from the place `from` on.
 fn agrees(
     alloc: Global,
@@ -216,7 +234,7 @@ fn agrees(
 {
     let mut ring = Ring::new(alloc, capacity)?;
     for (place, number) in numbers.iter().enumerate() {
-        let _left = ring.keep(*number, place.to_be_bytes().to_vec(alloc)?);
+        let _left = ring.keep(*number, packet(alloc, place as u64)?);
         if place < from {
             continue;
         }

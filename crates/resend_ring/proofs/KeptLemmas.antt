@@ -2,7 +2,6 @@
 use Rattle.std.proofs.Common.{◌≡◌, ◌≢◌, ℕ, zero, suc, ◌+◌, ◌-◌, ◌<◌, ◌≤◌, List, [], ◌∷◌, ◌++◌, length, take, drop, get_or, refl, sym, ap, ◌∙◌, arith, length-append, length-drop, append_assoc, take-append-drop}
 use Rattle.std.specs.Prelude.{◌==◌, ◌%◌, Bool, true, false, map, reverse, find, slice_get, Option, None, Some, option_map}
 use Rattle.std.specs.Option.{option_to_list}
-use Rattle.std.specs.Global.{Vec}
 use Rattle.std.specs.List.{position_or_len}
 use Rattle.std.proofs.lemmas.Bool.Decides.{nat_tests}
 use Rattle.std.proofs.lemmas.Option.{slice_get_past}
@@ -53,21 +52,21 @@ reverse_take n xs =
     sym (ap (drop (length (reverse xs) - n)) joined ∙ drop_at (reverse (drop n xs)) (reverse (take n xs)) (length (reverse xs) - n) counted)
 
 -- what is kept as a packet comes
-pub kept_newest : (n : ℕ) (x : ℕ × Vec ℕ) (xs : List (ℕ × Vec ℕ))
+pub kept_newest : (n : ℕ) (x : ℕ × List ℕ) (xs : List (ℕ × List ℕ))
     → reverse (map sent_packet (take n (x ∷ xs))) ≡ keep_last n (reverse (map sent_packet xs) ++ sent_packet x ∷ [])
 kept_newest n x xs =
     ap reverse (sym (take-map sent_packet n (x ∷ xs)))
     ∙ (reverse_take n (map sent_packet (x ∷ xs)) ∙ ap (keep_last n) (reverse-append (sent_packet x ∷ []) (map sent_packet xs)))
 
 -- what leaves
-last_left : (n : ℕ) (xs : List (ℕ × Vec ℕ)) → length xs ≤ n + 1
+last_left : (n : ℕ) (xs : List (ℕ × List ℕ)) → length xs ≤ n + 1
     → reverse (map sent_packet (drop n xs)) ≡ option_to_list (option_map sent_packet (slice_get xs n))
 last_left n [] few = ap (λ ys. reverse (map sent_packet ys)) (drop_none n)
 last_left zero (x ∷ []) few = refl
 last_left zero (x ∷ (y ∷ xs)) few = absurd (omega arith)
 last_left (suc n) (x ∷ xs) few = last_left n xs (omega arith)
 
-pub left_oldest : (n : ℕ) (x : ℕ × Vec ℕ) (xs : List (ℕ × Vec ℕ)) → length xs ≤ n
+pub left_oldest : (n : ℕ) (x : ℕ × List ℕ) (xs : List (ℕ × List ℕ)) → length xs ≤ n
     → reverse (map sent_packet xs) ++ sent_packet x ∷ []
     ≡ option_to_list (option_map sent_packet (slice_get (x ∷ xs) n)) ++ reverse (map sent_packet (take n (x ∷ xs)))
 left_oldest n x xs few =
@@ -84,13 +83,13 @@ left_oldest n x xs few =
 abbrev has_seq : ℕ → SentPacket → Bool
 has_seq seq p = p.number % SEQ_CYCLE == seq
 
-number_of : (packets : List (ℕ × Vec ℕ)) (k : ℕ) (d : SentPacket) → k < length packets
+number_of : (packets : List (ℕ × List ℕ)) (k : ℕ) (d : SentPacket) → k < length packets
     → (get_or (map sent_packet packets) k d).number % SEQ_CYCLE ≡ get_or (sequence_numbers packets) k 0
 number_of [] k d inside = absurd (omega arith)
 number_of (p ∷ packets) zero d inside = refl
 number_of (p ∷ packets) (suc k) d inside = number_of packets k d (omega arith)
 
-sent_at : (packets : List (ℕ × Vec ℕ)) (k : ℕ) → slice_get (map sent_packet packets) k ≡ option_map sent_packet (slice_get packets k)
+sent_at : (packets : List (ℕ × List ℕ)) (k : ℕ) → slice_get (map sent_packet packets) k ≡ option_map sent_packet (slice_get packets k)
 sent_at [] k = refl
 sent_at (p ∷ packets) zero = refl
 sent_at (p ∷ packets) (suc k) = sent_at packets k
@@ -101,7 +100,7 @@ has_own p seq same = grind (arith, nat_tests)
 has_other : (p : SentPacket) (seq : ℕ) → p.number % SEQ_CYCLE ≢ seq → has_seq seq p ≡ false
 has_other p seq other = grind (arith, nat_tests)
 
-latest_kept : (packets : List (ℕ × Vec ℕ)) (seq place : ℕ) → position_or_len (has_seq seq) (map sent_packet packets) ≡ place
+latest_kept : (packets : List (ℕ × List ℕ)) (seq place : ℕ) → position_or_len (has_seq seq) (map sent_packet packets) ≡ place
     → last_kept_with (reverse (map sent_packet packets)) seq ≡ option_map (λ (p : SentPacket). p.bytes) (slice_get (map sent_packet packets) place)
 latest_kept packets seq place is =
     ap (λ items. option_map (λ (p : SentPacket). p.bytes) (find (has_seq seq) items)) (reverse-reverse (map sent_packet packets))
@@ -110,11 +109,11 @@ latest_kept packets seq place is =
 abbrev nothing : SentPacket
 nothing = record { number = 0; bytes = [] }
 
-pub found_latest : (packets : List (ℕ × Vec ℕ)) (seq back : ℕ) (x : ℕ × Vec ℕ) → IsLatestWith seq (sequence_numbers packets) back
-    → Some x ≡ slice_get packets back → Some x.1.items ≡ last_kept_with (reverse (map sent_packet packets)) seq
+pub found_latest : (packets : List (ℕ × List ℕ)) (seq back : ℕ) (x : ℕ × List ℕ) → IsLatestWith seq (sequence_numbers packets) back
+    → Some x ≡ slice_get packets back → Some x.1 ≡ last_kept_with (reverse (map sent_packet packets)) seq
 found_latest packets seq back x is there =
     let items = map sent_packet packets in
-    let within : back < length packets = omega (arith, is.inside, length-map packets (λ (p : ℕ × Vec ℕ). p.0 % SEQ_CYCLE)) in
+    let within : back < length packets = omega (arith, is.inside, length-map packets (λ (p : ℕ × List ℕ). p.0 % SEQ_CYCLE)) in
     let place : position_or_len (has_seq seq) items ≡ back =
     position_or_len_is (has_seq seq) items back nothing (omega (arith, length-map packets sent_packet))
     (λ k below. has_other (get_or items k nothing) seq (λ same.
@@ -123,12 +122,12 @@ found_latest packets seq back x is there =
     let at : slice_get items back ≡ Some (sent_packet x) = sent_at packets back ∙ ap (option_map sent_packet) (sym there) in
     sym (latest_kept packets seq back place ∙ ap (option_map (λ (p : SentPacket). p.bytes)) at)
 
-pub missed_latest : (packets : List (ℕ × Vec ℕ)) (seq : ℕ)
+pub missed_latest : (packets : List (ℕ × List ℕ)) (seq : ℕ)
     → ((k : ℕ) → k < length (sequence_numbers packets) → get_or (sequence_numbers packets) k 0 ≢ seq)
     → None ≡ last_kept_with (reverse (map sent_packet packets)) seq
 missed_latest packets seq none =
     let items = map sent_packet packets in
-    let counted : length (sequence_numbers packets) ≡ length packets = length-map packets (λ (p : ℕ × Vec ℕ). p.0 % SEQ_CYCLE) in
+    let counted : length (sequence_numbers packets) ≡ length packets = length-map packets (λ (p : ℕ × List ℕ). p.0 % SEQ_CYCLE) in
     let place : position_or_len (has_seq seq) items ≡ length items =
     position_or_len_is (has_seq seq) items (length items) nothing (omega arith)
     (λ k below.

@@ -1,6 +1,5 @@
 -- What a ring keeps.
 use Rattle.std.specs.Prelude.{◌==◌, ℕ, ◌%◌, List, [], ◌∷◌, ◌++◌, find, reverse, Option, option_map}
-use Rattle.std.specs.Global.{Vec}
 use Rattle.circular_buffer.specs.Buffer.{keep_last}
 use Rattle.rtp_packet.specs.declared.header.TheConstants.{SEQ_CYCLE}
 
@@ -14,8 +13,8 @@ pub record Kept : Type 0 where
   pub capacity : ℕ
   pub items : List SentPacket
 
-abbrev pub sent_packet : ℕ × Vec ℕ → SentPacket
-sent_packet p = record { number = p.0; bytes = p.1.items }
+abbrev pub sent_packet : ℕ × List ℕ → SentPacket
+sent_packet p = record { number = p.0; bytes = p.1 }
 
 -- the bytes of the latest packet whose number is congruent to seq modulo 65536
 abbrev pub last_kept_with : List SentPacket → ℕ → Option (List ℕ)

@@ -6,6 +6,7 @@ ghost use Rattle.circular_buffer.specs.Buffer.{keep_last};
 
 use crate::chains::Chains;
 use circular_buffer::HeapCircularBuffer;
+use rewrite::Readdressed;
 use rtp_packet::SEQ_CYCLE;
 use std::alloc::{AllocError, Allocator, Global};
 use std::marker::Model;
@@ -13,10 +14,10 @@ use std::marker::Model;
 /// The most packets that a ring may keep.
 pub const MAX_CAPACITY: usize = 512;
 
-/// Packets from the newest to the oldest, each with its outgoing number and its bytes.
-pub type Packets<A> = HeapCircularBuffer<(u64, Vec<u8>), A>;
+/// Packets from the newest to the oldest, each with its outgoing number.
+pub type Packets<A> = HeapCircularBuffer<(u64, Readdressed), A>;
 
-/// The last packets of a leg, each with its outgoing number and its bytes.
+/// The last packets of a leg, each with its outgoing number. Of packets that many legs keep the bytes are shared.
 #[derive(Drop)]
 pub struct Ring<A: Allocator = Global> {
     packets: Packets<A>,
@@ -57,24 +58,24 @@ impl<A: Allocator> Ring<A> {
     }
 
     /// Keeps a packet as the newest. Answers the packet that it pushed out, the oldest of a full ring.
-    pub fn keep(&mut self, number: u64, bytes: Vec<u8>) -> Option<(u64, Vec<u8>)>
+    pub fn keep(&mut self, number: u64, packet: Readdressed) -> Option<(u64, Readdressed)>
         ensures kept { self.new ≡ record self.old {
           items = keep_last self.old.capacity
-              (self.old.items ++ record { number = number; bytes = bytes.items } ∷ []);
+              (self.old.items ++ record { number = number; bytes = packet } ∷ []);
         } }
-        ensures left { self.old.items ++ record { number = number; bytes = bytes.items } ∷ []
+        ensures left { self.old.items ++ record { number = number; bytes = packet } ∷ []
             ≡ option_to_list (option_map sent_packet result) ++ self.new.items }
     {
         self.chains.push(&self.packets, (number % SEQ_CYCLE) as u16);
-        self.packets.push_front((number, bytes))
+        self.packets.push_front((number, packet))
     }
 
-    /// The bytes of the latest packet kept whose number has these low 16 bits.
-    pub fn find(&self, seq: u16) -> Option<&[u8]>
+    /// The latest packet kept whose number has these low 16 bits.
+    pub fn find(&self, seq: u16) -> Option<&Readdressed>
         ensures { option_copied result ≡ last_kept_with self.now.items seq }
     {
         let back = self.chains.find(&self.packets, seq)?;
-        let (_, bytes) = self.packets.get(back)?;
-        Some(bytes.as_slice())
+        let (_, packet) = self.packets.get(back)?;
+        Some(packet)
     }
 }

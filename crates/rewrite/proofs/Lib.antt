@@ -1,1 +1,2 @@
 pub mod NumberingLemmas
+pub mod ReaddressedLemmas

@@ -1,3 +1,5 @@
 pub mod Skip
 pub mod Leg
 pub mod Numbering
+pub mod Readdressed
+pub mod Shared

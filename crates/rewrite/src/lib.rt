@@ -1,16 +1,21 @@
-//! The sequence numbers of what is sent on: each subscriber of a publisher sees one stream that counts
+//! What is sent on: its sequence numbers, and its bytes. Each subscriber of a publisher sees one stream that counts
 //! on without a gap or a repeat wherever its packets come from anew (RFC 3550, section 5.1; RFC 7667,
 //! section 3.7).
 //!
 //! Read `leg` first. A leg keeps a few numbers and no list; what they say of every list of packets
-//! stands in `laws`. No call allocates.
+//! stands in `laws`. A packet that goes out is `readdressed`: its bytes are `shared` by all the legs that it goes out on. No call on
+//! numbers allocates.
 #![tactic(auto)]
 
 pub mod laws;
 mod leg;
+mod readdressed;
 mod segment;
+mod shared;
 mod skip;
 
 pub use leg::Leg;
+pub use readdressed::Readdressed;
 pub use segment::NUMBER_LIMIT;
+pub use shared::SharedBytes;
 pub use skip::Skip;

@@ -4,7 +4,7 @@ ghost use Rattle.std.specs.Prelude.{◌≡◌};
 
 use crate::doubles::MemorySink;
 use crate::rooms::{is, on, packet, rtp, two_subscribers};
-use events::{Bytes, Job};
+use events::{Job, SharedBytes};
 use routes::{Blank, Naming, Order, RouteReader, RouteWriter, RoutesFault, routes};
 use std::alloc::{AllocError, Global};
 use std::marker::Brand;
@@ -21,7 +21,7 @@ const BOTH: Forwarded = Forwarded {
     missed: 0,
 };
 
-/// So many packets fill the rings of the room's legs, which keep 8, and bring buffers back from there.
+/// So many packets fill the rings of the room's legs, which keep 8, and bring their lists to the length that they need.
 const FIRST: u16 = 12;
 
 /// So many packets come behind those.
@@ -125,18 +125,21 @@ impl Sink for CountingSink {
     }
 }
 
-/// The job of the packet with this sequence number, in the buffer of the packet before it.
-fn next_packet(job: Job, seq: u16) -> Job {
-    let Job::Packet { publisher, bytes } = job else {
-        return job;
-    };
-    let mut buffer = bytes.into_vec();
-    if buffer.len() >= 4 {
-        buffer[2..4].copy_from_slice(&seq.to_be_bytes());
-    }
-    Job::Packet {
-        publisher,
-        bytes: Bytes::new(buffer),
+/// The job of the packet with this sequence number.
+fn packet_of(alloc: Global, seq: u16) -> Result<Job, AllocError> {
+    let mut bytes = rtp(0, [0, 16]);
+    bytes[2..4].copy_from_slice(&seq.to_be_bytes());
+    Ok(Job::Packet {
+        publisher: 0,
+        bytes: SharedBytes::copy_of(alloc, &bytes)?,
+    })
+}
+
+/// The same, made again where memory was refused for it.
+fn packet_of_at_last(alloc: Global, seq: u16) -> Result<Job, AllocError> {
+    match packet_of(alloc, seq) {
+        Ok(job) => Ok(job),
+        Err(AllocError) => packet_of(alloc, seq),
     }
 }
 
@@ -150,9 +153,8 @@ fn streams<J: Naming>(
 ) -> Result<(), Fail> {
     let mut worker = worker_at_last(alloc).ok_or("a worker")?;
     let mut sink = CountingSink { handed: 0 };
-    let mut job = packet_at_last(alloc, 0)?;
     for seq in 0..FIRST + STEADY {
-        job = next_packet(job, seq);
+        let job = packet_of_at_last(alloc, seq)?;
         let mut done = forward(writer, reader, &mut worker, &job, &mut sink);
         if seq < FIRST && done.is_err() {
             done = forward(writer, reader, &mut worker, &job, &mut sink);

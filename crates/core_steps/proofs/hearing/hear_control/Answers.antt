@@ -13,7 +13,7 @@ use Rattle.core_steps.proofs.hearing.hear_control.Goals as goal
 
 pub returns-in-Ok-clause-ok : goal.returns-in-Ok-clause-ok
 returns-in-Ok-clause-ok c =
-    λ bytes reports is. controls (state_of c.args.m.now) c.args.moment c.args.endpoint bytes c.prepare.new.self.datagram.items
+    λ bytes reports is. controls (state_of c.args.m.now) c.args.moment c.args.endpoint bytes c.prepare.new.self.datagram
     c.args.control.now.speaker.0 reports c.args.control.now.tmmbns c.args.m.now.asks.items c.as_slice-in-Ok.result.now c.args.outs.now.items
     c.push_asks.new.outs.items c.prepare.new.self.orders.items c.hear.new.orders.items c.hear.new.self c.note_report.new.room
     c.prepare.new.self.follow_ups.items c.push_after.new.follow_ups.items c.push_asks.new.follow_ups.items _ _ c.args.control.now.report c.requires
@@ -24,7 +24,7 @@ returns-in-Ok-clause-ok c =
     ++ filter_map (follow_up_after (setup_of c.args.m.now.setup) c.hear.new.self) os) c.as_slice.ensures.value)
     c.push_asks.ensures.follow_ups
     (c.push_asks.ensures.outs ∙ ap (λ (l : List Out). l ++ flat_map (λ (a : Ask). refusal_unless (follow_up_for c.args.m.now.setup.links c.hear.new.self c.args.endpoint a)) c.as_slice-in-Ok.result.now) c.in_ok-reserve.ensures.items) c.note_report.ensures
-    (tasks_from c.prepare.new.self.datagram.items c.hear.new.orders.items c.push_asks.new.follow_ups.items
+    (tasks_from c.prepare.new.self.datagram c.hear.new.orders.items c.push_asks.new.follow_ups.items
     c.prepare.new.self.orders_done c.prepare.new.self.follow_ups_done c.in_ok-prepare.ensures.orders_done
     c.in_ok-prepare.ensures.follow_ups_done)
     c.saturating_add-m.ensures

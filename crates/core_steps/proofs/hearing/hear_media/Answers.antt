@@ -16,7 +16,7 @@ pub returns-in-Ok-clause-ok : goal.returns-in-Ok-clause-ok
 returns-in-Ok-clause-ok c =
     let d = c.in_ok-take_datagram.ensures in
     let p = c.in_ok-prepare.ensures in
-    medias (state_of c.args.m.now) c.args.moment c.args.endpoint c.args.bytes.now c.take_datagram.new.self.datagram.items
+    medias (state_of c.args.m.now) c.args.moment c.args.endpoint c.args.bytes.now c.take_datagram.new.self.datagram
     c.args.packet.0.0 c.args.packet.1 c.args.packet.2 c.workers-workers.result c.args.outs.now.items c.reserve.new.self.items c.take_datagram.new.self.orders.items
     c.hear.new.orders.items c.hear.new.self c.received.new.self c.take_datagram.new.self.follow_ups.items
     c.push_after.new.follow_ups.items c.push_packet.new.follow_ups.items _ c.in_ok-reserve.ensures.items c.requires
@@ -27,7 +27,7 @@ returns-in-Ok-clause-ok c =
     ∙ ap (λ (os : List Order). c.take_datagram.new.self.follow_ups.items
     ++ filter_map (follow_up_after (setup_of c.args.m.now.setup) c.hear.new.self) os) c.as_slice.ensures.value)
     c.push_packet.ensures c.received.ensures
-    (tasks_from c.take_datagram.new.self.datagram.items c.hear.new.orders.items c.push_packet.new.follow_ups.items
+    (tasks_from c.take_datagram.new.self.datagram c.hear.new.orders.items c.push_packet.new.follow_ups.items
     c.take_datagram.new.self.orders_done c.take_datagram.new.self.follow_ups_done (d.orders_done ∙ p.orders_done)
     (d.follow_ups_done ∙ p.follow_ups_done))
 

@@ -11,14 +11,14 @@ use Rattle.core_steps.proofs.hearing.select.Goals as goal
 
 pub returns-in-Ok-clause-ok : goal.returns-in-Ok-clause-ok
 returns-in-Ok-clause-ok c =
-    selects (state_of c.args.m.now) c.args.moment c.args.leg c.args.on c.prepare.new.self.datagram.items c.args.outs.now.items
+    selects (state_of c.args.m.now) c.args.moment c.args.leg c.args.on c.prepare.new.self.datagram c.args.outs.now.items
     c.reserve.new.self.items c.prepare.new.self.orders.items c.select.new.orders.items c.select.new.self c.prepare.new.self.follow_ups.items
     c.push_after.new.follow_ups.items _ c.in_ok-reserve.ensures.items c.requires c.knows_counts.ensures.lost
     c.knows_counts.ensures.tmmbns c.in-Ok.ensures c.in_ok-prepare.ensures.orders c.in_ok-prepare.ensures.follow_ups
     (c.push_after.ensures.items
     ∙ ap (λ (os : List Order). c.prepare.new.self.follow_ups.items
     ++ filter_map (follow_up_after (setup_of c.args.m.now.setup) c.select.new.self) os) c.as_slice.ensures.value)
-    (tasks_from c.prepare.new.self.datagram.items c.select.new.orders.items c.push_after.new.follow_ups.items
+    (tasks_from c.prepare.new.self.datagram c.select.new.orders.items c.push_after.new.follow_ups.items
     c.prepare.new.self.orders_done c.prepare.new.self.follow_ups_done c.in_ok-prepare.ensures.orders_done
     c.in_ok-prepare.ensures.follow_ups_done)
 

@@ -38,10 +38,7 @@ returns-else-is_busy-clause-ok c =
     (state_of c.hear.new.m) c.hear.new.outs.items c.hear.result c.in-Hear.is
     (step-idle (state_of c.args.m.now) (IsHearing (state_of c.args.m.now) c.in-Hear.moment c.in-Hear.endpoint c.in-Hear.bytes)
     c.args.outs.now.items (state_of c.hear.new.m) c.hear.new.outs.items c.hear.result (sym c.is_busy.ensures ∙ c.if-is_busy.false)
-    (let P : List ℕ → Type 0 = λ b. OnOk c.hear.result
-    (Leaves (IsHearing (state_of c.args.m.now) c.in-Hear.moment c.in-Hear.endpoint b) (state_of c.args.m.now) c.args.outs.now.items
-    (state_of c.hear.new.m) c.hear.new.outs.items) in
-    subst P c.as_slice.ensures c.hear.ensures.ok))
+    c.hear.ensures.ok)
 
 pub returns-else-is_busy-clause-err : goal.returns-else-is_busy-clause-err
 returns-else-is_busy-clause-err c = c.hear.ensures.err

@@ -17,7 +17,7 @@ pub returns-clause-ok : goal.returns-clause-ok
 returns-clause-ok c =
     λ outs. ticks_so (state_of c.args.m.now) c.args.moment outs c.tick.new.self c.prepare.new.self.orders.items c.tick.new.orders.items
     (length c.endpoints.result.now) c.is_report_due-is_due.result c.push_after.new.follow_ups.items c.push_due.new.follow_ups.items
-    c.push_expiring.new.follow_ups.items c.push_reports.new.follow_ups.items c.prepare.new.self.datagram.items _ _ c.requires
+    c.push_expiring.new.follow_ups.items c.push_reports.new.follow_ups.items c.prepare.new.self.datagram _ _ c.requires
     c.knows_counts.ensures.lost c.knows_counts.ensures.tmmbns c.in_ok-prepare.ensures.orders c.in_ok-tick.ensures.ok.0
     c.in_ok-tick.ensures.ok.1
     (record {
@@ -31,7 +31,7 @@ returns-clause-ok c =
       expiring = c.push_expiring.ensures.items;
       reporting = c.push_reports.ensures;
     })
-    (tasks_from c.prepare.new.self.datagram.items c.tick.new.orders.items c.push_reports.new.follow_ups.items
+    (tasks_from c.prepare.new.self.datagram c.tick.new.orders.items c.push_reports.new.follow_ups.items
     c.prepare.new.self.orders_done c.prepare.new.self.follow_ups_done c.in_ok-prepare.ensures.orders_done
     c.in_ok-prepare.ensures.follow_ups_done)
     (c.reported_after-m.ensures ∙ ap (λ (n : ℕ). if c.is_report_due-is_due.result then n else c.args.m.now.reported) c.moment.ensures)

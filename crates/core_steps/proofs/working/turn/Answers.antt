@@ -28,12 +28,12 @@ returns-in-Nobody-clause-ok c =
 abbrev with_legs : WorkerState → List LegState → WorkerState
 with_legs s legs = record s { hand = free; legs = legs }
 
-pub returns-in_ok-forward-in-Legs-clause-ok : goal.returns-in_ok-forward-in-Legs-clause-ok
-returns-in_ok-forward-in-Legs-clause-ok c =
+pub returns-in_ok-do_job-in-Legs-clause-ok : goal.returns-in_ok-do_job-in-Legs-clause-ok
+returns-in_ok-do_job-in-Legs-clause-ok c =
     forwarding-turns (setup_of c.args.setup.now) c.args.rows.now c.args.desks.now (worker_state c.args.w.now) _ c.args.outs.now.items
-    c.forward.new.outs.items c.in-Doing.job (ap (hand_in c.args.w.now.effect) c.in-Doing.is) c.in-Legs.ensures.value
-    (ap (with_legs (worker_state c.args.w.now)) c.in_ok-forward-in-Legs.ensures.legs)
-    c.in_ok-forward-in-Legs.ensures.outs
+    c.do_job.new.outs.items c.in-Doing.job (ap (hand_in c.args.w.now.effect) c.in-Doing.is) c.in-Legs.ensures.value
+    (ap (with_legs (worker_state c.args.w.now)) c.in_ok-do_job-in-Legs.ensures.legs)
+    c.in_ok-do_job-in-Legs.ensures.outs
 
 pub returns-in-Some-clause-ok : goal.returns-in-Some-clause-ok
 returns-in-Some-clause-ok c =

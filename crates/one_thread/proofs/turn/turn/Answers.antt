@@ -1,9 +1,12 @@
-use Rattle.std.proofs.Common.{◌≡◌, ◌∙◌, ◌∷◌, [], List, ℕ, sym, subst, refl, arith}
+use Rattle.std.proofs.Common.{◌≡◌, ◌∙◌, ◌∷◌, ◌++◌, [], List, ℕ, sym, subst, refl, arith}
 use Rattle.std.proofs.lemmas.List.{with_items_is}
+use Rattle.core_steps.specs.World.{WorldState}
+use Rattle.events.specs.declared.event.Event.{Event}
 use Rattle.events.specs.declared.output.Out.{Out}
 use Rattle.outside.specs.Outside.{Grows, arrival_of}
 use Rattle.one_thread.specs.declared.tally.Tally.{Tally}
-use Rattle.one_thread.specs.Turns.{Hands}
+use Rattle.one_thread.specs.Driving.{Drives}
+use Rattle.one_thread.specs.Turns.{Hands, brought_at, tick_at}
 use Rattle.one_thread.proofs.TurnLemmas.{on_err_of, turn_broken, turn_made}
 use Rattle.one_thread.proofs.turn.turn.Goals as goal
 
@@ -35,12 +38,16 @@ returns-clause-ok g c =
       sent = c.args.engine.now.tally.sent;
       failed = c.args.engine.now.tally.failed;
     } in
+    let events : List Event = brought_at c.moment-moment.result (arrival_of buffer c.receive-received.result)
+    ++ tick_at c.args.engine.now.ticks c.moment-moment.result in
+    let driven = subst (λ (w : WorldState). Drives events c.args.engine.now.world c.args.engine.now.outs.items w c.take_turn.new.outs.items)
+    (sym c.take_back.ensures.world) c.in_ok-before.ensures.ok in
     turn_made c.args.engine.now.ticks c.take_turn.new.ticks c.args.engine.now.faults c.faults_with-engine.result c.is_stop-engine.result c.args.engine.now.world
-    c.take_turn.new.world (g.Src.Source.given c.args.source.now) (g.Src.Source.given c.receive-received.new.self)
+    c.take_back.new.self (g.Src.Source.given c.args.source.now) (g.Src.Source.given c.receive-received.new.self)
     (g.Clk.Clock.told c.args.clock.now) (g.Clk.Clock.told c.moment-moment.new.self) (g.Snk.Sink.shown c.args.sink.now)
     (g.Snk.Sink.shown c.give_all.new.sink) c.args.engine.now.tally mid c.give_all.new.tally (arrival_of buffer c.receive-received.result)
     c.moment-moment.result c.args.engine.now.outs.items c.take_turn.new.outs.items c.requires.empty
-    (subst P (sym kept) c.receive-received.ensures.given) c.moment-moment.ensures.told c.in_ok-before.ensures.ok
+    (subst P (sym kept) c.receive-received.ensures.given) c.moment-moment.ensures.told driven
     c.in_ok-before.ensures.noted (c.faults_with-engine.ensures buffer) (c.is_stop-engine.ensures buffer) (c.heard_with-engine.ensures buffer) refl refl
     (subst (λ (l : List Out). Hands l (g.Snk.Sink.shown c.args.sink.now) (g.Snk.Sink.shown c.give_all.new.sink) mid c.give_all.new.tally)
     c.as_slice-2.ensures.value c.give_all.ensures)

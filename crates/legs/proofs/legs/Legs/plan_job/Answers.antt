@@ -1,5 +1,4 @@
-use Rattle.std.proofs.Common.{ℕ, List, ap, sym, ◌∙◌}
-use Rattle.events.specs.declared.job.Job.TheVariants as job
+use Rattle.std.proofs.Common.{ap, sym, ◌∙◌}
 use Rattle.legs.specs.Planning.{job_plan}
 use Rattle.legs.proofs.LegLemmas.{unplanned, moved, desk_request, desk_pli}
 use Rattle.legs.proofs.legs.Legs.plan_job.Goals as goal
@@ -7,9 +6,7 @@ use Rattle.legs.proofs.legs.Legs.plan_job.Goals as goal
 pub returns-in-Packet : goal.returns-in-Packet
 returns-in-Packet c =
     moved c.plan_packets.result c.plan_packets.new.plan c.args.plan.now _ _
-    (ap (λ (bytes : List ℕ). job_plan c.args.rows.now c.args.self.now (job.Packet c.in-Packet.publisher bytes)) c.as_slice.ensures
-    ∙ ap (job_plan c.args.rows.now c.args.self.now) (sym c.in-Packet.is))
-    c.plan_packets.ensures
+    (ap (job_plan c.args.rows.now c.args.self.now) (sym c.in-Packet.is)) c.plan_packets.ensures
 
 pub returns-in-Resend : goal.returns-in-Resend
 returns-in-Resend c =

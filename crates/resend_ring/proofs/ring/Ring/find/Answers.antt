@@ -1,6 +1,5 @@
 use Rattle.std.proofs.Common.{ℕ, arith}
 use Rattle.std.specs.Prelude.{◌%◌}
-use Rattle.std.specs.Global.{Vec}
 use Rattle.std.proofs.lemmas.List.{length-map}
 use Rattle.rtp_packet.specs.declared.header.TheConstants.{SEQ_CYCLE}
 use Rattle.resend_ring.proofs.ChainLemmas.{number_past}
@@ -11,12 +10,12 @@ pub returns-in_err-back : goal.returns-in_err-back
 returns-in_err-back g c =
     rw (← c.self.view_is, c.from_residual.ensures) (missed_latest c.self.inside.packets.items c.args.seq c.in_err-back.ensures)
 
-pub returns-in_err-bytes : goal.returns-in_err-bytes
-returns-in_err-bytes g c =
-    let past = number_past c.self.inside.packets.items c.in_ok-back.back c.in_err-bytes.ensures in
+pub returns-in_err-packet : goal.returns-in_err-packet
+returns-in_err-packet g c =
+    let past = number_past c.self.inside.packets.items c.in_ok-back.back c.in_err-packet.ensures in
     absurd (omega (arith, past, c.in_ok-back.ensures.inside))
 
 pub returns : goal.returns
 returns g c =
-    rw (← c.self.view_is, c.as_slice.ensures.value)
-    (found_latest c.self.inside.packets.items c.args.seq c.in_ok-back.back c.in_ok-bytes.field-0.now c.in_ok-back.ensures c.in_ok-bytes.ensures)
+    rw (← c.self.view_is)
+    (found_latest c.self.inside.packets.items c.args.seq c.in_ok-back.back c.in_ok-packet.field-0.now c.in_ok-back.ensures c.in_ok-packet.ensures)

@@ -1,0 +1,64 @@
+//! A packet that goes out.
+
+ghost use Rattle.std.specs.Prelude.{◌≡◌, ◌≤◌, length, OnOk};
+ghost use Rattle.rewrite.specs.Readdressed.{readdressed_bytes};
+
+use crate::shared::SharedBytes;
+use byteorder::{BigEndian, ByteOrder};
+use std::alloc::AllocError;
+use std::marker::Model;
+use tmmbr_tuple::Ssrc;
+
+/// How many bytes the fixed header of a packet has (RFC 3550, section 5.1).
+pub const FIXED_HEADER: usize = 12;
+
+/// A packet as it goes out: the bytes of the one that came, which are shared, and the source and the sequence number that stand in
+/// it in place of its own. Contracts see it as its bytes.
+#[derive(Drop)]
+pub struct Readdressed {
+    packet: SharedBytes,
+    ssrc: Ssrc,
+    sequence_number: u16,
+}
+
+impl Model for Readdressed {
+    ghost use Rattle.std.specs.Prelude.{◌≤◌, List, ℕ, length};
+    ghost use Rattle.rewrite.specs.Readdressed.{readdressed_bytes};
+
+    ghost Value = { List ℕ };
+
+    ghost view = { λ r. readdressed_bytes r.ssrc.0 r.sequence_number r.packet };
+
+    ghost invariant = { λ r. 12 ≤ length r.packet };
+}
+
+impl Readdressed {
+    /// The packet under this source and sequence number.
+    pub fn new(packet: SharedBytes, ssrc: Ssrc, sequence_number: u16) -> Readdressed
+        requires header { 12 ≤ length packet }
+        ensures { result ≡ readdressed_bytes ssrc.0 sequence_number packet }
+    {
+        Readdressed {
+            packet,
+            ssrc,
+            sequence_number,
+        }
+    }
+
+    /// How many bytes it has.
+    pub fn len(&self) -> usize
+        ensures { result ≡ length self.now }
+    {
+        self.packet.as_slice().len()
+    }
+
+    /// Writes its bytes over as many others.
+    pub fn copy_to(&self, out: &mut [u8])
+        requires { length out.old ≡ length self.now }
+        ensures { out.new ≡ self.now }
+    {
+        out.copy_from_slice(self.packet.as_slice());
+        BigEndian::write_u16(&mut out[2..], self.sequence_number);
+        BigEndian::write_u32(&mut out[8..], self.ssrc.0);
+    }
+}

@@ -1,0 +1,71 @@
+//! The bytes of a datagram that many hold.
+
+ghost use Rattle.std.specs.Prelude.{◌≡◌, [], IfOk};
+
+use std::alloc::{AllocError, Global};
+use std::marker::Model;
+use std::sync::Arc;
+
+/// The bytes of a datagram, kept once for all that hold them: jobs of several workers, and packets that legs keep. Contracts see
+/// them as a list. The last holder that lets go of them frees them.
+#[derive(Drop)]
+pub struct SharedBytes {
+    /// Where they are; `None` of no bytes.
+    bytes: Option<Arc<Vec<u8>>>,
+}
+
+impl Model for SharedBytes {
+    ghost use Rattle.std.specs.Prelude.{List, ℕ};
+    ghost use Rattle.rewrite.specs.Shared.{shared_bytes};
+
+    ghost Value = { List ℕ };
+
+    ghost view = { λ s. shared_bytes s.bytes };
+}
+
+impl SharedBytes {
+    /// No bytes.
+    pub fn none() -> SharedBytes
+        ensures { result ≡ [] }
+    {
+        SharedBytes { bytes: None }
+    }
+
+    /// These bytes, which aren't copied.
+    pub fn new(alloc: Global, bytes: Vec<u8>) -> Result<SharedBytes, AllocError>
+        ensures { IfOk result (λ shared. shared ≡ bytes.items) }
+    {
+        Ok(SharedBytes {
+            bytes: Some(Arc::new(alloc, bytes)?),
+        })
+    }
+
+    /// A copy of these bytes.
+    pub fn copy_of(alloc: Global, bytes: &[u8]) -> Result<SharedBytes, AllocError>
+        ensures { IfOk result (λ shared. shared ≡ bytes.now) }
+    {
+        SharedBytes::new(alloc, bytes.to_vec(alloc)?)
+    }
+
+    /// The same bytes for one holder more; no byte is copied. Refused where they have too many holders.
+    pub fn share(&self) -> Result<SharedBytes, AllocError>
+        ensures { IfOk result (λ shared. shared ≡ self.now) }
+    {
+        match &self.bytes {
+            Some(bytes) => Ok(SharedBytes {
+                bytes: Some(Arc::try_clone(bytes)?),
+            }),
+            None => Ok(SharedBytes::none()),
+        }
+    }
+
+    /// These bytes.
+    pub fn as_slice(&self) -> &[u8]
+        ensures { result.now ≡ self.now }
+    {
+        match &self.bytes {
+            Some(bytes) => bytes.as_slice(),
+            None => &[],
+        }
+    }
+}
