@@ -6,7 +6,7 @@ set -euo pipefail
 
 . "$(dirname "$0")/../program.sh"
 
-begin ring_bench resend_ring rtcp_feedback rtcp_compound tmmbr_tuple bumpalo byteorder arrayvec circular_buffer thiserror
+begin ring_bench resend_ring rewrite rtcp_feedback rtcp_compound tmmbr_tuple bumpalo byteorder arrayvec circular_buffer thiserror
 build 1
 "$program" "${1:-10}"
 for capacity in 8 64 512; do

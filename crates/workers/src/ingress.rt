@@ -161,6 +161,7 @@ impl<'a, D: DeskCalls, C: SeatCalls, J: Naming, S: Sink + Drop> Ingress<'a, D, C
         match duty {
             Duty::Order(order) => self.do_order(rt, order),
             Duty::Push { worker, job } => {
+                self.make_room(rt, worker, &job);
                 self.push(worker, job);
                 Ok(())
             }
@@ -220,6 +221,15 @@ impl<'a, D: DeskCalls, C: SeatCalls, J: Naming, S: Sink + Drop> Ingress<'a, D, C
             let moment = self.core.moment();
             settle(rt, &self.crew, self.counts, &mut self.patience, moment);
             self.is_unsettled = false;
+        }
+    }
+
+    /// Waits, for a little, until the workers are done, if this is a report and the ring that it is for is mostly full: a round of
+    /// reports in a full room may be longer than a ring.
+    fn make_room<R: Wait>(&mut self, rt: &R, worker: u16, job: &Job) {
+        if matches!(job, Job::Report { .. }) && self.crew.is_crowded(worker) {
+            let moment = self.core.moment();
+            settle(rt, &self.crew, self.counts, &mut self.patience, moment);
         }
     }
 

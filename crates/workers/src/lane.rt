@@ -14,6 +14,9 @@ use std::sync::Wait;
 use std::thread;
 use std::thread::{JoinHandle, Threads};
 
+/// A ring that has fewer free places is mostly full.
+const FEW_SLOTS: usize = RING / 4;
+
 /// The two ends of a worker's ring: where items are put, and where they are taken.
 pub(crate) type RingEnds<J> = (Producer<Item<J>, Global>, Consumer<Item<J>, Global>);
 
@@ -47,6 +50,11 @@ impl<J: Naming, C: SeatCalls> Lane<J, C> {
             }
             Err(PushError::Full(item)) => Some(item),
         }
+    }
+
+    /// Whether the ring is mostly full.
+    fn is_crowded(&mut self) -> bool {
+        self.ring.slots() < FEW_SLOTS
     }
 
     /// Puts the stop after all jobs, as soon as the ring has a place for it.
@@ -115,6 +123,14 @@ impl<J: Naming, C: SeatCalls> Crew<J, C> {
         match counts.station(worker) {
             Some(station) => self.lanes[at].push(station, item),
             None => Some(item),
+        }
+    }
+
+    /// Whether this worker's ring is mostly full.
+    pub(crate) fn is_crowded(&mut self, worker: u16) -> bool {
+        match self.lanes.get_mut(usize::from(worker)) {
+            Some(lane) => lane.is_crowded(),
+            None => false,
         }
     }
 

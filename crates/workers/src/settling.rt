@@ -1,4 +1,5 @@
-//! What was heard before a row is published is done before: the ingress waits for its workers, for a little.
+//! The ingress waits for its workers, for a little: what was heard before a row is published is done before, and a round of reports finds
+//! room in their rings.
 
 ghost use Rattle.std.specs.Prelude.{◌≡◌};
 ghost use Rattle.workers.specs.Patience.{is_later};
