@@ -186,6 +186,8 @@ class Crate:
         if left is not None:
             self.leave(room)
             os.close(left)
+        # (what a killed rt wrote while its room was taken down)
+        shutil.rmtree(room, ignore_errors=True)
         return True
 
     def enter(self, room):

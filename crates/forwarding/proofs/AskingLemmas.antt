@@ -11,7 +11,6 @@ use Rattle.rate_desk.specs.declared.receipt.Receipt.{Receipt}
 use Rattle.rate_desk.specs.declared.receipt.HouseFault.{HouseFault}
 use Rattle.desk.specs.State.{DeskState}
 use Rattle.rate_desk.specs.Shares.{HoldState, IsLastCall, SeatState, Counts, IsReceiptOf, IsFaultOf, IsTold}
-use Rattle.routes.specs.Views.{ReaderView}
 use Rattle.events.specs.declared.job.Job.{Job}
 use Rattle.notices.specs.declared.notification.Notification.{Notification}
 use Rattle.events.specs.declared.output.Out.{Out}
@@ -23,7 +22,6 @@ use Rattle.forwarding.specs.declared.done.ForwardFault.{ForwardFault}
 use Rattle.forwarding.specs.declared.question.Question.{Question}
 use Rattle.forwarding.specs.Asking.{IsAsked, nowhere, unrecorded, IsOfLastCall, IsTelling, GivesUp, Notifies, QuestionOf, Feeds, Asking, Telling, Terms, picture_of}
 use Rattle.forwarding.specs.Forwarding.{NotifierState, ForwarderState}
-use Rattle.outside.specs.Outside.{SinkView}
 use Rattle.forwarding.specs.Handing.{Hands, nothing_done}
 
 pub asked_nowhere : (gap request_ms publishers : ℕ) (q : Question) (seat : SeatState) → publishers ≤ q.publisher

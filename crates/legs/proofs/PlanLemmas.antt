@@ -15,9 +15,8 @@ use Rattle.legs.specs.declared.leg.LegState.{LegState}
 use Rattle.events.specs.declared.output.Out.{Out}
 use Rattle.events.specs.declared.output.Out.TheVariants as out
 use Rattle.legs.specs.declared.plan.Planned.{Planned}
-use Rattle.legs.specs.declared.plan.Change.TheVariants.{Nothing, Keep, Count}
 use Rattle.legs.specs.Legs.{takes, stands, row_of, answer_on, leg_report_bytes, leg_goodbye_bytes, packet_outs, packet_after, resend_outs, resent, leg_datagrams, leg_after, job_datagrams, legs_after}
-use Rattle.legs.specs.Plan.{plan_outs, changed_at, changed_by, applied_one, legs_after_plan}
+use Rattle.legs.specs.Plan.{plan_outs, changed_at, applied_one, legs_after_plan}
 use Rattle.legs.specs.Planning.{packet_planned, resend_planned, resends, sent_alone, leg_plan, job_plan}
 
 -- ---- a leg at a place

@@ -39,7 +39,10 @@ pub enum Change {
         packet: Readdressed,
     },
     /// The leg at this place counts a packet that goes out again, with so many octets of payload.
-    Count { place: u16, octets: u64 },
+    Count {
+        place: u16,
+        octets: u64,
+    },
 }
 
 /// A plan: what is planned, in order. It takes its bytes from buffers that were used before.

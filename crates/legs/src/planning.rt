@@ -99,11 +99,7 @@ pub fn plan_packet(
 }
 
 /// The bytes of a packet that is kept.
-fn kept_bytes(
-    packet: &Readdressed,
-    alloc: Global,
-    plan: &mut Plan,
-) -> Result<Bytes, AllocError>
+fn kept_bytes(packet: &Readdressed, alloc: Global, plan: &mut Plan) -> Result<Bytes, AllocError>
     ensures ok { IfOk result (λ bytes. bytes ≡ packet.now) }
     ensures plan { plan.new ≡ plan.old }
 {

@@ -5,9 +5,7 @@ use std::test::Fail;
 use tmmbr_tuple::Ssrc;
 
 /// A packet of source 16 with sequence number 8 and the payload `aa bb` (RFC 3550, section 5.1).
-const PACKET: [u8; 14] = [
-    0x80, 0x60, 0, 8, 0, 0, 0x0b, 0xb8, 0, 0, 0, 16, 0xaa, 0xbb,
-];
+const PACKET: [u8; 14] = [0x80, 0x60, 0, 8, 0, 0, 0x0b, 0xb8, 0, 0, 0, 16, 0xaa, 0xbb];
 
 /// The packet says these bytes, where there were others.
 fn says(rt: &impl Abort, packet: &Readdressed, bytes: [u8; 14]) {
@@ -28,9 +26,7 @@ fn goes_out_under_two_sources(rt: HostRuntime) -> Result<(), Fail> {
     says(
         &rt,
         &first,
-        [
-            0x80, 0x60, 0, 100, 0, 0, 0x0b, 0xb8, 0, 0, 1, 1, 0xaa, 0xbb,
-        ],
+        [0x80, 0x60, 0, 100, 0, 0, 0x0b, 0xb8, 0, 0, 1, 1, 0xaa, 0xbb],
     );
     says(
         &rt,

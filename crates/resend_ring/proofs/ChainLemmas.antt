@@ -1,6 +1,6 @@
 -- What heads and links lead to.
-use Rattle.std.proofs.Common.{◌≡◌, ◌≢◌, ℕ, zero, suc, ◌+◌, ◌-◌, ◌*◌, ◌<◌, ◌≤◌, List, [], ◌∷◌, length, get_or, refl, sym, ap, ◌∙◌, inl, inr, subst, arith}
-use Rattle.std.specs.Prelude.{◌%◌, ◌/◌, ◌==◌, ◌⊎◌, Bool, true, false, map, slice_get, None, Some}
+use Rattle.std.proofs.Common.{◌≡◌, ◌≢◌, ℕ, zero, suc, ◌+◌, ◌-◌, ◌*◌, ◌<◌, ◌≤◌, List, [], ◌∷◌, length, get_or, sym, ap, ◌∙◌, inl, inr, subst, arith}
+use Rattle.std.specs.Prelude.{◌%◌, ◌/◌, ◌==◌, ◌⊎◌, Bool, true, false, slice_get, None, Some}
 use Rattle.std.specs.List.{position_or_len}
 use Rattle.std.proofs.lemmas.Bool.{cases_lt}
 use Rattle.std.proofs.lemmas.Bool.Decides.{nat_tests}

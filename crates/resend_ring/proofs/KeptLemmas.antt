@@ -1,6 +1,6 @@
 -- The last packets of a list.
 use Rattle.std.proofs.Common.{◌≡◌, ◌≢◌, ℕ, zero, suc, ◌+◌, ◌-◌, ◌<◌, ◌≤◌, List, [], ◌∷◌, ◌++◌, length, take, drop, get_or, refl, sym, ap, ◌∙◌, arith, length-append, length-drop, append_assoc, take-append-drop}
-use Rattle.std.specs.Prelude.{◌==◌, ◌%◌, Bool, true, false, map, reverse, find, slice_get, Option, None, Some, option_map}
+use Rattle.std.specs.Prelude.{◌==◌, ◌%◌, Bool, true, false, map, reverse, find, slice_get, None, Some, option_map}
 use Rattle.std.specs.Option.{option_to_list}
 use Rattle.std.specs.List.{position_or_len}
 use Rattle.std.proofs.lemmas.Bool.Decides.{nat_tests}

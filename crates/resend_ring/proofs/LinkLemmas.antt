@@ -1,11 +1,9 @@
 -- Links as packets come and go.
-use Rattle.std.proofs.Common.{◌≡◌, ◌≢◌, ℕ, zero, suc, ◌+◌, ◌-◌, ◌<◌, ◌≤◌, List, [], ◌∷◌, length, get_or, set, take, refl, sym, ap, ◌∙◌, inl, inr, subst, arith, length-set, length-take, get_or-set_other, get_or-set_same}
+use Rattle.std.proofs.Common.{◌≡◌, ◌≢◌, ℕ, zero, suc, ◌+◌, ◌<◌, ◌≤◌, List, ◌∷◌, length, get_or, set, refl, sym, ap, ◌∙◌, inl, inr, subst, arith, get_or-set_other, get_or-set_same}
 use Rattle.std.specs.Prelude.{◌%◌, min, Option, None, Some, MatchOption}
 use Rattle.std.proofs.lemmas.Bool.{cases_lt, cases_eq, cases_order}
-use Rattle.std.proofs.lemmas.List.{get_or-take}
-use Rattle.rtp_packet.specs.declared.header.TheConstants.{SEQ_CYCLE}
 use Rattle.resend_ring.specs.declared.chains.Found.{Found}
-use Rattle.resend_ring.specs.Chains.{IsLatest, IsLatestWith, IsFound, IsHead, AreHeads, AreLinks}
+use Rattle.resend_ring.specs.Chains.{IsLatest, IsLatestWith, IsFound, IsHead, AreLinks}
 use Rattle.resend_ring.proofs.ChainLemmas.{head_latest}
 
 -- ---- a packet comes

@@ -1,5 +1,5 @@
 -- The chains of a ring once a packet came, and the oldest of a full ring left.
-use Rattle.std.proofs.Common.{◌≡◌, ◌≢◌, ℕ, zero, suc, ◌+◌, ◌-◌, ◌<◌, ◌≤◌, List, ◌∷◌, length, get_or, set, take, refl, sym, ap, ◌∙◌, inl, inr, arith, length-set, length-take, get_or-set_other, get_or-set_same}
+use Rattle.std.proofs.Common.{◌≡◌, ℕ, zero, suc, ◌+◌, ◌-◌, ◌<◌, List, ◌∷◌, length, get_or, set, take, refl, sym, ap, ◌∙◌, arith, length-set, length-take, get_or-set_other, get_or-set_same}
 use Rattle.std.specs.Prelude.{◌%◌}
 use Rattle.std.proofs.lemmas.List.{get_or-take}
 use Rattle.circular_buffer.specs.Buffer.{buffer}

@@ -1,11 +1,11 @@
 -- What is known on the way along a chain.
-use Rattle.std.proofs.Common.{◌≡◌, ◌≢◌, ℕ, zero, suc, ◌+◌, ◌<◌, ◌≤◌, List, length, get_or, refl, sym, ap, ◌∙◌, inl, inr, subst, arith}
+use Rattle.std.proofs.Common.{◌≡◌, ◌≢◌, ℕ, ◌+◌, ◌<◌, ◌≤◌, List, length, get_or, refl, sym, ap, ◌∙◌, inl, inr, arith}
 use Rattle.std.specs.Prelude.{◌%◌, Option, None, Some, MatchOption}
 use Rattle.std.proofs.lemmas.Bool.{cases_lt}
 use Rattle.rtp_packet.specs.declared.header.TheConstants.{SEQ_CYCLE}
 use Rattle.resend_ring.specs.declared.chains.TheConstants.{MAX_CHAIN, MANY_CHAINS, FEW_CHAINS}
 use Rattle.resend_ring.specs.Chains.{IsChainCount, IsLatest, IsHead, AreLinks}
-use Rattle.resend_ring.proofs.ChainLemmas.{IsFirst, first_with, head_latest, passed, passed_more, passed_few}
+use Rattle.resend_ring.proofs.ChainLemmas.{first_with, head_latest, passed, passed_more, passed_few}
 
 -- So many turns led from the head to this place, by a link at newer. No packet with the number is newer.
 pub record IsWalked (chains seq : ℕ) (links seqs : List ℕ) (head turns : ℕ) (newer : Option ℕ) (back : ℕ) : Type 0 where

@@ -1,4 +1,4 @@
-use Rattle.std.proofs.Common.{◌≡◌, ◌≤◌, take}
+use Rattle.std.proofs.Common.{◌≤◌, take}
 use Rattle.forwarding.specs.Handing.{Hands, total_of}
 use Rattle.forwarding.proofs.sending.send_all.Given as goal
 

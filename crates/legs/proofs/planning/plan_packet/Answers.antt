@@ -1,10 +1,8 @@
 use Rattle.std.proofs.Common.{◌≡◌, ◌≤◌, ℕ, List, ap, sym, subst, length, ◌∙◌}
 use Rattle.std.specs.Prelude.{Ok}
 use Rattle.rewrite.specs.Leg.{answer_to, held_with}
-use Rattle.rewrite.specs.Readdressed.{readdressed_bytes}
 use Rattle.rtp_packet.specs.Parts.{rtp_packet_of}
 use Rattle.events.specs.declared.output.Out.TheVariants.{Send}
-use Rattle.legs.specs.declared.plan.Planned.{Planned}
 use Rattle.legs.specs.declared.plan.Change.TheVariants.{Keep}
 use Rattle.legs.specs.Legs.{outgoing_bytes}
 use Rattle.legs.specs.Planning.{packet_planned}
@@ -36,8 +34,11 @@ returns-in_ok-bytes-in-Ok-clause-ok c =
     let bytes : c.in_ok-bytes-in-Ok.bytes ≡ outgoing_bytes leg d c.in-Ok.number = c.in_ok-bytes-in-Ok.ensures.ok in
     let kept : c.new-kept.result ≡ outgoing_bytes leg d c.in-Ok.number =
     c.new-kept.ensures ∙ ap (λ (b : List ℕ). outgoing_bytes leg b c.in-Ok.number) (c.in_ok-share-in-Ok.ensures ∙ c.requires.same) in
-    let planned : record { out = Send leg.link.subscriber c.in_ok-bytes-in-Ok.bytes; change = Keep c.args.place c.next.new.self c.in-Ok.number
-    (length c.args.packet.now.payload.now) c.new-kept.result } ≡ packet_planned c.args.place leg c.args.turn d (Ok c.in-Ok.number) =
+    let planned : record {
+      out = Send leg.link.subscriber c.in_ok-bytes-in-Ok.bytes;
+      change = Keep c.args.place c.next.new.self c.in-Ok.number
+          (length c.args.packet.now.payload.now) c.new-kept.result;
+    } ≡ packet_planned c.args.place leg c.args.turn d (Ok c.in-Ok.number) =
     λ i. record { out = Send leg.link.subscriber (bytes i); change = Keep c.args.place (numbers i) c.in-Ok.number (octets i) (kept i) } in
     planned ∙ ap (packet_planned c.args.place leg c.args.turn d)
     (c.in-Ok.ensures.answer ∙ ap (answer_to leg.numbers c.args.turn) (sym number))

@@ -1,4 +1,4 @@
-use Rattle.std.proofs.Common.{◌≡◌, ◌≢◌, ◌<◌, ◌≤◌, ◌∙◌, length, get_or, sym, arith}
+use Rattle.std.proofs.Common.{◌∙◌, length, sym, arith}
 use Rattle.resend_ring.specs.Chains.{sequence_numbers}
 use Rattle.resend_ring.proofs.ChainLemmas.{number_at, number_past, number_fits, link_at, past_end}
 use Rattle.resend_ring.proofs.WalkLemmas.{walked_none, walked_more, walked_past, walked_enough}

@@ -1,4 +1,4 @@
-use Rattle.std.specs.Prelude.{◌≡◌, ◌<◌, ◌≤◌, length}
+use Rattle.std.specs.Prelude.{length}
 use Rattle.resend_ring.specs.Chains.{sequence_numbers}
 use Rattle.resend_ring.proofs.WalkLemmas.{IsWalked}
 use Rattle.resend_ring.proofs.chains.Chains.along.Given as goal

@@ -1,5 +1,5 @@
 use Rattle.std.proofs.Common.{sym, ap, ◌∙◌, arith}
-use Rattle.std.specs.Prelude.{ℕ, ◌%◌, length}
+use Rattle.std.specs.Prelude.{◌%◌, length}
 use Rattle.resend_ring.specs.Chains.{sequence_numbers}
 use Rattle.resend_ring.proofs.ChainLemmas.{head_found, head_missed, number_at, number_past}
 use Rattle.resend_ring.proofs.chains.Chains.head.Goals as goal

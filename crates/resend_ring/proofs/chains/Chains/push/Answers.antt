@@ -1,4 +1,4 @@
-use Rattle.std.proofs.Common.{◌+◌, ap, refl}
+use Rattle.std.proofs.Common.{◌+◌, ap}
 use Rattle.std.specs.Prelude.{◌%◌}
 use Rattle.rtp_packet.specs.declared.header.TheConstants.{SEQ_CYCLE}
 use Rattle.resend_ring.specs.Chains.{sequence_numbers}

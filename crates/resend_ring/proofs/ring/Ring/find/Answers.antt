@@ -1,7 +1,4 @@
-use Rattle.std.proofs.Common.{ℕ, arith}
-use Rattle.std.specs.Prelude.{◌%◌}
-use Rattle.std.proofs.lemmas.List.{length-map}
-use Rattle.rtp_packet.specs.declared.header.TheConstants.{SEQ_CYCLE}
+use Rattle.std.proofs.Common.{arith}
 use Rattle.resend_ring.proofs.ChainLemmas.{number_past}
 use Rattle.resend_ring.proofs.KeptLemmas.{found_latest, missed_latest}
 use Rattle.resend_ring.proofs.ring.Ring.find.Goals as goal

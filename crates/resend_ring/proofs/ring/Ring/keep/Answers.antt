@@ -1,4 +1,4 @@
-use Rattle.std.proofs.Common.{ℕ, ◌∷◌, ◌∙◌, ap, arith}
+use Rattle.std.proofs.Common.{ℕ, ◌∷◌, ap, arith}
 use Rattle.std.specs.Prelude.{List, ◌%◌}
 use Rattle.std.proofs.lemmas.List.{length-map, take-map}
 use Rattle.rtp_packet.specs.declared.header.TheConstants.{SEQ_CYCLE}

@@ -1,4 +1,4 @@
-use Rattle.std.proofs.Common.{◌≡◌, length, refl, ap, sym, ◌∙◌}
+use Rattle.std.proofs.Common.{length, refl, ap, sym, ◌∙◌}
 use Rattle.rewrite.proofs.ReaddressedLemmas.{length-readdressed, readdressed}
 use Rattle.rewrite.proofs.readdressed.Readdressed.copy_to.Goals as goal
 
