@@ -1,11 +1,35 @@
 -- What of a datagram is given on, by what is known of all legs.
-use Rattle.std.specs.Prelude.{◌≡◌, ℕ, List, ◌++◌, Option, None, Some, slice_get, slice_set}
+use Rattle.std.specs.Prelude.{◌≡◌, ◌==◌, ℕ, List, ◌++◌, Option, None, Some, length, replicate, slice_get, slice_set, if◌then◌else◌}
+use Rattle.settings.specs.Links.{table_of}
+use Rattle.settings.specs.Settings.{Configuration}
 use Rattle.screening.specs.Nacks.{GivesOn, Terms}
 use Rattle.screening.specs.Resends.{Book, flow_with}
 use Rattle.screening.specs.declared.bounded.Known.{Known}
 use Rattle.screening.specs.declared.bounded.Resends.{Resends}
 use Rattle.screening.specs.declared.nacks.Asking.{Asking}
 use Rattle.screening.specs.declared.resends.Flow.{Flow}
+use Rattle.screening.specs.declared.resends.ResendBounds.{ResendBounds}
+use Rattle.screening.specs.declared.resends.TheConstants.{REMEMBERED}
+
+-- nothing came
+abbrev pub idle_flow : Flow
+idle_flow = record { second = 0; packets = 0; before = 0 }
+
+-- nothing was let through; so many numbers will be remembered
+abbrev pub empty_book : ℕ → Book
+empty_book remembered = record { last = replicate remembered None; second = 0; count = 0; held = 0 }
+
+-- where no gap is wanted no number is
+abbrev pub remembered_by : ResendBounds → ℕ
+remembered_by bounds = if bounds.gap_ms == 0 then 0 else REMEMBERED
+
+-- Nothing came and nothing was let through in a unit of these settings, where resends are bounded so.
+pub record AreIdle (c : Configuration) (bounds : ResendBounds) (r : Resends) : Type 0 where
+  pub table : r.links ≡ table_of c
+  pub by : r.bounds ≡ bounds
+  pub flows : r.flows.items ≡ replicate (length c.endpoints) idle_flow
+  pub trips : r.trips.items ≡ replicate (length c.legs) None
+  pub books : r.books.items ≡ replicate (length c.legs) (empty_book (remembered_by bounds))
 
 abbrev pub terms_of : Known → Terms
 terms_of k =

@@ -2,4 +2,5 @@ pub mod Bounded
 pub mod Floods
 pub mod Nacks
 pub mod Resends
+pub mod Screened
 pub mod Starts

@@ -1,10 +1,10 @@
 //! The resends on all legs of a unit, bounded.
 
-ghost use Rattle.std.specs.Prelude.{◌≡◌, ◌<◌, ◌≤◌, ◌+◌, ◌^◌, ◌++◌, ℕ, List, length, replicate, slice_get, OnOk};
+ghost use Rattle.std.specs.Prelude.{◌≡◌, ◌<◌, ◌≤◌, ◌+◌, ◌^◌, ◌++◌, ℕ, List, length, replicate, slice_get, IfOk, OnOk};
 ghost use Rattle.rtcp_compound.specs.Fault.{Refuses};
 ghost use Rattle.rtcp_compound.specs.Grammar.{RtcpPacket, ReadsRtcp};
 ghost use Rattle.rtcp_compound.specs.declared.fault.RtcpFault.{RtcpFault};
-ghost use Rattle.screening.specs.Bounded.{GivesDatagram, flows_with, terms_of, terms_in};
+ghost use Rattle.screening.specs.Bounded.{AreIdle, GivesDatagram, empty_book, flows_with, remembered_by, terms_of, terms_in};
 ghost use Rattle.screening.specs.Nacks.{allowance_on, asked_books, asked_given, books_given, most_by, most_on, packet_given, padding_at, trip_on};
 
 use crate::nacks::{Asking, give_nack, leg_asked, push};
@@ -47,12 +47,11 @@ impl Resends {
         alloc: Global,
         settings: &Settings,
         bounds: ResendBounds,
-    ) -> Result<Resends, AllocError> {
+    ) -> Result<Resends, AllocError>
+        ensures { IfOk result (AreIdle settings.now bounds) }
+    {
         let idle = Flow::new();
-        let remembered = match bounds.gap_ms {
-            0 => 0,
-            _ => usize::from(REMEMBERED),
-        };
+        let remembered = remembered_by(bounds);
         Ok(Resends {
             links: Links::new(alloc, settings)?,
             bounds,
@@ -119,8 +118,21 @@ impl Resends {
     }
 }
 
+/// How many numbers of a leg are remembered.
+fn remembered_by(bounds: ResendBounds) -> usize
+    ensures { result ≡ remembered_by bounds }
+{
+    if bounds.gap_ms == 0 {
+        0
+    } else {
+        usize::from(REMEMBERED)
+    }
+}
+
 /// Books of so many legs, of each of which so many numbers will be remembered.
-fn books_of(alloc: Global, legs: usize, remembered: usize) -> Result<Vec<LegBook>, AllocError> {
+fn books_of(alloc: Global, legs: usize, remembered: usize) -> Result<Vec<LegBook>, AllocError>
+    ensures { IfOk result (λ books. books.items ≡ replicate legs (empty_book remembered)) }
+{
     let mut books = Vec::with_capacity(alloc, legs)?;
     for _leg in 0..legs {
         books.push(LegBook::new(alloc, remembered)?)?;

@@ -2,6 +2,8 @@
 
 ghost use Rattle.std.specs.Prelude.{◌≡◌, ◌≢◌, ◌≤◌, true, false, length, IfOk, IfSome};
 ghost use Rattle.outside.specs.Outside.{FitsIn};
+ghost use Rattle.screening.specs.Bounded.{AreIdle};
+ghost use Rattle.screening.specs.Screened.{AreGoodbyes, LooksForNothing};
 ghost use Rattle.screening.specs.declared.run.Placement.TheVariants.{Near};
 ghost use Rattle.screening.specs.Starts.{placement_at, runs_with, stamp_of};
 
@@ -115,7 +117,9 @@ pub struct Screen<'a, S: Source + Drop> {
 }
 
 /// A goodbye of each source.
-fn goodbyes_of(alloc: Global, sources: &[Ssrc]) -> Result<Vec<Vec<u8>>, AllocError> {
+fn goodbyes_of(alloc: Global, sources: &[Ssrc]) -> Result<Vec<Vec<u8>>, AllocError>
+    ensures { IfOk result (λ goodbyes. AreGoodbyes sources.now goodbyes.items) }
+{
     let mut goodbyes = Vec::with_capacity(alloc, sources.len())?;
     for source in sources {
         let mut goodbye = Vec::new(alloc);
@@ -135,7 +139,9 @@ fn empty_of(alloc: Global, endpoints: usize) -> Result<Vec<Vec<u8>>, AllocError>
 }
 
 impl<'a, S: Source + Drop> Screen<'a, S> {
-    ghost use Rattle.std.specs.Prelude.{◌≡◌, IfOk};
+    ghost use Rattle.std.specs.Prelude.{◌≡◌, ◌≢◌, length, replicate, None, Some, IfOk, IfSome};
+    ghost use Rattle.screening.specs.Bounded.{AreIdle};
+    ghost use Rattle.screening.specs.Screened.{AreGoodbyes, LooksForNothing};
 
     /// Screens what a source gives from now on, of the endpoints with these sources. Raises `far` for each far packet.
     pub fn new(
@@ -145,7 +151,16 @@ impl<'a, S: Source + Drop> Screen<'a, S> {
         rules: Rules,
         far: &'a Cell<u64>,
     ) -> Result<Screen<'a, S>, AllocError>
-        ensures { IfOk result (λ screen. screen.source ≡ source) }
+        ensures source { IfOk result (λ screen. screen.source ≡ source) }
+        ensures rules { IfOk result (λ screen. screen.rules ≡ rules) }
+        ensures endpoints { IfOk result (λ screen. screen.sources.now ≡ sources.now) }
+        ensures goodbyes { IfOk result
+            (λ screen. AreGoodbyes sources.now screen.goodbyes.items) }
+        ensures starts { IfOk result
+            (λ screen. screen.starts ≡ replicate (length sources.now) None) }
+        ensures waiting { IfOk result (λ screen. screen.waiting ≡ None) }
+        ensures unbounded { IfOk result (λ screen. screen.bounded ≡ None) }
+        ensures counts { IfOk result (λ screen. screen.far ≡ far.entry) }
     {
         Ok(Screen {
             source,
@@ -170,7 +185,23 @@ impl<'a, S: Source + Drop> Screen<'a, S> {
         traffic: &'a Traffic,
         moment_ms: &'a Cell<u64>,
         held: &'a Cell<u64>,
-    ) -> Result<Screen<'a, S>, AllocError> {
+    ) -> Result<Screen<'a, S>, AllocError>
+        ensures source { IfOk result (λ screen. screen.source ≡ self.entry.source) }
+        ensures rules { IfOk result (λ screen. screen.rules ≡ self.entry.rules) }
+        ensures endpoints { IfOk result (λ screen. screen.sources.now ≡ self.entry.sources.now) }
+        ensures goodbyes { IfOk result
+            (λ screen. screen.goodbyes.items ≡ self.entry.goodbyes.items) }
+        ensures starts { IfOk result (λ screen. screen.starts ≡ self.entry.starts) }
+        ensures waiting { IfOk result (λ screen. screen.waiting ≡ self.entry.waiting) }
+        ensures off { self.entry.rules.resends ≡ record { gap_ms = 0; share = 0 }
+            → IfOk result (λ screen. screen.bounded ≡ self.entry.bounded) }
+        ensures bounded { self.entry.rules.resends ≢ record { gap_ms = 0; share = 0 }
+            → IfOk result (λ screen. IfSome screen.bounded
+            (λ b. AreIdle settings.now self.entry.rules.resends b.resends)) }
+        ensures looks { self.entry.rules.resends ≢ record { gap_ms = 0; share = 0 }
+            → IfOk result (λ screen. IfSome screen.bounded (λ b. (b.traffic ≡ traffic.entry)
+            × (b.moment_ms ≡ moment_ms.entry) × (b.held ≡ held.entry))) }
+    {
         let mut screen = self;
         let bounds = screen.rules.resends;
         if bounds.gap_ms == 0 && bounds.share == 0 {
@@ -191,6 +222,9 @@ impl<'a, S: Source + Drop> Screen<'a, S> {
     fn placement(&mut self, endpoint: u16, datagram: &mut [u8]) -> Placement
         ensures source { self.new.source ≡ self.old.source }
         ensures length { length datagram.new ≡ length datagram.old }
+        ensures off { LooksForNothing self.old.rules
+            → (result ≡ Near) × (datagram.new ≡ datagram.old) }
+        ensures unbounded { self.old.bounded ≡ None → self.new.bounded ≡ None }
     {
         let Some(own) = self.sources.get(usize::from(endpoint)) else {
             return Placement::Near;
@@ -216,6 +250,7 @@ impl<'a, S: Source + Drop> Screen<'a, S> {
     /// A packet of the endpoint is given.
     fn count_packet(&mut self, endpoint: u16)
         ensures source { self.new.source ≡ self.old.source }
+        ensures unbounded { self.old.bounded ≡ None → self.new.bounded ≡ None }
     {
         if let Some(bounded) = &mut self.bounded {
             bounded.resends.came(endpoint, bounded.moment_ms.get());
@@ -228,6 +263,7 @@ impl<'a, S: Source + Drop> Screen<'a, S> {
         requires { size ≤ length out.old }
         ensures source { self.new.source ≡ self.old.source }
         ensures within { IfSome result (λ left. left ≤ length out.new) }
+        ensures off { self.old.bounded ≡ None → (result ≡ Some size) × (out.new ≡ out.old) }
     {
         match &mut self.bounded {
             Some(bounded) => bounded.let_through(endpoint, size, out),
@@ -364,13 +400,26 @@ fn is_rtcp(datagram: &[u8]) -> bool {
 }
 
 impl<S: Source + Drop> Source for Screen<'_, S> {
-    ghost use Rattle.std.specs.Prelude.{None};
+    ghost use Rattle.std.specs.Prelude.{◌≡◌, ◌≢◌, ◌+◌, ◌∷◌, [], None, length, IfOk, OnOk, OnErr};
+    ghost use Rattle.outside.specs.Outside.{FitsIn, Grows, arrival_of};
+    ghost use Rattle.screening.specs.Screened.{GivesWhatIsLeft, LooksForNothing};
 
     ghost failures = { λ s. S.failures s.source };
 
     ghost given = { λ _. None };
 
-    fn receive(&mut self, out: &mut [u8]) -> Result<Received, ReceiveFault> {
+    fn receive(&mut self, out: &mut [u8]) -> Result<Received, ReceiveFault>
+        ensures within { IfOk result (FitsIn (length out.new)) }
+        ensures given { Grows None (arrival_of out.new result ∷ []) None }
+        ensures ok { OnOk result (S.failures self.new.source ≡ S.failures self.old.source) }
+        ensures err { OnErr result (S.failures self.new.source ≡ S.failures self.old.source + 1) }
+        ensures waits { self.old.waiting ≢ None → self.new.source ≡ self.old.source }
+        ensures left { self.old.waiting ≡ None → GivesWhatIsLeft (S.given self.old.source)
+            (S.given self.new.source) result }
+        ensures off { self.old.waiting ≡ None → LooksForNothing self.old.rules
+            → self.old.bounded ≡ None → Grows (S.given self.old.source)
+            (arrival_of out.new result ∷ []) (S.given self.new.source) }
+    {
         if let Some(waiting) = self.waiting.take() {
             return Ok(self.give(waiting, out));
         }
