@@ -1,5 +1,5 @@
 -- What is given on of a datagram's packets, one after the other.
-use Rattle.std.proofs.Common.{◌≡◌, ◌∙◌, ℕ, ◌+◌, ◌<◌, List, [], ◌∷◌, ◌++◌, length, take, drop, refl, sym, ap, subst, arith, append_assoc, append-nil}
+use Rattle.std.proofs.Common.{◌≡◌, ◌∙◌, ℕ, ◌<◌, List, [], ◌∷◌, ◌++◌, length, take, drop, refl, sym, ap, subst, arith, append_assoc, append-nil}
 use Rattle.senders.specs.Naming.{heard_size}
 use Rattle.rtcp_compound.specs.Grammar.{packet_bytes}
 use Rattle.rtcp_compound.specs.Written.{rr_packet}

@@ -1,3 +1,4 @@
 pub mod HeldLemmas
+pub mod HoldingLemmas
 pub mod RequestLemmas
 pub mod SetLemmas

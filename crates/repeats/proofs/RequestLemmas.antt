@@ -1,11 +1,11 @@
 -- What is held for a leg is what its subscriber asked for last.
-use Rattle.std.proofs.Common.{◌≡◌, ◌≢◌, ◌∙◌, ◌==◌, ◌<◌, ℕ, zero, suc, Bool, true, false, List, [], ◌∷◌, length, map, set, refl, sym, ap, subst, arith, inl, inr}
+use Rattle.std.proofs.Common.{◌≡◌, ◌≢◌, ◌∙◌, ◌==◌, ◌<◌, ℕ, zero, suc, Bool, true, false, List, [], ◌∷◌, length, set, refl, ap, subst, arith}
 use Rattle.std.specs.Prelude.{Option, None, Some, option_map, slice_get, if◌then◌else◌}
-use Rattle.std.proofs.lemmas.Bool.{cases_Bool, eqb-true}
+use Rattle.std.proofs.lemmas.Bool.{eqb-true}
 use Rattle.std.proofs.lemmas.Bool.Decides.{nat_tests}
 use Rattle.std.proofs.lemmas.Option.{slice_get-map, slice_get_within}
 use Rattle.settings.specs.declared.settings.LegSettings.{LegSettings}
-use Rattle.repeats.specs.Requests.{Happening, HoldsLast, after_happening, asked_last, asks, held_after, leaves, place_with, place_without, unasked, with_request}
+use Rattle.repeats.specs.Requests.{Happening, HoldsLast, asked_last, asks, held_after, leaves, place_with, place_without, unasked, with_request}
 use Rattle.repeats.specs.declared.requests.HeldRequest.{HeldRequest}
 use Rattle.repeats.specs.declared.requests.LegRequest.{LegRequest}
 

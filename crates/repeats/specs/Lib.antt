@@ -1,5 +1,6 @@
 pub mod Again
 pub mod Held
+pub mod Holding
 pub mod Presence
 pub mod Requests
 pub mod Sets

@@ -1,5 +1,5 @@
 -- What a publisher notified of last (RFC 5104, section 4.2.2).
-use Rattle.std.specs.Prelude.{◌==◌, ◌&&◌, ℕ, nat_le, List, length, take, drop, Option, None, Some, if◌then◌else◌}
+use Rattle.std.specs.Prelude.{◌==◌, ◌&&◌, ℕ, nat_le, List, length, drop, Option, None, Some, if◌then◌else◌}
 use Rattle.byteorder.specs.Endian.{big_number}
 use Rattle.rtcp_compound.specs.Content.{Content, sender_report, receiver_report, description, goodbye, feedback, other}
 use Rattle.rtcp_compound.specs.declared.packet.TheConstants.{RTPFB}

@@ -1,6 +1,7 @@
 //! The datagrams of a source, with what has to be heard once more.
 
-ghost use Rattle.std.specs.Prelude.{◌≡◌, ◌≤◌, ◌==◌, length, fold, map, IfSome};
+ghost use Rattle.std.specs.Prelude.{◌≡◌, ◌≤◌, ◌==◌, length, fold, map, None, IfOk, IfSome};
+ghost use Rattle.repeats.specs.Holding.{HoldsNothing};
 ghost use Rattle.repeats.specs.Requests.{ask_in, asked_by};
 
 use crate::again::{Holdings, held_on, next_held, write_again};
@@ -67,7 +68,8 @@ enum Word {
 }
 
 impl<'a, S: Source + Drop> Holding<'a, S> {
-    ghost use Rattle.std.specs.Prelude.{◌≡◌, IfOk};
+    ghost use Rattle.std.specs.Prelude.{◌≡◌, ◌≢◌, None, IfOk, IsSomeAnd};
+    ghost use Rattle.repeats.specs.Holding.{HoldsNothing};
 
     /// Holds what is asked for in what a source gives from now on, of a unit of these settings, if `repeat_ms` isn't 0. The moment of the
     /// last turn is looked at there; `sets` is told who is asked, who notifies of what, and who comes anew.
@@ -79,7 +81,12 @@ impl<'a, S: Source + Drop> Holding<'a, S> {
         moment_ms: &'a Cell<u64>,
         sets: &'a RefCell<Sets>,
     ) -> Result<Holding<'a, S>, AllocError>
-        ensures { IfOk result (λ holding. holding.source ≡ source) }
+        ensures source { IfOk result (λ holding. holding.source ≡ source) }
+        ensures off { repeat_ms ≡ 0 → IfOk result (λ holding. holding.held ≡ None) }
+        ensures begins { repeat_ms ≢ 0 → IfOk result
+            (λ holding. IsSomeAnd holding.held (HoldsNothing settings.now)) }
+        ensures looks { repeat_ms ≢ 0 → IfOk result (λ holding. IsSomeAnd holding.held
+            (λ held. (held.moment_ms ≡ moment_ms.entry) × (held.sets ≡ sets.entry))) }
     {
         if repeat_ms == 0 {
             return Ok(Holding { source, held: None });
@@ -98,7 +105,11 @@ fn new_held<'a>(
     settings: &Settings,
     moment_ms: &'a Cell<u64>,
     sets: &'a RefCell<Sets>,
-) -> Result<Held<'a>, AllocError> {
+) -> Result<Held<'a>, AllocError>
+    ensures begins { IfOk result (HoldsNothing settings.now) }
+    ensures looks { IfOk result
+        (λ held. (held.moment_ms ≡ moment_ms.entry) × (held.sets ≡ sets.entry)) }
+{
     let (asks, given) = room_for_one(alloc)?;
     let requests = Requests::new(alloc, settings.legs())?;
     let presence = Presence::new(alloc, settings.endpoints().len(), settings.timeout_ms())?;
@@ -223,7 +234,8 @@ impl Held<'_> {
 
     /// What is to be heard once more before anything that comes: its endpoint, and how many bytes of `out` it has.
     fn heard_again(&mut self, out: &mut [u8]) -> Option<(u16, usize)>
-        ensures { IfSome result (λ heard. heard.1 ≤ length out.new) }
+        ensures within { IfSome result (λ heard. heard.1 ≤ length out.new) }
+        ensures nobody { self.old.coming ≡ None → result ≡ None }
     {
         let Coming { publisher, from } = self.coming?;
         let holdings = Holdings {
@@ -331,13 +343,24 @@ fn written(bytes: &[u8], out: &mut [u8]) -> Option<usize>
 }
 
 impl<S: Source + Drop> Source for Holding<'_, S> {
-    ghost use Rattle.std.specs.Prelude.{None};
+    ghost use Rattle.std.specs.Prelude.{◌≡◌, ◌+◌, ◌∷◌, [], None, length, IfOk, IfSome, OnOk, OnErr};
+    ghost use Rattle.outside.specs.Outside.{FitsIn, Grows, arrival_of};
+    ghost use Rattle.repeats.specs.Holding.{GivesForOne};
 
     ghost failures = { λ s. S.failures s.source };
 
     ghost given = { λ _. None };
 
-    fn receive(&mut self, out: &mut [u8]) -> Result<Received, ReceiveFault> {
+    fn receive(&mut self, out: &mut [u8]) -> Result<Received, ReceiveFault>
+        ensures within { IfOk result (FitsIn (length out.new)) }
+        ensures given { Grows None (arrival_of out.new result ∷ []) None }
+        ensures ok { OnOk result (S.failures self.new.source ≡ S.failures self.old.source) }
+        ensures err { OnErr result (S.failures self.new.source ≡ S.failures self.old.source + 1) }
+        ensures asked { IfSome self.old.held (λ held. held.coming ≡ None)
+            → GivesForOne (S.given self.old.source) (S.given self.new.source) result }
+        ensures off { self.old.held ≡ None → Grows (S.given self.old.source)
+            (arrival_of out.new result ∷ []) (S.given self.new.source) }
+    {
         if let Some((endpoint, length)) = again_in(&mut self.held, out) {
             return Ok(Received::Datagram { endpoint, length });
         }
@@ -354,7 +377,9 @@ impl<S: Source + Drop> Source for Holding<'_, S> {
 
 /// What is to be heard once more, if anything is held.
 fn again_in(held: &mut Option<Held<'_>>, out: &mut [u8]) -> Option<(u16, usize)>
-    ensures { IfSome result (λ heard. heard.1 ≤ length out.new) }
+    ensures within { IfSome result (λ heard. heard.1 ≤ length out.new) }
+    ensures nobody { IfSome held.old (λ held. held.coming ≡ None) → result ≡ None }
+    ensures off { held.old ≡ None → held.new ≡ None }
 {
     match held {
         Some(held) => held.heard_again(out),
@@ -365,7 +390,8 @@ fn again_in(held: &mut Option<Held<'_>>, out: &mut [u8]) -> Option<(u16, usize)>
 /// How long a datagram is, once it was noted, if anything is held.
 fn heard_in(held: &mut Option<Held<'_>>, endpoint: u16, size: usize, out: &mut [u8]) -> usize
     requires { size ≤ length out.old }
-    ensures { result ≤ length out.new }
+    ensures within { result ≤ length out.new }
+    ensures off { held.old ≡ None → (result ≡ size) × (out.new ≡ out.old) }
 {
     match held {
         Some(held) => held.hear(endpoint, size, out),

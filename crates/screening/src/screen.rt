@@ -139,7 +139,7 @@ fn empty_of(alloc: Global, endpoints: usize) -> Result<Vec<Vec<u8>>, AllocError>
 }
 
 impl<'a, S: Source + Drop> Screen<'a, S> {
-    ghost use Rattle.std.specs.Prelude.{◌≡◌, ◌≢◌, length, replicate, None, Some, IfOk, IfSome};
+    ghost use Rattle.std.specs.Prelude.{◌≡◌, ◌≢◌, length, replicate, None, Some, IfOk, IsSomeAnd};
     ghost use Rattle.screening.specs.Bounded.{AreIdle};
     ghost use Rattle.screening.specs.Screened.{AreGoodbyes, LooksForNothing};
 
@@ -196,10 +196,10 @@ impl<'a, S: Source + Drop> Screen<'a, S> {
         ensures off { self.entry.rules.resends ≡ record { gap_ms = 0; share = 0 }
             → IfOk result (λ screen. screen.bounded ≡ self.entry.bounded) }
         ensures bounded { self.entry.rules.resends ≢ record { gap_ms = 0; share = 0 }
-            → IfOk result (λ screen. IfSome screen.bounded
+            → IfOk result (λ screen. IsSomeAnd screen.bounded
             (λ b. AreIdle settings.now self.entry.rules.resends b.resends)) }
         ensures looks { self.entry.rules.resends ≢ record { gap_ms = 0; share = 0 }
-            → IfOk result (λ screen. IfSome screen.bounded (λ b. (b.traffic ≡ traffic.entry)
+            → IfOk result (λ screen. IsSomeAnd screen.bounded (λ b. (b.traffic ≡ traffic.entry)
             × (b.moment_ms ≡ moment_ms.entry) × (b.held ≡ held.entry))) }
     {
         let mut screen = self;

@@ -1,4 +1,4 @@
-use Rattle.std.proofs.Common.{◌≡◌, ◌<◌, ◌++◌, length, arith}
+use Rattle.std.proofs.Common.{◌<◌, ◌++◌, length, arith}
 use Rattle.std.proofs.lemmas.Bool.Decides.{nat_tests}
 use Rattle.repeats.specs.Held.{knowing, packet_given}
 use Rattle.repeats.proofs.HeldLemmas.{gives_all, gives_more, none_left, out_more}
