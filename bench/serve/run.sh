@@ -13,4 +13,4 @@ work=$(mktemp -d /tmp/bench_serve.XXXXXX)
 trap 'rm -rf "$work"' EXIT
 rustc --edition 2021 -O -o "$work/plain" "$here/plain.rs"
 rustc --edition 2021 -O -o "$work/load" "$here/load/main.rs"
-TMPDIR=$work "$work/load" "$work/plain" "$top/sfu" "$@"
+"$work/load" "$work/plain" "$top/sfu" "$@"

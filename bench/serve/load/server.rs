@@ -1,9 +1,10 @@
 //! A server as a process: its start and its end, its processor time, its memory.
 
+use std::fs;
 use std::io::{self, BufRead, BufReader};
+use std::path::Path;
 use std::process::{Child, ChildStderr, Command, Stdio};
 use std::time::Instant;
-use std::{env, fs};
 
 /// The programs that are measured.
 pub struct Programs {
@@ -41,9 +42,9 @@ impl Programs {
         Server::start(Command::new(&self.plain).args(words))
     }
 
-    /// Starts the program with these settings.
+    /// Starts the program with these settings, in a file beside the plain loop.
     pub fn start_unit(&self, settings: &str) -> io::Result<Server> {
-        let file = env::temp_dir().join("bench_serve.toml");
+        let file = Path::new(&self.plain).with_file_name("serve.toml");
         fs::write(&file, settings)?;
         Server::start(Command::new(&self.unit).arg("serve").arg(&file))
     }
