@@ -1,5 +1,7 @@
 //! The Unix socket of a unit's control.
 
+ghost use Rattle.std.specs.Prelude.{IfOk, IsSome};
+
 use crate::gauges::Gauges;
 use crate::record_file::idle_record;
 use crate::steering::{Listed, Steering};
@@ -27,7 +29,10 @@ pub fn open_control<R: AllocGlobal + Files + Net + Threads + time::Clock>(
     path: &str,
     file: &ServedSettings,
     digest: &[u8],
-) -> Result<Gauges, ControlFault> {
+) -> Result<Gauges, ControlFault>
+    ensures steered { IfOk result (λ gauges. IsSome gauges.steering) }
+    ensures recorder { IfOk result (λ gauges. IsSome gauges.recorder) }
+{
     let Ok(endpoints) = listed(rt.alloc(), file) else {
         return Err(ControlFault::NoMemory);
     };

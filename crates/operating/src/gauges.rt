@@ -1,5 +1,8 @@
 //! What a run shows while it goes on, who steers it, and who records it.
 
+ghost use Rattle.std.specs.Prelude.{◌≡◌, None, IsNone, IsSome};
+ghost use Rattle.outside.specs.declared.source.Received.TheVariants.{Nothing};
+
 use crate::recorder::Recorder;
 use crate::steering::{Steering, Wish};
 use control::{Screened, Unheard};
@@ -42,8 +45,13 @@ pub struct Gauges {
 }
 
 impl Gauges {
+    ghost use Rattle.std.specs.Prelude.{◌≡◌, None, IsSome};
+
     /// Those of a run that begins.
-    pub fn new() -> Gauges {
+    pub fn new() -> Gauges
+        ensures steering { result.steering ≡ None }
+        ensures recorder { result.recorder ≡ None }
+    {
         Gauges {
             strangers: Cell::new(0),
             far: Cell::new(0),
@@ -59,7 +67,10 @@ impl Gauges {
     }
 
     /// Those of a run that begins, and is steered; it is recorded once a peer wants it.
-    pub(crate) fn steered(steering: Steering, recorder: Recorder) -> Gauges {
+    pub(crate) fn steered(steering: Steering, recorder: Recorder) -> Gauges
+        ensures steering { IsSome result.steering }
+        ensures recorder { IsSome result.recorder }
+    {
         let mut gauges = Gauges::new();
         gauges.steering = Some(RefCell::new(steering));
         gauges.set_recorder(recorder);
@@ -67,7 +78,10 @@ impl Gauges {
     }
 
     /// The run is recorded from now on.
-    pub fn set_recorder(&mut self, recorder: Recorder) {
+    pub fn set_recorder(&mut self, recorder: Recorder)
+        ensures recorder { IsSome self.new.recorder }
+        ensures steering { self.new.steering ≡ self.old.steering }
+    {
         self.recorder = Some(RefCell::new(recorder));
     }
 
@@ -102,7 +116,9 @@ impl Gauges {
     }
 
     /// Who steers the run.
-    pub(crate) fn steering(&self) -> Option<RefMut<'_, Steering>> {
+    pub(crate) fn steering(&self) -> Option<RefMut<'_, Steering>>
+        ensures { self.now.steering ≡ None → IsNone result }
+    {
         let Some(steering) = &self.steering else {
             return None;
         };
@@ -117,7 +133,9 @@ impl Gauges {
     }
 
     /// What peers want of the unit by now. What they want of its record is done here.
-    pub(crate) fn wished(&self) -> Received {
+    pub(crate) fn wished(&self) -> Received
+        ensures { self.now.steering ≡ None → result ≡ Nothing }
+    {
         let (moment, is_recorded) = (self.moment_ms.get(), self.is_recorded());
         let Some(mut steering) = self.steering() else {
             return Received::Nothing;
@@ -215,7 +233,9 @@ impl Gauges {
     }
 
     /// Which endpoints were present when somebody had the unit stopped, by their numbers; `None` if nobody did.
-    pub fn present_at_stop(&self) -> Option<Vec<bool>> {
+    pub fn present_at_stop(&self) -> Option<Vec<bool>>
+        ensures { self.now.steering ≡ None → IsNone result }
+    {
         let mut steering = self.steering()?;
         steering.take_present()
     }

@@ -69,7 +69,18 @@ impl<W: Write + Send + Drop + 'static> Lines<W> {
 }
 
 impl<W: Drop> Write for Lines<W> {
-    fn write(&mut self, buf: &[u8]) -> io::Result<usize> {
+    ghost use Rattle.std.specs.Prelude.{◌≡◌, ◌⊎◌, None, length, IfErr, IfOk, IsOk};
+    ghost use Rattle.std.specs.Io.{WritesAtMost};
+    ghost use Rattle.std.specs.Io.KnownBytes.{Keeps, WriteAppends};
+    ghost use Rattle.std.specs.IoError.{error_kind};
+
+    fn write(&mut self, buf: &[u8]) -> io::Result<usize>
+        ensures bound { WritesAtMost result buf.now }
+        ensures bytes { WriteAppends None None result buf.now }
+        ensures whole { IfOk result (λ n. n ≡ length buf.now) }
+        ensures kind { IfErr result (λ e. (error_kind e ≡ ErrorKind.OutOfMemory)
+            ⊎ ((error_kind e ≡ ErrorKind.BrokenPipe) ⊎ (error_kind e ≡ ErrorKind.WouldBlock))) }
+    {
         let mut line = Vec::new(self.alloc);
         line.extend_from_slice(buf)?;
         if self.outlet.has_failed() {
@@ -81,7 +92,10 @@ impl<W: Drop> Write for Lines<W> {
         }
     }
 
-    fn flush(&mut self) -> io::Result<()> {
+    fn flush(&mut self) -> io::Result<()>
+        ensures bytes { Keeps None None }
+        ensures ok { IsOk result }
+    {
         Ok(())
     }
 }
@@ -110,7 +124,18 @@ impl<R: AllocGlobal + time::Clock, W: Drop> TimedLines<'_, R, W> {
 }
 
 impl<R: AllocGlobal + time::Clock, W: Drop> Write for TimedLines<'_, R, W> {
-    fn write(&mut self, buf: &[u8]) -> io::Result<usize> {
+    ghost use Rattle.std.specs.Prelude.{◌≡◌, ◌⊎◌, None, length, IfErr, IfOk, IsOk};
+    ghost use Rattle.std.specs.Io.{WritesAtMost};
+    ghost use Rattle.std.specs.Io.KnownBytes.{Keeps, WriteAppends};
+    ghost use Rattle.std.specs.IoError.{error_kind};
+
+    fn write(&mut self, buf: &[u8]) -> io::Result<usize>
+        ensures bound { WritesAtMost result buf.now }
+        ensures bytes { WriteAppends None None result buf.now }
+        ensures whole { IfOk result (λ n. n ≡ length buf.now) }
+        ensures kind { IfErr result (λ e. (error_kind e ≡ ErrorKind.OutOfMemory)
+            ⊎ ((error_kind e ≡ ErrorKind.BrokenPipe) ⊎ (error_kind e ≡ ErrorKind.WouldBlock))) }
+    {
         if !self.is_timed {
             return self.lines.write(buf);
         }
@@ -119,7 +144,10 @@ impl<R: AllocGlobal + time::Clock, W: Drop> Write for TimedLines<'_, R, W> {
         Ok(buf.len())
     }
 
-    fn flush(&mut self) -> io::Result<()> {
+    fn flush(&mut self) -> io::Result<()>
+        ensures bytes { Keeps None None }
+        ensures ok { IsOk result }
+    {
         Ok(())
     }
 }

@@ -1,5 +1,9 @@
 //! Where a record goes: to a file, or to who asked for it. A thread of its own writes it.
 
+ghost use Rattle.std.specs.Prelude.{◌≡◌, true, false, IfOk};
+ghost use Rattle.std.specs.String.{string_bytes};
+ghost use Rattle.operating.specs.Records.{BeginsRecord, IsHead};
+
 use crate::courier::start_courier;
 use crate::gauges::{Gauges, TICK_MS};
 use crate::recorder::Recorder;
@@ -33,7 +37,16 @@ pub(crate) enum Scroll {
 }
 
 impl Write for Scroll {
-    fn write(&mut self, buf: &[u8]) -> io::Result<usize> {
+    ghost use Rattle.std.specs.Prelude.{◌≡◌, None, Ok, length};
+    ghost use Rattle.std.specs.Io.{WritesAtMost};
+    ghost use Rattle.std.specs.Io.KnownBytes.{WriteAppends};
+    ghost use Rattle.operating.specs.declared.record_file.Scroll.TheVariants.{Nobody};
+
+    fn write(&mut self, buf: &[u8]) -> io::Result<usize>
+        ensures bound { WritesAtMost result buf.now }
+        ensures bytes { WriteAppends None None result buf.now }
+        ensures nobody { self.old ≡ Nobody → result ≡ Ok (length buf.now) }
+    {
         match self {
             Scroll::Nobody => Ok(buf.len()),
             Scroll::File(file) => file.write(buf),
@@ -57,7 +70,10 @@ pub fn open_record<R: AllocGlobal + Files<File = File> + Net + Threads + time::C
     path: &str,
     limit: u64,
     settings: &[u8],
-) -> Result<Recorder, RecordFault> {
+) -> Result<Recorder, RecordFault>
+    ensures begun { IfOk result (λ r. (r.has_begun ≡ true) × (r.is_open ≡ true)) }
+    ensures head { IfOk result (λ r. BeginsRecord limit settings.now r.tape) }
+{
     let head = head_of(rt, settings)?;
     let file = create(rt, path)?;
     let (outlet, thread) = start_courier(rt, BLOCKS, Scroll::File(file))?;
@@ -70,14 +86,18 @@ pub fn open_record<R: AllocGlobal + Files<File = File> + Net + Threads + time::C
 pub(crate) fn idle_record<R: AllocGlobal + Net + Threads + time::Clock>(
     rt: &R,
     settings: &[u8],
-) -> Result<Recorder, RecordFault> {
+) -> Result<Recorder, RecordFault>
+    ensures { IfOk result (λ r. (r.has_begun ≡ false) × (r.is_open ≡ false)) }
+{
     let head = head_of(rt, settings)?;
     let (outlet, thread) = start_courier(rt, BLOCKS, Scroll::Nobody)?;
     Ok(Recorder::new(rt.alloc(), TICK_MS, head, outlet, thread))
 }
 
 /// The head of a record of a unit that begins now.
-fn head_of<R: AllocGlobal + time::Clock>(rt: &R, settings: &[u8]) -> Result<String, RecordFault> {
+fn head_of<R: AllocGlobal + time::Clock>(rt: &R, settings: &[u8]) -> Result<String, RecordFault>
+    ensures { IfOk result (λ head. IsHead settings.now (string_bytes head)) }
+{
     let header = Header {
         version: VERSION,
         settings,

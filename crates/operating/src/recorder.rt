@@ -1,5 +1,9 @@
 //! Who writes down what a unit takes in: it makes the lines, and hands them on to the thread that writes them.
 
+ghost use Rattle.std.specs.Prelude.{◌≡◌, true, false};
+ghost use Rattle.std.specs.String.{string_bytes};
+ghost use Rattle.recording.specs.Tapes.{IsPut, new_tape};
+
 use crate::courier::Outlet;
 use crate::record_file::Scroll;
 use outside::{ReceiveFault, Received, Ticks};
@@ -75,7 +79,10 @@ impl Recorder {
         head: String,
         outlet: Outlet<Scroll>,
         thread: JoinHandle<()>,
-    ) -> Recorder {
+    ) -> Recorder
+        ensures head { result.head ≡ head }
+        ensures idle { (result.has_begun ≡ false) × (result.is_open ≡ false) }
+    {
         let mut nothing = Tape::new(alloc, 0);
         nothing.end(End::Off);
         Recorder {
@@ -94,7 +101,10 @@ impl Recorder {
     }
 
     /// A record of at most so many bytes begins.
-    pub(crate) fn begin(&mut self, limit: u64) {
+    pub(crate) fn begin(&mut self, limit: u64)
+        ensures tape { IsPut (new_tape limit) (string_bytes self.old.head) self.new.tape }
+        ensures begun { (self.new.has_begun ≡ true) × (self.new.is_open ≡ true) }
+    {
         self.tape = Tape::new(self.alloc, limit);
         self.tape.put(self.head.as_str());
         self.has_begun = true;

@@ -1,5 +1,7 @@
 //! The lines of counts that `sfu serve --status` writes while the unit runs.
 
+ghost use Rattle.std.specs.Prelude.{◌≡◌};
+
 use crate::gauges::Gauges;
 use control::Screened;
 use outside::{Status, Watch};
@@ -22,13 +24,19 @@ pub struct StatusLines<'a, E: Write> {
 }
 
 impl<'a, E: Write> StatusLines<'a, E> {
+    ghost use Rattle.std.specs.Prelude.{◌≡◌};
+
     /// Lines that are written each `every_ms` milliseconds.
     pub fn new(
         alloc: Global,
         errors: &'a mut E,
         every_ms: u64,
         gauges: &'a Gauges,
-    ) -> StatusLines<'a, E> {
+    ) -> StatusLines<'a, E>
+        ensures due { (result.every_ms ≡ every_ms) × (result.due_ms ≡ every_ms) }
+        ensures unsaid { result.unsaid ≡ 0 }
+        ensures looks { result.gauges ≡ gauges.entry }
+    {
         StatusLines {
             alloc,
             errors,
@@ -40,7 +48,9 @@ impl<'a, E: Write> StatusLines<'a, E> {
     }
 
     /// Writes one line.
-    fn write_line(&mut self, status: &Status) -> Result<(), AllocError> {
+    fn write_line(&mut self, status: &Status) -> Result<(), AllocError>
+        ensures { (self.new.every_ms ≡ self.old.every_ms) × (self.new.due_ms ≡ self.old.due_ms) }
+    {
         let line = self.line_of(status)?;
         if self.errors.write_all(line.as_bytes()).is_err() {
             self.unsaid = self.unsaid.saturating_add(1);
@@ -122,11 +132,18 @@ impl<'a, E: Write> StatusLines<'a, E> {
 }
 
 impl<E: Write> Watch for StatusLines<'_, E> {
-    fn is_due(&self, moment: u64) -> bool {
+    ghost use Rattle.std.specs.Prelude.{◌≡◌, ◌≤◌, ◌↔◌, ◌+◌, ◌-◌, ◌^◌, IsTrue, min};
+
+    fn is_due(&self, moment: u64) -> bool
+        ensures { IsTrue result ↔ (self.now.due_ms ≤ moment) }
+    {
         moment >= self.due_ms
     }
 
-    fn show(&mut self, moment: u64, status: &Status) {
+    fn show(&mut self, moment: u64, status: &Status)
+        ensures due { self.new.due_ms ≡ min (moment + self.old.every_ms) (2 ^ 64 - 1) }
+        ensures every { self.new.every_ms ≡ self.old.every_ms }
+    {
         self.due_ms = moment.saturating_add(self.every_ms);
         let _ = self.write_line(status);
     }

@@ -13,13 +13,27 @@ pub struct SteeredSource<'a, Src: Drop> {
 }
 
 impl<Src: Source + Drop> Source for SteeredSource<'_, Src> {
-    ghost use Rattle.std.specs.Prelude.{None};
+    ghost use Rattle.std.specs.Prelude.{◌≡◌, ◌⊎◌, ◌+◌, ◌∷◌, [], None, length, IfOk, OnOk, OnErr};
+    ghost use Rattle.outside.specs.Outside.{FitsIn, Grows, arrival_of};
+    ghost use Rattle.operating.specs.Steered.{IsWish};
 
     ghost failures = { λ s. Src.failures s.source };
 
     ghost given = { λ _. None };
 
-    fn receive(&mut self, out: &mut [u8]) -> Result<Received, ReceiveFault> {
+    fn receive(&mut self, out: &mut [u8]) -> Result<Received, ReceiveFault>
+        ensures within { IfOk result (FitsIn (length out.new)) }
+        ensures given { Grows None (arrival_of out.new result ∷ []) None }
+        ensures ok { OnOk result (Src.failures self.new.source ≡ Src.failures self.old.source) }
+        ensures err { OnErr result
+            (Src.failures self.new.source ≡ Src.failures self.old.source + 1) }
+        ensures steered { (IsWish result × (self.new.source ≡ self.old.source))
+            ⊎ Grows (Src.given self.old.source) (arrival_of out.new result ∷ [])
+            (Src.given self.new.source) }
+        ensures alone { self.old.gauges.now.steering ≡ None
+            → Grows (Src.given self.old.source) (arrival_of out.new result ∷ [])
+            (Src.given self.new.source) }
+    {
         match self.gauges.wished() {
             Received::Select { leg, on } => Ok(Received::Select { leg, on }),
             Received::Stop => Ok(Received::Stop),

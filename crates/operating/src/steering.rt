@@ -1,5 +1,7 @@
 //! The control of a unit that is served: peers at a Unix socket, who are looked at by the thread that receives.
 
+ghost use Rattle.std.specs.Prelude.{◌≡◌, None, IfOk, length, map, replicate};
+
 use crate::recorder::Switched;
 use control::{
     Course, Peers, Refused, Screened, Unheard, counts_text, course_for, done_text, present_line,
@@ -78,17 +80,25 @@ enum Asked {
 }
 
 impl Steering {
+    ghost use Rattle.std.specs.Prelude.{◌≡◌, None, IfOk, length, map, replicate};
+    ghost use Rattle.operating.specs.declared.steering.Asked.TheVariants.{Nothing};
+
     /// Steers a unit with these legs and these endpoints, by those who come to the listener.
     pub fn new(
         alloc: Global,
         listener: UnixListener,
         legs: Vec<LegLine>,
         endpoints: Vec<Listed>,
-    ) -> Result<Steering, AllocError> {
-        let mut began_on = Vec::new(alloc);
-        for line in legs.iter() {
-            began_on.push(line.on)?;
-        }
+    ) -> Result<Steering, AllocError>
+        ensures legs { IfOk result (λ s. s.legs ≡ legs) }
+        ensures endpoints { IfOk result (λ s. s.endpoints ≡ endpoints) }
+        ensures began { IfOk result (λ s. s.began_on.items ≡ map (λ line. line.on) legs.items) }
+        ensures idle { IfOk result
+            (λ s. (s.due_ms ≡ 0) × (s.asked ≡ Nothing) × (s.lines ≡ None)) }
+        ensures flooded { IfOk result
+            (λ s. s.flooded.items ≡ replicate (length endpoints.items) 0) }
+    {
+        let began_on = selected_at_first(alloc, legs.as_slice())?;
         let flooded = vec![in alloc; 0; endpoints.len()]?;
         Ok(Steering {
             alloc,
@@ -350,6 +360,17 @@ impl Steering {
     fn refuse(&mut self, why: Refused) {
         self.peers.answer(refused_text(why).as_bytes());
     }
+}
+
+/// Whether each of these legs is selected.
+fn selected_at_first(alloc: Global, legs: &[LegLine]) -> Result<Vec<bool>, AllocError>
+    ensures { IfOk result (λ all. all.items ≡ map (λ line. line.on) legs.now) }
+{
+    let mut all = Vec::with_capacity(alloc, legs.len())?;
+    for line in legs {
+        all.push(line.on)?;
+    }
+    Ok(all)
 }
 
 /// How many milliseconds before this moment the endpoint was heard last, if ever, and how often something was refused of it.

@@ -1,6 +1,6 @@
 //! The unit's outside on UDP sockets.
 
-ghost use Rattle.std.specs.Prelude.{◌≡◌, ◌≤◌, ◌+◌, length, vec_len, IfOk, IfSome};
+ghost use Rattle.std.specs.Prelude.{◌≡◌, ◌≤◌, ◌+◌, None, length, vec_len, is_some, map, replicate, IfOk, IfSome};
 ghost use Rattle.sockets.specs.Sockets.{is_silence, later_moment};
 
 use crate::arrivals::Arrivals;
@@ -36,7 +36,10 @@ pub struct Sockets<'a> {
 
 impl<'a> Sockets<'a> {
     /// One socket for all.
-    pub fn one(socket: &'a UdpSocket) -> Sockets<'a> {
+    pub fn one(socket: &'a UdpSocket) -> Sockets<'a>
+        ensures media { result.media ≡ socket.entry }
+        ensures alone { result.control ≡ None }
+    {
         Sockets {
             media: socket,
             control: None,
@@ -44,7 +47,9 @@ impl<'a> Sockets<'a> {
     }
 
     /// Where they are bound, unless the system doesn't say.
-    pub fn listening(self) -> io::Result<Listening> {
+    pub fn listening(self) -> io::Result<Listening>
+        ensures { IfOk result (λ listening. is_some listening.rtcp ≡ is_some self.entry.control) }
+    {
         let media = self.media.local_addr()?;
         match self.control {
             Some(control) => {
@@ -89,7 +94,10 @@ pub struct SocketSource<'a> {
 impl<'a> SocketSource<'a> {
     /// The datagrams that come to these sockets from now on.
     pub fn new(sockets: Sockets<'a>, arrivals: Arrivals<'a>, gauges: &'a Gauges) -> SocketSource<'a>
-        ensures { result.failures ≡ 0 }
+        ensures failures { result.failures ≡ 0 }
+        ensures sockets { result.sockets ≡ sockets.entry }
+        ensures arrivals { result.arrivals ≡ arrivals.entry }
+        ensures asked { (result.asked_ms ≡ None) × (result.control_turns ≡ 0) }
     {
         SocketSource {
             sockets,
@@ -190,7 +198,12 @@ impl<'a> SocketSink<'a> {
         directory: &'a Directory,
         traffic: &'a Traffic,
     ) -> SocketSink<'a>
-        ensures { result.failures ≡ 0 }
+        ensures { result ≡ record {
+          sockets = sockets.entry;
+          directory = directory.entry;
+          traffic = traffic.entry;
+          failures = 0;
+        } }
     {
         SocketSink {
             sockets,
@@ -254,7 +267,9 @@ pub fn socket_sinks<'a>(
     traffic: &'a Traffic,
     count: usize,
 ) -> Result<Vec<SocketSink<'a>>, AllocError>
-    ensures { IfOk result (λ sinks. vec_len sinks ≡ count) }
+    ensures count { IfOk result (λ sinks. vec_len sinks ≡ count) }
+    ensures each { IfOk result
+        (λ sinks. map (λ sink. sink.sockets) sinks.items ≡ replicate count sockets.entry) }
 {
     let mut sinks = Vec::with_capacity(alloc, count)?;
     for _sink in 0..count {
@@ -273,7 +288,10 @@ pub struct RunClock<'a, R: time::Clock> {
 
 impl<'a, R: time::Clock> RunClock<'a, R> {
     /// A clock that wasn't asked yet.
-    pub fn new(rt: &'a R, shown: &'a Cell<u64>) -> RunClock<'a, R> {
+    pub fn new(rt: &'a R, shown: &'a Cell<u64>) -> RunClock<'a, R>
+        ensures start { result.start ≡ None }
+        ensures shown { result.shown ≡ shown.entry }
+    {
         RunClock {
             rt,
             start: None,

@@ -1,5 +1,7 @@
 //! How a unit is asked, question by question, without waiting for it.
 
+ghost use Rattle.std.specs.Prelude.{◌≡◌, ◌≤◌, ◌+◌, ◌-◌, ◌^◌, [], min, vec_len};
+
 use control::{Answered, read_answer};
 use page::{AnnouncedSet, Said, numbers_in};
 use std::alloc::Global;
@@ -71,8 +73,16 @@ pub struct Inquiry<S: Drop> {
 }
 
 impl<S: Read + Write + Drop> Inquiry<S> {
+    ghost use Rattle.std.specs.Prelude.{◌≡◌, ◌≤◌, ◌+◌, ◌-◌, ◌^◌, [], min, vec_len};
+    ghost use Rattle.web.specs.declared.inquiry.Step.TheVariants.{Failed};
+    ghost use Rattle.web.specs.declared.inquiry.TheConstants.{PATIENCE_MS};
+
     /// Asks the first question of the unit at the stream, at this moment. Of a stream that doesn't take it nothing is heard.
-    pub fn new(alloc: Global, stream: S, moment: u64) -> Inquiry<S> {
+    pub fn new(alloc: Global, stream: S, moment: u64) -> Inquiry<S>
+        ensures since { result.since_ms ≡ moment }
+        ensures nothing { (result.said.sets.items ≡ []) × (result.text.items ≡ [])
+            × (result.publishers.items ≡ []) }
+    {
         let mut inquiry = Inquiry {
             alloc,
             stream,
@@ -95,7 +105,9 @@ impl<S: Read + Write + Drop> Inquiry<S> {
     }
 
     /// Reads what came by this moment, and asks the next question once one is answered.
-    pub fn step(&mut self, moment: u64) -> Step {
+    pub fn step(&mut self, moment: u64) -> Step
+        ensures patience { PATIENCE_MS ≤ moment - self.old.since_ms → result ≡ Failed }
+    {
         if moment.saturating_sub(self.since_ms) >= PATIENCE_MS {
             return Step::Failed;
         }
@@ -117,18 +129,25 @@ impl<S: Read + Write + Drop> Inquiry<S> {
     }
 
     /// What the unit said. What moved meanwhile isn't in it.
-    pub fn into_said(self) -> Said {
+    pub fn into_said(self) -> Said
+        ensures { result ≡ self.said }
+    {
         let Inquiry { said, .. } = self;
         said
     }
 
     /// How many questions were asked for what was said.
-    pub fn asked(&self) -> usize {
+    pub fn asked(&self) -> usize
+        ensures { result ≡ min (vec_len self.now.said.sets + 5) (2 ^ 64 - 1) }
+    {
         self.said.sets.len().saturating_add(5)
     }
 
     /// Writes the question.
-    fn ask(&mut self) -> bool {
+    fn ask(&mut self) -> bool
+        ensures { (self.new.since_ms ≡ self.old.since_ms) × (self.new.said ≡ self.old.said)
+            × (self.new.text ≡ self.old.text) × (self.new.publishers ≡ self.old.publishers) }
+    {
         match self.question {
             Question::Metrics => self.say(b"metrics\n"),
             Question::Present => self.say(b"present\n"),
@@ -142,7 +161,10 @@ impl<S: Read + Write + Drop> Inquiry<S> {
         }
     }
 
-    fn say(&mut self, line: &[u8]) -> bool {
+    fn say(&mut self, line: &[u8]) -> bool
+        ensures { (self.new.since_ms ≡ self.old.since_ms) × (self.new.said ≡ self.old.said)
+            × (self.new.text ≡ self.old.text) × (self.new.publishers ≡ self.old.publishers) }
+    {
         match self.stream.write(line) {
             Ok(count) => count == line.len(),
             Err(_) => false,

@@ -1,0 +1,13 @@
+-- What a record begins with.
+use Rattle.std.specs.Prelude.{◌≡◌, ℕ, List}
+use Rattle.recording.specs.Lines.{header_text}
+use Rattle.recording.specs.Tapes.{IsPut, TapeState, new_tape}
+use Rattle.operating.specs.declared.record_file.TheConstants.{VERSION}
+
+-- the head of a record of this program, by settings from a file with this SHA-256, whenever it began
+abbrev pub IsHead : List ℕ → List ℕ → Type 0
+IsHead settings text = (began_ms : ℕ) × (text ≡ header_text VERSION.now settings began_ms)
+
+-- A record of at most so many bytes begins with such a head, if it may have that many.
+abbrev pub BeginsRecord : ℕ → List ℕ → TapeState → Type 0
+BeginsRecord limit settings tape = (head : List ℕ) × IsHead settings head × IsPut (new_tape limit) head tape
