@@ -1,12 +1,16 @@
 -- What `sfu replay` prints by which words.
 use Rattle.std.specs.Prelude.{◌≡◌, ℕ, Bool, List, Option, Some, Ok, codes, unwrap_or}
 use Rattle.std.specs.Io.KnownBytes.{Appends, Keeps}
+use Rattle.std.specs.declared.io.ErrorKind.{ErrorKind}
+use Rattle.std.specs.declared.io.ErrorKind.TheVariants.{OutOfMemory}
 use Rattle.scripts.specs.Shown.{unknown_in}
 use Rattle.scripts.specs.declared.shown.Shown.{Shown}
 use Rattle.scripts.specs.declared.shown.Unknown.{Unknown}
 use Rattle.scripts.specs.declared.shown.Unknown.TheVariants as unknown
 use Rattle.settings_text.specs.SettingsFaults.{TextGives}
 use Rattle.settings_text.specs.declared.settings_file.FileSettings.{FileSettings}
+use Rattle.settings_text.specs.declared.settings_file.SettingsProblem.{SettingsProblem}
+use Rattle.settings_text.specs.declared.settings_file.SettingsProblem.TheVariants.{NoMemory, File}
 
 -- what is to be shown by `--only-leg`, `--only-endpoint`, `--from` and `--events`
 abbrev pub shown_by : Option ℕ → Option ℕ → Option ℕ → Bool → Shown
@@ -16,6 +20,11 @@ shown_by leg endpoint from events = record {
   from_ms = unwrap_or from 0;
   events = events;
 }
+
+-- why there are no settings in a file that couldn't be opened or read
+abbrev pub problem_by : ErrorKind → SettingsProblem
+problem_by OutOfMemory = NoMemory
+problem_by kind = File
 
 abbrev pub unknown_text : Unknown → List ℕ
 unknown_text unknown.Endpoint = codes "refused endpoint\n"

@@ -2,7 +2,8 @@
 
 ghost use Rattle.std.specs.Prelude.{◌≡◌, ◌≢◌, ◌⊎◌, ◌∷◌, [], ℕ, List, Ok, Some, IfOk, IfSome};
 ghost use Rattle.std.specs.Io.KnownBytes.{Appends, Keeps};
-ghost use Rattle.offline.specs.Replaying.{NamesNobody, unknown_text};
+ghost use Rattle.std.specs.IoError.{error_kind};
+ghost use Rattle.offline.specs.Replaying.{NamesNobody, problem_by, unknown_text};
 ghost use Rattle.endings.specs.Endings.{SaysWhy};
 ghost use Rattle.scripts.specs.Replay.{PrintsByFile, RefusesByFile};
 ghost use Rattle.settings_text.specs.SettingsFaults.{TextGives};
@@ -97,7 +98,9 @@ fn settings_from<I: Read>(alloc: Global, file: &mut I) -> Result<FileSettings, S
 }
 
 /// Why there are no settings in a file that can't be opened or read.
-pub fn unreadable_settings(error: &io::Error) -> SettingsProblem {
+pub fn unreadable_settings(error: &io::Error) -> SettingsProblem
+    ensures { result ≡ problem_by (error_kind error.now) }
+{
     if error.kind() == io::ErrorKind::OutOfMemory {
         SettingsProblem::NoMemory
     } else {
