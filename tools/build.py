@@ -3,8 +3,8 @@
 
 crates.txt says what stands on what. A library is proved by `rt lib` once those below it are, the one with the longest chain
 above it first, as many at a time as processors (RT_JOBS, if set) and memory allow; processors that no other library waits for
-go to those that begin. Crates that it doesn't stand on, as those of tests, are left out. `rt run` then proves and compiles the
-program itself.
+go to those that begin, if these have enough to prove. Crates that it doesn't stand on, as those of tests, are left out. `rt run`
+then proves and compiles the program itself.
 
 One `rt` holds every crate below its own until it ends, so each library is proved in a room: a folder with the sources, and with
 hard links to what is built below. `rt` takes a built library by the sum of its sources, wherever it lies. What is proved goes
@@ -25,6 +25,8 @@ TOP = os.path.dirname(os.path.dirname(os.path.realpath(__file__)))
 # What of a crate rt reads, and what it makes of it.
 SOURCES, MADE = ("src", "specs", "proofs"), ("incremental", "rlib")
 MOST_JOBS = 4
+# Each job loads what lies below: with more than so many lines there for each that its own lines cost, a check ends hardly sooner by a second.
+LINES_LOADED = 15
 # Bytes that a check takes at most: for any crate, each line of its sources, each line below it, each job beside the first.
 LEAST, EACH_LINE, EACH_LINE_BELOW, EACH_JOB = 1_200_000_000, 100_000, 25_000, 1_000_000_000
 # The statuses of an rt whose check was killed, as it is for want of memory, though it had one job.
@@ -138,9 +140,14 @@ class Crate:
                     self.lines += lines
                     self.cost += lines * EACH_LINE_COSTS[part]
 
+    def lines_below(self):
+        return sum(it.lines for it in self.below)
+
+    def most_jobs(self):
+        return MOST_JOBS if LINES_LOADED * self.cost >= self.lines_below() else 1
+
     def need(self, jobs):
-        below = sum(it.lines for it in self.below)
-        return LEAST + EACH_LINE * self.lines + EACH_LINE_BELOW * below + EACH_JOB * (jobs - 1)
+        return LEAST + EACH_LINE * self.lines + EACH_LINE_BELOW * self.lines_below() + EACH_JOB * (jobs - 1)
 
     def will_take(self):
         """Returns the bytes that the crate's check hasn't taken yet and may take."""
@@ -271,7 +278,7 @@ class Build:
             if idle <= 0 or any(it.is_alone for it in [*self.running, library]) and self.running:
                 return
             # The ready ones share what is idle, the first of them what is left over.
-            library.jobs = 1 if library.is_alone else min(-(-idle // (len(ready) - at)), MOST_JOBS)
+            library.jobs = 1 if library.is_alone else min(-(-idle // (len(ready) - at)), library.most_jobs())
             free = free_memory() - sum(it.will_take() for it in self.running)
             while library.jobs > 1 and library.need(library.jobs) > free:
                 library.jobs -= 1
@@ -337,7 +344,7 @@ class Build:
         """Proves the program itself and compiles it."""
         it = self.program
         # (rt builds what it runs: an empty input is enough)
-        it.start(it.folder, "run", "--jobs", str(min(self.lanes, MOST_JOBS)), "--", "bound", "--sender", "0")
+        it.start(it.folder, "run", "--jobs", str(min(self.lanes, it.most_jobs())), "--", "bound", "--sender", "0")
         self.say(f"{it.name} is being proved and compiled")
         try:
             while not it.has_ended():
