@@ -165,3 +165,11 @@ abbrev pub ClientFaults : (SocketAddr → SocketAddr → Bool) → Listening →
 ClientFaults same listen texts NoMemory = Unit {0}
 ClientFaults same listen texts (Endpoint number key) =
     AreSpelled same listen texts (Err (number, key))
+
+-- ---- the keys, as a file has them
+
+abbrev pub key_text : AddressKey → List ℕ
+key_text Address = codes "address"
+key_text LearnFrom = codes "learn_from"
+key_text ReceiveOnly = codes "receive_only"
+key_text RtcpAddress = codes "rtcp_address"

@@ -1,5 +1,5 @@
 -- What a settings file gives to a unit that listens.
-use Rattle.std.specs.Prelude.{◌≡◌, ℕ, Bool, false, true, List, Option, Some, None, Ok}
+use Rattle.std.specs.Prelude.{◌≡◌, ◌⊎◌, ℕ, Bool, false, true, List, Option, Some, None, Ok, Err}
 use Rattle.std.specs.Option.{option_map_or}
 use Rattle.std.specs.Net.Grammar.{IsSocketText}
 use Rattle.std.specs.Net.Addr.{is_ipv4}
@@ -13,6 +13,8 @@ use Rattle.addressing.specs.Clients.{AreSpelled, Spells}
 use Rattle.settings_text.specs.SettingsFaults.{TextGives}
 use Rattle.addressing.specs.declared.served_file.ServedSettings.{ServedSettings}
 use Rattle.settings_text.specs.declared.settings_file.FileSettings.{FileSettings}
+use Rattle.settings_text.specs.declared.settings_file.SettingsProblem.{SettingsProblem}
+use Rattle.settings_text.specs.declared.settings_file.SettingsProblem.TheVariants.{NoMemory, File, Toml, Top, Endpoint, Leg, SameSsrc}
 
 -- what is looked at, where a file says so: sources that begin anew go unnoticed unless it says otherwise, and feedback has to name
 -- the endpoint's own source; what one client may cost the others; and how often a publisher is asked again
@@ -49,3 +51,23 @@ pub record GivesPlaces (same : SocketAddr → SocketAddr → Bool) (text : List 
   pub file : FileSettings
   pub gives : TextGives text (Ok file)
   pub places : PlacesFile same file s
+
+-- ---- what is said against a text
+
+-- a fault of a key, of the sources, or want of memory
+abbrev pub IsPlacedFault : SettingsProblem → Type 0
+IsPlacedFault NoMemory = Unit {0}
+IsPlacedFault File = ⊥
+IsPlacedFault Toml = ⊥
+IsPlacedFault (Top key) = Unit {0}
+IsPlacedFault (Endpoint number key) = Unit {0}
+IsPlacedFault (Leg number key) = Unit {0}
+IsPlacedFault SameSsrc = Unit {0}
+
+-- the problem that was found, or such a fault
+abbrev pub IsPlacedOr : SettingsProblem → SettingsProblem → Type 0
+IsPlacedOr found said = (said ≡ found) ⊎ IsPlacedFault said
+
+-- never that a file can't be read, and that it is no TOML document only of a text that is none
+abbrev pub IsServedFault : List ℕ → SettingsProblem → Type 0
+IsServedFault text said = TextGives text (Err said) ⊎ IsPlacedFault said

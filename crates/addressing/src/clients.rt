@@ -1,6 +1,7 @@
 //! Where the endpoints' clients are, as a settings file spells it.
 
-ghost use Rattle.std.specs.Prelude.{◌≡◌, ◌↔◌, ◌∷◌, ◌++◌, [], Ok, IsTrue, IfErr, OnOk, MatchOption, MatchResult, length};
+ghost use Rattle.std.specs.Prelude.{◌≡◌, ◌↔◌, ◌∷◌, ◌++◌, ◌/◌, [], Ok, IsTrue, IfErr, IfOk, OnOk, MatchOption, MatchResult, length, map};
+ghost use Rattle.senders.specs.Listeners.{new_listeners};
 ghost use Rattle.addressing.specs.Clients.{AreSpelled, ClientFaults, FaultOfClient, IsApart, IsLearned, IsReachable, Spells, SpellsBound, SpellsClient, SpellsNoBound, SpellsNone, SpellsNoRtcp, SpellsNowhere, SpellsReachable, SpellsRtcp, client_at};
 
 use senders::{Learners, Listeners, Network, Origin, Senders, read_network};
@@ -75,8 +76,13 @@ pub enum AddressKey {
 }
 
 impl AddressKey {
+    ghost use Rattle.std.specs.Prelude.{◌≡◌};
+    ghost use Rattle.addressing.specs.Clients.{key_text};
+
     /// The key as the file has it.
-    pub fn name(self) -> &'static str {
+    pub fn name(self) -> &'static str
+        ensures { result.now ≡ key_text self }
+    {
         match self {
             AddressKey::Address => "address",
             AddressKey::LearnFrom => "learn_from",
@@ -353,7 +359,10 @@ pub fn listeners_of(
     alloc: Global,
     clients: &[Client],
     timeout_ms: u64,
-) -> Result<Listeners, AllocError> {
+) -> Result<Listeners, AllocError>
+    ensures { IfOk result (λ listeners. listeners
+        ≡ new_listeners (map (λ client. client.receive_only) clients.now) (timeout_ms / 2)) }
+{
     let mut receive_only = Vec::new(alloc);
     for client in clients {
         receive_only.push(client.receive_only)?;

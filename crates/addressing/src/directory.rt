@@ -1,6 +1,9 @@
 //! Where datagrams for endpoints go, for each thread that sends.
 
-ghost use Rattle.std.specs.Prelude.{◌≡◌};
+ghost use Rattle.std.specs.Prelude.{◌≡◌, ◌≤◌, false, None, Some, length, map, slice_get, IfOk};
+ghost use Rattle.addressing.specs.Places.{fixed_at, fixed_in, place_for};
+ghost use Rattle.addressing.specs.declared.clients.Addresses.{Addresses as Places};
+ghost use Rattle.addressing.specs.declared.directory.Entry.TheVariants.{Fixed};
 
 use crate::clients::{Addresses, Client, Location};
 use senders::{Kind, Seat};
@@ -26,20 +29,28 @@ enum Entry {
 }
 
 impl Directory {
+    ghost use Rattle.std.specs.Prelude.{◌≡◌, ◌≤◌, false, None, Some, length, map, slice_get, IfOk};
+    ghost use Rattle.addressing.specs.Places.{fixed_at, fixed_in, place_for};
+    ghost use Rattle.addressing.specs.declared.clients.Addresses.{Addresses as Places};
+    ghost use Rattle.addressing.specs.declared.directory.Entry.TheVariants.{Fixed};
+
     /// The endpoints with these clients. Nothing is learned yet.
-    pub fn new(alloc: Global, clients: &[Client]) -> Result<Directory, AllocError> {
-        let mut entries = Vec::new(alloc);
-        for client in clients {
-            entries.push(match client.location {
-                Location::Fixed(addresses) => Entry::Fixed(addresses),
-                Location::Learned(_) => Entry::Learned(RwLock::new(Seat::empty())),
-            })?;
-        }
-        Ok(Directory { entries })
+    pub fn new(alloc: Global, clients: &[Client]) -> Result<Directory, AllocError>
+        ensures { IfOk result (λ directory. map fixed_in directory.entries.items
+            ≡ map fixed_at clients.now) }
+    {
+        Ok(Directory {
+            entries: entries_of(alloc, clients)?,
+        })
     }
 
     /// Where what is of this kind goes, if that is known.
-    pub fn address(&self, endpoint: u16, kind: Kind) -> Option<SocketAddr> {
+    pub fn address(&self, endpoint: u16, kind: Kind) -> Option<SocketAddr>
+        ensures fixed { (places : Places)
+            → slice_get self.now.entries.items endpoint ≡ Some (Fixed places)
+            → result ≡ Some (place_for kind places) }
+        ensures absent { length self.now.entries.items ≤ endpoint → result ≡ None }
+    {
         match self.entries.get(usize::from(endpoint))? {
             Entry::Fixed(addresses) => match kind {
                 Kind::Rtp => Some(addresses.media),
@@ -50,7 +61,11 @@ impl Directory {
     }
 
     /// The endpoint is there from now on, if its address is learned. Whether all see that: else somebody looked just now.
-    pub fn sit(&self, endpoint: u16, seat: Seat) -> bool {
+    pub fn sit(&self, endpoint: u16, seat: Seat) -> bool
+        ensures fixed { (places : Places)
+            → slice_get self.now.entries.items endpoint ≡ Some (Fixed places) → result ≡ false }
+        ensures absent { length self.now.entries.items ≤ endpoint → result ≡ false }
+    {
         let Some(Entry::Learned(lock)) = self.entries.get(usize::from(endpoint)) else {
             return false;
         };
@@ -61,6 +76,27 @@ impl Directory {
             }
             None => false,
         }
+    }
+}
+
+/// Where each of these clients is.
+fn entries_of(alloc: Global, clients: &[Client]) -> Result<Vec<Entry>, AllocError>
+    ensures { IfOk result (λ entries. map fixed_in entries.items ≡ map fixed_at clients.now) }
+{
+    let mut entries = Vec::with_capacity(alloc, clients.len())?;
+    for client in clients {
+        entries.push(entry_of(*client))?;
+    }
+    Ok(entries)
+}
+
+/// Where a client is, of whom nothing is learned yet.
+fn entry_of(client: Client) -> Entry
+    ensures { fixed_in result ≡ fixed_at client }
+{
+    match client.location {
+        Location::Fixed(addresses) => Entry::Fixed(addresses),
+        Location::Learned(_) => Entry::Learned(RwLock::new(Seat::empty())),
     }
 }
 

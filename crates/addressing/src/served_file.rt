@@ -1,7 +1,7 @@
 //! The settings of `sfu serve`: those of the room, and where the unit and its endpoints are.
 
-ghost use Rattle.std.specs.Prelude.{◌≡◌, IfOk, IfSome};
-ghost use Rattle.addressing.specs.ServedFile.{GivesPlaces, ListensApart, PlacesFile, rules_in};
+ghost use Rattle.std.specs.Prelude.{◌≡◌, IfErr, IfOk, IfSome};
+ghost use Rattle.addressing.specs.ServedFile.{GivesPlaces, IsPlacedFault, IsPlacedOr, IsServedFault, ListensApart, PlacesFile, rules_in};
 
 use crate::clients::{
     AddressKey, Client, ClientFault, Listening, address_in, client_in, read_clients,
@@ -34,7 +34,8 @@ pub struct ServedSettings {
 /// The settings that a text spells, with all addresses; else its first fault, where an address that is missing, is none or can't be
 /// reached is a fault of its key.
 pub fn read_served(alloc: Global, text: &[u8]) -> Result<ServedSettings, SettingsProblem>
-    ensures { IfOk result (GivesPlaces ⟦<SocketAddr as PartialEq>⟧.eq text.now) }
+    ensures ok { IfOk result (GivesPlaces ⟦<SocketAddr as PartialEq>⟧.eq text.now) }
+    ensures err { IfErr result (IsServedFault text.now) }
 {
     match read_settings(alloc, text) {
         Ok(file) => placed(alloc, file),
@@ -43,8 +44,10 @@ pub fn read_served(alloc: Global, text: &[u8]) -> Result<ServedSettings, Setting
 }
 
 /// The same settings with their addresses.
+#[tactic(auto, using(crate::proofs::ServedLemmas::placed_fault))]
 fn placed(alloc: Global, file: FileSettings) -> Result<ServedSettings, SettingsProblem>
-    ensures { IfOk result (PlacesFile ⟦<SocketAddr as PartialEq>⟧.eq file) }
+    ensures ok { IfOk result (PlacesFile ⟦<SocketAddr as PartialEq>⟧.eq file) }
+    ensures err { IfErr result IsPlacedFault }
 {
     let Some(media) = address_in(&file.listen) else {
         return Err(problem_at(alloc, Place::Top("listen")));
@@ -105,7 +108,10 @@ fn apart_in(media: SocketAddr, text: &Option<String>) -> Option<Option<SocketAdd
 }
 
 /// The problem, or a fault of an address that comes before it in the order of the keys.
-fn first_problem(alloc: Global, text: &[u8], problem: SettingsProblem) -> SettingsProblem {
+#[tactic(auto, using(crate::proofs::ServedLemmas::placed_or))]
+fn first_problem(alloc: Global, text: &[u8], problem: SettingsProblem) -> SettingsProblem
+    ensures { IsPlacedOr problem result }
+{
     let Ok(table) = toml::table_from_slice(alloc, text) else {
         return problem;
     };
