@@ -200,7 +200,7 @@ fn main() -> io::Result<()> {
     program.wait()?;
     fs::remove_file(&file)?;
     ended?;
-    let wanted = format!("present 2 heard {heard} sent {} failed 0 lost 0 strangers 0", heard - 2);
+    let wanted = format!("present 2 heard {heard} sent {} failed 0 lost 0 strangers 0 far 0 unread 0", heard - 2);
     if line != wanted {
         return Err(wrong(format!("the counts should have been: {wanted}")));
     }
