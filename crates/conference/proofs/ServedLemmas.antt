@@ -1,5 +1,5 @@
 -- What calls of a conference come to, one after the other.
-use Rattle.std.proofs.Common.{◌≡◌, ◌∙◌, ℕ, ◌≤◌, List, [], ◌∷◌, ◌++◌, length, drop, refl, sym, ap, subst, arith, append_assoc, append-nil, length-append}
+use Rattle.std.proofs.Common.{◌≡◌, ◌∙◌, ℕ, ◌≤◌, List, [], ◌∷◌, ◌++◌, length, drop, refl, sym, ap, subst, arith, append_assoc, length-append}
 use Rattle.std.proofs.lemmas.Grind.{flat_map-append}
 use Rattle.std.proofs.lemmas.List.{drop-append-le}
 use Rattle.settings.specs.Settings.{Configuration, IsInRange}
@@ -12,7 +12,7 @@ use Rattle.core_steps.specs.Opening.{IsNewWorld}
 use Rattle.core_steps.specs.Run.{Runs, outs_of}
 use Rattle.core_steps.specs.World.{WorldState}
 use Rattle.core_steps.proofs.OverRunsLemmas.{announces_over_run, ends_over_run, runs_first}
-use Rattle.one_thread.specs.Driving.{Drives, IsIdle}
+use Rattle.one_thread.specs.Driving.{Drives}
 use Rattle.one_thread.proofs.DrivingLemmas.{drives_after, drives_nothing, drives_on, new_idle, none_lost}
 use Rattle.one_thread.proofs.DriverLemmas.{last_heard}
 use Rattle.conference.specs.declared.fault.EventFault.{EventFault}

@@ -1,5 +1,5 @@
 -- What a conference has served: events from outside, each with all that follows from it, and the datagrams that it gave out.
-use Rattle.std.specs.Prelude.{◌≡◌, ◌≢◌, ℕ, Bool, true, false, List, [], ◌∷◌, ◌++◌, drop, Result, Ok, Err}
+use Rattle.std.specs.Prelude.{◌≡◌, ◌≢◌, ℕ, Bool, true, false, List, [], ◌∷◌, ◌++◌, drop, Ok, Err}
 use Rattle.settings.specs.Settings.{Configuration, IsInRange}
 use Rattle.settings_text.specs.declared.settings_file.FileSettings.{FileSettings}
 use Rattle.settings_text.specs.SettingsFaults.{TextGives}

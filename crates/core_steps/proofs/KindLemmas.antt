@@ -12,7 +12,6 @@ use Rattle.members.specs.Room.{Step, select_step, tick_step}
 use Rattle.members.specs.Calls.{step_of, room_of, orders_of, orders_after}
 use Rattle.desk.specs.declared.call.Call.{Call as DeskCall}
 use Rattle.desk.specs.declared.call.Call.TheVariants.{Time}
-use Rattle.desk.specs.declared.call.Change.TheVariants as change
 use Rattle.desk.specs.declared.call.Signal.TheVariants as signal
 use Rattle.desk.specs.State.{DeskState}
 use Rattle.events.specs.declared.event.Event.{Event}
@@ -31,7 +30,7 @@ use Rattle.legs.specs.Legs.{legs_after}
 use Rattle.core_steps.specs.Rule.{Does, DoesNext, DoesTask, DoesJob, Works, WorksOn, is_busy, Replies, IngressAsks, OrderAsks, JobAsks, WorkerAsks, ingress_asked, worker_asked, pushing, putting, done_task, taking, working, with_hand, forwarding, hand_of, pending_of}
 use Rattle.core_steps.specs.World.{WorldState, WorkerState, Task, order, push, pulse, expire, report, Hand, free, doing, telling}
 use Rattle.notices.specs.Notification.{Pending}
-use Rattle.core_steps.proofs.CauseLemmas.{AsksAsDone, AsksThere, AskedByJob, Causes, asked_by_task, finished_in, in_hand, orders_in, orders_in-orders, orders_first, orders_ticked, none_after, none_append, none_heard, none_received}
+use Rattle.core_steps.proofs.CauseLemmas.{AsksAsDone, AsksThere, AskedByJob, Causes, asked_by_task, finished_in, in_hand, orders_in, orders_first, orders_ticked, none_after, none_append, none_heard, none_received}
 
 -- What was done at a worker: it is there, it took its oldest jobs, and there was room for those that it was given; it finished what
 -- it had in hand, and has in hand what it took; its legs are as the jobs that it finished leave them.

@@ -42,7 +42,7 @@ use Rattle.core_steps.proofs.QuietDeskLemmas.{NotBy}
 use Rattle.core_steps.proofs.QuietLegLemmas.{asker, IsByLeg}
 use Rattle.core_steps.proofs.QuietQueueLemmas.{hand_asks, jobs_asks, job_asks, task_asks, Tracks, IsWaiting, waiting_taken}
 use Rattle.core_steps.proofs.QuietKeptLemmas.{IsPlaced, IsPlacedHand, IsPlacedWorker, stay_at, IsKept, desk_there, IsLegCall, IfLegCall, leg_call}
-use Rattle.core_steps.proofs.QuietTakenLemmas.{IsFollowUp, follow-append, silent-after, silent-append, silent-none, silent-moment, datagram_follows, received-like, kept-like, low_then, kept_taken}
+use Rattle.core_steps.proofs.QuietTakenLemmas.{IsFollowUp, follow-append, silent-after, silent-append, silent-moment, datagram_follows, received-like, kept-like, low_then, kept_taken}
 use Rattle.core_steps.proofs.QuietTaskLemmas.{kept_pop, kept_told, kept_arrived, kept_departed, kept_unput, kept_put}
 use Rattle.core_steps.proofs.QuietTurnLemmas.{kept_turned, kept_turned_told, kept_requested, kept_unasked}
 

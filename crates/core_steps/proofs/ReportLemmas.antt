@@ -1,6 +1,6 @@
 -- Of sender reports that come at one moment the last stands.
 use Rattle.std.proofs.Common.{◌≡◌, ◌∙◌, ℕ, zero, suc, Bool, true, false, List, [], ◌∷◌, Option, None, Some, refl, ap}
-use Rattle.std.specs.Prelude.{fold, slice_index_or, slice_set, if◌then◌else◌}
+use Rattle.std.specs.Prelude.{slice_index_or, slice_set, if◌then◌else◌}
 use Rattle.std.specs.List.{last_or}
 use Rattle.members.specs.Presence.{is_present_at}
 use Rattle.members.specs.Room.{RoomState, after_report}

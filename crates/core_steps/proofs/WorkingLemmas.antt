@@ -1,12 +1,10 @@
 -- What a worker's turn leaves, leaf by leaf.
-use Rattle.std.proofs.Common.{◌≡◌, ℕ, ◌+◌, ◌^◌, ◌<◌, ◌≤◌, List, [], ◌∷◌, ◌++◌, length, get_or, set, map, refl, sym, ap, subst, ◌∙◌}
+use Rattle.std.proofs.Common.{◌≡◌, ℕ, ◌^◌, ◌<◌, ◌≤◌, List, [], ◌∷◌, ◌++◌, length, get_or, set, map, refl, sym, ap, subst, ◌∙◌}
 use Rattle.std.proofs.lemmas.List.{append-nil, map-set, set-get_or}
 use Rattle.std.proofs.lemmas.Option.{get_or_from_slice_get, slice_get-get_or, slice_get-map, slice_get_past}
 use Rattle.std.specs.Prelude.{drop, slice_get, slice_set, slice_index_or, Option, None, Some, option_map, Result, Ok, Err, OnOk, OnErr}
 use Rattle.std.specs.declared.alloc.AllocError.{AllocError}
 use Rattle.members.specs.declared.order.Row.{Row}
-use Rattle.tmmbr_tuple.specs.declared.tuple.Tuple.{Tuple}
-use Rattle.tmmbr_tuple.specs.Tuple.{word_of}
 use Rattle.desk.specs.declared.call.Call.{Call as DeskCall}
 use Rattle.desk.specs.declared.call.Change.TheVariants as change
 use Rattle.desk.specs.State.{DeskState}
@@ -17,9 +15,9 @@ use Rattle.events.specs.declared.output.Out.{Out}
 use Rattle.events.specs.declared.output.Out.TheVariants.{Idle}
 use Rattle.notices.specs.declared.calls.Asks.{Asks}
 use Rattle.notices.specs.declared.calls.Asks.TheVariants.{Desk, Nobody, Legs}
-use Rattle.core_steps.specs.Asking.{Asked, HasReply, IsNobody, desks_after, pending_after, refusals_after}
+use Rattle.core_steps.specs.Asking.{Asked, desks_after, pending_after, refusals_after}
 use Rattle.notices.specs.DeskCalls.{stay_call, picture_call, asks_by, AsksOf}
-use Rattle.core_steps.specs.Happening.{RecordedCall, Worked, Happening, giving, no_worker, worker_after, workers_by, desks_by, world_after}
+use Rattle.core_steps.specs.Happening.{RecordedCall, Worked, Happening, giving, no_worker, worker_after, workers_by, desks_by}
 use Rattle.legs.specs.Legs.{job_datagrams, legs_after}
 use Rattle.core_steps.specs.Machine.{worker_state}
 use Rattle.notices.specs.Notification.{notification_datagrams, Pending}

@@ -1,20 +1,16 @@
 -- A new world, and what waits in one.
 use Rattle.core_steps.specs.Waits.{as_counted}
-use Rattle.std.proofs.Common.{◌-◌, ◌^◌, min, ◌≡◌, ℕ, ◌+◌, ◌*◌, ◌<◌, ◌≤◌, List, [], ◌∷◌, ◌++◌, length, get_or, take, map, refl, sym, ap, subst, ◌∙◌, arith, length-append, below_more, add-zero}
+use Rattle.std.proofs.Common.{◌-◌, ◌^◌, min, ◌≡◌, ℕ, ◌+◌, ◌<◌, List, [], ◌∷◌, ◌++◌, length, get_or, take, map, sym, ap, subst, ◌∙◌, arith, length-append, below_more, add-zero}
 use Rattle.std.proofs.lemmas.List.{map-append, take_more}
-use Rattle.std.proofs.lemmas.List.Elements.{All-append}
 use Rattle.std.proofs.lemmas.List.Sums.{sum_by-append, sum_by-cons}
 use Rattle.std.proofs.lemmas.Option.{slice_get_within}
 use Rattle.circular_buffer.proofs.Places.{slice_get-append_left, slice_get-append_right}
-use Rattle.std.specs.Prelude.{All, fold, slice_get, slice_index_or, Option, None, Some, sum_by}
+use Rattle.std.specs.Prelude.{slice_get, Some, sum_by}
 use Rattle.settings.specs.Settings.{Configuration}
-use Rattle.desk.specs.State.{DeskState}
 use Rattle.core_steps.specs.declared.machine.Worker.{Worker}
-use Rattle.core_steps.specs.Happening.{Worked, Happening, no_worker, worker_after, workers_by, world_after}
 use Rattle.core_steps.specs.Machine.{worker_state}
-use Rattle.core_steps.specs.Opening.{IsNewDesk, IsNewWorker, AreNewWorkers}
-use Rattle.core_steps.specs.Run.{worlds_after}
-use Rattle.core_steps.specs.World.{WorkerState, WorldState}
+use Rattle.core_steps.specs.Opening.{IsNewWorker, AreNewWorkers}
+use Rattle.core_steps.specs.World.{WorkerState}
 
 -- ---- a new world
 

@@ -1,10 +1,7 @@
 -- What is left of the reply of a desk.
-use Rattle.std.specs.Prelude.{◌≡◌, ℕ, List, ◌++◌, Option, None, Some, if◌then◌else◌}
+use Rattle.std.specs.Prelude.{◌≡◌, ℕ, List, ◌++◌, Option, None, Some}
 use Rattle.desk.specs.declared.call.Call.{Call as DeskCall}
-use Rattle.desk.specs.declared.call.Answer.{Answer}
-use Rattle.desk.specs.Call.{is_done, is_answered_up}
 use Rattle.desk.specs.State.{DeskState}
-use Rattle.notices.specs.declared.notification.Notification.{Notification}
 use Rattle.events.specs.declared.output.Out.{Out}
 use Rattle.notices.specs.Notification.{Pending}
 use Rattle.core_steps.specs.Happening.{RecordedCall, desks_by}

@@ -1,5 +1,5 @@
 -- What one event did, by lists, and the world behind it.
-use Rattle.std.specs.Prelude.{ℕ, ◌+◌, ◌-◌, ◌^◌, min, List, [], ◌∷◌, ◌++◌, length, drop, fold, slice_index_or, slice_set, Option, None, Some}
+use Rattle.std.specs.Prelude.{ℕ, ◌+◌, ◌-◌, ◌^◌, min, List, [], ◌++◌, length, drop, fold, slice_index_or, slice_set, Option}
 use Rattle.members.specs.Calls.{Call as RoomCall, room_after}
 use Rattle.desk.specs.declared.call.Call.{Call as DeskCall}
 use Rattle.desk.specs.declared.call.Answer.{Answer}

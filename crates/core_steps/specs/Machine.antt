@@ -1,12 +1,11 @@
 -- The world that the machine's parts stand for.
-use Rattle.std.specs.Prelude.{ℕ, List, ◌++◌, map, drop, Option, option_map}
+use Rattle.std.specs.Prelude.{ℕ, List, ◌++◌, map, drop, option_map}
 use Rattle.desk.specs.declared.effect.Effect.{Effect}
 use Rattle.core_steps.specs.declared.machine.Machine.{Machine}
 use Rattle.core_steps.specs.declared.machine.Setup.{Setup as SetupParts}
 use Rattle.core_steps.specs.declared.machine.Worker.{Worker}
 use Rattle.core_steps.specs.declared.machine.Hand.{Hand as HandParts}
 use Rattle.core_steps.specs.declared.machine.Hand.TheVariants.{Free, Doing, Telling}
-use Rattle.notices.specs.declared.notification.Notification.{Notification}
 use Rattle.core_steps.specs.declared.tasks.Tasks.{Tasks}
 use Rattle.core_steps.specs.declared.tasks.FollowUp.{FollowUp}
 use Rattle.core_steps.specs.declared.tasks.NextTask.{NextTask}
@@ -14,7 +13,7 @@ use Rattle.core_steps.specs.declared.tasks.NextTask.TheVariants.{Order as AnOrde
 use Rattle.core_steps.specs.declared.tasks.FollowUp.TheVariants.{Push, Pulse, Expire, Report}
 use Rattle.core_steps.specs.Seed.{job_of}
 use Rattle.core_steps.specs.World.{Setup, Task, order, push, pulse, expire, report, Hand, free, doing, telling, WorkerState, WorldState}
-use Rattle.notices.specs.Notification.{Pending, pending_with}
+use Rattle.notices.specs.Notification.{pending_with}
 
 -- the task that follows, where the datagram has these bytes
 abbrev pub task_of : List ℕ → FollowUp → Task

@@ -1,5 +1,5 @@
 -- What was numbered and kept on each leg over a run.
-use Rattle.std.specs.Prelude.{◌≡◌, ◌==◌, ◌&&◌, ℕ, ◌%◌, ◌^◌, List, [], ◌∷◌, ◌++◌, map, slice_get, slice_index_or, Some, Result, Ok, Err, if◌then◌else◌}
+use Rattle.std.specs.Prelude.{◌≡◌, ◌==◌, ◌&&◌, ℕ, ◌%◌, List, [], ◌∷◌, ◌++◌, map, slice_get, slice_index_or, Some, Result, Ok, Err, if◌then◌else◌}
 use Rattle.std.specs.List.{flat_map}
 use Rattle.circular_buffer.specs.Buffer.{keep_last}
 use Rattle.members.specs.declared.order.Row.{Row}

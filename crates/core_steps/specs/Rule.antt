@@ -1,8 +1,6 @@
 -- What an event may do: which happening is its.
-use Rattle.std.specs.Prelude.{◌==◌, ◌≡◌, ℕ, nat_le, not, Bool, true, false, ◌||◌, List, [], ◌∷◌, length, slice_get, Option, None, Some, is_some, MatchBool, if◌then◌else◌}
-use Rattle.members.specs.declared.order.Order.{Order}
+use Rattle.std.specs.Prelude.{◌≡◌, ℕ, nat_le, not, Bool, true, false, ◌||◌, List, [], ◌∷◌, length, slice_get, Option, None, Some, is_some, MatchBool, if◌then◌else◌}
 use Rattle.members.specs.declared.order.Order.TheVariants.{Arrive, Depart, Route}
-use Rattle.settings.specs.declared.settings.LegSettings.{LegSettings}
 use Rattle.members.specs.Presence.{source_at}
 use Rattle.members.specs.Room.{reception_at}
 use Rattle.members.specs.Calls.{MakeBlock}
@@ -36,7 +34,7 @@ use Rattle.legs.specs.Legs.{job_datagrams, legs_after}
 use Rattle.notices.specs.Head.{upstream_report}
 use Rattle.notices.specs.Notification.{notification_datagrams, tells, Pending}
 use Rattle.core_steps.specs.World.{WorldState, WorkerState, Task, order, push, pulse, expire, report, Hand, free, doing, telling}
-use Rattle.core_steps.specs.Happening.{RecordedCall, GivenUp, Happening, Worked, giving}
+use Rattle.core_steps.specs.Happening.{RecordedCall, Happening, Worked, giving}
 use Rattle.core_steps.specs.Hearing.{IsHearing, ticking, selecting}
 
 -- ---- a call of a desk

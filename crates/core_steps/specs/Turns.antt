@@ -1,5 +1,5 @@
 -- A worker's turn, on the parts of the world that it sees.
-use Rattle.std.specs.Prelude.{◌≡◌, ℕ, ◌^◌, ◌<◌, List, ◌∷◌, slice_get, slice_set, Option, None, Some}
+use Rattle.std.specs.Prelude.{◌≡◌, ℕ, ◌^◌, ◌<◌, List, slice_get, slice_set, Option, Some}
 use Rattle.members.specs.declared.order.Row.{Row}
 use Rattle.desk.specs.declared.call.Call.{Call as DeskCall}
 use Rattle.desk.specs.State.{DeskState}

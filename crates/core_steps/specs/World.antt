@@ -3,10 +3,8 @@ use Rattle.std.specs.Prelude.{ℕ, List, Option}
 use Rattle.members.specs.declared.order.Order.{Order}
 use Rattle.members.specs.declared.order.Row.{Row}
 use Rattle.members.specs.Room.{RoomState}
-use Rattle.desk.specs.declared.effect.Effect.{Effect}
 use Rattle.desk.specs.State.{DeskState}
 use Rattle.events.specs.declared.job.Job.{Job}
-use Rattle.notices.specs.declared.notification.Notification.{Notification}
 use Rattle.notices.specs.Head.{Identity}
 use Rattle.settings.specs.Links.{LinkTable}
 use Rattle.settings.specs.declared.rules.LegRules.{LegRules}

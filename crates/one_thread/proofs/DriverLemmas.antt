@@ -1,5 +1,5 @@
 -- What a whole run from a new world comes to.
-use Rattle.std.proofs.Common.{◌≡◌, ◌∙◌, ℕ, ◌<◌, List, [], ◌++◌, length, slice_get, slice_index_or, Some, refl, sym, ap, subst, arith, inl, inr}
+use Rattle.std.proofs.Common.{◌≡◌, ◌∙◌, ℕ, ◌<◌, List, [], length, slice_get, Some, refl, sym, ap, subst, arith, inl, inr}
 use Rattle.std.specs.Prelude.{All}
 use Rattle.std.proofs.lemmas.Option.{get_or_from_slice_get, slice_get_within}
 use Rattle.circular_buffer.proofs.Places.{slice_get-some}
@@ -25,7 +25,7 @@ use Rattle.one_thread.specs.declared.tally.Tally.{Tally}
 use Rattle.one_thread.specs.declared.driver.DriveFault.{DriveFault}
 use Rattle.one_thread.specs.declared.driver.DriveFault.TheVariants.{NoMemory}
 use Rattle.one_thread.specs.Driver.{EndsEarly, HasDriven, LeavesLastHeard, StopsEarly}
-use Rattle.one_thread.specs.Driving.{IsIdle, Drives}
+use Rattle.one_thread.specs.Driving.{IsIdle}
 use Rattle.one_thread.specs.Turns.{HasEnded, OutsideView, events_of}
 use Rattle.one_thread.proofs.DrivingLemmas.{none_lost}
 

@@ -1,10 +1,9 @@
 -- Drives one after the other, and of one event.
-use Rattle.std.proofs.Common.{◌≡◌, ◌∙◌, ℕ, ◌+◌, ◌<◌, zero, suc, List, [], ◌∷◌, ◌++◌, length, take, Bool, true, false, refl, sym, ap, subst, arith, append_assoc, append-nil, Option, None, Some, slice_get}
+use Rattle.std.proofs.Common.{◌≡◌, ◌∙◌, ℕ, ◌+◌, ◌<◌, zero, suc, List, [], ◌∷◌, ◌++◌, length, take, true, false, refl, sym, ap, subst, arith, append_assoc, append-nil, Option, None, Some, slice_get}
 use Rattle.std.proofs.lemmas.Grind.{flat_map-append}
 use Rattle.std.proofs.lemmas.List.Elements.{filter-append}
 use Rattle.std.proofs.Math.Seq.{take-append_seam}
 use Rattle.std.specs.Prelude.{◌||◌, filter, is_some, not, sum_by}
-use Rattle.std.specs.List.{flat_map}
 use Rattle.events.specs.declared.event.Event.{Event}
 use Rattle.events.specs.declared.event.Event.TheVariants.{Hear, Tick, Select, Ingress, Work}
 use Rattle.events.specs.declared.job.Job.{Job}
@@ -14,7 +13,7 @@ use Rattle.core_steps.specs.Opening.{IsNewWorker, IsNewWorld}
 use Rattle.core_steps.specs.Rule.{Does, is_busy, is_empty}
 use Rattle.core_steps.specs.Run.{HasRun, Runs, Stays, outs_of, worlds_after}
 use Rattle.core_steps.specs.Settling.{ingress_left}
-use Rattle.core_steps.specs.Waits.{as_counted, hand_count, has_work, pending_count, waiting_in, worker_has_work, works_more}
+use Rattle.core_steps.specs.Waits.{as_counted, hand_count, has_work, pending_count, worker_has_work, works_more}
 use Rattle.core_steps.specs.World.{Hand, Task, WorkerState, WorldState, doing, free, telling}
 use Rattle.core_steps.specs.declared.world.Waiting.{Waiting}
 use Rattle.notices.specs.Notification.{Pending}

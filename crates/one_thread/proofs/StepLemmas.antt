@@ -1,6 +1,5 @@
 -- What one step of a machine with one worker leaves: no job was given up, and the other measures stay.
-use Rattle.std.proofs.Common.{◌≡◌, ◌∙◌, ℕ, ◌<◌, ◌≤◌, zero, suc, List, [], ◌∷◌, ◌++◌, length, drop, Bool, true, false, refl, sym, ap, subst, arith, Option, None, Some, slice_get, fold, nat_le, length-append, append-nil}
-use Rattle.std.specs.Prelude.{if◌then◌else◌}
+use Rattle.std.proofs.Common.{◌≡◌, ◌∙◌, ℕ, zero, suc, List, [], ◌∷◌, ◌++◌, length, drop, false, refl, sym, ap, subst, arith, Option, None, Some, slice_get, fold, append-nil}
 use Rattle.std.specs.List.{AllByRecursion}
 use Rattle.std.proofs.lemmas.List.{length-set}
 use Rattle.std.proofs.lemmas.Option.{same_Some}
@@ -11,16 +10,14 @@ use Rattle.events.specs.declared.event.Event.{Event}
 use Rattle.events.specs.declared.event.Event.TheVariants.{Work}
 use Rattle.events.specs.declared.job.Job.{Job}
 use Rattle.events.specs.declared.job.Job.TheVariants.{Packet, Request, Resend, Pli, Report, Goodbye}
-use Rattle.core_steps.specs.declared.ring.TheConstants.{JOB_LIMIT}
 use Rattle.notices.specs.DeskCalls.{stay_call, picture_call}
-use Rattle.core_steps.specs.Happening.{GivenUp, Happening, RecordedCall, Worked, no_worker, worker_after, workers_by, world_after}
+use Rattle.core_steps.specs.Happening.{GivenUp, Happening, RecordedCall, Worked, workers_by, world_after}
 use Rattle.core_steps.specs.Laws.{IsGivenUpFull}
 use Rattle.core_steps.specs.Rule.{Does, DoesJob, JobAsks, WorkerAsks, Works, WorksOn, worker_asked}
 use Rattle.core_steps.specs.Settling.{ingress_left}
 use Rattle.core_steps.specs.Waits.{has_work, pending_count, worker_has_work, works_more}
 use Rattle.core_steps.specs.World.{Hand, WorkerState, WorldState, doing, free, telling}
 use Rattle.core_steps.proofs.HistoryLemmas.{given_up_where_full}
-use Rattle.notices.specs.Notification.{Pending}
 
 -- ---- the workers
 

@@ -15,7 +15,7 @@ use Rattle.core_steps.specs.World.{WorldState}
 use Rattle.one_thread.specs.declared.tally.Tally.{Tally}
 use Rattle.one_thread.specs.Driver.{FailsToReceive, StopsIn}
 use Rattle.one_thread.specs.Driving.{Drives, DrivesSome}
-use Rattle.one_thread.specs.Turns.{BreaksOff, EndsInTime, GoesOn, Hands, HandsOver, HasEnded, HasMade, IsStopped, IsWhole, NeverStops, MakesTurn, MakesTurns, OutsideView, Raises, Turn, events_of, faults_over, faults_with, brought_at, heard_count, heard_over, sink_of, tick_at, ticks_over, turn_events, view_of}
+use Rattle.one_thread.specs.Turns.{BreaksOff, GoesOn, Hands, HandsOver, HasEnded, HasMade, NeverStops, MakesTurn, MakesTurns, OutsideView, Raises, Turn, events_of, faults_over, faults_with, brought_at, heard_count, heard_over, sink_of, tick_at, ticks_over, turn_events, view_of}
 use Rattle.one_thread.proofs.DrivingLemmas.{drives_after, drives_nothing, drives_on}
 
 -- ---- what is handed over

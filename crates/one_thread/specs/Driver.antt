@@ -1,5 +1,5 @@
 -- What a run of the unit in one thread did, and how it ended.
-use Rattle.std.specs.Prelude.{◌≡◌, ◌⊎◌, ℕ, ◌<◌, List, [], ◌∷◌, ◌++◌, length}
+use Rattle.std.specs.Prelude.{◌≡◌, ◌⊎◌, ℕ, ◌<◌, List, [], ◌++◌}
 use Rattle.std.specs.List.{flat_map}
 use Rattle.settings.specs.Settings.{Configuration}
 use Rattle.outside.specs.declared.source.TheConstants.{MAX_FAULTS}

@@ -1,4 +1,3 @@
-use Rattle.std.proofs.Common.{arith}
 use Rattle.core_steps.specs.Machine.{state_of}
 use Rattle.core_steps.proofs.RunLemmas.{step-more}
 use Rattle.core_steps.proofs.runner.run_machine.Goals as goal

@@ -1,10 +1,9 @@
-use Rattle.std.proofs.Common.{◌≡◌, List, ap, refl, sym, ◌∙◌}
+use Rattle.std.proofs.Common.{List, ap, refl, sym, ◌∙◌}
 use Rattle.events.specs.declared.job.Job.{Job}
 use Rattle.legs.specs.declared.leg.LegState.{LegState}
-use Rattle.events.specs.declared.output.Out.{Out}
 use Rattle.core_steps.specs.Machine.{setup_of, worker_state, hand_in}
 use Rattle.notices.specs.Notification.{pending_with}
-use Rattle.core_steps.specs.World.{Hand, free, WorkerState}
+use Rattle.core_steps.specs.World.{free, WorkerState}
 use Rattle.core_steps.proofs.WorkingLemmas.{idle-turns, taking-turns, telling-turns, nobody-turns, forwarding-turns, asked-turns}
 use Rattle.core_steps.proofs.working.turn.Goals as goal
 

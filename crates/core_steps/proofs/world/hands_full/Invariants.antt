@@ -1,4 +1,4 @@
-use Rattle.std.proofs.Common.{◌≡◌, length, map, take}
+use Rattle.std.proofs.Common.{◌≡◌, map, take}
 use Rattle.std.specs.Prelude.{sum_by}
 use Rattle.core_steps.specs.Machine.{worker_state}
 use Rattle.core_steps.specs.Waits.{as_counted, hand_count}

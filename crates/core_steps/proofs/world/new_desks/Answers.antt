@@ -1,4 +1,4 @@
-use Rattle.std.proofs.Common.{List, [], ◌∷◌, ◌++◌, arith, sym, subst, length-append, length, ap}
+use Rattle.std.proofs.Common.{List, [], ◌∷◌, arith, sym, subst, length-append, length, ap}
 use Rattle.std.specs.Prelude.{All}
 use Rattle.std.proofs.lemmas.List.Elements.{All-append, All-from_recursion}
 use Rattle.desk.specs.State.{DeskState}

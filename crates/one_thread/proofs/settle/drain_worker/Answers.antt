@@ -1,7 +1,7 @@
 use Rattle.std.proofs.Common.{[], ◌∙◌, refl, sym}
 use Rattle.events.specs.declared.event.Event.TheVariants.{Work}
 use Rattle.core_steps.proofs.SettleLemmas.{work_falls}
-use Rattle.one_thread.proofs.DrivingLemmas.{drives_nothing, drives_on, drives_stays, drives_work, same_count, work_leaves_ingress}
+use Rattle.one_thread.proofs.DrivingLemmas.{drives_nothing, drives_on, drives_work, same_count, work_leaves_ingress}
 use Rattle.one_thread.proofs.settle.drain_worker.Goals as goal
 
 pub loop-world-init : goal.loop-world-init

@@ -1,4 +1,4 @@
-use Rattle.std.proofs.Common.{rules, ◌≡◌, ℕ}
+use Rattle.std.proofs.Common.{rules}
 use Rattle.conference.proofs.OpeningLemmas.{has_workers, opens_by}
 use Rattle.conference.proofs.conference.Conference.open.Goals as goal
 
