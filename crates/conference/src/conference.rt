@@ -6,7 +6,7 @@ ghost use Rattle.desk.specs.State.{DeskState, HoldsLegalDesk};
 ghost use Rattle.events.specs.declared.event.Event.TheVariants.{Hear, Select, Tick};
 ghost use Rattle.core_steps.specs.Waits.{waiting_in};
 ghost use Rattle.one_thread.specs.Driving.{Drives, IsIdle, is_from_outside};
-ghost use Rattle.conference.specs.declared.fault.EventFault.TheVariants.{Busy};
+ghost use Rattle.conference.specs.declared.fault.EventFault.TheVariants.{Busy, Unsettled};
 ghost use Rattle.conference.specs.Certified.{Shows};
 ghost use Rattle.conference.specs.Conference.{IsNewConference, LeavesEvents, Serves, StopsAfter, datagram_of, conference_state};
 
@@ -14,8 +14,8 @@ use crate::certified::{Certified, certified_by};
 use crate::delivery::{Delivery, let_go, next_delivery, place_after};
 use crate::fault::EventFault;
 use arrayvec::ArrayVec;
-use core_steps::{Waiting, World};
-use events::{Event, Out, SharedBytes};
+use core_steps::{Waiting, World, hear};
+use events::{Event, Out};
 use one_thread::settle::{settle, step};
 use rate_cert::{MAX_REQUESTS, Request};
 use settings::Settings;
@@ -26,7 +26,6 @@ use std::marker::Model;
 /// be sent then wait until they are taken (`next`, `take_next`).
 #[derive(Drop)]
 pub struct Conference {
-    alloc: Global,
     world: World,
     /// What the machine gave out.
     outs: Vec<Out>,
@@ -72,10 +71,23 @@ fn conference_of(alloc: Global, world: World) -> Conference
     ensures { result ≡ conference_state world [] 0 }
 {
     Conference {
-        alloc,
         world,
         outs: Vec::new(alloc),
         taken: 0,
+    }
+}
+
+/// All that follows from what was done is done.
+fn finish(world: &mut World, outs: &mut Vec<Out>) -> Result<(), EventFault>
+    requires one { length world.old.workers ≡ 1 }
+    ensures drives { Drives [] world.old outs.old.items world.new outs.new.items }
+    ensures idle { OnOk result (IsIdle world.new) }
+    ensures one { length world.new.workers ≡ 1 }
+    ensures err { IfErr result (λ fault. fault ≡ Unsettled) }
+{
+    match settle(world, outs) {
+        Ok(()) => Ok(()),
+        Err(_) => Err(EventFault::Unsettled),
     }
 }
 
@@ -95,10 +107,31 @@ fn do_event(world: &mut World, event: Event, outs: &mut Vec<Out>) -> Result<(), 
     if step(world, event, outs).is_err() {
         return Err(EventFault::NoMemory);
     }
-    match settle(world, outs) {
-        Ok(()) => Ok(()),
-        Err(_) => Err(EventFault::Unsettled),
+    finish(world, outs)
+}
+
+/// A datagram of this endpoint is heard, which finds nothing waiting, and all that follows from it is done.
+#[tactic(auto, using(one_thread::proofs::DrivingLemmas::taken_in, one_thread::proofs::DrivingLemmas::same_count))]
+fn do_hear(
+    world: &mut World,
+    moment: u64,
+    endpoint: u16,
+    bytes: &[u8],
+    outs: &mut Vec<Out>,
+) -> Result<(), EventFault>
+    requires one { length world.old.workers ≡ 1 }
+    requires idle { IsIdle world.old }
+    ensures ok { OnOk result (Drives (Hear moment endpoint bytes.now ∷ [])
+        world.old outs.old.items world.new outs.new.items) }
+    ensures idle { OnOk result (IsIdle world.new) }
+    ensures one { length world.new.workers ≡ 1 }
+    ensures err { IfErr result (StopsAfter (Hear moment endpoint bytes.now ∷ [])
+        world.old outs.old.items world.new outs.new.items) }
+{
+    if hear(world, moment, endpoint, bytes, outs).is_err() {
+        return Err(EventFault::NoMemory);
     }
+    finish(world, outs)
 }
 
 impl Conference {
@@ -131,6 +164,19 @@ impl Conference {
         do_event(&mut self.world, event, &mut self.outs)
     }
 
+    /// A datagram of this endpoint is heard, which finds nothing waiting.
+    #[tactic(auto, using(crate::proofs::ServedLemmas::serves_of, crate::proofs::ServedLemmas::still_within, crate::proofs::ServedLemmas::leaves_of))]
+    fn take_datagram(&mut self, moment: u64, endpoint: u16, bytes: &[u8]) -> Result<(), EventFault>
+        requires idle { IsIdle self.old.world }
+        ensures ok { OnOk result (Serves (Hear moment endpoint bytes.now ∷ []) self.old self.new) }
+        ensures settled { OnOk result (IsIdle self.new.world) }
+        ensures err { IfErr result
+            (LeavesEvents (Hear moment endpoint bytes.now ∷ []) self.old self.new) }
+    {
+        self.forget_taken();
+        do_hear(&mut self.world, moment, endpoint, bytes, &mut self.outs)
+    }
+
     /// A datagram came from this endpoint at this moment, in milliseconds: it is heard, with all that follows. What is to be sent
     /// waits after what was to be sent before.
     ///
@@ -146,14 +192,7 @@ impl Conference {
         if !is_idle(&self.world) {
             return Err(EventFault::Busy);
         }
-        let Ok(bytes) = SharedBytes::copy_of(self.alloc, bytes) else {
-            return Err(EventFault::NoMemory);
-        };
-        self.take(Event::Hear {
-            moment,
-            endpoint,
-            bytes,
-        })
+        self.take_datagram(moment, endpoint, bytes)
     }
 
     /// It is this moment, in milliseconds: what has come with time is done, with all that follows. Refused as `hear` is.

@@ -1,8 +1,8 @@
 -- A run and one happening more.
-use Rattle.std.proofs.Common.{◌≡◌, ℕ, ◌+◌, ◌-◌, ◌^◌, ◌<◌, ◌≤◌, Bool, true, false, List, [], ◌∷◌, ◌++◌, length, refl, sym, ap, subst, ◌∙◌, arith, append_assoc}
+use Rattle.std.proofs.Common.{◌≡◌, ℕ, ◌+◌, ◌^◌, ◌<◌, Bool, true, false, List, [], ◌∷◌, ◌++◌, length, refl, sym, ap, subst, ◌∙◌, arith}
 use Rattle.std.proofs.lemmas.List.{append-nil, flat_map_more, take_more}
 use Rattle.std.proofs.lemmas.List.Sums.{fold-append}
-use Rattle.std.specs.Prelude.{min, drop, take, get_or, MatchBool, Result, Ok, Err, OnOk, is_err}
+use Rattle.std.specs.Prelude.{take, get_or, MatchBool, Result, Ok, Err, OnOk, is_err}
 use Rattle.std.specs.declared.alloc.AllocError.{AllocError}
 use Rattle.events.specs.declared.event.Event.{Event}
 use Rattle.events.specs.declared.output.Out.{Out}
@@ -10,7 +10,7 @@ use Rattle.events.specs.declared.output.Out.TheVariants.{Busy}
 use Rattle.core_steps.specs.World.{WorldState, Task}
 use Rattle.core_steps.specs.Happening.{Happening, giving, capped_count, world_after}
 use Rattle.core_steps.specs.Rule.{Does, UnlessBusy, is_busy}
-use Rattle.core_steps.specs.Run.{Runs, worlds_after, outs_of, HasRun, Leaves}
+use Rattle.core_steps.specs.Run.{Runs, worlds_after, HasRun, Leaves}
 
 -- ---- histories
 
@@ -37,6 +37,11 @@ HasRun-more events e old outs mid some new all run did = record {
   given = did.given ∙ (ap (λ (o : List Out). o ++ did.happening.outs) run.given
       ∙ flat_map_more (λ (h : Happening). h.outs) outs run.history did.happening);
 }
+
+-- one event that was done is a run
+pub HasRun-one : (e : Event) (old : WorldState) (outs : List Out) (new : WorldState) (all : List Out)
+    → Leaves (Does old e) old outs new all → HasRun (e ∷ []) old outs new all
+HasRun-one e old outs new all did = HasRun-more [] e old outs old outs new all (HasRun-none old outs) did
 
 -- nothing was done
 pub HasRun-same : (events : List Event) (old : WorldState) (outs : List Out) (mid : WorldState) (some : List Out) (new : WorldState)

@@ -8,10 +8,10 @@ ghost use Rattle.core_steps.specs.Machine.{state_of, task_in};
 ghost use Rattle.core_steps.specs.Rule.{Does};
 ghost use Rattle.core_steps.specs.Run.{Leaves, Stays};
 
-use crate::hearing::{hear, select};
+use crate::hearing::select;
 use crate::ingress::report_on;
 use crate::machine::{Machine, Setup};
-use crate::runner::busy;
+use crate::runner::{busy, hear_or_busy};
 use crate::seed::job_of;
 use crate::tasks::{FollowUp, NextTask, Tasks};
 use crate::ticking::tick;
@@ -97,7 +97,7 @@ impl IngressCore {
         })
     }
 
-    /// A datagram came from this endpoint at this moment, in milliseconds: it is copied once, for all workers. Appends what was
+    /// A datagram came from this endpoint at this moment, in milliseconds. Appends what was
     /// refused of it; `Busy` alone where a duty waits. Refused for want of memory alone; then nothing was done.
     pub fn hear(
         &mut self,
@@ -110,11 +110,7 @@ impl IngressCore {
             self.old outs.old.items self.new outs.new.items) }
         ensures err { OnErr result (Stays self.old outs.old.items self.new outs.new.items) }
     {
-        if self.machine.is_busy() {
-            return busy(&self.machine, outs);
-        }
-        let bytes = SharedBytes::copy_of(self.machine.alloc, bytes)?;
-        hear(&mut self.machine, moment, endpoint, &bytes, outs)
+        hear_or_busy(&mut self.machine, moment, endpoint, bytes, outs)
     }
 
     /// It is this moment. Appends nothing, but `Busy` where a duty waits. Refused for want of memory alone; then nothing

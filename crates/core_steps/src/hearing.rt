@@ -15,7 +15,7 @@ ghost use Rattle.core_steps.specs.Run.{Leaves, Stays};
 use crate::follow_ups::{push_asks, push_packet};
 use crate::machine::Machine;
 use crate::order_follow_ups::push_after;
-use events::{Out, Refusal, SharedBytes};
+use events::{Out, Refusal};
 use intake::{Control, Heard, Unheard, hear_datagram};
 use members::Room;
 use settings::{Links, RoomFault};
@@ -27,7 +27,7 @@ pub(crate) fn hear(
     m: &mut Machine,
     moment: u64,
     endpoint: u16,
-    bytes: &SharedBytes,
+    bytes: &[u8],
     outs: &mut Vec<Out>,
 ) -> Result<(), AllocError>
     requires { is_busy (state_of m.old) ≡ false }
@@ -39,7 +39,7 @@ pub(crate) fn hear(
     m.knows_counts();
     let own = own_source(&m.setup.links, endpoint);
     m.asks.clear();
-    match hear_datagram(bytes.as_slice(), own, &mut m.asks) {
+    match hear_datagram(bytes, own, &mut m.asks) {
         Ok(
             Heard::Media {
                 ssrc,
@@ -64,12 +64,13 @@ fn own_source(links: &Links, endpoint: u16) -> Ssrc
     links.ssrc_of(endpoint).unwrap_or(Ssrc(0))
 }
 
-/// An RTP packet of this source, sequence number and timestamp: each worker that serves the publisher gets it.
+/// An RTP packet of this source, sequence number and timestamp: each worker that serves the publisher gets it. It is copied once for all,
+/// and not before the room would take it in.
 fn hear_media(
     m: &mut Machine,
     moment: u64,
     endpoint: u16,
-    bytes: &SharedBytes,
+    bytes: &[u8],
     packet: (Ssrc, u16, u32),
     outs: &mut Vec<Out>,
 ) -> Result<(), AllocError>
@@ -90,7 +91,7 @@ fn hear_media(
     let workers = m.setup.links.workers();
     m.tasks
         .prepare(m.room.most_orders() + usize::from(workers))?;
-    m.tasks.take_datagram(bytes)?;
+    m.tasks.copy_datagram(m.alloc, bytes, &mut m.plan)?;
     match m.room.hear(moment, endpoint, ssrc, &mut m.tasks.orders) {
         Ok(()) => {
             push_after(

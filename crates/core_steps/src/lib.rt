@@ -25,7 +25,7 @@ mod working;
 mod world;
 
 pub use duties::{Duty, IngressCore};
-pub use events::{Bytes, DeskRefusal, Event, Job, Out, Refusal, RunFault, SharedBytes};
+pub use events::{Bytes, DeskRefusal, Event, Job, Out, Refusal, RunFault};
 pub use intake::{Ask, Control, Heard, Unheard, hear_datagram, says_one_thing};
 pub use legs::{LegState, Legs, Plan, rtp_laws};
 pub use notices::{
@@ -33,6 +33,6 @@ pub use notices::{
     stay_call, tells_each_change, upstream_report, waiting,
 };
 pub use ring::JOB_LIMIT;
-pub use runner::run;
+pub use runner::{hear, run};
 pub use settings::Links;
 pub use world::{Waiting, World};

@@ -2,6 +2,7 @@
 
 ghost use Rattle.std.specs.Prelude.{◌≡◌, ◌<◌, ◌∷◌, [], length, take, OnOk, OnErr, IfErr};
 ghost use Rattle.core_steps.specs.Machine.{state_of};
+ghost use Rattle.events.specs.declared.event.Event.TheVariants.{Hear};
 ghost use Rattle.events.specs.declared.output.Out.TheVariants.{Busy};
 ghost use Rattle.core_steps.specs.Happening.{giving};
 ghost use Rattle.core_steps.specs.OverRuns.{AnnouncesOverRuns, EndsStaysOverRuns, events_done};
@@ -10,7 +11,8 @@ ghost use Rattle.core_steps.specs.Rule.{Does};
 ghost use Rattle.core_steps.specs.Run.{HasRun, Leaves, Stays};
 ghost use Rattle.events.specs.RunFaults.{done_of};
 
-use crate::hearing::{hear, select};
+use crate::hearing;
+use crate::hearing::select;
 use crate::ingress::do_next;
 use crate::machine::Machine;
 use crate::ticking::tick;
@@ -36,6 +38,28 @@ pub fn run(world: &mut World, events: &[Event], outs: &mut Vec<Out>) -> Result<(
         outs.new.items) }
 {
     run_machine(&mut world.machine, events, outs)
+}
+
+/// A datagram came from this endpoint at this moment: what `run` does of one `Hear`, without an event that holds its bytes. They are lent, and
+/// copied once if a leg may keep them. Refused for want of memory alone; then nothing was done (`err`).
+pub fn hear(
+    world: &mut World,
+    moment: u64,
+    endpoint: u16,
+    bytes: &[u8],
+    outs: &mut Vec<Out>,
+) -> Result<(), AllocError>
+    ensures ok { OnOk result (HasRun (Hear moment endpoint bytes.now ∷ []) world.old outs.old.items
+        world.new outs.new.items) }
+    ensures announced { OnOk result (AnnouncesOverRuns (Hear moment endpoint bytes.now ∷ [])
+        world.old outs.old.items world.new outs.new.items) }
+    ensures ended { OnOk result (EndsStaysOverRuns (Hear moment endpoint bytes.now ∷ [])
+        world.old outs.old.items world.new outs.new.items) }
+    ensures quiet { OnOk result (ObeysQuietLaw (Hear moment endpoint bytes.now ∷ [])
+        world.old world.new) }
+    ensures err { OnErr result (Stays world.old outs.old.items world.new outs.new.items) }
+{
+    hear_or_busy(&mut world.machine, moment, endpoint, bytes, outs)
 }
 
 /// Does the events in order on the machine's parts.
@@ -68,12 +92,7 @@ fn step(m: &mut Machine, event: &Event, outs: &mut Vec<Out>) -> Result<(), Alloc
             moment,
             endpoint,
             bytes,
-        } => {
-            if m.is_busy() {
-                return busy(m, outs);
-            }
-            hear(m, *moment, *endpoint, bytes, outs)
-        }
+        } => { hear_or_busy(m, *moment, *endpoint, bytes.as_slice(), outs) }
         Event::Tick { moment } => {
             if m.is_busy() {
                 return busy(m, outs);
@@ -87,6 +106,25 @@ fn step(m: &mut Machine, event: &Event, outs: &mut Vec<Out>) -> Result<(), Alloc
             select(m, *moment, *leg, *on, outs)
         }
     }
+}
+
+/// A datagram came from this endpoint; `Busy` where something waits.
+pub(crate) fn hear_or_busy(
+    m: &mut Machine,
+    moment: u64,
+    endpoint: u16,
+    bytes: &[u8],
+    outs: &mut Vec<Out>,
+) -> Result<(), AllocError>
+    ensures ok { OnOk result (Leaves (Does (state_of m.old) (Hear moment endpoint bytes.now))
+        (state_of m.old) outs.old.items (state_of m.new) outs.new.items) }
+    ensures err { OnErr result (Stays (state_of m.old) outs.old.items
+        (state_of m.new) outs.new.items) }
+{
+    if m.is_busy() {
+        return busy(m, outs);
+    }
+    hearing::hear(m, moment, endpoint, bytes, outs)
 }
 
 /// Nothing is taken in.

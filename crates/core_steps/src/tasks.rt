@@ -2,8 +2,10 @@
 
 use crate::seed::Seed;
 use events::SharedBytes;
+use legs::Plan;
 use members::Order;
 use std::alloc::{AllocError, Global};
+use std::mem;
 
 /// What waits for the ingress, oldest first: orders of the room; then what follows from the datagram or the moment that was
 /// taken in. Nothing is taken in while anything waits, so the orders are of one call of the room, and packets to be
@@ -74,15 +76,21 @@ impl Tasks {
         self.follow_ups.reserve(follow_ups)
     }
 
-    /// Keeps the datagram that packets to be pushed are of, while nothing waits.
-    pub(crate) fn take_datagram(&mut self, bytes: &SharedBytes) -> Result<(), AllocError>
+    /// Keeps a copy of the datagram that packets to be pushed are of, while nothing waits; the plan lends memory for it.
+    pub(crate) fn copy_datagram(
+        &mut self,
+        alloc: Global,
+        bytes: &[u8],
+        plan: &mut Plan,
+    ) -> Result<(), AllocError>
         ensures datagram { OnOk result (self.new.datagram ≡ bytes.now) }
         ensures orders { self.new.orders ≡ self.old.orders }
         ensures orders_done { self.new.orders_done ≡ self.old.orders_done }
         ensures follow_ups { self.new.follow_ups ≡ self.old.follow_ups }
         ensures follow_ups_done { self.new.follow_ups_done ≡ self.old.follow_ups_done }
     {
-        self.datagram = bytes.share()?;
+        let former = mem::replace(&mut self.datagram, SharedBytes::none());
+        self.datagram = plan.copy_packet(alloc, bytes, former)?;
         Ok(())
     }
 

@@ -84,7 +84,7 @@ fn event(alloc: Global, draws: &mut Draws, moment: u64) -> Result<Event, AllocEr
         _ => hear(
             moment,
             endpoint,
-            SharedBytes::new(alloc, datagram(alloc, draws, source(endpoint))?)?,
+            Bytes::new(datagram(alloc, draws, source(endpoint))?),
         ),
     })
 }

@@ -70,7 +70,7 @@ fn leave(
     moment: u64,
     endpoint: u16,
 ) -> Result<(), Fail> {
-    let bytes = SharedBytes::new(alloc, packet(alloc, 0x81, 203, source(endpoint))?)?;
+    let bytes = Bytes::new(packet(alloc, 0x81, 203, source(endpoint))?);
     if done(alloc, world, hear(moment, endpoint, bytes))? {
         listener.pass(moment);
         listener.leave(endpoint);
@@ -99,8 +99,7 @@ fn speak(
         13 => packet(alloc, 0x80, 201, sender)?,
         _ => tmmbr(alloc, sender, asks.as_slice())?,
     };
-    let bytes = SharedBytes::new(alloc, bytes)?;
-    if done(alloc, world, hear(moment, endpoint, bytes))? {
+    if done(alloc, world, hear(moment, endpoint, Bytes::new(bytes)))? {
         listener.hear(moment, endpoint, asks.as_slice());
     }
     Ok(())

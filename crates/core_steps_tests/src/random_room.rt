@@ -99,7 +99,7 @@ pub(crate) fn media(alloc: Global, sender: u32) -> Result<Vec<u8>, AllocError> {
 }
 
 /// A datagram came from this endpoint.
-pub(crate) fn hear(moment: u64, endpoint: u16, bytes: SharedBytes) -> Event {
+pub(crate) fn hear(moment: u64, endpoint: u16, bytes: Bytes) -> Event {
     Event::Hear {
         moment,
         endpoint,

@@ -95,7 +95,7 @@ pub(crate) fn event_of(alloc: Global, step: &Step<'_>) -> Result<Event, AllocErr
         Hear(moment, endpoint, hex) => Event::Hear {
             moment,
             endpoint,
-            bytes: SharedBytes::new(alloc, bytes_of(alloc, hex)?)?,
+            bytes: Bytes::new(bytes_of(alloc, hex)?),
         },
         Ingress => Event::Ingress,
         Work(worker) => Event::Work(worker),

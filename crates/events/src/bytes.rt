@@ -1,11 +1,11 @@
-//! The bytes of a datagram that goes out.
+//! The bytes of a datagram.
 
 ghost use Rattle.std.specs.Prelude.{◌≡◌, IfOk};
 
 use std::alloc::{AllocError, Global};
 use std::marker::Model;
 
-/// The bytes of a datagram that goes out; contracts see them as a list.
+/// The bytes of a datagram that comes in or goes out; contracts see them as a list.
 #[derive(Drop)]
 pub struct Bytes {
     bytes: Vec<u8>,

@@ -1,6 +1,6 @@
 //! What goes into the machine.
 
-use rewrite::SharedBytes;
+use crate::bytes::Bytes;
 
 /// One atomic step of the machine. Moments are in milliseconds; the room works with the greatest that it was handed.
 #[derive(Drop)]
@@ -9,7 +9,7 @@ pub enum Event {
     Hear {
         moment: u64,
         endpoint: u16,
-        bytes: SharedBytes,
+        bytes: Bytes,
     },
     /// It is this moment.
     Tick {

@@ -73,12 +73,19 @@ impl LegState {
         self.octets = counted(self.octets, octets);
     }
 
-    /// A packet was handed out under a new number, and is kept.
-    pub(crate) fn keep(&mut self, numbers: Leg, number: u64, octets: u64, packet: Readdressed)
+    /// A packet was handed out under a new number, and is kept. Answers the one that isn't kept any more for it.
+    pub(crate) fn keep(
+        &mut self,
+        numbers: Leg,
+        number: u64,
+        octets: u64,
+        packet: Readdressed,
+    ) -> Option<Readdressed>
         ensures { self.new ≡ leg_after_packet self.old numbers number octets packet }
     {
         self.hand_out(octets);
         self.numbers = numbers;
-        let _left = self.kept.keep(number, packet);
+        let (_, left) = self.kept.keep(number, packet)?;
+        Some(left)
     }
 }

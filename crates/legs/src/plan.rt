@@ -7,12 +7,15 @@ ghost use Rattle.legs.specs.Plan.{changed_at, changed_by, legs_after_plan, plan_
 
 use crate::leg::LegState;
 use events::Out;
-use rewrite::{Leg, Readdressed};
+use rewrite::{Leg, Readdressed, SharedBytes};
 use std::alloc::{AllocError, Global};
 use std::marker::Model;
 
-/// The most buffers that are kept for the next packets.
+/// The most buffers that are kept for what goes out next.
 const SPARE_LIMIT: usize = 1_024;
+
+/// The most that are kept for packets that come: each that comes lets one go, once rings are full.
+const SPARE_PACKETS: usize = 16;
 
 /// One thing that is planned.
 #[derive(Drop)]
@@ -49,8 +52,10 @@ pub enum Change {
 #[derive(Drop)]
 pub struct Plan {
     planned: Vec<Planned>,
-    /// Buffers that nobody needs; a plan is the same whatever they are.
+    /// Buffers of what went out, which nobody needs; a plan is the same whatever they are.
     spare: Vec<Vec<u8>>,
+    /// Buffers of packets that no leg keeps any more.
+    spare_packets: Vec<Vec<u8>>,
 }
 
 impl Model for Plan {
@@ -62,7 +67,7 @@ impl Model for Plan {
     ghost view = { λ p. p.planned.items };
 }
 
-/// A packet goes out on the leg at a place, if there is one.
+/// A packet goes out on the leg at a place, if there is one. Answers the one that isn't kept any more for it.
 fn keep_at(
     legs: &mut [LegState],
     place: usize,
@@ -70,12 +75,14 @@ fn keep_at(
     number: u64,
     octets: u64,
     packet: Readdressed,
-)
+) -> Option<Readdressed>
     ensures { legs.new
         ≡ changed_at legs.old place (λ s. leg_after_packet s numbers number octets packet) }
 {
     if place < legs.len() {
-        legs[place].keep(numbers, number, octets, packet);
+        legs[place].keep(numbers, number, octets, packet)
+    } else {
+        None
     }
 }
 
@@ -88,12 +95,12 @@ fn hand_out_at(legs: &mut [LegState], place: usize, octets: u64)
     }
 }
 
-/// Makes one change on these legs.
-fn make(change: Change, legs: &mut [LegState])
+/// Makes one change on these legs. Answers the packet that isn't kept any more for it.
+fn make(change: Change, legs: &mut [LegState]) -> Option<Readdressed>
     ensures { legs.new ≡ changed_by legs.old change }
 {
     match change {
-        Change::Nothing => {}
+        Change::Nothing => None,
         Change::Keep {
             place,
             numbers,
@@ -101,17 +108,29 @@ fn make(change: Change, legs: &mut [LegState])
             octets,
             packet,
         } => keep_at(legs, usize::from(place), numbers, number, octets, packet),
-        Change::Count { place, octets } => hand_out_at(legs, usize::from(place), octets),
+        Change::Count { place, octets } => {
+            hand_out_at(legs, usize::from(place), octets);
+            None
+        }
     }
 }
 
-/// Puts a buffer by for the next packet, if there is room for it.
-fn save(spare: &mut Vec<Vec<u8>>, buffer: Vec<u8>)
-    ensures { vec_len spare.old < vec_capacity spare.old → vec_len spare.old < SPARE_LIMIT
+/// Puts a buffer by, if there is room for it and fewer than `most` are.
+fn save(spare: &mut Vec<Vec<u8>>, buffer: Vec<u8>, most: usize)
+    ensures { vec_len spare.old < vec_capacity spare.old → vec_len spare.old < most
         → spare.new.items ≡ spare.old.items ++ buffer ∷ [] }
 {
-    if spare.len() < SPARE_LIMIT {
+    if spare.len() < most {
         let _ = spare.push(buffer);
+    }
+}
+
+/// Puts the buffer of a packet by, where it is one and nobody else holds it.
+fn save_packet(spare: &mut Vec<Vec<u8>>, packet: Option<Readdressed>) {
+    if let Some(packet) = packet {
+        if let Some(buffer) = packet.into_inner() {
+            save(spare, buffer, SPARE_PACKETS);
+        }
     }
 }
 
@@ -135,6 +154,7 @@ impl Plan {
         Plan {
             planned: Vec::new(alloc),
             spare: Vec::new(alloc),
+            spare_packets: Vec::new(alloc),
         }
     }
 
@@ -181,7 +201,8 @@ impl Plan {
         self.planned.reverse();
         while let Some(planned) = self.planned.pop() {
             let Planned { out, change } = planned;
-            make(change, legs);
+            let left = make(change, legs);
+            save_packet(&mut self.spare_packets, left);
             outs.push_reserved(out);
         }
     }
@@ -193,8 +214,28 @@ impl Plan {
     {
         while let Some(out) = outs.pop() {
             if let Out::Send { bytes, .. } = out {
-                save(&mut self.spare, bytes.into_vec());
+                save(&mut self.spare, bytes.into_vec(), SPARE_LIMIT);
             }
         }
+    }
+
+    /// A copy of a packet that came, in the place of one that was shared before, where nobody else holds that one, or of one that no leg keeps
+    /// any more. Refused for want of memory alone.
+    pub fn copy_packet(
+        &mut self,
+        alloc: Global,
+        bytes: &[u8],
+        former: SharedBytes,
+    ) -> Result<SharedBytes, AllocError>
+        ensures copy { IfOk result (λ copy. copy ≡ bytes.now) }
+        ensures plan { self.new ≡ self.old }
+    {
+        let mut buffer = match former.into_inner() {
+            Some(buffer) => buffer,
+            None => taken(&mut self.spare_packets, alloc),
+        };
+        buffer.clear();
+        buffer.extend_from_slice(bytes)?;
+        SharedBytes::new(alloc, buffer)
     }
 }

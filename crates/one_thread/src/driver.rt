@@ -60,7 +60,6 @@ fn new_engine(alloc: Global, settings: &Settings, tick_ms: u64) -> Result<Engine
     let buffer = vec![in alloc; 0; MAX_DATAGRAM]?;
     let world = World::new(alloc, settings)?;
     Ok(Engine {
-        alloc,
         world,
         outs: Vec::new(alloc),
         buffer,

@@ -1,7 +1,7 @@
 //! A turn: a receive, what came of it, a tick where one is due, and what goes out.
 
 ghost use Rattle.std.specs.Prelude.{◌≡◌, ◌≤◌, ◌<◌, ◌∷◌, ◌++◌, [], List, ℕ, length, slice_get, None, Some, MatchOption, IfOk, OnOk, OnErr};
-ghost use Rattle.events.specs.declared.event.Event.TheVariants.{Hear, Select};
+ghost use Rattle.events.specs.declared.event.Event.TheVariants.{Select};
 ghost use Rattle.events.specs.declared.output.Out.TheVariants.{Send};
 ghost use Rattle.outside.specs.Outside.{FitsIn, arrival_in, arrival_of, is_stop};
 ghost use Rattle.outside.specs.Ticks.{ticks_after};
@@ -9,13 +9,13 @@ ghost use Rattle.outside.specs.declared.source.TheConstants.{MAX_FAULTS};
 ghost use Rattle.one_thread.specs.Driving.{Drives, DrivesSome, DrivesBoth, IsIdle};
 ghost use Rattle.one_thread.specs.Turns.{BreaksOff, Hands, MakesTurn, Raises, faults_with, brought_at, heard_count, tick_at, turn_events, view_of, who_came};
 
-use crate::settle::take_in;
+use crate::settle::{hear_in, take_in};
 use crate::tally::Tally;
 use core_steps::World;
 use desk::Desk;
-use events::{Event, Out, SharedBytes};
+use events::{Event, Out};
 use outside::{Clock, Look, ReceiveFault, Received, Sink, Source, Status, Ticks, Watch};
-use std::alloc::{AllocError, Global};
+use std::alloc::AllocError;
 
 /// What a receive gave, or that it failed.
 type Receipt = Result<Received, ReceiveFault>;
@@ -23,7 +23,6 @@ type Receipt = Result<Received, ReceiveFault>;
 /// The machine with what comes in and goes out, and the counts of a run.
 #[derive(Drop)]
 pub(crate) struct Engine {
-    pub(crate) alloc: Global,
     pub(crate) world: World,
     /// What the machine gave out in this turn; empty between turns.
     pub(crate) outs: Vec<Out>,
@@ -37,38 +36,9 @@ pub(crate) struct Engine {
     pub(crate) tally: Tally,
 }
 
-/// A datagram of this endpoint is heard.
-#[tactic(auto, using(crate::proofs::DrivingLemmas::some_nothing))]
-fn hear_datagram(
-    alloc: Global,
-    world: &mut World,
-    moment: u64,
-    endpoint: u16,
-    bytes: &[u8],
-    outs: &mut Vec<Out>,
-) -> Result<(), AllocError>
-    requires one { length world.old.workers ≡ 1 }
-    requires idle { IsIdle world.old }
-    ensures ok { OnOk result (Drives (Hear moment endpoint bytes.now ∷ [])
-        world.old outs.old.items world.new outs.new.items) }
-    ensures err { OnErr result (DrivesSome (Hear moment endpoint bytes.now ∷ [])
-        world.old outs.old.items world.new outs.new.items) }
-    ensures idle { OnOk result (IsIdle world.new) }
-    ensures one { length world.new.workers ≡ 1 }
-{
-    let bytes = SharedBytes::copy_of(alloc, bytes)?;
-    let event = Event::Hear {
-        moment,
-        endpoint,
-        bytes,
-    };
-    take_in(world, event, outs)
-}
-
 /// A datagram that came is heard, and a selection made.
 #[tactic(auto, using(crate::proofs::DrivingLemmas::drives_nothing))]
 fn take_received(
-    alloc: Global,
     world: &mut World,
     moment: u64,
     received: Receipt,
@@ -87,7 +57,7 @@ fn take_received(
 {
     match received {
         Ok(Received::Datagram { endpoint, length }) => {
-            hear_datagram(alloc, world, moment, endpoint, &buffer[..length], outs)
+            hear_in(world, moment, endpoint, &buffer[..length], outs)
         }
         Ok(Received::Select { leg, on }) => {
             take_in(world, Event::Select { moment, leg, on }, outs)
@@ -156,7 +126,6 @@ fn is_stop(received: Receipt) -> bool
 /// What came is taken in, then a tick is made where one is due. Says how much of what is given out by then came before the tick.
 #[tactic(auto, using(crate::proofs::DrivingLemmas::drives_on, crate::proofs::DrivingLemmas::drives_both, crate::proofs::DrivingLemmas::some_first, crate::proofs::DrivingLemmas::some_after))]
 fn take_turn(
-    alloc: Global,
     world: &mut World,
     ticks: &mut Ticks,
     moment: u64,
@@ -177,7 +146,7 @@ fn take_turn(
     ensures idle { OnOk result (IsIdle world.new) }
     ensures one { length world.new.workers ≡ 1 }
 {
-    take_received(alloc, world, moment, received, buffer, outs)?;
+    take_received(world, moment, received, buffer, outs)?;
     let before = outs.as_slice().len();
     tick(world, moment, ticks, outs)?;
     Ok(before)
@@ -341,7 +310,6 @@ pub(crate) fn turn<Src: Source, Snk: Sink, Clk: Clock, W: Watch>(
     let received = source.receive(engine.buffer.as_mut_slice());
     let moment = clock.moment();
     let before = take_turn(
-        engine.alloc,
         &mut engine.world,
         &mut engine.ticks,
         moment,

@@ -48,3 +48,14 @@ fn shares_bytes(rt: HostRuntime) -> Result<(), Fail> {
     assert_eq!(rt; second.as_slice(), PACKET.as_slice());
     Ok(())
 }
+
+/// The last holder gets the memory, and none before it.
+#[test]
+fn gives_memory_to_the_last_holder(rt: HostRuntime) -> Result<(), Fail> {
+    let first = SharedBytes::copy_of(rt.alloc(), &PACKET)?;
+    let last = Readdressed::new(first.share()?, Ssrc(0x0101), 100);
+    assert!(rt; first.into_inner().is_none());
+    let memory = last.into_inner().ok_or("it has other holders")?;
+    assert_eq!(rt; memory.as_slice(), PACKET.as_slice());
+    Ok(())
+}

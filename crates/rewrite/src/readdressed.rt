@@ -1,6 +1,6 @@
 //! A packet that goes out.
 
-ghost use Rattle.std.specs.Prelude.{◌≡◌, ◌≤◌, length, OnOk};
+ghost use Rattle.std.specs.Prelude.{◌≡◌, ◌≤◌, length, IfSome};
 ghost use Rattle.rewrite.specs.Readdressed.{readdressed_bytes};
 
 use crate::shared::SharedBytes;
@@ -60,5 +60,13 @@ impl Readdressed {
         out.copy_from_slice(self.packet.as_slice());
         BigEndian::write_u16(&mut out[2..], self.sequence_number);
         BigEndian::write_u32(&mut out[8..], self.ssrc.0);
+    }
+
+    /// The memory of the bytes of the one that came, where nobody else holds those any more.
+    pub fn into_inner(self) -> Option<Vec<u8>>
+        ensures { IfSome result (λ bytes. length bytes.items ≡ length self) }
+    {
+        let Readdressed { packet, .. } = self;
+        packet.into_inner()
     }
 }

@@ -1,6 +1,6 @@
 //! The bytes of a datagram that many hold.
 
-ghost use Rattle.std.specs.Prelude.{◌≡◌, [], IfOk};
+ghost use Rattle.std.specs.Prelude.{◌≡◌, [], IfOk, IfSome};
 
 use std::alloc::{AllocError, Global};
 use std::marker::Model;
@@ -67,5 +67,13 @@ impl SharedBytes {
             Some(bytes) => bytes.as_slice(),
             None => &[],
         }
+    }
+
+    /// Their memory, where nobody else holds them any more.
+    pub fn into_inner(self) -> Option<Vec<u8>>
+        ensures { IfSome result (λ bytes. bytes.items ≡ self) }
+    {
+        let SharedBytes { bytes } = self;
+        Arc::into_inner(bytes?)
     }
 }

@@ -4,7 +4,7 @@ ghost use Rattle.std.specs.Prelude.{◌≡◌, ◌^◌, IfOk, map, option_and_th
 ghost use Rattle.request_text.specs.Words.{number_under, words_in};
 ghost use Rattle.scripts.specs.Script.{command_or_not, datagram_in, hear_words, no_words, reading_of, select_words, show_words, switch_in, tick_words, words_command, work_words};
 
-use events::{Event, SharedBytes};
+use events::{Bytes, Event};
 use hex::FromHexError;
 use request_text::{is_word, number_u16, number_u64, words_of};
 use std::alloc::{AllocError, Global};
@@ -110,7 +110,7 @@ fn heard(alloc: Global, numbers: Numbers, words: &[&[u8]]) -> Result<Option<Comm
 }
 
 /// A datagram that is heard at this moment, of this endpoint.
-fn heard_by(numbers: Numbers, moment: &[u8], endpoint: &[u8], bytes: SharedBytes) -> Option<Command>
+fn heard_by(numbers: Numbers, moment: &[u8], endpoint: &[u8], bytes: Bytes) -> Option<Command>
     ensures { result
         ≡ option_and_then
         (λ m. option_map (λ e. Command.Do (Event.Hear m e bytes))
@@ -193,14 +193,14 @@ fn switch(word: &[u8]) -> Option<bool>
 }
 
 /// The bytes that hexadecimal digits spell: at least one.
-fn datagram(alloc: Global, word: &[u8]) -> Result<Option<SharedBytes>, AllocError>
+fn datagram(alloc: Global, word: &[u8]) -> Result<Option<Bytes>, AllocError>
     ensures { IfOk result (λ bytes. bytes ≡ datagram_in word.now) }
 {
     if word.is_empty() {
         return Ok(None);
     }
     match hex::decode(alloc, word) {
-        Ok(bytes) => Ok(Some(SharedBytes::new(alloc, bytes)?)),
+        Ok(bytes) => Ok(Some(Bytes::new(bytes))),
         Err(FromHexError::OutOfMemory) => Err(AllocError),
         Err(_) => Ok(None),
     }

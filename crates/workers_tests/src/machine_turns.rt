@@ -2,7 +2,7 @@
 
 use crate::random_turns::{Coming, Turn, WORKERS};
 use core_steps::{World, run};
-use events::{Event, Out, SharedBytes};
+use events::{Bytes, Event, Out};
 use settings::Settings;
 use std::alloc::{AllocError, Global};
 use std::test::Fail;
@@ -59,7 +59,7 @@ fn event_of(alloc: Global, turn: &Turn) -> Result<Option<Event>, AllocError> {
         Some(Coming::Datagram { endpoint, bytes }) => Ok(Some(Event::Hear {
             moment: turn.moment,
             endpoint: *endpoint,
-            bytes: SharedBytes::copy_of(alloc, bytes.as_slice())?,
+            bytes: Bytes::copy_of(alloc, bytes.as_slice())?,
         })),
     }
 }

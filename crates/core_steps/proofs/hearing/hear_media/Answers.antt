@@ -14,45 +14,45 @@ use Rattle.core_steps.proofs.hearing.hear_media.Goals as goal
 
 pub returns-in-Ok-clause-ok : goal.returns-in-Ok-clause-ok
 returns-in-Ok-clause-ok c =
-    let d = c.in_ok-take_datagram.ensures in
+    let d = c.in_ok-copy_datagram.ensures in
     let p = c.in_ok-prepare.ensures in
-    medias (state_of c.args.m.now) c.args.moment c.args.endpoint c.args.bytes.now c.take_datagram.new.self.datagram
-    c.args.packet.0.0 c.args.packet.1 c.args.packet.2 c.workers-workers.result c.args.outs.now.items c.reserve.new.self.items c.take_datagram.new.self.orders.items
-    c.hear.new.orders.items c.hear.new.self c.received.new.self c.take_datagram.new.self.follow_ups.items
+    medias (state_of c.args.m.now) c.args.moment c.args.endpoint c.args.bytes.now c.copy_datagram.new.self.datagram
+    c.args.packet.0.0 c.args.packet.1 c.args.packet.2 c.workers-workers.result c.args.outs.now.items c.reserve.new.self.items c.copy_datagram.new.self.orders.items
+    c.hear.new.orders.items c.hear.new.self c.received.new.self c.copy_datagram.new.self.follow_ups.items
     c.push_after.new.follow_ups.items c.push_packet.new.follow_ups.items _ c.in_ok-reserve.ensures.items c.requires
     c.knows_counts.ensures.lost c.knows_counts.ensures.tmmbns
     c.in-Ok.ensures.answers (ap (λ (v : Vec Order). v.items) d.orders ∙ p.orders) d.datagram
     c.workers-workers.ensures.value (ap (λ (v : Vec FollowUp). v.items) d.follow_ups ∙ p.follow_ups)
     (c.push_after.ensures.items
-    ∙ ap (λ (os : List Order). c.take_datagram.new.self.follow_ups.items
+    ∙ ap (λ (os : List Order). c.copy_datagram.new.self.follow_ups.items
     ++ filter_map (follow_up_after (setup_of c.args.m.now.setup) c.hear.new.self) os) c.as_slice.ensures.value)
     c.push_packet.ensures c.received.ensures
-    (tasks_from c.take_datagram.new.self.datagram c.hear.new.orders.items c.push_packet.new.follow_ups.items
-    c.take_datagram.new.self.orders_done c.take_datagram.new.self.follow_ups_done (d.orders_done ∙ p.orders_done)
+    (tasks_from c.copy_datagram.new.self.datagram c.hear.new.orders.items c.push_packet.new.follow_ups.items
+    c.copy_datagram.new.self.orders_done c.copy_datagram.new.self.follow_ups_done (d.orders_done ∙ p.orders_done)
     (d.follow_ups_done ∙ p.follow_ups_done))
 
 pub push_after-requires : goal.push_after-requires
 push_after-requires c =
-    let d = c.in_ok-take_datagram.ensures in
+    let d = c.in_ok-copy_datagram.ensures in
     let p = c.in_ok-prepare.ensures in
-    let few = few_given c.args.m.now.room c.take_datagram.new.self.orders.items
+    let few = few_given c.args.m.now.room c.copy_datagram.new.self.orders.items
     (hear_step c.args.m.now.room c.args.moment c.args.endpoint c.args.packet.0.0) c.hear.new.self c.hear.new.orders.items c.most_orders.result
     c.in-Ok.ensures.answers (ap (λ (v : Vec Order). v.items) d.orders ∙ p.orders)
     (c.most_orders.ensures.most (Hear c.args.moment c.args.endpoint c.args.packet.0.0)) in
     let slice = ap (λ (l : List Order). length l) c.as_slice.ensures.value in
-    let len : vec_len c.take_datagram.new.self.follow_ups ≡ 0 = ap (λ (v : Vec FollowUp). vec_len v) d.follow_ups ∙ p.len in
+    let len : vec_len c.copy_datagram.new.self.follow_ups ≡ 0 = ap (λ (v : Vec FollowUp). vec_len v) d.follow_ups ∙ p.len in
     let capacity = ap (λ (v : Vec FollowUp). vec_capacity v) d.follow_ups in
     omega (arith, few, slice, len, capacity, p.room)
 
 pub push_packet-requires : goal.push_packet-requires
 push_packet-requires c =
-    let d = c.in_ok-take_datagram.ensures in
+    let d = c.in_ok-copy_datagram.ensures in
     let p = c.in_ok-prepare.ensures in
-    let few = few_given c.args.m.now.room c.take_datagram.new.self.orders.items
+    let few = few_given c.args.m.now.room c.copy_datagram.new.self.orders.items
     (hear_step c.args.m.now.room c.args.moment c.args.endpoint c.args.packet.0.0) c.hear.new.self c.hear.new.orders.items c.most_orders.result
     c.in-Ok.ensures.answers (ap (λ (v : Vec Order). v.items) d.orders ∙ p.orders)
     (c.most_orders.ensures.most (Hear c.args.moment c.args.endpoint c.args.packet.0.0)) in
     let slice = ap (λ (l : List Order). length l) c.as_slice.ensures.value in
-    let len : vec_len c.take_datagram.new.self.follow_ups ≡ 0 = ap (λ (v : Vec FollowUp). vec_len v) d.follow_ups ∙ p.len in
+    let len : vec_len c.copy_datagram.new.self.follow_ups ≡ 0 = ap (λ (v : Vec FollowUp). vec_len v) d.follow_ups ∙ p.len in
     let capacity = ap (λ (v : Vec FollowUp). vec_capacity v) d.follow_ups in
     omega (arith, few, slice, len, capacity, p.room, c.push_after.ensures.len, c.push_after.ensures.capacity, c.from.ensures)
