@@ -7,6 +7,7 @@ ghost use Rattle.core_steps.specs.Rule.{Does};
 ghost use Rattle.core_steps.specs.Run.{Leaves};
 ghost use Rattle.routes.specs.Rows.{changes_by};
 ghost use Rattle.workers.specs.Counted.{counted_of};
+ghost use Rattle.workers.specs.Room.{may_wait};
 
 use crate::counts::{Counts, Outcome, outcome_of};
 use crate::gear::Gear;
@@ -227,7 +228,7 @@ impl<'a, D: DeskCalls, C: SeatCalls, J: Naming, S: Sink + Drop> Ingress<'a, D, C
     /// Waits, for a little, until the workers are done, if this is a report and the ring that it is for is mostly full: a round of
     /// reports in a full room may be longer than a ring.
     fn make_room<R: Wait>(&mut self, rt: &R, worker: u16, job: &Job) {
-        if matches!(job, Job::Report { .. }) && self.crew.is_crowded(worker) {
+        if may_wait(job) && self.crew.is_crowded(worker) {
             let moment = self.core.moment();
             settle(rt, &self.crew, self.counts, &mut self.patience, moment);
         }
@@ -330,6 +331,13 @@ fn publish<J: Naming, R: Wait>(
     };
     writer.publish(rt);
     Ok(())
+}
+
+/// Whether a job may wait until its ring has room: a report, and never a packet.
+fn may_wait(job: &Job) -> bool
+    ensures { result ≡ may_wait job.now }
+{
+    matches!(job, Job::Report { .. })
 }
 
 /// The core hears a datagram; what was refused of it alone is listed.

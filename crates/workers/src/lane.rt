@@ -1,7 +1,7 @@
 //! Lanes: workers in threads of their own, and the ends of their rings where the ingress puts jobs.
 
-ghost use Rattle.std.specs.Prelude.{◌≡◌, ◌++◌, ◌∷◌, [], IfNone, IfSome, IfOk, vec_len};
-ghost use Rattle.rtrb.specs.Ring.{sent, producer_capacity};
+ghost use Rattle.std.specs.Prelude.{◌≡◌, ◌++◌, ◌∷◌, [], IfNone, IfSome, IfOk, nat_lt, vec_len};
+ghost use Rattle.rtrb.specs.Ring.{known_free, sent, producer_capacity};
 
 use crate::counts::{Counts, Station};
 use crate::fault::UnitFault;
@@ -52,8 +52,10 @@ impl<J: Naming, C: SeatCalls> Lane<J, C> {
         }
     }
 
-    /// Whether the ring is mostly full.
-    fn is_crowded(&mut self) -> bool {
+    /// Whether the ring is mostly full, as far as the ingress knows just now.
+    fn is_crowded(&mut self) -> bool
+        ensures { result ≡ nat_lt (known_free self.new.ring) 256 }
+    {
         self.ring.slots() < FEW_SLOTS
     }
 
