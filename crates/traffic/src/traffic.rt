@@ -224,7 +224,8 @@ impl Traffic {
         };
         if let Some(cells) = self.cells_by(packet.ssrc) {
             let octets = octets_of(packet.payload);
-            cells.set(cells.seen().with(packet.sequence_number, octets));
+            let before = cells.seen();
+            cells.set(before, before.with(packet.sequence_number, octets));
         }
     }
 
@@ -459,14 +460,13 @@ impl LegCells {
         }
     }
 
-    fn set(&self, count: LegCount) {
-        self.packets.store(count.packets, Ordering::SeqCst);
-        self.octets.store(count.octets, Ordering::SeqCst);
-        self.resent.store(count.resent, Ordering::SeqCst);
-        self.missed.store(count.missed, Ordering::SeqCst);
-        self.skipped.store(count.skipped, Ordering::SeqCst);
-        self.after_next
-            .store(number_after(count.next), Ordering::SeqCst);
+    /// Shows what changed.
+    fn set(&self, before: LegCount, after: LegCount) {
+        show(&self.packets, before.packets, after.packets);
+        show(&self.octets, before.octets, after.octets);
+        show(&self.resent, before.resent, after.resent);
+        let (next, former) = (number_after(after.next), number_after(before.next));
+        show(&self.after_next, former, next);
     }
 }
 
@@ -497,6 +497,13 @@ fn numbered(number: usize, report: ReceptionReport) -> NumberedReport {
     NumberedReport {
         number: u16::try_from(number).unwrap_or(u16::MAX),
         report,
+    }
+}
+
+/// Shows a count. One that stays as it was isn't written, which costs more than a look.
+fn show(count: &AtomicU64, before: u64, after: u64) {
+    if before != after {
+        count.store(after, Ordering::SeqCst);
     }
 }
 
