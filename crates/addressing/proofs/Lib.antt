@@ -1,2 +1,3 @@
 pub mod ClientLemmas
+pub mod KnownLemmas
 pub mod ServedLemmas

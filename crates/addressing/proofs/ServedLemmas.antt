@@ -1,5 +1,5 @@
 -- What a settings file gives to a unit that listens.
-use Rattle.std.proofs.Common.{◌≡◌, ◌⊎◌, ℕ, Bool, List, Option, Some, Result, Ok, Err, IfErr, IfOk, inl, inr, refl, sym, subst}
+use Rattle.std.proofs.Common.{◌≡◌, ◌⊎◌, ℕ, Bool, List, Some, Result, Ok, Err, IfErr, IfOk, inl, inr, sym, subst}
 use Rattle.std.specs.declared.net.socket_addr.SocketAddr.{SocketAddr}
 use Rattle.addressing.specs.ServedFile.{GivesPlaces, IsPlacedFault, IsPlacedOr, IsServedFault, PlacesFile}
 use Rattle.settings_text.specs.SettingsFaults.{Spot, TextGives, problem_spot}

@@ -1,3 +1,4 @@
 pub mod Clients
+pub mod Known
 pub mod Places
 pub mod ServedFile
