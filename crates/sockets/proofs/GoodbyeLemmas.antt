@@ -1,5 +1,5 @@
 -- What a sink is handed as a unit leaves.
-use Rattle.std.proofs.Common.{◌≡◌, ◌++◌, ◌∷◌, [], refl, ℕ, Bool, List, Option, Some, true, slice_get, get_or, length, All, sym, ap, ◌∙◌}
+use Rattle.std.proofs.Common.{◌≡◌, ◌++◌, ◌∷◌, [], refl, ℕ, Bool, List, Option, Some, true, slice_get, sym, ap, ◌∙◌}
 use Rattle.std.proofs.lemmas.List.Elements.{All-append, All-cons, All-nil}
 use Rattle.settings.specs.Settings.{Configuration}
 use Rattle.outside.specs.Outside.{Grows}

@@ -1,6 +1,7 @@
 //! What came to the unit's sockets: who sent it, and what of it is heard by itself.
 
-ghost use Rattle.std.specs.Prelude.{◌≤◌, length, IfSome};
+ghost use Rattle.std.specs.Prelude.{◌≡◌, ◌≤◌, [], None, length, IfOk, IfSome};
+ghost use Rattle.sockets.specs.Arrivals.{first_floods, first_learners, first_listeners, first_senders};
 
 use addressing::{
     Client, Directory, Listening, is_reachable, learners_of, listeners_of, senders_of,
@@ -60,7 +61,19 @@ impl<'a> Arrivals<'a> {
         directory: &'a Directory,
         gauges: &'a Gauges,
         traffic: &'a Traffic,
-    ) -> Result<Arrivals<'a>, AllocError> {
+    ) -> Result<Arrivals<'a>, AllocError>
+        ensures handed { IfOk result (λ a. (a.listening ≡ listening) × (a.clients ≡ clients.entry)
+            × (a.directory ≡ directory.entry)) }
+        ensures shows { IfOk result (λ a. (a.gauges ≡ gauges.entry) × (a.traffic ≡ traffic.entry)) }
+        ensures sources { IfOk result (λ a. a.sources.now ≡ settings.now.endpoints) }
+        ensures learners { IfOk result (λ a. a.learners ≡ first_learners settings.now clients.now) }
+        ensures senders { IfOk result (λ a. a.senders ≡ first_senders settings.now clients.now) }
+        ensures listeners { IfOk result (λ a. a.listeners
+            ≡ first_listeners settings.now clients.now) }
+        ensures floods { IfOk result (λ a. a.floods ≡ first_floods settings.now flood_limit) }
+        ensures rest { IfOk result (λ a. (a.rest.bytes.items ≡ []) × (a.rest.heard ≡ 0)
+            × (a.rest.from ≡ None)) }
+    {
         let sources = settings.endpoints();
         let (senders, learners) = known_of(alloc, settings, clients)?;
         let (listeners, floods, rest) = looks_of(alloc, settings, clients, flood_limit)?;
@@ -244,7 +257,10 @@ fn known_of(
     alloc: Global,
     settings: &Settings,
     clients: &[Client],
-) -> Result<(Senders, Learners), AllocError> {
+) -> Result<(Senders, Learners), AllocError>
+    ensures senders { IfOk result (λ known. known.0 ≡ first_senders settings.now clients.now) }
+    ensures learners { IfOk result (λ known. known.1 ≡ first_learners settings.now clients.now) }
+{
     let sources = settings.endpoints();
     let learners = learners_of(alloc, sources, clients, settings.timeout_ms())?;
     let senders = senders_of(alloc, sources, clients, &learners)?;
@@ -257,7 +273,12 @@ fn looks_of(
     settings: &Settings,
     clients: &[Client],
     flood_limit: u32,
-) -> Result<(Listeners, Floods, Rest), AllocError> {
+) -> Result<(Listeners, Floods, Rest), AllocError>
+    ensures listeners { IfOk result (λ looks. looks.0 ≡ first_listeners settings.now clients.now) }
+    ensures floods { IfOk result (λ looks. looks.1 ≡ first_floods settings.now flood_limit) }
+    ensures rest { IfOk result (λ looks. (looks.2.bytes.items ≡ []) × (looks.2.heard ≡ 0)
+        × (looks.2.from ≡ None)) }
+{
     let rest = Rest {
         bytes: Vec::with_capacity(alloc, MAX_DATAGRAM)?,
         heard: 0,
