@@ -54,8 +54,8 @@ pub struct Plan {
     planned: Vec<Planned>,
     /// Buffers of what went out, which nobody needs; a plan is the same whatever they are.
     spare: Vec<Vec<u8>>,
-    /// Buffers of packets that no leg keeps any more.
-    spare_packets: Vec<Vec<u8>>,
+    /// Packets that nobody else holds, since no leg keeps them any more.
+    spare_packets: Vec<SharedBytes>,
 }
 
 impl Model for Plan {
@@ -115,21 +115,24 @@ fn make(change: Change, legs: &mut [LegState]) -> Option<Readdressed>
     }
 }
 
-/// Puts a buffer by, if there is room for it and fewer than `most` are.
-fn save(spare: &mut Vec<Vec<u8>>, buffer: Vec<u8>, most: usize)
-    ensures { vec_len spare.old < vec_capacity spare.old → vec_len spare.old < most
+/// Puts a buffer by for the next packet, if there is room for it.
+fn save(spare: &mut Vec<Vec<u8>>, buffer: Vec<u8>)
+    ensures { vec_len spare.old < vec_capacity spare.old → vec_len spare.old < SPARE_LIMIT
         → spare.new.items ≡ spare.old.items ++ buffer ∷ [] }
 {
-    if spare.len() < most {
+    if spare.len() < SPARE_LIMIT {
         let _ = spare.push(buffer);
     }
 }
 
-/// Puts the buffer of a packet by, where it is one and nobody else holds it.
-fn save_packet(spare: &mut Vec<Vec<u8>>, packet: Option<Readdressed>) {
-    if let Some(packet) = packet {
-        if let Some(buffer) = packet.into_inner() {
-            save(spare, buffer, SPARE_PACKETS);
+/// Puts a packet by, where it is one and nobody else holds it, if there is room for it.
+fn save_packet(spare: &mut Vec<SharedBytes>, packet: Option<Readdressed>) {
+    let Some(packet) = packet else {
+        return;
+    };
+    if let Some(bytes) = packet.into_packet().alone() {
+        if spare.len() < SPARE_PACKETS {
+            let _ = spare.push(bytes);
         }
     }
 }
@@ -214,13 +217,13 @@ impl Plan {
     {
         while let Some(out) = outs.pop() {
             if let Out::Send { bytes, .. } = out {
-                save(&mut self.spare, bytes.into_vec(), SPARE_LIMIT);
+                save(&mut self.spare, bytes.into_vec());
             }
         }
     }
 
-    /// A copy of a packet that came, in the place of one that was shared before, where nobody else holds that one, or of one that no leg keeps
-    /// any more. Refused for want of memory alone.
+    /// A copy of a packet that came, in the memory of the former one, if nobody else holds that, or of one that no leg keeps any more. Refused
+    /// for want of memory alone.
     pub fn copy_packet(
         &mut self,
         alloc: Global,
@@ -230,12 +233,15 @@ impl Plan {
         ensures copy { IfOk result (λ copy. copy ≡ bytes.now) }
         ensures plan { self.new ≡ self.old }
     {
-        let mut buffer = match former.into_inner() {
-            Some(buffer) => buffer,
-            None => taken(&mut self.spare_packets, alloc),
+        let spare = match former.alone() {
+            Some(former) => Some(former),
+            None => self.spare_packets.pop(),
         };
-        buffer.clear();
-        buffer.extend_from_slice(bytes)?;
-        SharedBytes::new(alloc, buffer)
+        if let Some(spare) = spare {
+            if let Some(copy) = spare.refill(bytes)? {
+                return Ok(copy);
+            }
+        }
+        SharedBytes::copy_of(alloc, bytes)
     }
 }

@@ -49,13 +49,16 @@ fn shares_bytes(rt: HostRuntime) -> Result<(), Fail> {
     Ok(())
 }
 
-/// The last holder gets the memory, and none before it.
+/// Who holds bytes alone may write others in their place, and nobody while others hold them.
 #[test]
-fn gives_memory_to_the_last_holder(rt: HostRuntime) -> Result<(), Fail> {
+fn refills_what_is_held_alone(rt: HostRuntime) -> Result<(), Fail> {
     let first = SharedBytes::copy_of(rt.alloc(), &PACKET)?;
-    let last = Readdressed::new(first.share()?, Ssrc(0x0101), 100);
-    assert!(rt; first.into_inner().is_none());
-    let memory = last.into_inner().ok_or("it has other holders")?;
-    assert_eq!(rt; memory.as_slice(), PACKET.as_slice());
+    let second = Readdressed::new(first.share()?, Ssrc(0x0101), 100);
+    assert!(rt; first.share()?.refill(b"ab")?.is_none());
+    assert!(rt; first.alone().is_none());
+    let last = second.into_packet().alone().ok_or("it has other holders")?;
+    assert_eq!(rt; last.as_slice(), PACKET.as_slice());
+    let refilled = last.refill(b"abc")?.ok_or("it has other holders")?;
+    assert_eq!(rt; refilled.as_slice(), b"abc".as_slice());
     Ok(())
 }

@@ -1,7 +1,5 @@
 -- A packet under another source and sequence number, as it is written.
 use Rattle.std.proofs.Common.{◌≡◌, ℕ, ◌+◌, ◌-◌, ◌≤◌, List, [], ◌∷◌, ◌++◌, length, take, drop, refl, ap, ◌∙◌, arith, length-drop}
-use Rattle.std.specs.Prelude.{Option, None, Some, IfSome}
-use Rattle.std.specs.Global.{Vec}
 use Rattle.std.proofs.lemmas.List.{drop-drop, append-nil, take_rest, drop_all}
 use borrow.Rule.Slice.PartMut.{put_mid}
 use Rattle.byteorder.specs.Endian.{big_bytes}
@@ -47,8 +45,3 @@ readdressed u s d copy w v xs h same e is f =
     written_at 8 4 xs v (big_bytes 4 u) refl f
     ∙ ap (λ (l : List ℕ). take 8 l ++ (big_bytes 4 u ++ drop 12 l)) first
     ∙ (twelve u s d h).1
-
--- memory of as many bytes
-pub as_long : (r : Option (Vec ℕ)) (d e : List ℕ) → length d ≡ length e → IfSome r (λ b. b.items ≡ d) → IfSome r (λ b. length b.items ≡ length e)
-as_long None d e same h = tt
-as_long (Some b) d e same h = ap length h ∙ same

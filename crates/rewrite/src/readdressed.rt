@@ -1,6 +1,6 @@
 //! A packet that goes out.
 
-ghost use Rattle.std.specs.Prelude.{◌≡◌, ◌≤◌, length, IfSome};
+ghost use Rattle.std.specs.Prelude.{◌≡◌, ◌≤◌, length};
 ghost use Rattle.rewrite.specs.Readdressed.{readdressed_bytes};
 
 use crate::shared::SharedBytes;
@@ -62,11 +62,11 @@ impl Readdressed {
         BigEndian::write_u32(&mut out[8..], self.ssrc.0);
     }
 
-    /// The memory of the bytes of the one that came, where nobody else holds those any more.
-    pub fn into_inner(self) -> Option<Vec<u8>>
-        ensures { IfSome result (λ bytes. length bytes.items ≡ length self) }
+    /// The bytes of the one that came.
+    pub fn into_packet(self) -> SharedBytes
+        ensures { length result ≡ length self }
     {
         let Readdressed { packet, .. } = self;
-        packet.into_inner()
+        packet
     }
 }

@@ -69,11 +69,30 @@ impl SharedBytes {
         }
     }
 
-    /// Their memory, where nobody else holds them any more.
-    pub fn into_inner(self) -> Option<Vec<u8>>
-        ensures { IfSome result (λ bytes. bytes.items ≡ self) }
+    /// The same, where nobody else holds them any more.
+    pub fn alone(self) -> Option<SharedBytes>
+        ensures { IfSome result (λ alone. alone ≡ self) }
     {
-        let SharedBytes { bytes } = self;
-        Arc::into_inner(bytes?)
+        let holders = match &self.bytes {
+            Some(bytes) => Arc::strong_count(bytes),
+            None => 0,
+        };
+        if holders == 1 { Some(self) } else { None }
+    }
+
+    /// These bytes in the memory of those, where nobody else holds them; `None` where others do.
+    pub fn refill(self, bytes: &[u8]) -> Result<Option<SharedBytes>, AllocError>
+        ensures { IfOk result (λ filled. IfSome filled (λ shared. shared ≡ bytes.now)) }
+    {
+        let SharedBytes { bytes: Some(held) } = self else {
+            return Ok(None);
+        };
+        let mut held = held;
+        if let Some(memory) = Arc::get_mut(&mut held) {
+            memory.clear();
+            memory.extend_from_slice(bytes)?;
+            return Ok(Some(SharedBytes { bytes: Some(held) }));
+        }
+        Ok(None)
     }
 }

@@ -1,0 +1,8 @@
+use Rattle.std.proofs.Common.{ap, sym, length, ◌∙◌}
+use Rattle.rewrite.proofs.ReaddressedLemmas.{length-readdressed}
+use Rattle.rewrite.proofs.readdressed.Readdressed.into_packet.Goals as goal
+
+pub returns : goal.returns
+returns c =
+    let inside = c.self.inside in
+    sym (length-readdressed inside.ssrc.0 inside.sequence_number inside.packet c.self.invariant) ∙ ap length c.self.view_is
