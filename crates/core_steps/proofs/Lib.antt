@@ -9,6 +9,7 @@ pub mod EndingLemmas
 pub mod ToldLemmas
 pub mod NumberedLemmas
 pub mod TaskLemmas
+pub mod FrontLemmas
 pub mod HearingLemmas
 pub mod HearingLeaves
 pub mod AskingLemmas

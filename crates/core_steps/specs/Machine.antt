@@ -1,8 +1,11 @@
 -- The world that the machine's parts stand for.
-use Rattle.std.specs.Prelude.{ℕ, List, ◌++◌, map, drop, option_map}
+use Rattle.std.specs.Prelude.{◌≡◌, ◌<◌, ◌^◌, ℕ, List, [], ◌++◌, map, drop, Option, None, option_map}
+use Rattle.desk.specs.State.{DeskState}
 use Rattle.desk.specs.declared.effect.Effect.{Effect}
+use Rattle.members.specs.declared.order.Row.{Row}
 use Rattle.core_steps.specs.declared.machine.Machine.{Machine}
-use Rattle.core_steps.specs.declared.machine.Setup.{Setup as SetupParts}
+use Rattle.core_steps.specs.declared.front.Front.{Front}
+use Rattle.core_steps.specs.declared.front.Setup.{Setup as SetupParts}
 use Rattle.core_steps.specs.declared.machine.Worker.{Worker}
 use Rattle.core_steps.specs.declared.machine.Hand.{Hand as HandParts}
 use Rattle.core_steps.specs.declared.machine.Hand.TheVariants.{Free, Doing, Telling}
@@ -13,7 +16,7 @@ use Rattle.core_steps.specs.declared.tasks.NextTask.TheVariants.{Order as AnOrde
 use Rattle.core_steps.specs.declared.tasks.FollowUp.TheVariants.{Push, Pulse, Expire, Report}
 use Rattle.core_steps.specs.Seed.{job_of}
 use Rattle.core_steps.specs.World.{Setup, Task, order, push, pulse, expire, report, Hand, free, doing, telling, WorkerState, WorldState}
-use Rattle.notices.specs.Notification.{pending_with}
+use Rattle.notices.specs.Notification.{Pending, pending_with}
 
 -- the task that follows, where the datagram has these bytes
 abbrev pub task_of : List ℕ → FollowUp → Task
@@ -49,16 +52,48 @@ setup_of s =
       rules = s.rules;
     }
 
-abbrev pub state_of : Machine → WorldState
-state_of m = record {
-  setup = setup_of m.setup;
-  room = m.room;
-  tasks = tasks_of m.tasks;
+-- what the machine has beside its front
+pub record Rest : Type 0 where
+  pub pending : Option Pending
+  pub desks : List DeskState
+  pub rows : List Row
+  pub workers : List WorkerState
+  pub lost : ℕ
+
+-- the world of a front and what stands beside it
+abbrev pub whole : Front → Rest → WorldState
+whole f rest = record {
+  setup = setup_of f.setup;
+  room = f.room;
+  tasks = tasks_of f.tasks;
+  pending = rest.pending;
+  desks = rest.desks;
+  rows = rest.rows;
+  workers = rest.workers;
+  reported = f.reported;
+  lost = rest.lost;
+  tmmbns = f.tmmbns;
+}
+
+abbrev pub no_rest : Rest
+no_rest = record { pending = None; desks = []; rows = []; workers = []; lost = 0 }
+
+-- the world of a front with nothing beside it
+abbrev pub alone : Front → WorldState
+alone f = whole f no_rest
+
+-- no notification waits there, and the count fits its type
+abbrev pub IsIdle : Rest → Type 0
+IsIdle rest = (rest.pending ≡ None) × (rest.lost < 2 ^ 64)
+
+abbrev pub rest_of : Machine → Rest
+rest_of m = record {
   pending = option_map (pending_with m.effect) m.pending;
   desks = m.desks.items;
   rows = m.rows.items;
   workers = map worker_state m.workers.items;
-  reported = m.reported;
   lost = m.lost;
-  tmmbns = m.tmmbns;
 }
+
+abbrev pub state_of : Machine → WorldState
+state_of m = whole m.front (rest_of m)

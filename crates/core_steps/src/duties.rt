@@ -1,25 +1,23 @@
 //! What the ingress takes in, for a driver that does itself what follows.
 
 ghost use Rattle.std.specs.Prelude.{◌≡◌, IfOk, OnOk, OnErr};
-ghost use Rattle.events.specs.declared.event.Event.TheVariants.{Tick};
+ghost use Rattle.events.specs.declared.event.Event.TheVariants.{Hear, Tick, Select};
 ghost use Rattle.core_steps.specs.declared.tasks.NextTask.TheVariants.{FollowUp as AFollowUp};
 ghost use Rattle.core_steps.specs.Duties.{task_by};
-ghost use Rattle.core_steps.specs.Machine.{state_of, task_in};
+ghost use Rattle.core_steps.specs.Machine.{alone, task_in};
 ghost use Rattle.core_steps.specs.Rule.{Does};
 ghost use Rattle.core_steps.specs.Run.{Leaves, Stays};
 
-use crate::hearing::select;
+use crate::front::Front;
+use crate::hearing::{hear, select};
 use crate::ingress::report_on;
-use crate::machine::{Machine, Setup};
-use crate::runner::{busy, hear_or_busy};
+use crate::runner::busy;
 use crate::seed::job_of;
-use crate::tasks::{FollowUp, NextTask, Tasks};
+use crate::tasks::{FollowUp, NextTask};
 use crate::ticking::tick;
 use crate::world::standing;
-use desk::Effect;
 use events::{Bytes, Job, Out, SharedBytes};
-use legs::Plan;
-use members::{Order, Room};
+use members::Order;
 use notices::Head;
 use settings::{Links, Settings};
 use std::alloc::{AllocError, Global};
@@ -40,20 +38,20 @@ pub enum Duty {
     Report(u16),
 }
 
-/// The room, and what waits for the ingress: the machine without desks, rows and workers, which its driver has. Contracts
-/// see it as a world of the machine.
+/// The room, and what waits for the ingress; its driver has the desks, rows and workers. Contracts see it as a world of the machine
+/// that has none of these.
 #[derive(Drop)]
 pub struct IngressCore {
-    machine: Machine,
+    front: Front,
 }
 
 impl Model for IngressCore {
     ghost use Rattle.core_steps.specs.World.{WorldState};
-    ghost use Rattle.core_steps.specs.Machine.{state_of};
+    ghost use Rattle.core_steps.specs.Machine.{alone};
 
     ghost Value = { WorldState };
 
-    ghost view = { λ i. state_of i.machine };
+    ghost view = { λ i. alone i.front };
 }
 
 impl IngressCore {
@@ -69,31 +67,8 @@ impl IngressCore {
     pub fn new(alloc: Global, settings: &Settings) -> Result<IngressCore, AllocError>
         ensures { IfOk result (λ i. i ≡ new_ingress settings.now) }
     {
-        let setup = Setup {
-            links: Links::new(alloc, settings)?,
-            head: Head::new(alloc, settings.unit_ssrc(), settings.cname())?,
-            request_ms: settings.request_ms(),
-            report_ms: settings.report_ms(),
-            rules: settings.rules(),
-        };
-        let room = Room::new(alloc, settings)?;
         Ok(IngressCore {
-            machine: Machine {
-                alloc,
-                setup,
-                room,
-                tasks: Tasks::new(alloc),
-                pending: None,
-                effect: Effect::new(),
-                desks: Vec::new(alloc),
-                rows: Vec::new(alloc),
-                workers: Vec::new(alloc),
-                reported: 0,
-                lost: 0,
-                tmmbns: 0,
-                asks: Vec::new(alloc),
-                plan: Plan::new(alloc),
-            },
+            front: Front::new(alloc, settings)?,
         })
     }
 
@@ -110,7 +85,7 @@ impl IngressCore {
             self.old outs.old.items self.new outs.new.items) }
         ensures err { OnErr result (Stays self.old outs.old.items self.new outs.new.items) }
     {
-        hear_or_busy(&mut self.machine, moment, endpoint, bytes, outs)
+        hear_or_busy(&mut self.front, moment, endpoint, bytes, outs)
     }
 
     /// It is this moment. Appends nothing, but `Busy` where a duty waits. Refused for want of memory alone; then nothing
@@ -120,7 +95,7 @@ impl IngressCore {
             self.old outs.old.items self.new outs.new.items) }
         ensures err { OnErr result (Stays self.old outs.old.items self.new outs.new.items) }
     {
-        tick_or_busy(&mut self.machine, moment, outs)
+        tick_or_busy(&mut self.front, moment, outs)
     }
 
     /// The leg is selected or not from this moment on. Appends what was refused; `Busy` alone where a duty waits. Refused
@@ -136,10 +111,7 @@ impl IngressCore {
             self.old outs.old.items self.new outs.new.items) }
         ensures err { OnErr result (Stays self.old outs.old.items self.new outs.new.items) }
     {
-        if self.machine.is_busy() {
-            return busy(&self.machine, outs);
-        }
-        select(&mut self.machine, moment, leg, on, outs)
+        select_or_busy(&mut self.front, moment, leg, on, outs)
     }
 
     /// Takes the oldest duty; `None` where none waits. Refused where a packet's bytes have too many holders; then it still waits.
@@ -147,12 +119,12 @@ impl IngressCore {
         ensures ok { IfOk result (HandsOut self.old self.new) }
         ensures err { OnErr result (self.new ≡ self.old) }
     {
-        let m = &mut self.machine;
-        let Some(next) = m.tasks.oldest() else {
+        let front = &mut self.front;
+        let Some(next) = front.tasks.oldest() else {
             return Ok(None);
         };
-        let duty = duty_of(&m.tasks.datagram, next)?;
-        m.tasks.finish();
+        let duty = duty_of(&front.tasks.datagram, next)?;
+        front.tasks.finish();
         Ok(Some(duty))
     }
 
@@ -162,21 +134,21 @@ impl IngressCore {
         ensures ok { IfOk result (Reports self.old publisher self.new) }
         ensures err { OnErr result (self.new ≡ self.old) }
     {
-        report_on(&mut self.machine, publisher)
+        report_on(&mut self.front, publisher)
     }
 
     /// The room's moment: the greatest that was handed in.
     pub fn moment(&self) -> u64
         ensures { result ≡ self.now.room.moment }
     {
-        self.machine.room.moment()
+        self.front.room.moment()
     }
 
     /// Whether this endpoint is present.
     pub fn is_present(&self, endpoint: u16) -> bool
         ensures { result ≡ is_present_at self.now.room.endpoints endpoint }
     {
-        self.machine.room.is_present(endpoint)
+        self.front.room.is_present(endpoint)
     }
 
     /// The stay that stands for this leg; `None` where none does.
@@ -184,42 +156,80 @@ impl IngressCore {
         ensures { MatchOption result ((leg_at self.now.room.legs leg).stay ≡ 0)
             (λ s. (s ≢ 0) × ((leg_at self.now.room.legs leg).stay ≡ s)) }
     {
-        standing(self.machine.room.stay(leg))
+        standing(self.front.room.stay(leg))
     }
 
     /// The legs.
     pub fn links(&self) -> &Links
         ensures { result.now ≡ self.now.setup.table }
     {
-        &self.machine.setup.links
+        &self.front.setup.links
     }
 
     /// What the unit's compounds begin with.
     pub fn head(&self) -> &Head
         ensures { result.now ≡ self.now.setup.unit }
     {
-        &self.machine.setup.head
+        &self.front.setup.head
     }
 
     /// How many TMMBNs were heard; it stays at `u64::MAX` once there.
     pub fn tmmbn_heard(&self) -> u64
         ensures { result ≡ self.now.tmmbns }
     {
-        self.machine.tmmbns
+        self.front.tmmbns
     }
 }
 
-/// It is this moment; `Busy` where a duty waits.
-fn tick_or_busy(m: &mut Machine, moment: u64, outs: &mut Vec<Out>) -> Result<(), AllocError>
-    ensures ok { OnOk result (Leaves (Does (state_of m.old) (Tick moment))
-        (state_of m.old) outs.old.items (state_of m.new) outs.new.items) }
-    ensures err { OnErr result (Stays (state_of m.old) outs.old.items
-        (state_of m.new) outs.new.items) }
+/// A datagram came from this endpoint; `Busy` where a duty waits.
+fn hear_or_busy(
+    front: &mut Front,
+    moment: u64,
+    endpoint: u16,
+    bytes: &[u8],
+    outs: &mut Vec<Out>,
+) -> Result<(), AllocError>
+    ensures ok { OnOk result (Leaves (Does (alone front.old) (Hear moment endpoint bytes.now))
+        (alone front.old) outs.old.items (alone front.new) outs.new.items) }
+    ensures err { OnErr result (Stays (alone front.old) outs.old.items
+        (alone front.new) outs.new.items) }
 {
-    if m.is_busy() {
-        return busy(m, outs);
+    if front.is_busy() {
+        return busy(front, outs);
     }
-    tick(m, moment)
+    hear(front, moment, endpoint, bytes, outs)
+}
+
+/// It is this moment; `Busy` where a duty waits.
+fn tick_or_busy(front: &mut Front, moment: u64, outs: &mut Vec<Out>) -> Result<(), AllocError>
+    ensures ok { OnOk result (Leaves (Does (alone front.old) (Tick moment))
+        (alone front.old) outs.old.items (alone front.new) outs.new.items) }
+    ensures err { OnErr result (Stays (alone front.old) outs.old.items
+        (alone front.new) outs.new.items) }
+{
+    if front.is_busy() {
+        return busy(front, outs);
+    }
+    tick(front, moment)
+}
+
+/// The leg is selected or not; `Busy` where a duty waits.
+fn select_or_busy(
+    front: &mut Front,
+    moment: u64,
+    leg: u16,
+    on: bool,
+    outs: &mut Vec<Out>,
+) -> Result<(), AllocError>
+    ensures ok { OnOk result (Leaves (Does (alone front.old) (Select moment leg on))
+        (alone front.old) outs.old.items (alone front.new) outs.new.items) }
+    ensures err { OnErr result (Stays (alone front.old) outs.old.items
+        (alone front.new) outs.new.items) }
+{
+    if front.is_busy() {
+        return busy(front, outs);
+    }
+    select(front, moment, leg, on, outs)
 }
 
 /// The duty that this task is, where the datagram has these bytes.

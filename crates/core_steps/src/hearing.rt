@@ -1,10 +1,11 @@
-//! What the ingress takes in: datagrams and selections. A moment is taken in by `ticking`.
+//! What the ingress takes in: datagrams and selections. A moment is taken in by `ticking`. What is stated holds whatever stands beside
+//! the front.
 
 ghost use Rattle.std.specs.Prelude.{◌≡◌, ◌≢◌, ◌<◌, ℕ, false, [], ◌∷◌, ◌++◌, List, OnOk, OnErr, vec_len, vec_capacity};
 ghost use Rattle.std.specs.List.{last_or};
 ghost use Rattle.events.specs.declared.output.Out.TheVariants.{Refused};
 ghost use Rattle.events.specs.declared.output.Refusal.TheVariants.{Room as ByRoom};
-ghost use Rattle.core_steps.specs.Machine.{state_of};
+ghost use Rattle.core_steps.specs.Machine.{Rest, IsIdle, whole, alone};
 ghost use Rattle.notices.specs.DeskCalls.{source_of};
 ghost use Rattle.core_steps.specs.FollowUps.{room_with_report};
 ghost use Rattle.core_steps.specs.Hearing.{IsHearing, hearing, selecting};
@@ -13,7 +14,7 @@ ghost use Rattle.core_steps.specs.Rule.{is_busy};
 ghost use Rattle.core_steps.specs.Run.{Leaves, Stays};
 
 use crate::follow_ups::{push_asks, push_packet};
-use crate::machine::Machine;
+use crate::front::Front;
 use crate::order_follow_ups::push_after;
 use events::{Out, Refusal};
 use intake::{Control, Heard, Unheard, hear_datagram};
@@ -24,31 +25,32 @@ use tmmbr_tuple::Ssrc;
 
 /// A datagram came from this endpoint, while nothing waits.
 pub(crate) fn hear(
-    m: &mut Machine,
+    front: &mut Front,
     moment: u64,
     endpoint: u16,
     bytes: &[u8],
     outs: &mut Vec<Out>,
 ) -> Result<(), AllocError>
-    requires { is_busy (state_of m.old) ≡ false }
-    ensures ok { OnOk result (Leaves (IsHearing (state_of m.old) moment endpoint bytes.now)
-        (state_of m.old) outs.old.items (state_of m.new) outs.new.items) }
-    ensures err { OnErr result (Stays (state_of m.old) outs.old.items
-        (state_of m.new) outs.new.items) }
+    requires { is_busy (alone front.old) ≡ false }
+    ensures ok { (rest : Rest) → IsIdle rest
+        → OnOk result (Leaves (IsHearing (whole front.old rest) moment endpoint bytes.now)
+        (whole front.old rest) outs.old.items (whole front.new rest) outs.new.items) }
+    ensures err { OnErr result (Stays (alone front.old) outs.old.items
+        (alone front.new) outs.new.items) }
 {
-    m.knows_counts();
-    let own = own_source(&m.setup.links, endpoint);
-    m.asks.clear();
-    match hear_datagram(bytes, own, &mut m.asks) {
+    front.knows_count();
+    let own = own_source(&front.setup.links, endpoint);
+    front.asks.clear();
+    match hear_datagram(bytes, own, &mut front.asks) {
         Ok(
             Heard::Media {
                 ssrc,
                 seq,
                 timestamp,
             },
-        ) => hear_media(m, moment, endpoint, bytes, (ssrc, seq, timestamp), outs),
-        Ok(Heard::Goodbye) => hear_goodbye(m, moment, endpoint, outs),
-        Ok(Heard::Control(control)) => hear_control(m, moment, endpoint, &control, outs),
+        ) => hear_media(front, moment, endpoint, bytes, (ssrc, seq, timestamp), outs),
+        Ok(Heard::Goodbye) => hear_goodbye(front, moment, endpoint, outs),
+        Ok(Heard::Control(control)) => hear_control(front, moment, endpoint, &control, outs),
         Err(Unheard::Refused(refusal)) => {
             outs.push(Out::Refused(refusal))?;
             Ok(())
@@ -67,47 +69,53 @@ fn own_source(links: &Links, endpoint: u16) -> Ssrc
 /// An RTP packet of this source, sequence number and timestamp: each worker that serves the publisher gets it. It is copied once for all,
 /// and not before the room would take it in.
 fn hear_media(
-    m: &mut Machine,
+    front: &mut Front,
     moment: u64,
     endpoint: u16,
     bytes: &[u8],
     packet: (Ssrc, u16, u32),
     outs: &mut Vec<Out>,
 ) -> Result<(), AllocError>
-    requires { is_busy (state_of m.old) ≡ false }
-    ensures ok { OnOk result (Leaves
-        (λ h. h ≡ hearing (state_of m.old) moment endpoint bytes.now
+    requires { is_busy (alone front.old) ≡ false }
+    ensures ok { (rest : Rest) → IsIdle rest → OnOk result (Leaves
+        (λ h. h ≡ hearing (whole front.old rest) moment endpoint bytes.now
         (Ok (Packet packet.0.0 packet.1 packet.2)))
-        (state_of m.old) outs.old.items (state_of m.new) outs.new.items) }
-    ensures err { OnErr result (Stays (state_of m.old) outs.old.items
-        (state_of m.new) outs.new.items) }
+        (whole front.old rest) outs.old.items (whole front.new rest) outs.new.items) }
+    ensures err { OnErr result (Stays (alone front.old) outs.old.items
+        (alone front.new) outs.new.items) }
 {
-    m.knows_counts();
+    front.knows_count();
     let (ssrc, seq, timestamp) = packet;
     outs.reserve(1)?;
-    if let Some(fault) = m.room.refuses(endpoint, ssrc) {
+    if let Some(fault) = front.room.refuses(endpoint, ssrc) {
         return refuse(fault, outs);
     }
-    let workers = m.setup.links.workers();
-    m.tasks
-        .prepare(m.room.most_orders() + usize::from(workers))?;
-    m.tasks.copy_datagram(m.alloc, bytes, &mut m.plan)?;
-    match m.room.hear(moment, endpoint, ssrc, &mut m.tasks.orders) {
+    let workers = front.setup.links.workers();
+    front
+        .tasks
+        .prepare(front.room.most_orders() + usize::from(workers))?;
+    front
+        .tasks
+        .copy_datagram(front.alloc, bytes, &mut front.plan)?;
+    match front
+        .room
+        .hear(moment, endpoint, ssrc, &mut front.tasks.orders)
+    {
         Ok(()) => {
             push_after(
-                &m.setup,
-                &m.room,
-                m.tasks.orders.as_slice(),
-                &mut m.tasks.follow_ups,
+                &front.setup,
+                &front.room,
+                front.tasks.orders.as_slice(),
+                &mut front.tasks.follow_ups,
             );
             push_packet(
-                &m.setup.links,
-                &m.room,
+                &front.setup.links,
+                &front.room,
                 endpoint,
                 workers,
-                &mut m.tasks.follow_ups,
+                &mut front.tasks.follow_ups,
             );
-            m.room.received(endpoint, seq, timestamp);
+            front.room.received(endpoint, seq, timestamp);
             Ok(())
         }
         Err(fault) => refuse(fault, outs),
@@ -116,28 +124,28 @@ fn hear_media(
 
 /// The endpoint says goodbye.
 fn hear_goodbye(
-    m: &mut Machine,
+    front: &mut Front,
     moment: u64,
     endpoint: u16,
     outs: &mut Vec<Out>,
 ) -> Result<(), AllocError>
-    requires { is_busy (state_of m.old) ≡ false }
-    ensures ok { (bytes : List ℕ)
-        → OnOk result (Leaves (λ h. h ≡ hearing (state_of m.old) moment endpoint bytes (Ok Leaving))
-        (state_of m.old) outs.old.items (state_of m.new) outs.new.items) }
-    ensures err { OnErr result (Stays (state_of m.old) outs.old.items
-        (state_of m.new) outs.new.items) }
+    requires { is_busy (alone front.old) ≡ false }
+    ensures ok { (bytes : List ℕ) (rest : Rest) → IsIdle rest
+        → OnOk result (Leaves (λ h. h ≡ hearing (whole front.old rest) moment endpoint bytes (Ok Leaving))
+        (whole front.old rest) outs.old.items (whole front.new rest) outs.new.items) }
+    ensures err { OnErr result (Stays (alone front.old) outs.old.items
+        (alone front.new) outs.new.items) }
 {
-    m.knows_counts();
+    front.knows_count();
     outs.reserve(1)?;
-    m.tasks.prepare(m.room.most_orders())?;
-    match m.room.bye(moment, endpoint, &mut m.tasks.orders) {
+    front.tasks.prepare(front.room.most_orders())?;
+    match front.room.bye(moment, endpoint, &mut front.tasks.orders) {
         Ok(()) => {
             push_after(
-                &m.setup,
-                &m.room,
-                m.tasks.orders.as_slice(),
-                &mut m.tasks.follow_ups,
+                &front.setup,
+                &front.room,
+                front.tasks.orders.as_slice(),
+                &mut front.tasks.follow_ups,
             );
             Ok(())
         }
@@ -145,50 +153,52 @@ fn hear_goodbye(
     }
 }
 
-/// Other RTCP packets: what they ask for stands in the machine's list.
+/// Other RTCP packets: what they ask for stands in the front's list.
 fn hear_control(
-    m: &mut Machine,
+    front: &mut Front,
     moment: u64,
     endpoint: u16,
     control: &Control,
     outs: &mut Vec<Out>,
 ) -> Result<(), AllocError>
-    requires { is_busy (state_of m.old) ≡ false }
-    ensures ok { (bytes : List ℕ) (reports : List (ℕ × ℕ))
+    requires { is_busy (alone front.old) ≡ false }
+    ensures ok { (bytes : List ℕ) (reports : List (ℕ × ℕ)) (rest : Rest) → IsIdle rest
         → control.now.report ≡ last_or None reports
-        → OnOk result (Leaves (λ h. h ≡ hearing (state_of m.old) moment endpoint bytes
-        (Ok (Controls control.now.speaker.0 reports control.now.tmmbns m.old.asks.items)))
-        (state_of m.old) outs.old.items (state_of m.new) outs.new.items) }
-    ensures err { OnErr result (Stays (state_of m.old) outs.old.items
-        (state_of m.new) outs.new.items) }
+        → OnOk result (Leaves (λ h. h ≡ hearing (whole front.old rest) moment endpoint bytes
+        (Ok (Controls control.now.speaker.0 reports control.now.tmmbns front.old.asks.items)))
+        (whole front.old rest) outs.old.items (whole front.new rest) outs.new.items) }
+    ensures err { OnErr result (Stays (alone front.old) outs.old.items
+        (alone front.new) outs.new.items) }
 {
-    m.knows_counts();
-    outs.reserve(m.asks.len().max(1))?;
-    if let Some(fault) = m.room.refuses(endpoint, control.speaker) {
+    front.knows_count();
+    outs.reserve(front.asks.len().max(1))?;
+    if let Some(fault) = front.room.refuses(endpoint, control.speaker) {
         return refuse(fault, outs);
     }
-    m.tasks.prepare(m.room.most_orders() + m.asks.len())?;
-    match m
+    front
+        .tasks
+        .prepare(front.room.most_orders() + front.asks.len())?;
+    match front
         .room
-        .hear(moment, endpoint, control.speaker, &mut m.tasks.orders)
+        .hear(moment, endpoint, control.speaker, &mut front.tasks.orders)
     {
         Ok(()) => {
             push_after(
-                &m.setup,
-                &m.room,
-                m.tasks.orders.as_slice(),
-                &mut m.tasks.follow_ups,
+                &front.setup,
+                &front.room,
+                front.tasks.orders.as_slice(),
+                &mut front.tasks.follow_ups,
             );
             push_asks(
-                &m.setup.links,
-                &m.room,
+                &front.setup.links,
+                &front.room,
                 endpoint,
-                m.asks.as_slice(),
-                &mut m.tasks.follow_ups,
+                front.asks.as_slice(),
+                &mut front.tasks.follow_ups,
                 outs,
             );
-            note_report(&mut m.room, endpoint, control.report);
-            m.tmmbns = m.tmmbns.saturating_add(control.tmmbns);
+            note_report(&mut front.room, endpoint, control.report);
+            front.tmmbns = front.tmmbns.saturating_add(control.tmmbns);
             Ok(())
         }
         Err(fault) => refuse(fault, outs),
@@ -206,28 +216,29 @@ fn note_report(room: &mut Room, endpoint: u16, report: Option<(u64, u32)>)
 
 /// The leg is selected or not, and nothing waits.
 pub(crate) fn select(
-    m: &mut Machine,
+    front: &mut Front,
     moment: u64,
     leg: u16,
     on: bool,
     outs: &mut Vec<Out>,
 ) -> Result<(), AllocError>
-    requires { is_busy (state_of m.old) ≡ false }
-    ensures ok { OnOk result (Leaves (λ h. h ≡ selecting (state_of m.old) moment leg on)
-        (state_of m.old) outs.old.items (state_of m.new) outs.new.items) }
-    ensures err { OnErr result (Stays (state_of m.old) outs.old.items
-        (state_of m.new) outs.new.items) }
+    requires { is_busy (alone front.old) ≡ false }
+    ensures ok { (rest : Rest) → IsIdle rest
+        → OnOk result (Leaves (λ h. h ≡ selecting (whole front.old rest) moment leg on)
+        (whole front.old rest) outs.old.items (whole front.new rest) outs.new.items) }
+    ensures err { OnErr result (Stays (alone front.old) outs.old.items
+        (alone front.new) outs.new.items) }
 {
-    m.knows_counts();
+    front.knows_count();
     outs.reserve(1)?;
-    m.tasks.prepare(m.room.most_orders())?;
-    match m.room.select(moment, leg, on, &mut m.tasks.orders) {
+    front.tasks.prepare(front.room.most_orders())?;
+    match front.room.select(moment, leg, on, &mut front.tasks.orders) {
         Ok(()) => {
             push_after(
-                &m.setup,
-                &m.room,
-                m.tasks.orders.as_slice(),
-                &mut m.tasks.follow_ups,
+                &front.setup,
+                &front.room,
+                front.tasks.orders.as_slice(),
+                &mut front.tasks.follow_ups,
             );
             Ok(())
         }

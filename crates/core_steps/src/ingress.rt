@@ -5,7 +5,7 @@ ghost use Rattle.desk.specs.Call.{HasStay};
 ghost use Rattle.desk.specs.declared.call.Call.TheVariants.{Time};
 ghost use Rattle.notices.specs.DeskCalls.{stay_call};
 ghost use Rattle.core_steps.specs.Duties.{Reports};
-ghost use Rattle.core_steps.specs.Machine.{state_of, task_of, task_in, worker_state};
+ghost use Rattle.core_steps.specs.Machine.{state_of, alone, task_of, task_in, worker_state};
 ghost use Rattle.notices.specs.Notification.{pending_with};
 ghost use Rattle.core_steps.specs.Pushing.{Pushed};
 ghost use Rattle.core_steps.specs.Rule.{AsksDesk, OrderAsks, DoesTask, DoesNext, IsReporting, pushing};
@@ -14,6 +14,7 @@ ghost use Rattle.core_steps.specs.Seed.{job_of};
 ghost use Rattle.core_steps.specs.World.{Task, order as ordering};
 
 use crate::asking::ask;
+use crate::front::Front;
 use crate::machine::{Machine, Worker};
 use crate::ring::{JOB_LIMIT, JobRing};
 use crate::seed::{Seed, job_of};
@@ -50,9 +51,9 @@ fn tell(m: &mut Machine, notification: Notification, outs: &mut Vec<Out>) -> Res
 {
     m.knows_counts();
     notify(
-        m.alloc,
-        &m.setup.links,
-        &m.setup.head,
+        m.front.alloc,
+        &m.front.setup.links,
+        &m.front.setup.head,
         m.rows.as_slice(),
         &notification,
         &m.effect,
@@ -72,7 +73,7 @@ fn do_oldest(m: &mut Machine, outs: &mut Vec<Out>) -> Result<(), AllocError>
 {
     m.knows_counts();
     outs.reserve(1)?;
-    match m.tasks.oldest() {
+    match m.front.tasks.oldest() {
         Some(next) => do_task(m, next, outs),
         None => {
             outs.push_reserved(Out::Idle);
@@ -86,7 +87,7 @@ fn do_task(m: &mut Machine, next: NextTask, outs: &mut Vec<Out>) -> Result<(), A
     requires idle { m.old.pending ≡ None }
     requires room { vec_len outs.old < vec_capacity outs.old }
     ensures ok { OnOk result (Leaves
-        (DoesTask (state_of m.old) (task_in m.old.tasks.datagram next))
+        (DoesTask (state_of m.old) (task_in m.old.front.tasks.datagram next))
         (state_of m.old) outs.old.items (state_of m.new) outs.new.items) }
     ensures err { OnErr result (Stays (state_of m.old) outs.old.items
         (state_of m.new) outs.new.items) }
@@ -118,7 +119,7 @@ fn do_order(m: &mut Machine, order: Order, outs: &mut Vec<Out>)
         } => {
             m.knows_counts();
             put_row(m.rows.as_mut_slice(), leg, Row { stay, turn, on });
-            m.tasks.finish();
+            m.front.tasks.finish();
         }
     }
 }
@@ -138,14 +139,14 @@ fn ask_in_stay(m: &mut Machine, leg: u16, stay: u64, change: Change, outs: &mut 
     requires idle { m.old.pending ≡ None }
     requires room { vec_len outs.old < vec_capacity outs.old }
     ensures { (t : Task) → Leaves
-        (OrderAsks (state_of m.old) t (stay_call m.old.setup.links leg stay change))
+        (OrderAsks (state_of m.old) t (stay_call m.old.front.setup.links leg stay change))
         (state_of m.old) outs.old.items (state_of m.new) outs.new.items }
 {
-    match stay_call(&m.setup.links, leg, stay, change) {
+    match stay_call(&m.front.setup.links, leg, stay, change) {
         Some((publisher, call)) => ask_desk(m, publisher, &call, outs),
         None => {
             m.knows_counts();
-            m.tasks.finish();
+            m.front.tasks.finish();
         }
     }
 }
@@ -167,7 +168,7 @@ fn ask_desk(m: &mut Machine, publisher: u16, call: &Call, outs: &mut Vec<Out>)
         &mut m.effect,
         outs,
     );
-    m.tasks.finish();
+    m.front.tasks.finish();
 }
 
 /// What follows from a datagram or a moment.
@@ -175,7 +176,7 @@ fn do_follow_up(m: &mut Machine, next: FollowUp, outs: &mut Vec<Out>) -> Result<
     requires idle { m.old.pending ≡ None }
     requires room { vec_len outs.old < vec_capacity outs.old }
     ensures ok { OnOk result (Leaves
-        (DoesTask (state_of m.old) (task_of m.old.tasks.datagram next))
+        (DoesTask (state_of m.old) (task_of m.old.front.tasks.datagram next))
         (state_of m.old) outs.old.items (state_of m.new) outs.new.items) }
     ensures err { OnErr result (Stays (state_of m.old) outs.old.items
         (state_of m.new) outs.new.items) }
@@ -194,10 +195,10 @@ fn signal(m: &mut Machine, publisher: u16, signal: Signal, outs: &mut Vec<Out>)
     requires idle { m.old.pending ≡ None }
     requires room { vec_len outs.old < vec_capacity outs.old }
     ensures { (t : Task) → Leaves
-        (AsksDesk (state_of m.old) t publisher (Time m.old.room.moment signal))
+        (AsksDesk (state_of m.old) t publisher (Time m.old.front.room.moment signal))
         (state_of m.old) outs.old.items (state_of m.new) outs.new.items }
 {
-    let moment = m.room.moment();
+    let moment = m.front.room.moment();
     ask_desk(m, publisher, &Call::Time { moment, signal }, outs);
 }
 
@@ -211,13 +212,13 @@ fn push_seed(
     requires idle { m.old.pending ≡ None }
     requires room { vec_len outs.old < vec_capacity outs.old }
     ensures ok { OnOk result (Leaves
-        (λ h. h ≡ pushing (state_of m.old) worker (job_of m.old.tasks.datagram seed)
+        (λ h. h ≡ pushing (state_of m.old) worker (job_of m.old.front.tasks.datagram seed)
         (slice_get (state_of m.old).workers worker))
         (state_of m.old) outs.old.items (state_of m.new) outs.new.items) }
     ensures err { OnErr result (Stays (state_of m.old) outs.old.items
         (state_of m.new) outs.new.items) }
 {
-    let job = job_of(&m.tasks.datagram, seed)?;
+    let job = job_of(&m.front.tasks.datagram, seed)?;
     push(m, worker, job, outs);
     Ok(())
 }
@@ -231,7 +232,7 @@ fn push(m: &mut Machine, worker: u16, job: Job, outs: &mut Vec<Out>)
         (state_of m.old) outs.old.items (state_of m.new) outs.new.items }
 {
     m.knows_counts();
-    m.tasks.finish();
+    m.front.tasks.finish();
     if is_given_up(m.workers.as_mut_slice(), worker, job) {
         m.lost = m.lost.saturating_add(1);
         outs.push_reserved(Out::Lost(worker));
@@ -272,21 +273,21 @@ fn report(m: &mut Machine, publisher: u16, outs: &mut Vec<Out>) -> Result<(), Al
         (state_of m.new) outs.new.items) }
 {
     m.knows_counts();
-    let bytes = report_on(m, publisher)?;
+    let bytes = report_on(&mut m.front, publisher)?;
     outs.push_reserved(Out::Send {
         endpoint: publisher,
         bytes,
     });
-    m.tasks.finish();
+    m.front.tasks.finish();
     Ok(())
 }
 
 /// The report to the publisher, with the block about it.
-pub(crate) fn report_on(m: &mut Machine, publisher: u16) -> Result<Bytes, AllocError>
-    ensures ok { IfOk result (Reports (state_of m.old) publisher (state_of m.new)) }
-    ensures err { OnErr result (state_of m.new ≡ state_of m.old) }
+pub(crate) fn report_on(front: &mut Front, publisher: u16) -> Result<Bytes, AllocError>
+    ensures ok { IfOk result (Reports (alone front.old) publisher (alone front.new)) }
+    ensures err { OnErr result (alone front.new ≡ alone front.old) }
 {
-    let draft = m.setup.head.draft(m.alloc)?;
-    let block = m.room.block(publisher);
-    Ok(Bytes::new(m.setup.head.fill(draft, block)))
+    let draft = front.setup.head.draft(front.alloc)?;
+    let block = front.room.block(publisher);
+    Ok(Bytes::new(front.setup.head.fill(draft, block)))
 }

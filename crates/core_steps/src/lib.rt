@@ -2,14 +2,15 @@
 //! refusals come out (RFC 7667, section 3.7). Nothing reads a clock, starts a thread or opens a socket.
 //!
 //! Read the crate `events` first, what goes in and what comes out, then `world` and `runner`. `hearing` and `ticking`, `ingress` and
-//! `working` are the three kinds of step; `duties` is the ingress for a driver of its own, `laws` what holds of every run, `quiet`
-//! what is live once nothing waits. What a datagram says (`intake`), what a job does on legs (`legs`), which desk it asks and what
+//! `working` are the three kinds of step; `duties` is the ingress for a driver of its own, `front` what it and the machine both hold,
+//! `laws` what holds of every run, `quiet` what is live once nothing waits. What a datagram says (`intake`), what a job does on legs (`legs`), which desk it asks and what
 //! follows from the answer (`notices`), and how legs are found (`settings`) are crates of their own, whose names are handed on.
 #![tactic(auto)]
 
 mod asking;
 mod duties;
 mod follow_ups;
+mod front;
 mod hearing;
 mod ingress;
 pub mod laws;

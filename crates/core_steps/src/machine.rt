@@ -1,25 +1,20 @@
 //! The machine's parts.
 
-ghost use Rattle.std.specs.Prelude.{◌≡◌, ◌<◌, ◌^◌};
+ghost use Rattle.std.specs.Prelude.{◌≡◌, ◌<◌, ◌^◌, false};
 
+use crate::front::Front;
 use crate::ring::JobRing;
-use crate::tasks::Tasks;
 use desk::{Desk, Effect};
 use events::Job;
-use intake::Ask;
-use legs::{Legs, Plan};
-use members::{Room, Row};
-use notices::{Head, Notification};
-use settings::{LegRules, Links};
-use std::alloc::Global;
+use legs::Legs;
+use members::Row;
+use notices::Notification;
 
 /// The machine's parts. Contracts see them as `state_of` says.
 #[derive(Drop)]
 pub(crate) struct Machine {
-    pub(crate) alloc: Global,
-    pub(crate) setup: Setup,
-    pub(crate) room: Room,
-    pub(crate) tasks: Tasks,
+    /// The room, and what waits for the ingress.
+    pub(crate) front: Front,
     /// The notification that waits for the ingress.
     pub(crate) pending: Option<Notification>,
     /// What it tells.
@@ -29,27 +24,8 @@ pub(crate) struct Machine {
     /// The published row of each leg.
     pub(crate) rows: Vec<Row>,
     pub(crate) workers: Vec<Worker>,
-    /// The moment of the last reports; 0 before any.
-    pub(crate) reported: u64,
     /// Jobs given up since their worker's ring was full.
     pub(crate) lost: u64,
-    /// TMMBNs heard.
-    pub(crate) tmmbns: u64,
-    /// Where a datagram's asks are collected; empty between events.
-    pub(crate) asks: Vec<Ask>,
-    /// Where a job is planned; empty between events.
-    pub(crate) plan: Plan,
-}
-
-/// What the settings say once and for all.
-#[derive(Drop)]
-pub(crate) struct Setup {
-    pub(crate) links: Links,
-    pub(crate) head: Head,
-    /// 0 where requests never grow too old.
-    pub(crate) request_ms: u64,
-    pub(crate) report_ms: u64,
-    pub(crate) rules: LegRules,
 }
 
 /// A worker.
@@ -86,21 +62,24 @@ impl Worker {
 }
 
 impl Machine {
-    ghost use Rattle.core_steps.specs.Machine.{state_of};
+    ghost use Rattle.core_steps.specs.Machine.{IsIdle, alone, rest_of, state_of};
     ghost use Rattle.core_steps.specs.Rule.{is_busy};
 
     /// The counts fit their types, which a contract that spells a count's limit wants to know.
     pub(crate) fn knows_counts(&self)
         ensures lost { self.now.lost < 2 ^ 64 }
-        ensures tmmbns { self.now.tmmbns < 2 ^ 64 }
+        ensures tmmbns { self.now.front.tmmbns < 2 ^ 64 }
     {
-        let (_lost, _tmmbns) = (self.lost, self.tmmbns);
+        let (_lost, _tmmbns) = (self.lost, self.front.tmmbns);
     }
 
-    /// Whether the ingress has something to do.
+    /// Whether the ingress has something to do. Where it hasn't, its front may take something in.
     pub(crate) fn is_busy(&self) -> bool
-        ensures { result ≡ is_busy (state_of self.now) }
+        ensures value { result ≡ is_busy (state_of self.now) }
+        ensures front { result ≡ false → is_busy (alone self.now.front) ≡ false }
+        ensures rest { result ≡ false → IsIdle (rest_of self.now) }
     {
-        self.pending.is_some() || !self.tasks.is_empty()
+        self.knows_counts();
+        self.pending.is_some() || !self.front.tasks.is_empty()
     }
 }

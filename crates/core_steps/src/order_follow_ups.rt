@@ -7,7 +7,7 @@ ghost use Rattle.core_steps.specs.Hearing.{is_left};
 ghost use Rattle.core_steps.specs.Machine.{setup_of};
 
 use crate::follow_ups::{owner_of, push_some};
-use crate::machine::Setup;
+use crate::front::Setup;
 use crate::seed::Seed;
 use crate::tasks::FollowUp;
 use members::{Order, Room};

@@ -1,7 +1,7 @@
 //! Events in order, each an atomic step.
 
-ghost use Rattle.std.specs.Prelude.{◌≡◌, ◌<◌, ◌∷◌, [], length, take, OnOk, OnErr, IfErr};
-ghost use Rattle.core_steps.specs.Machine.{state_of};
+ghost use Rattle.std.specs.Prelude.{◌≡◌, ◌<◌, ◌^◌, ◌∷◌, [], length, take, OnOk, OnErr, IfErr};
+ghost use Rattle.core_steps.specs.Machine.{Rest, whole, state_of};
 ghost use Rattle.events.specs.declared.event.Event.TheVariants.{Hear};
 ghost use Rattle.events.specs.declared.output.Out.TheVariants.{Busy};
 ghost use Rattle.core_steps.specs.Happening.{giving};
@@ -11,6 +11,7 @@ ghost use Rattle.core_steps.specs.Rule.{Does};
 ghost use Rattle.core_steps.specs.Run.{HasRun, Leaves, Stays};
 ghost use Rattle.events.specs.RunFaults.{done_of};
 
+use crate::front::Front;
 use crate::hearing;
 use crate::hearing::select;
 use crate::ingress::do_next;
@@ -85,6 +86,7 @@ fn step(m: &mut Machine, event: &Event, outs: &mut Vec<Out>) -> Result<(), Alloc
     ensures err { OnErr result (Stays (state_of m.old) outs.old.items
         (state_of m.new) outs.new.items) }
 {
+    m.knows_counts();
     match event {
         Event::Ingress => do_next(m, outs),
         Event::Work(worker) => work(m, *worker, outs),
@@ -95,21 +97,21 @@ fn step(m: &mut Machine, event: &Event, outs: &mut Vec<Out>) -> Result<(), Alloc
         } => { hear_or_busy(m, *moment, *endpoint, bytes.as_slice(), outs) }
         Event::Tick { moment } => {
             if m.is_busy() {
-                return busy(m, outs);
+                return busy(&m.front, outs);
             }
-            tick(m, *moment)
+            tick(&mut m.front, *moment)
         }
         Event::Select { moment, leg, on } => {
             if m.is_busy() {
-                return busy(m, outs);
+                return busy(&m.front, outs);
             }
-            select(m, *moment, *leg, *on, outs)
+            select(&mut m.front, *moment, *leg, *on, outs)
         }
     }
 }
 
 /// A datagram came from this endpoint; `Busy` where something waits.
-pub(crate) fn hear_or_busy(
+fn hear_or_busy(
     m: &mut Machine,
     moment: u64,
     endpoint: u16,
@@ -121,20 +123,21 @@ pub(crate) fn hear_or_busy(
     ensures err { OnErr result (Stays (state_of m.old) outs.old.items
         (state_of m.new) outs.new.items) }
 {
+    m.knows_counts();
     if m.is_busy() {
-        return busy(m, outs);
+        return busy(&m.front, outs);
     }
-    hearing::hear(m, moment, endpoint, bytes, outs)
+    hearing::hear(&mut m.front, moment, endpoint, bytes, outs)
 }
 
-/// Nothing is taken in.
-pub(crate) fn busy(m: &Machine, outs: &mut Vec<Out>) -> Result<(), AllocError>
-    ensures ok { OnOk result (Leaves (λ h. h ≡ giving (state_of m.now) (Busy ∷ []))
-        (state_of m.now) outs.old.items (state_of m.now) outs.new.items) }
+/// Nothing is taken in, whatever stands beside the front.
+pub(crate) fn busy(front: &Front, outs: &mut Vec<Out>) -> Result<(), AllocError>
+    ensures ok { (rest : Rest) → rest.lost < 2 ^ 64
+        → OnOk result (Leaves (λ h. h ≡ giving (whole front.now rest) (Busy ∷ []))
+        (whole front.now rest) outs.old.items (whole front.now rest) outs.new.items) }
     ensures err { OnErr result (outs.new.items ≡ outs.old.items) }
 {
-    let _lost = m.lost;
-    let _tmmbns = m.tmmbns;
+    front.knows_count();
     outs.push(Out::Busy)?;
     Ok(())
 }

@@ -3,14 +3,14 @@
 ghost use Rattle.std.specs.Prelude.{◌≡◌, ◌==◌, ◌+◌, ◌-◌, ◌≤◌, ◌<◌, ◌^◌, false, nat_le, [], ◌++◌, List, length, OnOk, OnErr, if◌then◌else◌, vec_len, vec_capacity};
 ghost use Rattle.std.specs.List.{enumerate_from, filter_map};
 ghost use Rattle.events.specs.declared.output.Out.{Out as Given};
-ghost use Rattle.core_steps.specs.Machine.{state_of};
+ghost use Rattle.core_steps.specs.Machine.{Rest, IsIdle, whole, alone};
 ghost use Rattle.core_steps.specs.FollowUps.{due_at, due_to, report_to};
 ghost use Rattle.core_steps.specs.Hearing.{ticking, numbers_below};
 ghost use Rattle.core_steps.specs.Rule.{is_busy};
 ghost use Rattle.core_steps.specs.Run.{Leaves};
 
 use crate::follow_ups::push_some;
-use crate::machine::{Machine, Setup};
+use crate::front::{Front, Setup};
 use crate::order_follow_ups::push_after;
 use crate::seed::Seed;
 use crate::tasks::FollowUp;
@@ -19,37 +19,47 @@ use settings::{LegSettings, Links};
 use std::alloc::AllocError;
 
 /// It is this moment, and nothing waits.
-pub(crate) fn tick(m: &mut Machine, moment: u64) -> Result<(), AllocError>
-    requires { is_busy (state_of m.old) ≡ false }
-    ensures ok { (outs : List Given)
+pub(crate) fn tick(front: &mut Front, moment: u64) -> Result<(), AllocError>
+    requires { is_busy (alone front.old) ≡ false }
+    ensures ok { (outs : List Given) (rest : Rest) → IsIdle rest
         → OnOk result
-        (Leaves (λ h. h ≡ ticking (state_of m.old) moment) (state_of m.old) outs
-        (state_of m.new) outs) }
-    ensures err { OnErr result (state_of m.new ≡ state_of m.old) }
+        (Leaves (λ h. h ≡ ticking (whole front.old rest) moment) (whole front.old rest) outs
+        (whole front.new rest) outs) }
+    ensures err { OnErr result (alone front.new ≡ alone front.old) }
 {
-    m.knows_counts();
-    let endpoints = m.setup.links.endpoints().len() as u16;
-    let legs = m.setup.links.legs().len();
-    let most = m.room.most_orders() + 3 * usize::from(endpoints) + legs;
-    m.tasks.prepare(most)?;
-    m.room.tick(moment, &mut m.tasks.orders)?;
+    front.knows_count();
+    let endpoints = front.setup.links.endpoints().len() as u16;
+    let legs = front.setup.links.legs().len();
+    let most = front.room.most_orders() + 3 * usize::from(endpoints) + legs;
+    front.tasks.prepare(most)?;
+    front.room.tick(moment, &mut front.tasks.orders)?;
     push_after(
-        &m.setup,
-        &m.room,
-        m.tasks.orders.as_slice(),
-        &mut m.tasks.follow_ups,
+        &front.setup,
+        &front.room,
+        front.tasks.orders.as_slice(),
+        &mut front.tasks.follow_ups,
     );
-    push_due(&m.room, endpoints, Due::Pulse, &mut m.tasks.follow_ups);
-    push_expiring(&m.setup, &m.room, endpoints, &mut m.tasks.follow_ups);
-    let is_due = is_report_due(&m.setup, &m.room, m.reported);
+    push_due(
+        &front.room,
+        endpoints,
+        Due::Pulse,
+        &mut front.tasks.follow_ups,
+    );
+    push_expiring(
+        &front.setup,
+        &front.room,
+        endpoints,
+        &mut front.tasks.follow_ups,
+    );
+    let is_due = is_report_due(&front.setup, &front.room, front.reported);
     push_reports(
-        &m.setup.links,
-        &m.room,
+        &front.setup.links,
+        &front.room,
         endpoints,
         is_due,
-        &mut m.tasks.follow_ups,
+        &mut front.tasks.follow_ups,
     );
-    m.reported = reported_after(is_due, m.room.moment(), m.reported);
+    front.reported = reported_after(is_due, front.room.moment(), front.reported);
     Ok(())
 }
 

@@ -8,7 +8,8 @@ ghost use Rattle.core_steps.specs.Run.{Leaves, Stays};
 ghost use Rattle.core_steps.specs.Turns.{IsDeskTold, Turns};
 
 use crate::asking::ask;
-use crate::machine::{Hand, Machine, Setup, Worker};
+use crate::front::Setup;
+use crate::machine::{Hand, Machine, Worker};
 use desk::{Call, Desk};
 use events::Out;
 use legs::Plan;
@@ -24,18 +25,18 @@ pub(crate) fn work(m: &mut Machine, worker: u16, outs: &mut Vec<Out>) -> Result<
     ensures err { OnErr result (Stays (state_of m.old) outs.old.items
         (state_of m.new) outs.new.items) }
 {
-    let _counts = (m.lost, m.tmmbns);
+    m.knows_counts();
     outs.reserve(1)?;
     let at = usize::from(worker);
     let workers = m.workers.as_mut_slice();
     if at < workers.len() {
         let (desks, rows) = (m.desks.as_mut_slice(), m.rows.as_slice());
         turn(
-            m.alloc,
-            &m.setup,
+            m.front.alloc,
+            &m.front.setup,
             desks,
             rows,
-            &mut m.plan,
+            &mut m.front.plan,
             &mut workers[at],
             outs,
         )

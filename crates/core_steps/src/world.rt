@@ -5,18 +5,17 @@ ghost use Rattle.routes.specs.Rows.{opening_rows};
 ghost use Rattle.desk.specs.declared.effect.Effect.{Effect as EffectValue};
 ghost use Rattle.settings.specs.declared.settings.TheConstants.{MAX_WORKERS};
 ghost use Rattle.settings.specs.Links.{table_of};
-ghost use Rattle.core_steps.specs.Machine.{state_of, setup_of, worker_state, hand_in};
+ghost use Rattle.core_steps.specs.Machine.{state_of, worker_state, hand_in};
 ghost use Rattle.core_steps.specs.Waits.{as_counted, hand_count};
-ghost use Rattle.core_steps.specs.Opening.{setup_by, IsNewDesk, IsNewWorker, AreNewWorkers, IsNewWorld};
+ghost use Rattle.core_steps.specs.Opening.{IsNewDesk, IsNewWorker, AreNewWorkers, IsNewWorld};
 
-use crate::machine::{Hand, Machine, Setup, Worker};
+use crate::front::Front;
+use crate::machine::{Hand, Machine, Worker};
 use crate::ring::JobRing;
-use crate::tasks::Tasks;
 use desk::{Desk, Effect};
 use events::Out;
-use legs::{Legs, Plan};
-use members::{Room, Row};
-use notices::Head;
+use legs::Legs;
+use members::Row;
 use settings::{Links, Settings};
 use std::alloc::{AllocError, Global};
 use std::marker::Model;
@@ -110,43 +109,23 @@ fn new_rows(alloc: Global, legs: usize) -> Result<Vec<Row>, AllocError>
     Ok(rows)
 }
 
-/// What the settings say once and for all.
-fn new_setup(alloc: Global, settings: &Settings) -> Result<Setup, AllocError>
-    ensures { IfOk result (λ setup. setup_of setup ≡ setup_by settings.now) }
-{
-    Ok(Setup {
-        links: Links::new(alloc, settings)?,
-        head: Head::new(alloc, settings.unit_ssrc(), settings.cname())?,
-        request_ms: settings.request_ms(),
-        report_ms: settings.report_ms(),
-        rules: settings.rules(),
-    })
-}
-
 /// The machine of these settings.
 fn new_machine(alloc: Global, settings: &Settings) -> Result<Machine, AllocError>
     ensures { IfOk result (λ m. IsNewWorld settings.now (state_of m)) }
 {
-    let setup = new_setup(alloc, settings)?;
-    let workers = new_workers(alloc, settings, &setup.links)?;
-    let rows = new_rows(alloc, setup.links.legs().len())?;
-    let room = Room::new(alloc, settings)?;
+    let front = Front::new(alloc, settings)?;
+    let links = &front.setup.links;
+    let workers = new_workers(alloc, settings, links)?;
+    let rows = new_rows(alloc, links.legs().len())?;
     let desks = new_desks(alloc, settings)?;
     Ok(Machine {
-        alloc,
-        setup,
-        room,
-        tasks: Tasks::new(alloc),
+        front,
         pending: None,
         effect: Effect::new(),
         desks,
         rows,
         workers,
-        reported: 0,
         lost: 0,
-        tmmbns: 0,
-        asks: Vec::new(alloc),
-        plan: Plan::new(alloc),
     })
 }
 
@@ -236,7 +215,7 @@ impl World {
     pub fn is_present(&self, endpoint: u16) -> bool
         ensures { result ≡ is_present_at self.now.room.endpoints endpoint }
     {
-        self.machine.room.is_present(endpoint)
+        self.machine.front.room.is_present(endpoint)
     }
 
     /// The stay that stands for this leg; `None` where none does.
@@ -244,7 +223,7 @@ impl World {
         ensures { MatchOption result ((leg_at self.now.room.legs leg).stay ≡ 0)
             (λ s. (s ≢ 0) × ((leg_at self.now.room.legs leg).stay ≡ s)) }
     {
-        standing(self.machine.room.stay(leg))
+        standing(self.machine.front.room.stay(leg))
     }
 
     /// The published rows, one for each leg.
@@ -259,7 +238,7 @@ impl World {
         ensures world { self.new ≡ self.old }
         ensures none { outs.new.items ≡ [] }
     {
-        self.machine.plan.take_back(outs);
+        self.machine.front.plan.take_back(outs);
     }
 
     /// What waits.
@@ -270,7 +249,7 @@ impl World {
         let workers = m.workers.as_slice();
         let pending = if m.pending.is_some() { 1 } else { 0 };
         Waiting {
-            tasks: m.tasks.count() + pending,
+            tasks: m.front.tasks.count() + pending,
             jobs: jobs_waiting(workers),
             hands: hands_full(workers),
         }
@@ -304,6 +283,6 @@ impl World {
     pub fn tmmbn_heard(&self) -> u64
         ensures { result ≡ self.now.tmmbns }
     {
-        self.machine.tmmbns
+        self.machine.front.tmmbns
     }
 }

@@ -6,34 +6,35 @@ use Rattle.members.specs.Calls.{Hear}
 use Rattle.members.specs.Room.{hear_step}
 use Rattle.events.specs.declared.output.Out.{Out}
 use Rattle.core_steps.specs.FollowUps.{follow_up_after, follow_up_for, refusal_unless}
-use Rattle.core_steps.specs.Machine.{setup_of, state_of}
+use Rattle.core_steps.specs.Machine.{setup_of, whole}
+use Rattle.core_steps.proofs.FrontLemmas.{not_busy}
 use Rattle.core_steps.proofs.HearingLeaves.{controls}
 use Rattle.core_steps.proofs.HearingLemmas.{few_given, tasks_from}
 use Rattle.core_steps.proofs.hearing.hear_control.Goals as goal
 
 pub returns-in-Ok-clause-ok : goal.returns-in-Ok-clause-ok
 returns-in-Ok-clause-ok c =
-    λ bytes reports is. controls (state_of c.args.m.now) c.args.moment c.args.endpoint bytes c.prepare.new.self.datagram
-    c.args.control.now.speaker.0 reports c.args.control.now.tmmbns c.args.m.now.asks.items c.as_slice-in-Ok.result.now c.args.outs.now.items
+    λ bytes reports rest idle is. controls (whole c.args.front.now rest) c.args.moment c.args.endpoint bytes c.prepare.new.self.datagram
+    c.args.control.now.speaker.0 reports c.args.control.now.tmmbns c.args.front.now.asks.items c.as_slice-in-Ok.result.now c.args.outs.now.items
     c.push_asks.new.outs.items c.prepare.new.self.orders.items c.hear.new.orders.items c.hear.new.self c.note_report.new.room
-    c.prepare.new.self.follow_ups.items c.push_after.new.follow_ups.items c.push_asks.new.follow_ups.items _ _ c.args.control.now.report c.requires
-    c.knows_counts.ensures.lost c.in-Ok.ensures.answers c.in_ok-prepare.ensures.orders is c.as_slice-in-Ok.ensures.value
+    c.prepare.new.self.follow_ups.items c.push_after.new.follow_ups.items c.push_asks.new.follow_ups.items _ _ c.args.control.now.report (not_busy c.args.front.now rest c.requires idle)
+    idle.1 c.in-Ok.ensures.answers c.in_ok-prepare.ensures.orders is c.as_slice-in-Ok.ensures.value
     c.in_ok-prepare.ensures.follow_ups
     (c.push_after.ensures.items
     ∙ ap (λ (os : List Order). c.prepare.new.self.follow_ups.items
-    ++ filter_map (follow_up_after (setup_of c.args.m.now.setup) c.hear.new.self) os) c.as_slice.ensures.value)
+    ++ filter_map (follow_up_after (setup_of c.args.front.now.setup) c.hear.new.self) os) c.as_slice.ensures.value)
     c.push_asks.ensures.follow_ups
-    (c.push_asks.ensures.outs ∙ ap (λ (l : List Out). l ++ flat_map (λ (a : Ask). refusal_unless (follow_up_for c.args.m.now.setup.links c.hear.new.self c.args.endpoint a)) c.as_slice-in-Ok.result.now) c.in_ok-reserve.ensures.items) c.note_report.ensures
+    (c.push_asks.ensures.outs ∙ ap (λ (l : List Out). l ++ flat_map (λ (a : Ask). refusal_unless (follow_up_for c.args.front.now.setup.links c.hear.new.self c.args.endpoint a)) c.as_slice-in-Ok.result.now) c.in_ok-reserve.ensures.items) c.note_report.ensures
     (tasks_from c.prepare.new.self.datagram c.hear.new.orders.items c.push_asks.new.follow_ups.items
     c.prepare.new.self.orders_done c.prepare.new.self.follow_ups_done c.in_ok-prepare.ensures.orders_done
     c.in_ok-prepare.ensures.follow_ups_done)
-    c.saturating_add-m.ensures
+    c.saturating_add-front.ensures
 
 pub push_after-requires : goal.push_after-requires
 push_after-requires c =
     let p = c.in_ok-prepare.ensures in
-    let few = few_given c.args.m.now.room c.prepare.new.self.orders.items
-    (hear_step c.args.m.now.room c.args.moment c.args.endpoint c.args.control.now.speaker.0) c.hear.new.self c.hear.new.orders.items
+    let few = few_given c.args.front.now.room c.prepare.new.self.orders.items
+    (hear_step c.args.front.now.room c.args.moment c.args.endpoint c.args.control.now.speaker.0) c.hear.new.self c.hear.new.orders.items
     c.most_orders.result c.in-Ok.ensures.answers p.orders
     (c.most_orders.ensures.most (Hear c.args.moment c.args.endpoint c.args.control.now.speaker.0)) in
     let slice = ap (λ (l : List Order). length l) c.as_slice.ensures.value in
@@ -42,8 +43,8 @@ push_after-requires c =
 pub push_asks-requires-clause-follow_ups : goal.push_asks-requires-clause-follow_ups
 push_asks-requires-clause-follow_ups c =
     let p = c.in_ok-prepare.ensures in
-    let few = few_given c.args.m.now.room c.prepare.new.self.orders.items
-    (hear_step c.args.m.now.room c.args.moment c.args.endpoint c.args.control.now.speaker.0) c.hear.new.self c.hear.new.orders.items
+    let few = few_given c.args.front.now.room c.prepare.new.self.orders.items
+    (hear_step c.args.front.now.room c.args.moment c.args.endpoint c.args.control.now.speaker.0) c.hear.new.self c.hear.new.orders.items
     c.most_orders.result c.in-Ok.ensures.answers p.orders
     (c.most_orders.ensures.most (Hear c.args.moment c.args.endpoint c.args.control.now.speaker.0)) in
     let slice = ap (λ (l : List Order). length l) c.as_slice.ensures.value in

@@ -7,7 +7,8 @@ use Rattle.members.specs.Calls.{Hear}
 use Rattle.members.specs.Room.{hear_step}
 use Rattle.core_steps.specs.declared.tasks.FollowUp.{FollowUp}
 use Rattle.core_steps.specs.FollowUps.{follow_up_after}
-use Rattle.core_steps.specs.Machine.{setup_of, state_of}
+use Rattle.core_steps.specs.Machine.{setup_of, whole}
+use Rattle.core_steps.proofs.FrontLemmas.{not_busy}
 use Rattle.core_steps.proofs.HearingLeaves.{medias}
 use Rattle.core_steps.proofs.HearingLemmas.{few_given, tasks_from}
 use Rattle.core_steps.proofs.hearing.hear_media.Goals as goal
@@ -16,16 +17,16 @@ pub returns-in-Ok-clause-ok : goal.returns-in-Ok-clause-ok
 returns-in-Ok-clause-ok c =
     let d = c.in_ok-copy_datagram.ensures in
     let p = c.in_ok-prepare.ensures in
-    medias (state_of c.args.m.now) c.args.moment c.args.endpoint c.args.bytes.now c.copy_datagram.new.self.datagram
+    λ rest idle. medias (whole c.args.front.now rest) c.args.moment c.args.endpoint c.args.bytes.now c.copy_datagram.new.self.datagram
     c.args.packet.0.0 c.args.packet.1 c.args.packet.2 c.workers-workers.result c.args.outs.now.items c.reserve.new.self.items c.copy_datagram.new.self.orders.items
     c.hear.new.orders.items c.hear.new.self c.received.new.self c.copy_datagram.new.self.follow_ups.items
-    c.push_after.new.follow_ups.items c.push_packet.new.follow_ups.items _ c.in_ok-reserve.ensures.items c.requires
-    c.knows_counts.ensures.lost c.knows_counts.ensures.tmmbns
+    c.push_after.new.follow_ups.items c.push_packet.new.follow_ups.items _ c.in_ok-reserve.ensures.items (not_busy c.args.front.now rest c.requires idle)
+    idle.1 c.knows_count.ensures
     c.in-Ok.ensures.answers (ap (λ (v : Vec Order). v.items) d.orders ∙ p.orders) d.datagram
     c.workers-workers.ensures.value (ap (λ (v : Vec FollowUp). v.items) d.follow_ups ∙ p.follow_ups)
     (c.push_after.ensures.items
     ∙ ap (λ (os : List Order). c.copy_datagram.new.self.follow_ups.items
-    ++ filter_map (follow_up_after (setup_of c.args.m.now.setup) c.hear.new.self) os) c.as_slice.ensures.value)
+    ++ filter_map (follow_up_after (setup_of c.args.front.now.setup) c.hear.new.self) os) c.as_slice.ensures.value)
     c.push_packet.ensures c.received.ensures
     (tasks_from c.copy_datagram.new.self.datagram c.hear.new.orders.items c.push_packet.new.follow_ups.items
     c.copy_datagram.new.self.orders_done c.copy_datagram.new.self.follow_ups_done (d.orders_done ∙ p.orders_done)
@@ -35,8 +36,8 @@ pub push_after-requires : goal.push_after-requires
 push_after-requires c =
     let d = c.in_ok-copy_datagram.ensures in
     let p = c.in_ok-prepare.ensures in
-    let few = few_given c.args.m.now.room c.copy_datagram.new.self.orders.items
-    (hear_step c.args.m.now.room c.args.moment c.args.endpoint c.args.packet.0.0) c.hear.new.self c.hear.new.orders.items c.most_orders.result
+    let few = few_given c.args.front.now.room c.copy_datagram.new.self.orders.items
+    (hear_step c.args.front.now.room c.args.moment c.args.endpoint c.args.packet.0.0) c.hear.new.self c.hear.new.orders.items c.most_orders.result
     c.in-Ok.ensures.answers (ap (λ (v : Vec Order). v.items) d.orders ∙ p.orders)
     (c.most_orders.ensures.most (Hear c.args.moment c.args.endpoint c.args.packet.0.0)) in
     let slice = ap (λ (l : List Order). length l) c.as_slice.ensures.value in
@@ -48,8 +49,8 @@ pub push_packet-requires : goal.push_packet-requires
 push_packet-requires c =
     let d = c.in_ok-copy_datagram.ensures in
     let p = c.in_ok-prepare.ensures in
-    let few = few_given c.args.m.now.room c.copy_datagram.new.self.orders.items
-    (hear_step c.args.m.now.room c.args.moment c.args.endpoint c.args.packet.0.0) c.hear.new.self c.hear.new.orders.items c.most_orders.result
+    let few = few_given c.args.front.now.room c.copy_datagram.new.self.orders.items
+    (hear_step c.args.front.now.room c.args.moment c.args.endpoint c.args.packet.0.0) c.hear.new.self c.hear.new.orders.items c.most_orders.result
     c.in-Ok.ensures.answers (ap (λ (v : Vec Order). v.items) d.orders ∙ p.orders)
     (c.most_orders.ensures.most (Hear c.args.moment c.args.endpoint c.args.packet.0.0)) in
     let slice = ap (λ (l : List Order). length l) c.as_slice.ensures.value in

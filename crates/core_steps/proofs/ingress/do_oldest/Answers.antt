@@ -19,8 +19,8 @@ returns-in-Some-clause-ok c =
     let w = state_of c.args.m.now in
     let new = state_of c.do_task.new.m in
     let all = c.do_task.new.outs.items in
-    let t = task_in c.args.m.now.tasks.datagram c.in-Some.next in
+    let t = task_in c.args.m.now.front.tasks.datagram c.in-Some.next in
     let P : List Out → Type 0 = λ os. OnOk c.do_task.result (Leaves (DoesTask w t) w os new all) in
-    on_ok c.do_task.result (Leaves (DoesTask w t) w c.args.outs.now.items new all) (Leaves (DoesNext w None (tasks_of c.args.m.now.tasks)) w c.args.outs.now.items new all)
-    (does_oldest w new t (tasks_of c.args.m.now.tasks) (drop 1 (tasks_of c.args.m.now.tasks)) c.args.outs.now.items all c.in-Some.ensures)
+    on_ok c.do_task.result (Leaves (DoesTask w t) w c.args.outs.now.items new all) (Leaves (DoesNext w None (tasks_of c.args.m.now.front.tasks)) w c.args.outs.now.items new all)
+    (does_oldest w new t (tasks_of c.args.m.now.front.tasks) (drop 1 (tasks_of c.args.m.now.front.tasks)) c.args.outs.now.items all c.in-Some.ensures)
     (subst P c.reserve.ensures.items c.do_task.ensures.ok)

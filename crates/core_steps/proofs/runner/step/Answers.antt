@@ -3,7 +3,7 @@ use Rattle.std.specs.Result.{OnOk}
 use Rattle.events.specs.declared.event.Event.TheVariants.{Hear, Tick, Select, Ingress, Work}
 use Rattle.core_steps.specs.Happening.{Happening}
 use Rattle.core_steps.specs.Hearing.{ticking, selecting}
-use Rattle.core_steps.specs.Machine.{state_of}
+use Rattle.core_steps.specs.Machine.{state_of, rest_of, whole}
 use Rattle.core_steps.specs.Rule.{Does}
 use Rattle.core_steps.specs.Run.{Leaves}
 use Rattle.core_steps.proofs.RunLemmas.{step-leaves, step-busy, step-idle}
@@ -40,25 +40,22 @@ pub returns-then-is_busy-clause-ok : goal.returns-then-is_busy-clause-ok
 returns-then-is_busy-clause-ok c =
     step-leaves (state_of c.args.m.now) c.args.event.now (Tick c.in-Tick.moment) c.args.outs.now.items (state_of c.args.m.now) c.busy.new.outs.items c.busy.result c.in-Tick.is
     (step-busy (state_of c.args.m.now) (λ (h : Happening). h ≡ ticking (state_of c.args.m.now) c.in-Tick.moment) c.args.outs.now.items (state_of c.args.m.now) c.busy.new.outs.items c.busy.result
-    (sym c.is_busy.ensures ∙ c.if-is_busy.true) c.busy.ensures.ok)
+    (sym c.is_busy.ensures.value ∙ c.if-is_busy.true) (c.busy.ensures.ok (rest_of c.args.m.now) c.knows_counts.ensures.lost))
 
 pub returns-else-is_busy-clause-ok : goal.returns-else-is_busy-clause-ok
 returns-else-is_busy-clause-ok c =
-    step-leaves (state_of c.args.m.now) c.args.event.now (Tick c.in-Tick.moment) c.args.outs.now.items (state_of c.tick.new.m) c.args.outs.now.items c.tick.result c.in-Tick.is
-    (step-idle (state_of c.args.m.now) (λ (h : Happening). h ≡ ticking (state_of c.args.m.now) c.in-Tick.moment) c.args.outs.now.items (state_of c.tick.new.m) c.args.outs.now.items c.tick.result
-    (sym c.is_busy.ensures ∙ c.if-is_busy.false) (c.tick.ensures.ok c.args.outs.now.items))
+    step-leaves (state_of c.args.m.now) c.args.event.now (Tick c.in-Tick.moment) c.args.outs.now.items (whole c.tick.new.front (rest_of c.args.m.now)) c.args.outs.now.items c.tick.result c.in-Tick.is
+    (step-idle (state_of c.args.m.now) (λ (h : Happening). h ≡ ticking (state_of c.args.m.now) c.in-Tick.moment) c.args.outs.now.items (whole c.tick.new.front (rest_of c.args.m.now)) c.args.outs.now.items c.tick.result
+    (sym c.is_busy.ensures.value ∙ c.if-is_busy.false) (c.tick.ensures.ok c.args.outs.now.items (rest_of c.args.m.now) (c.is_busy.ensures.rest c.if-is_busy.false)))
 
 pub returns-then-is_busy-2-clause-ok : goal.returns-then-is_busy-2-clause-ok
 returns-then-is_busy-2-clause-ok c =
     step-leaves (state_of c.args.m.now) c.args.event.now (Select c.in-Select.moment c.in-Select.leg c.in-Select.on) c.args.outs.now.items (state_of c.args.m.now) c.busy-then-is_busy-2.new.outs.items c.busy-then-is_busy-2.result c.in-Select.is
     (step-busy (state_of c.args.m.now) (λ (h : Happening). h ≡ selecting (state_of c.args.m.now) c.in-Select.moment c.in-Select.leg c.in-Select.on) c.args.outs.now.items (state_of c.args.m.now) c.busy-then-is_busy-2.new.outs.items c.busy-then-is_busy-2.result
-    (sym c.is_busy-in-Select.ensures ∙ c.if-is_busy-2.true) c.busy-then-is_busy-2.ensures.ok)
+    (sym c.is_busy-in-Select.ensures.value ∙ c.if-is_busy-2.true) (c.busy-then-is_busy-2.ensures.ok (rest_of c.args.m.now) c.knows_counts.ensures.lost))
 
 pub returns-else-is_busy-2-clause-ok : goal.returns-else-is_busy-2-clause-ok
 returns-else-is_busy-2-clause-ok c =
-    step-leaves (state_of c.args.m.now) c.args.event.now (Select c.in-Select.moment c.in-Select.leg c.in-Select.on) c.args.outs.now.items (state_of c.select.new.m) c.select.new.outs.items c.select.result c.in-Select.is
-    (step-idle (state_of c.args.m.now) (λ (h : Happening). h ≡ selecting (state_of c.args.m.now) c.in-Select.moment c.in-Select.leg c.in-Select.on) c.args.outs.now.items (state_of c.select.new.m) c.select.new.outs.items c.select.result
-    (sym c.is_busy-in-Select.ensures ∙ c.if-is_busy-2.false) c.select.ensures.ok)
-
-pub returns-else-is_busy-2-clause-err : goal.returns-else-is_busy-2-clause-err
-returns-else-is_busy-2-clause-err c = c.select.ensures.err
+    step-leaves (state_of c.args.m.now) c.args.event.now (Select c.in-Select.moment c.in-Select.leg c.in-Select.on) c.args.outs.now.items (whole c.select.new.front (rest_of c.args.m.now)) c.select.new.outs.items c.select.result c.in-Select.is
+    (step-idle (state_of c.args.m.now) (λ (h : Happening). h ≡ selecting (state_of c.args.m.now) c.in-Select.moment c.in-Select.leg c.in-Select.on) c.args.outs.now.items (whole c.select.new.front (rest_of c.args.m.now)) c.select.new.outs.items c.select.result
+    (sym c.is_busy-in-Select.ensures.value ∙ c.if-is_busy-2.false) (c.select.ensures.ok (rest_of c.args.m.now) (c.is_busy-in-Select.ensures.rest c.if-is_busy-2.false)))

@@ -8,23 +8,24 @@ use Rattle.settings.specs.declared.settings.LegSettings.{LegSettings}
 use Rattle.tmmbr_tuple.specs.declared.ssrc.Ssrc.{Ssrc}
 use Rattle.core_steps.specs.declared.tasks.FollowUp.{FollowUp}
 use Rattle.core_steps.specs.FollowUps.{follow_up_after}
-use Rattle.core_steps.specs.Machine.{setup_of, state_of}
+use Rattle.core_steps.specs.Machine.{setup_of, whole}
+use Rattle.core_steps.proofs.FrontLemmas.{not_busy}
 use Rattle.core_steps.proofs.HearingLeaves.{ticks_so}
 use Rattle.core_steps.proofs.HearingLemmas.{tasks_from}
 use Rattle.core_steps.proofs.ticking.tick.Goals as goal
 
 pub returns-clause-ok : goal.returns-clause-ok
 returns-clause-ok c =
-    λ outs. ticks_so (state_of c.args.m.now) c.args.moment outs c.tick.new.self c.prepare.new.self.orders.items c.tick.new.orders.items
+    λ outs rest idle. ticks_so (whole c.args.front.now rest) c.args.moment outs c.tick.new.self c.prepare.new.self.orders.items c.tick.new.orders.items
     (length c.endpoints.result.now) c.is_report_due-is_due.result c.push_after.new.follow_ups.items c.push_due.new.follow_ups.items
-    c.push_expiring.new.follow_ups.items c.push_reports.new.follow_ups.items c.prepare.new.self.datagram _ _ c.requires
-    c.knows_counts.ensures.lost c.knows_counts.ensures.tmmbns c.in_ok-prepare.ensures.orders c.in_ok-tick.ensures.ok.0
+    c.push_expiring.new.follow_ups.items c.push_reports.new.follow_ups.items c.prepare.new.self.datagram _ _ (not_busy c.args.front.now rest c.requires idle)
+    idle.1 c.knows_count.ensures c.in_ok-prepare.ensures.orders c.in_ok-tick.ensures.ok.0
     c.in_ok-tick.ensures.ok.1
     (record {
       first = c.push_after.ensures.items
-          ∙ ap (λ (l : List FollowUp). l ++ filter_map (follow_up_after (setup_of c.args.m.now.setup) c.tick.new.self) c.as_slice.result.now)
+          ∙ ap (λ (l : List FollowUp). l ++ filter_map (follow_up_after (setup_of c.args.front.now.setup) c.tick.new.self) c.as_slice.result.now)
           c.in_ok-prepare.ensures.follow_ups
-          ∙ ap (λ (os : List Order). filter_map (follow_up_after (setup_of c.args.m.now.setup) c.tick.new.self) os) c.as_slice.ensures.value;
+          ∙ ap (λ (os : List Order). filter_map (follow_up_after (setup_of c.args.front.now.setup) c.tick.new.self) os) c.as_slice.ensures.value;
       count = ap (λ (l : List Ssrc). length l) c.endpoints.ensures.value;
       says_due = c.is_report_due-is_due.ensures;
       pulses = c.push_due.ensures.items;
@@ -34,12 +35,12 @@ returns-clause-ok c =
     (tasks_from c.prepare.new.self.datagram c.tick.new.orders.items c.push_reports.new.follow_ups.items
     c.prepare.new.self.orders_done c.prepare.new.self.follow_ups_done c.in_ok-prepare.ensures.orders_done
     c.in_ok-prepare.ensures.follow_ups_done)
-    (c.reported_after-m.ensures ∙ ap (λ (n : ℕ). if c.is_report_due-is_due.result then n else c.args.m.now.reported) c.moment.ensures)
+    (c.reported_after-front.ensures ∙ ap (λ (n : ℕ). if c.is_report_due-is_due.result then n else c.args.front.now.reported) c.moment.ensures)
 
 pub push_after-requires : goal.push_after-requires
 push_after-requires c =
     let p = c.in_ok-prepare.ensures in
-    let step = tick_step c.args.m.now.room c.args.moment in
+    let step = tick_step c.args.front.now.room c.args.moment in
     let orders : c.tick.new.orders.items ≡ step.orders =
     c.in_ok-tick.ensures.ok.1 ∙ ap (λ (l : List Order). l ++ step.orders) p.orders in
     let few : length c.as_slice.result.now ≤ c.most_orders.result =
@@ -50,7 +51,7 @@ push_after-requires c =
 pub push_due-requires : goal.push_due-requires
 push_due-requires c =
     let p = c.in_ok-prepare.ensures in
-    let step = tick_step c.args.m.now.room c.args.moment in
+    let step = tick_step c.args.front.now.room c.args.moment in
     let orders : c.tick.new.orders.items ≡ step.orders =
     c.in_ok-tick.ensures.ok.1 ∙ ap (λ (l : List Order). l ++ step.orders) p.orders in
     let few : length c.as_slice.result.now ≤ c.most_orders.result =
@@ -62,7 +63,7 @@ push_due-requires c =
 pub push_expiring-requires : goal.push_expiring-requires
 push_expiring-requires c =
     let p = c.in_ok-prepare.ensures in
-    let step = tick_step c.args.m.now.room c.args.moment in
+    let step = tick_step c.args.front.now.room c.args.moment in
     let orders : c.tick.new.orders.items ≡ step.orders =
     c.in_ok-tick.ensures.ok.1 ∙ ap (λ (l : List Order). l ++ step.orders) p.orders in
     let few : length c.as_slice.result.now ≤ c.most_orders.result =
@@ -75,7 +76,7 @@ push_expiring-requires c =
 pub push_reports-requires : goal.push_reports-requires
 push_reports-requires c =
     let p = c.in_ok-prepare.ensures in
-    let step = tick_step c.args.m.now.room c.args.moment in
+    let step = tick_step c.args.front.now.room c.args.moment in
     let orders : c.tick.new.orders.items ≡ step.orders =
     c.in_ok-tick.ensures.ok.1 ∙ ap (λ (l : List Order). l ++ step.orders) p.orders in
     let few : length c.as_slice.result.now ≤ c.most_orders.result =

@@ -1,4 +1,4 @@
-use Rattle.std.proofs.Common.{◌≡◌, ◌<◌, ◌^◌, List, [], ◌∷◌, ◌++◌, get_or, length, set, map, arith, ap, ◌∙◌}
+use Rattle.std.proofs.Common.{◌≡◌, List, [], ◌∷◌, ◌++◌, get_or, length, set, map, ap, ◌∙◌}
 use Rattle.std.proofs.lemmas.List.{with_items_is, length-set}
 use Rattle.std.specs.Vec.{with_items}
 use Rattle.events.specs.declared.output.Out.{Out}
@@ -10,8 +10,6 @@ use Rattle.core_steps.proofs.working.work.Goals as goal
 pub returns-then-at-workers-clause-ok : goal.returns-then-at-workers-clause-ok
 returns-then-at-workers-clause-ok c =
     let m = c.args.m.now in
-    let lost : c.args.m.now.lost < 2 ^ 64 = omega arith in
-    let tmmbns : c.args.m.now.tmmbns < 2 ^ 64 = omega arith in
     let slice = c.as_mut_slice-workers.result.now in
     let got = set slice c.from-at.result c.turn.new.w in
     let size : length got ≡ c.args.m.now.workers.len = length-set slice c.from-at.result c.turn.new.w ∙ c.as_mut_slice-workers.ensures.len in
@@ -22,7 +20,7 @@ returns-then-at-workers-clause-ok c =
     c.from-at.ensures
     (worker-there m.workers.items slice c.from-at.result c.index-workers-at.result c.as_mut_slice-workers.ensures.value
     c.if-at-workers.true)
-    lost tmmbns c.as_slice-rows.ensures.value c.as_mut_slice-desks.ensures.value c.reserve.ensures.items
+    c.knows_counts.ensures.lost c.knows_counts.ensures.tmmbns c.as_slice-rows.ensures.value c.as_mut_slice-desks.ensures.value c.reserve.ensures.items
     (with_items_is m.desks c.turn.new.desks desks)
     (worker-set m.workers.items slice (with_items m.workers got).items c.from-at.result c.turn.new.w c.as_mut_slice-workers.ensures.value
     (with_items_is m.workers got size))
@@ -49,12 +47,10 @@ returns-then-at-workers-clause-err c =
 pub returns-else-at-workers-clause-ok : goal.returns-else-at-workers-clause-ok
 returns-else-at-workers-clause-ok c =
     let m = c.args.m.now in
-    let lost : c.args.m.now.lost < 2 ^ 64 = omega arith in
-    let tmmbns : c.args.m.now.tmmbns < 2 ^ 64 = omega arith in
     let slice = c.as_mut_slice-workers.result.now in
     work-idle (state_of m) c.args.worker c.from-at.result (map worker_state (with_items m.workers slice).items) c.args.outs.now.items
     c.push_reserved.new.self.items c.from-at.ensures
     (worker-nowhere m.workers.items slice c.from-at.result c.as_mut_slice-workers.ensures.value c.if-at-workers.false)
-    lost tmmbns
+    c.knows_counts.ensures.lost c.knows_counts.ensures.tmmbns
     (ap (map worker_state) (with_items_is m.workers slice c.as_mut_slice-workers.ensures.len ∙ c.as_mut_slice-workers.ensures.value))
     (c.push_reserved.ensures.items ∙ ap (λ (l : List Out). l ++ Idle ∷ []) c.reserve.ensures.items)
