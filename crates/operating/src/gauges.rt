@@ -45,7 +45,7 @@ pub struct Gauges {
 }
 
 impl Gauges {
-    ghost use Rattle.std.specs.Prelude.{◌≡◌, None, IsSome};
+    ghost use Rattle.std.specs.Prelude.{◌≡◌, None, IsSome, is_some};
 
     /// Those of a run that begins.
     pub fn new() -> Gauges
@@ -113,6 +113,13 @@ impl Gauges {
             Some(recorder) => recorder.is_on(),
             None => false,
         }
+    }
+
+    /// Whether anybody may steer the run.
+    pub fn is_steered(&self) -> bool
+        ensures { result ≡ is_some self.now.steering }
+    {
+        self.steering.is_some()
     }
 
     /// Who steers the run.

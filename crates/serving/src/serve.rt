@@ -156,7 +156,7 @@ fn serving_text(
 }
 
 /// Serves the endpoints on sockets that are bound, and says on the error output why that failed where it did. What the system drops at
-/// the sockets is looked at meanwhile.
+/// the sockets is looked at meanwhile, if anybody is told of it: the thread that looks makes each system call of the others dearer.
 fn serve_bound<
     R: AllocGlobal + ErrorOutput + Files<File = File> + Net + Threads + Wait + Sync + time::Clock,
     O: Write,
@@ -174,7 +174,11 @@ fn serve_bound<
         (O.contents writer.new) result }
     ensures said { SaysWhy (E.contents errors.old) (E.contents errors.new) result }
 {
-    let drops = watch_drops(rt, sockets, gauges);
+    let drops = if term.status.is_some() || gauges.is_steered() {
+        watch_drops(rt, sockets, gauges)
+    } else {
+        None
+    };
     let status = serve_lined(rt, sockets, file, term, gauges, writer, errors);
     if let Some(drops) = drops {
         drops.finish(rt);
