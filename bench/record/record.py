@@ -8,6 +8,7 @@ with gaps and late ones, reports, feedback, goodbyes and rubbish, and a selectio
 one with two, then to one that is killed in the middle; then a record begins and ends by the control in the middle of a run. Each line says
 what was compared, and `ok` or what came instead; the status is 0 if all is ok.
 """
+import hashlib
 import os
 import random
 import re
@@ -374,6 +375,9 @@ def by_control(program, folder, workers, seed):
     head = [line.split() for line in lines[:4]]
     is_head = [words[:2] for words in head[:2]] == [["#", "sfu"], ["#", "settings"]] and head[3][:3] == ["#", "begins", "in"]
     say(f"{name}: its head says that it begins in the middle", is_head, str(lines[:4]))
+    with open(unit.file, "rb") as settings:
+        digest = hashlib.sha256(settings.read()).hexdigest()
+    say(f"{name}: its head names the settings", head[1][2:] == [digest], str(lines[1]))
     moment = head[3][-1]
     wanted = [line for leg in off for line in (f"select {moment} {leg} off", "follow")]
     say(f"{name}: the {len(off)} legs that were off are so from its start", lines[4:4 + len(wanted)] == wanted, str(lines[4:12]))
