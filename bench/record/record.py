@@ -345,8 +345,10 @@ def by_control(program, folder, workers, seed):
         off = [words[0] for words in legs if words[5] == "off"]
         say(f"{name}: there is no record to end", (asked("record", "off").returncode, asked("record", "off").stderr) == (4, "unrecorded\n"))
         recording = subprocess.Popen([program, "ask", unit.control, "record", unit.record])
-        while asked("record").stderr != "recorded\n":
+        # (whoever asks before this one is answered would be the one who gets the record)
+        while not os.path.exists(unit.record):
             time.sleep(0.05)
+        say(f"{name}: one record at a time", asked("record").stderr == "recorded\n")
         sent = {}
         for client in clients:
             client.socket = Noting(client.socket, sent.setdefault(client.number, []))
