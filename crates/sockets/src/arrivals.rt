@@ -1,6 +1,8 @@
 //! What came to the unit's sockets: who sent it, and what of it is heard by itself.
 
-ghost use Rattle.std.specs.Prelude.{◌≡◌, ◌≤◌, [], None, length, IfOk, IfSome};
+ghost use Rattle.std.specs.Prelude.{◌≡◌, ◌≤◌, [], None, Some, length, take, IfOk, IfSome};
+ghost use Rattle.senders.specs.Naming.{source_named};
+ghost use Rattle.senders.specs.Senders.{sender_of};
 ghost use Rattle.sockets.specs.Arrivals.{first_floods, first_learners, first_listeners, first_senders};
 
 use addressing::{
@@ -10,8 +12,8 @@ use operating::Gauges;
 use outside::MAX_DATAGRAM;
 use screening::Floods;
 use senders::{
-    Arrived, Kind, Learners, Listeners, Seat, Senders, empty_report, is_control, says_goodbye,
-    source_named,
+    Arrived, Kind, Learners, Listeners, Origin, Seat, Senders, empty_report, is_control,
+    says_goodbye, source_named,
 };
 use settings::Settings;
 use std::alloc::{AllocError, Global};
@@ -109,7 +111,10 @@ impl<'a> Arrivals<'a> {
     /// both are counted.
     pub fn heard(&mut self, from: SocketAddr, size: usize, out: &[u8]) -> Option<(u16, usize)>
         requires { size ≤ length out.now }
-        ensures { IfSome result (λ heard. heard.1 ≤ length out.now) }
+        ensures within { IfSome result (λ heard. heard.1 ≤ length out.now) }
+        ensures sender { IfSome result (λ heard. sender_of ⟦<Origin as PartialEq>⟧.eq
+            ⟦<SocketAddr as PartialEq>⟧.eq self.new.senders from
+            (source_named (take size out.now)) ≡ Some heard.0) }
     {
         let datagram = &out[..size];
         self.learn(from, datagram);
@@ -126,7 +131,9 @@ impl<'a> Arrivals<'a> {
     }
 
     /// Whether a datagram of this endpoint, or of a stranger, is looked at; if not, it is counted.
-    fn admits(&mut self, endpoint: Option<u16>) -> bool {
+    fn admits(&mut self, endpoint: Option<u16>) -> bool
+        ensures { self.new.senders ≡ self.old.senders }
+    {
         let Some(endpoint) = endpoint else {
             return true;
         };
@@ -184,7 +191,9 @@ impl<'a> Arrivals<'a> {
     }
 
     /// Keeps the rest of a datagram.
-    fn keep(&mut self, from: SocketAddr, bytes: &[u8]) {
+    fn keep(&mut self, from: SocketAddr, bytes: &[u8])
+        ensures { self.new.senders ≡ self.old.senders }
+    {
         self.rest.bytes.clear();
         self.rest.heard = 0;
         self.rest.from = Some(from);
@@ -226,7 +235,9 @@ impl<'a> Arrivals<'a> {
     }
 
     /// The endpoint; a stranger, who came from this address, is counted.
-    fn endpoint_or_stranger(&self, from: SocketAddr, endpoint: Option<u16>) -> Option<u16> {
+    fn endpoint_or_stranger(&self, from: SocketAddr, endpoint: Option<u16>) -> Option<u16>
+        ensures { result ≡ endpoint }
+    {
         if endpoint.is_none() {
             self.gauges.count_stranger(from);
         }
@@ -234,7 +245,9 @@ impl<'a> Arrivals<'a> {
     }
 
     /// Counts what came from the endpoint, and notes that it was heard if it only listens or its address is learned.
-    fn note(&mut self, endpoint: u16, datagram: &[u8]) {
+    fn note(&mut self, endpoint: u16, datagram: &[u8])
+        ensures { self.new.senders ≡ self.old.senders }
+    {
         self.traffic
             .heard(endpoint, datagram, self.gauges.moment_ms.get());
         let number = usize::from(endpoint);
