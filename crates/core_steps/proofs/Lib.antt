@@ -25,7 +25,7 @@ pub mod QuietQueueLemmas
 pub mod QuietKeptLemmas
 pub mod QuietTakenLemmas
 pub mod QuietTaskLemmas
-pub mod QuietTurnLemmas
+pub mod QuietWorkLemmas
 pub mod QuietStepLemmas
 pub mod QuietLemmas
 pub mod OverRunsLemmas

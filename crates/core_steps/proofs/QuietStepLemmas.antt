@@ -44,7 +44,7 @@ use Rattle.core_steps.proofs.QuietQueueLemmas.{hand_asks, jobs_asks, job_asks, t
 use Rattle.core_steps.proofs.QuietKeptLemmas.{IsPlaced, IsPlacedHand, IsPlacedWorker, stay_at, IsKept, desk_there, IsLegCall, IfLegCall, leg_call}
 use Rattle.core_steps.proofs.QuietTakenLemmas.{IsFollowUp, follow-append, silent-after, silent-append, silent-moment, datagram_follows, received-like, kept-like, low_then, kept_taken}
 use Rattle.core_steps.proofs.QuietTaskLemmas.{kept_pop, kept_told, kept_arrived, kept_departed, kept_unput, kept_put}
-use Rattle.core_steps.proofs.QuietTurnLemmas.{kept_turned, kept_turned_told, kept_requested, kept_unasked}
+use Rattle.core_steps.proofs.QuietWorkLemmas.{kept_worked, kept_worked_told, kept_requested, kept_unasked}
 
 abbrev pub KeptIn : Configuration → WorldState → List HeardRate → List RecordedCall → Type 0
 KeptIn c w rates asked = IsKept c w.room.endpoints w.room.legs w.room.next w.tasks w.desks w.workers rates asked
@@ -342,7 +342,7 @@ module _ (c : Configuration) (range : IsInRange c) (w : WorldState) (setup : w.s
         → at.worker ≡ k → worker_after s at ≡ record s { jobs = s.jobs ++ []; hand = free; legs = at.legs }
         → IsKept c w.room.endpoints w.room.legs w.room.next w.tasks w.desks (workers_by w.workers at) rates asked
     freed before at held none here same is =
-        kept_turned c range w.room.endpoints w.room.legs w.room.next rates at s w.tasks w.desks w.workers asked here
+        kept_worked c range w.room.endpoints w.room.legs w.room.next rates at s w.tasks w.desks w.workers asked here
         (subst (λ (x : WorkerState). IsPlacedWorker c at.worker x) (sym is)
         (subst (λ (j : ℕ). IsPlacedWorker c j (record s { jobs = s.jobs ++ []; hand = free; legs = at.legs })) (sym same)
         (record { jobs = placed_then free tt (s.jobs ++ []) (append-nil s.jobs); hand = tt })))
@@ -392,7 +392,7 @@ module _ (c : Configuration) (range : IsInRange c) (w : WorldState) (setup : w.s
         reply d at None over u g = absurd (some_none l.publisher [] u)
         reply d at (Some a) recorded u g =
             same_tasks (desks_by w.desks a) _ (asked ++ a ∷ [])
-            (kept_turned_told c range w.room.endpoints w.room.legs w.room.next rates w.desks asked l.publisher d (Time moment signal.Pli) a at recorded tt
+            (kept_worked_told c range w.room.endpoints w.room.legs w.room.next rates w.desks asked l.publisher d (Time moment signal.Pli) a at recorded tt
             (λ x. inr (subst (λ (y : DeskCall). NotBy (asker c x) y) (sym recorded.names) tt))
             (with_hand k s (Pli m moment ∷ []) (hand_of (pending_of None a))) s w.tasks w.workers there
             (record { jobs = placed_then free tt (s.jobs ++ []) (append-nil s.jobs); hand = hand_placed (pending_of None a) })
@@ -418,7 +418,7 @@ module _ (c : Configuration) (range : IsInRange c) (w : WorldState) (setup : w.s
     takes : (job : Job) (jobs : List Job) → s.hand ≡ free → s.jobs ≡ job ∷ jobs → Keeps [] (working w (taking k s job) [])
     takes job jobs held e u g =
         same_tasks w.desks _ (asked ++ []) (unasked w.tasks w.desks _
-        (kept_turned c range w.room.endpoints w.room.legs w.room.next rates (taking k s job) s w.tasks w.desks w.workers asked there
+        (kept_worked c range w.room.endpoints w.room.legs w.room.next rates (taking k s job) s w.tasks w.desks w.workers asked there
         (record { jobs = subst (λ (js : List Job). AllByRecursion (IsPlaced c k) js) (sym rest) parts.1; hand = parts.0 })
         (λ n stay done x. subst (λ (js : List Job). IsWaiting n w.room.next (stay_at w.room.legs n) w.tasks (job_asks n job) (jobs_asks n js) rates stay done) (sym rest)
         (waiting_taken n (hand_asks n s.hand) (jobs_asks n s.jobs) rates stay done w.room.next (stay_at w.room.legs n) w.tasks (job_asks n job) (jobs_asks n jobs)

@@ -1,4 +1,4 @@
--- What a worker's turn leaves, leaf by leaf.
+-- What a worker's step leaves, leaf by leaf.
 use Rattle.std.proofs.Common.{◌≡◌, ℕ, ◌^◌, ◌<◌, ◌≤◌, List, [], ◌∷◌, ◌++◌, length, get_or, set, map, refl, sym, ap, subst, ◌∙◌}
 use Rattle.std.proofs.lemmas.List.{append-nil, map-set, set-get_or}
 use Rattle.std.proofs.lemmas.Option.{get_or_from_slice_get, slice_get-get_or, slice_get-map, slice_get_past}
@@ -23,11 +23,11 @@ use Rattle.core_steps.specs.Machine.{worker_state}
 use Rattle.notices.specs.Notification.{notification_datagrams, Pending}
 use Rattle.core_steps.specs.Rule.{WorksOn, Works, DoesJob, JobAsks, WorkerAsks, Replies, pending_datagrams, working, with_hand, taking, hand_of, forwarding, worker_asked}
 use Rattle.core_steps.specs.Run.{Leaves, Stays}
-use Rattle.core_steps.specs.Turns.{with_new_hand, IsDeskTold, world_with, world_after_turn, Turns}
+use Rattle.core_steps.specs.WorkerSteps.{with_new_hand, IsDeskTold, world_with, world_after_step, StepsWorker}
 use Rattle.core_steps.specs.World.{Setup, Hand, free, doing, telling, WorkerState, WorldState}
 use Rattle.core_steps.proofs.RunLemmas.{settled, settled-same, giving-leads}
 
--- ---- the world behind a turn
+-- ---- the world behind a step
 
 abbrev working_in : WorldState → Worked → List DeskState → WorldState
 working_in v d later = record v { desks = later; workers = workers_by v.workers d }
@@ -35,27 +35,27 @@ working_in v d later = record v { desks = later; workers = workers_by v.workers 
 -- the worker's parts are those after what was done at it
 pub turned-leads : (v : WorldState) (s : WorkerState) (d : Worked) (later : List DeskState) (next : WorkerState)
     → slice_get v.workers d.worker ≡ Some s → v.lost < 2 ^ 64 → v.tmmbns < 2 ^ 64 → next ≡ worker_after s d
-    → world_after_turn v d.worker later next ≡ settled (working_in v d later)
+    → world_after_step v d.worker later next ≡ settled (working_in v d later)
 turned-leads v s d later next there lost tmmbns e =
     let at : slice_index_or v.workers d.worker no_worker ≡ s = get_or_from_slice_get v.workers d.worker s no_worker there in
     let is : next ≡ worker_after (slice_index_or v.workers d.worker no_worker) d = e ∙ sym (ap (λ (t : WorkerState). worker_after t d) at) in
-    ap (λ (t : WorkerState). world_after_turn v d.worker later t) is ∙ sym (settled-same (working_in v d later) lost tmmbns)
+    ap (λ (t : WorkerState). world_after_step v d.worker later t) is ∙ sym (settled-same (working_in v d later) lost tmmbns)
 
 -- nothing was done at the worker
 pub turned-same : (v : WorldState) (k : ℕ) (s next : WorkerState) → slice_get v.workers k ≡ Some s → next ≡ s
-    → world_after_turn v k v.desks next ≡ v
+    → world_after_step v k v.desks next ≡ v
 turned-same v k s next there e =
     let at : slice_index_or v.workers k no_worker ≡ s = get_or_from_slice_get v.workers k s no_worker there in
     let is : next ≡ slice_index_or v.workers k no_worker = e ∙ sym at in
     let same : slice_set v.workers k (slice_index_or v.workers k no_worker) ≡ v.workers = set-get_or v.workers k no_worker in
-    ap (λ (t : WorkerState). world_after_turn v k v.desks t) is
+    ap (λ (t : WorkerState). world_after_step v k v.desks t) is
     ∙ ap (λ (workers : List WorkerState). record v { workers = workers }) same
 
 -- ---- nothing in hand
 
-pub idle-turns : (setup : Setup) (rows : List Row) (desks : List DeskState) (s next : WorkerState) (outs all : List Out)
-    → s.hand ≡ free → s.jobs ≡ [] → next ≡ s → all ≡ outs ++ Idle ∷ [] → Turns setup rows desks desks s next outs all
-idle-turns setup rows desks s next outs all empty none same e w k there lost tmmbns =
+pub idle-steps : (setup : Setup) (rows : List Row) (desks : List DeskState) (s next : WorkerState) (outs all : List Out)
+    → s.hand ≡ free → s.jobs ≡ [] → next ≡ s → all ≡ outs ++ Idle ∷ [] → StepsWorker setup rows desks desks s next outs all
+idle-steps setup rows desks s next outs all empty none same e w k there lost tmmbns =
     let v : WorldState = world_with w setup rows desks in
     record {
       happening = giving v (Idle ∷ []);
@@ -68,10 +68,10 @@ idle-turns setup rows desks s next outs all empty none same e w k there lost tmm
 abbrev with_jobs : WorkerState → List Job → Hand → WorkerState
 with_jobs s jobs hand = record { jobs = jobs; hand = hand; legs = s.legs }
 
-pub taking-turns : (setup : Setup) (rows : List Row) (desks : List DeskState) (s next : WorkerState) (outs all : List Out) (job : Job)
+pub taking-steps : (setup : Setup) (rows : List Row) (desks : List DeskState) (s next : WorkerState) (outs all : List Out) (job : Job)
     (jobs : List Job) → s.hand ≡ free → s.jobs ≡ job ∷ jobs → next ≡ record { jobs = jobs; hand = doing job; legs = s.legs }
-    → all ≡ outs → Turns setup rows desks desks s next outs all
-taking-turns setup rows desks s next outs all job jobs empty some is e w k there lost tmmbns =
+    → all ≡ outs → StepsWorker setup rows desks desks s next outs all
+taking-steps setup rows desks s next outs all job jobs empty some is e w k there lost tmmbns =
     let v : WorldState = world_with w setup rows desks in
     let left : jobs ≡ drop 1 s.jobs ++ [] = sym (append-nil (drop 1 s.jobs) ∙ ap (λ (l : List Job). drop 1 l) some) in
     record {
@@ -92,11 +92,11 @@ with_rest s jobs hand = record s { jobs = jobs; hand = hand }
 hand-after : (s next : WorkerState) (hand : Hand) → next ≡ with_new_hand s hand → next ≡ with_rest s (s.jobs ++ []) hand
 hand-after s next hand is = is ∙ ap (λ (l : List Job). with_rest s l hand) (sym (append-nil s.jobs))
 
-pub telling-turns : (setup : Setup) (rows : List Row) (desks : List DeskState) (s next : WorkerState) (outs all : List Out) (p : Pending)
+pub telling-steps : (setup : Setup) (rows : List Row) (desks : List DeskState) (s next : WorkerState) (outs all : List Out) (p : Pending)
     → s.hand ≡ telling p → next ≡ with_new_hand s free
     → all ≡ outs ++ notification_datagrams setup.table setup.unit rows p.notification p.effect
-    → Turns setup rows desks desks s next outs all
-telling-turns setup rows desks s next outs all p full is e w k there lost tmmbns =
+    → StepsWorker setup rows desks desks s next outs all
+telling-steps setup rows desks s next outs all p full is e w k there lost tmmbns =
     let v : WorldState = world_with w setup rows desks in
     let h : Happening = working v (with_hand k s [] free) (pending_datagrams v p) in
     record {
@@ -131,11 +131,11 @@ does-job v k s (Request leg stay word) h asks is does =
     (is.0, is.1, job-asks v k s (Request leg stay word) h (Some leg) (stay_call v.setup.table leg stay (change.Request is.0)) (subst (AsksBy v k s (Request leg stay word) h) is.2 does))
 does-job v k s (Pli leg moment) h asks is does = job-asks v k s (Pli leg moment) h None (picture_call v.setup.table leg moment) (subst (AsksBy v k s (Pli leg moment) h) is does)
 
-pub nobody-turns : (setup : Setup) (rows : List Row) (desks : List DeskState) (s next : WorkerState) (outs all : List Out) (job : Job)
+pub nobody-steps : (setup : Setup) (rows : List Row) (desks : List DeskState) (s next : WorkerState) (outs all : List Out) (job : Job)
     → s.hand ≡ doing job → AsksOf setup.table job Nobody → next ≡ with_new_hand s free → all ≡ outs
-    → Turns setup rows desks desks s next outs all
+    → StepsWorker setup rows desks desks s next outs all
 unfolding AsksBy
-nobody-turns setup rows desks s next outs all job full asks is e w k there lost tmmbns =
+nobody-steps setup rows desks s next outs all job full asks is e w k there lost tmmbns =
     let v : WorldState = world_with w setup rows desks in
     let h : Happening = working v (with_hand k s (job ∷ []) free) [] in
     record {
@@ -148,11 +148,11 @@ nobody-turns setup rows desks s next outs all job full asks is e w k there lost 
 abbrev with_legs : WorkerState → List Job → Job → List Row → WorkerState
 with_legs s jobs job rows = record { jobs = jobs; hand = free; legs = legs_after rows s.legs job }
 
-pub forwarding-turns : (setup : Setup) (rows : List Row) (desks : List DeskState) (s next : WorkerState) (outs all : List Out) (job : Job)
+pub forwarding-steps : (setup : Setup) (rows : List Row) (desks : List DeskState) (s next : WorkerState) (outs all : List Out) (job : Job)
     → s.hand ≡ doing job → AsksOf setup.table job Legs → next ≡ record { jobs = s.jobs; hand = free; legs = legs_after rows s.legs job }
-    → all ≡ outs ++ job_datagrams rows s.legs job → Turns setup rows desks desks s next outs all
+    → all ≡ outs ++ job_datagrams rows s.legs job → StepsWorker setup rows desks desks s next outs all
 unfolding AsksBy
-forwarding-turns setup rows desks s next outs all job full asks is e w k there lost tmmbns =
+forwarding-steps setup rows desks s next outs all job full asks is e w k there lost tmmbns =
     let v : WorldState = world_with w setup rows desks in
     let d : Worked = record { worker = k; taken = []; put = []; finished = job ∷ []; hand = free; legs = legs_after rows s.legs job } in
     record {
@@ -165,56 +165,56 @@ forwarding-turns setup rows desks s next outs all job full asks is e w k there l
     }
 
 -- the reply of a desk
-replied-turns : (v : WorldState) (k : ℕ) (s next : WorkerState) (outs all : List Out) (job : Job) (p : ℕ) (leg : Option ℕ)
+replied-steps : (v : WorldState) (k : ℕ) (s next : WorkerState) (outs all : List Out) (job : Job) (p : ℕ) (leg : Option ℕ)
     (call : DeskCall) (d : DeskState) (later : List DeskState) (pending : Option Pending) (reply : Option RecordedCall)
     → slice_get v.workers k ≡ Some s → v.lost < 2 ^ 64 → v.tmmbns < 2 ^ 64
     → Replies p d call reply → later ≡ desks_after v.desks reply → pending ≡ pending_after leg reply
     → all ≡ outs ++ refusals_after reply → next ≡ with_new_hand s (hand_of pending)
     → Leaves (λ h. (r : Option RecordedCall) × Replies p d call r × (h ≡ worker_asked v k s job leg p r)) v outs
-    (world_after_turn v k later next) all
-replied-turns v k s next outs all job p leg call d later pending None there lost tmmbns replies becomes waits given is = record {
+    (world_after_step v k later next) all
+replied-steps v k s next outs all job p leg call d later pending None there lost tmmbns replies becomes waits given is = record {
   happening = worker_asked v k s job leg p None;
   allowed = (None, replies, refl);
-  leads = ap (λ (l : List DeskState). world_after_turn v k l next) becomes
+  leads = ap (λ (l : List DeskState). world_after_step v k l next) becomes
       ∙ turned-leads v s (with_hand k s (job ∷ []) free) v.desks next there lost tmmbns
       (hand-after s next free (is ∙ ap (λ (q : Option Pending). with_new_hand s (hand_of q)) waits));
   given = given;
 }
-replied-turns v k s next outs all job p leg call d later pending (Some a) there lost tmmbns replies becomes waits given is = record {
+replied-steps v k s next outs all job p leg call d later pending (Some a) there lost tmmbns replies becomes waits given is = record {
   happening = worker_asked v k s job leg p (Some a);
   allowed = (Some a, replies, refl);
-  leads = ap (λ (l : List DeskState). world_after_turn v k l next) becomes
+  leads = ap (λ (l : List DeskState). world_after_step v k l next) becomes
       ∙ turned-leads v s (with_hand k s (job ∷ []) (hand_of (pending_after leg (Some a)))) (desks_by v.desks a) next there lost tmmbns
       (hand-after s next (hand_of (pending_after leg (Some a))) (is ∙ ap (λ (q : Option Pending). with_new_hand s (hand_of q)) waits));
   given = given;
 }
 
-asked-turns-at : (v : WorldState) (k : ℕ) (s next : WorkerState) (outs all : List Out) (job : Job) (p : ℕ) (leg : Option ℕ)
+asked-steps-at : (v : WorldState) (k : ℕ) (s next : WorkerState) (outs all : List Out) (job : Job) (p : ℕ) (leg : Option ℕ)
     (call : DeskCall) (found : Option DeskState) (later : List DeskState) (pending : Option Pending)
     → slice_get v.workers k ≡ Some s → v.lost < 2 ^ 64 → v.tmmbns < 2 ^ 64
     → Asked p leg call found v.desks later pending outs all → next ≡ with_new_hand s (hand_of pending)
-    → Leaves (WorkerAsks v k s job leg p call found) v outs (world_after_turn v k later next) all
-asked-turns-at v k s next outs all job p leg call None later pending there lost tmmbns asked is = record {
+    → Leaves (WorkerAsks v k s job leg p call found) v outs (world_after_step v k later next) all
+asked-steps-at v k s next outs all job p leg call None later pending there lost tmmbns asked is = record {
   happening = working v (with_hand k s (job ∷ []) free) [];
   allowed = refl;
-  leads = ap (λ (l : List DeskState). world_after_turn v k l next) asked.becomes
+  leads = ap (λ (l : List DeskState). world_after_step v k l next) asked.becomes
       ∙ turned-leads v s (with_hand k s (job ∷ []) free) v.desks next there lost tmmbns
       (hand-after s next free (is ∙ ap (λ (q : Option Pending). with_new_hand s (hand_of q)) asked.waits));
   given = asked.given ∙ sym (append-nil outs);
 }
-asked-turns-at v k s next outs all job p leg call (Some d) later pending there lost tmmbns asked is =
-    replied-turns v k s next outs all job p leg call d later pending asked.reply there lost tmmbns asked.replies asked.becomes
+asked-steps-at v k s next outs all job p leg call (Some d) later pending there lost tmmbns asked is =
+    replied-steps v k s next outs all job p leg call d later pending asked.reply there lost tmmbns asked.replies asked.becomes
     asked.waits asked.given is
 
-pub asked-turns : (setup : Setup) (rows : List Row) (desks later : List DeskState) (s next : WorkerState) (outs all : List Out) (job : Job)
+pub asked-steps : (setup : Setup) (rows : List Row) (desks later : List DeskState) (s next : WorkerState) (outs all : List Out) (job : Job)
     (p : ℕ) (leg : Option ℕ) (call : DeskCall)
     → s.hand ≡ doing job → AsksOf setup.table job (Desk p leg call) → IsDeskTold p leg call desks later s next outs all
-    → Turns setup rows desks later s next outs all
+    → StepsWorker setup rows desks later s next outs all
 unfolding AsksBy
-asked-turns setup rows desks later s next outs all job p leg call full asks told w k there lost tmmbns =
+asked-steps setup rows desks later s next outs all job p leg call full asks told w k there lost tmmbns =
     let v : WorldState = world_with w setup rows desks in
-    let did : Leaves (WorkerAsks v k s job leg p call (slice_get desks p)) v outs (world_after_turn v k later next) all =
-    asked-turns-at v k s next outs all job p leg call (slice_get desks p) later told.pending there lost tmmbns told.asked told.worker in
+    let did : Leaves (WorkerAsks v k s job leg p call (slice_get desks p)) v outs (world_after_step v k later next) all =
+    asked-steps-at v k s next outs all job p leg call (slice_get desks p) later told.pending there lost tmmbns told.asked told.worker in
     record {
       happening = did.happening;
       allowed = subst (λ (hand : Hand). WorksOn v k s hand s.jobs did.happening) (sym full)
@@ -223,16 +223,16 @@ asked-turns setup rows desks later s next outs all job p leg call full asks told
       given = did.given;
     }
 
--- ---- the machine behind a worker's turn
+-- ---- the machine behind a worker's step
 
 abbrev with_both : WorldState → List DeskState → List WorkerState → WorldState
 with_both w desks workers = record w { desks = desks; workers = workers }
 
-pub turn-lifts : (w : WorldState) (k : ℕ) (s next : WorkerState) (later : List DeskState) (new : WorldState) (outs all : List Out)
-    → slice_get w.workers k ≡ Some s → w.lost < 2 ^ 64 → w.tmmbns < 2 ^ 64 → Turns w.setup w.rows w.desks later s next outs all
-    → new ≡ world_after_turn w k later next → Leaves (Works w k (slice_get w.workers k)) w outs new all
-turn-lifts w k s next later new outs all there lost tmmbns turns is =
-    let did : Leaves (WorksOn w k s s.hand s.jobs) w outs (world_after_turn w k later next) all = turns w k there lost tmmbns in
+pub step-lifts : (w : WorldState) (k : ℕ) (s next : WorkerState) (later : List DeskState) (new : WorldState) (outs all : List Out)
+    → slice_get w.workers k ≡ Some s → w.lost < 2 ^ 64 → w.tmmbns < 2 ^ 64 → StepsWorker w.setup w.rows w.desks later s next outs all
+    → new ≡ world_after_step w k later next → Leaves (Works w k (slice_get w.workers k)) w outs new all
+step-lifts w k s next later new outs all there lost tmmbns steps is =
+    let did : Leaves (WorksOn w k s s.hand s.jobs) w outs (world_after_step w k later next) all = steps w k there lost tmmbns in
     record {
       happening = did.happening;
       allowed = subst (λ (o : Option WorkerState). Works w k o did.happening) (sym there) did.allowed;
@@ -243,21 +243,21 @@ turn-lifts w k s next later new outs all there lost tmmbns turns is =
 pub work-done : (w : WorldState) (k i : ℕ) (s next : WorkerState) (rows : List Row) (desks later left : List DeskState)
     (workers : List WorkerState) (outs some all : List Out) (r : Result (Unit {0}) AllocError)
     → i ≡ k → slice_get w.workers i ≡ Some s → w.lost < 2 ^ 64 → w.tmmbns < 2 ^ 64 → rows ≡ w.rows → desks ≡ w.desks → some ≡ outs
-    → left ≡ later → workers ≡ set w.workers i next → OnOk r (Turns w.setup rows desks later s next some all)
+    → left ≡ later → workers ≡ set w.workers i next → OnOk r (StepsWorker w.setup rows desks later s next some all)
     → OnOk r (Leaves (Works w k (slice_get w.workers k)) w outs (record w { desks = left; workers = workers }) all)
-work-done w k i s next rows desks later left workers outs some all (Err e) same there lost tmmbns er ed es el ew turns = tt
-work-done w k i s next rows desks later left workers outs some all (Ok x) same there lost tmmbns er ed es el ew turns =
-    let a : Turns w.setup w.rows desks later s next some all =
-    subst (λ (l : List Row). Turns w.setup l desks later s next some all) er turns in
-    let b : Turns w.setup w.rows w.desks later s next some all =
-    subst (λ (l : List DeskState). Turns w.setup w.rows l later s next some all) ed a in
-    let d : Turns w.setup w.rows w.desks later s next outs all =
-    subst (λ (l : List Out). Turns w.setup w.rows w.desks later s next l all) es b in
+work-done w k i s next rows desks later left workers outs some all (Err e) same there lost tmmbns er ed es el ew steps = tt
+work-done w k i s next rows desks later left workers outs some all (Ok x) same there lost tmmbns er ed es el ew steps =
+    let a : StepsWorker w.setup w.rows desks later s next some all =
+    subst (λ (l : List Row). StepsWorker w.setup l desks later s next some all) er steps in
+    let b : StepsWorker w.setup w.rows w.desks later s next some all =
+    subst (λ (l : List DeskState). StepsWorker w.setup w.rows l later s next some all) ed a in
+    let d : StepsWorker w.setup w.rows w.desks later s next outs all =
+    subst (λ (l : List Out). StepsWorker w.setup w.rows w.desks later s next l all) es b in
     let at : slice_get w.workers k ≡ Some s = subst (λ (j : ℕ). slice_get w.workers j ≡ Some s) same there in
-    let new : with_both w left workers ≡ world_after_turn w k later next =
+    let new : with_both w left workers ≡ world_after_step w k later next =
     ap (λ (l : List DeskState). with_both w l workers) el
     ∙ ap (λ (l : List WorkerState). with_both w later l) (ew ∙ ap (λ (j : ℕ). set w.workers j next) same) in
-    turn-lifts w k s next later (with_both w left workers) outs all at lost tmmbns d new
+    step-lifts w k s next later (with_both w left workers) outs all at lost tmmbns d new
 
 pub work-stays : (w : WorldState) (i : ℕ) (s next : WorkerState) (desks later left : List DeskState)
     (workers : List WorkerState) (outs some all : List Out) (r : Result (Unit {0}) AllocError)

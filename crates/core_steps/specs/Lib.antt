@@ -15,7 +15,7 @@ pub mod Machine
 pub mod Waits
 pub mod Asking
 pub mod Pushing
-pub mod Turns
+pub mod WorkerSteps
 pub mod Duties
 pub mod Quiet
 pub mod Settling

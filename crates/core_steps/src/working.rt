@@ -5,7 +5,7 @@ ghost use Rattle.desk.specs.Call.{HasStay};
 ghost use Rattle.core_steps.specs.Machine.{state_of, setup_of, worker_state};
 ghost use Rattle.core_steps.specs.Rule.{Works};
 ghost use Rattle.core_steps.specs.Run.{Leaves, Stays};
-ghost use Rattle.core_steps.specs.Turns.{IsDeskTold, Turns};
+ghost use Rattle.core_steps.specs.WorkerSteps.{IsDeskTold, StepsWorker};
 
 use crate::asking::ask;
 use crate::front::Setup;
@@ -31,7 +31,7 @@ pub(crate) fn work(m: &mut Machine, worker: u16, outs: &mut Vec<Out>) -> Result<
     let workers = m.workers.as_mut_slice();
     if at < workers.len() {
         let (desks, rows) = (m.desks.as_mut_slice(), m.rows.as_slice());
-        turn(
+        step(
             m.front.alloc,
             &m.front.setup,
             desks,
@@ -47,7 +47,7 @@ pub(crate) fn work(m: &mut Machine, worker: u16, outs: &mut Vec<Out>) -> Result<
 }
 
 /// What the worker does with its hand; there is room for one thing to give out.
-fn turn(
+fn step(
     alloc: Global,
     setup: &Setup,
     desks: &mut [Desk],
@@ -57,7 +57,7 @@ fn turn(
     outs: &mut Vec<Out>,
 ) -> Result<(), AllocError>
     requires { vec_len outs.old < vec_capacity outs.old }
-    ensures ok { OnOk result (Turns (setup_of setup.now) rows.now desks.old desks.new
+    ensures ok { OnOk result (StepsWorker (setup_of setup.now) rows.now desks.old desks.new
         (worker_state w.old) (worker_state w.new) outs.old.items outs.new.items) }
     ensures err { OnErr result ((desks.new ≡ desks.old) × (worker_state w.new ≡ worker_state w.old)
         × (outs.new.items ≡ outs.old.items)) }

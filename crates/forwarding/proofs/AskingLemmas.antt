@@ -22,7 +22,7 @@ use Rattle.forwarding.specs.declared.done.ForwardFault.{ForwardFault}
 use Rattle.forwarding.specs.declared.question.Question.{Question}
 use Rattle.forwarding.specs.Asking.{IsAsked, nowhere, unrecorded, IsOfLastCall, IsTelling, GivesUp, Notifies, QuestionOf, Feeds, Asking, Telling, Terms, picture_of}
 use Rattle.forwarding.specs.Forwarding.{NotifierState, ForwarderState}
-use Rattle.forwarding.specs.Handing.{Hands, nothing_done}
+use Rattle.forwarding.specs.Sending.{Sends, nothing_done}
 
 pub asked_nowhere : (gap request_ms publishers : ℕ) (q : Question) (seat : SeatState) → publishers ≤ q.publisher
     → IsAsked gap request_ms publishers q seat seat None
@@ -124,9 +124,9 @@ picture_only t u rows publisher e lifted fresh =
 pub picture_told : (legs : ℕ) (n : NotifierState) (publisher : ℕ) (e : Effect) (learnt : List Row) (t : Telling)
     (result : Result Forwarded ForwardFault) → e.lifted.items ≡ [] → e.fresh.items ≡ [] → learnt ≡ t.former
     → IsTelling legs n (pending_with e (picture_of publisher)) (record t { former = learnt }) result
-    → MatchResult result (Hands (picture_upstream n.table n.unit (picture_of publisher)) t.before t.after) (GivesUp legs t)
+    → MatchResult result (Sends (picture_upstream n.table n.unit (picture_of publisher)) t.before t.after) (GivesUp legs t)
 picture_told legs n publisher e learnt t result lifted fresh rows told =
     MatchResult-weaker result told
     (λ done both.
-    subst (λ (outs : List Out). Hands outs t.before t.after done) (picture_only n.table n.unit t.next.rows publisher e lifted fresh) both.1)
+    subst (λ (outs : List Out). Sends outs t.before t.after done) (picture_only n.table n.unit t.next.rows publisher e lifted fresh) both.1)
     (λ fault gives. subst (λ (l : List Row). GivesUp legs (record t { former = l }) fault) rows gives)

@@ -8,7 +8,7 @@ use Rattle.events.specs.declared.output.Out.{Out}
 use Rattle.outside.specs.Outside.{SinkView, Grows, datagram_in, datagrams_of}
 use Rattle.outside.proofs.GrowsLemmas.{grows_more}
 use Rattle.forwarding.specs.declared.done.Forwarded.{Forwarded}
-use Rattle.forwarding.specs.Handing.{Adds, Hands, nothing_done, is_skip, is_miss}
+use Rattle.forwarding.specs.Sending.{Adds, Sends, nothing_done, is_skip, is_miss}
 
 pub adds_more : (xs ys : List Out) (a b c : SinkView) (d e f : Forwarded) → Adds xs a b d e → Adds ys b c e f
     → Adds (xs ++ ys) a c d f
@@ -29,8 +29,8 @@ adds_more xs ys a b c d e f first last =
 
 -- ---- the next of a list
 pub given_more : (outs : List Out) (i : ℕ) (o : Out) (a b c : SinkView) (d e : Forwarded) → i < length outs
-    → Hands (take i outs) a b d → o ≡ get_or outs i o → Adds (o ∷ []) b c d e → Hands (take (i + 1) outs) a c e
+    → Sends (take i outs) a b d → o ≡ get_or outs i o → Adds (o ∷ []) b c d e → Sends (take (i + 1) outs) a c e
 given_more outs i o a b c d e within before is one =
     let all : take (i + 1) outs ≡ take i outs ++ o ∷ [] =
     take_more outs i o within ∙ ap (λ (q : Out). take i outs ++ q ∷ []) (sym is) in
-    subst (λ (l : List Out). Hands l a c e) (sym all) (adds_more (take i outs) (o ∷ []) a b c nothing_done d e before one)
+    subst (λ (l : List Out). Sends l a c e) (sym all) (adds_more (take i outs) (o ∷ []) a b c nothing_done d e before one)

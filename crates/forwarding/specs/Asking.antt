@@ -21,7 +21,7 @@ use Rattle.forwarding.specs.declared.done.Forwarded.{Forwarded}
 use Rattle.forwarding.specs.declared.done.ForwardFault.{ForwardFault}
 use Rattle.forwarding.specs.declared.question.Question.{Question}
 use Rattle.outside.specs.Outside.{SinkView}
-use Rattle.forwarding.specs.Handing.{Hands, nothing_done}
+use Rattle.forwarding.specs.Sending.{Sends, nothing_done}
 use Rattle.forwarding.specs.Forwarding.{NotifierState, ForwarderState, IsView, LeavesRows}
 
 -- what holds of all desks of a house, and of a table of routes: the least time between two PLIs, the age of requests, how many
@@ -123,7 +123,7 @@ abbrev pub IsTelling : ℕ → NotifierState → Pending → Telling → Result 
 IsTelling legs n p t result =
     MatchResult result
     (λ done. IsView legs t.next
-    × Hands (notification_datagrams n.table n.unit t.next.rows p.notification p.effect) t.before
+    × Sends (notification_datagrams n.table n.unit t.next.rows p.notification p.effect) t.before
     t.after done)
     (GivesUp legs t)
 

@@ -1,4 +1,4 @@
-pub mod Handing
+pub mod Sending
 pub mod Forwarding
 pub mod Asking
 pub mod Faults

@@ -19,7 +19,8 @@ use std::alloc::{AllocError, Global};
 use std::marker::Model;
 use std::sync::Wait;
 
-/// A worker: the legs to the subscribers whose number, modulo the number of workers, is its own.
+/// What a worker does its jobs with: the legs to the subscribers whose number, modulo the number of workers, is its own, and who tells
+/// what follows from a desk's call.
 #[derive(Drop)]
 pub struct Forwarder {
     notifier: Notifier,
@@ -42,7 +43,7 @@ impl Model for Forwarder {
 impl Forwarder {
     ghost use Rattle.std.specs.Prelude.{◌≡◌, IfOk, IfErr, OnOk, OnErr};
     ghost use mathlib.Core.List.{IsPrefix};
-    ghost use Rattle.forwarding.specs.Handing.{Hands};
+    ghost use Rattle.forwarding.specs.Sending.{Sends};
     ghost use Rattle.forwarding.specs.Forwarding.{new_forwarder, given_by, after_job, IsView, LeavesRows};
     ghost use Rattle.forwarding.specs.Asking.{Feeds, asking, telling, terms};
 
@@ -77,7 +78,7 @@ impl Forwarder {
         ensures known { IsPrefix reader.old.known reader.new.known }
         ensures note { IsPrefix note reader.new.known }
         ensures view { OnOk result (IsView J.legs reader.new) }
-        ensures handed { IfOk result (Hands (given_by self.old reader.new.rows job.now)
+        ensures handed { IfOk result (Sends (given_by self.old reader.new.rows job.now)
             (S.shown sink.old) (S.shown sink.new)) }
         ensures legs { OnOk result (self.new ≡ after_job self.old reader.new.rows job.now) }
         ensures fault { IfErr result (LeavesRows J.legs reader.old.rows reader.new) }

@@ -42,7 +42,7 @@ impl Notifier {
     ghost use Rattle.std.specs.Prelude.{◌≡◌, ◌<◌, Some, IfOk, MatchResult};
     ghost use mathlib.Core.List.{IsPrefix};
     ghost use Rattle.notices.specs.Notification.{picture_upstream};
-    ghost use Rattle.forwarding.specs.Handing.{Hands};
+    ghost use Rattle.forwarding.specs.Sending.{Sends};
     ghost use Rattle.forwarding.specs.Asking.{Notifies, GivesUp, asking, picture_of, telling, terms};
     ghost use Rattle.forwarding.specs.Forwarding.{new_notifier};
 
@@ -142,7 +142,7 @@ impl Notifier {
         ensures known { IsPrefix reader.old.known reader.new.known }
         ensures note { IsPrefix note reader.new.known }
         ensures told { MatchResult result
-            (Hands (picture_upstream self.now.table self.now.unit (picture_of publisher))
+            (Sends (picture_upstream self.now.table self.now.unit (picture_of publisher))
             (S.shown sink.old) (S.shown sink.new))
             (GivesUp J.legs (telling reader.old.rows reader.new
             (S.shown sink.old) (S.shown sink.new))) }

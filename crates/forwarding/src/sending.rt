@@ -2,7 +2,7 @@
 
 ghost use Rattle.std.specs.Prelude.{◌≡◌, ◌+◌, ◌-◌, ◌^◌, ◌<◌, ◌≤◌, ◌∷◌, []};
 ghost use Rattle.events.specs.declared.output.Out.TheVariants.{Send};
-ghost use Rattle.forwarding.specs.Handing.{Adds, Hands, total_of};
+ghost use Rattle.forwarding.specs.Sending.{Adds, Sends, total_of};
 
 use crate::done::Forwarded;
 use events::Out;
@@ -45,7 +45,7 @@ fn give<S: Sink>(out: &Out, sink: &mut S, done: &mut Forwarded)
 
 /// Hands the datagrams among what is given out to the sink, in order, and counts the rest.
 pub fn send_all<S: Sink>(outs: &[Out], sink: &mut S) -> Forwarded
-    ensures { Hands outs.now (S.shown sink.old) (S.shown sink.new) result }
+    ensures { Sends outs.now (S.shown sink.old) (S.shown sink.new) result }
 {
     let _count = outs.len();
     let mut done = Forwarded::default();

@@ -15,7 +15,7 @@ use Rattle.core_steps.specs.World.{WorldState}
 use Rattle.one_thread.specs.declared.tally.Tally.{Tally}
 use Rattle.one_thread.specs.Driver.{FailsToReceive, StopsIn}
 use Rattle.one_thread.specs.Driving.{Drives, DrivesSome}
-use Rattle.one_thread.specs.Turns.{BreaksOff, GoesOn, Hands, HandsOver, HasEnded, HasMade, NeverStops, MakesTurn, MakesTurns, OutsideView, Raises, Turn, events_of, faults_over, faults_with, brought_at, heard_count, heard_over, sink_of, tick_at, ticks_over, turn_events, view_of}
+use Rattle.one_thread.specs.Turns.{BreaksOff, GoesOn, SendsCounted, Sends, HasEnded, HasMade, NeverStops, MakesTurn, MakesTurns, OutsideView, Raises, Turn, events_of, faults_over, faults_with, brought_at, heard_count, heard_over, sink_of, tick_at, ticks_over, turn_events, view_of}
 use Rattle.one_thread.proofs.DrivingLemmas.{drives_after, drives_nothing, drives_on}
 
 -- ---- what is handed over
@@ -27,12 +27,12 @@ raises_more a b c n m first last =
 pub raises_nothing : (a : ℕ) → Raises a 0 a
 raises_nothing a = λ k is. is ∙ ap as_counted (omega arith)
 
-pub hands_nothing : (a : SinkView) → HandsOver [] a a 0 0
-hands_nothing a = record { handed = grows_nothing a.handed; all = refl; failures = omega arith }
+pub sends_nothing : (a : SinkView) → Sends [] a a 0 0
+sends_nothing a = record { handed = grows_nothing a.handed; all = refl; failures = omega arith }
 
-pub hands_over_more : (xs ys : List Out) (a b c : SinkView) (s f t g : ℕ) → HandsOver xs a b s f → HandsOver ys b c t g
-    → HandsOver (xs ++ ys) a c (s + t) (f + g)
-hands_over_more xs ys a b c s f t g first last =
+pub sends_more : (xs ys : List Out) (a b c : SinkView) (s f t g : ℕ) → Sends xs a b s f → Sends ys b c t g
+    → Sends (xs ++ ys) a c (s + t) (f + g)
+sends_more xs ys a b c s f t g first last =
     let both : datagrams_of (xs ++ ys) ≡ datagrams_of xs ++ datagrams_of ys = flat_map-append datagram_in xs ys in
     let size = ap length both ∙ length-append (datagrams_of xs) (datagrams_of ys) in
     record {
@@ -42,21 +42,21 @@ hands_over_more xs ys a b c s f t g first last =
       failures = omega (arith, first.failures, last.failures);
     }
 
-pub hands_more : (xs ys : List Out) (a b c : SinkView) (d e f : Tally) → Hands xs a b d e → Hands ys b c e f → Hands (xs ++ ys) a c d f
-hands_more xs ys a b c d e f first last = record {
+pub counted_more : (xs ys : List Out) (a b c : SinkView) (d e f : Tally) → SendsCounted xs a b d e → SendsCounted ys b c e f → SendsCounted (xs ++ ys) a c d f
+counted_more xs ys a b c d e f first last = record {
   sent = first.sent + last.sent;
   failed = first.failed + last.failed;
-  hands = hands_over_more xs ys a b c first.sent first.failed last.sent last.failed first.hands last.hands;
+  sends = sends_more xs ys a b c first.sent first.failed last.sent last.failed first.sends last.sends;
   heard = last.heard ∙ first.heard;
   counts_sent = raises_more d.sent e.sent f.sent first.sent last.sent first.counts_sent last.counts_sent;
   counts_failed = raises_more d.failed e.failed f.failed first.failed last.failed first.counts_failed last.counts_failed;
 }
 
-pub hands_none : (outs : List Out) (a : SinkView) (t : Tally) → datagrams_of outs ≡ [] → Hands outs a a t t
-hands_none outs a t none = record {
+pub counted_none : (outs : List Out) (a : SinkView) (t : Tally) → datagrams_of outs ≡ [] → SendsCounted outs a a t t
+counted_none outs a t none = record {
   sent = 0;
   failed = 0;
-  hands = record {
+  sends = record {
     handed = subst (λ (l : List Datagram). Grows a.handed l a.handed) (sym none) (grows_nothing a.handed);
     all = sym (ap length none);
     failures = omega arith;
@@ -107,7 +107,7 @@ makes_last ticks next turns f g stopped a b c x y z d e made one = record {
       (grows_more x.told (map (λ (t : Turn). t.moment) turns) (one.turn.moment ∷ []) y.told z.told made.told one.told);
   sent = made.sent + one.sent;
   failed = made.failed + one.failed;
-  hands = hands_over_more made.outs one.outs (sink_of x) (sink_of y) (sink_of z) made.sent made.failed one.sent one.failed made.hands one.hands;
+  sends = sends_more made.outs one.outs (sink_of x) (sink_of y) (sink_of z) made.sent made.failed one.sent one.failed made.sends one.sends;
   counts_heard = one.counts_heard (heard_over turns) made.counts_heard ∙ ap as_counted (sym (heard_last turns one.turn));
   counts_sent = one.counts_sent made.sent made.counts_sent;
   counts_failed = one.counts_failed made.failed made.counts_failed;
@@ -122,7 +122,7 @@ makes_nothing ticks w x t none = record {
   told = grows_nothing x.told;
   sent = 0;
   failed = 0;
-  hands = hands_nothing (sink_of x);
+  sends = sends_nothing (sink_of x);
   counts_heard = ap (λ (u : Tally). u.heard) none;
   counts_sent = ap (λ (u : Tally). u.sent) none;
   counts_failed = ap (λ (u : Tally). u.failed) none;
@@ -195,12 +195,12 @@ ends_stopped start ticks count done w next t u f g stopped d e x y z made few on
     }
 
 -- the next of a list is handed over
-pub given_more : (outs : List Out) (i : ℕ) (o : Out) (a b c : SinkView) (d e f : Tally) → i < length outs → Hands (take i outs) a b d e
-    → o ≡ get_or outs i o → Hands (o ∷ []) b c e f → Hands (take (i + 1) outs) a c d f
+pub given_more : (outs : List Out) (i : ℕ) (o : Out) (a b c : SinkView) (d e f : Tally) → i < length outs → SendsCounted (take i outs) a b d e
+    → o ≡ get_or outs i o → SendsCounted (o ∷ []) b c e f → SendsCounted (take (i + 1) outs) a c d f
 given_more outs i o a b c d e f within before is one =
     let all : take (i + 1) outs ≡ take i outs ++ o ∷ [] =
     take_more outs i o within ∙ ap (λ (q : Out). take i outs ++ q ∷ []) (sym is) in
-    subst (λ (l : List Out). Hands l a c d f) (sym all) (hands_more (take i outs) (o ∷ []) a b c d e f before one)
+    subst (λ (l : List Out). SendsCounted l a c d f) (sym all) (counted_more (take i outs) (o ∷ []) a b c d e f before one)
 
 -- ---- a turn
 
@@ -209,21 +209,21 @@ pub turn_made : (ticks next : TicksState) (faults next_faults : ℕ) (stopped : 
     → before ≡ [] → Grows g (arrival ∷ []) h → Grows t (moment ∷ []) u
     → Drives (brought_at moment arrival ++ tick_at ticks moment) old before new outs → next ≡ ticks_after ticks moment
     → next_faults ≡ faults_with faults arrival → stopped ≡ is_stop arrival → Raises former.heard (heard_count arrival) mid.heard → mid.sent ≡ former.sent
-    → mid.failed ≡ former.failed → Hands outs s v mid tally
+    → mid.failed ≡ former.failed → SendsCounted outs s v mid tally
     → MakesTurn ticks next faults next_faults stopped old new (view_of g t s) (view_of h u v) former tally
-turn_made ticks next faults next_faults stopped old new g h t u s v former mid tally arrival moment before outs none given told drives noted failing stops heard sent failed hands =
+turn_made ticks next faults next_faults stopped old new g h t u s v former mid tally arrival moment before outs none given told drives noted failing stops heard sent failed sends =
     record {
       turn = record { arrival = arrival; moment = moment };
       outs = outs;
       drives = subst (λ (l : List Out). Drives (brought_at moment arrival ++ tick_at ticks moment) old l new outs) none drives;
       given = given;
       told = told;
-      sent = hands.sent;
-      failed = hands.failed;
-      hands = hands.hands;
-      counts_heard = λ n is. hands.heard ∙ heard n is;
-      counts_sent = λ n is. hands.counts_sent n (sent ∙ is);
-      counts_failed = λ n is. hands.counts_failed n (failed ∙ is);
+      sent = sends.sent;
+      failed = sends.failed;
+      sends = sends.sends;
+      counts_heard = λ n is. sends.heard ∙ heard n is;
+      counts_sent = λ n is. sends.counts_sent n (sent ∙ is);
+      counts_failed = λ n is. sends.counts_failed n (failed ∙ is);
       noted = noted;
       failing = failing;
       stops = stops;

@@ -133,16 +133,16 @@ view_of given told sink =
     record { given = given; told = told; handed = sink.handed; failures = sink.failures }
 
 -- The datagrams of what the machine gave out came to the sink, in order; so many were sent, and so many couldn't be.
-pub record HandsOver (outs : List Out) (before after : SinkView) (sent failed : ℕ) : Type 0 where
+pub record Sends (outs : List Out) (before after : SinkView) (sent failed : ℕ) : Type 0 where
   pub handed : Grows before.handed (datagrams_of outs) after.handed
   pub all : sent + failed ≡ length (datagrams_of outs)
   pub failures : after.failures ≡ before.failures + failed
 
 -- they came to the sink, and are counted
-pub record Hands (outs : List Out) (before after : SinkView) (former tally : Tally) : Type 0 where
+pub record SendsCounted (outs : List Out) (before after : SinkView) (former tally : Tally) : Type 0 where
   pub sent : ℕ
   pub failed : ℕ
-  pub hands : HandsOver outs before after sent failed
+  pub sends : Sends outs before after sent failed
   pub heard : tally.heard ≡ former.heard
   pub counts_sent : Raises former.sent sent tally.sent
   pub counts_failed : Raises former.failed failed tally.failed
@@ -160,7 +160,7 @@ pub record MakesTurn (ticks next_ticks : TicksState) (faults next_faults : ℕ) 
   pub told : Grows before.told (turn.moment ∷ []) after.told
   pub sent : ℕ
   pub failed : ℕ
-  pub hands : HandsOver outs (sink_of before) (sink_of after) sent failed
+  pub sends : Sends outs (sink_of before) (sink_of after) sent failed
   pub counts_heard : Raises former.heard (heard_count turn.arrival) tally.heard
   pub counts_sent : Raises former.sent sent tally.sent
   pub counts_failed : Raises former.failed failed tally.failed
@@ -179,7 +179,7 @@ pub record MakesTurns (ticks : TicksState) (turns : List Turn) (old new : WorldS
   pub told : Grows before.told (map (λ (t : Turn). t.moment) turns) after.told
   pub sent : ℕ
   pub failed : ℕ
-  pub hands : HandsOver outs (sink_of before) (sink_of after) sent failed
+  pub sends : Sends outs (sink_of before) (sink_of after) sent failed
   pub counts_heard : tally.heard ≡ as_counted (heard_over turns)
   pub counts_sent : tally.sent ≡ as_counted sent
   pub counts_failed : tally.failed ≡ as_counted failed

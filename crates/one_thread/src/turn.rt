@@ -7,7 +7,7 @@ ghost use Rattle.outside.specs.Outside.{FitsIn, arrival_in, arrival_of, is_stop}
 ghost use Rattle.outside.specs.Ticks.{ticks_after};
 ghost use Rattle.outside.specs.declared.source.TheConstants.{MAX_FAULTS};
 ghost use Rattle.one_thread.specs.Driving.{Drives, DrivesSome, DrivesBoth, IsIdle};
-ghost use Rattle.one_thread.specs.Turns.{BreaksOff, Hands, MakesTurn, Raises, faults_with, brought_at, heard_count, tick_at, turn_events, view_of, who_came};
+ghost use Rattle.one_thread.specs.Turns.{BreaksOff, SendsCounted, MakesTurn, Raises, faults_with, brought_at, heard_count, tick_at, turn_events, view_of, who_came};
 
 use crate::settle::{hear_in, take_in};
 use crate::tally::Tally;
@@ -188,7 +188,7 @@ impl Origin {
 
 /// Hands a datagram to the sink, and counts it.
 fn hand_over<S: Sink>(sink: &mut S, endpoint: u16, bytes: &[u8], tally: &mut Tally)
-    ensures { Hands (Send endpoint bytes.now ∷ []) (S.shown sink.old) (S.shown sink.new)
+    ensures { SendsCounted (Send endpoint bytes.now ∷ []) (S.shown sink.old) (S.shown sink.new)
         tally.old tally.new }
 {
     match sink.send(endpoint, bytes) {
@@ -198,9 +198,9 @@ fn hand_over<S: Sink>(sink: &mut S, endpoint: u16, bytes: &[u8], tally: &mut Tal
 }
 
 /// Hands what the machine gave out to the sink, where it is a datagram; tells it a miss and a skip, and what was refused of whose datagram.
-#[tactic(auto, using(crate::proofs::TurnLemmas::hands_none))]
+#[tactic(auto, using(crate::proofs::TurnLemmas::counted_none))]
 fn give<S: Sink>(out: &Out, endpoint: Option<u16>, sink: &mut S, tally: &mut Tally)
-    ensures { Hands (out.now ∷ []) (S.shown sink.old) (S.shown sink.new) tally.old tally.new }
+    ensures { SendsCounted (out.now ∷ []) (S.shown sink.old) (S.shown sink.new) tally.old tally.new }
 {
     match out {
         Out::Send { endpoint, bytes } => hand_over(sink, *endpoint, bytes.as_slice(), tally),
@@ -213,7 +213,7 @@ fn give<S: Sink>(out: &Out, endpoint: Option<u16>, sink: &mut S, tally: &mut Tal
 
 /// Hands the datagrams among what the machine gave out to the sink, in order.
 fn give_all<S: Sink>(outs: &[Out], origin: Origin, sink: &mut S, tally: &mut Tally)
-    ensures { Hands outs.now (S.shown sink.old) (S.shown sink.new) tally.old tally.new }
+    ensures { SendsCounted outs.now (S.shown sink.old) (S.shown sink.new) tally.old tally.new }
 {
     for (place, out) in outs.iter().enumerate() {
         give(out, origin.at(place), sink, tally);

@@ -19,7 +19,7 @@ enum Parcel<W: Drop> {
     /// Bytes that are to be written.
     Block(Vec<u8>),
     /// What comes after it is written there.
-    Turn(W),
+    SwitchTo(W),
 }
 
 /// Where blocks are handed on. Once it is closed or dropped, what waits is written and the thread ends.
@@ -111,7 +111,7 @@ impl<W: Drop> Outlet<W> {
 
     /// What is handed on from now on is written there; whether there was room to say so.
     pub(crate) fn turn_to(&mut self, writer: W) -> bool {
-        let has_room = self.push(Parcel::Turn(writer));
+        let has_room = self.push(Parcel::SwitchTo(writer));
         if has_room {
             self.turns = self.turns.saturating_add(1);
         }
@@ -174,7 +174,7 @@ impl<W: Write + Drop> Inlet<W> {
         for _parcel in 0..self.most {
             match self.parcels.pop() {
                 Ok(Parcel::Block(block)) => self.write_block(&mut writer, block),
-                Ok(Parcel::Turn(next)) => {
+                Ok(Parcel::SwitchTo(next)) => {
                     writer = next;
                     self.turns = self.turns.saturating_add(1);
                 }

@@ -3,9 +3,6 @@
 use events::Job;
 use routes::{Naming, RouteNote};
 
-/// How many items a ring holds.
-pub(crate) const RING: usize = 1024;
-
 /// An item of a ring.
 #[derive(Drop)]
 pub(crate) enum Item<J: Naming> {

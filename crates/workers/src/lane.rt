@@ -5,7 +5,8 @@ ghost use Rattle.rtrb.specs.Ring.{known_free, sent, producer_capacity};
 
 use crate::counts::{Counts, Station};
 use crate::fault::UnitFault;
-use crate::item::{Item, RING};
+use crate::item::Item;
+use core_steps::JOB_LIMIT;
 use rate_desk::{DeskSeat, SeatCalls};
 use routes::Naming;
 use rtrb::{Consumer, Producer, PushError, RingBuffer};
@@ -15,7 +16,7 @@ use std::thread;
 use std::thread::{JoinHandle, Threads};
 
 /// A ring that has fewer free places is mostly full.
-const FEW_SLOTS: usize = RING / 4;
+const FEW_SLOTS: usize = JOB_LIMIT / 4;
 
 /// The two ends of a worker's ring: where items are put, and where they are taken.
 pub(crate) type RingEnds<J> = (Producer<Item<J>, Global>, Consumer<Item<J>, Global>);
@@ -24,7 +25,7 @@ pub(crate) type RingEnds<J> = (Producer<Item<J>, Global>, Consumer<Item<J>, Glob
 pub(crate) fn new_ring<J: Naming>(alloc: Global) -> Result<RingEnds<J>, AllocError>
     ensures { IfOk result (λ ends. producer_capacity ends.0 ≡ 1024) }
 {
-    RingBuffer::new(alloc, RING)
+    RingBuffer::new(alloc, JOB_LIMIT)
 }
 
 /// What the ingress has of a worker that was started.

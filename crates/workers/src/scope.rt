@@ -10,7 +10,7 @@ use crate::lane::{Crew, Lane, RingEnds, new_ring};
 use crate::settling::Patience;
 use crate::turns::Inlet;
 use crate::unit::{Outside, Pace};
-use crate::worker::Worker;
+use crate::worker::WorkerThread;
 use core_steps::IngressCore;
 use forwarding::{Forwarder, Notifier};
 use outside::{Clock, Gate, Sink, Source, Ticks, Watch};
@@ -290,7 +290,7 @@ fn start<
     gear: Gear<C, J, S>,
 ) -> Result<Lane<J, C>, UnitFault> {
     let ((ring, jobs), forwarder) = worker_parts(shared.alloc, shared.settings, station.number)?;
-    let worker = Worker {
+    let worker = WorkerThread {
         ring: jobs,
         forwarder,
         gear,
@@ -330,7 +330,7 @@ fn spawn<
 >(
     scope: &'s Scope<'s, &'a ()>,
     rt: &'a R,
-    worker: Worker<'a, D, C, J, S, G>,
+    worker: WorkerThread<'a, D, C, J, S, G>,
 ) -> Result<JoinHandle<DeskSeat<C>>, UnitFault> {
     match scope.spawn(move || worker.run(rt)) {
         Ok(thread) => Ok(thread),

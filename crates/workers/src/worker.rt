@@ -1,4 +1,4 @@
-//! A worker: it does the jobs of its ring, one after the other, until it is stopped.
+//! A worker in a thread: it does the jobs of its ring, one after the other, until it is stopped.
 
 use crate::counts::{Station, outcome_of};
 use crate::gear::Gear;
@@ -13,9 +13,9 @@ use rtrb::Consumer;
 use std::alloc::Global;
 use std::sync::Wait;
 
-/// What a worker owns, and what it shares with others.
+/// What the thread of a worker owns, and what it shares with others.
 #[derive(Drop)]
-pub(crate) struct Worker<'a, D: DeskCalls, C: SeatCalls, J: Naming, S: Drop, G> {
+pub(crate) struct WorkerThread<'a, D: DeskCalls, C: SeatCalls, J: Naming, S: Drop, G> {
     pub(crate) ring: Consumer<Item<J>, Global>,
     pub(crate) forwarder: Forwarder,
     pub(crate) gear: Gear<C, J, S>,
@@ -25,12 +25,12 @@ pub(crate) struct Worker<'a, D: DeskCalls, C: SeatCalls, J: Naming, S: Drop, G> 
     pub(crate) recess: &'a Recess,
 }
 
-impl<'a, D: DeskCalls, C: SeatCalls, J: Naming, S: Sink + Drop, G: Gate> Worker<'a, D, C, J, S, G> {
+impl<'a, D: DeskCalls, C: SeatCalls, J: Naming, S: Sink + Drop, G: Gate> WorkerThread<'a, D, C, J, S, G> {
     /// Does all jobs before the stop, and hands its seat back.
     pub(crate) fn run<R: Wait>(self, rt: &R) -> DeskSeat<C> {
         let mut worker = self;
         worker.work_all(rt);
-        let Worker { gear, .. } = worker;
+        let WorkerThread { gear, .. } = worker;
         gear.into_seat()
     }
 

@@ -11,38 +11,38 @@ pub returns-then-at-workers-clause-ok : goal.returns-then-at-workers-clause-ok
 returns-then-at-workers-clause-ok c =
     let m = c.args.m.now in
     let slice = c.as_mut_slice-workers.result.now in
-    let got = set slice c.from-at.result c.turn.new.w in
-    let size : length got ≡ c.args.m.now.workers.len = length-set slice c.from-at.result c.turn.new.w ∙ c.as_mut_slice-workers.ensures.len in
-    let desks : length c.turn.new.desks ≡ c.args.m.now.desks.len = c.turn.auto.desks ∙ c.as_mut_slice-desks.ensures.len in
-    work-done (state_of m) c.args.worker c.from-at.result (worker_state (get_or slice c.from-at.result c.index-workers-at.result)) (worker_state c.turn.new.w)
-    c.as_slice-rows.result.now c.as_mut_slice-desks.result.now c.turn.new.desks (with_items m.desks c.turn.new.desks).items
-    (map worker_state (with_items m.workers got).items) c.args.outs.now.items c.reserve.new.self.items c.turn.new.outs.items c.turn.result
+    let got = set slice c.from-at.result c.step.new.w in
+    let size : length got ≡ c.args.m.now.workers.len = length-set slice c.from-at.result c.step.new.w ∙ c.as_mut_slice-workers.ensures.len in
+    let desks : length c.step.new.desks ≡ c.args.m.now.desks.len = c.step.auto.desks ∙ c.as_mut_slice-desks.ensures.len in
+    work-done (state_of m) c.args.worker c.from-at.result (worker_state (get_or slice c.from-at.result c.index-workers-at.result)) (worker_state c.step.new.w)
+    c.as_slice-rows.result.now c.as_mut_slice-desks.result.now c.step.new.desks (with_items m.desks c.step.new.desks).items
+    (map worker_state (with_items m.workers got).items) c.args.outs.now.items c.reserve.new.self.items c.step.new.outs.items c.step.result
     c.from-at.ensures
     (worker-there m.workers.items slice c.from-at.result c.index-workers-at.result c.as_mut_slice-workers.ensures.value
     c.if-at-workers.true)
     c.knows_counts.ensures.lost c.knows_counts.ensures.tmmbns c.as_slice-rows.ensures.value c.as_mut_slice-desks.ensures.value c.reserve.ensures.items
-    (with_items_is m.desks c.turn.new.desks desks)
-    (worker-set m.workers.items slice (with_items m.workers got).items c.from-at.result c.turn.new.w c.as_mut_slice-workers.ensures.value
+    (with_items_is m.desks c.step.new.desks desks)
+    (worker-set m.workers.items slice (with_items m.workers got).items c.from-at.result c.step.new.w c.as_mut_slice-workers.ensures.value
     (with_items_is m.workers got size))
-    c.turn.ensures.ok
+    c.step.ensures.ok
 
 pub returns-then-at-workers-clause-err : goal.returns-then-at-workers-clause-err
 returns-then-at-workers-clause-err c =
     let m = c.args.m.now in
     let slice = c.as_mut_slice-workers.result.now in
-    let got = set slice c.from-at.result c.turn.new.w in
-    let size : length got ≡ c.args.m.now.workers.len = length-set slice c.from-at.result c.turn.new.w ∙ c.as_mut_slice-workers.ensures.len in
-    let desks : length c.turn.new.desks ≡ c.args.m.now.desks.len = c.turn.auto.desks ∙ c.as_mut_slice-desks.ensures.len in
-    work-stays (state_of m) c.from-at.result (worker_state (get_or slice c.from-at.result c.index-workers-at.result)) (worker_state c.turn.new.w)
-    c.as_mut_slice-desks.result.now c.turn.new.desks (with_items m.desks c.turn.new.desks).items
-    (map worker_state (with_items m.workers got).items) c.args.outs.now.items c.reserve.new.self.items c.turn.new.outs.items c.turn.result
+    let got = set slice c.from-at.result c.step.new.w in
+    let size : length got ≡ c.args.m.now.workers.len = length-set slice c.from-at.result c.step.new.w ∙ c.as_mut_slice-workers.ensures.len in
+    let desks : length c.step.new.desks ≡ c.args.m.now.desks.len = c.step.auto.desks ∙ c.as_mut_slice-desks.ensures.len in
+    work-stays (state_of m) c.from-at.result (worker_state (get_or slice c.from-at.result c.index-workers-at.result)) (worker_state c.step.new.w)
+    c.as_mut_slice-desks.result.now c.step.new.desks (with_items m.desks c.step.new.desks).items
+    (map worker_state (with_items m.workers got).items) c.args.outs.now.items c.reserve.new.self.items c.step.new.outs.items c.step.result
     (worker-there m.workers.items slice c.from-at.result c.index-workers-at.result c.as_mut_slice-workers.ensures.value
     c.if-at-workers.true)
     c.as_mut_slice-desks.ensures.value c.reserve.ensures.items
-    (with_items_is m.desks c.turn.new.desks desks)
-    (worker-set m.workers.items slice (with_items m.workers got).items c.from-at.result c.turn.new.w c.as_mut_slice-workers.ensures.value
+    (with_items_is m.desks c.step.new.desks desks)
+    (worker-set m.workers.items slice (with_items m.workers got).items c.from-at.result c.step.new.w c.as_mut_slice-workers.ensures.value
     (with_items_is m.workers got size))
-    c.turn.ensures.err
+    c.step.ensures.err
 
 pub returns-else-at-workers-clause-ok : goal.returns-else-at-workers-clause-ok
 returns-else-at-workers-clause-ok c =

@@ -6,7 +6,7 @@ use Rattle.events.specs.declared.output.Out.{Out}
 use Rattle.outside.specs.Outside.{Grows, arrival_of}
 use Rattle.one_thread.specs.declared.tally.Tally.{Tally}
 use Rattle.one_thread.specs.Driving.{Drives}
-use Rattle.one_thread.specs.Turns.{Hands, brought_at, tick_at}
+use Rattle.one_thread.specs.Turns.{SendsCounted, brought_at, tick_at}
 use Rattle.one_thread.proofs.TurnLemmas.{on_err_of, turn_broken, turn_made}
 use Rattle.one_thread.proofs.turn.turn.Goals as goal
 
@@ -49,5 +49,5 @@ returns-clause-ok g c =
     c.moment-moment.result c.args.engine.now.outs.items c.take_turn.new.outs.items c.requires.empty
     (subst P (sym kept) c.receive-received.ensures.given) c.moment-moment.ensures.told driven
     c.in_ok-before.ensures.noted (c.faults_with-engine.ensures buffer) (c.is_stop-engine.ensures buffer) (c.heard_with-engine.ensures buffer) refl refl
-    (subst (λ (l : List Out). Hands l (g.Snk.Sink.shown c.args.sink.now) (g.Snk.Sink.shown c.give_all.new.sink) mid c.give_all.new.tally)
+    (subst (λ (l : List Out). SendsCounted l (g.Snk.Sink.shown c.args.sink.now) (g.Snk.Sink.shown c.give_all.new.sink) mid c.give_all.new.tally)
     c.as_slice-2.ensures.value c.give_all.ensures)

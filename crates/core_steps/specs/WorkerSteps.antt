@@ -1,4 +1,4 @@
--- A worker's turn, on the parts of the world that it sees.
+-- A worker's step, on the parts of the world that it sees.
 use Rattle.std.specs.Prelude.{◌≡◌, ℕ, ◌^◌, ◌<◌, List, slice_get, slice_set, Option, Some}
 use Rattle.members.specs.declared.order.Row.{Row}
 use Rattle.desk.specs.declared.call.Call.{Call as DeskCall}
@@ -25,14 +25,14 @@ abbrev pub world_with : WorldState → Setup → List Row → List DeskState →
 world_with w setup rows desks = record w { setup = setup; rows = rows; desks = desks }
 
 -- the world with these desks, and this worker under its number
-abbrev pub world_after_turn : WorldState → ℕ → List DeskState → WorkerState → WorldState
-world_after_turn w k desks s = record w { desks = desks; workers = slice_set w.workers k s }
+abbrev pub world_after_step : WorldState → ℕ → List DeskState → WorkerState → WorldState
+world_after_step w k desks s = record w { desks = desks; workers = slice_set w.workers k s }
 
--- in each world with these parts the worker's turn is one that it may do
-abbrev pub Turns : Setup → List Row → List DeskState → List DeskState → WorkerState → WorkerState
+-- in each world with these parts the worker's step is one that it may do
+abbrev pub StepsWorker : Setup → List Row → List DeskState → List DeskState → WorkerState → WorkerState
     → List Out → List Out → Type 0
-Turns setup rows desks later s next outs all =
+StepsWorker setup rows desks later s next outs all =
     (w : WorldState) (k : ℕ) → slice_get w.workers k ≡ Some s → w.lost < 2 ^ 64 → w.tmmbns < 2 ^ 64
     → Leaves (WorksOn (world_with w setup rows desks) k s s.hand s.jobs)
     (world_with w setup rows desks) outs
-    (world_after_turn (world_with w setup rows desks) k later next) all
+    (world_after_step (world_with w setup rows desks) k later next) all

@@ -35,8 +35,8 @@ abbrev pub nothing_done : Forwarded
 nothing_done = record { sent = 0; failed = 0; skipped = 0; missed = 0 }
 
 -- the same, where nothing was counted before
-abbrev pub Hands : List Out → SinkView → SinkView → Forwarded → Type 0
-Hands outs before after done = Adds outs before after nothing_done done
+abbrev pub Sends : List Out → SinkView → SinkView → Forwarded → Type 0
+Sends outs before after done = Adds outs before after nothing_done done
 
 -- all that was counted
 abbrev pub total_of : Forwarded → ℕ

@@ -1,4 +1,4 @@
--- What a turn of a worker keeps, for the quiet law.
+-- What a step of a worker keeps, for the quiet law.
 use Rattle.std.proofs.Common.{◌≡◌, ◌≢◌, ℕ, List, [], ◌∷◌, ◌++◌, refl, sym, ap, subst, ◌∙◌, arith, Option, Some, None, Bool, inl, inr}
 use Rattle.std.specs.Prelude.{◌⊎◌, ◌==◌, slice_get}
 use Rattle.std.specs.List.{last_or}
@@ -34,15 +34,15 @@ use Rattle.core_steps.proofs.QuietKeptLemmas.{IsPlacedHand, IsPlacedWorker, stay
 use Rattle.core_steps.proofs.QuietTaskLemmas.{length_set, unlike, kept_call, leg_apart, own_call, here, keeps_here}
 
 module _ (c : Configuration) (range : IsInRange c) (es : List Endpoint) (ls : List LegStay) (next : ℕ) (rates : List HeardRate) where
-  -- ---- a worker's turn
+  -- ---- a worker's step
 
   -- nothing of what it asks moves, but for its oldest job into its hand
-  pub kept_turned : (at : Worked) (s : WorkerState) (tasks : List Task) (desks : List DeskState) (workers : List WorkerState) (asked : List RecordedCall)
+  pub kept_worked : (at : Worked) (s : WorkerState) (tasks : List Task) (desks : List DeskState) (workers : List WorkerState) (asked : List RecordedCall)
       → slice_get workers at.worker ≡ Some s → IsPlacedWorker c at.worker (worker_after s at)
       → ((n : ℕ) (stay : ℕ) (done : List (ℕ × ℕ)) → IsWaiting n next (stay_at ls n) tasks (hand_asks n s.hand) (jobs_asks n s.jobs) rates stay done
       → IsWaiting n next (stay_at ls n) tasks (hand_asks n (worker_after s at).hand) (jobs_asks n (worker_after s at).jobs) rates stay done)
       → IsKept c es ls next tasks desks workers rates asked → IsKept c es ls next tasks desks (workers_by workers at) rates asked
-  kept_turned at s tasks desks workers asked there placed same h = record {
+  kept_worked at s tasks desks workers asked there placed same h = record {
     stand = h.stand;
     past = h.past;
     once = h.once;
@@ -68,7 +68,7 @@ module _ (c : Configuration) (range : IsInRange c) (es : List Endpoint) (ls : Li
       }
 
   -- the same, and a desk recorded a call of nobody's
-  pub kept_turned_told : (desks : List DeskState) (asked : List RecordedCall) (p : ℕ) (d : DeskState) (call : DeskCall) (a : RecordedCall)
+  pub kept_worked_told : (desks : List DeskState) (asked : List RecordedCall) (p : ℕ) (d : DeskState) (call : DeskCall) (a : RecordedCall)
       → slice_get desks p ≡ Some d → IsRecordedCall p d call a → IsByLeg c p call
       → ((l : LegSettings) → IsOther (asker c l) (is_done a.answer) a.call)
       → (at : Worked) (s : WorkerState) (tasks : List Task) (workers : List WorkerState)
@@ -77,8 +77,8 @@ module _ (c : Configuration) (range : IsInRange c) (es : List Endpoint) (ls : Li
       → IsWaiting n next (stay_at ls n) tasks (hand_asks n (worker_after s at).hand) (jobs_asks n (worker_after s at).jobs) rates stay done)
       → IsKept c es ls next tasks desks workers rates asked
       → IsKept c es ls next tasks (desks_by desks a) (workers_by workers at) rates (asked ++ a ∷ [])
-  kept_turned_told desks asked p d call a found recorded by other at s tasks workers there placed same h =
-      let t = kept_turned at s tasks desks workers asked there placed same h in
+  kept_worked_told desks asked p d call a found recorded by other at s tasks workers there placed same h =
+      let t = kept_worked at s tasks desks workers asked there placed same h in
       kept_call c range es ls next rates desks asked p d call a found recorded tasks tasks (workers_by workers at) (workers_by workers at) by t t.first t.placed refl t.workers_placed
       (λ n l leg. let k = t.legs_kept n l leg in
       leg_apart c range es ls next rates desks asked p d call a found recorded tasks tasks (workers_by workers at) (workers_by workers at) n l (t.desks_kept p d found)
