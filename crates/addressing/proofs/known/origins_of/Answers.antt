@@ -1,5 +1,5 @@
 use Rattle.addressing.proofs.KnownLemmas.{origins_passed}
-use Rattle.addressing.proofs.clients.origins_of.Goals as goal
+use Rattle.addressing.proofs.known.origins_of.Goals as goal
 
 pub loop-number-preserved : goal.loop-number-preserved
 loop-number-preserved c =

@@ -1,5 +1,5 @@
 use Rattle.addressing.proofs.KnownLemmas.{client_passed}
-use Rattle.addressing.proofs.clients.learners_of.Goals as goal
+use Rattle.addressing.proofs.known.learners_of.Goals as goal
 
 pub loop-number-preserved : goal.loop-number-preserved
 loop-number-preserved c =
