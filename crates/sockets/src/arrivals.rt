@@ -1,9 +1,9 @@
 //! What came to the unit's sockets: who sent it, and what of it is heard by itself.
 
-ghost use Rattle.std.specs.Prelude.{◌≡◌, ◌≤◌, [], None, Some, length, take, IfOk, IfSome};
+ghost use Rattle.std.specs.Prelude.{◌≡◌, ◌≤◌, ◌⊎◌, [], None, Some, length, take, IfOk, IfSome};
 ghost use Rattle.senders.specs.Naming.{source_named};
 ghost use Rattle.senders.specs.Senders.{sender_of};
-ghost use Rattle.sockets.specs.Arrivals.{first_floods, first_learners, first_listeners, first_senders};
+ghost use Rattle.sockets.specs.Arrivals.{IsHeardOfRest, IsReportMade, first_floods, first_learners, first_listeners, first_senders};
 
 use addressing::{
     Client, Directory, Listening, is_reachable, learners_of, listeners_of, senders_of,
@@ -98,7 +98,10 @@ impl<'a> Arrivals<'a> {
     /// What is to be heard before anything that comes: the rest of a datagram, or a report in the name of an endpoint that only
     /// listens. It is written to the beginning of `out`; its endpoint, and its length in bytes.
     pub fn waiting(&mut self, out: &mut [u8]) -> Option<(u16, usize)>
-        ensures { IfSome result (λ heard. heard.1 ≤ length out.new) }
+        ensures within { IfSome result (λ heard. heard.1 ≤ length out.new) }
+        ensures heard { IfSome result (λ heard.
+            IsHeardOfRest ⟦<Origin as PartialEq>⟧.eq ⟦<SocketAddr as PartialEq>⟧.eq self.old heard out.new
+            ⊎ IsReportMade self.old heard out.new) }
     {
         match self.rest_heard(out) {
             Some(heard) => Some(heard),
@@ -202,7 +205,10 @@ impl<'a> Arrivals<'a> {
 
     /// What is heard of the rest of a datagram. Packets of strangers are counted, and passed over one in a call.
     fn rest_heard(&mut self, out: &mut [u8]) -> Option<(u16, usize)>
-        ensures { IfSome result (λ heard. heard.1 ≤ length out.new) }
+        ensures within { IfSome result (λ heard. heard.1 ≤ length out.new) }
+        ensures heard { IfSome result (λ heard.
+            IsHeardOfRest ⟦<Origin as PartialEq>⟧.eq ⟦<SocketAddr as PartialEq>⟧.eq self.old heard out.new) }
+        ensures sources { self.new.sources ≡ self.old.sources }
     {
         let from = self.rest.from?;
         let Some(datagram) = self.rest.bytes.as_slice().get(self.rest.heard..) else {
@@ -224,7 +230,8 @@ impl<'a> Arrivals<'a> {
 
     /// The report that is due in the name of an endpoint that only listens.
     fn report_made(&mut self, out: &mut [u8]) -> Option<(u16, usize)>
-        ensures { IfSome result (λ heard. heard.1 ≤ length out.new) }
+        ensures within { IfSome result (λ heard. heard.1 ≤ length out.new) }
+        ensures made { IfSome result (λ heard. IsReportMade self.old heard out.new) }
     {
         let number = self.listeners.report_due(self.gauges.moment_ms.get())?;
         let endpoint = u16::try_from(number).ok()?;
@@ -246,7 +253,8 @@ impl<'a> Arrivals<'a> {
 
     /// Counts what came from the endpoint, and notes that it was heard if it only listens or its address is learned.
     fn note(&mut self, endpoint: u16, datagram: &[u8])
-        ensures { self.new.senders ≡ self.old.senders }
+        ensures senders { self.new.senders ≡ self.old.senders }
+        ensures sources { self.new.sources ≡ self.old.sources }
     {
         self.traffic
             .heard(endpoint, datagram, self.gauges.moment_ms.get());
@@ -304,7 +312,9 @@ fn looks_of(
 
 /// Writes bytes to the beginning of `out`, and says how many; nothing where there is no room.
 fn written(bytes: &[u8], out: &mut [u8]) -> Option<usize>
-    ensures { IfSome result (λ written. written ≤ length out.new) }
+    ensures within { IfSome result (λ written. written ≤ length out.new) }
+    ensures size { IfSome result (λ written. written ≡ length bytes.now) }
+    ensures bytes { IfSome result (λ written. take written out.new ≡ bytes.now) }
 {
     if out.len() < bytes.len() {
         return None;
