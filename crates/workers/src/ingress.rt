@@ -147,7 +147,7 @@ impl<'a, D: DeskCalls, C: SeatCalls, J: Naming, S: Sink + Drop> Ingress<'a, D, C
         }
     }
 
-    /// Does all that waits.
+    /// Does all that waits; then workers that have something to do are woken, each once.
     fn do_duties<R: Wait>(&mut self, rt: &R) -> Result<(), AllocError> {
         for _ in rt.forever() {
             match self.core.next_duty()? {
@@ -155,6 +155,7 @@ impl<'a, D: DeskCalls, C: SeatCalls, J: Naming, S: Sink + Drop> Ingress<'a, D, C
                 None => break,
             }
         }
+        self.crew.wake(self.counts);
         Ok(())
     }
 
@@ -219,8 +220,7 @@ impl<'a, D: DeskCalls, C: SeatCalls, J: Naming, S: Sink + Drop> Ingress<'a, D, C
     /// Waits, for a little, until the packets that were heard are sent on, by the rows as they are.
     fn settle<R: Wait>(&mut self, rt: &R) {
         if self.is_unsettled {
-            let moment = self.core.moment();
-            settle(rt, &self.crew, self.counts, &mut self.patience, moment);
+            self.wait_for_workers(rt);
             self.is_unsettled = false;
         }
     }
@@ -229,9 +229,15 @@ impl<'a, D: DeskCalls, C: SeatCalls, J: Naming, S: Sink + Drop> Ingress<'a, D, C
     /// reports in a full room may be longer than a ring.
     fn make_room<R: Wait>(&mut self, rt: &R, worker: u16, job: &Job) {
         if may_wait(job) && self.crew.is_crowded(worker) {
-            let moment = self.core.moment();
-            settle(rt, &self.crew, self.counts, &mut self.patience, moment);
+            self.wait_for_workers(rt);
         }
+    }
+
+    /// Waits, for a little, until the workers have done all that they were given.
+    fn wait_for_workers<R: Wait>(&mut self, rt: &R) {
+        self.crew.wake(self.counts);
+        let moment = self.core.moment();
+        settle(rt, &self.crew, self.counts, &mut self.patience, moment);
     }
 
     /// Puts a job into the worker's ring; it is lost where the ring is full.

@@ -1,6 +1,6 @@
 //! Lanes: workers in threads of their own, and the ends of their rings where the ingress puts jobs.
 
-ghost use Rattle.std.specs.Prelude.{◌≡◌, ◌++◌, ◌∷◌, [], IfNone, IfSome, IfOk, nat_lt, vec_len};
+ghost use Rattle.std.specs.Prelude.{◌≡◌, ◌<◌, ◌++◌, ◌∷◌, [], IfNone, IfSome, IfOk, nat_lt, vec_len};
 ghost use Rattle.rtrb.specs.Ring.{known_free, sent, producer_capacity};
 
 use crate::counts::{Counts, Station};
@@ -18,6 +18,9 @@ use std::thread::{JoinHandle, Threads};
 /// A ring that has fewer free places is mostly full.
 const FEW_SLOTS: usize = JOB_LIMIT / 4;
 
+/// Once so many items were put into a ring, its worker is woken, whatever else is to be put there.
+const MOST_UNWOKEN: u32 = 32;
+
 /// The two ends of a worker's ring: where items are put, and where they are taken.
 pub(crate) type RingEnds<J> = (Producer<Item<J>, Global>, Consumer<Item<J>, Global>);
 
@@ -34,22 +37,40 @@ pub(crate) struct Lane<J: Naming, C: SeatCalls> {
     pub(crate) ring: Producer<Item<J>, Global>,
     /// How many items were put into the ring.
     pub(crate) put: u64,
+    /// How many of them were put there since the worker was last woken.
+    pub(crate) unwoken: u32,
     pub(crate) thread: JoinHandle<DeskSeat<C>>,
 }
 
 impl<J: Naming, C: SeatCalls> Lane<J, C> {
-    /// Puts an item into the ring and wakes the worker at this station; a full ring hands it back.
+    /// Puts an item into the ring, and wakes the worker at this station if many were put there since it was woken; a full ring hands it
+    /// back.
     fn push(&mut self, station: &Station, item: Item<J>) -> Option<Item<J>>
         ensures put { IfNone result (sent self.new.ring ≡ sent self.old.ring ++ item ∷ []) }
         ensures back { IfSome result (λ i. i ≡ item) }
+        ensures few { self.old.unwoken < 32 → self.new.unwoken < 32 }
     {
         match self.ring.push(item) {
             Ok(()) => {
                 self.put = self.put.saturating_add(1);
-                station.parker.unpark();
+                self.unwoken = self.unwoken.saturating_add(1);
+                if self.unwoken >= MOST_UNWOKEN {
+                    self.wake(station);
+                }
                 None
             }
             Err(PushError::Full(item)) => Some(item),
+        }
+    }
+
+    /// Wakes the worker at this station, if anything was put into its ring since it was woken.
+    fn wake(&mut self, station: &Station)
+        ensures none { self.new.unwoken ≡ 0 }
+        ensures ring { self.new.ring ≡ self.old.ring }
+    {
+        if self.unwoken > 0 {
+            self.unwoken = 0;
+            station.parker.unpark();
         }
     }
 
@@ -64,6 +85,7 @@ impl<J: Naming, C: SeatCalls> Lane<J, C> {
     fn stop<R: Wait>(&mut self, rt: &R, station: &Station) {
         for _ in rt.forever() {
             if self.push(station, Item::Stop).is_none() {
+                self.wake(station);
                 return;
             }
             thread::yield_now();
@@ -76,6 +98,7 @@ impl<J: Naming, C: SeatCalls> Lane<J, C> {
         let Lane {
             ring: _,
             put: _,
+            unwoken: _,
             thread,
         } = self;
         thread.join(rt)
@@ -115,7 +138,8 @@ impl<J: Naming, C: SeatCalls> Crew<J, C> {
         }
     }
 
-    /// Puts an item into this worker's ring, and into no other; it is handed back if there is no such worker, or its ring is full.
+    /// Puts an item into this worker's ring, and into no other; it is handed back if there is no such worker, or its ring is full. The
+    /// worker is woken by `wake`, and by the last of many.
     pub(crate) fn push(&mut self, counts: &Counts, worker: u16, item: Item<J>) -> Option<Item<J>>
         ensures back { IfSome result (λ i. i ≡ item) }
     {
@@ -126,6 +150,13 @@ impl<J: Naming, C: SeatCalls> Crew<J, C> {
         match counts.station(worker) {
             Some(station) => self.lanes[at].push(station, item),
             None => Some(item),
+        }
+    }
+
+    /// Wakes each worker into whose ring anything was put since it was woken.
+    pub(crate) fn wake(&mut self, counts: &Counts) {
+        for (lane, station) in self.lanes.iter_mut().zip(counts.stations()) {
+            lane.wake(&**station);
         }
     }
 

@@ -303,6 +303,7 @@ fn start<
     Ok(Lane {
         ring,
         put: 0,
+        unwoken: 0,
         thread,
     })
 }

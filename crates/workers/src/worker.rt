@@ -25,7 +25,14 @@ pub(crate) struct WorkerThread<'a, D: DeskCalls, C: SeatCalls, J: Naming, S: Dro
     pub(crate) recess: &'a Recess,
 }
 
-impl<'a, D: DeskCalls, C: SeatCalls, J: Naming, S: Sink + Drop, G: Gate> WorkerThread<'a, D, C, J, S, G> {
+impl<'a, D: DeskCalls, C: SeatCalls, J: Naming, S: Sink + Drop, G: Gate> WorkerThread<
+    'a,
+    D,
+    C,
+    J,
+    S,
+    G,
+> {
     /// Does all jobs before the stop, and hands its seat back.
     pub(crate) fn run<R: Wait>(self, rt: &R) -> DeskSeat<C> {
         let mut worker = self;
