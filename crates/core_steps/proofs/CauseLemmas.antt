@@ -169,7 +169,7 @@ none_on t r a (Some leg) =
     maybe_if (leg_stay r leg == 0) None (Some (push (owner_of t leg) (job_by r.moment leg (leg_stay r leg) a))) refl refl
 
 pub none_heard : (t : LinkTable) (r : RoomState) (endpoint : ℕ) (bytes : List ℕ) (said : Said) → orders_in (jobs_of t r endpoint bytes said) ≡ []
-none_heard t r endpoint bytes (media ssrc seq timestamp) =
+none_heard t r endpoint bytes (media ssrc seq timestamp octets) =
     none_map (λ (w : ℕ). push w (Packet endpoint bytes)) (serving t r endpoint) (λ w. refl)
 none_heard t r endpoint bytes leaves = refl
 none_heard t r endpoint bytes (control speaker said tmmbns asks) =
@@ -218,7 +218,7 @@ orders_ticked w s =
 
 -- what is received gives no order
 pub none_received : (r : RoomState) (endpoint : ℕ) (said : Said) → orders_after r (receptions endpoint said) ≡ []
-none_received r endpoint (media ssrc seq timestamp) = refl
+none_received r endpoint (media ssrc seq timestamp octets) = refl
 none_received r endpoint leaves = refl
 none_received r endpoint (control speaker said tmmbns asks) = step (last_or None said)
   where

@@ -1,8 +1,9 @@
 -- What the ingress takes in, as a happening: a moment, an RTP packet, RTCP packets.
-use Rattle.std.proofs.Common.{◌≡◌, ◌∙◌, ◌==◌, ℕ, ◌^◌, ◌<◌, List, [], ◌∷◌, ◌++◌, length, map, Bool, true, false, Result, Ok, Err, refl, sym, ap, ap₂, subst}
+use Rattle.std.proofs.Common.{◌≡◌, ◌∙◌, ◌==◌, ℕ, ◌^◌, ◌<◌, ◌≤◌, ⊎_elim, slice_index, arith, List, [], ◌∷◌, ◌++◌, length, map, Bool, true, false, Result, Ok, Err, refl, sym, ap, ap₂, subst}
 use Rattle.std.proofs.lemmas.List.{append-nil, map-append, append_assoc}
+use Rattle.std.proofs.lemmas.Bool.{cases_lt}
 use Rattle.std.specs.Prelude.{Option, None, Some, OnOk, if◌then◌else◌}
-use Rattle.std.specs.List.{last_or, enumerate_from, filter_map, flat_map}
+use Rattle.std.specs.List.{last_or, enumerate_from, filter_map, flat_map, list_any}
 use Rattle.std.specs.Option.{option_map_or}
 use Rattle.settings.specs.declared.fault.RoomFault.{RoomFault}
 use Rattle.members.specs.declared.order.Order.{Order}
@@ -25,7 +26,9 @@ use Rattle.core_steps.specs.FollowUps.{follow_up_after, due_to, packet_to, repor
 use Rattle.core_steps.specs.Happening.{giving, capped_count}
 use Rattle.intake.specs.Heard.{HearsBy, heard_of, asks_of}
 use Rattle.core_steps.specs.Hearing.{IsHearing, hearing, hearing_by, selecting, selecting_by, ticking, numbers_below, leg_report, task_after, tasks_after, reports, expires, present_endpoints, is_report_due, refusals_of, jobs_of, receptions}
-use Rattle.intake.specs.Intake.{Said, media, leaves, control, Says}
+use Rattle.intake.specs.Intake.{Said, media, leaves, control, Says, SaysRtp, IsRtcp, speaker_of, heeded}
+use Rattle.rewrite.specs.Rtp.{IsReadAs}
+use Rattle.rewrite.proofs.RtpLemmas.{reads_rtp, number_read, payload_read}
 use Rattle.core_steps.specs.Machine.{task_of}
 use Rattle.core_steps.specs.Rule.{is_busy}
 use Rattle.core_steps.specs.Run.{Leaves}
@@ -143,17 +146,17 @@ first_follows w s bits room after f0 f1 er orders e0 e1 =
 
 -- ---- an RTP packet
 
-pub medias : (w : WorldState) (moment endpoint : ℕ) (bytes bits : List ℕ) (ssrc seq timestamp n : ℕ) (outs all : List Out) (before after : List Order)
+pub medias : (w : WorldState) (moment endpoint : ℕ) (bytes bits : List ℕ) (ssrc seq timestamp octets n : ℕ) (outs all : List Out) (before after : List Order)
     (room room' : RoomState) (f0 f1 f2 : List FollowUp) (tasks : List Task) → all ≡ outs → is_busy w ≡ false → w.lost < 2 ^ 64 → w.tmmbns < 2 ^ 64
     → Answers w.room before (hear_step w.room moment endpoint ssrc) (Ok tt) room after → before ≡ [] → bits ≡ bytes
     → n ≡ w.setup.table.workers → f0 ≡ [] → f1 ≡ f0 ++ filter_map (follow_up_after w.setup room) after
     → f2 ≡ f1 ++ filter_map (packet_to w.setup.table room endpoint) (numbers_below n)
     → room' ≡ after_packet room endpoint seq timestamp → tasks ≡ map order after ++ map (task_of bits) f2
-    → Leaves (λ h. h ≡ hearing w moment endpoint bytes (Ok (media ssrc seq timestamp))) w outs
+    → Leaves (λ h. h ≡ hearing w moment endpoint bytes (Ok (media ssrc seq timestamp octets))) w outs
     (taken_in w room' tasks w.reported w.tmmbns) all
-medias w moment endpoint bytes bits ssrc seq timestamp n outs all before after room room' f0 f1 f2 tasks ea h lost tmmbns a eb ed en e0 e1 e2 er' et =
+medias w moment endpoint bytes bits ssrc seq timestamp octets n outs all before after room room' f0 f1 f2 tasks ea h lost tmmbns a eb ed en e0 e1 e2 er' et =
     let (s, is, er, eo) = accepted w.room before (hear_step w.room moment endpoint ssrc) room after a in
-    let said : Said = media ssrc seq timestamp in
+    let said : Said = media ssrc seq timestamp octets in
     let t = w.setup.table in
     let orders : after ≡ s.orders = eo ∙ ap (λ (l : List Order). l ++ s.orders) eb in
     let calls = Hear moment endpoint ssrc ∷ (Receive endpoint seq timestamp ∷ []) in
@@ -285,25 +288,26 @@ is_hearing w moment endpoint bytes said outs all new says l =
       given = l.given;
     }
 
-abbrev packet_parts : Heard → ℕ × ℕ × ℕ
-packet_parts (Media source seq timestamp) = (source.0, seq, timestamp)
-packet_parts Goodbye = (0, 0, 0)
-packet_parts (Control c) = (0, 0, 0)
+abbrev packet_parts : Heard → ℕ × ℕ × ℕ × ℕ
+packet_parts (Media source seq timestamp octets) = (source.0, seq, timestamp, octets)
+packet_parts Goodbye = (0, 0, 0, 0)
+packet_parts (Control c) = (0, 0, 0, 0)
 
-media_said : (ssrc : Ssrc) (seq timestamp : ℕ) (said : Said) → Media ssrc seq timestamp ≡ heard_of said → said ≡ media ssrc.0 seq timestamp
-media_said ssrc seq timestamp (media s q p) e =
-    sym (ap (λ (x : ℕ × ℕ × ℕ). media x.0 x.1 x.2) (ap packet_parts e))
-media_said ssrc seq timestamp leaves e = absurd (cc)
-media_said ssrc seq timestamp (control speaker said_reports tmmbns asks) e = absurd (cc)
+media_said : (ssrc : Ssrc) (seq timestamp octets : ℕ) (said : Said) → Media ssrc seq timestamp octets ≡ heard_of said
+    → said ≡ media ssrc.0 seq timestamp octets
+media_said ssrc seq timestamp octets (media s q p n) e =
+    sym (ap (λ (x : ℕ × ℕ × ℕ × ℕ). media x.0 x.1 x.2 x.3) (ap packet_parts e))
+media_said ssrc seq timestamp octets leaves e = absurd (cc)
+media_said ssrc seq timestamp octets (control speaker said_reports tmmbns asks) e = absurd (cc)
 
 leaves_said : (said : Said) → Goodbye ≡ heard_of said → said ≡ leaves
-leaves_said (media s q p) e = absurd (cc)
+leaves_said (media s q p n) e = absurd (cc)
 leaves_said leaves e = refl
 leaves_said (control speaker reports tmmbns asks) e = absurd (cc)
 
 control_said : (c : ControlParts) (said : Said) → Control c ≡ heard_of said
     → (reports : List (ℕ × ℕ)) × (c.report ≡ last_or None reports) × (said ≡ control c.speaker.0 reports c.tmmbns (asks_of said))
-control_said c (media s q p) e = absurd (cc)
+control_said c (media s q p n) e = absurd (cc)
 control_said c leaves e = absurd (cc)
 control_said c (control speaker reports tmmbns asks) e =
     let parts : c ≡ record { speaker = record { 0 = speaker }; report = last_or None reports; tmmbns = tmmbns } = cc in
@@ -319,17 +323,57 @@ says_at own own' read bytes a b eo er ea h =
     let R : Result Said Refusal → Type 0 = λ x. Says own' bytes x in
     subst R ea (subst Q er (subst P eo h))
 
+-- no RTCP says a packet
+no_packet_said : (b : Bool) (s q p n speaker : ℕ) (reports : List (ℕ × ℕ)) (tmmbns : ℕ) (asks : List Ask)
+    → media s q p n ≡ (if b then leaves else control speaker reports tmmbns asks) → ⊥
+no_packet_said true s q p n speaker reports tmmbns asks e = absurd (cc)
+no_packet_said false s q p n speaker reports tmmbns asks e = absurd (cc)
+
+abbrev said_parts : Said → ℕ × ℕ
+said_parts (media s q p n) = (q, n)
+said_parts leaves = (0, 0)
+said_parts (control speaker reports tmmbns asks) = (0, 0)
+
+packet_read : (d : List ℕ) (s q p n : ℕ) → SaysRtp d (Ok (media s q p n)) → IsReadAs d (record { sequence_number = q; octets = n })
+packet_read d s q p n (packet, reads, is) = record {
+  is_packet = reads_rtp d packet reads;
+  number = number_read d packet reads ∙ sym (ap (λ (x : Said). (said_parts x).0) is);
+  octets = payload_read d packet reads ∙ sym (ap (λ (x : Said). (said_parts x).1) is);
+}
+
+says_read : (own : ℕ) (d : List ℕ) (s q p n : ℕ) → Says own d (Ok (media s q p n)) → IsReadAs d (record { sequence_number = q; octets = n })
+says_read own d s q p n (rtcp, rtp) =
+    let kind = slice_index d 1 in
+    ⊎_elim
+    (λ (below : kind < 192). packet_read d s q p n (rtp (λ (h : IsRtcp d). absurd (omega (arith, below, h.0)))))
+    (λ (least : 192 ≤ kind). ⊎_elim
+    (λ (above : 223 < kind). packet_read d s q p n (rtp (λ (h : IsRtcp d). absurd (omega (arith, above, h.1)))))
+    (λ (most : kind ≤ 223).
+    let said = rtcp (least, most) in
+    absurd (no_packet_said (list_any (λ x. x == own) said.0.goodbyes) s q p n (speaker_of own said.0.senders) said.0.reports said.0.tmmbns
+    (heeded said.0.asks) said.2))
+    (cases_lt 223 kind))
+    (cases_lt kind 192)
+
+-- a packet that was heard was read so
+pub media_read : (own : ℕ) (d : List ℕ) (heard : Heard) (ssrc : Ssrc) (seq timestamp octets : ℕ) (before after : List Ask)
+    → heard ≡ Media ssrc seq timestamp octets → HearsBy (Says own d) before after (Ok heard)
+    → IsReadAs d (record { sequence_number = seq; octets = octets })
+media_read own d heard ssrc seq timestamp octets before after eh (said, says, is, more) =
+    let e : said ≡ media ssrc.0 seq timestamp octets = media_said ssrc seq timestamp octets said (sym eh ∙ is) in
+    says_read own d ssrc.0 seq timestamp octets (subst (λ (x : Said). Says own d (Ok x)) e says)
+
 pub hears_media : {E : Type 0} (r : Result (Unit {0}) E) (w : WorldState) (moment endpoint own : ℕ) (read bytes : List ℕ) (outs all : List Out)
-    (new : WorldState) (heard : Heard) (ssrc : Ssrc) (seq timestamp : ℕ) (before after : List Ask)
-    → own ≡ (source_of w.setup.table endpoint).0 → read ≡ bytes → heard ≡ Media ssrc seq timestamp
+    (new : WorldState) (heard : Heard) (ssrc : Ssrc) (seq timestamp octets : ℕ) (before after : List Ask)
+    → own ≡ (source_of w.setup.table endpoint).0 → read ≡ bytes → heard ≡ Media ssrc seq timestamp octets
     → HearsBy (Says own read) before after (Ok heard)
-    → OnOk r (Leaves (λ h. h ≡ hearing w moment endpoint bytes (Ok (media ssrc.0 seq timestamp))) w outs new all)
+    → OnOk r (Leaves (λ h. h ≡ hearing w moment endpoint bytes (Ok (media ssrc.0 seq timestamp octets))) w outs new all)
     → OnOk r (Leaves (IsHearing w moment endpoint bytes) w outs new all)
-hears_media (Err e) w moment endpoint own read bytes outs all new heard ssrc seq timestamp before after eo er eh h l = l
-hears_media (Ok u) w moment endpoint own read bytes outs all new heard ssrc seq timestamp before after eo er eh (said, says, is, more) l =
-    let e : said ≡ media ssrc.0 seq timestamp = media_said ssrc seq timestamp said (sym eh ∙ is) in
-    is_hearing w moment endpoint bytes (Ok (media ssrc.0 seq timestamp)) outs all new
-    (says_at own (source_of w.setup.table endpoint).0 read bytes (Ok said) (Ok (media ssrc.0 seq timestamp)) eo er (ap Ok e) says) l
+hears_media (Err e) w moment endpoint own read bytes outs all new heard ssrc seq timestamp octets before after eo er eh h l = l
+hears_media (Ok u) w moment endpoint own read bytes outs all new heard ssrc seq timestamp octets before after eo er eh (said, says, is, more) l =
+    let e : said ≡ media ssrc.0 seq timestamp octets = media_said ssrc seq timestamp octets said (sym eh ∙ is) in
+    is_hearing w moment endpoint bytes (Ok (media ssrc.0 seq timestamp octets)) outs all new
+    (says_at own (source_of w.setup.table endpoint).0 read bytes (Ok said) (Ok (media ssrc.0 seq timestamp octets)) eo er (ap Ok e) says) l
 
 pub hears_goodbye : {E : Type 0} (r : Result (Unit {0}) E) (w : WorldState) (moment endpoint own : ℕ) (read bytes : List ℕ) (outs all : List Out)
     (new : WorldState) (heard : Heard) (before after : List Ask) → own ≡ (source_of w.setup.table endpoint).0 → read ≡ bytes

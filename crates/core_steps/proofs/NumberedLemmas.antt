@@ -26,7 +26,7 @@ use Rattle.legs.specs.Legs.{new_leg_of, owned_by, new_legs, takes, row_of, stand
 use Rattle.settings.specs.Links.{LinkTable, cname_of, table_of, numbered_legs, worker_of}
 use Rattle.core_steps.specs.Numbered.{Finished, finished_by, jobs_of_worker, finished_at, finished_over, Taken, packets_taken_by, taken_on, incoming_packet, sent_as, sent_on, AtLeg, HasTaken, HasTakenAll, legs_at}
 use Rattle.core_steps.specs.Opening.{IsNewWorld}
-use Rattle.legs.specs.Rtp.{sequence_number}
+use Rattle.rewrite.specs.Rtp.{sequence_number}
 use Rattle.core_steps.specs.Run.{Runs, worlds_after}
 use Rattle.core_steps.specs.World.{WorldState, WorkerState}
 use Rattle.core_steps.proofs.KindLemmas.{IsAt, IsAtOne, kind_of}

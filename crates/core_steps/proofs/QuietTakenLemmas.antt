@@ -202,7 +202,7 @@ entries_follow c r low endpoint (a ∷ asks) =
 
 pub datagram_follows : (c : Configuration) (r : RoomState) (low : (n : ℕ) → leg_stay r n < r.next) (endpoint : ℕ) (bytes : List ℕ) (said : Said)
     → IsFollowUp c r (jobs_of (table_of c) r endpoint bytes said) (flat_map (rate_of (table_of c) r endpoint) (asks_of said))
-datagram_follows c r low endpoint bytes (media ssrc seq timestamp) = silent-packets c r endpoint bytes (serving (table_of c) r endpoint)
+datagram_follows c r low endpoint bytes (media ssrc seq timestamp octets) = silent-packets c r endpoint bytes (serving (table_of c) r endpoint)
 datagram_follows c r low endpoint bytes leaves = silent-none c r
 datagram_follows c r low endpoint bytes (control speaker reports tmmbns asks) = entries_follow c r low endpoint asks
 
@@ -214,7 +214,7 @@ pub record IsLike (r q : RoomState) : Type 0 where
   pub next : q.next ≡ r.next
 
 pub received-like : (r : RoomState) (endpoint : ℕ) (said : Said) → IsLike r (room_after r (receptions endpoint said))
-received-like r endpoint (media ssrc seq timestamp) = record { endpoints = refl; legs = refl; next = refl }
+received-like r endpoint (media ssrc seq timestamp octets) = record { endpoints = refl; legs = refl; next = refl }
 received-like r endpoint leaves = record { endpoints = refl; legs = refl; next = refl }
 received-like r endpoint (control speaker reports tmmbns asks) = step (last_or None reports)
   where

@@ -30,13 +30,13 @@ use Rattle.core_steps.specs.Happening.{Happening, giving}
 
 -- what the room is asked: its source is heard at the endpoint, or the endpoint says goodbye
 abbrev pub room_call : ℕ → ℕ → Said → RoomCall
-room_call moment endpoint (media ssrc seq timestamp) = Hear moment endpoint ssrc
+room_call moment endpoint (media ssrc seq timestamp octets) = Hear moment endpoint ssrc
 room_call moment endpoint leaves = Bye moment endpoint
 room_call moment endpoint (control speaker reports tmmbns asks) = Hear moment endpoint speaker
 
 -- what is received then: of sender reports that come at once the last counts
 abbrev pub receptions : ℕ → Said → List RoomCall
-receptions endpoint (media ssrc seq timestamp) = Receive endpoint seq timestamp ∷ []
+receptions endpoint (media ssrc seq timestamp octets) = Receive endpoint seq timestamp ∷ []
 receptions endpoint leaves = []
 receptions endpoint (control speaker reports tmmbns asks) =
     option_map_or (λ (r : ℕ × ℕ). SenderReport endpoint r.0 r.1 ∷ []) (last_or None reports) []
@@ -118,7 +118,7 @@ refusal_for (Some task) = []
 
 -- the jobs that follow from a datagram, in the order of its packets and entries
 abbrev pub jobs_of : LinkTable → RoomState → ℕ → List ℕ → Said → List Task
-jobs_of t r endpoint bytes (media ssrc seq timestamp) =
+jobs_of t r endpoint bytes (media ssrc seq timestamp octets) =
     map (λ w. push w (Packet endpoint bytes)) (serving t r endpoint)
 jobs_of t r endpoint bytes leaves = []
 jobs_of t r endpoint bytes (control speaker reports tmmbns asks) =
@@ -129,7 +129,7 @@ abbrev pub refusals_of : LinkTable → RoomState → ℕ → Said → List Out
 refusals_of t r endpoint said = flat_map (λ a. refusal_for (task_for t r endpoint a)) (asks_of said)
 
 abbrev pub tmmbns_of : Said → ℕ
-tmmbns_of (media ssrc seq timestamp) = 0
+tmmbns_of (media ssrc seq timestamp octets) = 0
 tmmbns_of leaves = 0
 tmmbns_of (control speaker reports tmmbns asks) = tmmbns
 

@@ -13,7 +13,7 @@ use Rattle.events.specs.declared.job.Job.{Job}
 use Rattle.events.specs.declared.job.Job.TheVariants.{Packet, Request, Resend, Pli, Report, Goodbye}
 use Rattle.legs.specs.declared.leg.LegState.{LegState}
 use Rattle.core_steps.specs.Happening.{Happening, Worked, no_worker, world_after}
-use Rattle.legs.specs.Rtp.{is_rtp, sequence_number}
+use Rattle.rewrite.specs.Rtp.{is_rtp, sequence_number}
 use Rattle.rewrite.specs.Readdressed.{readdressed_bytes}
 use Rattle.core_steps.specs.World.{WorldState}
 use Rattle.rtp_packet.specs.declared.header.TheConstants.{SEQ_CYCLE}

@@ -16,7 +16,7 @@ use crate::seed::job_of;
 use crate::tasks::{FollowUp, NextTask};
 use crate::ticking::tick;
 use crate::world::standing;
-use events::{Bytes, Job, Out, SharedBytes};
+use events::{Bytes, Job, Out, SharedPacket};
 use members::Order;
 use notices::Head;
 use settings::{Links, Settings};
@@ -233,7 +233,7 @@ fn select_or_busy(
 }
 
 /// The duty that this task is, where the datagram has these bytes.
-fn duty_of(datagram: &SharedBytes, next: NextTask) -> Result<Duty, AllocError>
+fn duty_of(datagram: &SharedPacket, next: NextTask) -> Result<Duty, AllocError>
     ensures { IfOk result (λ duty. task_by duty ≡ task_in datagram.now next) }
 {
     match next {
@@ -243,7 +243,7 @@ fn duty_of(datagram: &SharedBytes, next: NextTask) -> Result<Duty, AllocError>
 }
 
 /// The duty that this follow-up is, where the datagram has these bytes.
-fn duty_that_follows(datagram: &SharedBytes, next: FollowUp) -> Result<Duty, AllocError>
+fn duty_that_follows(datagram: &SharedPacket, next: FollowUp) -> Result<Duty, AllocError>
     ensures { IfOk result (λ duty. task_by duty ≡ task_in datagram.now (AFollowUp next)) }
 {
     Ok(match next {

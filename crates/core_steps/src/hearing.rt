@@ -9,6 +9,7 @@ ghost use Rattle.core_steps.specs.Machine.{Rest, IsIdle, whole, alone};
 ghost use Rattle.notices.specs.DeskCalls.{source_of};
 ghost use Rattle.core_steps.specs.FollowUps.{room_with_report};
 ghost use Rattle.core_steps.specs.Hearing.{IsHearing, hearing, selecting};
+ghost use Rattle.rewrite.specs.Rtp.{IsReadAs};
 ghost use Rattle.intake.specs.Intake.{media as Packet, leaves as Leaving, control as Controls};
 ghost use Rattle.core_steps.specs.Rule.{is_busy};
 ghost use Rattle.core_steps.specs.Run.{Leaves, Stays};
@@ -19,9 +20,18 @@ use crate::order_follow_ups::push_after;
 use events::{Out, Refusal};
 use intake::{Control, Heard, Unheard, hear_datagram};
 use members::Room;
+use rewrite::Reading;
 use settings::{Links, RoomFault};
 use std::alloc::AllocError;
 use tmmbr_tuple::Ssrc;
+
+/// An RTP packet that came.
+#[derive(Clone, Copy)]
+struct Media {
+    ssrc: Ssrc,
+    timestamp: u32,
+    reading: Reading,
+}
 
 /// A datagram came from this endpoint, while nothing waits.
 pub(crate) fn hear(
@@ -47,8 +57,20 @@ pub(crate) fn hear(
                 ssrc,
                 seq,
                 timestamp,
+                octets,
             },
-        ) => hear_media(front, moment, endpoint, bytes, (ssrc, seq, timestamp), outs),
+        ) => {
+            let reading = Reading {
+                sequence_number: seq,
+                octets,
+            };
+            let packet = Media {
+                ssrc,
+                timestamp,
+                reading,
+            };
+            hear_media(front, moment, endpoint, bytes, packet, outs)
+        }
         Ok(Heard::Goodbye) => hear_goodbye(front, moment, endpoint, outs),
         Ok(Heard::Control(control)) => hear_control(front, moment, endpoint, &control, outs),
         Err(Unheard::Refused(refusal)) => {
@@ -66,26 +88,31 @@ fn own_source(links: &Links, endpoint: u16) -> Ssrc
     links.ssrc_of(endpoint).unwrap_or(Ssrc(0))
 }
 
-/// An RTP packet of this source, sequence number and timestamp: each worker that serves the publisher gets it. It is copied once for all,
-/// and not before the room would take it in.
+/// An RTP packet, which these bytes were read as: each worker that serves the publisher gets it. It is copied once for all, and not
+/// before the room would take it in, and nobody reads it again.
 fn hear_media(
     front: &mut Front,
     moment: u64,
     endpoint: u16,
     bytes: &[u8],
-    packet: (Ssrc, u16, u32),
+    packet: Media,
     outs: &mut Vec<Out>,
 ) -> Result<(), AllocError>
-    requires { is_busy (alone front.old) ≡ false }
+    requires idle { is_busy (alone front.old) ≡ false }
+    requires read { IsReadAs bytes.now packet.reading }
     ensures ok { (rest : Rest) → IsIdle rest → OnOk result (Leaves
         (λ h. h ≡ hearing (whole front.old rest) moment endpoint bytes.now
-        (Ok (Packet packet.0.0 packet.1 packet.2)))
+        (Ok (Packet packet.ssrc.0 packet.reading.sequence_number packet.timestamp packet.reading.octets)))
         (whole front.old rest) outs.old.items (whole front.new rest) outs.new.items) }
     ensures err { OnErr result (Stays (alone front.old) outs.old.items
         (alone front.new) outs.new.items) }
 {
     front.knows_count();
-    let (ssrc, seq, timestamp) = packet;
+    let Media {
+        ssrc,
+        timestamp,
+        reading,
+    } = packet;
     outs.reserve(1)?;
     if let Some(fault) = front.room.refuses(endpoint, ssrc) {
         return refuse(fault, outs);
@@ -96,7 +123,7 @@ fn hear_media(
         .prepare(front.room.most_orders() + usize::from(workers))?;
     front
         .tasks
-        .copy_datagram(front.alloc, bytes, &mut front.plan)?;
+        .copy_datagram(front.alloc, bytes, reading, &mut front.plan)?;
     match front
         .room
         .hear(moment, endpoint, ssrc, &mut front.tasks.orders)
@@ -115,7 +142,9 @@ fn hear_media(
                 workers,
                 &mut front.tasks.follow_ups,
             );
-            front.room.received(endpoint, seq, timestamp);
+            front
+                .room
+                .received(endpoint, reading.sequence_number, timestamp);
             Ok(())
         }
         Err(fault) => refuse(fault, outs),

@@ -3,7 +3,7 @@
 ghost use Rattle.std.specs.Prelude.{◌≡◌, IfOk};
 ghost use Rattle.core_steps.specs.Seed.{job_of};
 
-use events::{Job, SharedBytes};
+use events::{Job, SharedPacket};
 use rtcp_feedback::Nack;
 use std::alloc::AllocError;
 
@@ -38,13 +38,13 @@ pub(crate) enum Seed {
 }
 
 /// The job of this seed, if the datagram has these bytes, which a packet shares.
-pub(crate) fn job_of(datagram: &SharedBytes, seed: Seed) -> Result<Job, AllocError>
+pub(crate) fn job_of(datagram: &SharedPacket, seed: Seed) -> Result<Job, AllocError>
     ensures { IfOk result (λ job. job ≡ job_of datagram.now seed) }
 {
     Ok(match seed {
         Seed::Packet { publisher } => Job::Packet {
             publisher,
-            bytes: datagram.share()?,
+            packet: datagram.share()?,
         },
         Seed::Request { leg, stay, word } => Job::Request { leg, stay, word },
         Seed::Resend { leg, stay, nack } => Job::Resend { leg, stay, nack },

@@ -1,9 +1,10 @@
 //! What waits for the ingress.
 
 use crate::seed::Seed;
-use events::SharedBytes;
+use events::SharedPacket;
 use legs::Plan;
 use members::Order;
+use rewrite::Reading;
 use std::alloc::{AllocError, Global};
 use std::mem;
 
@@ -19,7 +20,7 @@ pub(crate) struct Tasks {
     /// How many of the follow-ups are done.
     pub(crate) follow_ups_done: usize,
     /// The datagram that a packet to be pushed is of.
-    pub(crate) datagram: SharedBytes,
+    pub(crate) datagram: SharedPacket,
 }
 
 /// What follows from a datagram or a moment.
@@ -46,6 +47,7 @@ impl Tasks {
     ghost use Rattle.std.specs.Prelude.{◌≡◌, ◌+◌, ◌^◌, ◌<◌, ◌≤◌, [], ◌∷◌, length, drop, MatchOption, OnOk, vec_len, vec_capacity};
     ghost use Rattle.core_steps.specs.Machine.{tasks_of, task_in};
     ghost use Rattle.core_steps.specs.Rule.{is_empty};
+    ghost use Rattle.rewrite.specs.Rtp.{IsReadAs};
 
     /// Nothing waits.
     pub(crate) fn new(alloc: Global) -> Tasks
@@ -56,7 +58,7 @@ impl Tasks {
             orders_done: 0,
             follow_ups: Vec::new(alloc),
             follow_ups_done: 0,
-            datagram: SharedBytes::none(),
+            datagram: SharedPacket::none(),
         }
     }
 
@@ -76,21 +78,24 @@ impl Tasks {
         self.follow_ups.reserve(follow_ups)
     }
 
-    /// Keeps a copy of the datagram that packets to be pushed are of, while nothing waits; the plan lends memory for it.
+    /// Keeps a copy of the datagram that packets to be pushed are of, which was read so, while nothing waits; the plan lends memory for it.
     pub(crate) fn copy_datagram(
         &mut self,
         alloc: Global,
         bytes: &[u8],
+        reading: Reading,
         plan: &mut Plan,
     ) -> Result<(), AllocError>
+        requires read { IsReadAs bytes.now reading }
         ensures datagram { OnOk result (self.new.datagram ≡ bytes.now) }
         ensures orders { self.new.orders ≡ self.old.orders }
         ensures orders_done { self.new.orders_done ≡ self.old.orders_done }
         ensures follow_ups { self.new.follow_ups ≡ self.old.follow_ups }
         ensures follow_ups_done { self.new.follow_ups_done ≡ self.old.follow_ups_done }
     {
-        let former = mem::replace(&mut self.datagram, SharedBytes::none());
-        self.datagram = plan.copy_packet(alloc, bytes, former)?;
+        let former = mem::replace(&mut self.datagram, SharedPacket::none());
+        let copy = plan.copy_packet(alloc, bytes, former.into_bytes())?;
+        self.datagram = SharedPacket::new(copy, reading);
         Ok(())
     }
 

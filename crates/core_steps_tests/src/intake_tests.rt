@@ -25,6 +25,8 @@ fn packet(word: &str) -> &str {
     match word {
         // Version 2, payload type 96, sequence number 7, timestamp 3,000, SSRC 16, payload `aabb`.
         "RTP" => "8060000700000bb800000010aabb",
+        // The same with four octets of padding, which are no payload (RFC 3550, section 5.1).
+        "PADDED" => "a060000700000bb800000010aabb00000004",
         // A receiver report of 17 without blocks.
         "RR" => "80c9000100000011",
         // A sender report of 16: NTP timestamp 10.5 s, RTP timestamp 3,000, one packet, two octets.
@@ -90,8 +92,9 @@ fn write_heard(text: &mut String, heard: &Result<Heard, Unheard>) -> Result<(), 
                 ssrc,
                 seq,
                 timestamp,
+                octets,
             },
-        ) => write!(text, "media {} {seq} {timestamp}", ssrc.0)?,
+        ) => write!(text, "media {} {seq} {timestamp} {octets}", ssrc.0)?,
         Ok(Heard::Control(control)) => write_control(text, control)?,
         Ok(Heard::Goodbye) => text.push_str("goodbye")?,
         Err(Unheard::Refused(refusal)) => write_refusal(text, refusal)?,
@@ -162,9 +165,10 @@ fn all_say(rt: &(impl Abort + AllocGlobal), cases: &[Case]) -> Result<(), Fail> 
 
 /// The source of another is told all the same. Of two sender reports the last one counts, the second one with RTP timestamp 3,001.
 /// Neither a description nor an unknown packet has a sender; nor has a goodbye of another.
-const MEDIA_AND_REPORTS: [Case; 7] = [
-    (16, "RTP", "media 16 7 3000"),
-    (17, "RTP", "media 16 7 3000"),
+const MEDIA_AND_REPORTS: [Case; 8] = [
+    (16, "RTP", "media 16 7 3000 2"),
+    (17, "RTP", "media 16 7 3000 2"),
+    (16, "PADDED", "media 16 7 3000 2"),
     (17, "RR", "control 17"),
     (16, "RR", "control 17"),
     (16, "SR", "control 16 report 0000000a80000000 3000"),

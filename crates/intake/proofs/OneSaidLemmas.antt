@@ -119,7 +119,7 @@ rtcp_one own datagram (Err (Feedback e)) (Err (Desk f)) x y = absurd y
 
 rtp_one : (datagram : List ℕ) (a b : Result Said Refusal) → SaysRtp datagram a → SaysRtp datagram b → a ≡ b
 rtp_one datagram (Ok s) (Ok t) (p, reads, is) (q, reads', is') =
-    ap Ok (is ∙ ap (λ (x : RtpPacket). media x.ssrc x.sequence_number x.timestamp) (one_packet datagram p q reads reads') ∙ sym is')
+    ap Ok (is ∙ ap (λ (x : RtpPacket). media x.ssrc x.sequence_number x.timestamp (length x.payload)) (one_packet datagram p q reads reads') ∙ sym is')
 rtp_one datagram (Ok s) (Err (Rtp e)) (p, reads, is) y = absurd (no_fault datagram p e reads y)
 rtp_one datagram (Ok s) (Err (Rtcp e)) x y = absurd y
 rtp_one datagram (Ok s) (Err (Feedback e)) x y = absurd y

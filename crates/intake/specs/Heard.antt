@@ -15,7 +15,8 @@ use Rattle.intake.specs.Intake.{Gist, PacketsSay, Said, Says, SaysRtcp, SaysRtp,
 
 -- what is said, but for what is asked for; of the sender reports the last
 abbrev pub heard_of : Said → Heard
-heard_of (media source number timestamp) = Media (record { 0 = source }) number timestamp
+heard_of (media source number timestamp octets) =
+    Media (record { 0 = source }) number timestamp octets
 heard_of leaves = Goodbye
 heard_of (control speaker reports tmmbns asks) =
     Control (record {
@@ -25,7 +26,7 @@ heard_of (control speaker reports tmmbns asks) =
     })
 
 abbrev pub asks_of : Said → List Ask
-asks_of (media source number timestamp) = []
+asks_of (media source number timestamp octets) = []
 asks_of leaves = []
 asks_of (control speaker reports tmmbns asks) = asks
 

@@ -82,11 +82,11 @@ PacketsSay (c ∷ cs) (Ok gist) =
 PacketsSay (c ∷ cs) (Err fault) = PacketSays c (Err fault)
     ⊎ ((first : Gist) × PacketSays c (Ok first) × PacketsSay cs (Err fault))
 
--- What a datagram of an endpoint says: the source, the sequence number and the timestamp of an RTP packet; that the
--- endpoint leaves, and then nothing else; or who speaks, the timestamps of the sender reports, the number of TMMBNs and
+-- What a datagram of an endpoint says: the source, the sequence number and the timestamp of an RTP packet, and how many octets its
+-- payload has; that the endpoint leaves, and then nothing else; or who speaks, the timestamps of the sender reports, the number of TMMBNs and
 -- what is asked for.
 pub data Said : Type 0 where
-  media : ℕ → ℕ → ℕ → Said
+  media : ℕ → ℕ → ℕ → ℕ → Said
   leaves : Said
   control : ℕ → List (ℕ × ℕ) → ℕ → List Ask → Said
 
@@ -120,7 +120,8 @@ SaysRtcp own datagram (Err (Desk fault)) = ⊥
 
 abbrev pub SaysRtp : List ℕ → Result Said Refusal → Type 0
 SaysRtp datagram (Ok said) =
-    (p : RtpPacket) × ReadsRtp datagram p × (said ≡ media p.ssrc p.sequence_number p.timestamp)
+    (p : RtpPacket) × ReadsRtp datagram p
+    × (said ≡ media p.ssrc p.sequence_number p.timestamp (length p.payload))
 SaysRtp datagram (Err (Rtp fault)) = HasRtpFault datagram fault
 SaysRtp datagram (Err (Rtcp fault)) = ⊥
 SaysRtp datagram (Err (Feedback fault)) = ⊥

@@ -39,11 +39,12 @@ pub enum Ask {
 /// What a datagram says, but for what it asks for.
 #[derive(Clone, Copy, PartialEq, Eq)]
 pub enum Heard {
-    /// An RTP packet: its source, sequence number and timestamp (RFC 3550, section 5.1).
+    /// An RTP packet: its source, sequence number and timestamp (RFC 3550, section 5.1), and how many octets its payload has.
     Media {
         ssrc: Ssrc,
         seq: u16,
         timestamp: u32,
+        octets: u64,
     },
     /// A goodbye of the endpoint's own source (RFC 3550, section 6.6); all else of the datagram is
     /// passed over.
@@ -103,12 +104,14 @@ fn hear_rtp(datagram: &[u8]) -> Result<Heard, Unheard>
                 ssrc,
                 sequence_number: seq,
                 timestamp,
+                payload,
                 ..
             } = view;
             Ok(Heard::Media {
                 ssrc,
                 seq,
                 timestamp,
+                octets: payload.len() as u64,
             })
         }
         Err(fault) => Err(Unheard::Refused(Refusal::Rtp(fault))),

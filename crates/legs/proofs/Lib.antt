@@ -1,3 +1,2 @@
 pub mod LegLemmas
 pub mod PlanLemmas
-pub mod RtpLemmas

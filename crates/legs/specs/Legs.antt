@@ -17,7 +17,7 @@ use Rattle.legs.specs.declared.leg.LegState.{LegState}
 use Rattle.events.specs.declared.output.Out.{Out}
 use Rattle.events.specs.declared.output.Out.TheVariants.{Send, Skip, Miss}
 use Rattle.settings.specs.Links.{LinkTable, cname_of, numbered_legs, worker_of}
-use Rattle.legs.specs.Rtp.{is_rtp, sequence_number, payload_octets}
+use Rattle.rewrite.specs.Rtp.{is_rtp, sequence_number, payload_octets}
 use Rattle.rewrite.specs.Readdressed.{readdressed_bytes}
 use Rattle.rtp_packet.specs.declared.header.TheConstants.{SEQ_CYCLE}
 

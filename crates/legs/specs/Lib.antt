@@ -1,4 +1,3 @@
 pub mod Legs
 pub mod Plan
 pub mod Planning
-pub mod Rtp

@@ -6,15 +6,16 @@ ghost use Rattle.std.specs.Prelude.{List};
 ghost use Rattle.std.specs.List.{enumerate_from, flat_map};
 ghost use Rattle.legs.specs.Legs.{new_legs, row_of};
 ghost use Rattle.legs.specs.Planning.{publisher_places, plan_of, ListsPlaces, FindsPlaces};
+ghost use Rattle.rewrite.specs.Rtp.{IsReadAs};
 
 use crate::leg::LegState;
 use crate::plan::Plan;
 use crate::planning::{plan_goodbye, plan_packet, plan_report, plan_resends};
-use events::{Job, Out, SharedBytes};
+use events::{Job, Out};
 use members::Row;
 use resend_ring::MAX_CAPACITY;
+use rewrite::{Reading, SharedBytes, SharedPacket};
 use rtcp_feedback::{Nack, lost};
-use rtp_packet::RtpView;
 use settings::{Links, MAX_LEGS};
 use std::alloc::{AllocError, Global};
 use std::collections::HashMap;
@@ -123,19 +124,19 @@ fn row_of(rows: &[Row], leg: &LegState) -> Row
     }
 }
 
-/// Plans what the leg at a place does with a packet of its publisher, which has these bytes.
+/// Plans what the leg at a place does with a packet of its publisher, which was read so.
 fn plan_place(
     legs: &[LegState],
     alloc: Global,
     place: u16,
     rows: &[Row],
-    packet: &RtpView<'_>,
     bytes: &SharedBytes,
+    reading: Reading,
     plan: &mut Plan,
 ) -> Result<(), AllocError>
-    requires same { bytes.now ≡ packet.now.datagram.now }
+    requires read { IsReadAs bytes.now reading }
     ensures { OnOk result (plan.new
-        ≡ plan.old ++ plan_of rows.now packet.now.datagram.now legs.now place) }
+        ≡ plan.old ++ plan_of rows.now bytes.now legs.now place) }
 {
     let Some(leg) = legs.get(usize::from(place)) else {
         return Ok(());
@@ -144,26 +145,26 @@ fn plan_place(
     if !row.on {
         return Ok(());
     }
-    let planned = plan_packet(leg, alloc, place, row.turn, packet, bytes, plan)?;
+    let planned = plan_packet(leg, alloc, place, row.turn, bytes, reading, plan)?;
     plan.push(planned)
 }
 
-/// Plans what the legs at these places do with a packet of their publisher.
+/// Plans what the legs at these places do with a packet of their publisher, which was read so.
 fn plan_places(
     legs: &[LegState],
     alloc: Global,
     places: &[u16],
     rows: &[Row],
-    packet: &RtpView<'_>,
     bytes: &SharedBytes,
+    reading: Reading,
     plan: &mut Plan,
 ) -> Result<(), AllocError>
-    requires same { bytes.now ≡ packet.now.datagram.now }
+    requires read { IsReadAs bytes.now reading }
     ensures { OnOk result (plan.new
-        ≡ plan.old ++ flat_map (plan_of rows.now packet.now.datagram.now legs.now) places.now) }
+        ≡ plan.old ++ flat_map (plan_of rows.now bytes.now legs.now) places.now) }
 {
     for place in places {
-        plan_place(legs, alloc, *place, rows, packet, bytes, plan)?;
+        plan_place(legs, alloc, *place, rows, bytes, reading, plan)?;
     }
     Ok(())
 }
@@ -260,8 +261,8 @@ impl Legs {
             ≡ plan.old ++ job_plan rows.now self.now job.now) }
     {
         match job {
-            Job::Packet { publisher, bytes } => {
-                self.plan_packets(alloc, rows, *publisher, bytes, plan)
+            Job::Packet { publisher, packet } => {
+                self.plan_packets(alloc, rows, *publisher, packet, plan)
             }
             Job::Resend { leg, stay, nack } => {
                 self.plan_wanted(alloc, rows, *leg, *stay, *nack, plan)
@@ -281,20 +282,20 @@ impl Legs {
         alloc: Global,
         rows: &[Row],
         publisher: u16,
-        bytes: &SharedBytes,
+        packet: &SharedPacket,
         plan: &mut Plan,
     ) -> Result<(), AllocError>
         ensures { OnOk result (plan.new ≡ plan.old
-            ++ job_plan rows.now self.now (job.Packet publisher bytes.now)) }
+            ++ job_plan rows.now self.now (job.Packet publisher packet.now)) }
     {
         let Some(places) = self.published.get(usize::from(publisher)) else {
             return Ok(());
         };
+        let Some(reading) = packet.reading() else {
+            return Ok(());
+        };
         let (legs, places) = (self.legs.as_slice(), places.as_slice());
-        match RtpView::parse(bytes.as_slice()) {
-            Ok(packet) => plan_places(legs, alloc, places, rows, &packet, bytes, plan),
-            Err(_) => Ok(()),
-        }
+        plan_places(legs, alloc, places, rows, packet.bytes(), reading, plan)
     }
 
     /// Appends what an entry of a NACK does.

@@ -8,7 +8,6 @@ mod leg;
 mod legs;
 mod plan;
 mod planning;
-pub mod rtp_laws;
 
 pub use leg::LegState;
 pub use legs::Legs;

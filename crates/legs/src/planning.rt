@@ -5,13 +5,12 @@ ghost use Rattle.rewrite.specs.Leg.{answer_to};
 ghost use Rattle.resend_ring.specs.Kept.{last_kept_with};
 ghost use Rattle.legs.specs.Legs.{leg_goodbye_bytes, leg_report_bytes};
 ghost use Rattle.legs.specs.Planning.{packet_planned, resend_planned, resends, sent_alone};
-ghost use Rattle.legs.specs.Rtp.{sequence_number, payload_octets};
-ghost use Rattle.rewrite.specs.Readdressed.{readdressed_bytes};
+ghost use Rattle.rewrite.specs.Rtp.{IsReadAs, sequence_number, payload_octets};
 
 use crate::leg::LegState;
 use crate::plan::{Change, Plan, Planned};
-use events::{Bytes, Out, SharedBytes};
-use rewrite::Readdressed;
+use events::{Bytes, Out};
+use rewrite::{Readdressed, Reading, SharedBytes};
 use rtcp_compound::{write_bye, write_rr, write_sdes_cname, write_sr};
 use rtp_packet::{RtpView, SEQ_CYCLE};
 use std::alloc::{AllocError, Global};
@@ -27,53 +26,38 @@ pub fn payload_octets(bytes: &[u8]) -> u64
     }
 }
 
-/// Writes the packet under another source and sequence number over as many bytes.
-fn readdress(packet: &RtpView<'_>, ssrc: Ssrc, seq: u16, out: &mut [u8])
-    requires { length out.old ≡ length packet.now.datagram.now }
-    ensures { out.new ≡ readdressed_bytes ssrc.0 seq packet.now.datagram.now }
-{
-    let _ = packet.rewritten_into(ssrc, seq, out);
-}
-
-/// The packet under another source and sequence number.
-fn readdressed(
-    packet: &RtpView<'_>,
-    alloc: Global,
-    ssrc: Ssrc,
-    seq: u16,
-    plan: &mut Plan,
-) -> Result<Bytes, AllocError>
-    ensures ok { IfOk result (λ bytes. bytes
-        ≡ readdressed_bytes ssrc.0 seq packet.now.datagram.now) }
+/// The bytes of a packet that goes out.
+fn bytes_of(packet: &Readdressed, alloc: Global, plan: &mut Plan) -> Result<Bytes, AllocError>
+    ensures ok { IfOk result (λ bytes. bytes ≡ packet.now) }
     ensures plan { plan.new ≡ plan.old }
 {
-    let mut bytes = plan.buffer(alloc, packet.datagram.len())?;
-    readdress(packet, ssrc, seq, bytes.as_mut_slice());
+    let mut bytes = plan.buffer(alloc, packet.len())?;
+    packet.copy_to(bytes.as_mut_slice());
     Ok(Bytes::new(bytes))
 }
 
-/// What the leg at this place does with a packet of its publisher that comes on this turn, and has these bytes.
+/// What the leg at this place does with a packet of its publisher that comes on this turn, and was read so.
 pub fn plan_packet(
     leg: &LegState,
     alloc: Global,
     place: u16,
     turn: u64,
-    packet: &RtpView<'_>,
     bytes: &SharedBytes,
+    reading: Reading,
     plan: &mut Plan,
 ) -> Result<Planned, AllocError>
-    requires same { bytes.now ≡ packet.now.datagram.now }
+    requires read { IsReadAs bytes.now reading }
     ensures ok { IfOk result (λ planned. planned
-        ≡ packet_planned place leg.now turn packet.now.datagram.now
-        (answer_to leg.now.numbers turn (sequence_number packet.now.datagram.now))) }
+        ≡ packet_planned place leg.now turn bytes.now
+        (answer_to leg.now.numbers turn (sequence_number bytes.now))) }
     ensures plan { plan.new ≡ plan.old }
 {
     let mut numbers = leg.numbers;
-    match numbers.next(turn, packet.sequence_number) {
+    match numbers.next(turn, reading.sequence_number) {
         Ok(number) => {
             let (ssrc, seq) = (leg.link.out_ssrc, (number % SEQ_CYCLE) as u16);
             let kept = Readdressed::new(bytes.share()?, ssrc, seq);
-            let bytes = readdressed(packet, alloc, ssrc, seq, plan)?;
+            let bytes = bytes_of(&kept, alloc, plan)?;
             Ok(Planned {
                 out: Out::Send {
                     endpoint: leg.link.subscriber,
@@ -83,7 +67,7 @@ pub fn plan_packet(
                     place,
                     numbers,
                     number,
-                    octets: packet.payload.len() as u64,
+                    octets: reading.octets,
                     packet: kept,
                 },
             })
@@ -96,16 +80,6 @@ pub fn plan_packet(
             change: Change::Nothing,
         }),
     }
-}
-
-/// The bytes of a packet that is kept.
-fn kept_bytes(packet: &Readdressed, alloc: Global, plan: &mut Plan) -> Result<Bytes, AllocError>
-    ensures ok { IfOk result (λ bytes. bytes ≡ packet.now) }
-    ensures plan { plan.new ≡ plan.old }
-{
-    let mut bytes = plan.buffer(alloc, packet.len())?;
-    packet.copy_to(bytes.as_mut_slice());
-    Ok(Bytes::new(bytes))
 }
 
 /// What the leg at this place does where a packet with this sequence number is wanted again.
@@ -122,7 +96,7 @@ fn plan_again(
 {
     match leg.kept.find(seq) {
         Some(packet) => {
-            let bytes = kept_bytes(packet, alloc, plan)?;
+            let bytes = bytes_of(packet, alloc, plan)?;
             let octets = payload_octets(bytes.as_slice());
             Ok(Planned {
                 out: Out::Send {

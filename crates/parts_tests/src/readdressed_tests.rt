@@ -1,5 +1,5 @@
 //! Packets whose bytes are shared, under other sources and sequence numbers.
-use rewrite::{Readdressed, SharedBytes};
+use rewrite::{Readdressed, SharedBytes, SharedPacket};
 use std::process::Abort;
 use std::test::Fail;
 use tmmbr_tuple::Ssrc;
@@ -60,5 +60,27 @@ fn refills_what_is_held_alone(rt: HostRuntime) -> Result<(), Fail> {
     assert_eq!(rt; last.as_slice(), PACKET.as_slice());
     let refilled = last.refill(b"abc")?.ok_or("it has other holders")?;
     assert_eq!(rt; refilled.as_slice(), b"abc".as_slice());
+    Ok(())
+}
+
+/// The packet was read so: its sequence number, and so many octets of payload.
+fn was_read_so(rt: &impl Abort, packet: &SharedPacket, number: u16, octets: u64) {
+    let read = packet.reading().map(|it| (it.sequence_number, it.octets));
+    assert_eq!(rt; read, Some((number, octets)));
+}
+
+/// A datagram is read once for all that hold it; what is no packet is none for each of them.
+#[test]
+fn reads_a_packet_once(rt: HostRuntime) -> Result<(), Fail> {
+    assert!(rt; SharedPacket::none().reading().is_none());
+    let short = SharedPacket::copy_of(rt.alloc(), &PACKET[..11])?;
+    assert!(rt; short.share()?.reading().is_none());
+    let packet = SharedPacket::copy_of(rt.alloc(), &PACKET)?;
+    was_read_so(&rt, &packet, 8, 2);
+    was_read_so(&rt, &packet.share()?, 8, 2);
+    assert_eq!(rt; packet.bytes().as_slice(), PACKET.as_slice());
+    let reading = packet.reading().ok_or("it is a packet")?;
+    let again = SharedPacket::new(packet.into_bytes(), reading);
+    was_read_so(&rt, &again, 8, 2);
     Ok(())
 }

@@ -1,2 +1,3 @@
 pub mod NumberingLemmas
 pub mod ReaddressedLemmas
+pub mod RtpLemmas

@@ -17,6 +17,7 @@ written_at n k xs w bs size e =
 twelve : (u s : ℕ) (d : List ℕ) → 12 ≤ length d
     → (length (readdressed_bytes u s d) ≡ length d)
     × (take 8 (take 2 d ++ (big_bytes 2 s ++ drop 4 d)) ++ (big_bytes 4 u ++ drop 12 (take 2 d ++ (big_bytes 2 s ++ drop 4 d))) ≡ readdressed_bytes u s d)
+    × ((v n : ℕ) → readdressed_bytes v n (readdressed_bytes u s d) ≡ readdressed_bytes v n d)
 unfolding readdressed_bytes
 twelve u s [] h = absurd (omega arith)
 twelve u s (_ ∷ []) h = absurd (omega arith)
@@ -30,10 +31,15 @@ twelve u s (_ ∷ _ ∷ _ ∷ _ ∷ _ ∷ _ ∷ _ ∷ _ ∷ []) h = absurd (omeg
 twelve u s (_ ∷ _ ∷ _ ∷ _ ∷ _ ∷ _ ∷ _ ∷ _ ∷ _ ∷ []) h = absurd (omega arith)
 twelve u s (_ ∷ _ ∷ _ ∷ _ ∷ _ ∷ _ ∷ _ ∷ _ ∷ _ ∷ _ ∷ []) h = absurd (omega arith)
 twelve u s (_ ∷ _ ∷ _ ∷ _ ∷ _ ∷ _ ∷ _ ∷ _ ∷ _ ∷ _ ∷ _ ∷ []) h = absurd (omega arith)
-twelve u s (_ ∷ _ ∷ _ ∷ _ ∷ _ ∷ _ ∷ _ ∷ _ ∷ _ ∷ _ ∷ _ ∷ _ ∷ body) h = (refl, refl)
+twelve u s (_ ∷ _ ∷ _ ∷ _ ∷ _ ∷ _ ∷ _ ∷ _ ∷ _ ∷ _ ∷ _ ∷ _ ∷ body) h = (refl, refl, λ v n. refl)
 
 pub length-readdressed : (u s : ℕ) (d : List ℕ) → 12 ≤ length d → length (readdressed_bytes u s d) ≡ length d
 length-readdressed u s d h = (twelve u s d h).0
+
+-- what is written over both numbers doesn't hang on those that were written before
+pub readdressed-again : (u s : ℕ) (d : List ℕ) → 12 ≤ length d
+    → (v n : ℕ) → readdressed_bytes v n (readdressed_bytes u s d) ≡ readdressed_bytes v n d
+readdressed-again u s d h = (twelve u s d h).2
 
 -- the sequence number is written over the old one, then the source
 pub readdressed : (u s : ℕ) (d copy w v xs : List ℕ) → 12 ≤ length d → copy ≡ d

@@ -3,3 +3,4 @@ pub mod Leg
 pub mod Numbering
 pub mod Readdressed
 pub mod Shared
+pub mod Rtp

@@ -1,6 +1,6 @@
 //! A packet that goes out.
 
-ghost use Rattle.std.specs.Prelude.{◌≡◌, ◌≤◌, length};
+ghost use Rattle.std.specs.Prelude.{◌≡◌, ◌≤◌, ℕ, length};
 ghost use Rattle.rewrite.specs.Readdressed.{readdressed_bytes};
 
 use crate::shared::SharedBytes;
@@ -62,9 +62,11 @@ impl Readdressed {
         BigEndian::write_u32(&mut out[8..], self.ssrc.0);
     }
 
-    /// The bytes of the one that came.
+    /// The bytes of the one that came: as many, and the same but for the source and the sequence number.
     pub fn into_packet(self) -> SharedBytes
-        ensures { length result ≡ length self }
+        ensures size { length result ≡ length self }
+        ensures bytes { (ssrc number : ℕ)
+            → readdressed_bytes ssrc number result ≡ readdressed_bytes ssrc number self }
     {
         let Readdressed { packet, .. } = self;
         packet

@@ -6,7 +6,7 @@ ghost use Rattle.outside.specs.Outside.{datagrams_of};
 
 use crate::doubles::{ListSink, MemorySink, MemorySource, OpenGate, StoppedClock};
 use crate::rooms::{examples, is, on, packet, rtp, two_subscribers};
-use events::{Bytes, Job, SharedBytes};
+use events::{Bytes, Job, SharedPacket};
 use routes::{Blank, Naming, RouteNote, RouteReader, RouteWriter, routes};
 use rtcp_feedback::Nack;
 use std::alloc::Global;
@@ -165,7 +165,7 @@ fn does_nothing<J: Naming>(
     };
     let nowhere = Job::Packet {
         publisher: 2,
-        bytes: SharedBytes::copy_of(alloc, &rtp(8, [0, 16]))?,
+        packet: SharedPacket::copy_of(alloc, &rtp(8, [0, 16]))?,
     };
     let own = [
         request,

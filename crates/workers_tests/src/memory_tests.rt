@@ -4,7 +4,7 @@ ghost use Rattle.std.specs.Prelude.{◌≡◌};
 
 use crate::doubles::MemorySink;
 use crate::rooms::{is, on, packet, rtp, two_subscribers};
-use events::{Job, SharedBytes};
+use events::{Job, SharedPacket};
 use routes::{Blank, Naming, Order, RouteReader, RouteWriter, RoutesFault, routes};
 use std::alloc::{AllocError, Global};
 use std::marker::Brand;
@@ -131,7 +131,7 @@ fn packet_of(alloc: Global, seq: u16) -> Result<Job, AllocError> {
     bytes[2..4].copy_from_slice(&seq.to_be_bytes());
     Ok(Job::Packet {
         publisher: 0,
-        bytes: SharedBytes::copy_of(alloc, &bytes)?,
+        packet: SharedPacket::copy_of(alloc, &bytes)?,
     })
 }
 

@@ -1,6 +1,6 @@
 //! Rooms for tests: the settings of the worked examples, and one with two subscribers.
 
-use events::{Job, SharedBytes};
+use events::{Job, SharedPacket};
 use members::Order;
 use settings::{EndpointParts, LegParts, Parts, Settings};
 use std::alloc::{AllocError, Global};
@@ -66,7 +66,7 @@ pub(super) const fn rtp(seq: u8, ssrc: [u8; 2]) -> [u8; 14] {
 pub(super) fn packet(alloc: Global, seq: u8) -> Result<Job, AllocError> {
     Ok(Job::Packet {
         publisher: 0,
-        bytes: SharedBytes::copy_of(alloc, &rtp(seq, [0, 16]))?,
+        packet: SharedPacket::copy_of(alloc, &rtp(seq, [0, 16]))?,
     })
 }
 

@@ -2,15 +2,22 @@ use Rattle.std.proofs.Common.{ap, refl}
 use Rattle.tmmbr_tuple.specs.declared.ssrc.Ssrc.{Ssrc}
 use Rattle.core_steps.specs.Machine.{whole}
 use Rattle.core_steps.proofs.FrontLemmas.{not_busy}
-use Rattle.core_steps.proofs.HearingLeaves.{hears_media, hears_goodbye, hears_control, hears_refusal}
+use Rattle.core_steps.proofs.HearingLeaves.{hears_media, media_read, hears_goodbye, hears_control, hears_refusal}
 use Rattle.core_steps.proofs.hearing.hear.Goals as goal
 
 pub returns-in-Ok-Media-clause-ok : goal.returns-in-Ok-Media-clause-ok
 returns-in-Ok-Media-clause-ok c =
     λ rest idle. hears_media c.hear_media.result (whole c.args.front.now rest) c.args.moment c.args.endpoint c.own_source-own.result.0 c.args.bytes.now
     c.args.bytes.now c.args.outs.now.items c.hear_media.new.outs.items (whole c.hear_media.new.front rest) c.in-Ok-Media.field-0 c.in-Ok-Media.ssrc
-    c.in-Ok-Media.seq c.in-Ok-Media.timestamp c.clear.new.self.items c.hear_datagram.new.asks.items
+    c.in-Ok-Media.seq c.in-Ok-Media.timestamp c.in-Ok-Media.octets c.clear.new.self.items c.hear_datagram.new.asks.items
     (ap (λ (x : Ssrc). x.0) c.own_source-own.ensures) refl c.in-Ok-Media.field-0-is c.in-Ok-Media.ensures (c.hear_media.ensures.ok rest idle)
+
+pub hear_media-requires : goal.hear_media-requires
+hear_media-requires c = record {
+  idle = c.requires;
+  read = media_read c.own_source-own.result.0 c.args.bytes.now c.in-Ok-Media.field-0 c.in-Ok-Media.ssrc c.in-Ok-Media.seq c.in-Ok-Media.timestamp
+      c.in-Ok-Media.octets c.clear.new.self.items c.hear_datagram.new.asks.items c.in-Ok-Media.field-0-is c.in-Ok-Media.ensures;
+}
 
 pub returns-in-Ok-Goodbye-clause-ok : goal.returns-in-Ok-Goodbye-clause-ok
 returns-in-Ok-Goodbye-clause-ok c =

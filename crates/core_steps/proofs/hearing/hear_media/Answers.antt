@@ -18,9 +18,9 @@ returns-in-Ok-clause-ok c =
     let d = c.in_ok-copy_datagram.ensures in
     let p = c.in_ok-prepare.ensures in
     λ rest idle. medias (whole c.args.front.now rest) c.args.moment c.args.endpoint c.args.bytes.now c.copy_datagram.new.self.datagram
-    c.args.packet.0.0 c.args.packet.1 c.args.packet.2 c.workers-workers.result c.args.outs.now.items c.reserve.new.self.items c.copy_datagram.new.self.orders.items
+    c.args.packet.ssrc.0 c.args.packet.reading.sequence_number c.args.packet.timestamp c.args.packet.reading.octets c.workers-workers.result c.args.outs.now.items c.reserve.new.self.items c.copy_datagram.new.self.orders.items
     c.hear.new.orders.items c.hear.new.self c.received.new.self c.copy_datagram.new.self.follow_ups.items
-    c.push_after.new.follow_ups.items c.push_packet.new.follow_ups.items _ c.in_ok-reserve.ensures.items (not_busy c.args.front.now rest c.requires idle)
+    c.push_after.new.follow_ups.items c.push_packet.new.follow_ups.items _ c.in_ok-reserve.ensures.items (not_busy c.args.front.now rest c.requires.idle idle)
     idle.1 c.knows_count.ensures
     c.in-Ok.ensures.answers (ap (λ (v : Vec Order). v.items) d.orders ∙ p.orders) d.datagram
     c.workers-workers.ensures.value (ap (λ (v : Vec FollowUp). v.items) d.follow_ups ∙ p.follow_ups)
@@ -37,9 +37,9 @@ push_after-requires c =
     let d = c.in_ok-copy_datagram.ensures in
     let p = c.in_ok-prepare.ensures in
     let few = few_given c.args.front.now.room c.copy_datagram.new.self.orders.items
-    (hear_step c.args.front.now.room c.args.moment c.args.endpoint c.args.packet.0.0) c.hear.new.self c.hear.new.orders.items c.most_orders.result
+    (hear_step c.args.front.now.room c.args.moment c.args.endpoint c.args.packet.ssrc.0) c.hear.new.self c.hear.new.orders.items c.most_orders.result
     c.in-Ok.ensures.answers (ap (λ (v : Vec Order). v.items) d.orders ∙ p.orders)
-    (c.most_orders.ensures.most (Hear c.args.moment c.args.endpoint c.args.packet.0.0)) in
+    (c.most_orders.ensures.most (Hear c.args.moment c.args.endpoint c.args.packet.ssrc.0)) in
     let slice = ap (λ (l : List Order). length l) c.as_slice.ensures.value in
     let len : vec_len c.copy_datagram.new.self.follow_ups ≡ 0 = ap (λ (v : Vec FollowUp). vec_len v) d.follow_ups ∙ p.len in
     let capacity = ap (λ (v : Vec FollowUp). vec_capacity v) d.follow_ups in
@@ -50,9 +50,9 @@ push_packet-requires c =
     let d = c.in_ok-copy_datagram.ensures in
     let p = c.in_ok-prepare.ensures in
     let few = few_given c.args.front.now.room c.copy_datagram.new.self.orders.items
-    (hear_step c.args.front.now.room c.args.moment c.args.endpoint c.args.packet.0.0) c.hear.new.self c.hear.new.orders.items c.most_orders.result
+    (hear_step c.args.front.now.room c.args.moment c.args.endpoint c.args.packet.ssrc.0) c.hear.new.self c.hear.new.orders.items c.most_orders.result
     c.in-Ok.ensures.answers (ap (λ (v : Vec Order). v.items) d.orders ∙ p.orders)
-    (c.most_orders.ensures.most (Hear c.args.moment c.args.endpoint c.args.packet.0.0)) in
+    (c.most_orders.ensures.most (Hear c.args.moment c.args.endpoint c.args.packet.ssrc.0)) in
     let slice = ap (λ (l : List Order). length l) c.as_slice.ensures.value in
     let len : vec_len c.copy_datagram.new.self.follow_ups ≡ 0 = ap (λ (v : Vec FollowUp). vec_len v) d.follow_ups ∙ p.len in
     let capacity = ap (λ (v : Vec FollowUp). vec_capacity v) d.follow_ups in

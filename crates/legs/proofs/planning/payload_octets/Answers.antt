@@ -1,6 +1,6 @@
 use Rattle.std.proofs.Common.{sym, refl}
-use Rattle.legs.specs.Rtp.{payload_octets}
-use Rattle.legs.proofs.RtpLemmas.{payload_read, faulty}
+use Rattle.rewrite.specs.Rtp.{payload_octets}
+use Rattle.rewrite.proofs.RtpLemmas.{payload_read, faulty}
 use Rattle.legs.proofs.planning.payload_octets.Goals as goal
 
 pub returns-in-Ok : goal.returns-in-Ok

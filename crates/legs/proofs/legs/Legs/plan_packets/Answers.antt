@@ -1,4 +1,4 @@
-use Rattle.std.proofs.Common.{◌≡◌, ◌≤◌, ℕ, ap, sym, subst, refl, length, arith, true, false, Some, List, ◌∙◌}
+use Rattle.std.proofs.Common.{◌≡◌, ◌≤◌, ℕ, ap, sym, subst, refl, length, arith, Some, List, ◌∙◌}
 use Rattle.std.specs.Prelude.{slice_get}
 use Rattle.std.specs.Global.{Vec}
 use Rattle.std.specs.List.{flat_map}
@@ -7,9 +7,8 @@ use Rattle.events.specs.declared.job.Job.TheVariants as job
 use Rattle.legs.specs.declared.leg.LegState.{LegState}
 use Rattle.legs.specs.declared.plan.Planned.{Planned}
 use Rattle.legs.specs.Planning.{job_plan, plan_of}
-use Rattle.legs.specs.Rtp.{is_rtp}
+use Rattle.rewrite.specs.Rtp.{IsReadAs}
 use Rattle.legs.proofs.LegLemmas.{unplanned, moved, no_publisher, no_packet, at_places}
-use Rattle.legs.proofs.RtpLemmas.{faulty, reads_rtp}
 use Rattle.legs.proofs.legs.Legs.plan_packets.Goals as goal
 
 pub returns-in_default : goal.returns-in_default
@@ -18,14 +17,22 @@ returns-in_default c =
     let held = ap length c.deref.ensures.value in
     let same = c.from.ensures in
     let past : length c.self.inside.published.items ≤ c.args.publisher = omega arith in
-    let none = no_publisher c.args.rows.now c.args.publisher (length c.self.inside.published.items) c.args.bytes.now c.self.inside.legs.items
+    let none = no_publisher c.args.rows.now c.args.publisher (length c.self.inside.published.items) c.args.packet.now c.self.inside.legs.items
     c.self.invariant.publishers past in
-    unplanned _ _ (ap (λ (l : List LegState). job_plan c.args.rows.now l (job.Packet c.args.publisher c.args.bytes.now)) (sym c.self.view_is) ∙ none)
+    unplanned _ _ (ap (λ (l : List LegState). job_plan c.args.rows.now l (job.Packet c.args.publisher c.args.packet.now)) (sym c.self.view_is) ∙ none)
 
-pub returns-in-Ok : goal.returns-in-Ok
-returns-in-Ok c =
+pub returns-in_default-reading : goal.returns-in_default-reading
+returns-in_default-reading c =
+    unplanned _ _ (no_packet c.args.rows.now c.args.publisher c.args.packet.now c.args.self.now c.in_default-reading.ensures)
+
+pub plan_places-requires : goal.plan_places-requires
+plan_places-requires c =
+    record { read = subst (λ (d : List ℕ). IsReadAs d c.in-Some-reading.reading) (sym c.bytes.ensures) c.in-Some-reading.ensures }
+
+pub returns : goal.returns
+returns c =
     let rows = c.args.rows.now in
-    let bytes = c.args.bytes.now in
+    let bytes = c.args.packet.now in
     let legs = c.self.inside.legs.items in
     let places = c.in-Some.places.now in
     let read = slice_get_read c.deref.result.now (length c.deref.result.now) c.from.result places refl c.in-Some.ensures.lookup.3.0 c.in-Some.ensures.lookup.1 in
@@ -34,16 +41,10 @@ returns-in-Ok c =
     let at : slice_get c.self.inside.published.items c.args.publisher ≡ Some places =
     subst (λ (k : ℕ). slice_get c.self.inside.published.items k ≡ Some places) c.from.ensures held in
     let list = c.self.invariant.lists_places.each c.args.publisher places at in
-    let same : c.in-Ok.packet.datagram.now ≡ bytes = c.in-Ok.packet.is_read.bytes ∙ sym c.in-Ok.ensures.read.bytes ∙ c.as_slice.ensures in
     let F : List ℕ → List LegState → List ℕ → List Planned = λ d l p. flat_map (plan_of rows d l) p in
-    let planned = ap (λ (d : List ℕ). F d c.as_slice-legs.result.now c.as_slice-places.result.now) same
+    let planned = ap (λ (d : List ℕ). F d c.as_slice-legs.result.now c.as_slice-places.result.now) c.bytes.ensures
     ∙ ap (λ (l : List LegState). F bytes l c.as_slice-places.result.now) c.as_slice-legs.ensures.value
     ∙ ap (F bytes legs) c.as_slice-places.ensures.value
-    ∙ at_places rows c.args.publisher bytes legs places.items list (subst (λ (d : List ℕ). is_rtp d ≡ true) c.as_slice.ensures (reads_rtp c.as_slice.result.now _ c.in-Ok.ensures.read))
+    ∙ at_places rows c.args.publisher bytes legs places.items list c.in-Some-reading.ensures.is_packet
     ∙ ap (λ (l : List LegState). job_plan rows l (job.Packet c.args.publisher bytes)) c.self.view_is in
     moved c.plan_places.result c.plan_places.new.plan c.args.plan.now _ _ planned c.plan_places.ensures
-
-pub returns-in-Err : goal.returns-in-Err
-returns-in-Err c =
-    unplanned _ _ (no_packet c.args.rows.now c.args.publisher c.args.bytes.now c.args.self.now
-    (subst (λ (d : List ℕ). is_rtp d ≡ false) c.as_slice.ensures (faulty c.as_slice.result.now _ c.in-Err.ensures.fault)))

@@ -4,7 +4,7 @@ ghost use Rattle.std.specs.Prelude.{ℕ, List, ◌≡◌, false};
 ghost use Rattle.rtp_packet.specs.Fault.{HasRtpFault};
 ghost use Rattle.rtp_packet.specs.Grammar.{RtpPacket, ReadsRtp};
 ghost use Rattle.rtp_packet.specs.declared.fault.RtpFault.{RtpFault as Fault};
-ghost use Rattle.legs.specs.Rtp.{is_rtp, SaysAs};
+ghost use Rattle.rewrite.specs.Rtp.{is_rtp, SaysAs};
 
 /// Of a datagram that is a packet the words say what the packet has; one that the reader refuses is none.
 pub fn says_as_the_grammar()

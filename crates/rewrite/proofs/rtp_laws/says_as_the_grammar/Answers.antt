@@ -1,5 +1,5 @@
-use Rattle.legs.proofs.RtpLemmas.{reads_rtp, number_read, payload_read, readdressed_read, faulty}
-use Rattle.legs.proofs.rtp_laws.says_as_the_grammar.Goals as goal
+use Rattle.rewrite.proofs.RtpLemmas.{reads_rtp, number_read, payload_read, readdressed_read, faulty}
+use Rattle.rewrite.proofs.rtp_laws.says_as_the_grammar.Goals as goal
 
 pub returns-clause-packet : goal.returns-clause-packet
 returns-clause-packet c = λ d p reads. record {

@@ -2,8 +2,8 @@
 use Rattle.std.proofs.Common.{◌≡◌, ◌≢◌, ℕ, ◌+◌, ◌-◌, ◌/◌, ◌%◌, ◌^◌, ◌<◌, ◌≤◌, ◌⊎◌, inl, inr, ⊎_elim, Bool, true, false, List, [], ◌∷◌, ◌++◌, length, drop, slice_index, refl, sym, ap, subst, ◌∙◌, arith, length-append, length-drop}
 use Rattle.std.proofs.lemmas.Bool.{cases_lt}
 use Rattle.std.proofs.lemmas.Bool.Decides.{nat_tests, eqb_tells}
-use Rattle.std.proofs.lemmas.List.{get_or-drop, drop_all, append-nil}
-use Rattle.std.specs.Prelude.{if◌then◌else◌, ◌==◌, ◌&&◌, ◌||◌, not, nat_le, nat_lt, Result, Ok, Err, IsOk, IfOk, ◌↔◌}
+use Rattle.std.proofs.lemmas.List.{get_or-drop}
+use Rattle.std.specs.Prelude.{if◌then◌else◌, ◌==◌, ◌&&◌, ◌||◌, not, nat_le, nat_lt}
 use Rattle.byteorder.specs.Endian.{big_number}
 use Rattle.rtp_packet.specs.declared.fault.RtpFault.{RtpFault}
 use Rattle.rtp_packet.specs.declared.fault.RtpFault.TheVariants.{Short, Version, CsrcShort, ExtensionShort, Padding, Room}
@@ -11,7 +11,7 @@ use Rattle.rtp_packet.specs.Fault.{HasRtpFault, IsNoCount, csrc_end, extension_e
 use Rattle.rtp_packet.specs.Grammar.{RtpPacket, ReadsRtp, IsPadding, bit_of, fixed_bytes, body_bytes, first_byte, second_byte, bytes_of, with_address}
 use Rattle.rtp_packet.proofs.PacketLemmas.{laid_out}
 use Rattle.rtp_packet.proofs.PartLemmas.{count_of_padding}
-use Rattle.legs.specs.Rtp.{is_rtp, is_padded, padding_of, sequence_number, payload_octets}
+use Rattle.rewrite.specs.Rtp.{is_rtp, is_padded, padding_of, sequence_number, payload_octets}
 use Rattle.rewrite.specs.Readdressed.{readdressed_bytes}
 
 -- ---- tests
@@ -85,10 +85,6 @@ reads_rtp d p reads =
     ∙ excluded (nat_lt 0 (length p.padding)) in
     rw (a, b, c, e) refl
 
--- a packet has a whole fixed header
-pub header_read : (d : List ℕ) (p : RtpPacket) → ReadsRtp d p → 12 ≤ length d
-header_read d p reads = (laid_out d p reads).whole
-
 -- the octets of a packet's payload
 pub payload_read : (d : List ℕ) (p : RtpPacket) → ReadsRtp d p → payload_octets d ≡ length p.payload
 unfolding payload_octets
@@ -120,6 +116,18 @@ pub readdressed_read : (d : List ℕ) (p : RtpPacket) (v n : ℕ) → ReadsRtp d
 readdressed_read d p v n reads =
     ap (readdressed_bytes v n) reads.bytes
     ∙ rewritten (first_byte p) (second_byte p) p.sequence_number p.timestamp p.ssrc n v (body_bytes p)
+
+first_holds : (a b : Bool) → (a && b) ≡ true → a ≡ true
+first_holds true b h = refl
+first_holds false b h = h
+
+at_least : (m n : ℕ) → nat_le m n ≡ true → m ≤ n
+at_least m n h = grind (arith, nat_tests)
+
+-- what is a packet has a whole fixed header
+pub header_of : (d : List ℕ) → is_rtp d ≡ true → 12 ≤ length d
+unfolding is_rtp
+header_of d h = at_least 12 (length d) (first_holds _ _ h)
 
 -- ---- no packet
 
@@ -172,17 +180,3 @@ faulty d Padding h =
     (nat_le (extension_end d + (if b then last else 0)) (length d) && (not b || nat_lt 0 (if b then last else 0))) ≡ false in
     no_right _ _ (no_right _ _ (subst Refused (sym on) wrong))
 faulty d Room h = absurd h
-
--- ---- what a call wrote
-
--- the whole buffer holds the packet under another source and number
-pub wrote : (r : Result ℕ RtpFault) (d out new : List ℕ) (p : RtpPacket) (v n : ℕ) → ReadsRtp d p → length out ≡ length d
-    → (IsOk r ↔ (length d ≤ length out)) → IfOk r (λ size. size ≡ length d)
-    → IfOk r (λ size. new ≡ bytes_of (with_address v n p) ++ drop size out) → new ≡ readdressed_bytes v n d
-wrote (Ok size) d out new p v n reads same fits is written =
-    let none : drop size out ≡ [] = drop_all size out (omega arith) in
-    written ∙ ap (λ (l : List ℕ). bytes_of (with_address v n p) ++ l) none ∙ append-nil (bytes_of (with_address v n p))
-    ∙ sym (readdressed_read d p v n reads)
-wrote (Err fault) d out new p v n reads same fits is written =
-    let ok : false ≡ true = fits.1 (omega arith) in
-    absurd (cc)

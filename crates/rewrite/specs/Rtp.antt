@@ -3,6 +3,7 @@ use Rattle.std.specs.Prelude.{◌≡◌, ◌==◌, ◌&&◌, ◌||◌, not, ℕ,
 use Rattle.byteorder.specs.Endian.{big_number}
 use Rattle.rtp_packet.specs.Fault.{extension_end}
 use Rattle.rtp_packet.specs.Grammar.{RtpPacket, bytes_of, with_address}
+use Rattle.rewrite.specs.declared.packet.Reading.{Reading}
 use Rattle.rewrite.specs.Readdressed.{readdressed_bytes}
 
 -- the padding bit is set
@@ -34,3 +35,9 @@ pub record SaysAs (d : List ℕ) (p : RtpPacket) : Type 0 where
   pub octets : payload_octets d ≡ length p.payload
   pub under : (ssrc number : ℕ)
       → readdressed_bytes ssrc number d ≡ bytes_of (with_address ssrc number p)
+
+-- what a leg wants to know of the datagram, which is a packet
+pub record IsReadAs (d : List ℕ) (r : Reading) : Type 0 where
+  pub is_packet : is_rtp d ≡ true
+  pub number : sequence_number d ≡ r.sequence_number
+  pub octets : payload_octets d ≡ r.octets
