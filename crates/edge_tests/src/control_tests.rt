@@ -292,10 +292,12 @@ fn hands_over_who_asked_last(rt: HostRuntime) -> Result<(), Fail> {
     Ok(())
 }
 
-/// A peer that takes one byte of its answer at a time.
+/// A peer that takes one byte of its answer at a time, and goes away if that isn't the next one.
 #[derive(Drop)]
 struct Sipping {
     line: Line,
+    /// What it waits for.
+    awaits: &'static [u8],
 }
 
 impl Read for Sipping {
@@ -306,7 +308,13 @@ impl Read for Sipping {
 
 impl Write for Sipping {
     fn write(&mut self, buf: &[u8]) -> io::Result<usize> {
-        Ok(buf.len().min(1))
+        match (buf.first(), self.awaits.first()) {
+            (Some(byte), Some(next)) if *byte == *next => {
+                self.awaits = self.awaits.get(1..).unwrap_or(&[]);
+                Ok(1)
+            }
+            _ => Ok(0),
+        }
     }
 
     fn flush(&mut self) -> io::Result<()> {
@@ -322,7 +330,8 @@ fn hears_again_once_the_answer_is_taken(rt: HostRuntime) -> Result<(), Fail> {
         bytes: b"stop\nlegs\n",
         takes: 0,
     };
-    peers.admit(Sipping { line }, 0);
+    let awaits = b"ok\n";
+    peers.admit(Sipping { line, awaits }, 0);
     same(&rt, &peers.next_request(1), &Some(Request::Stop));
     peers.answer(b"ok\n");
     same(&rt, &peers.next_request(2), &None);
