@@ -1,16 +1,17 @@
 -- Who is known of a unit's endpoints, and what of them is looked at, before anything came; and what waits to be heard.
-use Rattle.std.specs.Prelude.{◌≡◌, ℕ, ◌/◌, ◌<◌, Bool, List, [], map, length, replicate, take, drop, slice_get, Some}
+use Rattle.std.specs.Prelude.{◌≡◌, ℕ, ◌/◌, ◌<◌, ◌≤◌, Bool, List, [], map, length, replicate, take, drop, slice_get, Some, vec_capacity}
 use Rattle.std.specs.declared.net.socket_addr.SocketAddr.{SocketAddr}
 use Rattle.tmmbr_tuple.specs.declared.ssrc.Ssrc.{Ssrc}
 use Rattle.rtcp_compound.specs.Grammar.{packet_bytes}
 use Rattle.rtcp_compound.specs.Written.{rr_packet}
+use Rattle.screening.specs.Floods.{is_within, tallies_with}
 use Rattle.screening.specs.declared.floods.Tally.{Tally}
 use Rattle.senders.specs.declared.senders.Origin.{Origin}
 use Rattle.senders.specs.Learners.{LearnersState}
-use Rattle.senders.specs.Listeners.{ListenersState, new_listeners}
+use Rattle.senders.specs.Listeners.{ListenersState, listeners_after, new_listeners, report_due}
 use Rattle.senders.specs.Naming.{source_named}
 use Rattle.senders.specs.Senders.{front_length, sender_of}
-use Rattle.sockets.specs.declared.arrivals.Arrivals.{Arrivals}
+use Rattle.sockets.specs.declared.arrivals.Rest.{Rest}
 use Rattle.settings.specs.Settings.{Configuration}
 use Rattle.addressing.specs.declared.clients.Client.{Client}
 use Rattle.addressing.specs.Known.{learners_of, senders_of}
@@ -37,21 +38,67 @@ first_floods settings limit =
 -- ---- what waits to be heard
 
 -- what of a datagram wasn't heard yet
-abbrev pub rest_of : Arrivals → List ℕ
-rest_of a = drop a.rest.heard a.rest.bytes.items
+abbrev pub rest_of : Rest → List ℕ
+rest_of rest = drop rest.heard rest.bytes.items
 
--- what is heard at once at the front of the rest of a datagram stands at the beginning of these bytes; who sent it
+-- A packet of an endpoint that is heard of the rest of a datagram stands at the beginning of these bytes, and what is behind it is the
+-- rest from then on.
 pub record IsHeardOfRest (same : Origin → Origin → Bool) (same_address : SocketAddr → SocketAddr → Bool)
-    (a : Arrivals) (heard : ℕ × ℕ) (out : List ℕ) : Type 0 where
+    (senders : List (Origin × ℕ)) (rest later : Rest) (heard : ℕ × ℕ) (out : List ℕ) : Type 0 where
   pub from : SocketAddr
-  pub came : a.rest.from ≡ Some from
+  pub came : rest.from ≡ Some from
   pub some : 0 < heard.1
-  pub size : heard.1 ≡ front_length same_address a.senders from (rest_of a)
-  pub bytes : take heard.1 out ≡ take heard.1 (rest_of a)
-  pub sender : sender_of same same_address a.senders from (source_named (rest_of a)) ≡ Some heard.0
+  pub size : heard.1 ≡ front_length same_address senders from (rest_of rest)
+  pub bytes : take heard.1 out ≡ take heard.1 (rest_of rest)
+  pub sender : sender_of same same_address senders from (source_named (rest_of rest)) ≡ Some heard.0
+  pub still : later.from ≡ Some from
+  pub behind : rest_of later ≡ drop heard.1 (rest_of rest)
 
--- a report of an endpoint's source, which says no more than that it is there, stands at the beginning of these bytes
-pub record IsReportMade (a : Arrivals) (heard : ℕ × ℕ) (out : List ℕ) : Type 0 where
+-- Nothing is heard of the rest of a datagram into so many bytes: the packet at its front, if there is one, is passed over, since it is a
+-- stranger's or has no room there.
+pub record HasNothingOfRest (same : Origin → Origin → Bool)
+    (same_address : SocketAddr → SocketAddr → Bool) (senders : List (Origin × ℕ)) (rest later : Rest)
+    (room : ℕ) : Type 0 where
+  pub none : (from : SocketAddr) (endpoint : ℕ) → rest.from ≡ Some from → 0 < length (rest_of rest)
+      → sender_of same same_address senders from (source_named (rest_of rest)) ≡ Some endpoint
+      → room < front_length same_address senders from (rest_of rest)
+  pub over : (from : SocketAddr) → rest.from ≡ Some from → 0 < length (rest_of rest)
+      → rest_of later ≡ drop (front_length same_address senders from (rest_of rest)) (rest_of rest)
+
+-- At some moment the report of this endpoint is the next that is due: it says no more than that the endpoint is there, and stands at
+-- the beginning of these bytes. Then the endpoint had its turn.
+pub record IsReportMade (sources : List Ssrc) (listeners later : ListenersState) (heard : ℕ × ℕ)
+    (out : List ℕ) : Type 0 where
+  pub moment : ℕ
+  pub due : report_due listeners moment ≡ Some heard.0
+  pub after : later ≡ listeners_after listeners moment
   pub source : Ssrc
-  pub names : slice_get a.sources.now heard.0 ≡ Some source
+  pub names : slice_get sources heard.0 ≡ Some source
   pub bytes : take heard.1 out ≡ packet_bytes (rr_packet source.0 [])
+
+-- At some moment no report is due, or the one that is has no room in so many bytes.
+pub record HasNoReport (sources : List Ssrc) (listeners : ListenersState) (room : ℕ) : Type 0 where
+  pub moment : ℕ
+  pub none : (endpoint : ℕ) (source : Ssrc) → endpoint < 65536
+      → report_due listeners moment ≡ Some endpoint → slice_get sources endpoint ≡ Some source
+      → room < 8
+
+-- ---- what is heard of a datagram that came
+
+-- Whose the datagram is that came from this address, how much of it is heard at once, and that what is behind that is the rest from then
+-- on; it is kept where there was room for it, as there is for each datagram of UDP. Nothing else changes what waited.
+pub record IsHeardOf (same : Origin → Origin → Bool) (same_address : SocketAddr → SocketAddr → Bool)
+    (senders : List (Origin × ℕ)) (rest later : Rest) (from : SocketAddr) (datagram : List ℕ)
+    (heard : ℕ × ℕ) : Type 0 where
+  pub sender : sender_of same same_address senders from (source_named datagram) ≡ Some heard.0
+  pub size : heard.1 ≡ front_length same_address senders from datagram
+  pub whole : heard.1 ≡ length datagram → later ≡ rest
+  pub still : heard.1 < length datagram → later.from ≡ Some from
+  pub behind : heard.1 < length datagram → length datagram ≤ vec_capacity rest.bytes
+      → rest_of later ≡ drop heard.1 datagram
+
+-- At some moment one datagram more of the endpoint came, and it is heard if in that millisecond fewer came before than may be heard.
+pub record Admits (floods later : ℕ × List Tally) (endpoint : ℕ) (is_heard : Bool) : Type 0 where
+  pub moment : ℕ
+  pub heard : is_within floods.0 (slice_get floods.1 endpoint) moment ≡ is_heard
+  pub counted : later ≡ (floods.0, tallies_with floods.1 endpoint moment)

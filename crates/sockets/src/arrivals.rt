@@ -1,9 +1,9 @@
 //! What came to the unit's sockets: who sent it, and what of it is heard by itself.
 
-ghost use Rattle.std.specs.Prelude.{◌≡◌, ◌≤◌, ◌⊎◌, [], None, Some, length, take, IfOk, IfSome};
+ghost use Rattle.std.specs.Prelude.{◌≡◌, ◌↔◌, ◌<◌, ◌≤◌, ◌⊎◌, ℕ, [], None, Some, true, false, length, drop, take, vec_capacity, IfNone, IfOk, IfSome, IsSome, IsTrue};
 ghost use Rattle.senders.specs.Naming.{source_named};
 ghost use Rattle.senders.specs.Senders.{sender_of};
-ghost use Rattle.sockets.specs.Arrivals.{IsHeardOfRest, IsReportMade, first_floods, first_learners, first_listeners, first_senders};
+ghost use Rattle.sockets.specs.Arrivals.{Admits, HasNoReport, HasNothingOfRest, IsHeardOf, IsHeardOfRest, IsReportMade, first_floods, first_learners, first_listeners, first_senders, rest_of};
 
 use addressing::{
     Client, Directory, Listening, is_reachable, learners_of, listeners_of, senders_of,
@@ -75,6 +75,7 @@ impl<'a> Arrivals<'a> {
         ensures floods { IfOk result (λ a. a.floods ≡ first_floods settings.now flood_limit) }
         ensures rest { IfOk result (λ a. (a.rest.bytes.items ≡ []) × (a.rest.heard ≡ 0)
             × (a.rest.from ≡ None)) }
+        ensures room { IfOk result (λ a. 65535 ≤ vec_capacity a.rest.bytes) }
     {
         let sources = settings.endpoints();
         let (senders, learners) = known_of(alloc, settings, clients)?;
@@ -100,13 +101,29 @@ impl<'a> Arrivals<'a> {
     pub fn waiting(&mut self, out: &mut [u8]) -> Option<(u16, usize)>
         ensures within { IfSome result (λ heard. heard.1 ≤ length out.new) }
         ensures heard { IfSome result (λ heard.
-            IsHeardOfRest ⟦<Origin as PartialEq>⟧.eq ⟦<SocketAddr as PartialEq>⟧.eq self.old heard out.new
-            ⊎ IsReportMade self.old heard out.new) }
+            IsHeardOfRest ⟦<Origin as PartialEq>⟧.eq ⟦<SocketAddr as PartialEq>⟧.eq self.old.senders
+            self.old.rest self.new.rest heard out.new
+            ⊎ HasNothingOfRest ⟦<Origin as PartialEq>⟧.eq ⟦<SocketAddr as PartialEq>⟧.eq self.old.senders
+            self.old.rest self.new.rest (length out.old)
+            × IsReportMade self.old.sources.now self.old.listeners self.new.listeners heard out.new) }
+        ensures passed { IfNone result (HasNothingOfRest ⟦<Origin as PartialEq>⟧.eq
+            ⟦<SocketAddr as PartialEq>⟧.eq self.old.senders self.old.rest self.new.rest
+            (length out.old)) }
+        ensures unreported { IfNone result
+            (HasNoReport self.old.sources.now self.old.listeners (length out.old)) }
+        ensures room { vec_capacity self.old.rest.bytes ≤ vec_capacity self.new.rest.bytes }
     {
         match self.rest_heard(out) {
             Some(heard) => Some(heard),
             None => self.report_made(out),
         }
+    }
+
+    /// Whether something of a datagram that came still waits to be heard, as behind a stranger's packet that was passed over.
+    pub fn has_rest(&self) -> bool
+        ensures { IsTrue result ↔ (0 < length (rest_of self.now.rest)) × IsSome self.now.rest.from }
+    {
+        self.rest.from.is_some() && self.rest.heard < self.rest.bytes.len()
     }
 
     /// What is heard of a datagram that came from this address and is the beginning of `out`, so many bytes: its endpoint, and how
@@ -115,9 +132,15 @@ impl<'a> Arrivals<'a> {
     pub fn heard(&mut self, from: SocketAddr, size: usize, out: &[u8]) -> Option<(u16, usize)>
         requires { size ≤ length out.now }
         ensures within { IfSome result (λ heard. heard.1 ≤ length out.now) }
-        ensures sender { IfSome result (λ heard. sender_of ⟦<Origin as PartialEq>⟧.eq
-            ⟦<SocketAddr as PartialEq>⟧.eq self.new.senders from
-            (source_named (take size out.now)) ≡ Some heard.0) }
+        ensures heard { IfSome result (λ heard. IsHeardOf ⟦<Origin as PartialEq>⟧.eq
+            ⟦<SocketAddr as PartialEq>⟧.eq self.new.senders self.old.rest self.new.rest from
+            (take size out.now) heard) }
+        ensures none { IfNone result ((endpoint : ℕ) → sender_of ⟦<Origin as PartialEq>⟧.eq
+            ⟦<SocketAddr as PartialEq>⟧.eq self.new.senders from (source_named (take size out.now))
+            ≡ Some endpoint → Admits self.old.floods self.new.floods endpoint false) }
+        ensures admitted { IfSome result
+            (λ heard. Admits self.old.floods self.new.floods heard.0 true) }
+        ensures room { vec_capacity self.old.rest.bytes ≤ vec_capacity self.new.rest.bytes }
     {
         let datagram = &out[..size];
         self.learn(from, datagram);
@@ -125,9 +148,7 @@ impl<'a> Arrivals<'a> {
         if !self.admits(front.endpoint) {
             return None;
         }
-        if front.length < datagram.len() {
-            self.keep(from, &datagram[front.length..]);
-        }
+        self.keep(from, datagram, front.length);
         let endpoint = self.endpoint_or_stranger(from, front.endpoint)?;
         self.note(endpoint, &datagram[..front.length]);
         Some((endpoint, front.length))
@@ -135,7 +156,11 @@ impl<'a> Arrivals<'a> {
 
     /// Whether a datagram of this endpoint, or of a stranger, is looked at; if not, it is counted.
     fn admits(&mut self, endpoint: Option<u16>) -> bool
-        ensures { self.new.senders ≡ self.old.senders }
+        ensures senders { self.new.senders ≡ self.old.senders }
+        ensures rest { self.new.rest ≡ self.old.rest }
+        ensures counted { (number : ℕ) → endpoint ≡ Some number
+            → Admits self.old.floods self.new.floods number result }
+        ensures strangers { endpoint ≡ None → result ≡ true }
     {
         let Some(endpoint) = endpoint else {
             return true;
@@ -148,7 +173,10 @@ impl<'a> Arrivals<'a> {
     }
 
     /// Learns the address of an endpoint from a datagram with its source, if it learns, and nobody else has its seat.
-    fn learn(&mut self, from: SocketAddr, datagram: &[u8]) {
+    fn learn(&mut self, from: SocketAddr, datagram: &[u8])
+        ensures rest { self.new.rest ≡ self.old.rest }
+        ensures floods { self.new.floods ≡ self.old.floods }
+    {
         let arrived = Arrived {
             source: source_named(datagram),
             kind: self.kind_of(datagram),
@@ -171,7 +199,10 @@ impl<'a> Arrivals<'a> {
 
     /// An endpoint is at this seat from now on. Where memory is wanting, or a thread looks at its seat just now, it stays where it was
     /// and is learned from a later datagram.
-    fn move_to(&mut self, endpoint: u16, seat: Seat, before: Seat) {
+    fn move_to(&mut self, endpoint: u16, seat: Seat, before: Seat)
+        ensures rest { self.new.rest ≡ self.old.rest }
+        ensures floods { self.new.floods ≡ self.old.floods }
+    {
         self.learners.sit(endpoint, seat);
         match senders_of(self.alloc, self.sources, self.clients, &self.learners) {
             Ok(senders) if self.directory.sit(endpoint, seat) => {
@@ -193,22 +224,39 @@ impl<'a> Arrivals<'a> {
         }
     }
 
-    /// Keeps the rest of a datagram.
-    fn keep(&mut self, from: SocketAddr, bytes: &[u8])
-        ensures { self.new.senders ≡ self.old.senders }
+    /// Keeps what is behind so many bytes of a datagram, if anything is.
+    fn keep(&mut self, from: SocketAddr, datagram: &[u8], heard: usize)
+        requires { heard ≤ length datagram.now }
+        ensures senders { self.new.senders ≡ self.old.senders }
+        ensures floods { self.new.floods ≡ self.old.floods }
+        ensures whole { heard ≡ length datagram.now → self.new.rest ≡ self.old.rest }
+        ensures still { heard < length datagram.now → self.new.rest.from ≡ Some from }
+        ensures behind { heard < length datagram.now
+            → length datagram.now ≤ vec_capacity self.old.rest.bytes
+            → rest_of self.new.rest ≡ drop heard datagram.now }
+        ensures room { vec_capacity self.old.rest.bytes ≤ vec_capacity self.new.rest.bytes }
     {
+        if heard == datagram.len() {
+            return;
+        }
         self.rest.bytes.clear();
         self.rest.heard = 0;
         self.rest.from = Some(from);
-        let _ = self.rest.bytes.extend_from_slice(bytes);
+        let _ = self.rest.bytes.extend_from_slice(&datagram[heard..]);
     }
 
-    /// What is heard of the rest of a datagram. Packets of strangers are counted, and passed over one in a call.
+    /// What is heard of the rest of a datagram. A packet of a stranger, which is counted, and one that has no room are passed over, one
+    /// in a call.
     fn rest_heard(&mut self, out: &mut [u8]) -> Option<(u16, usize)>
         ensures within { IfSome result (λ heard. heard.1 ≤ length out.new) }
-        ensures heard { IfSome result (λ heard.
-            IsHeardOfRest ⟦<Origin as PartialEq>⟧.eq ⟦<SocketAddr as PartialEq>⟧.eq self.old heard out.new) }
+        ensures heard { IfSome result (λ heard. IsHeardOfRest ⟦<Origin as PartialEq>⟧.eq
+            ⟦<SocketAddr as PartialEq>⟧.eq self.old.senders self.old.rest self.new.rest heard out.new) }
+        ensures none { IfNone result (HasNothingOfRest ⟦<Origin as PartialEq>⟧.eq
+            ⟦<SocketAddr as PartialEq>⟧.eq self.old.senders self.old.rest self.new.rest
+            (length out.old)) }
         ensures sources { self.new.sources ≡ self.old.sources }
+        ensures listeners { IfNone result (self.new.listeners ≡ self.old.listeners) }
+        ensures room { vec_capacity self.new.rest.bytes ≡ vec_capacity self.old.rest.bytes }
     {
         let from = self.rest.from?;
         let Some(datagram) = self.rest.bytes.as_slice().get(self.rest.heard..) else {
@@ -220,10 +268,10 @@ impl<'a> Arrivals<'a> {
             return None;
         }
         let front = self.senders.front(from, datagram);
-        let packet = &datagram[..front.length];
-        let length = written(packet, out)?;
+        let written = written(&datagram[..front.length], out);
         self.rest.heard = self.rest.heard.saturating_add(front.length);
         let endpoint = self.endpoint_or_stranger(from, front.endpoint)?;
+        let length = written?;
         self.note(endpoint, &out[..length]);
         Some((endpoint, length))
     }
@@ -231,7 +279,11 @@ impl<'a> Arrivals<'a> {
     /// The report that is due in the name of an endpoint that only listens.
     fn report_made(&mut self, out: &mut [u8]) -> Option<(u16, usize)>
         ensures within { IfSome result (λ heard. heard.1 ≤ length out.new) }
-        ensures made { IfSome result (λ heard. IsReportMade self.old heard out.new) }
+        ensures made { IfSome result (λ heard. IsReportMade self.old.sources.now self.old.listeners
+            self.new.listeners heard out.new) }
+        ensures none { IfNone result
+            (HasNoReport self.old.sources.now self.old.listeners (length out.old)) }
+        ensures rest { self.new.rest ≡ self.old.rest }
     {
         let number = self.listeners.report_due(self.gauges.moment_ms.get())?;
         let endpoint = u16::try_from(number).ok()?;
@@ -255,6 +307,8 @@ impl<'a> Arrivals<'a> {
     fn note(&mut self, endpoint: u16, datagram: &[u8])
         ensures senders { self.new.senders ≡ self.old.senders }
         ensures sources { self.new.sources ≡ self.old.sources }
+        ensures floods { self.new.floods ≡ self.old.floods }
+        ensures rest { self.new.rest ≡ self.old.rest }
     {
         self.traffic
             .heard(endpoint, datagram, self.gauges.moment_ms.get());
@@ -299,6 +353,7 @@ fn looks_of(
     ensures floods { IfOk result (λ looks. looks.1 ≡ first_floods settings.now flood_limit) }
     ensures rest { IfOk result (λ looks. (looks.2.bytes.items ≡ []) × (looks.2.heard ≡ 0)
         × (looks.2.from ≡ None)) }
+    ensures room { IfOk result (λ looks. 65535 ≤ vec_capacity looks.2.bytes) }
 {
     let rest = Rest {
         bytes: Vec::with_capacity(alloc, MAX_DATAGRAM)?,
@@ -312,6 +367,7 @@ fn looks_of(
 
 /// Writes bytes to the beginning of `out`, and says how many; nothing where there is no room.
 fn written(bytes: &[u8], out: &mut [u8]) -> Option<usize>
+    ensures none { IfNone result (length out.old < length bytes.now) }
     ensures within { IfSome result (λ written. written ≤ length out.new) }
     ensures size { IfSome result (λ written. written ≡ length bytes.now) }
     ensures bytes { IfSome result (λ written. take written out.new ≡ bytes.now) }

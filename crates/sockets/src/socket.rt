@@ -154,6 +154,9 @@ impl Source for SocketSource<'_> {
         if let Some((endpoint, length)) = self.arrivals.waiting(out) {
             return Ok(Received::Datagram { endpoint, length });
         }
+        if self.arrivals.has_rest() {
+            return Ok(Received::Nothing);
+        }
         match self.come(out) {
             Ok((size, from)) => match self.arrivals.heard(from, size, out) {
                 Some((endpoint, length)) => Ok(Received::Datagram { endpoint, length }),
