@@ -1,10 +1,8 @@
 -- What a parse makes of the words of each subcommand, for any number and any file.
-use Rattle.std.proofs.Common.{◌≡◌, ◌∙◌, ◌<◌, ◌≤◌, ◌^◌, ◌==◌, ◌&&◌, ℕ, Bool, true, false, cond, drop, refl, sym, ap, ap₂, subst, arith, List, [], ◌∷◌, Option, Some, None, Result, Ok, Err, codes, option_map, unwrap_or, nat_lt}
+use Rattle.std.proofs.Common.{◌≡◌, ◌∙◌, ◌<◌, ◌≤◌, ◌^◌, ◌==◌, ◌&&◌, ℕ, Bool, true, false, cond, drop, refl, sym, ap, subst, arith, List, [], ◌∷◌, Option, Some, None, Result, Ok, Err, codes, option_map, unwrap_or, nat_lt}
 use Rattle.std.specs.Prelude.{pos, decimal, option_and_then}
-use Rattle.std.specs.List.{list_all}
 use Rattle.std.specs.Result.{result_ok}
-use Rattle.std.specs.Char.{digit_value}
-use Rattle.std.specs.Str.Parse.{AllDigits, IsNumeral, ParsesUnsigned, digits_value, without_leading_plus}
+use Rattle.std.specs.Str.Parse.{IsNumeral, ParsesUnsigned, digits_value, without_leading_plus}
 use Rattle.std.proofs.lemmas.Bool.{cond-false, cond-true, lt-ltb, ltb-true, ne_eqb}
 use Rattle.std.proofs.lemmas.Int.{ints}
 use Rattle.std.proofs.lemmas.Str.Parse.{digit_from_value}
@@ -24,7 +22,7 @@ use Rattle.clap.specs.declared.builder.ValueParser.TheVariants as vp
 use Rattle.std.proofs.lemmas.Fmt.{decimal_is_IsNumeral}
 use Rattle.request_text.specs.Words.{number_under}
 use Rattle.request_text.proofs.DigitLemmas.{digits_back, digits_from}
-use Rattle.command_line.specs.CommandLine.{IsWritable, Types, words_of, Request, asked_for, request_found, asked_named, bound, check, replay, sfu, number_of, serve, number_in, moment_in, is_set, is_yes, option_words, draw}
+use Rattle.command_line.specs.CommandLine.{IsWritable, Types, words_of, Request, asked_for, request_found, asked_named, bound, check, replay, sfu, number_of, serve, number_in, moment_in, is_set, is_yes, draw}
 
 -- ---- reading a number
 

@@ -1,12 +1,11 @@
 -- What a desk holds behind a call that it recorded.
-use Rattle.std.proofs.Common.{◌≡◌, ℕ, ◌+◌, ◌-◌, ◌≤◌, ◌<◌, Bool, true, false, cond, List, [], ◌∷◌, ◌++◌, length, drop, inl, inr, Option, None, Some, refl, sym, ap, subst, ◌∙◌, arith}
-use Rattle.std.specs.Prelude.{◌↔◌, IsTrue, nat_lt, min, slice_get, All}
+use Rattle.std.proofs.Common.{◌≡◌, ℕ, ◌+◌, ◌-◌, ◌≤◌, ◌<◌, Bool, true, false, cond, List, [], ◌∷◌, ◌++◌, length, drop, inl, inr, None, Some, refl, sym, ap, subst, ◌∙◌, arith}
+use Rattle.std.specs.Prelude.{◌↔◌, IsTrue, nat_lt, slice_get, All}
 use Rattle.std.proofs.lemmas.Bool.{cases_lt, ltb-true, lt-ltb}
 use Rattle.std.proofs.lemmas.Bool.Decides.{nat_tests}
 use Rattle.std.proofs.lemmas.List.{length_push}
 use Rattle.std.proofs.lemmas.List.Elements.{All-push}
 use Rattle.circular_buffer.specs.Buffer.{keep_last}
-use Rattle.bounding_set.specs.State.{announced_of}
 use Rattle.bounding_set.specs.Rows.{HasRisingOwners as RowsRise}
 use Rattle.desk.specs.declared.call.Call.{Call}
 use Rattle.desk.specs.declared.call.Answer.{Answer}
@@ -20,7 +19,7 @@ use Rattle.desk.specs.Presence.{live_requests}
 use Rattle.desk.specs.Answer.{IsAnswerTo}
 use Rattle.desk.specs.History.{IsLegalHistory, StandsForEntries, Follows, FirstFollows}
 use Rattle.desk.specs.Standing.{Stand, IsStand}
-use Rattle.desk.specs.State.{DeskState, HoldsLegalDesk, IsOverLimit, now_of, call_count}
+use Rattle.desk.specs.State.{DeskState, IsOverLimit, now_of, call_count}
 use Rattle.desk.specs.Held.{IsHeld}
 use Rattle.desk.proofs.LiveLemmas.{live-rising}
 use Rattle.desk.proofs.EffectLemmas.{announced_once}

@@ -1,8 +1,6 @@
 -- What stands behind a call that isn't refused.
-use Rattle.std.proofs.Common.{◌≡◌, ℕ, ◌≤◌, List, length, None, Some, refl, sym, ap, subst, ◌∙◌, arith}
+use Rattle.std.proofs.Common.{◌≡◌, ℕ, ◌≤◌, length, None, Some, refl, sym, ap, ◌∙◌, arith}
 use Rattle.std.specs.Prelude.{◌↔◌, Bool, Result, Ok, Err, IsOk, IsErr, OnOk, IsNone, Option}
-use Rattle.tmmbr_tuple.specs.declared.tuple.Tuple.{Tuple}
-use Rattle.rate_cert.specs.declared.request.Request.{Request as RateRequest}
 use Rattle.bounding_set.specs.declared.rows.Full.{Full as FullRows}
 use Rattle.bounding_set.specs.declared.rows.TheConstants.{LIVE_LIMIT}
 use Rattle.bounding_set.specs.Rows.{tuple_of}

@@ -1,6 +1,6 @@
 -- What entries come to, one by one.
-use Rattle.std.proofs.Common.{◌≡◌, ℕ, zero, suc, ◌+◌, ◌-◌, ◌*◌, ◌^◌, ◌<◌, ◌≤◌, Bool, true, false, cond, List, [], ◌∷◌, ◌++◌, length, take, drop, refl, sym, ap, subst, ◌∙◌, arith, Some, None, Option, inl, inr}
-use Rattle.std.specs.Prelude.{not, ◌==◌, nat_le, ◌⊎◌, sum_by, slice_get, min, All}
+use Rattle.std.proofs.Common.{◌≡◌, ℕ, suc, ◌+◌, ◌^◌, ◌≤◌, Bool, true, false, cond, List, [], ◌∷◌, ◌++◌, length, refl, sym, ap, subst, ◌∙◌, arith, Some, None, Option, inl, inr}
+use Rattle.std.specs.Prelude.{not, ◌==◌, nat_le, ◌⊎◌, All}
 use Rattle.std.proofs.lemmas.Bool.{cases_lt}
 use Rattle.std.proofs.lemmas.List.{take_at, take-append-le, get_or_append_left, get_or_at, length_push}
 use Rattle.std.proofs.lemmas.List.Sums.{fold_push, fold-append, sum_by-cons}
@@ -17,9 +17,9 @@ use Rattle.desk.specs.declared.presence.Present.{Present}
 use Rattle.desk.specs.declared.presence.TheConstants.{PRESENT_LIMIT}
 use Rattle.desk.specs.declared.base.Base.{Base}
 use Rattle.desk.specs.Call.{HasStay, requested_word, word_in, is_done, moment_after}
-use Rattle.desk.specs.Presence.{HasRisingOwners, HasStays, refusal_of, refusal_in, stay_in, unless_present_with, unless_absent_with_room, present_by}
+use Rattle.desk.specs.Presence.{HasRisingOwners, HasStays, refusal_of, stay_in, unless_present_with}
 use Rattle.desk.specs.Trace.{IsBase, base_with, base_after, words_of, present_behind, present_unless, present_with}
-use Rattle.desk.specs.Answer.{IsDone, IsAnswerOr, IsAnswerTo}
+use Rattle.desk.specs.Answer.{IsAnswerOr, IsAnswerTo}
 use Rattle.desk.specs.History.{IsLegalHistory, Follows}
 use Rattle.desk.proofs.PresenceLemmas.{rising-by, stays-by, few-by}
 

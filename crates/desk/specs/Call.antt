@@ -1,5 +1,5 @@
 -- What a call says.
-use Rattle.std.specs.Prelude.{◌≡◌, ℕ, ◌≤◌, max, Bool, true, false}
+use Rattle.std.specs.Prelude.{ℕ, ◌≤◌, max, Bool, true, false}
 use Rattle.tmmbr_tuple.specs.Tuple.{word_of}
 use Rattle.desk.specs.declared.call.Call.{Call}
 use Rattle.desk.specs.declared.call.Call.TheVariants.{Stay, Time}

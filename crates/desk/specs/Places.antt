@@ -5,10 +5,8 @@ use Rattle.desk.specs.declared.call.Call.{Call}
 use Rattle.desk.specs.declared.call.Call.TheVariants.{Stay, Time}
 use Rattle.desk.specs.declared.call.Change.{Change}
 use Rattle.desk.specs.declared.call.Change.TheVariants.{Arrive, Request as Ask, Depart}
-use Rattle.desk.specs.declared.call.Signal.{Signal}
-use Rattle.desk.specs.declared.call.Signal.TheVariants.{Pli, Tick, Expire}
+use Rattle.desk.specs.declared.call.Signal.TheVariants.{Expire}
 use Rattle.desk.specs.declared.call.Entry.{Entry}
-use Rattle.desk.specs.declared.presence.Asked.{Asked}
 use Rattle.desk.specs.declared.base.Base.{Base}
 use Rattle.desk.specs.Call.{moment_after, is_done}
 use Rattle.desk.specs.Presence.{stay_in, asked_in}

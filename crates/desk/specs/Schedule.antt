@@ -1,5 +1,5 @@
 -- When PLIs are sent upstream, by places in a history (RFC 4585, section 6.3.1; the gap is this project's own).
-use Rattle.std.specs.Prelude.{◌≡◌, ℕ, ◌+◌, ◌<◌, ◌≤◌, ◌↔◌, ◌⊎◌, true, List, length, map, slice_get, Some, IfSome}
+use Rattle.std.specs.Prelude.{◌≡◌, ℕ, ◌+◌, ◌<◌, ◌≤◌, ◌↔◌, ◌⊎◌, true, List, length, map, IfSome}
 use Rattle.desk.specs.declared.call.Call.{Call}
 use Rattle.desk.specs.declared.call.Call.TheVariants.{Stay, Time}
 use Rattle.desk.specs.declared.call.Entry.{Entry}

@@ -1,5 +1,5 @@
 -- What a contract sees of a `Standing`.
-use Rattle.std.specs.Prelude.{◌≡◌, List, ℕ, ◌+◌, ◌-◌}
+use Rattle.std.specs.Prelude.{◌≡◌, ℕ, ◌+◌, ◌-◌}
 use Rattle.bounding_set.specs.State.{State, AnnouncesSmallest}
 use Rattle.desk.specs.declared.call.Call.{Call}
 use Rattle.desk.specs.declared.call.Call.TheVariants.{Stay, Time}

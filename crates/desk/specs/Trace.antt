@@ -1,5 +1,5 @@
 -- The trace of a desk: a base, which stands for calls that aren't listed any more, and the listed calls with their answers.
-use Rattle.std.specs.Prelude.{◌≡◌, ℕ, ◌+◌, ◌*◌, ◌^◌, ◌≤◌, nat_le, max, Bool, true, false, not, ◌&&◌, ◌||◌, List, [], length, fold, sum_by, Option, Some, None, if◌then◌else◌}
+use Rattle.std.specs.Prelude.{ℕ, ◌+◌, ◌*◌, ◌^◌, ◌≤◌, nat_le, Bool, true, false, not, ◌&&◌, ◌||◌, List, [], length, fold, sum_by, Option, Some, None, if◌then◌else◌}
 use Rattle.std.specs.Option.{option_map_or}
 use Rattle.rate_cert.specs.declared.request.Request.{Request}
 use Rattle.desk.specs.declared.call.Call.{Call}

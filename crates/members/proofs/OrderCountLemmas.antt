@@ -1,6 +1,6 @@
 -- How many orders a call gives at most: each leg ends once and begins once in it.
-use Rattle.std.proofs.Common.{◌≡◌, ℕ, zero, suc, ◌+◌, ◌*◌, ◌<◌, ◌≤◌, List, [], ◌∷◌, ◌++◌, length, set, map, refl, sym, ap, subst, ◌∙◌, arith, Ok, Err, Result, Bool, true, false, cond, length-append, length-set}
-use Rattle.std.specs.Prelude.{◌==◌, ◌&&◌, ◌||◌, not, nat_le, nat_lt, max, flat_map, IfOk, if◌then◌else◌}
+use Rattle.std.proofs.Common.{◌≡◌, ℕ, zero, suc, ◌+◌, ◌*◌, ◌≤◌, List, [], ◌∷◌, ◌++◌, length, map, refl, ap, ◌∙◌, arith, Ok, Err, Result, Bool, true, false, length-append}
+use Rattle.std.specs.Prelude.{◌==◌, ◌&&◌, not, nat_le, nat_lt, max, flat_map, IfOk, if◌then◌else◌}
 use Rattle.std.specs.List.{enumerate_from}
 use Rattle.std.proofs.lemmas.List.{length-map}
 use Rattle.members.specs.declared.order.Order.{Order}
@@ -11,8 +11,8 @@ use Rattle.members.specs.declared.presence.Endpoint.{Endpoint}
 use Rattle.members.specs.declared.stays.LegStay.{LegStay}
 use Rattle.members.specs.declared.stays.TheConstants.{MAX_STAY}
 use Rattle.members.specs.Presence.{is_overdue_at, is_present_at, source_at}
-use Rattle.members.specs.Stays.{Told, without_orders, is_of, ending, ending_of, endings, leg_without, leave, leave_if_overdue, after_overdue, leaving, begins_with, beginning, beginnings, turn_from, started_legs, coming_count, coming_orders, coming_legs, come}
-use Rattle.members.specs.Room.{RoomState, Step, step_with, after_leaving, tick_step, after_bye, bye_step, heard_step, hear_step, heard_again, is_selected, takes_turn, row_order, switched_leg, with_leg, next_after, selected_step, select_step, leg_at, anew}
+use Rattle.members.specs.Stays.{Told, without_orders, is_of, ending, ending_of, endings, leg_without, leave, after_overdue, leaving, begins_with, beginning, beginnings, coming_count, coming_orders, come}
+use Rattle.members.specs.Room.{RoomState, Step, step_with, after_leaving, after_bye, heard_step, heard_again, is_selected, takes_turn, row_order, switched_leg, with_leg, next_after, selected_step, leg_at, anew}
 use Rattle.members.specs.Calls.{Call, Hear, Bye, Tick, Select, Receive, Report, MakeBlock, step_of}
 
 -- ---- legs that end

@@ -1,18 +1,10 @@
 -- What `sfu bound` prints, and what it refuses.
-use Rattle.std.specs.Prelude.{◌≡◌, ◌≢◌, ◌⊎◌, ℕ, codes, List, Option, IfSome, Ok, Err}
+use Rattle.std.specs.Prelude.{ℕ, List, Option, IfSome, Ok, Err}
 use Rattle.std.specs.Io.KnownBytes.{Appends, Keeps}
-use Rattle.std.specs.IoError.{error_kind}
-use Rattle.std.specs.declared.io.Error.{Error}
-use Rattle.std.specs.declared.io.ErrorKind.{ErrorKind}
-use Rattle.std.specs.declared.io.ErrorKind.TheVariants.{OutOfMemory}
 use Rattle.bounding_set.specs.State.{State, AnnouncesSmallest}
 use Rattle.drawing.specs.Picture.{picture_text}
 use Rattle.request_text.specs.BoundText.{bound_text, refused_text}
 use Rattle.request_text.specs.Lines.{Asked, Refused, AreRowsOf, HoldsLastWords, TextLeaves}
-use Rattle.request_text.specs.declared.bound.Refusal.{Refusal}
-use Rattle.request_text.specs.declared.bound.Refusal.TheVariants.{NoMemory as NoMemoryAtAll, Line}
-use Rattle.endings.specs.declared.status.Status.{Status}
-use Rattle.endings.specs.declared.status.Status.TheVariants as status
 use Rattle.endings.specs.declared.status.Failure.{Failure}
 use Rattle.endings.specs.declared.status.Failure.TheVariants.{NoMemory, Refused as RefusedLine, Io}
 

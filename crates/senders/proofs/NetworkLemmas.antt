@@ -1,5 +1,5 @@
 -- Networks that texts spell.
-use Rattle.std.proofs.Common.{◌≡◌, ℕ, List, Option, None, Some, MatchOption, sym, subst, inr}
+use Rattle.std.proofs.Common.{◌≡◌, ℕ, List, Option, None, Some, MatchOption, subst, inr}
 use Rattle.senders.specs.declared.network.Network.{Network}
 use Rattle.senders.specs.Network.{HasSlash, SpellsNetwork, SpellsNoNetwork, SpellsNoPair, SpellsPairWithin, after_slash, before_slash}
 

@@ -1,5 +1,5 @@
 -- The endpoints whose addresses are learned from what they send (RFC 4961).
-use Rattle.std.specs.Prelude.{ℕ, ◌+◌, nat_lt, min, Bool, true, List, Option, None, Some, length, slice_get, slice_set, if◌then◌else◌}
+use Rattle.std.specs.Prelude.{ℕ, ◌+◌, min, Bool, true, List, Option, None, Some, slice_get, slice_set, if◌then◌else◌}
 use Rattle.std.specs.Net.Socket.{socket_ip}
 use Rattle.std.specs.declared.net.ip_addr.IpAddr.{IpAddr}
 use Rattle.std.specs.declared.net.socket_addr.SocketAddr.{SocketAddr}

@@ -1,4 +1,4 @@
-use Rattle.std.proofs.Common.{◌≡◌, ◌∙◌, ◌++◌, ◌∷◌, [], sym, ap, subst}
+use Rattle.std.proofs.Common.{◌∙◌, ◌++◌, ◌∷◌, [], sym, ap, subst}
 use Rattle.circular_buffer.specs.Buffer.{keep_last}
 use Rattle.desk.specs.declared.base.Base.{Base}
 use Rattle.desk.specs.Trace.{IsBase}

@@ -1,4 +1,4 @@
-use Rattle.std.proofs.Common.{◌≡◌, ◌≤◌, ◌+◌, vec_len, vec_capacity, length}
+use Rattle.std.proofs.Common.{◌≡◌, ◌≤◌, vec_len, vec_capacity, length}
 use Rattle.std.specs.Prelude.{All}
 use Rattle.rate_desk.specs.Shares.{IsDeskOf}
 use Rattle.rate_desk.proofs.gathering.unlock.Given as goal

@@ -1,4 +1,4 @@
-use Rattle.std.proofs.Common.{◌≡◌, ◌<◌, ◌^◌, ℕ, subst, sym}
+use Rattle.std.proofs.Common.{◌<◌, ◌^◌, ℕ, subst, sym}
 use Rattle.senders.proofs.network.pair_in.Goals as goal
 
 pub returns-in_default-parse : goal.returns-in_default-parse

@@ -1,4 +1,4 @@
-use Rattle.std.proofs.Common.{◌∙◌, ◌++◌, ◌∷◌, List, ℕ, [], ap}
+use Rattle.std.proofs.Common.{◌++◌, ◌∷◌, List, ℕ, [], ap}
 use Rattle.rtcp_compound.specs.Written.{rr_packet}
 use Rattle.senders.proofs.reports.empty_report.Goals as goal
 

@@ -1,9 +1,9 @@
-use Rattle.std.proofs.Common.{◌≡◌, sym, ap, ◌∙◌, length, None, Some, subst, arith}
+use Rattle.std.proofs.Common.{◌≡◌, sym, ap, ◌∙◌, length, None}
 use Rattle.desk.specs.Presence.{refusal_of}
 use Rattle.desk.specs.Trace.{present_unless}
 use Rattle.desk.specs.Call.{moment_after}
 use Rattle.desk.specs.Standing.{count_by}
-use Rattle.desk.proofs.PresenceLemmas.{length-by, some_present}
+use Rattle.desk.proofs.PresenceLemmas.{length-by}
 use Rattle.desk.proofs.base.Base.count_behind.Goals as goal
 
 pub returns-in-None-clause-count : goal.returns-in-None-clause-count

@@ -1,4 +1,4 @@
-use Rattle.std.proofs.Common.{◌≡◌, ◌≤◌, ◌<◌, ◌+◌, ◌-◌, ap, sym, subst, ◌∙◌, length, arith}
+use Rattle.std.proofs.Common.{◌<◌, ◌+◌, ◌-◌, ap, sym, subst, ◌∙◌, length, arith}
 use Rattle.std.specs.Prelude.{◌↔◌, IsTrue, nat_lt}
 use Rattle.desk.specs.declared.base.Base.{Base}
 use Rattle.desk.specs.declared.base.TheConstants.{CALL_LIMIT}

@@ -1,4 +1,4 @@
-use Rattle.std.proofs.Common.{◌≡◌, ap, sym, subst, ◌∙◌, refl}
+use Rattle.std.proofs.Common.{ap, sym, subst, ◌∙◌, refl}
 use Rattle.desk.specs.declared.base.Base.{Base}
 use Rattle.desk.specs.State.{DeskState, IsOverLimit, Records}
 use Rattle.desk.specs.Held.{IsHeld}

@@ -1,4 +1,4 @@
-use Rattle.std.proofs.Common.{List, ◌≡◌, ◌∙◌, ℕ, ◌+◌, ◌*◌, ◌≤◌, length, ap, sym, subst}
+use Rattle.std.proofs.Common.{◌≡◌, ◌∙◌, ℕ, ◌+◌, ◌*◌, ◌≤◌, length, ap, sym, subst}
 use Rattle.std.specs.Prelude.{IfOk}
 use Rattle.members.specs.Calls.{step_of}
 use Rattle.members.specs.Room.{RoomState}

@@ -1,4 +1,4 @@
-use Rattle.std.proofs.Common.{◌≡◌, sym, ◌∙◌, ap, ◌+◌, ℕ}
+use Rattle.std.proofs.Common.{sym, ◌∙◌, ap, ◌+◌, ℕ}
 use Rattle.rate_desk.proofs.ShareLemmas.{one_more}
 use Rattle.rate_desk.proofs.seat.DeskSeat.call.Goals as goal
 

@@ -1,4 +1,4 @@
-use Rattle.std.proofs.Common.{◌≡◌, ◌∙◌, List, ℕ, sym, ap, Some, cond, Option}
+use Rattle.std.proofs.Common.{◌≡◌, ◌∙◌, sym, ap, Some, cond, Option}
 use Rattle.senders.specs.declared.occupancy.Occupants.{Occupants}
 use Rattle.senders.specs.Occupancy.{beside, occupants_of}
 use Rattle.senders.proofs.OccupancyLemmas.{occupants_of-append}
