@@ -70,7 +70,8 @@ fn run_words<
 ) -> Status {
     match noted_in(rt.alloc(), words) {
         Ok(Some(noted)) => run_noted(rt, &noted, writer, errors),
-        Ok(None) | Err(_) => run_command(rt, words, meter, reader, writer, errors),
+        Ok(None) => run_command(rt, words, meter, reader, writer, errors),
+        Err(error) => report_words(errors, &io::Error::from(error)),
     }
 }
 
