@@ -86,7 +86,7 @@ pub record HasNoReport (sources : List Ssrc) (listeners : ListenersState) (room 
 -- ---- what is heard of a datagram that came
 
 -- Whose the datagram is that came from this address, how much of it is heard at once, and that what is behind that is the rest from then
--- on; it is kept where there was room for it, as there is for each datagram of UDP. Nothing else changes what waited.
+-- on; it is kept if there was room for it, as there is for each datagram of UDP. Nothing else changes what waited.
 pub record IsHeardOf (same : Origin → Origin → Bool) (same_address : SocketAddr → SocketAddr → Bool)
     (senders : List (Origin × ℕ)) (rest later : Rest) (from : SocketAddr) (datagram : List ℕ)
     (heard : ℕ × ℕ) : Type 0 where
