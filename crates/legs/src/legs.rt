@@ -14,7 +14,7 @@ use crate::planning::{plan_goodbye, plan_packet, plan_report, plan_resends};
 use events::{Job, Out};
 use members::Row;
 use resend_ring::MAX_CAPACITY;
-use rewrite::{Reading, SharedBytes, SharedPacket};
+use rewrite::{Reading, SharedPacket};
 use rtcp_feedback::{Nack, lost};
 use settings::{Links, MAX_LEGS};
 use std::alloc::{AllocError, Global};
@@ -130,13 +130,13 @@ fn plan_place(
     alloc: Global,
     place: u16,
     rows: &[Row],
-    bytes: &SharedBytes,
+    packet: &SharedPacket,
     reading: Reading,
     plan: &mut Plan,
 ) -> Result<(), AllocError>
-    requires read { IsReadAs bytes.now reading }
+    requires read { IsReadAs packet.now reading }
     ensures { OnOk result (plan.new
-        ≡ plan.old ++ plan_of rows.now bytes.now legs.now place) }
+        ≡ plan.old ++ plan_of rows.now packet.now legs.now place) }
 {
     let Some(leg) = legs.get(usize::from(place)) else {
         return Ok(());
@@ -145,7 +145,7 @@ fn plan_place(
     if !row.on {
         return Ok(());
     }
-    let planned = plan_packet(leg, alloc, place, row.turn, bytes, reading, plan)?;
+    let planned = plan_packet(leg, alloc, place, row.turn, packet, reading, plan)?;
     plan.push(planned)
 }
 
@@ -155,16 +155,16 @@ fn plan_places(
     alloc: Global,
     places: &[u16],
     rows: &[Row],
-    bytes: &SharedBytes,
+    packet: &SharedPacket,
     reading: Reading,
     plan: &mut Plan,
 ) -> Result<(), AllocError>
-    requires read { IsReadAs bytes.now reading }
+    requires read { IsReadAs packet.now reading }
     ensures { OnOk result (plan.new
-        ≡ plan.old ++ flat_map (plan_of rows.now bytes.now legs.now) places.now) }
+        ≡ plan.old ++ flat_map (plan_of rows.now packet.now legs.now) places.now) }
 {
     for place in places {
-        plan_place(legs, alloc, *place, rows, bytes, reading, plan)?;
+        plan_place(legs, alloc, *place, rows, packet, reading, plan)?;
     }
     Ok(())
 }
@@ -295,7 +295,7 @@ impl Legs {
             return Ok(());
         };
         let (legs, places) = (self.legs.as_slice(), places.as_slice());
-        plan_places(legs, alloc, places, rows, packet.bytes(), reading, plan)
+        plan_places(legs, alloc, places, rows, packet, reading, plan)
     }
 
     /// Appends what an entry of a NACK does.

@@ -5,26 +5,16 @@ ghost use Rattle.rewrite.specs.Leg.{answer_to};
 ghost use Rattle.resend_ring.specs.Kept.{last_kept_with};
 ghost use Rattle.legs.specs.Legs.{leg_goodbye_bytes, leg_report_bytes};
 ghost use Rattle.legs.specs.Planning.{packet_planned, resend_planned, resends, sent_alone};
-ghost use Rattle.rewrite.specs.Rtp.{IsReadAs, sequence_number, payload_octets};
+ghost use Rattle.rewrite.specs.Rtp.{IsReadAs, sequence_number};
 
 use crate::leg::LegState;
 use crate::plan::{Change, Plan, Planned};
 use events::{Bytes, Out};
-use rewrite::{Readdressed, Reading, SharedBytes};
+use rewrite::{Readdressed, Reading, SharedPacket};
 use rtcp_compound::{write_bye, write_rr, write_sdes_cname, write_sr};
-use rtp_packet::{RtpView, SEQ_CYCLE};
+use rtp_packet::SEQ_CYCLE;
 use std::alloc::{AllocError, Global};
 use tmmbr_tuple::Ssrc;
-
-/// The octets of the payload of a packet; 0 where the bytes are none.
-pub fn payload_octets(bytes: &[u8]) -> u64
-    ensures { result ≡ payload_octets bytes.now }
-{
-    match RtpView::parse(bytes) {
-        Ok(packet) => packet.payload.len() as u64,
-        Err(_) => 0,
-    }
-}
 
 /// The bytes of a packet that goes out.
 fn bytes_of(packet: &Readdressed, alloc: Global, plan: &mut Plan) -> Result<Bytes, AllocError>
@@ -42,21 +32,21 @@ pub fn plan_packet(
     alloc: Global,
     place: u16,
     turn: u64,
-    bytes: &SharedBytes,
+    packet: &SharedPacket,
     reading: Reading,
     plan: &mut Plan,
 ) -> Result<Planned, AllocError>
-    requires read { IsReadAs bytes.now reading }
+    requires read { IsReadAs packet.now reading }
     ensures ok { IfOk result (λ planned. planned
-        ≡ packet_planned place leg.now turn bytes.now
-        (answer_to leg.now.numbers turn (sequence_number bytes.now))) }
+        ≡ packet_planned place leg.now turn packet.now
+        (answer_to leg.now.numbers turn (sequence_number packet.now))) }
     ensures plan { plan.new ≡ plan.old }
 {
     let mut numbers = leg.numbers;
     match numbers.next(turn, reading.sequence_number) {
         Ok(number) => {
             let (ssrc, seq) = (leg.link.out_ssrc, (number % SEQ_CYCLE) as u16);
-            let kept = Readdressed::new(bytes.share()?, ssrc, seq);
+            let kept = Readdressed::new(packet.share()?, ssrc, seq);
             let bytes = bytes_of(&kept, alloc, plan)?;
             Ok(Planned {
                 out: Out::Send {
@@ -97,13 +87,15 @@ fn plan_again(
     match leg.kept.find(seq) {
         Some(packet) => {
             let bytes = bytes_of(packet, alloc, plan)?;
-            let octets = payload_octets(bytes.as_slice());
             Ok(Planned {
                 out: Out::Send {
                     endpoint: leg.link.subscriber,
                     bytes,
                 },
-                change: Change::Count { place, octets },
+                change: Change::Count {
+                    place,
+                    octets: packet.octets(),
+                },
             })
         }
         None => Ok(Planned {

@@ -3,7 +3,7 @@ ghost use Rattle.std.specs.Prelude.{◌≤◌};
 
 use bumpalo::Bump;
 use resend_ring::*;
-use rewrite::{Readdressed, SharedBytes};
+use rewrite::{Readdressed, SharedPacket};
 use std::alloc::{AllocError, Global};
 use std::process::Abort;
 use std::test::Fail;
@@ -13,8 +13,8 @@ use tmmbr_tuple::Ssrc;
 fn packet(alloc: Global, payload: u64) -> Result<Readdressed, AllocError> {
     let mut bytes = [0; 20];
     bytes[12..].copy_from_slice(payload.to_be_bytes().as_slice());
-    let bytes = SharedBytes::copy_of(alloc, bytes.as_slice())?;
-    Ok(Readdressed::new(bytes, Ssrc(0), 0))
+    let packet = SharedPacket::copy_of(alloc, bytes.as_slice())?;
+    Ok(Readdressed::new(packet, Ssrc(0), 0))
 }
 
 /// Whether the packet's payload is this number.
@@ -345,19 +345,19 @@ fn made_in(alloc: Global, capacity: usize, limit: usize) -> (bool, usize)
     (made, bump.allocated_bytes())
 }
 
-/// A ring of 126 packets wants 4,032 bytes for them, then 252 for their links, then 2,048 for the heads. The
-/// memory comes in chunks, of which the first is full of the packets. A ring of 512 wants 16 KiB and 3 KiB, one
-/// of 8 wants 528 bytes in all.
+/// A ring of 100 packets wants 4,000 bytes for them, then 200 for their links, then 2,048 for the heads. The
+/// memory comes in chunks, of which the first is full of the packets. A ring of 512 wants 20 KiB and 3 KiB, one
+/// of 8 wants 592 bytes in all.
 #[test]
 fn refused_without_memory(rt: HostRuntime) {
     for (capacity, limit, taken, is_made) in [
-        (126, 0, 0, false),
-        (126, 4_000, 0, false),
-        (126, 4_100, 4_032, false),
-        (126, 5_000, 4_032 + 252, false),
-        (126, 10_000, 4_032 + 252 + 2_048, true),
-        (8, 1_000, 528, true),
-        (512, 20_480, 16_384 + 3_072, true),
+        (100, 0, 0, false),
+        (100, 3_900, 0, false),
+        (100, 4_100, 4_000, false),
+        (100, 5_000, 4_000 + 200, false),
+        (100, 10_000, 4_000 + 200 + 2_048, true),
+        (8, 1_000, 592, true),
+        (512, 24_576, 20_480 + 3_072, true),
     ] {
         let (made, bytes) = made_in(rt.alloc(), capacity, limit);
         assert_eq!(rt; made, is_made, "{capacity} packets in {limit} bytes");

@@ -1,6 +1,6 @@
 -- How the packets of a ring are chained, to be found by their sequence numbers. Of so many chains a packet with the number n
 -- belongs to the chain n % chains. Places are counted from the newest packet back.
-use Rattle.std.specs.Prelude.{◌≡◌, ◌≢◌, ◌<◌, ◌≤◌, ◌+◌, ◌-◌, ◌%◌, ℕ, List, ◌⊎◌, length, map, slice_index, Option, MatchOption}
+use Rattle.std.specs.Prelude.{◌≡◌, ◌≢◌, ◌<◌, ◌≤◌, ◌+◌, ◌-◌, ◌%◌, ℕ, List, ◌⊎◌, length, map, slice_index, MatchOption}
 use Rattle.rtp_packet.specs.declared.header.TheConstants.{SEQ_CYCLE}
 use Rattle.resend_ring.specs.declared.ring.TheConstants.{MAX_CAPACITY}
 use Rattle.resend_ring.specs.declared.chains.TheConstants.{MAX_CHAIN, MANY_CHAINS, FEW_CHAINS}

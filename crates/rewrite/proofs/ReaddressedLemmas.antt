@@ -1,5 +1,5 @@
 -- A packet under another source and sequence number, as it is written.
-use Rattle.std.proofs.Common.{◌≡◌, ℕ, ◌+◌, ◌-◌, ◌≤◌, List, [], ◌∷◌, ◌++◌, length, take, drop, refl, ap, ◌∙◌, arith, length-drop}
+use Rattle.std.proofs.Common.{◌≡◌, ℕ, ◌+◌, ◌-◌, ◌≤◌, List, [], ◌∷◌, ◌++◌, length, take, drop, slice_index, refl, ap, ◌∙◌, arith, length-drop}
 use Rattle.std.proofs.lemmas.List.{drop-drop, append-nil, take_rest, drop_all}
 use borrow.Rule.Slice.PartMut.{put_mid}
 use Rattle.byteorder.specs.Endian.{big_bytes}
@@ -18,6 +18,8 @@ twelve : (u s : ℕ) (d : List ℕ) → 12 ≤ length d
     → (length (readdressed_bytes u s d) ≡ length d)
     × (take 8 (take 2 d ++ (big_bytes 2 s ++ drop 4 d)) ++ (big_bytes 4 u ++ drop 12 (take 2 d ++ (big_bytes 2 s ++ drop 4 d))) ≡ readdressed_bytes u s d)
     × ((v n : ℕ) → readdressed_bytes v n (readdressed_bytes u s d) ≡ readdressed_bytes v n d)
+    × (slice_index (readdressed_bytes u s d) 0 ≡ slice_index d 0)
+    × (drop 12 (readdressed_bytes u s d) ≡ drop 12 d)
 unfolding readdressed_bytes
 twelve u s [] h = absurd (omega arith)
 twelve u s (_ ∷ []) h = absurd (omega arith)
@@ -31,7 +33,7 @@ twelve u s (_ ∷ _ ∷ _ ∷ _ ∷ _ ∷ _ ∷ _ ∷ _ ∷ []) h = absurd (omeg
 twelve u s (_ ∷ _ ∷ _ ∷ _ ∷ _ ∷ _ ∷ _ ∷ _ ∷ _ ∷ []) h = absurd (omega arith)
 twelve u s (_ ∷ _ ∷ _ ∷ _ ∷ _ ∷ _ ∷ _ ∷ _ ∷ _ ∷ _ ∷ []) h = absurd (omega arith)
 twelve u s (_ ∷ _ ∷ _ ∷ _ ∷ _ ∷ _ ∷ _ ∷ _ ∷ _ ∷ _ ∷ _ ∷ []) h = absurd (omega arith)
-twelve u s (_ ∷ _ ∷ _ ∷ _ ∷ _ ∷ _ ∷ _ ∷ _ ∷ _ ∷ _ ∷ _ ∷ _ ∷ body) h = (refl, refl, λ v n. refl)
+twelve u s (_ ∷ _ ∷ _ ∷ _ ∷ _ ∷ _ ∷ _ ∷ _ ∷ _ ∷ _ ∷ _ ∷ _ ∷ body) h = (refl, refl, λ v n. refl, refl, refl)
 
 pub length-readdressed : (u s : ℕ) (d : List ℕ) → 12 ≤ length d → length (readdressed_bytes u s d) ≡ length d
 length-readdressed u s d h = (twelve u s d h).0
@@ -40,6 +42,13 @@ length-readdressed u s d h = (twelve u s d h).0
 pub readdressed-again : (u s : ℕ) (d : List ℕ) → 12 ≤ length d
     → (v n : ℕ) → readdressed_bytes v n (readdressed_bytes u s d) ≡ readdressed_bytes v n d
 readdressed-again u s d h = (twelve u s d h).2
+
+-- the first byte stays, and all behind the fixed header
+pub first-readdressed : (u s : ℕ) (d : List ℕ) → 12 ≤ length d → slice_index (readdressed_bytes u s d) 0 ≡ slice_index d 0
+first-readdressed u s d h = (twelve u s d h).3
+
+pub behind-readdressed : (u s : ℕ) (d : List ℕ) → 12 ≤ length d → drop 12 (readdressed_bytes u s d) ≡ drop 12 d
+behind-readdressed u s d h = (twelve u s d h).4
 
 -- the sequence number is written over the old one, then the source
 pub readdressed : (u s : ℕ) (d copy w v xs : List ℕ) → 12 ≤ length d → copy ≡ d

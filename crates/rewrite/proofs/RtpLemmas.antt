@@ -1,8 +1,8 @@
 -- Datagrams that are RTP packets.
-use Rattle.std.proofs.Common.{◌≡◌, ◌≢◌, ℕ, ◌+◌, ◌-◌, ◌/◌, ◌%◌, ◌^◌, ◌<◌, ◌≤◌, ◌⊎◌, inl, inr, ⊎_elim, Bool, true, false, List, [], ◌∷◌, ◌++◌, length, drop, slice_index, refl, sym, ap, subst, ◌∙◌, arith, length-append, length-drop}
+use Rattle.std.proofs.Common.{◌≡◌, ◌≢◌, ℕ, ◌+◌, ◌-◌, ◌*◌, ◌/◌, ◌%◌, ◌^◌, ◌<◌, ◌≤◌, ◌⊎◌, inl, inr, ⊎_elim, Bool, true, false, List, [], ◌∷◌, ◌++◌, length, drop, slice_index, refl, sym, ap, subst, ◌∙◌, arith, length-append, length-drop}
 use Rattle.std.proofs.lemmas.Bool.{cases_lt}
 use Rattle.std.proofs.lemmas.Bool.Decides.{nat_tests, eqb_tells}
-use Rattle.std.proofs.lemmas.List.{get_or-drop}
+use Rattle.std.proofs.lemmas.List.{get_or-drop, drop-drop}
 use Rattle.std.specs.Prelude.{if◌then◌else◌, ◌==◌, ◌&&◌, ◌||◌, not, nat_le, nat_lt}
 use Rattle.byteorder.specs.Endian.{big_number}
 use Rattle.rtp_packet.specs.declared.fault.RtpFault.{RtpFault}
@@ -13,6 +13,7 @@ use Rattle.rtp_packet.proofs.PacketLemmas.{laid_out}
 use Rattle.rtp_packet.proofs.PartLemmas.{count_of_padding}
 use Rattle.rewrite.specs.Rtp.{is_rtp, is_padded, padding_of, sequence_number, payload_octets}
 use Rattle.rewrite.specs.Readdressed.{readdressed_bytes}
+use Rattle.rewrite.proofs.ReaddressedLemmas.{length-readdressed, first-readdressed, behind-readdressed}
 
 -- ---- tests
 
@@ -131,6 +132,10 @@ header_of d h = at_least 12 (length d) (first_holds _ _ h)
 
 -- ---- no packet
 
+pub no_octets : (d : List ℕ) → is_rtp d ≡ false → 0 ≡ payload_octets d
+unfolding payload_octets
+no_octets d h = rw h refl
+
 csrcs_before : (d : List ℕ) → csrc_end d ≤ extension_end d
 csrcs_before d = grind (arith, nat_tests)
 
@@ -158,6 +163,69 @@ no_count d e h none =
     ])
     (λ (above : length d ≤ e). inl above)
     (cases_lt e (length d))
+
+-- ---- another source and sequence number
+
+-- the place behind the extension, by the first byte and what stands behind the fixed header
+end_by : ℕ → List ℕ → ℕ
+end_by first behind =
+    if (first / 16 % 2) == 1
+    then 12 + 4 * (first % 16) + (4 + 4 * big_number 2 (drop (4 * (first % 16) + 2) behind))
+    else 12 + 4 * (first % 16)
+
+end_is : (d : List ℕ) → extension_end d ≡ end_by (slice_index d 0) (drop 12 d)
+unfolding end_by
+end_is d =
+    let c = 4 * (slice_index d 0 % 16) in
+    let place : 12 + c + 2 ≡ 12 + (c + 2) = omega arith in
+    let words : drop (csrc_end d + 2) d ≡ drop (c + 2) (drop 12 d) = ap (λ (n : ℕ). drop n d) place ∙ sym (drop-drop (c + 2) 12 d) in
+    ap (λ (l : List ℕ). if (slice_index d 0 / 16 % 2) == 1 then csrc_end d + (4 + 4 * big_number 2 l) else csrc_end d) words
+
+-- the octets of the payload, by the length, the first byte, the place behind the extension, and the last byte
+octets_by : ℕ → ℕ → ℕ → ℕ → ℕ
+octets_by size first end last =
+    let padded = (first / 32 % 2) == 1 in
+    let padding = if padded then last else 0 in
+    if nat_le 12 size && ((first / 64 == 2) && (nat_le (end + padding) size && (not padded || nat_lt 0 padding)))
+    then size - (end + padding)
+    else 0
+
+octets_is : (d : List ℕ) → payload_octets d ≡ octets_by (length d) (slice_index d 0) (extension_end d) (slice_index d (length d - 1))
+unfolding payload_octets is_rtp octets_by
+octets_is d = refl
+
+if_none : (b : Bool) (n : ℕ) → n ≡ 0 → (if b then n else 0) ≡ 0
+if_none true n h = h
+if_none false n h = refl
+
+-- of a fixed header alone there is no payload
+no_payload : (d : List ℕ) → length d ≤ 12 → payload_octets d ≡ 0
+unfolding payload_octets
+no_payload d h =
+    let order = csrcs_before d in
+    if_none (is_rtp d) (length d - (extension_end d + padding_of d)) (omega (arith, order, h))
+
+same_octets : (d e : List ℕ) → length e ≡ length d → slice_index e 0 ≡ slice_index d 0 → drop 12 e ≡ drop 12 d → 12 < length d
+    → payload_octets e ≡ payload_octets d
+same_octets d e size first behind more =
+    let end : extension_end e ≡ extension_end d = end_is e ∙ ap (λ (n : ℕ). end_by n (drop 12 e)) first ∙ ap (end_by (slice_index d 0)) behind ∙ sym (end_is d) in
+    let last : slice_index e (length e - 1) ≡ slice_index d (length d - 1) =
+    sym (last_behind e 12 (omega (arith, size, more))) ∙ ap (λ (l : List ℕ). slice_index l (length l - 1)) behind ∙ last_behind d 12 more in
+    octets_is e
+    ∙ ap (λ (n : ℕ). octets_by n (slice_index e 0) (extension_end e) (slice_index e (length e - 1))) size
+    ∙ ap (λ (n : ℕ). octets_by (length d) n (extension_end e) (slice_index e (length e - 1))) first
+    ∙ ap (λ (n : ℕ). octets_by (length d) (slice_index d 0) n (slice_index e (length e - 1))) end
+    ∙ ap (octets_by (length d) (slice_index d 0) (extension_end d)) last
+    ∙ sym (octets_is d)
+
+-- the octets of the payload don't hang on the source and the sequence number
+pub octets-readdressed : (u s : ℕ) (d : List ℕ) → 12 ≤ length d → payload_octets (readdressed_bytes u s d) ≡ payload_octets d
+octets-readdressed u s d h =
+    let size = length-readdressed u s d h in
+    ⊎_elim
+    (λ (more : 12 < length d). same_octets d (readdressed_bytes u s d) size (first-readdressed u s d h) (behind-readdressed u s d h) more)
+    (λ (few : length d ≤ 12). no_payload (readdressed_bytes u s d) (omega (arith, size, few)) ∙ sym (no_payload d few))
+    (cases_lt 12 (length d))
 
 -- a datagram with a fault is no packet
 pub faulty : (d : List ℕ) (fault : RtpFault) → HasRtpFault d fault → is_rtp d ≡ false

@@ -1,7 +1,7 @@
 //! A datagram that was read as an RTP packet, for all that hold it.
 
 ghost use Rattle.std.specs.Prelude.{◌≡◌, false, [], IfOk, MatchOption};
-ghost use Rattle.rewrite.specs.Rtp.{IsReadAs, is_rtp};
+ghost use Rattle.rewrite.specs.Rtp.{IsReadAs, is_rtp, payload_octets};
 
 use crate::shared::SharedBytes;
 use rtp_packet::RtpView;
@@ -75,6 +75,16 @@ impl SharedPacket {
         self.reading
     }
 
+    /// The octets of its payload; 0 if they are no packet.
+    pub(crate) fn octets(&self) -> u64
+        ensures { result ≡ payload_octets self.now }
+    {
+        match self.reading {
+            Some(reading) => reading.octets,
+            None => 0,
+        }
+    }
+
     /// The same for one holder more; no byte is copied, nor read again. Refused where the bytes have too many holders.
     pub fn share(&self) -> Result<SharedPacket, AllocError>
         ensures { IfOk result (λ shared. shared ≡ self.now) }
@@ -83,13 +93,6 @@ impl SharedPacket {
             bytes: self.bytes.share()?,
             reading: self.reading,
         })
-    }
-
-    /// The bytes.
-    pub fn bytes(&self) -> &SharedBytes
-        ensures { result.now ≡ self.now }
-    {
-        &self.bytes
     }
 
     /// The bytes alone.

@@ -2,7 +2,9 @@
 
 ghost use Rattle.std.specs.Prelude.{◌≡◌, ◌≤◌, ℕ, length};
 ghost use Rattle.rewrite.specs.Readdressed.{readdressed_bytes};
+ghost use Rattle.rewrite.specs.Rtp.{payload_octets};
 
+use crate::packet::SharedPacket;
 use crate::shared::SharedBytes;
 use byteorder::{BigEndian, ByteOrder};
 use std::alloc::AllocError;
@@ -13,33 +15,37 @@ use tmmbr_tuple::Ssrc;
 pub const FIXED_HEADER: usize = 12;
 
 /// A packet as it goes out: the bytes of the one that came, which are shared, and the source and the sequence number that stand in
-/// it in place of its own. Contracts see it as its bytes.
+/// it in place of its own. How many octets its payload has is kept, too, so that nobody reads it again. Contracts see it as its bytes.
 #[derive(Drop)]
 pub struct Readdressed {
     packet: SharedBytes,
+    octets: u64,
     ssrc: Ssrc,
     sequence_number: u16,
 }
 
 impl Model for Readdressed {
-    ghost use Rattle.std.specs.Prelude.{◌≤◌, List, ℕ, length};
+    ghost use Rattle.std.specs.Prelude.{◌≡◌, ◌≤◌, List, ℕ, length};
     ghost use Rattle.rewrite.specs.Readdressed.{readdressed_bytes};
+    ghost use Rattle.rewrite.specs.Rtp.{payload_octets};
 
     ghost Value = { List ℕ };
 
     ghost view = { λ r. readdressed_bytes r.ssrc.0 r.sequence_number r.packet };
 
-    ghost invariant = { λ r. 12 ≤ length r.packet };
+    ghost invariant = { λ r. (12 ≤ length r.packet) × (payload_octets r.packet ≡ r.octets) };
 }
 
 impl Readdressed {
     /// The packet under this source and sequence number.
-    pub fn new(packet: SharedBytes, ssrc: Ssrc, sequence_number: u16) -> Readdressed
+    pub fn new(packet: SharedPacket, ssrc: Ssrc, sequence_number: u16) -> Readdressed
         requires header { 12 ≤ length packet }
         ensures { result ≡ readdressed_bytes ssrc.0 sequence_number packet }
     {
+        let octets = packet.octets();
         Readdressed {
-            packet,
+            packet: packet.into_bytes(),
+            octets,
             ssrc,
             sequence_number,
         }
@@ -50,6 +56,13 @@ impl Readdressed {
         ensures { result ≡ length self.now }
     {
         self.packet.as_slice().len()
+    }
+
+    /// The octets of its payload; 0 if its bytes are no packet.
+    pub fn octets(&self) -> u64
+        ensures { result ≡ payload_octets self.now }
+    {
+        self.octets
     }
 
     /// Writes its bytes over as many others.

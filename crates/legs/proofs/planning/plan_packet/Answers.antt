@@ -11,18 +11,18 @@ use Rattle.legs.proofs.planning.plan_packet.Goals as goal
 
 pub new-kept-requires : goal.new-kept-requires
 new-kept-requires c =
-    let header = header_of c.args.bytes.now c.requires.read.is_packet in
+    let header = header_of c.args.packet.now c.requires.read.is_packet in
     record { header = subst (λ (d : List ℕ). 12 ≤ length d) (sym c.in_ok-share-in-Ok.ensures) header }
 
 pub returns-in-Err-clause-ok : goal.returns-in-Err-clause-ok
 returns-in-Err-clause-ok c =
-    let d = c.args.bytes.now in
+    let d = c.args.packet.now in
     ap (packet_planned c.args.place c.args.leg.now c.args.turn d)
     (c.in-Err.ensures.answer ∙ ap (answer_to c.args.leg.now.numbers c.args.turn) (sym c.requires.read.number))
 
 pub returns-in_ok-bytes-in-Ok-clause-ok : goal.returns-in_ok-bytes-in-Ok-clause-ok
 returns-in_ok-bytes-in-Ok-clause-ok c =
-    let d = c.args.bytes.now in
+    let d = c.args.packet.now in
     let leg = c.args.leg.now in
     let number = c.requires.read.number in
     let octets : c.args.reading.octets ≡ payload_octets d = sym c.requires.read.octets in

@@ -7,7 +7,6 @@ use Rattle.events.specs.declared.job.Job.TheVariants as job
 use Rattle.legs.specs.declared.leg.LegState.{LegState}
 use Rattle.legs.specs.declared.plan.Planned.{Planned}
 use Rattle.legs.specs.Planning.{job_plan, plan_of}
-use Rattle.rewrite.specs.Rtp.{IsReadAs}
 use Rattle.legs.proofs.LegLemmas.{unplanned, moved, no_publisher, no_packet, at_places}
 use Rattle.legs.proofs.legs.Legs.plan_packets.Goals as goal
 
@@ -27,7 +26,7 @@ returns-in_default-reading c =
 
 pub plan_places-requires : goal.plan_places-requires
 plan_places-requires c =
-    record { read = subst (λ (d : List ℕ). IsReadAs d c.in-Some-reading.reading) (sym c.bytes.ensures) c.in-Some-reading.ensures }
+    record { read = c.in-Some-reading.ensures }
 
 pub returns : goal.returns
 returns c =
@@ -42,8 +41,7 @@ returns c =
     subst (λ (k : ℕ). slice_get c.self.inside.published.items k ≡ Some places) c.from.ensures held in
     let list = c.self.invariant.lists_places.each c.args.publisher places at in
     let F : List ℕ → List LegState → List ℕ → List Planned = λ d l p. flat_map (plan_of rows d l) p in
-    let planned = ap (λ (d : List ℕ). F d c.as_slice-legs.result.now c.as_slice-places.result.now) c.bytes.ensures
-    ∙ ap (λ (l : List LegState). F bytes l c.as_slice-places.result.now) c.as_slice-legs.ensures.value
+    let planned = ap (λ (l : List LegState). F bytes l c.as_slice-places.result.now) c.as_slice-legs.ensures.value
     ∙ ap (F bytes legs) c.as_slice-places.ensures.value
     ∙ at_places rows c.args.publisher bytes legs places.items list c.in-Some-reading.ensures.is_packet
     ∙ ap (λ (l : List LegState). job_plan rows l (job.Packet c.args.publisher bytes)) c.self.view_is in

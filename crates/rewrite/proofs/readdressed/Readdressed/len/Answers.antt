@@ -5,4 +5,4 @@ use Rattle.rewrite.proofs.readdressed.Readdressed.len.Goals as goal
 pub returns : goal.returns
 returns c =
     let inside = c.self.inside in
-    ap length c.as_slice.ensures ∙ sym (length-readdressed inside.ssrc.0 inside.sequence_number inside.packet c.self.invariant) ∙ ap length c.self.view_is
+    ap length c.as_slice.ensures ∙ sym (length-readdressed inside.ssrc.0 inside.sequence_number inside.packet c.self.invariant.0) ∙ ap length c.self.view_is
