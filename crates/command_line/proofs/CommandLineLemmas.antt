@@ -42,7 +42,7 @@ fit_is bits ds e =
     let numeral = both _ _ parts.0 in
     ((ltb-true _ _ numeral.0, digits_from ds numeral.1), ltb-true _ _ parts.1)
 
-number_at : (bits : ℕ) (E : Type 0) (text : Text) (r : Result ℕ E) → ParsesUnsigned bits 10 text r → result_ok r ≡ number_of_bits bits text
+pub number_at : (bits : ℕ) (E : Type 0) (text : Text) (r : Result ℕ E) → ParsesUnsigned bits 10 text r → result_ok r ≡ number_of_bits bits text
 number_at bits E text (Ok v) h = ap Some h.1 ∙ sym (cond-true (fits_in bits (without_leading_plus text)) _ _ (is_fit bits _ h.0.0 h.0.1))
 number_at bits E text (Err x) h = go (fits_in bits (without_leading_plus text)) refl
   where

@@ -13,14 +13,14 @@ ghost use Rattle.serving.specs.ReportText.{PrintsReport};
 ghost use Rattle.serving.specs.Serving.{SaysWhyServing};
 ghost use Rattle.settings_text.specs.SettingsText.{SaysProblem};
 
-use command_line::{Action, read_words};
+use command_line::{Action, Record, read_words};
 use endings::{Status, refuse_words, report, report_settings, say, say_no_memory};
 use offline::{run_bound, run_check, run_draw, run_replay, unreadable_settings};
 use request_text::Meter;
 use scripts::Shown;
 use serving::{
-    ControlFault, ErrorOutput, Gauges, RecordFault, ServedSettings, Term, close_control,
-    close_record, open_control, open_record, read_served, serve_file,
+    ControlFault, ErrorOutput, Gauges, RECORD_LIMIT, RecordFault, ServedSettings, Term,
+    close_control, close_record, open_control, open_record, read_served, serve_file,
 };
 use settings_text::SettingsProblem;
 use sha2::{Digest, Sha256};
@@ -34,13 +34,6 @@ use std::sync::Wait;
 use std::thread::Threads;
 use std::{fs, time};
 use tmmbr_tuple::Ssrc;
-
-/// Where a unit is recorded, and how many bytes the record has at most.
-#[derive(Clone, Copy)]
-pub struct Record<'a> {
-    pub path: &'a str,
-    pub limit: u64,
-}
 
 /// Where a unit is steered and recorded, and whether its lines of counts begin with the time.
 #[derive(Clone, Copy)]
@@ -346,6 +339,7 @@ fn set_noted<R: AllocGlobal + Files<File = File> + Net + Threads + time::Clock>(
 ) -> Result<(), RecordFault> {
     gauges.log_time.set(paths.log_time);
     if let Some(Record { path, limit }) = paths.record {
+        let limit = limit.unwrap_or(RECORD_LIMIT);
         gauges.set_recorder(open_record(rt, path, limit, file.digest.as_slice())?);
     }
     Ok(())

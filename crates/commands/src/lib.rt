@@ -12,7 +12,8 @@ mod description;
 mod explaining;
 
 pub use ask::run_ask;
-pub use command::{Record, run_command, run_recorded, run_timed};
+pub use command::{run_command, run_recorded, run_timed};
+pub use command_line::{Noted, Record, noted_in};
 pub use description::run_sdp;
 pub use endings::{Failure, Status, report, report_settings, report_words};
 pub use explaining::explain;
@@ -20,8 +21,8 @@ pub use offline::{Cleared, run_version};
 pub use request_text::{LineFault, Meter};
 pub use scripts::{Shown, replay_lines};
 pub use serving::{
-    AddressKey, Addresses, Client, ClientFault, ErrorOutput, Gauges, Listening, Location,
-    RECORD_LIMIT, Rules, ServeFault, ServedSettings, Sockets, read_clients, read_served, run_on,
-    serve_socket, serve_watched,
+    AddressKey, Addresses, Client, ClientFault, ErrorOutput, Gauges, Listening, Location, Rules,
+    ServeFault, ServedSettings, Sockets, read_clients, read_served, run_on, serve_socket,
+    serve_watched,
 };
 pub use settings_text::{ClientText, FileSettings, SettingsProblem, problem_line, read_settings};

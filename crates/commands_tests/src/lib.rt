@@ -16,3 +16,5 @@ mod replay_tests;
 mod settings_tests;
 #[cfg(test)]
 mod stream;
+#[cfg(test)]
+mod word_tests;

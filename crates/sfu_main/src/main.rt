@@ -1,13 +1,10 @@
 //! `sfu`, the program of the unit.
 #![tactic(auto)]
 
-mod record_words;
-
 use commands::{
-    Cleared, ErrorOutput, Meter, Status, explain, report_words, run_ask, run_command, run_recorded,
-    run_sdp, run_timed, run_version,
+    Cleared, ErrorOutput, Meter, Noted, Status, explain, noted_in, report_words, run_ask,
+    run_command, run_recorded, run_sdp, run_timed, run_version,
 };
-use record_words::{Noted, noted_in};
 use std::fs::File;
 use std::io::{Read, Write};
 use std::net::Net;
@@ -82,7 +79,7 @@ fn run_noted<
     E: Write,
 >(rt: &R, noted: &Noted<'_>, writer: &mut O, errors: &mut E) -> Status {
     let words = noted.words.as_slice();
-    match (noted.record, noted.log_time) {
+    match (noted.record_at, noted.log_time) {
         (Some(record), false) => run_recorded(rt, words, record, writer, errors),
         (record, _) => run_timed(rt, words, record, writer, errors),
     }
