@@ -25,14 +25,15 @@ TOP = os.path.dirname(os.path.dirname(os.path.realpath(__file__)))
 # What of a crate rt reads, and what it makes of it.
 SOURCES, MADE = ("src", "specs", "proofs"), ("incremental", "rlib")
 MOST_JOBS = 4
-# Each job loads what lies below: with more than so many lines there for each that its own lines cost, a check ends hardly sooner by a second.
-LINES_LOADED = 15
+# Seconds of a processor that a check takes: for any crate, to prove each line of src/, and to load each line below. What specs/ and proofs/ have
+# is read in little. (Fitted to 31 crates on a machine of half the usual speed; only their ratios matter.)
+ANY_TAKES, LINE_TAKES, LINE_BELOW_TAKES = 7, 0.117, 0.001
+# Each job loads what lies below, which is loaded once more behind them: with less than so much to prove for that, a check ends no sooner by several.
+LOADS = 3
 # Bytes that a check takes at most: for any crate, each line of its sources, each line below it, each job beside the first.
 LEAST, EACH_LINE, EACH_LINE_BELOW, EACH_JOB = 1_200_000_000, 100_000, 25_000, 1_000_000_000
 # The statuses of an rt whose check was killed, as it is for want of memory, though it had one job.
 KILLED = (-signal.SIGKILL, 256 - signal.SIGKILL, 128 + signal.SIGKILL)
-# What a line costs by where it stands: a body is what takes time, and a proof by hand is read in little.
-EACH_LINE_COSTS = {"src": 4, "specs": 1, "proofs": 1}
 # Seconds between two looks at what runs.
 LOOK_EACH = 0.2
 
@@ -124,8 +125,8 @@ class Crate:
         self.folder = f"{TOP}/crates/{self.name}"
         self.out, self.log = f"{self.folder}/out", f"{self.folder}/out/build.log"
         self.below, self.above, self.jobs = [], [], 1
-        # The lines of its sources; what its check costs, by them; and the same of the longest chain of crates from this one up.
-        self.lines = self.cost = self.chain = 0
+        # The lines of its sources, and of their bodies; and the seconds of the longest chain of crates from this one up.
+        self.lines = self.bodies = self.chain = 0
         self.rt = self.lock = None
         # Seconds of processor time that its check took.
         self.worked = 0
@@ -138,13 +139,19 @@ class Crate:
                     with open(f"{at}/{name}", "rb") as it:
                         lines = it.read().count(b"\n")
                     self.lines += lines
-                    self.cost += lines * EACH_LINE_COSTS[part]
+                    self.bodies += lines if part == "src" else 0
 
     def lines_below(self):
         return sum(it.lines for it in self.below)
 
+    def proving(self):
+        return LINE_TAKES * self.bodies
+
+    def loading(self):
+        return ANY_TAKES + LINE_BELOW_TAKES * self.lines_below()
+
     def most_jobs(self):
-        return MOST_JOBS if LINES_LOADED * self.cost >= self.lines_below() else 1
+        return MOST_JOBS if self.proving() >= LOADS * self.loading() else 1
 
     def need(self, jobs):
         return LEAST + EACH_LINE * self.lines + EACH_LINE_BELOW * self.lines_below() + EACH_JOB * (jobs - 1)
@@ -244,7 +251,7 @@ def crates_for(name):
         sys.exit(f"sfu: crates.txt has no crate {name}")
     visit(found[name])
     for crate in reversed(order):
-        crate.chain = crate.cost + max((it.chain for it in crate.above), default=0)
+        crate.chain = crate.proving() + crate.loading() + max((it.chain for it in crate.above), default=0)
     is_program = os.path.isfile(f"{found[name].folder}/src/main.rt")
     return (order[:-1], order[-1]) if is_program else (order, None)
 
