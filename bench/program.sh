@@ -4,6 +4,8 @@
 #     begin NAME DEP..    the repository: the program NAME, which is main.rattle beside the script, uses DEP..
 #     build ARGUMENT..    proves it and builds it with LLVM, as the file $program; it runs once, with these arguments
 #
+# With ONLY_COMPILE set the script ends there: the program is compiled before any proof, and runs once (bench/compile.sh does that for each).
+#
 # Between the two, $work is the repository and $bench the program's crate.
 
 here=$(cd "$(dirname "$0")" && pwd)
@@ -40,6 +42,11 @@ begin() {
 }
 
 build() {
+    if [ -n "${ONLY_COMPILE:-}" ]; then
+        (cd "$bench" && rt try --seconds 600 -- "$@") > "$work/log" 2>&1 && exit
+        cat "$work/log" >&2
+        exit 1
+    fi
     (cd "$bench" && rt run -- "$@") > "$work/log" 2>&1 && return
     cat "$work/log" >&2
     exit 1
