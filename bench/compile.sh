@@ -1,6 +1,6 @@
 #!/usr/bin/env bash
 # Whether the benchmarks that are programs in Rattle fit the crates as they are: each is compiled before any proof, and runs once, on little.
-# One to three minutes each. Wants rt on the path. The status is 0 if each did.
+# One to three minutes each, and more on a busy machine. Wants rt on the path. The status is 0 if each did.
 set -uo pipefail
 
 cd "$(dirname "$0")"

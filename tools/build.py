@@ -26,7 +26,7 @@ TOP = os.path.dirname(os.path.dirname(os.path.realpath(__file__)))
 SOURCES, MADE = ("src", "specs", "proofs"), ("incremental", "rlib")
 MOST_JOBS = 4
 # Seconds of a processor that a check takes: for any crate, to prove each line of src/, and to load each line below. What specs/ and proofs/ have
-# is read in little. (Fitted to 31 crates on a machine of half the usual speed; only their ratios matter.)
+# is read in little. (Fitted to 31 crates on one machine: only the ratios matter. Long bodies over many type parameters take up to twice that.)
 ANY_TAKES, LINE_TAKES, LINE_BELOW_TAKES = 7, 0.117, 0.001
 # Each job loads what lies below, which is loaded once more behind them: with less than so much to prove for that, a check ends no sooner by several.
 LOADS = 3
