@@ -1,87 +1,227 @@
-//! The unit beside the machine: the same events, and the same datagrams.
+//! The unit in threads, the unit in one thread and the machine beside each other: the same events, and sinks that are told the same.
 
 ghost use Rattle.std.specs.Prelude.{◌≡◌, ◌+◌, vec_len, None};
 
-use crate::machine_turns::{Sent, nothing_sent, play};
-use crate::random_turns::{TURNS, Turn, make_turns, room};
-use crate::turn_doubles::{Counting, Moved, RingSink, Turned, sinks_and_ends};
-use events::Out;
+use crate::machine_turns::{TICK_MS, Tellings, play};
+use crate::random_turns::{Plan, Turn, WORKERS, make_turns, room, room_with};
+use crate::told::Told;
+use crate::turn_doubles::{Counting, Moved, ROOM, RingSink, Stage, Turned, sink_and_end};
+use one_thread::{Pace, run_one_thread};
+use outside::Unwatched;
 use rtrb::Consumer;
 use settings::Settings;
-use std::alloc::Global;
+use std::alloc::{AllocError, Global};
+use std::process::Abort;
 use std::sync::Wait;
-use std::sync::atomic::AtomicU64;
 use std::test::Fail;
 use std::thread::Threads;
-use workers::*;
+use workers::{Report, run_unit};
 
-/// Runs the unit over the turns.
+/// Turns that are never calm.
+const RESTLESS: Plan = Plan {
+    turns: 2_000,
+    restless_each: 1,
+};
+
+/// Turns that are calm but for each 128th: those between fit a worker's ring.
+const CALM: Plan = Plan {
+    turns: 6_000,
+    restless_each: 128,
+};
+
+/// So often these are played, each time others, until a quarter of a million datagrams came.
+const ROUNDS: u64 = 42;
+
+/// A quarter of a million.
+const QUARTER: u64 = 250_000;
+
+/// Runs the unit over the turns, in threads.
 fn run_turns<R: Threads + Wait + Sync>(
     rt: &R,
     alloc: Global,
     settings: &Settings,
-    turns: Vec<Turn>,
-    sinks: Vec<RingSink>,
+    turns: &[Turn],
+    stage: &Stage,
+    sinks: Vec<RingSink<'_>>,
 ) -> Result<Report, Fail> {
     if sinks.len() as u64 != settings.workers() + 1 {
         return Err("sinks".into());
     }
-    let (done, now) = (AtomicU64::new(0), AtomicU64::new(0));
-    let source = Turned {
-        turns,
-        next: 0,
-        done: &done,
-        now: &now,
-    };
-    let gate = Counting { done: &done };
-    let clock = Moved { now: &now };
-    Ok(run_unit(rt, alloc, settings, source, sinks, clock, &gate, TURNS)?)
+    let source = Turned::new(turns, stage);
+    let gate = Counting { stage };
+    let clock = Moved { stage };
+    let count = turns.len() as u64;
+    Ok(run_unit(rt, alloc, settings, source, sinks, clock, &gate, count)?)
 }
 
-/// The datagrams among what was given out are those that the sink was handed, in order. Says how many they are.
-fn count_same(sent: &[Out], handed: &mut Consumer<Datagram, Global>) -> Option<usize> {
-    let mut count: usize = 0;
-    for out in sent {
-        if let Out::Send { endpoint, bytes } = out {
-            let other = handed.pop().ok()?;
-            if other.endpoint != *endpoint || other.bytes.as_slice() != bytes.as_slice() {
-                return None;
-            }
-            count = count.wrapping_add(1);
+/// The same in one thread, which has one worker. Says how many datagrams were sent.
+fn run_alone(
+    alloc: Global,
+    turns: &[Turn],
+    stage: &Stage,
+    sink: &mut RingSink<'_>,
+) -> Result<u64, Fail> {
+    let settings = room_with(alloc, 1)?;
+    if settings.workers() != 1 {
+        return Err("workers".into());
+    }
+    let mut source = Turned::new(turns, stage);
+    let mut clock = Moved { stage };
+    let pace = Pace {
+        turns: turns.len() as u64,
+        tick_ms: TICK_MS,
+    };
+    let report = run_one_thread(
+        alloc,
+        &settings,
+        &mut source,
+        sink,
+        &mut clock,
+        &mut Unwatched,
+        pace,
+    )?;
+    Ok(report.counts.sent)
+}
+
+/// What a sink handed on is this, in order. Says how many datagrams are in it.
+fn count_same(told: &[Told], handed: &mut Consumer<Told, Global>) -> Option<u64> {
+    let mut datagrams: u64 = 0;
+    for one in told {
+        if !handed.pop().ok()?.is(one) {
+            return None;
+        }
+        if one.is_datagram() {
+            datagrams = datagrams.wrapping_add(1);
         }
     }
     if handed.pop().is_ok() {
         return None;
     }
-    Some(count)
+    Some(datagrams)
 }
 
-/// The same of each sender, all of whom sent something. Says how many datagrams they are.
-fn count_all(sent: &Sent, handed: &mut Vec<Consumer<Datagram, Global>>) -> Option<u64> {
-    let mut count: u64 = 0;
-    for (outs, end) in sent.iter().zip(handed) {
-        let same = count_same(outs.as_slice(), end)?;
-        if same == 0 {
-            return None;
-        }
-        count = count.wrapping_add(same as u64);
+/// The same of each sink. Says how many datagrams are in all of it.
+fn count_all(told: &Tellings, handed: &mut Vec<Consumer<Told, Global>>) -> Option<u64> {
+    let mut datagrams: u64 = 0;
+    for (list, end) in told.iter().zip(handed) {
+        datagrams = datagrams.wrapping_add(count_same(list.as_slice(), end)?);
     }
-    Some(count)
+    Some(datagrams)
+}
+
+/// Whether what one sink handed on is what these were told, each in its turn, that of each of them in its order.
+fn is_merged(
+    alloc: Global,
+    told: &Tellings,
+    handed: &mut Consumer<Told, Global>,
+) -> Result<bool, AllocError> {
+    let mut counts: Vec<usize> = vec![in alloc; 0; told.len()]?;
+    for _one in 0..ROOM {
+        let Ok(one) = handed.pop() else {
+            break;
+        };
+        if !takes_next(told, counts.as_mut_slice(), &one) {
+            return Ok(false);
+        }
+    }
+    for (list, count) in told.iter().zip(counts.iter()) {
+        if list.len() != *count {
+            return Ok(false);
+        }
+    }
+    Ok(true)
+}
+
+/// Counts one more of those that were told this next, if there is one.
+fn takes_next(told: &Tellings, counts: &mut [usize], one: &Told) -> bool {
+    for (list, count) in told.iter().zip(counts.iter_mut()) {
+        if let Some(next) = list.get(*count) {
+            if next.turn == one.turn && next.is(one) {
+                *count = count.wrapping_add(1);
+                return true;
+            }
+        }
+    }
+    false
+}
+
+/// Plays the turns of a seed three times: with the machine, in threads and in one thread. Says how many datagrams came.
+fn play_beside<R: Threads + Wait + Sync>(
+    rt: &R,
+    alloc: Global,
+    settings: &Settings,
+    seed: u64,
+    plan: Plan,
+) -> Result<u64, Fail> {
+    let mut turns = make_turns(alloc, seed, plan)?;
+    let told = play(alloc, settings, &mut turns)?;
+
+    let stage = Stage::new(0);
+    let (mut sinks, mut ends) = (Vec::new(alloc), Vec::new(alloc));
+    for _sink in 0..WORKERS + 1 {
+        let (sink, end) = sink_and_end(alloc, &stage)?;
+        sinks.push(sink)?;
+        ends.push(end)?;
+    }
+    let report = run_turns(rt, alloc, settings, turns.as_slice(), &stage, sinks)?;
+    let sent = count_all(&told, &mut ends).ok_or("sinks are told other things in threads")?;
+    if (report.sent, report.failed, report.lost, report.dropped) != (sent, 0, 0, 0) {
+        return Err("other counts in threads".into());
+    }
+
+    let stage = Stage::new(u64::MAX);
+    let (mut sink, mut end) = sink_and_end(alloc, &stage)?;
+    if run_alone(alloc, turns.as_slice(), &stage, &mut sink)? != sent {
+        return Err("another count in one thread".into());
+    }
+    if !is_merged(alloc, &told, &mut end)? {
+        return Err("the sink is told other things in one thread".into());
+    }
+    Ok(report.heard)
+}
+
+/// Plays a quarter of a million datagrams, from this seed on.
+fn play_quarter<R: Threads + Wait + Sync + Abort>(
+    rt: &R,
+    alloc: Global,
+    first: u64,
+) -> Result<(), Fail> {
+    let settings = room(alloc)?;
+    let mut heard: u64 = 0;
+    for round in 0..ROUNDS {
+        let seed = first.wrapping_add(round);
+        heard = heard.wrapping_add(play_beside(rt, alloc, &settings, seed, CALM)?);
+    }
+    assert!(rt; heard >= QUARTER);
+    Ok(())
 }
 
 #[test]
 fn unit_beside_machine(rt: HostRuntime) -> Result<(), Fail> {
     let alloc = rt.alloc();
     let settings = room(alloc)?;
-    let mut turns = make_turns(alloc)?;
-    let mut sent = nothing_sent(alloc)?;
-    play(alloc, &settings, &mut turns, &mut sent)?;
-    let (sinks, mut handed) = sinks_and_ends(alloc)?;
-    let report = run_turns(&rt, alloc, &settings, turns, sinks)?;
-    let count = count_all(&sent, &mut handed).ok_or("other datagrams")?;
-    assert_eq!(rt;
-        (report.sent, report.failed, report.lost, report.dropped),
-        (count, 0, 0, 0)
-    );
+    for seed in 0..4 {
+        play_beside(&rt, alloc, &settings, seed, RESTLESS)?;
+    }
     Ok(())
+}
+
+#[test]
+fn first_quarter_of_a_million(rt: HostRuntime) -> Result<(), Fail> {
+    play_quarter(&rt, rt.alloc(), 1_000)
+}
+
+#[test]
+fn second_quarter_of_a_million(rt: HostRuntime) -> Result<(), Fail> {
+    play_quarter(&rt, rt.alloc(), 2_000)
+}
+
+#[test]
+fn third_quarter_of_a_million(rt: HostRuntime) -> Result<(), Fail> {
+    play_quarter(&rt, rt.alloc(), 3_000)
+}
+
+#[test]
+fn last_quarter_of_a_million(rt: HostRuntime) -> Result<(), Fail> {
+    play_quarter(&rt, rt.alloc(), 4_000)
 }

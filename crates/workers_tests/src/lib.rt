@@ -1,7 +1,7 @@
 //! The tests of `workers`, in a crate of their own so that the unit isn't proved a second time with them.
 //!
 //! `doubles`, `unit_doubles` and `turn_doubles` stand for what is outside the unit; `rooms` has settings; `random_turns` draws
-//! what endpoints send, and `machine_turns` is the one-thread machine on the same.
+//! what endpoints send, and `machine_turns` is the one-thread machine on the same; `told` is what sinks are told.
 #![tactic(auto)]
 
 #[cfg(test)]
@@ -22,6 +22,8 @@ mod order_tests;
 mod random_turns;
 #[cfg(test)]
 mod rooms;
+#[cfg(test)]
+mod told;
 #[cfg(test)]
 mod turn_doubles;
 #[cfg(test)]

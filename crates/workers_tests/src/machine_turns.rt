@@ -1,50 +1,128 @@
-//! The machine on the turns of a test: what it gives out, by who sends it.
+//! The machine on the turns of a test: what it gives out for sinks, by whose sink is told.
 
 use crate::random_turns::{Coming, Turn, WORKERS};
+use crate::told::Told;
 use core_steps::{World, run};
-use events::{Bytes, Event, Out};
+use events::{Bytes, Event};
+use outside::Ticks;
 use settings::Settings;
 use std::alloc::{AllocError, Global};
 use std::test::Fail;
 
-/// What the machine gives out, by who sends it: the workers, and last the ingress.
-pub(super) type Sent = Vec<Vec<Out>>;
+/// The moment rises so many milliseconds at least between two ticks, as in `run_unit`.
+pub(super) const TICK_MS: u64 = 1;
 
-/// Nobody sent anything.
-pub(super) fn nothing_sent(alloc: Global) -> Result<Sent, AllocError> {
-    let mut sent = Vec::new(alloc);
-    for _sender in 0..WORKERS + 1 {
-        sent.push(Vec::new(alloc))?;
-    }
-    Ok(sent)
+/// What sinks are told: that of each worker, and last that of the ingress.
+pub(super) type Tellings = Vec<Vec<Told>>;
+
+/// The machine while it plays turns.
+#[derive(Drop)]
+struct Player {
+    alloc: Global,
+    world: World,
+    ticks: Ticks,
+    /// The number of the turn that is played.
+    turn: u64,
+    told: Tellings,
 }
 
-/// Plays the turns in one thread, and notes how many jobs are done before each.
+/// Plays the turns, and notes how many jobs must be done before each, unless it and the one before are calm; what sinks are told.
 pub(super) fn play(
     alloc: Global,
     settings: &Settings,
     turns: &mut Vec<Turn>,
-    sent: &mut Sent,
-) -> Result<(), Fail> {
-    let mut world = World::new(alloc, settings)?;
+) -> Result<Tellings, Fail> {
+    let mut player = Player {
+        alloc,
+        world: World::new(alloc, settings)?,
+        ticks: Ticks::new(TICK_MS),
+        turn: 0,
+        told: nothing_told(alloc)?,
+    };
     let mut jobs: u64 = 0;
+    let mut was_calm = false;
     for turn in turns.iter_mut() {
-        turn.jobs_before = jobs;
-        jobs = jobs.wrapping_add(play_turn(alloc, &mut world, turn, sent)?);
+        let is_calm = turn.is_calm && player.is_known(turn);
+        turn.jobs_before = if was_calm && is_calm { 0 } else { jobs };
+        jobs = jobs.wrapping_add(player.play(turn)?);
+        player.turn = player.turn.wrapping_add(1);
+        was_calm = is_calm;
     }
-    Ok(())
+    let Player { told, .. } = player;
+    Ok(told)
 }
 
-/// One turn; says how many jobs workers did.
-fn play_turn(alloc: Global, world: &mut World, turn: &Turn, sent: &mut Sent) -> Result<u64, Fail> {
-    let heard = match event_of(alloc, turn)? {
-        Some(event) => take_in(alloc, world, event, sent)?,
-        None => 0,
-    };
-    let tick = Event::Tick {
-        moment: turn.moment,
-    };
-    Ok(heard.wrapping_add(take_in(alloc, world, tick, sent)?))
+/// No sink was told anything.
+fn nothing_told(alloc: Global) -> Result<Tellings, AllocError> {
+    let mut told = Vec::new(alloc);
+    for _sink in 0..WORKERS + 1 {
+        told.push(Vec::new(alloc))?;
+    }
+    Ok(told)
+}
+
+impl Player {
+    /// Whether what comes is of an endpoint that is present.
+    fn is_known(&self, turn: &Turn) -> bool {
+        match &turn.arrival {
+            Some(Coming::Datagram { endpoint, .. }) => self.world.is_present(*endpoint),
+            Some(Coming::Select { .. }) | None => false,
+        }
+    }
+
+    /// One turn, with a tick if one is due; says how many jobs workers did.
+    fn play(&mut self, turn: &Turn) -> Result<u64, Fail> {
+        let heard = match event_of(self.alloc, turn)? {
+            Some(event) => self.take_in(event)?,
+            None => 0,
+        };
+        if !self.ticks.take(turn.moment) {
+            return Ok(heard);
+        }
+        let tick = Event::Tick {
+            moment: turn.moment,
+        };
+        Ok(heard.wrapping_add(self.take_in(tick)?))
+    }
+
+    /// Takes something in, and does what follows; says how many jobs workers did.
+    fn take_in(&mut self, event: Event) -> Result<u64, Fail> {
+        self.step(event, WORKERS)?;
+        self.settle()
+    }
+
+    /// Lets the ingress and then each worker do what waits, and says how many jobs workers did.
+    fn settle(&mut self) -> Result<u64, Fail> {
+        for _ in 0..10_000 {
+            if !self.world.is_busy() {
+                break;
+            }
+            self.step(Event::Ingress, WORKERS)?;
+        }
+        let jobs = self.world.waiting().jobs;
+        for worker in 0..WORKERS {
+            for _ in 0..10_000 {
+                if !self.world.has_work(u16::from(worker)) {
+                    break;
+                }
+                self.step(Event::Work(u16::from(worker)), worker)?;
+            }
+        }
+        Ok(jobs as u64)
+    }
+
+    /// Does one event, and notes what the sink with this number is told of it.
+    fn step(&mut self, event: Event, sink: u8) -> Result<(), Fail> {
+        let mut outs = Vec::new(self.alloc);
+        run(&mut self.world, &[event], &mut outs)?;
+        let told = self.told.get_mut(usize::from(sink)).ok_or("sinks")?;
+        for out in outs {
+            if let Some(one) = Told::of(self.alloc, self.turn, out) {
+                told.push(one)?;
+            }
+        }
+        Ok(())
+    }
 }
 
 /// What comes on this turn.
@@ -62,61 +140,4 @@ fn event_of(alloc: Global, turn: &Turn) -> Result<Option<Event>, AllocError> {
             bytes: Bytes::copy_of(alloc, bytes.as_slice())?,
         })),
     }
-}
-
-/// Takes something in, and does what follows; says how many jobs workers did. Refusals aren't sent.
-fn take_in(alloc: Global, world: &mut World, event: Event, sent: &mut Sent) -> Result<u64, Fail> {
-    let mut refused = Vec::new(alloc);
-    do_event(world, event, &mut refused)?;
-    Ok(settle(world, sent)? as u64)
-}
-
-/// Lets the ingress and then each worker do what waits, and says how many jobs workers did.
-fn settle(world: &mut World, sent: &mut Sent) -> Result<usize, Fail> {
-    for _ in 0..10_000 {
-        if world.waiting().tasks == 0 {
-            break;
-        }
-        step(world, Event::Ingress, sent, usize::from(WORKERS))?;
-    }
-    let jobs = world.waiting().jobs;
-    for worker in 0..WORKERS {
-        for _ in 0..10_000 {
-            step(
-                world,
-                Event::Work(u16::from(worker)),
-                sent,
-                usize::from(worker),
-            )?;
-            if takes_idle_back(sent, usize::from(worker)) {
-                break;
-            }
-        }
-    }
-    Ok(jobs)
-}
-
-/// Does one event, and notes what it gives out as this sender's.
-fn step(world: &mut World, event: Event, sent: &mut Sent, sender: usize) -> Result<(), Fail> {
-    if sender >= sent.len() {
-        return Err("sinks".into());
-    }
-    do_event(world, event, &mut sent[sender])
-}
-
-fn do_event(world: &mut World, event: Event, outs: &mut Vec<Out>) -> Result<(), Fail> {
-    run(world, &[event], outs)?;
-    Ok(())
-}
-
-/// Takes back that this sender had nothing to do, where that came last.
-fn takes_idle_back(sent: &mut Sent, sender: usize) -> bool {
-    if sender >= sent.len() {
-        return false;
-    }
-    let Some(Out::Idle) = sent[sender].last() else {
-        return false;
-    };
-    let _idle = sent[sender].pop();
-    true
 }

@@ -1,4 +1,4 @@
-//! Random turns for tests: what the endpoints of a room send, from a fixed seed.
+//! Random turns for tests: what the endpoints of a room send, from a seed.
 
 ghost use Rattle.std.specs.Prelude.{◌≡◌, ◌+◌, ◌<◌, ◌≤◌};
 
@@ -6,9 +6,6 @@ use crate::unit_doubles::{Link, Times, settings_with};
 use settings::Settings;
 use std::alloc::{AllocError, Global};
 use std::test::Fail;
-
-/// So many turns are made.
-pub(super) const TURNS: u64 = 2_000;
 
 const ENDPOINTS: u8 = 4;
 
@@ -45,12 +42,22 @@ pub(super) enum Coming {
     Select { leg: u16, on: bool },
 }
 
-/// One turn: what comes at which moment, and how many jobs workers have done before.
+/// One turn: what comes at which moment.
 #[derive(Drop)]
 pub(super) struct Turn {
     pub(super) moment: u64,
     pub(super) arrival: Option<Coming>,
+    /// Whether workers may do what follows while the next turns are played: the moment doesn't rise, no desk is asked and no leg selected.
+    pub(super) is_calm: bool,
+    /// How many jobs workers must have done before; 0 if they may still be at them.
     pub(super) jobs_before: u64,
+}
+
+/// How many turns are made, and that one is calm but for each so many'th.
+#[derive(Clone, Copy)]
+pub(super) struct Plan {
+    pub(super) turns: u64,
+    pub(super) restless_each: u64,
 }
 
 /// Each endpoint sends to each other one. The source that a subscriber is sent has 256 and the leg's number.
@@ -91,6 +98,20 @@ fn datagram(
         8 | 9 => resend_request(alloc, dice, source, leg),
         10 => [0x81, 0xce, 0, 2, 0, 0, 0, source, 0, 0, 1, leg].to_vec(alloc),
         _ => oddity(alloc, dice, source),
+    }
+}
+
+/// What an endpoint sends that asks no desk: mostly packets.
+fn calm_datagram(alloc: Global, dice: &mut Dice, endpoint: u8) -> Result<Vec<u8>, AllocError>
+    requires { endpoint < 4 }
+{
+    let source = 16 + endpoint;
+    let leg = endpoint * 3 + dice.below(3) as u8;
+    match dice.below(16) {
+        0 => [0x80, 0xc9, 0, 1, 0, 0, 0, source].to_vec(alloc),
+        1 => sender_report(alloc, dice, source),
+        2 => resend_request(alloc, dice, source, leg),
+        _ => media(alloc, dice, source),
     }
 }
 
@@ -192,19 +213,36 @@ fn make_coming(
     }
 }
 
-/// The turns, whose jobs before are not counted yet.
-pub(super) fn make_turns(alloc: Global) -> Result<Vec<Turn>, AllocError> {
-    let mut dice = Dice { state: 20 };
+/// What comes in a calm turn.
+fn make_calm(alloc: Global, dice: &mut Dice) -> Result<Coming, AllocError> {
+    let endpoint = dice.below(4) as u8;
+    let bytes = calm_datagram(alloc, dice, endpoint)?;
+    Ok(Coming::Datagram {
+        endpoint: u16::from(endpoint),
+        bytes,
+    })
+}
+
+/// The turns of a seed, whose jobs before are not counted yet.
+pub(super) fn make_turns(alloc: Global, seed: u64, plan: Plan) -> Result<Vec<Turn>, AllocError> {
+    let mut dice = Dice { state: seed };
     let mut turns = Vec::new(alloc);
     let mut moment: u64 = 0;
-    for _turn in 0..TURNS {
-        let rises = dice.below(3) == 0;
+    for number in 0..plan.turns {
+        let is_calm = number.checked_rem(plan.restless_each).unwrap_or(0) > 0;
+        let rises = !is_calm && dice.below(3) == 0;
         if rises {
             moment = moment.wrapping_add(1 + u64::from(dice.below(120)));
         }
+        let arrival = if is_calm {
+            Some(make_calm(alloc, &mut dice)?)
+        } else {
+            make_coming(alloc, &mut dice, !rises)?
+        };
         turns.push(Turn {
             moment,
-            arrival: make_coming(alloc, &mut dice, !rises)?,
+            arrival,
+            is_calm,
             jobs_before: 0,
         })?;
     }

@@ -1,29 +1,72 @@
 //! What stands for the outside of a unit that plays the turns of a test: a source that moves the clock, a count of the jobs
-//! that are done, and sinks whose datagrams travel back.
+//! that are done, and sinks that hand on what they are told. All of them share a `Stage`.
 
 ghost use Rattle.std.specs.Prelude.{◌≡◌, ◌+◌, vec_len, None};
 
-use crate::random_turns::{Coming, Turn, WORKERS};
-use events::Bytes;
+use crate::random_turns::{Coming, Turn};
+use crate::told::{Told, What};
+use events::{Bytes, Refusal};
 use rtrb::{Consumer, Producer, RingBuffer};
 use std::alloc::{AllocError, Global};
 use std::sync::atomic::{AtomicU64, Ordering};
 use std::thread;
 use workers::*;
 
-/// So many datagrams a sink has room for.
-const ROOM: usize = 1 << 15;
+/// So much a sink hands on.
+pub(super) const ROOM: usize = 1 << 15;
 
-/// So often the source looks whether the workers are done.
+/// So often the source looks whether the workers are done, before it gives up.
 const PATIENCE: u32 = 100_000_000;
+
+/// Where a unit that plays turns stands.
+#[derive(Drop)]
+pub(super) struct Stage {
+    /// The number of the turn that is played.
+    turn: AtomicU64,
+    /// The moment of it.
+    moment: AtomicU64,
+    /// How many jobs workers have done.
+    done: AtomicU64,
+}
+
+impl Stage {
+    /// No turn was played; so many jobs are taken for done.
+    pub(super) fn new(done: u64) -> Stage {
+        Stage {
+            turn: AtomicU64::new(0),
+            moment: AtomicU64::new(0),
+            done: AtomicU64::new(done),
+        }
+    }
+}
 
 /// A source that waits until the workers are done with what came before; it moves the clock.
 #[derive(Drop)]
 pub(super) struct Turned<'a> {
-    pub(super) turns: Vec<Turn>,
-    pub(super) next: usize,
-    pub(super) done: &'a AtomicU64,
-    pub(super) now: &'a AtomicU64,
+    turns: &'a [Turn],
+    next: usize,
+    stage: &'a Stage,
+}
+
+impl<'a> Turned<'a> {
+    pub(super) fn new(turns: &'a [Turn], stage: &'a Stage) -> Turned<'a> {
+        Turned {
+            turns,
+            next: 0,
+            stage,
+        }
+    }
+
+    /// Waits until the workers have done so many jobs; says whether they have.
+    fn waits_for(&self, jobs: u64) -> bool {
+        for _look in 0..PATIENCE {
+            if self.stage.done.load(Ordering::SeqCst) >= jobs {
+                return true;
+            }
+            thread::yield_now();
+        }
+        false
+    }
 }
 
 impl<'a> Source for Turned<'a> {
@@ -40,13 +83,11 @@ impl<'a> Source for Turned<'a> {
         }
         self.next = at + 1;
         let turn = &self.turns[at];
-        for _look in 0..PATIENCE {
-            if self.done.load(Ordering::SeqCst) >= turn.jobs_before {
-                break;
-            }
-            thread::yield_now();
+        if !self.waits_for(turn.jobs_before) {
+            return Ok(Received::Stop);
         }
-        self.now.store(turn.moment, Ordering::SeqCst);
+        self.stage.turn.store(at as u64, Ordering::SeqCst);
+        self.stage.moment.store(turn.moment, Ordering::SeqCst);
         match &turn.arrival {
             None => Ok(Received::Nothing),
             Some(Coming::Select { leg, on }) => Ok(Received::Select { leg: *leg, on: *on }),
@@ -68,7 +109,7 @@ impl<'a> Source for Turned<'a> {
 /// The clock that the source moves.
 #[derive(Drop)]
 pub(super) struct Moved<'a> {
-    pub(super) now: &'a AtomicU64,
+    pub(super) stage: &'a Stage,
 }
 
 impl<'a> Clock for Moved<'a> {
@@ -77,54 +118,69 @@ impl<'a> Clock for Moved<'a> {
     ghost told = { λ _. None };
 
     fn moment(&mut self) -> u64 {
-        self.now.load(Ordering::SeqCst)
+        self.stage.moment.load(Ordering::SeqCst)
     }
 }
 
 /// Counts the jobs that are done.
 #[derive(Drop)]
 pub(super) struct Counting<'a> {
-    pub(super) done: &'a AtomicU64,
+    pub(super) stage: &'a Stage,
 }
 
 impl<'a> Gate for Counting<'a> {
     fn hold(&self, _worker: u16) {}
 
     fn done(&self, _worker: u16) {
-        self.done.fetch_add(1, Ordering::SeqCst);
+        self.stage.done.fetch_add(1, Ordering::SeqCst);
     }
 }
 
-/// A sink whose datagrams travel back to the test.
+/// A sink that hands on what it is told.
 #[derive(Drop)]
-pub(super) struct RingSink {
+pub(super) struct RingSink<'a> {
     alloc: Global,
-    ring: Producer<Datagram, Global>,
+    stage: &'a Stage,
+    ring: Producer<Told, Global>,
 }
 
-impl Sink for RingSink {
+impl RingSink<'_> {
+    fn tell(&mut self, what: What, bytes: &[u8]) {
+        let turn = self.stage.turn.load(Ordering::SeqCst);
+        if let Ok(bytes) = Bytes::copy_of(self.alloc, bytes) {
+            let _ = self.ring.push(Told { turn, what, bytes });
+        }
+    }
+}
+
+impl Sink for RingSink<'_> {
     ghost use Rattle.std.specs.Prelude.{None};
 
     ghost shown = { λ s. record { handed = None; failures = 0 } };
 
     fn send(&mut self, endpoint: u16, bytes: &[u8]) -> Result<(), SendFault> {
-        if let Ok(bytes) = Bytes::copy_of(self.alloc, bytes) {
-            let _ = self.ring.push(Datagram { endpoint, bytes });
-        }
+        self.tell(What::Sent(endpoint), bytes);
         Ok(())
+    }
+
+    fn missed(&mut self, leg: u16) {
+        self.tell(What::Missed(leg), &[]);
+    }
+
+    fn skipped(&mut self, leg: u16) {
+        self.tell(What::Skipped(leg), &[]);
+    }
+
+    fn refused(&mut self, _endpoint: Option<u16>, refusal: Refusal) {
+        self.tell(What::Refused(refusal), &[]);
     }
 }
 
-/// A sink for each worker and the ingress, and where its datagrams come out.
-pub(super) fn sinks_and_ends(
+/// A sink, and where what it is told comes out.
+pub(super) fn sink_and_end<'a>(
     alloc: Global,
-) -> Result<(Vec<RingSink>, Vec<Consumer<Datagram, Global>>), AllocError> {
-    let mut sinks = Vec::new(alloc);
-    let mut ends = Vec::new(alloc);
-    for _sink in 0..WORKERS + 1 {
-        let (ring, end) = RingBuffer::new(alloc, ROOM)?;
-        sinks.push(RingSink { alloc, ring })?;
-        ends.push(end)?;
-    }
-    Ok((sinks, ends))
+    stage: &'a Stage,
+) -> Result<(RingSink<'a>, Consumer<Told, Global>), AllocError> {
+    let (ring, end) = RingBuffer::new(alloc, ROOM)?;
+    Ok((RingSink { alloc, stage, ring }, end))
 }
