@@ -9,6 +9,7 @@ use settings_text::read_settings;
 use std::alloc::{AllocError, Global};
 use std::cell::{Cell, RefCell};
 use std::fmt::Write;
+use std::process::Abort;
 use std::test::Fail;
 use tmmbr_tuple::Ssrc;
 
@@ -18,8 +19,13 @@ const ROOM: &str =
 cname = \"sfu\"\n[[endpoint]]\nssrc = 16\n[[endpoint]]\nssrc = 17\n[[endpoint]]\nssrc = 18\n\
 [[leg]]\nsubscriber = 1\npublisher = 0\nout_ssrc = 257\n[[leg]]\nsubscriber = 1\npublisher = 2\nout_ssrc = 258\n";
 
-/// An RTP packet of source 16 (RFC 3550, section 5.1).
+/// The moment rises so far from one tick to the next.
+const TICK_MS: u64 = 50;
+
+/// An RTP packet of source 16 (RFC 3550, section 5.1), and one of source 18.
 const MEDIA: &[u8] = &[0x80, 0x60, 0, 7, 0, 0, 0, 0, 0, 0, 0, 16, 0xaa];
+
+const MEDIA_18: &[u8] = &[0x80, 0x60, 0, 7, 0, 0, 0, 0, 0, 0, 0, 18, 0xaa];
 
 /// A goodbye of source 16, and one of source 17 (RFC 3550, section 6.6).
 const BYE_16: &[u8] = &[0x81, 203, 0, 1, 0, 0, 0, 16];
@@ -128,6 +134,85 @@ const CUES: [Cue; 10] = [
     },
 ];
 
+const MEDIA_18_GIVEN: &str = "2 806000070000000000000012aa\n";
+
+const ASK_AND_MEDIA_GIVEN: &str =
+    "1 83cd00040000001100000000000001010007d028\n0 806000070000000000000010aa\n";
+
+const ASK_258_AND_MEDIA_GIVEN: &str =
+    "1 83cd00040000001100000000000001020007d028\n0 806000070000000000000010aa\n";
+
+/// What a subscriber asks for before its publishers are there, where requests grow too old: it is heard once a tick was made after they came.
+const AGEING_CUES: [Cue; 11] = [
+    Cue {
+        moment: 0,
+        endpoint: 1,
+        bytes: ASK,
+        given: REPORT_GIVEN,
+    },
+    Cue {
+        moment: 10,
+        endpoint: 0,
+        bytes: MEDIA,
+        given: MEDIA_GIVEN,
+    },
+    Cue {
+        moment: 59,
+        endpoint: 0,
+        bytes: MEDIA,
+        given: MEDIA_GIVEN,
+    },
+    Cue {
+        moment: 60,
+        endpoint: 0,
+        bytes: MEDIA,
+        given: ASK_AND_MEDIA_GIVEN,
+    },
+    Cue {
+        moment: 70,
+        endpoint: 0,
+        bytes: MEDIA,
+        given: MEDIA_GIVEN,
+    },
+    // One publisher comes, and the other leaves and comes meanwhile.
+    Cue {
+        moment: 80,
+        endpoint: 1,
+        bytes: REPORT_AND_ASK,
+        given: REPORT_GIVEN,
+    },
+    Cue {
+        moment: 90,
+        endpoint: 2,
+        bytes: MEDIA_18,
+        given: MEDIA_18_GIVEN,
+    },
+    Cue {
+        moment: 95,
+        endpoint: 0,
+        bytes: BYE_16,
+        given: "0 81cb000100000010\n",
+    },
+    Cue {
+        moment: 100,
+        endpoint: 0,
+        bytes: MEDIA,
+        given: MEDIA_GIVEN,
+    },
+    Cue {
+        moment: 140,
+        endpoint: 0,
+        bytes: MEDIA,
+        given: ASK_258_AND_MEDIA_GIVEN,
+    },
+    Cue {
+        moment: 150,
+        endpoint: 0,
+        bytes: MEDIA,
+        given: ASK_AND_MEDIA_GIVEN,
+    },
+];
+
 /// A source that gives a datagram once it is put there.
 #[derive(Drop)]
 struct Put<'a> {
@@ -156,8 +241,12 @@ impl Source for Put<'_> {
     }
 }
 
-fn room(alloc: Global) -> Result<Settings, Fail> {
-    match read_settings(alloc, ROOM.as_bytes()) {
+/// The settings of the room, where requests of this age are given up.
+fn room(alloc: Global, request_ms: u64) -> Result<Settings, Fail> {
+    let mut text = String::new(alloc);
+    write!(text, "request_ms = {request_ms}\n")?;
+    text.push_str(ROOM)?;
+    match read_settings(alloc, text.as_bytes()) {
         Ok(file) => Ok(file.settings),
         Err(_) => Err(Fail::from("settings")),
     }
@@ -179,11 +268,9 @@ fn given(alloc: Global, source: &mut Holding<'_, Put<'_>>) -> Result<String, Fai
     Ok(text)
 }
 
-/// What is asked for is held until the publisher comes, and heard again each time that it does, until the subscriber leaves.
-#[test]
-fn heard_once_the_publisher_comes(rt: HostRuntime) -> Result<(), Fail> {
-    let alloc = rt.alloc();
-    let settings = room(alloc)?;
+/// Plays the cues in the room, where requests of this age are given up.
+fn play(rt: &impl Abort, alloc: Global, request_ms: u64, cues: &[Cue]) -> Result<(), Fail> {
+    let settings = room(alloc, request_ms)?;
     let (endpoint, moment_ms) = (Cell::new(0), Cell::new(0));
     let bytes: Cell<&'static [u8]> = Cell::new(&[]);
     let sets = RefCell::new(Sets::new(alloc, 3, 100)?);
@@ -191,22 +278,34 @@ fn heard_once_the_publisher_comes(rt: HostRuntime) -> Result<(), Fail> {
         endpoint: &endpoint,
         bytes: &bytes,
     };
-    let mut source = Holding::new(alloc, put, &settings, 100, &moment_ms, &sets)?;
-    for cue in &CUES {
+    let mut source = Holding::new(alloc, put, &settings, 100, TICK_MS, &moment_ms, &sets)?;
+    for cue in cues {
         moment_ms.set(cue.moment);
         endpoint.set(cue.endpoint);
         bytes.set(cue.bytes);
         let text = given(alloc, &mut source)?;
-        is_text(&rt, Ok(text), cue.given)?;
+        is_text(rt, Ok(text), cue.given)?;
     }
     Ok(())
+}
+
+/// What is asked for is held until the publisher comes, and heard again each time that it does, until the subscriber leaves.
+#[test]
+fn heard_once_the_publisher_comes(rt: HostRuntime) -> Result<(), Fail> {
+    play(&rt, rt.alloc(), 0, &CUES)
+}
+
+/// Where requests grow too old it is heard again once its publisher's desk was told the moment.
+#[test]
+fn heard_after_a_tick_if_requests_age(rt: HostRuntime) -> Result<(), Fail> {
+    play(&rt, rt.alloc(), 700, &AGEING_CUES)
 }
 
 /// Where nothing is to be held, all is given as it comes.
 #[test]
 fn given_as_it_comes(rt: HostRuntime) -> Result<(), Fail> {
     let alloc = rt.alloc();
-    let settings = room(alloc)?;
+    let settings = room(alloc, 0)?;
     let (endpoint, moment_ms) = (Cell::new(1), Cell::new(0));
     let bytes: Cell<&'static [u8]> = Cell::new(ASK);
     let sets = RefCell::new(Sets::new(alloc, 3, 0)?);
@@ -214,7 +313,7 @@ fn given_as_it_comes(rt: HostRuntime) -> Result<(), Fail> {
         endpoint: &endpoint,
         bytes: &bytes,
     };
-    let mut source = Holding::new(alloc, put, &settings, 0, &moment_ms, &sets)?;
+    let mut source = Holding::new(alloc, put, &settings, 0, TICK_MS, &moment_ms, &sets)?;
     let asked = given(alloc, &mut source)?;
     is_text(&rt, Ok(asked), ASK_GIVEN)?;
     endpoint.set(0);

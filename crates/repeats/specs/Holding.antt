@@ -6,16 +6,18 @@ use Rattle.outside.specs.Outside.{Arrival, came, chosen, stop, silence, failure,
 use Rattle.outside.specs.declared.source.ReceiveFault.{ReceiveFault}
 use Rattle.outside.specs.declared.source.Received.{Received}
 use Rattle.outside.specs.declared.source.Received.TheVariants.{Nothing, Datagram, Select, Stop}
+use Rattle.repeats.specs.Comings.{wait_by}
 use Rattle.repeats.specs.Requests.{unasked}
 use Rattle.repeats.specs.declared.holding.Held.{Held}
 
--- Nobody is there yet in a unit of these settings, nothing is held, and nobody comes.
-pub record HoldsNothing (c : Configuration) (h : Held) : Type 0 where
+-- Nobody is there yet in a unit of these settings and ticks, nothing is held, and nobody came.
+pub record HoldsNothing (c : Configuration) (tick_ms : ℕ) (h : Held) : Type 0 where
   pub table : h.links ≡ table_of c
   pub nobody : h.presence ≡ record { heard = replicate (length c.endpoints) None; timeout_ms = c.timeout_ms }
   pub nothing : h.requests ≡ map unasked c.legs
   pub age : h.request_ms ≡ c.request_ms
-  pub coming : h.coming ≡ None
+  pub nobody_came : h.comings.list.items ≡ []
+  pub wait : h.comings.wait_ms ≡ wait_by c.request_ms tick_ms
 
 -- a datagram of this endpoint
 abbrev pub IsOfEndpoint : ℕ → Received → Type 0

@@ -1,4 +1,5 @@
 pub mod Again
+pub mod Comings
 pub mod Held
 pub mod Holding
 pub mod Presence

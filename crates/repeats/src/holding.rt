@@ -1,10 +1,11 @@
 //! The datagrams of a source, with what has to be heard once more.
 
-ghost use Rattle.std.specs.Prelude.{◌≡◌, ◌≤◌, ◌==◌, length, fold, map, None, IfOk, IfSome};
+ghost use Rattle.std.specs.Prelude.{◌≡◌, ◌≤◌, ◌==◌, [], length, fold, map, None, IfOk, IfSome};
 ghost use Rattle.repeats.specs.Holding.{HoldsNothing};
 ghost use Rattle.repeats.specs.Requests.{ask_in, asked_by};
 
 use crate::again::{Holdings, held_on, next_held, write_again};
+use crate::comings::{Coming, Comings, wait_by};
 use crate::held::{Known, give_on};
 use crate::presence::Presence;
 use crate::requests::{HeldRequest, Requests};
@@ -18,14 +19,6 @@ use std::alloc::{AllocError, Global};
 use std::cell::{Cell, RefCell};
 use tmmbr_tuple::Ssrc;
 
-/// A publisher that came: what is held for its legs is heard after the datagram by which it did.
-#[derive(Clone, Copy)]
-struct Coming {
-    publisher: u16,
-    /// The place among its legs from which on they weren't looked at yet.
-    from: usize,
-}
-
 /// What is known of a unit's endpoints and legs.
 #[derive(Drop)]
 struct Held<'a> {
@@ -37,7 +30,7 @@ struct Held<'a> {
     sets: &'a RefCell<Sets>,
     /// The moment of the last turn, in milliseconds.
     moment_ms: &'a Cell<u64>,
-    coming: Option<Coming>,
+    comings: Comings,
     /// What the datagram asks for that is looked at.
     asks: Vec<Ask>,
     /// What is given on of it, and what is heard once more.
@@ -45,8 +38,8 @@ struct Held<'a> {
 }
 
 /// The datagrams of a source. What subscribers ask for is held (RFC 5104, section 4.2.1), and what is held for the legs of a publisher is
-/// heard again after the datagram by which it comes, each as a TMMBR of its subscriber. A TMMBR whose publishers surely aren't there isn't
-/// given on.
+/// heard again after the datagram by which it comes, each as a TMMBR of its subscriber; where requests grow too old not before a tick was made
+/// since, so that their age counts from then on. A TMMBR whose publishers surely aren't there isn't given on.
 #[derive(Drop)]
 pub struct Holding<'a, S: Source + Drop> {
     source: S,
@@ -71,27 +64,29 @@ impl<'a, S: Source + Drop> Holding<'a, S> {
     ghost use Rattle.std.specs.Prelude.{◌≡◌, ◌≢◌, None, IfOk, IsSomeAnd};
     ghost use Rattle.repeats.specs.Holding.{HoldsNothing};
 
-    /// Holds what is asked for in what a source gives from now on, of a unit of these settings, if `repeat_ms` isn't 0. The moment of the
+    /// Holds what is asked for in what a source gives from now on, of a unit of these settings, if `repeat_ms` isn't 0. From one tick to
+    /// the next the moment rises by `tick_ms`. The moment of the
     /// last turn is looked at there; `sets` is told who is asked, who notifies of what, and who comes anew.
     pub fn new(
         alloc: Global,
         source: S,
         settings: &Settings,
         repeat_ms: u64,
+        tick_ms: u64,
         moment_ms: &'a Cell<u64>,
         sets: &'a RefCell<Sets>,
     ) -> Result<Holding<'a, S>, AllocError>
         ensures source { IfOk result (λ holding. holding.source ≡ source) }
         ensures off { repeat_ms ≡ 0 → IfOk result (λ holding. holding.held ≡ None) }
         ensures begins { repeat_ms ≢ 0 → IfOk result
-            (λ holding. IsSomeAnd holding.held (HoldsNothing settings.now)) }
+            (λ holding. IsSomeAnd holding.held (HoldsNothing settings.now tick_ms)) }
         ensures looks { repeat_ms ≢ 0 → IfOk result (λ holding. IsSomeAnd holding.held
             (λ held. (held.moment_ms ≡ moment_ms.entry) × (held.sets ≡ sets.entry))) }
     {
         if repeat_ms == 0 {
             return Ok(Holding { source, held: None });
         }
-        let held = new_held(alloc, settings, moment_ms, sets)?;
+        let held = new_held(alloc, settings, tick_ms, moment_ms, sets)?;
         Ok(Holding {
             source,
             held: Some(held),
@@ -103,16 +98,18 @@ impl<'a, S: Source + Drop> Holding<'a, S> {
 fn new_held<'a>(
     alloc: Global,
     settings: &Settings,
+    tick_ms: u64,
     moment_ms: &'a Cell<u64>,
     sets: &'a RefCell<Sets>,
 ) -> Result<Held<'a>, AllocError>
-    ensures begins { IfOk result (HoldsNothing settings.now) }
+    ensures begins { IfOk result (HoldsNothing settings.now tick_ms) }
     ensures looks { IfOk result
         (λ held. (held.moment_ms ≡ moment_ms.entry) × (held.sets ≡ sets.entry)) }
 {
     let (asks, given) = room_for_one(alloc)?;
     let requests = Requests::new(alloc, settings.legs())?;
     let presence = Presence::new(alloc, settings.endpoints().len(), settings.timeout_ms())?;
+    let wait_ms = wait_by(settings.request_ms(), tick_ms);
     Ok(Held {
         links: Links::new(alloc, settings)?,
         presence,
@@ -120,7 +117,7 @@ fn new_held<'a>(
         request_ms: settings.request_ms(),
         sets,
         moment_ms,
-        coming: None,
+        comings: Comings::new(alloc, settings.endpoints().len(), wait_ms)?,
         asks,
         given,
     })
@@ -177,10 +174,7 @@ impl Held<'_> {
                 self.requests.forget(endpoint);
             }
             self.forget_set(endpoint);
-            self.coming = Some(Coming {
-                publisher: endpoint,
-                from: 0,
-            });
+            self.comings.add(endpoint);
         }
         self.presence.hear(endpoint, moment);
     }
@@ -235,24 +229,26 @@ impl Held<'_> {
     /// What is to be heard once more before anything that comes: its endpoint, and how many bytes of `out` it has.
     fn heard_again(&mut self, out: &mut [u8]) -> Option<(u16, usize)>
         ensures within { IfSome result (λ heard. heard.1 ≤ length out.new) }
-        ensures nobody { self.old.coming ≡ None → result ≡ None }
+        ensures nobody { self.old.comings.list.items ≡ [] → result ≡ None }
     {
-        let Coming { publisher, from } = self.coming?;
+        let moment = self.moment_ms.get();
+        let Coming {
+            publisher,
+            from,
+            ..
+        } = self.comings.due(moment)?;
         let holdings = Holdings {
             requests: &self.requests,
             presence: &self.presence,
             request_ms: self.request_ms,
-            moment: self.moment_ms.get(),
+            moment,
         };
         let legs = self.links.of_publisher(publisher);
         let Some(place) = next_held(holdings, legs, from) else {
-            self.coming = None;
+            self.comings.end(publisher);
             return None;
         };
-        self.coming = Some(Coming {
-            publisher,
-            from: place + 1,
-        });
+        self.comings.go_on(publisher, place + 1);
         let number = legs.get(place).copied()?;
         let request = held_on(holdings, number)?;
         let leg = self.links.leg(number).copied()?;
@@ -356,7 +352,7 @@ impl<S: Source + Drop> Source for Holding<'_, S> {
         ensures given { Grows None (arrival_of out.new result ∷ []) None }
         ensures ok { OnOk result (S.failures self.new.source ≡ S.failures self.old.source) }
         ensures err { OnErr result (S.failures self.new.source ≡ S.failures self.old.source + 1) }
-        ensures asked { IfSome self.old.held (λ held. held.coming ≡ None)
+        ensures asked { IfSome self.old.held (λ held. held.comings.list.items ≡ [])
             → GivesForOne (S.given self.old.source) (S.given self.new.source) result }
         ensures off { self.old.held ≡ None → Grows (S.given self.old.source)
             (arrival_of out.new result ∷ []) (S.given self.new.source) }
@@ -378,7 +374,7 @@ impl<S: Source + Drop> Source for Holding<'_, S> {
 /// What is to be heard once more, if anything is held.
 fn again_in(held: &mut Option<Held<'_>>, out: &mut [u8]) -> Option<(u16, usize)>
     ensures within { IfSome result (λ heard. heard.1 ≤ length out.new) }
-    ensures nobody { IfSome held.old (λ held. held.coming ≡ None) → result ≡ None }
+    ensures nobody { IfSome held.old (λ held. held.comings.list.items ≡ []) → result ≡ None }
     ensures off { held.old ≡ None → held.new ≡ None }
 {
     match held {

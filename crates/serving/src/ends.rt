@@ -3,7 +3,7 @@
 use crate::repeated::RepeatingWatch;
 use crate::serve_fault::ServeFault;
 use addressing::{Client, Directory};
-use operating::{ControlHeard, Gauges, SteeredWatch};
+use operating::{ControlHeard, Gauges, SteeredWatch, TICK_MS};
 use repeats::{Holding, Sets};
 use screening::{Rules, Screen};
 use settings::Settings;
@@ -90,7 +90,15 @@ pub(crate) fn source_on<'a>(
     let screen = Screen::new(alloc, source, settings.endpoints(), rules, &gauges.far)?;
     let moment_ms = &gauges.moment_ms;
     let screen = screen.bounding(alloc, settings, traffic, moment_ms, &gauges.held)?;
-    let source = Holding::new(alloc, screen, settings, rules.repeat_ms, moment_ms, sets)?;
+    let source = Holding::new(
+        alloc,
+        screen,
+        settings,
+        rules.repeat_ms,
+        TICK_MS,
+        moment_ms,
+        sets,
+    )?;
     Ok(source)
 }
 
