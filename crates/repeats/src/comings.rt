@@ -1,7 +1,7 @@
 //! Publishers that came, and from when on what is held for their legs is heard again.
 
-ghost use Rattle.std.specs.Prelude.{◌≡◌};
-ghost use Rattle.repeats.specs.Comings.{wait_by};
+ghost use Rattle.std.specs.Prelude.{◌≡◌, ◌<◌, length, map, IfSome};
+ghost use Rattle.repeats.specs.Comings.{first_due, looked_from, noted_in, place_of, wait_by};
 
 use std::alloc::{AllocError, Global};
 
@@ -15,7 +15,7 @@ pub(crate) struct Coming {
     pub(crate) since: Option<u64>,
 }
 
-/// Publishers that came, each once.
+/// Publishers that came, each once, the latest last.
 #[derive(Drop)]
 pub(crate) struct Comings {
     list: Vec<Coming>,
@@ -33,12 +33,11 @@ pub(crate) fn wait_by(request_ms: u64, tick_ms: u64) -> u64
 
 impl Coming {
     ghost use Rattle.std.specs.Prelude.{◌≡◌};
-    ghost use Rattle.repeats.specs.Comings.{is_due, noted};
+    ghost use Rattle.repeats.specs.Comings.{is_due, noted_in};
 
     /// Notes that the last turn was at this moment.
     fn note(&mut self, moment: u64)
-        ensures since { self.new.since ≡ noted moment self.old.since }
-        ensures same { (self.new.publisher ≡ self.old.publisher) × (self.new.from ≡ self.old.from) }
+        ensures { self.new ≡ noted_in moment self.old }
     {
         if self.since.is_none() {
             self.since = Some(moment);
@@ -57,8 +56,8 @@ impl Coming {
 }
 
 impl Comings {
-    ghost use Rattle.std.specs.Prelude.{◌≡◌, ◌<◌, [], None, true, vec_len, IfOk, IfSome};
-    ghost use Rattle.repeats.specs.Comings.{is_due};
+    ghost use Rattle.std.specs.Prelude.{◌≡◌, [], None, map, IfOk, OnOk};
+    ghost use Rattle.repeats.specs.Comings.{first_due, looked_from, noted_in, with_comer, without};
 
     /// None of so many endpoints came.
     pub(crate) fn new(alloc: Global, endpoints: usize, wait_ms: u64) -> Result<Comings, AllocError>
@@ -72,63 +71,91 @@ impl Comings {
     }
 
     /// A publisher comes in the turn that begins.
-    pub(crate) fn add(&mut self, publisher: u16)
-        ensures { self.new.wait_ms ≡ self.old.wait_ms }
+    pub(crate) fn add(&mut self, publisher: u16) -> Result<(), AllocError>
+        ensures ok { OnOk result (self.new.list.items ≡ with_comer publisher self.old.list.items) }
+        ensures wait { self.new.wait_ms ≡ self.old.wait_ms }
     {
         self.end(publisher);
-        let _ = self.list.push(Coming {
+        self.list.push(Coming {
             publisher,
             from: 0,
             since: None,
-        });
+        })?;
+        Ok(())
     }
 
-    /// Who has waited long enough, where the last turn was at this moment.
+    /// The first who has waited long enough, where the last turn was at this moment.
     pub(crate) fn due(&mut self, moment: u64) -> Option<Coming>
-        ensures nobody { self.old.list.items ≡ [] → result ≡ None }
-        ensures due { IfSome result (λ coming. is_due self.new.wait_ms moment coming.since ≡ true) }
+        ensures due { result
+            ≡ first_due self.old.wait_ms moment (map (noted_in moment) self.old.list.items) }
+        ensures noted { self.new.list.items ≡ map (noted_in moment) self.old.list.items }
         ensures wait { self.new.wait_ms ≡ self.old.wait_ms }
+        ensures nobody { self.old.list.items ≡ [] → result ≡ None }
     {
-        for coming in self.list.iter_mut() {
-            coming.note(moment);
-        }
-        for coming in self.list.iter() {
-            if coming.is_due(self.wait_ms, moment) {
-                return Some(*coming);
-            }
-        }
-        None
+        note_all(self.list.as_mut_slice(), moment);
+        first_due(self.list.as_slice(), self.wait_ms, moment)
     }
 
     /// The legs of a publisher are looked at from this place on.
     pub(crate) fn go_on(&mut self, publisher: u16, from: usize)
-        ensures { self.new.wait_ms ≡ self.old.wait_ms }
+        ensures list { self.new.list.items ≡ map (looked_from publisher from) self.old.list.items }
+        ensures wait { self.new.wait_ms ≡ self.old.wait_ms }
     {
-        for coming in self.list.iter_mut() {
-            if coming.publisher == publisher {
-                coming.from = from;
-            }
-        }
+        look_from(self.list.as_mut_slice(), publisher, from);
     }
 
     /// All legs of a publisher were looked at.
     pub(crate) fn end(&mut self, publisher: u16)
-        ensures { self.new.wait_ms ≡ self.old.wait_ms }
+        ensures list { self.new.list.items ≡ without publisher self.old.list.items }
+        ensures wait { self.new.wait_ms ≡ self.old.wait_ms }
     {
-        if let Some(place) = self.place_of(publisher) {
+        if let Some(place) = place_of(self.list.as_slice(), publisher) {
             let _ = self.list.remove(place);
         }
     }
+}
 
-    /// Where a publisher stands in the list.
-    fn place_of(&self, publisher: u16) -> Option<usize>
-        ensures { IfSome result (λ place. place < vec_len self.now.list) }
-    {
-        for (place, coming) in self.list.iter().enumerate() {
-            if coming.publisher == publisher {
-                return Some(place);
-            }
-        }
-        None
+/// Notes that the last turn was at this moment.
+fn note_all(comings: &mut [Coming], moment: u64)
+    ensures { comings.new ≡ map (noted_in moment) comings.old }
+{
+    for coming in comings.iter_mut() {
+        coming.note(moment);
     }
+}
+
+/// The first who has waited so long at this moment.
+fn first_due(comings: &[Coming], wait_ms: u64, moment: u64) -> Option<Coming>
+    ensures { result ≡ first_due wait_ms moment comings.now }
+{
+    for coming in comings {
+        if coming.is_due(wait_ms, moment) {
+            return Some(*coming);
+        }
+    }
+    None
+}
+
+/// The legs of a publisher are looked at from this place on.
+fn look_from(comings: &mut [Coming], publisher: u16, from: usize)
+    ensures { comings.new ≡ map (looked_from publisher from) comings.old }
+{
+    for coming in comings.iter_mut() {
+        if coming.publisher == publisher {
+            coming.from = from;
+        }
+    }
+}
+
+/// Where a publisher stands.
+fn place_of(comings: &[Coming], publisher: u16) -> Option<usize>
+    ensures found { result ≡ place_of publisher 0 comings.now }
+    ensures within { IfSome result (λ place. place < length comings.now) }
+{
+    for (place, coming) in comings.iter().enumerate() {
+        if coming.publisher == publisher {
+            return Some(place);
+        }
+    }
+    None
 }

@@ -174,7 +174,7 @@ impl Held<'_> {
                 self.requests.forget(endpoint);
             }
             self.forget_set(endpoint);
-            self.comings.add(endpoint);
+            let _ = self.comings.add(endpoint);
         }
         self.presence.hear(endpoint, moment);
     }
