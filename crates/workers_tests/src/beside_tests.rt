@@ -21,12 +21,14 @@ use workers::{Report, run_unit};
 const RESTLESS: Plan = Plan {
     turns: 2_000,
     restless_each: 1,
+    least_sent: 1,
 };
 
 /// Turns that are calm but for each 128th: those between fit a worker's ring.
 const CALM: Plan = Plan {
     turns: 6_000,
     restless_each: 128,
+    least_sent: 0,
 };
 
 /// So often these are played, each time others, until a quarter of a million datagrams came.
@@ -100,11 +102,19 @@ fn count_same(told: &[Told], handed: &mut Consumer<Told, Global>) -> Option<u64>
     Some(datagrams)
 }
 
-/// The same of each sink. Says how many datagrams are in all of it.
-fn count_all(told: &Tellings, handed: &mut Vec<Consumer<Told, Global>>) -> Option<u64> {
+/// The same of each sink, each of whom was handed at least so many datagrams. Says how many are in all of it.
+fn count_all(
+    told: &Tellings,
+    handed: &mut Vec<Consumer<Told, Global>>,
+    least_sent: u64,
+) -> Option<u64> {
     let mut datagrams: u64 = 0;
     for (list, end) in told.iter().zip(handed) {
-        datagrams = datagrams.wrapping_add(count_same(list.as_slice(), end)?);
+        let same = count_same(list.as_slice(), end)?;
+        if same < least_sent {
+            return None;
+        }
+        datagrams = datagrams.wrapping_add(same);
     }
     Some(datagrams)
 }
@@ -164,7 +174,9 @@ fn play_beside<R: Threads + Wait + Sync>(
         ends.push(end)?;
     }
     let report = run_turns(rt, alloc, settings, turns.as_slice(), &stage, sinks)?;
-    let sent = count_all(&told, &mut ends).ok_or("sinks are told other things in threads")?;
+    let sent = count_all(&told, &mut ends, plan.least_sent).ok_or(
+        "sinks are told other things in threads",
+    )?;
     if (report.sent, report.failed, report.lost, report.dropped) != (sent, 0, 0, 0) {
         return Err("other counts in threads".into());
     }

@@ -58,6 +58,8 @@ pub(super) struct Turn {
 pub(super) struct Plan {
     pub(super) turns: u64,
     pub(super) restless_each: u64,
+    /// How many datagrams each sink is handed at least: the ingress has none to send until the moment rose by enough.
+    pub(super) least_sent: u64,
 }
 
 /// Each endpoint sends to each other one. The source that a subscriber is sent has 256 and the leg's number.
