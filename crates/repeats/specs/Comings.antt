@@ -1,5 +1,5 @@
 -- Publishers that came, and from when on what is held for their legs is heard again.
-use Rattle.std.specs.Prelude.{ℕ, ◌+◌, ◌-◌, ◌==◌, nat_eq, nat_le, Bool, false, List, [], ◌∷◌, ◌++◌, take, drop, Option, None, Some, if◌then◌else◌}
+use Rattle.std.specs.Prelude.{ℕ, ◌-◌, ◌==◌, nat_eq, nat_le, not, Bool, false, List, [], ◌∷◌, ◌++◌, filter, Option, None, Some, if◌then◌else◌}
 use Rattle.repeats.specs.declared.comings.Coming.{Coming}
 
 -- How long it waits: if requests grow too old, until the next tick, which tells the desk of who came the moment.
@@ -8,18 +8,9 @@ wait_by request_ms tick_ms = if nat_eq request_ms 0 then 0 else tick_ms
 
 -- ---- each once, the latest last
 
--- the place of the first entry of this publisher, of entries of which the first has place n
-abbrev pub place_of : ℕ → ℕ → List Coming → Option ℕ
-place_of publisher n [] = None
-place_of publisher n (c ∷ cs) = if c.publisher == publisher then Some n else place_of publisher (n + 1) cs
-
-abbrev pub without_place : List Coming → Option ℕ → List Coming
-without_place cs None = cs
-without_place cs (Some place) = take place cs ++ drop (place + 1) cs
-
 -- once all legs of this publisher were looked at
 abbrev pub without : ℕ → List Coming → List Coming
-without publisher cs = without_place cs (place_of publisher 0 cs)
+without publisher = filter (λ c. not (c.publisher == publisher))
 
 -- once this publisher comes
 abbrev pub with_comer : ℕ → List Coming → List Coming

@@ -1,7 +1,7 @@
 //! Publishers that came, and from when on what is held for their legs is heard again.
 
-ghost use Rattle.std.specs.Prelude.{◌≡◌, ◌<◌, length, map, IfSome};
-ghost use Rattle.repeats.specs.Comings.{first_due, looked_from, noted_in, place_of, wait_by};
+ghost use Rattle.std.specs.Prelude.{◌≡◌, map};
+ghost use Rattle.repeats.specs.Comings.{first_due, looked_from, noted_in, wait_by};
 
 use std::alloc::{AllocError, Global};
 
@@ -109,9 +109,7 @@ impl Comings {
         ensures list { self.new.list.items ≡ without publisher self.old.list.items }
         ensures wait { self.new.wait_ms ≡ self.old.wait_ms }
     {
-        if let Some(place) = place_of(self.list.as_slice(), publisher) {
-            let _ = self.list.remove(place);
-        }
+        self.list.retain(|coming| coming.publisher != publisher);
     }
 }
 
@@ -145,17 +143,4 @@ fn look_from(comings: &mut [Coming], publisher: u16, from: usize)
             coming.from = from;
         }
     }
-}
-
-/// Where a publisher stands.
-fn place_of(comings: &[Coming], publisher: u16) -> Option<usize>
-    ensures found { result ≡ place_of publisher 0 comings.now }
-    ensures within { IfSome result (λ place. place < length comings.now) }
-{
-    for (place, coming) in comings.iter().enumerate() {
-        if coming.publisher == publisher {
-            return Some(place);
-        }
-    }
-    None
 }
