@@ -1,1 +1,2 @@
 pub mod GoodbyeLemmas
+pub mod SeatLemmas

@@ -1,19 +1,29 @@
 -- Who is known of a unit's endpoints, and what of them is looked at, before anything came; and what waits to be heard.
-use Rattle.std.specs.Prelude.{◌≡◌, ℕ, ◌/◌, ◌<◌, ◌≤◌, Bool, List, [], map, length, replicate, take, drop, slice_get, Some, vec_capacity}
+use Rattle.std.specs.Prelude.{◌≡◌, ◌↔◌, ◌⊎◌, ◌&&◌, ℕ, ◌/◌, ◌<◌, ◌≤◌, Bool, IsTrue, List, [], map, length, replicate, take, drop, slice_get, Option, None, Some, vec_capacity, if◌then◌else◌}
+use Rattle.std.specs.Option.{option_eq}
+use Rattle.std.specs.declared.net.ip_addr.IpAddr.{IpAddr}
 use Rattle.std.specs.declared.net.socket_addr.SocketAddr.{SocketAddr}
 use Rattle.tmmbr_tuple.specs.declared.ssrc.Ssrc.{Ssrc}
 use Rattle.rtcp_compound.specs.Grammar.{packet_bytes}
 use Rattle.rtcp_compound.specs.Written.{rr_packet}
 use Rattle.screening.specs.Floods.{is_within, tallies_with}
 use Rattle.screening.specs.declared.floods.Tally.{Tally}
+use Rattle.senders.specs.declared.learners.Arrived.{Arrived}
+use Rattle.senders.specs.declared.learners.Learner.{Learner}
+use Rattle.senders.specs.declared.seat.Kind.{Kind}
+use Rattle.senders.specs.declared.seat.Kind.TheVariants.{Rtp, Rtcp}
+use Rattle.senders.specs.declared.seat.Seat.{Seat}
 use Rattle.senders.specs.declared.senders.Origin.{Origin}
-use Rattle.senders.specs.Learners.{LearnersState}
+use Rattle.senders.specs.Learners.{LearnersState, after_word, claim_of, learner_at, with_seat}
 use Rattle.senders.specs.Listeners.{ListenersState, listeners_after, new_listeners, report_due}
-use Rattle.senders.specs.Naming.{source_named}
+use Rattle.senders.specs.Naming.{is_control, source_named}
+use Rattle.senders.specs.Reports.{SaysGoodbye}
 use Rattle.senders.specs.Senders.{front_length, sender_of}
 use Rattle.sockets.specs.declared.arrivals.Rest.{Rest}
 use Rattle.settings.specs.Settings.{Configuration}
 use Rattle.addressing.specs.declared.clients.Client.{Client}
+use Rattle.addressing.specs.declared.clients.Listening.{Listening}
+use Rattle.addressing.specs.Clients.{IsReachable}
 use Rattle.addressing.specs.Known.{learners_of, senders_of}
 
 -- whose address is learned
@@ -102,3 +112,84 @@ pub record Admits (floods later : ℕ × List Tally) (endpoint : ℕ) (is_heard 
   pub moment : ℕ
   pub heard : is_within floods.0 (slice_get floods.1 endpoint) moment ≡ is_heard
   pub counted : later ≡ (floods.0, tallies_with floods.1 endpoint moment)
+
+-- ---- what is learned of a datagram that came
+
+-- who is known by an address, and whose address is learned
+pub record Known : Type 0 where
+  pub senders : List (Origin × ℕ)
+  pub learners : LearnersState
+
+-- RTCP is of a kind of its own where it has an address of its own (RFC 3550, section 11)
+abbrev pub kind_heard : Option SocketAddr → List ℕ → Kind
+kind_heard None datagram = Rtp
+kind_heard (Some rtcp) datagram = if is_control datagram then Rtcp else Rtp
+
+-- what a datagram that came from this address at this moment says of who sent it
+abbrev pub arrived_by : Option SocketAddr → SocketAddr → List ℕ → ℕ → Arrived
+arrived_by rtcp from datagram moment = record {
+  source = source_named datagram;
+  kind = kind_heard rtcp datagram;
+  from = from;
+  moment = moment;
+}
+
+abbrev pub is_same_place : (SocketAddr → SocketAddr → Bool) → Seat → Seat → Bool
+is_same_place same seat other = option_eq same seat.rtp other.rtp && option_eq same seat.rtcp other.rtcp
+
+-- An address is learned: at some moment the endpoint whose source the datagram names may take this seat, and has it from then on. Either
+-- it has the addresses that it had, or the unit can send to this one, and who is known by an address is who is by the seats from then on.
+pub record Learns (same_source : ℕ → ℕ → Bool) (same : SocketAddr → SocketAddr → Bool)
+    (same_host : IpAddr → IpAddr → Bool) (sources : List Ssrc) (clients : List Client)
+    (listening : Listening) (from : SocketAddr) (datagram : List ℕ) (known later : Known) : Type 0 where
+  pub moment : ℕ
+  pub endpoint : ℕ
+  pub seat : Seat
+  pub claims : claim_of same_source same same_host known.learners
+      (arrived_by listening.rtcp from datagram moment) ≡ Some (endpoint, seat)
+  pub learner : Learner
+  pub before : learner_at known.learners endpoint ≡ Some learner
+  pub sits : later.learners ≡ with_seat known.learners endpoint seat
+  pub senders : (IsTrue (is_same_place same learner.seat seat) × (later.senders ≡ known.senders))
+      ⊎ (IsReachable same listening from
+      × (later.senders ≡ senders_of sources clients later.learners))
+
+-- it is learned, or nothing is
+abbrev pub MayLearn : (ℕ → ℕ → Bool) → (SocketAddr → SocketAddr → Bool)
+    → (IpAddr → IpAddr → Bool) → List Ssrc → List Client → Listening → SocketAddr → List ℕ
+    → Known → Known → Type 0
+MayLearn same_source same same_host sources clients listening from datagram known later =
+    ((later.senders ≡ known.senders) × (later.learners ≡ known.learners))
+    ⊎ Learns same_source same same_host sources clients listening from datagram known later
+
+-- The seat of an endpoint is kept from some moment on, since it was heard, or is free if these bytes say goodbye for its source.
+pub record KeepsSeat (sources : List Ssrc) (endpoint : ℕ) (bytes : List ℕ)
+    (learners later : LearnersState) : Type 0 where
+  pub moment : ℕ
+  pub is_goodbye : Bool
+  pub says : (source : Ssrc) → slice_get sources endpoint ≡ Some source
+      → IsTrue is_goodbye ↔ IsTrue (is_control bytes) × SaysGoodbye bytes source.0
+  pub after : later ≡ after_word learners endpoint moment is_goodbye
+
+-- So is that of an endpoint which was heard by these bytes, if its address is learned; nothing else changes.
+pub record IsKept (sources : List Ssrc) (endpoint : ℕ) (bytes : List ℕ)
+    (learners later : LearnersState) : Type 0 where
+  pub none : learner_at learners endpoint ≡ None → later ≡ learners
+  pub some : (learner : Learner) → learner_at learners endpoint ≡ Some learner
+      → KeepsSeat sources endpoint bytes learners later
+
+abbrev pub IsKeptIfHeard : List Ssrc → List ℕ → LearnersState → LearnersState → Option (ℕ × ℕ)
+    → Type 0
+IsKeptIfHeard sources datagram learners later None = later ≡ learners
+IsKeptIfHeard sources datagram learners later (Some heard) =
+    IsKept sources heard.0 (take heard.1 datagram) learners later
+
+-- Once a datagram was looked at: what was learned of it, and then, if so much of it was heard as of this endpoint, that its seat is kept.
+pub record KnowsAfter (same_source : ℕ → ℕ → Bool) (same : SocketAddr → SocketAddr → Bool)
+    (same_host : IpAddr → IpAddr → Bool) (sources : List Ssrc) (clients : List Client)
+    (listening : Listening) (from : SocketAddr) (datagram : List ℕ) (heard : Option (ℕ × ℕ))
+    (known later : Known) : Type 0 where
+  pub learners : LearnersState
+  pub learned : MayLearn same_source same same_host sources clients listening from datagram known
+      (record { senders = later.senders; learners = learners })
+  pub kept : IsKeptIfHeard sources datagram learners later.learners heard

@@ -1,9 +1,12 @@
 //! What came to the unit's sockets: who sent it, and what of it is heard by itself.
 
 ghost use Rattle.std.specs.Prelude.{◌≡◌, ◌↔◌, ◌<◌, ◌≤◌, ◌⊎◌, ℕ, [], None, Some, true, false, length, drop, take, vec_capacity, IfNone, IfOk, IfSome, IsSome, IsTrue};
-ghost use Rattle.senders.specs.Naming.{source_named};
+ghost use Rattle.addressing.specs.Known.{senders_of};
+ghost use Rattle.senders.specs.Learners.{with_seat};
+ghost use Rattle.senders.specs.Naming.{is_control, source_named};
+ghost use Rattle.senders.specs.Reports.{SaysGoodbye};
 ghost use Rattle.senders.specs.Senders.{sender_of};
-ghost use Rattle.sockets.specs.Arrivals.{Admits, HasNoReport, HasNothingOfRest, IsHeardOf, IsHeardOfRest, IsReportMade, first_floods, first_learners, first_listeners, first_senders, rest_of};
+ghost use Rattle.sockets.specs.Arrivals.{Admits, HasNoReport, HasNothingOfRest, IsHeardOf, IsHeardOfRest, IsKept, IsKeptIfHeard, IsReportMade, KnowsAfter, MayLearn, first_floods, first_learners, first_listeners, first_senders, is_same_place, kind_heard, rest_of};
 
 use addressing::{
     Client, Directory, Listening, is_reachable, learners_of, listeners_of, senders_of,
@@ -17,7 +20,7 @@ use senders::{
 };
 use settings::Settings;
 use std::alloc::{AllocError, Global};
-use std::net::SocketAddr;
+use std::net::{IpAddr, SocketAddr};
 use tmmbr_tuple::Ssrc;
 use traffic::Traffic;
 
@@ -111,6 +114,9 @@ impl<'a> Arrivals<'a> {
             (length out.old)) }
         ensures unreported { IfNone result
             (HasNoReport self.old.sources.now self.old.listeners (length out.old)) }
+        ensures senders { self.new.senders ≡ self.old.senders }
+        ensures learners { (self.new.learners ≡ self.old.learners) ⊎ IsKeptIfHeard self.old.sources.now
+            out.new self.old.learners self.new.learners result }
         ensures room { vec_capacity self.old.rest.bytes ≤ vec_capacity self.new.rest.bytes }
     {
         match self.rest_heard(out) {
@@ -140,6 +146,11 @@ impl<'a> Arrivals<'a> {
             ≡ Some endpoint → Admits self.old.floods self.new.floods endpoint false) }
         ensures admitted { IfSome result
             (λ heard. Admits self.old.floods self.new.floods heard.0 true) }
+        ensures learned { KnowsAfter ⟦<u32 as PartialEq>⟧.eq ⟦<SocketAddr as PartialEq>⟧.eq
+            ⟦<IpAddr as PartialEq>⟧.eq self.old.sources.now self.old.clients.now self.old.listening from
+            (take size out.now) result
+            (record { senders = self.old.senders; learners = self.old.learners })
+            (record { senders = self.new.senders; learners = self.new.learners }) }
         ensures room { vec_capacity self.old.rest.bytes ≤ vec_capacity self.new.rest.bytes }
     {
         let datagram = &out[..size];
@@ -157,6 +168,8 @@ impl<'a> Arrivals<'a> {
     /// Whether a datagram of this endpoint, or of a stranger, is looked at; if not, it is counted.
     fn admits(&mut self, endpoint: Option<u16>) -> bool
         ensures senders { self.new.senders ≡ self.old.senders }
+        ensures learners { self.new.learners ≡ self.old.learners }
+        ensures sources { self.new.sources ≡ self.old.sources }
         ensures rest { self.new.rest ≡ self.old.rest }
         ensures counted { (number : ℕ) → endpoint ≡ Some number
             → Admits self.old.floods self.new.floods number result }
@@ -173,9 +186,16 @@ impl<'a> Arrivals<'a> {
     }
 
     /// Learns the address of an endpoint from a datagram with its source, if it learns, and nobody else has its seat.
+    #[tactic(auto, using(crate::proofs::SeatLemmas::sits_back))]
     fn learn(&mut self, from: SocketAddr, datagram: &[u8])
         ensures rest { self.new.rest ≡ self.old.rest }
         ensures floods { self.new.floods ≡ self.old.floods }
+        ensures sources { self.new.sources ≡ self.old.sources }
+        ensures learned { MayLearn ⟦<u32 as PartialEq>⟧.eq ⟦<SocketAddr as PartialEq>⟧.eq
+            ⟦<IpAddr as PartialEq>⟧.eq self.old.sources.now self.old.clients.now self.old.listening from
+            datagram.now
+            (record { senders = self.old.senders; learners = self.old.learners })
+            (record { senders = self.new.senders; learners = self.new.learners }) }
     {
         let arrived = Arrived {
             source: source_named(datagram),
@@ -189,11 +209,10 @@ impl<'a> Arrivals<'a> {
         let Some(learner) = self.learners.learner(endpoint) else {
             return;
         };
-        let before = learner.seat;
-        if before.rtp == seat.rtp && before.rtcp == seat.rtcp {
+        if is_same_place(learner.seat, seat) {
             self.learners.sit(endpoint, seat);
         } else if is_reachable(self.listening, from) {
-            self.move_to(endpoint, seat, before);
+            self.move_to(endpoint, seat, learner.seat);
         }
     }
 
@@ -202,6 +221,13 @@ impl<'a> Arrivals<'a> {
     fn move_to(&mut self, endpoint: u16, seat: Seat, before: Seat)
         ensures rest { self.new.rest ≡ self.old.rest }
         ensures floods { self.new.floods ≡ self.old.floods }
+        ensures sources { self.new.sources ≡ self.old.sources }
+        ensures moved { (self.new.learners ≡ with_seat self.old.learners endpoint seat)
+            × (self.new.senders
+            ≡ senders_of self.old.sources.now self.old.clients.now self.new.learners)
+            ⊎ (self.new.learners
+            ≡ with_seat (with_seat self.old.learners endpoint seat) endpoint before)
+            × (self.new.senders ≡ self.old.senders) }
     {
         self.learners.sit(endpoint, seat);
         match senders_of(self.alloc, self.sources, self.clients, &self.learners) {
@@ -216,7 +242,9 @@ impl<'a> Arrivals<'a> {
     }
 
     /// What goes to one address and comes from it: RTCP, where it has a port of its own; else all is of one kind.
-    fn kind_of(&self, datagram: &[u8]) -> Kind {
+    fn kind_of(&self, datagram: &[u8]) -> Kind
+        ensures { result ≡ kind_heard self.now.listening.rtcp datagram.now }
+    {
         if self.listening.rtcp.is_some() && is_control(datagram) {
             Kind::Rtcp
         } else {
@@ -228,6 +256,8 @@ impl<'a> Arrivals<'a> {
     fn keep(&mut self, from: SocketAddr, datagram: &[u8], heard: usize)
         requires { heard ≤ length datagram.now }
         ensures senders { self.new.senders ≡ self.old.senders }
+        ensures learners { self.new.learners ≡ self.old.learners }
+        ensures sources { self.new.sources ≡ self.old.sources }
         ensures floods { self.new.floods ≡ self.old.floods }
         ensures whole { heard ≡ length datagram.now → self.new.rest ≡ self.old.rest }
         ensures still { heard < length datagram.now → self.new.rest.from ≡ Some from }
@@ -255,6 +285,9 @@ impl<'a> Arrivals<'a> {
             ⟦<SocketAddr as PartialEq>⟧.eq self.old.senders self.old.rest self.new.rest
             (length out.old)) }
         ensures sources { self.new.sources ≡ self.old.sources }
+        ensures senders { self.new.senders ≡ self.old.senders }
+        ensures learners { IsKeptIfHeard self.old.sources.now out.new self.old.learners
+            self.new.learners result }
         ensures listeners { IfNone result (self.new.listeners ≡ self.old.listeners) }
         ensures room { vec_capacity self.new.rest.bytes ≡ vec_capacity self.old.rest.bytes }
     {
@@ -283,6 +316,8 @@ impl<'a> Arrivals<'a> {
             self.new.listeners heard out.new) }
         ensures none { IfNone result
             (HasNoReport self.old.sources.now self.old.listeners (length out.old)) }
+        ensures senders { self.new.senders ≡ self.old.senders }
+        ensures learners { self.new.learners ≡ self.old.learners }
         ensures rest { self.new.rest ≡ self.old.rest }
     {
         let number = self.listeners.report_due(self.gauges.moment_ms.get())?;
@@ -309,21 +344,36 @@ impl<'a> Arrivals<'a> {
         ensures sources { self.new.sources ≡ self.old.sources }
         ensures floods { self.new.floods ≡ self.old.floods }
         ensures rest { self.new.rest ≡ self.old.rest }
+        ensures kept { IsKept self.old.sources.now endpoint datagram.now self.old.learners
+            self.new.learners }
     {
-        self.traffic
-            .heard(endpoint, datagram, self.gauges.moment_ms.get());
+        let moment = self.gauges.moment_ms.get();
+        self.traffic.heard(endpoint, datagram, moment);
         let number = usize::from(endpoint);
-        let only_listens = self.listeners.only_listens(number);
-        let learns = self.learners.learner(endpoint).is_some();
-        if !only_listens && !learns {
-            return;
-        }
-        if let Some(source) = self.sources.get(number).copied() {
-            let is_goodbye = is_control(datagram) && says_goodbye(datagram, source);
+        if self.listeners.only_listens(number) || self.learners.learner(endpoint).is_some() {
+            let is_goodbye = leaves(datagram, self.sources.get(number).copied());
             self.listeners.heard(number, is_goodbye);
-            let moment = self.gauges.moment_ms.get();
             self.learners.heard(endpoint, moment, is_goodbye);
         }
+    }
+}
+
+/// Whether these seats have the same addresses.
+fn is_same_place(seat: Seat, other: Seat) -> bool
+    ensures { result ≡ is_same_place ⟦<SocketAddr as PartialEq>⟧.eq seat other }
+{
+    seat.rtp == other.rtp && seat.rtcp == other.rtcp
+}
+
+/// Whether what came of an endpoint with this source, if it has one, says goodbye for it.
+fn leaves(datagram: &[u8], source: Option<Ssrc>) -> bool
+    ensures none { IfNone source (result ≡ false) }
+    ensures says { IfSome source (λ named. IsTrue result
+        ↔ IsTrue (is_control datagram.now) × SaysGoodbye datagram.now named.0) }
+{
+    match source {
+        Some(source) => is_control(datagram) && says_goodbye(datagram, source),
+        None => false,
     }
 }
 
