@@ -17,6 +17,7 @@ pub mod IngressLemmas
 pub mod RunLemmas
 pub mod SettleLemmas
 pub mod WorkingLemmas
+pub mod AsideLemmas
 pub mod WorldLemmas
 pub mod QuietRoomLemmas
 pub mod QuietDeskLemmas

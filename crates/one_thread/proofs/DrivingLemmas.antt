@@ -18,10 +18,11 @@ use Rattle.core_steps.specs.World.{Hand, Task, WorkerState, WorldState, doing, f
 use Rattle.core_steps.specs.declared.world.Waiting.{Waiting}
 use Rattle.notices.specs.Notification.{Pending}
 use Rattle.settings.specs.Settings.{Configuration}
+use Rattle.core_steps.proofs.AsideLemmas.{work_aside, ingress_same}
 use Rattle.core_steps.proofs.HistoryLemmas.{runs_join}
 use Rattle.core_steps.proofs.SettleLemmas.{step_of}
 use Rattle.one_thread.specs.Driving.{Drives, DrivesBoth, DrivesSome, FindsNothing, IsIdle, is_from_outside, jobs_given_up}
-use Rattle.one_thread.proofs.StepLemmas.{none_given, same_workers, work_aside, ingress_same}
+use Rattle.one_thread.proofs.StepLemmas.{none_given, same_workers}
 
 -- ---- one after the other
 

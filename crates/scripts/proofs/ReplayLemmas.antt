@@ -15,7 +15,7 @@ use Rattle.core_steps.specs.World.{WorldState}
 use Rattle.core_steps.specs.Rule.{is_busy}
 use Rattle.core_steps.specs.Settling.{ingress_left}
 use Rattle.core_steps.proofs.SettleLemmas.{step_of}
-use Rattle.one_thread.proofs.StepLemmas.{ingress_same, work_aside}
+use Rattle.core_steps.proofs.AsideLemmas.{ingress_same, work_aside}
 use Rattle.endings.specs.declared.status.Failure.{Failure}
 use Rattle.endings.specs.declared.status.Failure.TheVariants.{NoMemory, Refused as RefusedLine, Io}
 use Rattle.scripts.specs.declared.script.Reading.TheVariants.{Unreadable}
