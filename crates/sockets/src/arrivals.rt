@@ -1,6 +1,6 @@
 //! What came to the unit's sockets: who sent it, and what of it is heard by itself.
 
-ghost use Rattle.std.specs.Prelude.{◌≡◌, ◌↔◌, ◌<◌, ◌≤◌, ◌⊎◌, ℕ, [], None, Some, true, false, length, drop, take, vec_capacity, IfNone, IfOk, IfSome, IsSome, IsTrue};
+ghost use Rattle.std.specs.Prelude.{◌≡◌, ◌↔◌, ◌<◌, ◌≤◌, ◌⊎◌, ℕ, [], None, Some, true, false, length, drop, take, vec_capacity, IfNone, IfOk, IfSome, IsSome, IsSomeAnd, IsTrue};
 ghost use Rattle.addressing.specs.Known.{senders_of};
 ghost use Rattle.senders.specs.Learners.{with_seat};
 ghost use Rattle.senders.specs.Naming.{is_control, source_named};
@@ -115,8 +115,10 @@ impl<'a> Arrivals<'a> {
         ensures unreported { IfNone result
             (HasNoReport self.old.sources.now self.old.listeners (length out.old)) }
         ensures senders { self.new.senders ≡ self.old.senders }
-        ensures learners { (self.new.learners ≡ self.old.learners) ⊎ IsKeptIfHeard self.old.sources.now
-            out.new self.old.learners self.new.learners result }
+        ensures learners { IsKeptIfHeard self.old.sources.now out.new self.old.learners
+            self.new.learners result
+            ⊎ IsSomeAnd result (λ heard. IsReportMade self.old.sources.now self.old.listeners
+            self.new.listeners heard out.new × (self.new.learners ≡ self.old.learners)) }
         ensures room { vec_capacity self.old.rest.bytes ≤ vec_capacity self.new.rest.bytes }
     {
         match self.rest_heard(out) {
