@@ -1,5 +1,5 @@
 -- Who is known of a unit's endpoints, and what of them is looked at, before anything came; and what waits to be heard.
-use Rattle.std.specs.Prelude.{◌≡◌, ◌↔◌, ◌⊎◌, ◌&&◌, ℕ, ◌/◌, ◌<◌, ◌≤◌, Bool, IsTrue, List, [], map, length, replicate, take, drop, slice_get, Option, None, Some, vec_capacity, if◌then◌else◌}
+use Rattle.std.specs.Prelude.{◌≡◌, ◌↔◌, ◌⊎◌, ◌&&◌, ℕ, ◌/◌, ◌<◌, ◌≤◌, Bool, false, IsTrue, List, [], map, length, replicate, take, drop, slice_get, Option, None, Some, vec_capacity, if◌then◌else◌}
 use Rattle.std.specs.Option.{option_eq}
 use Rattle.std.specs.declared.net.ip_addr.IpAddr.{IpAddr}
 use Rattle.std.specs.declared.net.socket_addr.SocketAddr.{SocketAddr}
@@ -154,12 +154,25 @@ pub record Learns (same_source : ℕ → ℕ → Bool) (same : SocketAddr → So
       ⊎ (IsReachable same listening from
       × (later.senders ≡ senders_of sources clients later.learners))
 
+-- Nothing is learned: at some moment no endpoint may take a seat by it that has the addresses which it had.
+pub record LearnsNothing (same_source : ℕ → ℕ → Bool) (same : SocketAddr → SocketAddr → Bool)
+    (same_host : IpAddr → IpAddr → Bool) (listening : Listening) (from : SocketAddr)
+    (datagram : List ℕ) (known later : Known) : Type 0 where
+  pub moment : ℕ
+  pub moves : (endpoint : ℕ) (seat : Seat) (learner : Learner)
+      → claim_of same_source same same_host known.learners
+      (arrived_by listening.rtcp from datagram moment) ≡ Some (endpoint, seat)
+      → learner_at known.learners endpoint ≡ Some learner
+      → is_same_place same learner.seat seat ≡ false
+  pub senders : later.senders ≡ known.senders
+  pub learners : later.learners ≡ known.learners
+
 -- it is learned, or nothing is
 abbrev pub MayLearn : (ℕ → ℕ → Bool) → (SocketAddr → SocketAddr → Bool)
     → (IpAddr → IpAddr → Bool) → List Ssrc → List Client → Listening → SocketAddr → List ℕ
     → Known → Known → Type 0
 MayLearn same_source same same_host sources clients listening from datagram known later =
-    ((later.senders ≡ known.senders) × (later.learners ≡ known.learners))
+    LearnsNothing same_source same same_host listening from datagram known later
     ⊎ Learns same_source same same_host sources clients listening from datagram known later
 
 -- The seat of an endpoint is kept from some moment on, since it was heard, or is free if these bytes say goodbye for its source.
