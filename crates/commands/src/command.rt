@@ -1,23 +1,23 @@
 //! The commands of the program, over a reader and writers.
 
-ghost use Rattle.std.specs.Prelude.{◌≡◌, ◌≢◌, ◌⊎◌, Bool, ℕ, List, Option, map, None, Some, Ok, Err, IfSome, IfOk, IfErr, OnOk, codes};
+ghost use Rattle.std.specs.Prelude.{◌≡◌, ◌≢◌, ◌⊎◌, Bool, ℕ, List, Option, map, None, Some, Ok, Err, IfSome, codes};
 ghost use Rattle.std.specs.Io.KnownBytes.{Appends, Keeps};
 ghost use Rattle.command_line.specs.CommandLine.{AsksToServe, Request, Types, asked_for, bound, check, draw, replay, serve};
 ghost use Rattle.offline.specs.Printed.{PrintsBound, PrintsPicture, RefusesBound};
-ghost use Rattle.offline.specs.Replaying.{NamesNobody, shown_by};
 ghost use Rattle.checking.specs.Sheet.{SaysNo};
 ghost use Rattle.endings.specs.Endings.{SaysWhy};
-ghost use Rattle.scripts.specs.Replay.{PrintsByFile, RefusesByFile};
+ghost use Rattle.scripts.specs.ByFile.{NamesNobody, PrintsByFile, RefusesByFile, shown_by};
 ghost use Rattle.settings.specs.Settings.{Configuration};
 ghost use Rattle.serving.specs.ReportText.{PrintsReport};
 ghost use Rattle.serving.specs.Serving.{SaysWhyServing};
 ghost use Rattle.settings_text.specs.SettingsText.{SaysProblem};
 
-use command_line::{Action, Record, read_words};
+use command_line::{Action, Noted, Record, read_words};
 use endings::{Status, refuse_words, report, report_settings, say, say_no_memory};
-use offline::{run_bound, run_check, run_draw, run_replay, unreadable_settings};
+use offline::{run_bound, run_check, run_draw};
 use request_text::Meter;
-use scripts::Shown;
+use script_text::Shown;
+use scripts::{run_replay, unreadable_settings};
 use serving::{
     ControlFault, ErrorOutput, Gauges, RECORD_LIMIT, RecordFault, ServedSettings, Term,
     close_control, close_record, open_control, open_record, read_served, serve_file,
@@ -157,69 +157,27 @@ pub fn run_command<
     }
 }
 
-/// Runs the unit that the words ask for, of which the first is the program's name, and records what it takes in. Words that ask for
-/// another command are refused, since nothing else is recorded.
-pub fn run_recorded<
+/// Runs the unit that the words ask for, of which the first is the program's name, and writes down of it what they say. Words that ask for
+/// another command are refused: nothing else is recorded, or has lines of counts.
+#[tactic(auto, using(serving::proofs::ServeLemmas::says_alone))]
+pub fn run_noted<
     R: AllocGlobal + ErrorOutput + Files<File = File> + Net + Threads + Wait + Sync + time::Clock,
-    S: AsStr,
     O: Write,
     E: Write,
->(rt: &R, words: &[S], record: Record<'_>, writer: &mut O, errors: &mut E) -> Status
+>(rt: &R, noted: &Noted<'_>, writer: &mut O, errors: &mut E) -> Status
     ensures done { result ≡ Status.Done
         → (c : Configuration) × PrintsReport c (O.contents writer.old) (O.contents writer.new) }
     ensures failed { result ≡ Status.Socket
         → Keeps (O.contents writer.old) (O.contents writer.new) }
+    ensures settings { result ≡ Status.Settings
+        → Keeps (O.contents writer.old) (O.contents writer.new)
+        × SaysProblem (E.contents errors.old) (E.contents errors.new) }
+    ensures refused { result ≢ Status.Refused }
+    ensures others { ¬ (AsksToServe (asked_for (map (λ word. word.now) noted.now.words.items)))
+        → (result ≢ Status.Done) × Keeps (O.contents writer.old) (O.contents writer.new) }
+    ensures said { SaysWhyServing (E.contents errors.old) (E.contents errors.new) result }
 {
-    let noted = Noted {
-        record: Some(record),
-        log_time: false,
-    };
-    let refusal = b"only serve is recorded\n";
-    run_noted(rt, words, noted, refusal, writer, errors)
-}
-
-/// Runs the unit that the words ask for, of which the first is the program's name, and has each of its lines of counts begin with the time;
-/// records what it takes in, too, if there is a record. Words that ask for another command are refused.
-pub fn run_timed<
-    R: AllocGlobal + ErrorOutput + Files<File = File> + Net + Threads + Wait + Sync + time::Clock,
-    S: AsStr,
-    O: Write,
-    E: Write,
->(rt: &R, words: &[S], record: Option<Record<'_>>, writer: &mut O, errors: &mut E) -> Status
-    ensures done { result ≡ Status.Done
-        → (c : Configuration) × PrintsReport c (O.contents writer.old) (O.contents writer.new) }
-    ensures failed { result ≡ Status.Socket
-        → Keeps (O.contents writer.old) (O.contents writer.new) }
-{
-    let noted = Noted {
-        record,
-        log_time: true,
-    };
-    let refusal = b"only serve has lines of counts\n";
-    run_noted(rt, words, noted, refusal, writer, errors)
-}
-
-/// What is written down of a unit beside what it prints.
-#[derive(Clone, Copy)]
-struct Noted<'a> {
-    record: Option<Record<'a>>,
-    log_time: bool,
-}
-
-/// Runs the unit that the words ask for, with this written down of it. Says this refusal of words that ask for another command.
-fn run_noted<
-    R: AllocGlobal + ErrorOutput + Files<File = File> + Net + Threads + Wait + Sync + time::Clock,
-    S: AsStr,
-    O: Write,
-    E: Write,
->(rt: &R, words: &[S], noted: Noted<'_>, refusal: &[u8], writer: &mut O, errors: &mut E) -> Status
-    ensures done { result ≡ Status.Done
-        → (c : Configuration) × PrintsReport c (O.contents writer.old) (O.contents writer.new) }
-    ensures failed { result ≡ Status.Socket
-        → Keeps (O.contents writer.old) (O.contents writer.new) }
-{
-    let Noted { record, log_time } = noted;
-    match read_words(rt.alloc(), words) {
+    match read_words(rt.alloc(), noted.words.as_slice()) {
         Ok(
             Action::Serve {
                 file,
@@ -230,8 +188,8 @@ fn run_noted<
         ) => {
             let paths = Paths {
                 control,
-                record,
-                log_time,
+                record: noted.record_at,
+                log_time: noted.log_time,
             };
             run_serve(rt, file, Term { ticks, status }, paths, writer, errors)
         }
@@ -240,16 +198,27 @@ fn run_noted<
             | Action::Check { .. }
             | Action::Replay { .. }
             | Action::Draw { .. },
-        ) => refuse_other(errors, refusal),
+        ) => refuse_other(errors, noted.log_time),
         Err(error) => refuse_words(rt.alloc(), errors, &error),
     }
 }
 
-/// Says of words that ask for another command that nothing is done.
-fn refuse_other<E: Write>(errors: &mut E, refusal: &[u8]) -> Status
-    ensures { (result ≢ Status.Done) × (result ≢ Status.Socket) }
+/// Says of words that ask for another command that nothing is done: that it has no lines of counts, if these were to begin with the time, or
+/// else that it isn't recorded.
+fn refuse_other<E: Write>(errors: &mut E, log_time: bool) -> Status
+    ensures failed { (result ≢ Status.Done) × (result ≢ Status.Socket) × (result ≢ Status.Settings)
+        × (result ≢ Status.Refused) }
+    ensures said { SaysWhy (E.contents errors.old) (E.contents errors.new) result }
 {
-    say(errors, refusal, Status::CommandLine)
+    if log_time {
+        say(
+            errors,
+            b"only serve has lines of counts\n",
+            Status::CommandLine,
+        )
+    } else {
+        say(errors, b"only serve is recorded\n", Status::CommandLine)
+    }
 }
 
 /// `sfu serve`: serves the endpoints that the settings of the file name.

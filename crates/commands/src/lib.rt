@@ -1,8 +1,8 @@
 //! The commands of `sfu`: the words that ask for them, and what each does with which file.
 //!
-//! Read `command` first, `run_command`, `run_recorded` and `run_timed`, which the program calls, `ask` and `ask_record`, which are `sfu ask`, and
+//! Read `command` first, `run_command` and `run_noted`, which the program calls, `ask` and `ask_record`, which are `sfu ask`, and
 //! `description`, `sfu sdp`; `explaining` says to people what was wrong. The words are `command_line`; the commands that need no socket are
-//! `offline`, `sfu serve` is `serving`, and how a command ends is `endings`. What callers need of these is handed on.
+//! `offline`, `sfu replay` is `scripts`, `sfu serve` is `serving`, and how a command ends is `endings`. What callers need of these is handed on.
 #![tactic(auto)]
 
 mod ask;
@@ -12,14 +12,15 @@ mod description;
 mod explaining;
 
 pub use ask::run_ask;
-pub use command::{run_command, run_recorded, run_timed};
+pub use command::{run_command, run_noted};
 pub use command_line::{Noted, Record, noted_in};
 pub use description::run_sdp;
 pub use endings::{Failure, Status, report, report_settings, report_words};
 pub use explaining::explain;
 pub use offline::{Cleared, run_version};
 pub use request_text::{LineFault, Meter};
-pub use scripts::{Shown, replay_lines};
+pub use script_text::Shown;
+pub use scripts::replay_lines;
 pub use serving::{
     AddressKey, Addresses, Client, ClientFault, ErrorOutput, Gauges, Listening, Location, Rules,
     ServeFault, ServedSettings, Sockets, read_clients, read_served, run_on, serve_socket,

@@ -1,7 +1,6 @@
-//! The commands of `sfu` that need no socket and no unit that runs.
+//! The commands of `sfu` that need no machine, no socket and no unit that runs.
 //!
-//! Read `replaying` first, `sfu replay`; `bounds` is `sfu bound`, `drawn` `sfu draw`, `checked` `sfu check`, and `version` says which program this
-//! is. `explaining` says to people what was wrong with settings, and `cleared` is a stream that gives way to what a meter says.
+//! Read `bounds` first, `sfu bound`; `drawn` is `sfu draw`, `checked` `sfu check`, and `version` says which program this is. `explaining` says to people what was wrong with settings, and `cleared` is a stream that gives way to what a meter says.
 #![tactic(auto)]
 
 mod bounds;
@@ -9,7 +8,6 @@ mod checked;
 mod cleared;
 mod drawn;
 mod explaining;
-mod replaying;
 mod version;
 
 pub use bounds::run_bound;
@@ -17,5 +15,4 @@ pub use checked::run_check;
 pub use cleared::Cleared;
 pub use drawn::run_draw;
 pub use explaining::{bytes_in, replay_advice, settings_line};
-pub use replaying::{run_replay, unreadable_settings};
 pub use version::run_version;

@@ -1,3 +1,2 @@
-pub mod ScriptLemmas
+pub mod ByFileLemmas
 pub mod ReplayLemmas
-pub mod ShownLemmas

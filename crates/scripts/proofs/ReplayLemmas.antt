@@ -1,10 +1,9 @@
 -- Lines, steps and what they print, one behind the other.
-use Rattle.std.proofs.Common.{◌≡◌, ◌∙◌, ℕ, ◌+◌, ◌<◌, ◌≤◌, zero, suc, Bool, true, false, List, [], ◌∷◌, ◌++◌, map, Bor, length, take, drop, get_or, Option, None, Some, Result, Ok, Err, refl, sym, ap, subst, inl, inr, arith, append_assoc}
+use Rattle.std.proofs.Common.{◌≡◌, ◌∙◌, ℕ, ◌+◌, ◌<◌, ◌≤◌, zero, suc, Bool, true, false, List, [], ◌∷◌, ◌++◌, map, Bor, length, drop, get_or, Option, None, Some, Result, Ok, Err, refl, sym, ap, subst, inl, inr, arith, append_assoc}
 use Rattle.std.specs.Prelude.{IfSome, OnOk}
 use Rattle.std.specs.Io.KnownBytes.{Appends}
-use Rattle.std.proofs.KnownBytes.{Appends-nil, Appends-trans, Appends-kept}
-use Rattle.std.proofs.lemmas.Grind.{flat_map-append}
-use Rattle.std.proofs.lemmas.List.{append-nil, drop_all, length-map, take_more}
+use Rattle.std.proofs.KnownBytes.{Appends-kept}
+use Rattle.std.proofs.lemmas.List.{append-nil, drop_all, length-map}
 use Rattle.settings.specs.Settings.{Configuration}
 use Rattle.events.specs.declared.event.Event.{Event}
 use Rattle.events.specs.declared.event.Event.TheVariants.{Ingress, Work}
@@ -18,14 +17,15 @@ use Rattle.core_steps.proofs.SettleLemmas.{step_of}
 use Rattle.core_steps.proofs.AsideLemmas.{ingress_same, work_aside}
 use Rattle.endings.specs.declared.status.Failure.{Failure}
 use Rattle.endings.specs.declared.status.Failure.TheVariants.{NoMemory, Refused as RefusedLine, Io}
-use Rattle.scripts.specs.declared.script.Reading.TheVariants.{Unreadable}
+use Rattle.script_text.specs.declared.script.Reading.TheVariants.{Unreadable}
 use Rattle.request_text.specs.Lines.{lines_of}
-use Rattle.scripts.specs.Replay.{Drains, FailsLine, FailsReplay, Follows, GivesOut, IngressDrains, IsOutside, LinePlays, LinesPlay, PrintsGiven, PrintsLine, PrintsReplay, Rounds, Settles, StopsReplay, WorkerDrains, WorkersDrain, again, cause_behind, numbers_of, over, quiet, round}
-use Rattle.scripts.specs.Shown.{Cause, Given, Told, cause_of, given_at, no_cause, shown_text}
+use Rattle.scripts.specs.Replay.{Drains, FailsLine, FailsReplay, Follows, GivesOut, IngressDrains, IsOutside, LinePlays, LinesPlay, PrintsLine, PrintsReplay, Rounds, Settles, StopsReplay, WorkerDrains, WorkersDrain, again, cause_behind, numbers_of, over, quiet, round}
+use Rattle.script_text.specs.Shown.{Cause, Given, Told, cause_of, given_at, no_cause, shown_text}
 use Rattle.scripts.specs.declared.replay.Progress.{Progress}
-use Rattle.scripts.specs.declared.shown.Shown.{Shown}
-use Rattle.scripts.proofs.ShownLemmas.{more_printed, none_printed}
-use Rattle.scripts.specs.Script.{reading_of}
+use Rattle.script_text.specs.declared.shown.Shown.{Shown}
+use Rattle.script_text.specs.Printing.{PrintsGiven}
+use Rattle.script_text.proofs.ShownLemmas.{more_printed, none_printed}
+use Rattle.script_text.specs.Script.{reading_of}
 use Rattle.request_text.proofs.LineLemmas.{at_line}
 
 -- ---- what is given out

@@ -1,4 +1,2 @@
-pub mod OutText
+pub mod ByFile
 pub mod Replay
-pub mod Script
-pub mod Shown

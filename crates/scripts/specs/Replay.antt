@@ -1,5 +1,5 @@
 -- What a script of `sfu replay` prints: its lines are played from a new world, one after the other.
-use Rattle.std.specs.Prelude.{◌≡◌, ◌⊎◌, ℕ, ◌+◌, ◌<◌, zero, suc, Bool, true, false, List, [], ◌∷◌, ◌++◌, length, map, slice_get, Option, None, Some, IfSome, Ok, string_bytes}
+use Rattle.std.specs.Prelude.{◌≡◌, ◌⊎◌, ℕ, ◌+◌, zero, suc, Bool, true, false, List, [], ◌∷◌, ◌++◌, length, map, slice_get, Option, None, Some, IfSome, string_bytes}
 use Rattle.std.specs.Io.KnownBytes.{Appends, Keeps}
 use Rattle.tmmbr_tuple.specs.declared.ssrc.Ssrc.{Ssrc}
 use Rattle.settings.specs.Settings.{Configuration}
@@ -19,31 +19,23 @@ use Rattle.request_text.specs.declared.fault.LineFault.TheVariants.{Text}
 use Rattle.scripts.specs.declared.replay.Gives.{Gives}
 use Rattle.scripts.specs.declared.replay.Gives.TheVariants.{Outs, Set}
 use Rattle.scripts.specs.declared.replay.Progress.{Progress}
-use Rattle.scripts.specs.declared.script.Command.{Command}
-use Rattle.scripts.specs.declared.script.Command.TheVariants.{Do, Settle, Follow, Show}
-use Rattle.scripts.specs.declared.script.Numbers.{Numbers}
-use Rattle.scripts.specs.declared.script.Reading.{Reading}
-use Rattle.scripts.specs.declared.script.Reading.TheVariants.{Skipped, Command as ACommand, Unreadable}
-use Rattle.settings_text.specs.declared.settings_file.FileSettings.{FileSettings}
+use Rattle.script_text.specs.declared.script.Command.{Command}
+use Rattle.script_text.specs.declared.script.Command.TheVariants.{Do, Settle, Follow, Show}
+use Rattle.script_text.specs.declared.script.Numbers.{Numbers}
+use Rattle.script_text.specs.declared.script.Reading.{Reading}
+use Rattle.script_text.specs.declared.script.Reading.TheVariants.{Skipped, Command as ACommand, Unreadable}
 use Rattle.request_text.specs.BoundText.{refused_text, announced_line}
 use Rattle.request_text.specs.Lines.{lines_of}
-use Rattle.scripts.specs.Script.{reading_of}
-use Rattle.scripts.specs.Shown.{Cause, Given, Told, a_set, an_out, cause_after, cause_of, given_at, lines_behind, no_cause, said_behind, shown_of, shown_text}
-use Rattle.scripts.specs.declared.shown.Shown.{Shown}
-use Rattle.settings_text.specs.SettingsFaults.{TextGives}
+use Rattle.script_text.specs.Script.{reading_of}
+use Rattle.script_text.specs.Printing.{PrintsGiven}
+use Rattle.script_text.specs.Shown.{Cause, Given, Told, a_set, an_out, cause_after, cause_of, given_at, no_cause, shown_text}
+use Rattle.script_text.specs.declared.shown.Shown.{Shown}
 
--- ---- what is given out and printed
+-- ---- what is given out
 
 -- these were given out, behind those that were given out before
 abbrev pub GivesOut : (List Out → Type 0) → List Out → List Out → Type 0
 GivesOut P old new = (outs : List Out) × P outs × (new ≡ old ++ outs)
-
--- What is shown of this is printed; what stands before it follows from the event of one number, and it ends with what follows from
--- that of another.
-pub record PrintsGiven (c : Configuration) (s : Shown) (said : ℕ) (given : List Given) (behind : ℕ)
-    (old new : Option (List ℕ)) : Type 0 where
-  pub printed : Appends old new (lines_behind s said (shown_of c s given))
-  pub ends : behind ≡ said_behind said (shown_of c s given)
 
 -- ---- what a command does
 
@@ -107,13 +99,6 @@ pub record IsShown (c : Configuration) (w : WorldState) (p : ℕ) (text : List �
   pub source : Ssrc
   pub has : slice_get c.endpoints p ≡ Some source
   pub is : text ≡ announced_line source.0 (announced_of desk.bounds)
-
--- a publisher that a command shows is an endpoint
-abbrev pub IsAmong : Numbers → Command → Type 0
-IsAmong n (Do event) = Unit {0}
-IsAmong n Settle = Unit {0}
-IsAmong n Follow = Unit {0}
-IsAmong n (Show p) = p < n.endpoints
 
 -- a command leads to this world, and this is told
 abbrev pub CommandPlays : Configuration → WorldState → Command → WorldState → List Told → Type 0
@@ -219,17 +204,3 @@ pub record RefusesReplay (c : Configuration) (s : Shown) (script : List ℕ)
   pub line : ℕ
   pub stops : StopsReplay c s script line old new
   pub shown : Appends errors_old errors_new (refused_text (record { line = line; fault = Text }))
-
--- The script was played by the settings of a file.
-pub record PrintsByFile (s : Shown) (script : List ℕ) (old new : Option (List ℕ)) : Type 0 where
-  pub file : List ℕ
-  pub settings : FileSettings
-  pub gives : TextGives file (Ok settings)
-  pub prints : PrintsReplay settings.settings s script old new
-
-pub record RefusesByFile (s : Shown) (script : List ℕ)
-    (old new errors_old errors_new : Option (List ℕ)) : Type 0 where
-  pub file : List ℕ
-  pub settings : FileSettings
-  pub gives : TextGives file (Ok settings)
-  pub refuses : RefusesReplay settings.settings s script old new errors_old errors_new

@@ -1,15 +1,11 @@
 //! Scripts of events, played through the unit's machine (`sfu replay`).
 //!
-//! Read `replay` first, how a script is played, line by line; `script` is what a line asks for, `out_text` the line for each thing
-//! that comes out.
+//! Read `replay` first, how a script is played, line by line; `by_file` takes the settings from a file. What a line asks for, and the
+//! line for each thing that comes out, are `script_text`.
 #![tactic(auto)]
 
-mod latest;
-mod out_text;
-mod printing;
+mod by_file;
 mod replay;
-mod script;
-mod shown;
 
+pub use by_file::{run_replay, unreadable_settings};
 pub use replay::replay_lines;
-pub use shown::{Shown, Unknown};

@@ -4,17 +4,18 @@ ghost use Rattle.std.specs.Prelude.{◌≡◌, ◌≢◌, ◌∷◌, ◌<◌, []
 ghost use Rattle.core_steps.specs.Run.{HasRun};
 ghost use Rattle.core_steps.specs.Settling.{ingress_left};
 ghost use Rattle.endings.specs.Endings.{SaysWhy};
-ghost use Rattle.scripts.specs.Replay.{CommandPlays, FailsLine, FailsReplay, Follows, GivesOut, IngressDrains, IsAmong, IsOutside, IsShown, PrintsGiven, PrintsLine, PrintsReplay, RefusesReplay, Rounds, Settles, WorkerDrains, WorkersDrain, numbers_of, told_in};
-ghost use Rattle.scripts.specs.Shown.{cause_of, given_at};
+ghost use Rattle.script_text.specs.Printing.{PrintsGiven};
+ghost use Rattle.script_text.specs.Script.{IsAmong};
+ghost use Rattle.script_text.specs.Shown.{cause_of, given_at};
+ghost use Rattle.scripts.specs.Replay.{CommandPlays, FailsLine, FailsReplay, Follows, GivesOut, IngressDrains, IsOutside, IsShown, PrintsLine, PrintsReplay, RefusesReplay, Rounds, Settles, WorkerDrains, WorkersDrain, numbers_of, told_in};
 
-use crate::latest::Latest;
-use crate::printing::{Choice, print_outs, print_set};
-use crate::script::{Command, Numbers, Reading, read_line};
-use crate::shown::Shown;
 use core_steps::{World, run};
 use endings::{Failure, Status, report};
 use events::{Event, Out};
 use request_text::{LineFault, Meter, announced_line, line_count, lines};
+use script_text::{
+    Choice, Command, Latest, Numbers, Reading, Shown, print_outs, print_set, read_line,
+};
 use settings::Settings;
 use std::alloc::{AllocError, Global};
 use std::io::{Read, Write};
@@ -163,10 +164,11 @@ fn print_all<O: Write>(
         (O.contents writer.new)) }
     ensures outside { IfErr result IsOutside }
 {
-    match gives {
-        Gives::Outs(outs) => print_outs(alloc, choice, latest, said, outs.as_slice(), writer),
-        Gives::Set(text) => print_set(choice, latest, said, text.as_str(), writer),
-    }
+    let behind = match gives {
+        Gives::Outs(outs) => print_outs(alloc, choice, latest, said, outs.as_slice(), writer)?,
+        Gives::Set(text) => print_set(choice, latest, said, text.as_str(), writer)?,
+    };
+    Ok(behind)
 }
 
 /// How many endpoints and workers the settings have.

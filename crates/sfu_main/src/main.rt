@@ -2,8 +2,8 @@
 #![tactic(auto)]
 
 use commands::{
-    Cleared, ErrorOutput, Meter, Noted, Status, explain, noted_in, report_words, run_ask,
-    run_command, run_recorded, run_sdp, run_timed, run_version,
+    Cleared, ErrorOutput, Meter, Status, explain, noted_in, report_words, run_ask, run_command,
+    run_noted, run_sdp, run_version,
 };
 use std::fs::File;
 use std::io::{Read, Write};
@@ -69,19 +69,6 @@ fn run_words<
         Ok(Some(noted)) => run_noted(rt, &noted, writer, errors),
         Ok(None) => run_command(rt, words, meter, reader, writer, errors),
         Err(error) => report_words(errors, &io::Error::from(error)),
-    }
-}
-
-/// Runs the unit that the words ask for, and writes down of it what they say.
-fn run_noted<
-    R: AllocGlobal + ErrorOutput + Files<File = File> + Net + Threads + Wait + Sync + Clock,
-    O: Write,
-    E: Write,
->(rt: &R, noted: &Noted<'_>, writer: &mut O, errors: &mut E) -> Status {
-    let words = noted.words.as_slice();
-    match (noted.record_at, noted.log_time) {
-        (Some(record), false) => run_recorded(rt, words, record, writer, errors),
-        (record, _) => run_timed(rt, words, record, writer, errors),
     }
 }
 

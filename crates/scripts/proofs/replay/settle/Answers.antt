@@ -1,5 +1,5 @@
 use Rattle.std.proofs.Common.{ap}
-use Rattle.scripts.specs.declared.script.Numbers.{Numbers}
+use Rattle.script_text.specs.declared.script.Numbers.{Numbers}
 use Rattle.scripts.proofs.ReplayLemmas.{settled}
 use Rattle.scripts.proofs.replay.settle.Goals as goal
 

@@ -1,0 +1,4 @@
+pub mod OutText
+pub mod Printing
+pub mod Script
+pub mod Shown
