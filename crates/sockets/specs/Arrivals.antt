@@ -15,10 +15,11 @@ use Rattle.senders.specs.declared.seat.Kind.TheVariants.{Rtp, Rtcp}
 use Rattle.senders.specs.declared.seat.Seat.{Seat}
 use Rattle.senders.specs.declared.senders.Origin.{Origin}
 use Rattle.senders.specs.Learners.{LearnersState, after_word, claim_of, learner_at, with_seat}
-use Rattle.senders.specs.Listeners.{ListenersState, listeners_after, new_listeners, report_due}
+use Rattle.senders.specs.Listeners.{ListenersState, after_hearing, listeners_after, new_listeners, report_due}
 use Rattle.senders.specs.Naming.{is_control, source_named}
 use Rattle.senders.specs.Reports.{SaysGoodbye}
 use Rattle.senders.specs.Senders.{front_length, sender_of}
+use Rattle.sockets.specs.declared.arrivals.Arrivals.{Arrivals}
 use Rattle.sockets.specs.declared.arrivals.Rest.{Rest}
 use Rattle.settings.specs.Settings.{Configuration}
 use Rattle.addressing.specs.declared.clients.Client.{Client}
@@ -44,6 +45,37 @@ first_listeners settings clients =
 abbrev pub first_floods : Configuration → ℕ → ℕ × List Tally
 first_floods settings limit =
     (limit, replicate (length settings.endpoints) (record { moment = 0; count = 0 }))
+
+-- ---- what is known, and what never changes
+
+-- who is known by an address, whose address is learned, and who only listens
+pub record Known : Type 0 where
+  pub senders : List (Origin × ℕ)
+  pub learners : LearnersState
+  pub listeners : ListenersState
+
+-- How sources, addresses and hosts are compared; the source and the client of each endpoint, by its number, and where the unit listens.
+pub record Setup : Type 0 where
+  pub same_source : ℕ → ℕ → Bool
+  pub same : SocketAddr → SocketAddr → Bool
+  pub same_host : IpAddr → IpAddr → Bool
+  pub sources : List Ssrc
+  pub clients : List Client
+  pub listening : Listening
+
+abbrev pub known_by : Arrivals → Known
+known_by a = record { senders = a.senders; learners = a.learners; listeners = a.listeners }
+
+abbrev pub setup_of : (ℕ → ℕ → Bool) → (SocketAddr → SocketAddr → Bool)
+    → (IpAddr → IpAddr → Bool) → Arrivals → Setup
+setup_of same_source same same_host a = record {
+  same_source = same_source;
+  same = same;
+  same_host = same_host;
+  sources = a.sources.now;
+  clients = a.clients.now;
+  listening = a.listening;
+}
 
 -- ---- what waits to be heard
 
@@ -76,22 +108,23 @@ pub record HasNothingOfRest (same : Origin → Origin → Bool)
       → rest_of later ≡ drop (front_length same_address senders from (rest_of rest)) (rest_of rest)
 
 -- At some moment the report of this endpoint is the next that is due: it says no more than that the endpoint is there, and stands at
--- the beginning of these bytes. Then the endpoint had its turn.
-pub record IsReportMade (sources : List Ssrc) (listeners later : ListenersState) (heard : ℕ × ℕ)
+-- the beginning of these bytes. Then the endpoint had its turn; nothing else changes.
+pub record IsReportMade (sources : List Ssrc) (known later : Known) (heard : ℕ × ℕ)
     (out : List ℕ) : Type 0 where
   pub moment : ℕ
-  pub due : report_due listeners moment ≡ Some heard.0
-  pub after : later ≡ listeners_after listeners moment
+  pub due : report_due known.listeners moment ≡ Some heard.0
   pub source : Ssrc
   pub names : slice_get sources heard.0 ≡ Some source
   pub bytes : take heard.1 out ≡ packet_bytes (rr_packet source.0 [])
+  pub turn : later ≡ record known { listeners = listeners_after known.listeners moment }
 
--- At some moment no report is due, or the one that is has no room in so many bytes.
-pub record HasNoReport (sources : List Ssrc) (listeners : ListenersState) (room : ℕ) : Type 0 where
+-- At some moment no report is due, or the one that is has no room in so many bytes. Then it had its turn, too.
+pub record HasNoReport (sources : List Ssrc) (known later : Known) (room : ℕ) : Type 0 where
   pub moment : ℕ
   pub none : (endpoint : ℕ) (source : Ssrc) → endpoint < 65536
-      → report_due listeners moment ≡ Some endpoint → slice_get sources endpoint ≡ Some source
-      → room < 8
+      → report_due known.listeners moment ≡ Some endpoint
+      → slice_get sources endpoint ≡ Some source → room < 8
+  pub turn : later ≡ record known { listeners = listeners_after known.listeners moment }
 
 -- ---- what is heard of a datagram that came
 
@@ -115,11 +148,6 @@ pub record Admits (floods later : ℕ × List Tally) (endpoint : ℕ) (is_heard 
 
 -- ---- what is learned of a datagram that came
 
--- who is known by an address, and whose address is learned
-pub record Known : Type 0 where
-  pub senders : List (Origin × ℕ)
-  pub learners : LearnersState
-
 -- RTCP is of a kind of its own where it has an address of its own (RFC 3550, section 11)
 abbrev pub kind_heard : Option SocketAddr → List ℕ → Kind
 kind_heard None datagram = Rtp
@@ -139,70 +167,61 @@ is_same_place same seat other = option_eq same seat.rtp other.rtp && option_eq s
 
 -- An address is learned: at some moment the endpoint whose source the datagram names may take this seat, and has it from then on. Either
 -- it has the addresses that it had, or the unit can send to this one, and who is known by an address is who is by the seats from then on.
-pub record Learns (same_source : ℕ → ℕ → Bool) (same : SocketAddr → SocketAddr → Bool)
-    (same_host : IpAddr → IpAddr → Bool) (sources : List Ssrc) (clients : List Client)
-    (listening : Listening) (from : SocketAddr) (datagram : List ℕ) (known later : Known) : Type 0 where
+pub record Learns (unit : Setup) (from : SocketAddr) (datagram : List ℕ) (known later : Known)
+    : Type 0 where
   pub moment : ℕ
   pub endpoint : ℕ
   pub seat : Seat
-  pub claims : claim_of same_source same same_host known.learners
-      (arrived_by listening.rtcp from datagram moment) ≡ Some (endpoint, seat)
+  pub claims : claim_of unit.same_source unit.same unit.same_host known.learners
+      (arrived_by unit.listening.rtcp from datagram moment) ≡ Some (endpoint, seat)
   pub learner : Learner
   pub before : learner_at known.learners endpoint ≡ Some learner
   pub sits : later.learners ≡ with_seat known.learners endpoint seat
-  pub senders : (IsTrue (is_same_place same learner.seat seat) × (later.senders ≡ known.senders))
-      ⊎ (IsReachable same listening from
-      × (later.senders ≡ senders_of sources clients later.learners))
+  pub senders : (IsTrue (is_same_place unit.same learner.seat seat) × (later.senders ≡ known.senders))
+      ⊎ (IsReachable unit.same unit.listening from
+      × (later.senders ≡ senders_of unit.sources unit.clients later.learners))
+  pub listeners : later.listeners ≡ known.listeners
 
 -- Nothing is learned: at some moment no endpoint may take a seat by it that has the addresses which it had.
-pub record LearnsNothing (same_source : ℕ → ℕ → Bool) (same : SocketAddr → SocketAddr → Bool)
-    (same_host : IpAddr → IpAddr → Bool) (listening : Listening) (from : SocketAddr)
-    (datagram : List ℕ) (known later : Known) : Type 0 where
+pub record LearnsNothing (unit : Setup) (from : SocketAddr) (datagram : List ℕ) (known later : Known)
+    : Type 0 where
   pub moment : ℕ
   pub moves : (endpoint : ℕ) (seat : Seat) (learner : Learner)
-      → claim_of same_source same same_host known.learners
-      (arrived_by listening.rtcp from datagram moment) ≡ Some (endpoint, seat)
+      → claim_of unit.same_source unit.same unit.same_host known.learners
+      (arrived_by unit.listening.rtcp from datagram moment) ≡ Some (endpoint, seat)
       → learner_at known.learners endpoint ≡ Some learner
-      → is_same_place same learner.seat seat ≡ false
-  pub senders : later.senders ≡ known.senders
-  pub learners : later.learners ≡ known.learners
+      → is_same_place unit.same learner.seat seat ≡ false
+  pub all : later ≡ known
 
 -- it is learned, or nothing is
-abbrev pub MayLearn : (ℕ → ℕ → Bool) → (SocketAddr → SocketAddr → Bool)
-    → (IpAddr → IpAddr → Bool) → List Ssrc → List Client → Listening → SocketAddr → List ℕ
-    → Known → Known → Type 0
-MayLearn same_source same same_host sources clients listening from datagram known later =
-    LearnsNothing same_source same same_host listening from datagram known later
-    ⊎ Learns same_source same same_host sources clients listening from datagram known later
+abbrev pub MayLearn : Setup → SocketAddr → List ℕ → Known → Known → Type 0
+MayLearn unit from datagram known later =
+    LearnsNothing unit from datagram known later ⊎ Learns unit from datagram known later
 
--- The seat of an endpoint is kept from some moment on, since it was heard, or is free if these bytes say goodbye for its source.
-pub record KeepsSeat (sources : List Ssrc) (endpoint : ℕ) (bytes : List ℕ)
-    (learners later : LearnersState) : Type 0 where
+-- ---- who was heard
+
+-- An endpoint was heard by these bytes at some moment, which say goodbye for its source or don't. If its address is learned, its seat is
+-- kept from then on, or is free; if it only listens, it is present, or has left (RFC 3550, section 6.6). Nothing else changes.
+pub record IsNoted (sources : List Ssrc) (endpoint : ℕ) (bytes : List ℕ) (known later : Known)
+    : Type 0 where
   pub moment : ℕ
   pub is_goodbye : Bool
   pub says : (source : Ssrc) → slice_get sources endpoint ≡ Some source
       → IsTrue is_goodbye ↔ IsTrue (is_control bytes) × SaysGoodbye bytes source.0
-  pub after : later ≡ after_word learners endpoint moment is_goodbye
+  pub after : later ≡ record {
+    senders = known.senders;
+    learners = after_word known.learners endpoint moment is_goodbye;
+    listeners = after_hearing known.listeners endpoint is_goodbye;
+  }
 
--- So is that of an endpoint which was heard by these bytes, if its address is learned; nothing else changes.
-pub record IsKept (sources : List Ssrc) (endpoint : ℕ) (bytes : List ℕ)
-    (learners later : LearnersState) : Type 0 where
-  pub none : learner_at learners endpoint ≡ None → later ≡ learners
-  pub some : (learner : Learner) → learner_at learners endpoint ≡ Some learner
-      → KeepsSeat sources endpoint bytes learners later
+abbrev pub IsNotedIfHeard : List Ssrc → List ℕ → Known → Known → Option (ℕ × ℕ) → Type 0
+IsNotedIfHeard sources bytes known later None = later ≡ known
+IsNotedIfHeard sources bytes known later (Some heard) =
+    IsNoted sources heard.0 (take heard.1 bytes) known later
 
-abbrev pub IsKeptIfHeard : List Ssrc → List ℕ → LearnersState → LearnersState → Option (ℕ × ℕ)
-    → Type 0
-IsKeptIfHeard sources datagram learners later None = later ≡ learners
-IsKeptIfHeard sources datagram learners later (Some heard) =
-    IsKept sources heard.0 (take heard.1 datagram) learners later
-
--- Once a datagram was looked at: what was learned of it, and then, if so much of it was heard as of this endpoint, that its seat is kept.
-pub record KnowsAfter (same_source : ℕ → ℕ → Bool) (same : SocketAddr → SocketAddr → Bool)
-    (same_host : IpAddr → IpAddr → Bool) (sources : List Ssrc) (clients : List Client)
-    (listening : Listening) (from : SocketAddr) (datagram : List ℕ) (heard : Option (ℕ × ℕ))
-    (known later : Known) : Type 0 where
-  pub learners : LearnersState
-  pub learned : MayLearn same_source same same_host sources clients listening from datagram known
-      (record { senders = later.senders; learners = learners })
-  pub kept : IsKeptIfHeard sources datagram learners later.learners heard
+-- Once a datagram was looked at: what was learned of it, and then, if so much of it was heard as of this endpoint, that it was.
+pub record KnowsAfter (unit : Setup) (from : SocketAddr) (datagram : List ℕ)
+    (heard : Option (ℕ × ℕ)) (known later : Known) : Type 0 where
+  pub between : Known
+  pub learned : MayLearn unit from datagram known between
+  pub noted : IsNotedIfHeard unit.sources datagram between later heard

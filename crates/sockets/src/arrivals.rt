@@ -1,12 +1,12 @@
 //! What came to the unit's sockets: who sent it, and what of it is heard by itself.
 
-ghost use Rattle.std.specs.Prelude.{◌≡◌, ◌↔◌, ◌<◌, ◌≤◌, ◌⊎◌, ℕ, [], None, Some, true, false, length, drop, take, vec_capacity, IfNone, IfOk, IfSome, IsSome, IsSomeAnd, IsTrue};
+ghost use Rattle.std.specs.Prelude.{◌≡◌, ◌↔◌, ◌<◌, ◌≤◌, ◌⊎◌, ℕ, [], None, Some, true, false, length, drop, take, vec_capacity, IfNone, IfOk, IfSome, IsSome, IsTrue};
 ghost use Rattle.addressing.specs.Known.{senders_of};
 ghost use Rattle.senders.specs.Learners.{with_seat};
 ghost use Rattle.senders.specs.Naming.{is_control, source_named};
 ghost use Rattle.senders.specs.Reports.{SaysGoodbye};
 ghost use Rattle.senders.specs.Senders.{sender_of};
-ghost use Rattle.sockets.specs.Arrivals.{Admits, HasNoReport, HasNothingOfRest, IsHeardOf, IsHeardOfRest, IsKept, IsKeptIfHeard, IsReportMade, KnowsAfter, MayLearn, first_floods, first_learners, first_listeners, first_senders, is_same_place, kind_heard, rest_of};
+ghost use Rattle.sockets.specs.Arrivals.{Admits, HasNoReport, HasNothingOfRest, IsHeardOf, IsHeardOfRest, IsNoted, IsNotedIfHeard, IsReportMade, KnowsAfter, MayLearn, first_floods, first_learners, first_listeners, first_senders, is_same_place, kind_heard, known_by, rest_of, setup_of};
 
 use addressing::{
     Client, Directory, Listening, is_reachable, learners_of, listeners_of, senders_of,
@@ -108,17 +108,18 @@ impl<'a> Arrivals<'a> {
             self.old.rest self.new.rest heard out.new
             ⊎ HasNothingOfRest ⟦<Origin as PartialEq>⟧.eq ⟦<SocketAddr as PartialEq>⟧.eq self.old.senders
             self.old.rest self.new.rest (length out.old)
-            × IsReportMade self.old.sources.now self.old.listeners self.new.listeners heard out.new) }
+            × IsReportMade self.old.sources.now (known_by self.old) (known_by self.new) heard out.new) }
         ensures passed { IfNone result (HasNothingOfRest ⟦<Origin as PartialEq>⟧.eq
             ⟦<SocketAddr as PartialEq>⟧.eq self.old.senders self.old.rest self.new.rest
             (length out.old)) }
-        ensures unreported { IfNone result
-            (HasNoReport self.old.sources.now self.old.listeners (length out.old)) }
-        ensures senders { self.new.senders ≡ self.old.senders }
-        ensures learners { IsKeptIfHeard self.old.sources.now out.new self.old.learners
-            self.new.learners result
-            ⊎ IsSomeAnd result (λ heard. IsReportMade self.old.sources.now self.old.listeners
-            self.new.listeners heard out.new × (self.new.learners ≡ self.old.learners)) }
+        ensures unreported { IfNone result (HasNoReport self.old.sources.now (known_by self.old)
+            (known_by self.new) (length out.old)) }
+        ensures noted { IfSome result (λ heard.
+            IsNoted self.old.sources.now heard.0 (take heard.1 out.new) (known_by self.old)
+            (known_by self.new)
+            ⊎ IsReportMade self.old.sources.now (known_by self.old) (known_by self.new) heard out.new) }
+        ensures stays { (self.new.sources ≡ self.old.sources) × (self.new.clients ≡ self.old.clients)
+            × (self.new.listening ≡ self.old.listening) }
         ensures room { vec_capacity self.old.rest.bytes ≤ vec_capacity self.new.rest.bytes }
     {
         match self.rest_heard(out) {
@@ -148,11 +149,11 @@ impl<'a> Arrivals<'a> {
             ≡ Some endpoint → Admits self.old.floods self.new.floods endpoint false) }
         ensures admitted { IfSome result
             (λ heard. Admits self.old.floods self.new.floods heard.0 true) }
-        ensures learned { KnowsAfter ⟦<u32 as PartialEq>⟧.eq ⟦<SocketAddr as PartialEq>⟧.eq
-            ⟦<IpAddr as PartialEq>⟧.eq self.old.sources.now self.old.clients.now self.old.listening from
-            (take size out.now) result
-            (record { senders = self.old.senders; learners = self.old.learners })
-            (record { senders = self.new.senders; learners = self.new.learners }) }
+        ensures learned { KnowsAfter (setup_of ⟦<u32 as PartialEq>⟧.eq ⟦<SocketAddr as PartialEq>⟧.eq
+            ⟦<IpAddr as PartialEq>⟧.eq self.old) from (take size out.now) result (known_by self.old)
+            (known_by self.new) }
+        ensures stays { (self.new.sources ≡ self.old.sources) × (self.new.clients ≡ self.old.clients)
+            × (self.new.listening ≡ self.old.listening) }
         ensures room { vec_capacity self.old.rest.bytes ≤ vec_capacity self.new.rest.bytes }
     {
         let datagram = &out[..size];
@@ -169,9 +170,9 @@ impl<'a> Arrivals<'a> {
 
     /// Whether a datagram of this endpoint, or of a stranger, is looked at; if not, it is counted.
     fn admits(&mut self, endpoint: Option<u16>) -> bool
-        ensures senders { self.new.senders ≡ self.old.senders }
-        ensures learners { self.new.learners ≡ self.old.learners }
-        ensures sources { self.new.sources ≡ self.old.sources }
+        ensures known { known_by self.new ≡ known_by self.old }
+        ensures stays { (self.new.sources ≡ self.old.sources) × (self.new.clients ≡ self.old.clients)
+            × (self.new.listening ≡ self.old.listening) }
         ensures rest { self.new.rest ≡ self.old.rest }
         ensures counted { (number : ℕ) → endpoint ≡ Some number
             → Admits self.old.floods self.new.floods number result }
@@ -192,12 +193,11 @@ impl<'a> Arrivals<'a> {
     fn learn(&mut self, from: SocketAddr, datagram: &[u8])
         ensures rest { self.new.rest ≡ self.old.rest }
         ensures floods { self.new.floods ≡ self.old.floods }
-        ensures sources { self.new.sources ≡ self.old.sources }
-        ensures learned { MayLearn ⟦<u32 as PartialEq>⟧.eq ⟦<SocketAddr as PartialEq>⟧.eq
-            ⟦<IpAddr as PartialEq>⟧.eq self.old.sources.now self.old.clients.now self.old.listening from
-            datagram.now
-            (record { senders = self.old.senders; learners = self.old.learners })
-            (record { senders = self.new.senders; learners = self.new.learners }) }
+        ensures stays { (self.new.sources ≡ self.old.sources) × (self.new.clients ≡ self.old.clients)
+            × (self.new.listening ≡ self.old.listening) }
+        ensures learned { MayLearn (setup_of ⟦<u32 as PartialEq>⟧.eq ⟦<SocketAddr as PartialEq>⟧.eq
+            ⟦<IpAddr as PartialEq>⟧.eq self.old) from datagram.now (known_by self.old)
+            (known_by self.new) }
     {
         let arrived = Arrived {
             source: source_named(datagram),
@@ -223,7 +223,9 @@ impl<'a> Arrivals<'a> {
     fn move_to(&mut self, endpoint: u16, seat: Seat, before: Seat)
         ensures rest { self.new.rest ≡ self.old.rest }
         ensures floods { self.new.floods ≡ self.old.floods }
-        ensures sources { self.new.sources ≡ self.old.sources }
+        ensures listeners { self.new.listeners ≡ self.old.listeners }
+        ensures stays { (self.new.sources ≡ self.old.sources) × (self.new.clients ≡ self.old.clients)
+            × (self.new.listening ≡ self.old.listening) }
         ensures moved { (self.new.learners ≡ with_seat self.old.learners endpoint seat)
             × (self.new.senders
             ≡ senders_of self.old.sources.now self.old.clients.now self.new.learners)
@@ -257,9 +259,9 @@ impl<'a> Arrivals<'a> {
     /// Keeps what is behind so many bytes of a datagram, if anything is.
     fn keep(&mut self, from: SocketAddr, datagram: &[u8], heard: usize)
         requires { heard ≤ length datagram.now }
-        ensures senders { self.new.senders ≡ self.old.senders }
-        ensures learners { self.new.learners ≡ self.old.learners }
-        ensures sources { self.new.sources ≡ self.old.sources }
+        ensures known { known_by self.new ≡ known_by self.old }
+        ensures stays { (self.new.sources ≡ self.old.sources) × (self.new.clients ≡ self.old.clients)
+            × (self.new.listening ≡ self.old.listening) }
         ensures floods { self.new.floods ≡ self.old.floods }
         ensures whole { heard ≡ length datagram.now → self.new.rest ≡ self.old.rest }
         ensures still { heard < length datagram.now → self.new.rest.from ≡ Some from }
@@ -286,11 +288,10 @@ impl<'a> Arrivals<'a> {
         ensures none { IfNone result (HasNothingOfRest ⟦<Origin as PartialEq>⟧.eq
             ⟦<SocketAddr as PartialEq>⟧.eq self.old.senders self.old.rest self.new.rest
             (length out.old)) }
-        ensures sources { self.new.sources ≡ self.old.sources }
-        ensures senders { self.new.senders ≡ self.old.senders }
-        ensures learners { IsKeptIfHeard self.old.sources.now out.new self.old.learners
-            self.new.learners result }
-        ensures listeners { IfNone result (self.new.listeners ≡ self.old.listeners) }
+        ensures stays { (self.new.sources ≡ self.old.sources) × (self.new.clients ≡ self.old.clients)
+            × (self.new.listening ≡ self.old.listening) }
+        ensures noted { IsNotedIfHeard self.old.sources.now out.new (known_by self.old)
+            (known_by self.new) result }
         ensures room { vec_capacity self.new.rest.bytes ≡ vec_capacity self.old.rest.bytes }
     {
         let from = self.rest.from?;
@@ -314,12 +315,12 @@ impl<'a> Arrivals<'a> {
     /// The report that is due in the name of an endpoint that only listens.
     fn report_made(&mut self, out: &mut [u8]) -> Option<(u16, usize)>
         ensures within { IfSome result (λ heard. heard.1 ≤ length out.new) }
-        ensures made { IfSome result (λ heard. IsReportMade self.old.sources.now self.old.listeners
-            self.new.listeners heard out.new) }
-        ensures none { IfNone result
-            (HasNoReport self.old.sources.now self.old.listeners (length out.old)) }
-        ensures senders { self.new.senders ≡ self.old.senders }
-        ensures learners { self.new.learners ≡ self.old.learners }
+        ensures made { IfSome result (λ heard. IsReportMade self.old.sources.now (known_by self.old)
+            (known_by self.new) heard out.new) }
+        ensures none { IfNone result (HasNoReport self.old.sources.now (known_by self.old)
+            (known_by self.new) (length out.old)) }
+        ensures stays { (self.new.sources ≡ self.old.sources) × (self.new.clients ≡ self.old.clients)
+            × (self.new.listening ≡ self.old.listening) }
         ensures rest { self.new.rest ≡ self.old.rest }
     {
         let number = self.listeners.report_due(self.gauges.moment_ms.get())?;
@@ -340,23 +341,22 @@ impl<'a> Arrivals<'a> {
         endpoint
     }
 
-    /// Counts what came from the endpoint, and notes that it was heard if it only listens or its address is learned.
+    /// Counts what came from the endpoint, and notes that it was heard, for its seat if its address is learned, and for reports if it
+    /// only listens.
     fn note(&mut self, endpoint: u16, datagram: &[u8])
-        ensures senders { self.new.senders ≡ self.old.senders }
-        ensures sources { self.new.sources ≡ self.old.sources }
+        ensures stays { (self.new.sources ≡ self.old.sources) × (self.new.clients ≡ self.old.clients)
+            × (self.new.listening ≡ self.old.listening) }
         ensures floods { self.new.floods ≡ self.old.floods }
         ensures rest { self.new.rest ≡ self.old.rest }
-        ensures kept { IsKept self.old.sources.now endpoint datagram.now self.old.learners
-            self.new.learners }
+        ensures noted { IsNoted self.old.sources.now endpoint datagram.now (known_by self.old)
+            (known_by self.new) }
     {
         let moment = self.gauges.moment_ms.get();
         self.traffic.heard(endpoint, datagram, moment);
         let number = usize::from(endpoint);
-        if self.listeners.only_listens(number) || self.learners.learner(endpoint).is_some() {
-            let is_goodbye = leaves(datagram, self.sources.get(number).copied());
-            self.listeners.heard(number, is_goodbye);
-            self.learners.heard(endpoint, moment, is_goodbye);
-        }
+        let is_goodbye = leaves(datagram, self.sources.get(number).copied());
+        self.listeners.heard(number, is_goodbye);
+        self.learners.heard(endpoint, moment, is_goodbye);
     }
 }
 
