@@ -11,7 +11,7 @@ use Rattle.std.proofs.Math.ListN.{set}
 use Rattle.members.specs.Calls.{Call as RoomCall, room_after, room_of, step_of}
 use Rattle.members.specs.Room.{RoomState}
 use Rattle.desk.specs.State.{DeskState, HoldsLegalDesk}
-use Rattle.routes.specs.Rows.{row_changed}
+use Rattle.members.specs.Rows.{row_changed}
 use Rattle.events.specs.declared.event.Event.{Event}
 use Rattle.events.specs.declared.job.Job.{Job}
 use Rattle.core_steps.specs.Happening.{Happening, RecordedCall, Worked, world_after, worker_after, workers_by, no_worker, desks_by}

@@ -16,7 +16,7 @@ use Rattle.members.specs.Room.{RoomState, reception_at, after_block}
 use Rattle.members.specs.Stream.{IsBlockAnswer}
 use Rattle.desk.specs.declared.call.Call.{Call as DeskCall}
 use Rattle.desk.specs.State.{DeskState}
-use Rattle.routes.specs.Rows.{changes_by, row_changed}
+use Rattle.members.specs.Rows.{changes_by, row_changed}
 use Rattle.events.specs.declared.job.Job.{Job}
 use Rattle.events.specs.declared.output.Out.{Out}
 use Rattle.events.specs.declared.output.Out.TheVariants.{Send, Idle, Lost}

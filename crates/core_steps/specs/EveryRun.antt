@@ -4,7 +4,7 @@ use Rattle.std.specs.List.{flat_map, AllByRecursion}
 use Rattle.members.specs.Calls.{Call as RoomCall}
 use Rattle.settings.specs.Settings.{Configuration}
 use Rattle.desk.specs.State.{DeskState, HoldsLegalDesk}
-use Rattle.routes.specs.declared.change.Change.{Change}
+use Rattle.members.specs.declared.order.Change.{Change}
 use Rattle.events.specs.declared.event.Event.{Event}
 use Rattle.events.specs.declared.job.Job.{Job}
 use Rattle.legs.specs.declared.leg.LegState.{LegState}

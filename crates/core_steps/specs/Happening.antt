@@ -5,8 +5,8 @@ use Rattle.desk.specs.declared.call.Call.{Call as DeskCall}
 use Rattle.desk.specs.declared.call.Answer.{Answer}
 use Rattle.desk.specs.declared.effect.Effect.{Effect}
 use Rattle.desk.specs.State.{DeskState}
-use Rattle.routes.specs.declared.change.Change.{Change}
-use Rattle.routes.specs.Rows.{row_changed}
+use Rattle.members.specs.declared.order.Change.{Change}
+use Rattle.members.specs.Rows.{row_changed}
 use Rattle.events.specs.declared.job.Job.{Job}
 use Rattle.events.specs.declared.output.Out.{Out}
 use Rattle.legs.specs.declared.leg.LegState.{LegState}

@@ -4,7 +4,7 @@ use Rattle.settings.specs.Settings.{Configuration}
 use Rattle.members.specs.Room.{new_room}
 use Rattle.desk.specs.State.{DeskState, HoldsLegalDesk}
 use Rattle.desk.specs.Trace.{empty_base}
-use Rattle.routes.specs.Rows.{opening_rows}
+use Rattle.members.specs.Rows.{opening_rows}
 use Rattle.settings.specs.Links.{table_of}
 use Rattle.legs.specs.Legs.{new_legs}
 use Rattle.core_steps.specs.World.{Setup, WorkerState, WorldState, free}

@@ -18,7 +18,7 @@ use Rattle.desk.specs.declared.call.Answer.TheVariants.{Done, NotPresent, Alread
 use Rattle.desk.specs.State.{DeskState, HoldsLegalDesk, Records, IsOverLimit}
 use Rattle.desk.specs.Call.{is_done, is_answered_up}
 use Rattle.desk.specs.Effect.{IsEffect}
-use Rattle.routes.specs.Rows.{changes_by}
+use Rattle.members.specs.Rows.{changes_by}
 use Rattle.events.specs.declared.event.Event.{Event}
 use Rattle.events.specs.declared.event.Event.TheVariants.{Hear, Tick, Select, Ingress, Work}
 use Rattle.events.specs.declared.job.Job.{Job}

@@ -3,7 +3,7 @@
 ghost use Rattle.std.specs.Prelude.{◌≡◌, ◌++◌, ℕ, List, fold};
 ghost use Rattle.std.specs.List.{AllByRecursion};
 ghost use Rattle.members.specs.Calls.{room_after};
-ghost use Rattle.routes.specs.Rows.{row_changed};
+ghost use Rattle.members.specs.Rows.{row_changed};
 ghost use Rattle.events.specs.declared.event.Event.{Event};
 ghost use Rattle.core_steps.specs.EveryRun.{OfEveryHappening, OfEveryRun, OfEveryRunFromNew};
 ghost use Rattle.core_steps.specs.EveryRun.{tasks_done, tasks_made, jobs_taken, jobs_put, row_changes, room_calls};

@@ -1,7 +1,7 @@
 //! The unit as one machine.
 
 ghost use Rattle.std.specs.Prelude.{◌≡◌, ◌≢◌, ◌≤◌, ◌<◌, [], All, length, map, sum_by, IfOk, slice_get, Some, MatchOption};
-ghost use Rattle.routes.specs.Rows.{opening_rows};
+ghost use Rattle.members.specs.Rows.{opening_rows};
 ghost use Rattle.desk.specs.declared.effect.Effect.{Effect as EffectValue};
 ghost use Rattle.settings.specs.declared.settings.TheConstants.{MAX_WORKERS};
 ghost use Rattle.settings.specs.Links.{table_of};

@@ -108,9 +108,6 @@ fn origin(number: u16, ssrc: u32) -> Origin {
 #[test]
 fn keeps_listeners(rt: HostRuntime) -> Result<(), Fail> {
     let mut listeners = Listeners::new(rt.alloc(), &[false, true, true], 100)?;
-    assert!(rt; !listeners.only_listens(0));
-    assert!(rt; listeners.only_listens(1));
-    assert!(rt; !listeners.only_listens(3));
     let calls = [
         (5, Some(1)),
         (5, Some(2)),

@@ -4,7 +4,6 @@ ghost use Rattle.std.specs.Prelude.{◌≡◌};
 ghost use Rattle.std.specs.IoError.{error_kind};
 ghost use Rattle.endings.specs.Endings.{unreadable_at};
 
-use events::RunFault;
 use request_text::{LineFault, Refusal};
 use std::alloc::AllocError;
 use std::io;
@@ -84,19 +83,6 @@ impl From<Refusal> for Failure {
         match refusal {
             Refusal::NoMemory => Failure::NoMemory,
             Refusal::Line { line, fault } => Failure::Refused { line, fault },
-        }
-    }
-}
-
-impl From<RunFault> for Failure {
-    ghost use Rattle.std.specs.Prelude.{◌≡◌};
-    ghost use Rattle.endings.specs.declared.status.Failure.TheVariants.{NoMemory};
-
-    ghost from_gives = { λ _ e. e ≡ NoMemory };
-
-    fn from(fault: RunFault) -> Failure {
-        match fault {
-            RunFault::NoMemory { .. } => Failure::NoMemory,
         }
     }
 }

@@ -2,7 +2,7 @@
 use Rattle.std.specs.Prelude.{◌≡◌, ℕ, List}
 use Rattle.settings.specs.Settings.{Configuration}
 use Rattle.members.specs.declared.order.Row.{Row}
-use Rattle.routes.specs.Rows.{rows_after}
+use Rattle.members.specs.Rows.{rows_after}
 use Rattle.routes.specs.Views.{ReaderView}
 use Rattle.events.specs.declared.job.Job.{Job}
 use Rattle.legs.specs.declared.leg.LegState.{LegState}

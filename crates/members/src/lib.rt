@@ -14,7 +14,7 @@ mod stays;
 pub mod stream;
 mod table;
 
-pub use order::{Order, Row};
+pub use order::{Change, Order, Row};
 pub use room::Room;
 pub use rtcp_compound::Block;
 pub use settings::{

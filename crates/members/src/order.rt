@@ -38,6 +38,13 @@ pub struct Row {
     pub on: bool,
 }
 
+/// A change of the route table: the leg's row is from now on this one. A leg is named by its number, from 0.
+#[derive(Clone, Copy, Debug, PartialEq, Eq)]
+pub struct Change {
+    pub leg: u16,
+    pub row: Row,
+}
+
 /// Orders in the making. Once no memory was left for one they are short, and stay so.
 #[derive(Drop)]
 pub struct Draft {

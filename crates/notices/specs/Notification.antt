@@ -1,6 +1,6 @@
 -- The datagrams that follow from a desk's call, to the publisher whose rate is asked for and to its
 -- subscribers (RFC 5104, sections 4.2.1 and 4.2.2; RFC 4585, section 6.3.1).
-use Rattle.std.specs.Prelude.{◌≡◌, ◌==◌, ℕ, ◌+◌, ◌*◌, ◌^◌, ◌<◌, nat_lt, Bool, false, not, ◌&&◌, ◌||◌, List, [], ◌∷◌, ◌++◌, length, map, filter, flat_map, Option, None, IfSome, is_some, slice_get, if◌then◌else◌}
+use Rattle.std.specs.Prelude.{◌≡◌, ◌==◌, ℕ, ◌+◌, ◌*◌, ◌^◌, ◌<◌, nat_lt, Bool, false, not, ◌&&◌, ◌||◌, List, [], ◌∷◌, ◌++◌, length, filter, flat_map, Option, None, IfSome, is_some, slice_get, if◌then◌else◌}
 use Rattle.std.specs.Option.{option_map_or}
 use Rattle.tmmbr_tuple.specs.declared.ssrc.Ssrc.{Ssrc}
 use Rattle.tmmbr_tuple.specs.Tuple.{word_of}
@@ -8,7 +8,7 @@ use Rattle.rate_cert.specs.declared.request.Request.{Request}
 use Rattle.desk.specs.declared.effect.Effect.{Effect}
 use Rattle.desk.specs.Effect.{is_member}
 use Rattle.rtcp_feedback.specs.declared.tmmb.TmmbrEntry.{TmmbrEntry}
-use Rattle.rtcp_feedback.specs.Writing.{packet_bytes, tmmb_body, pli_body}
+use Rattle.rtcp_feedback.specs.Writing.{entries_of, packet_bytes, tmmb_body, pli_body}
 use Rattle.members.specs.declared.order.Row.{Row}
 use Rattle.settings.specs.declared.settings.LegSettings.{LegSettings}
 use Rattle.events.specs.declared.output.Out.{Out}
@@ -23,13 +23,6 @@ use Rattle.desk.specs.Call.{is_done, is_answered_up}
 -- the word of the greatest rate that can be spelled, without overhead: it lifts a bound
 abbrev pub no_limit : ℕ
 no_limit = 63 * 2 ^ 26 + 131071 * 2 ^ 9
-
--- an entry for each request of the set, in its order: its owner and its word
-abbrev pub tmmbr_entry_of : Request → TmmbrEntry
-tmmbr_entry_of r = record { ssrc = r.owner; word = word_of r.tuple }
-
-abbrev pub entries_of : List Request → List TmmbrEntry
-entries_of set = map tmmbr_entry_of set
 
 -- whether the announced set changed: a member that came is fresh; one that is gone is lifted, or its
 -- owner has another word now, which is fresh

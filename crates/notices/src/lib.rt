@@ -11,4 +11,4 @@ mod notification;
 
 pub use calls::{Asks, asked_by, notification_of, picture_call, stay_call, waiting};
 pub use head::{Draft, Head, upstream_report};
-pub use notification::{Notification, entries_of, notify, tells_each_change};
+pub use notification::{Notification, notify, tells_each_change};

@@ -8,14 +8,14 @@ ghost use Rattle.desk.specs.declared.effect.Effect.{Effect};
 ghost use Rattle.desk.specs.Effect.{IsEffect};
 ghost use Rattle.notices.specs.Head.{report_head};
 ghost use Rattle.events.specs.declared.output.Out.TheVariants.{Send};
-ghost use Rattle.notices.specs.Notification.{entries_of, is_changed, HasSameMembers, is_other, has_stay, others_of, tmmbr_bytes, lifted_bytes, fresh_bytes, requests_bytes, notice_to, requests_upstream, picture_upstream, notification_datagrams};
+ghost use Rattle.notices.specs.Notification.{is_changed, HasSameMembers, is_other, has_stay, others_of, tmmbr_bytes, lifted_bytes, fresh_bytes, requests_bytes, notice_to, requests_upstream, picture_upstream, notification_datagrams};
 
 use crate::head::Head;
 use desk::Effect;
 use events::{Bytes, Out};
 use members::Row;
 use rate_cert::Request;
-use rtcp_feedback::{TmmbrEntry, write_pli, write_tmmbn, write_tmmbr};
+use rtcp_feedback::{TmmbrEntry, entries_of, write_pli, write_tmmbn, write_tmmbr};
 use settings::Links;
 use std::alloc::{AllocError, Global};
 use tmmbr_tuple::Ssrc;
@@ -60,18 +60,6 @@ impl Notification {
     {
         self.asked_by.is_some() || is_changed(effect) || self.pli
     }
-}
-
-/// The entries of a TMMBN that announces this set: an entry for each request, in its order.
-pub fn entries_of(alloc: Global, set: &[Request]) -> Result<Vec<TmmbrEntry>, AllocError>
-    ensures { IfOk result (λ entries. entries.items ≡ entries_of set.now) }
-{
-    set.iter()
-        .map(|request| TmmbrEntry {
-            ssrc: request.owner,
-            word: request.tuple.to_word(),
-        })
-        .collect(alloc)
 }
 
 /// Appends the datagrams that follow from a desk's call with this effect, given the published rows: what the publisher

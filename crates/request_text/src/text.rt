@@ -8,9 +8,8 @@ ghost use Rattle.request_text.specs.BoundText.{announced_line, announcement, ans
 use crate::fault::LineFault;
 use bounding_set::Bounds;
 use desk::Desk;
-use notices::entries_of;
 use rate_cert::{CertFault, Implied, Kept, Request};
-use rtcp_feedback::{MAX_ENTRIES, write_tmmbn};
+use rtcp_feedback::{MAX_ENTRIES, entries_of, write_tmmbn};
 use std::alloc::{AllocError, Global};
 use tmmbr_tuple::Ssrc;
 

@@ -5,8 +5,8 @@ use Rattle.std.proofs.lemmas.List.Sums.{fold-append}
 use Rattle.std.proofs.lemmas.Grind.{flat_map-append}
 use mathlib.Core.List.{IsPrefix}
 use Rattle.members.specs.declared.order.Row.{Row}
-use Rattle.routes.specs.declared.change.Change.{Change}
-use Rattle.routes.specs.Rows.{row_changed, opening_rows, rows_after}
+use Rattle.members.specs.declared.order.Change.{Change}
+use Rattle.members.specs.Rows.{row_changed, opening_rows, rows_after}
 use Rattle.members.specs.Stays.{opening_row}
 use Rattle.routes.specs.Publications.{Publication, changes_of}
 

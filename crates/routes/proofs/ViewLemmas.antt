@@ -4,11 +4,11 @@ use Rattle.std.proofs.lemmas.List.Sums.{fold-append}
 use mathlib.Core.List.{IsPrefix}
 use Rattle.logbook.specs.Pages.{Book}
 use Rattle.members.specs.declared.order.Row.{Row}
-use Rattle.routes.specs.declared.change.Change.{Change}
+use Rattle.members.specs.declared.order.Change.{Change}
 use Rattle.routes.specs.declared.mark.Mark.{Mark}
 use Rattle.routes.specs.declared.table.Batch.{Batch}
 use Rattle.routes.specs.declared.table.Table.{Table}
-use Rattle.routes.specs.Rows.{row_changed, rows_after}
+use Rattle.members.specs.Rows.{row_changed, rows_after}
 use Rattle.routes.specs.Publications.{Publication, changes_of}
 use Rattle.routes.specs.Views.{ReaderView, IsTable, IsAhead, IsNext, Sees, mark_after, rows_with}
 use Rattle.routes.proofs.RowLemmas.{changes_begin, changes_begin_by, rows_more}

@@ -3,11 +3,11 @@ use Rattle.std.specs.Prelude.{ℕ, ◌≡◌, Bool, List, [], ◌∷◌, ◌++�
 use mathlib.Core.List.{IsPrefix}
 use Rattle.logbook.specs.Pages.{Book}
 use Rattle.members.specs.declared.order.Row.{Row}
-use Rattle.routes.specs.declared.change.Change.{Change}
+use Rattle.members.specs.declared.order.Change.{Change}
 use Rattle.routes.specs.declared.mark.Mark.{Mark}
 use Rattle.routes.specs.declared.table.Batch.{Batch}
 use Rattle.routes.specs.declared.table.Table.{Table}
-use Rattle.routes.specs.Rows.{row_changed, opening_rows, rows_after}
+use Rattle.members.specs.Rows.{row_changed, opening_rows, rows_after}
 use Rattle.routes.specs.Publications.{Publication, changes_of}
 
 -- a reader: the published changes that it saw or was told of, and the rows that it saw last

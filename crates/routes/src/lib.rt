@@ -1,10 +1,9 @@
 //! The route table: one writer publishes what is forwarded on each leg, and readers in threads of their own
 //! take the rows without a lock (RFC 7667, section 3.7: the unit selects what goes to whom).
 //!
-//! Read `specs/Rows` and `specs/Views` first, then `opening`, `writer` and `reader`.
+//! Read `Rows` of members and `specs/Views` first, then `opening`, `writer` and `reader`.
 #![tactic(auto)]
 
-mod change;
 mod mark;
 mod note;
 mod opening;
@@ -13,8 +12,7 @@ mod rule;
 mod table;
 mod writer;
 
-pub use change::Change;
-pub use members::{Order, Row};
+pub use members::{Change, Order, Row};
 pub use note::RouteNote;
 pub use opening::{Blank, MAX_READERS, RoutesFault, routes};
 pub use reader::RouteReader;

@@ -4,8 +4,8 @@ ghost use Rattle.std.specs.Prelude.{◌≡◌, ◌<◌, ◌≤◌, ◌^◌, ◌+
 ghost use mathlib.Core.List.{IsPrefix};
 ghost use Rattle.routes.specs.Publications.{head_of};
 
-use crate::change::Change;
 use logbook::{Gain, Offer, Plain, Play, Rule, Seen, Word};
+use members::Change;
 
 /// The rule of the book of publications.
 pub struct Law;

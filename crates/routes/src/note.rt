@@ -13,7 +13,7 @@ pub struct RouteNote<J: Naming> {
 
 impl<J: Naming> Model for RouteNote<J> {
     ghost use Rattle.std.specs.Prelude.{◌≡◌, List};
-    ghost use Rattle.routes.specs.declared.change.Change.{Change};
+    ghost use Rattle.members.specs.declared.order.Change.{Change};
     ghost use Rattle.routes.specs.Publications.{changes_of};
 
     ghost Value = { List Change };

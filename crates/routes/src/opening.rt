@@ -3,10 +3,9 @@
 ghost use Rattle.std.specs.Prelude.{◌≡◌, ◌≤◌, [], length, All, IfOk, IfErr};
 ghost use Rattle.routes.specs.declared.opening.RoutesFault.TheVariants.{NoPlace, NoMemory};
 ghost use Rattle.routes.specs.Publications.{changes_of};
-ghost use Rattle.routes.specs.Rows.{opening_rows};
+ghost use Rattle.members.specs.Rows.{opening_rows};
 ghost use Rattle.routes.specs.Views.{IsOpening, IsTable};
 
-use crate::change::Change;
 use crate::mark::{Law, Mark};
 use crate::reader::RouteReader;
 use crate::rule::Naming;
@@ -14,7 +13,7 @@ use crate::table::Table;
 use crate::writer::{RouteWriter, TableWriter};
 use left_right::writer::Writer;
 use logbook::{Seen, Start, Word};
-use members::Row;
+use members::{Change, Row};
 use std::alloc::{AllocError, Global};
 use std::marker::Model;
 use std::sync::Wait;

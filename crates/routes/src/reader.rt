@@ -42,7 +42,7 @@ impl<J: Naming> Model for RouteReader<J> {
 impl<J: Naming> RouteReader<J> {
     ghost use Rattle.std.specs.Prelude.{◌≡◌, MatchBool};
     ghost use mathlib.Core.List.{IsPrefix};
-    ghost use Rattle.routes.specs.Rows.{rows_after};
+    ghost use Rattle.members.specs.Rows.{rows_after};
     ghost use Rattle.routes.specs.Publications.{changes_of};
     ghost use Rattle.routes.specs.Views.{IsTable, Knows, Sees};
 

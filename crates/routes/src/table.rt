@@ -1,13 +1,12 @@
 //! The table that readers take: the rows, and the mark of the publications that they follow from.
 
 ghost use Rattle.std.specs.Prelude.{◌≡◌, fold};
-ghost use Rattle.routes.specs.Rows.{row_changed};
+ghost use Rattle.members.specs.Rows.{row_changed};
 
-use crate::change::Change;
 use crate::mark::{Law, Mark};
 use left_right::Absorb;
 use logbook::Seen;
-use members::Row;
+use members::{Change, Row};
 use std::alloc::AllocError;
 
 /// The rows after the mark's publications.
@@ -26,7 +25,7 @@ pub struct Batch {
 
 impl Absorb<Batch> for Table {
     ghost use Rattle.std.specs.Prelude.{fold};
-    ghost use Rattle.routes.specs.Rows.{row_changed};
+    ghost use Rattle.members.specs.Rows.{row_changed};
 
     type State = ([Row; 0], Seen<[Change; 0], u64, Law>);
 

@@ -4,7 +4,6 @@ ghost use Rattle.std.specs.Prelude.{◌≡◌, ◌++◌, ◌∷◌, [], drop};
 ghost use Rattle.routes.specs.Publications.{head_of};
 ghost use Rattle.routes.specs.Views.{IsAhead, IsNext};
 
-use crate::change::Change;
 use crate::mark::{Law, Mark};
 use crate::note::RouteNote;
 use crate::rule::{Naming, Published};
@@ -12,7 +11,7 @@ use crate::table::{Batch, Table};
 use core::mem::{replace, replace_with};
 use left_right::writer::Writer;
 use logbook::Word;
-use members::{Order, Row};
+use members::{Change, Order, Row};
 use std::alloc::Global;
 use std::marker::Model;
 use std::sync::Wait;
@@ -52,7 +51,7 @@ impl<J: Naming> Model for RouteWriter<J> {
 
 impl<J: Naming> RouteWriter<J> {
     ghost use Rattle.std.specs.Prelude.{◌≡◌, ◌≢◌, ◌++◌, [], drop, OnOk, OnErr};
-    ghost use Rattle.routes.specs.Rows.{changes_by};
+    ghost use Rattle.members.specs.Rows.{changes_by};
     ghost use Rattle.routes.specs.Publications.{changes_of, head_of};
     ghost use Rattle.routes.specs.Views.{IsAhead, IsNext};
 

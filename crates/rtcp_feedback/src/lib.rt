@@ -17,4 +17,4 @@ pub use fault::FbFault;
 pub use feedback::{Feedback, read_feedback};
 pub use nack::{Nack, Nacks, lost};
 pub use pli::write_pli;
-pub use tmmb::{MAX_ENTRIES, TmmbEntries, TmmbrEntry, write_tmmbn, write_tmmbr};
+pub use tmmb::{MAX_ENTRIES, TmmbEntries, TmmbrEntry, entries_of, write_tmmbn, write_tmmbr};

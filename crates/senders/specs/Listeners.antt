@@ -1,5 +1,5 @@
 -- The endpoints that only listen, and when reports are made in their name.
-use Rattle.std.specs.Prelude.{◌&&◌, ℕ, ◌+◌, nat_lt, nat_le, min, Bool, true, false, List, [], ◌∷◌, map, length, slice_get, slice_set, slice_index_or, Option, None, Some, option_map, if◌then◌else◌}
+use Rattle.std.specs.Prelude.{◌&&◌, ℕ, ◌+◌, nat_lt, nat_le, min, Bool, true, false, List, [], ◌∷◌, map, length, slice_set, slice_index_or, Option, None, Some, option_map, if◌then◌else◌}
 use Rattle.senders.specs.declared.listeners.Standing.{Standing}
 use Rattle.senders.specs.declared.listeners.Standing.TheVariants.{Speaks, Listens, Left}
 
@@ -28,15 +28,6 @@ abbrev pub listens : Standing → Bool
 listens Speaks = false
 listens Listens = true
 listens Left = false
-
-abbrev pub is_listener : Option Standing → Bool
-is_listener None = false
-is_listener (Some Speaks) = false
-is_listener (Some Listens) = true
-is_listener (Some Left) = true
-
-abbrev pub only_listens : ListenersState → ℕ → Bool
-only_listens s endpoint = is_listener (slice_get s.standings endpoint)
 
 -- who only listens is present but from a goodbye until it is heard again
 abbrev pub standing_after : Standing → Bool → Standing

@@ -1,7 +1,7 @@
 //! The endpoints that are present whatever they say, and when a report is to be made in their name.
 
 ghost use Rattle.std.specs.Prelude.{◌≡◌, ◌&&◌, ◌<◌, IfOk, IfSome, length, nat_le};
-ghost use Rattle.senders.specs.Listeners.{after_hearing, listeners_after, listens, new_listeners, next_listener, only_listens, report_due, standing_at_first};
+ghost use Rattle.senders.specs.Listeners.{after_hearing, listeners_after, listens, new_listeners, next_listener, report_due, standing_at_first};
 
 use std::alloc::{AllocError, Global};
 use std::marker::Model;
@@ -91,18 +91,6 @@ impl Listeners {
             due_ms: 0,
             next: None,
         })
-    }
-
-    /// Whether the endpoint with this number only listens.
-    pub fn only_listens(&self, endpoint: usize) -> bool
-        ensures { result ≡ only_listens self.now endpoint }
-    {
-        match self.standings.get(endpoint) {
-            Some(Standing::Listens) => true,
-            Some(Standing::Left) => true,
-            Some(Standing::Speaks) => false,
-            None => false,
-        }
     }
 
     /// The endpoint with this number was heard: whether it said goodbye. Who only listens and said goodbye is left alone until it is

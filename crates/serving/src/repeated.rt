@@ -6,9 +6,10 @@ ghost use Rattle.serving.specs.Repeated.{AsksForAll};
 
 use desk::{Desk, Effect};
 use events::Out;
-use notices::{Head, Notification, entries_of, notify};
+use notices::{Head, Notification, notify};
 use outside::{Look, Sink, Status, Watch};
 use repeats::Sets;
+use rtcp_feedback::entries_of;
 use settings::{Links, Settings};
 use sockets::SocketSink;
 use std::alloc::{AllocError, Global};

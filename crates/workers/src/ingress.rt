@@ -5,7 +5,7 @@ ghost use Rattle.desk.specs.Call.{HasStay};
 ghost use Rattle.events.specs.declared.event.Event.TheVariants.{Hear, Select, Tick};
 ghost use Rattle.core_steps.specs.Rule.{Does};
 ghost use Rattle.core_steps.specs.Run.{Leaves};
-ghost use Rattle.routes.specs.Rows.{changes_by};
+ghost use Rattle.members.specs.Rows.{changes_by};
 ghost use Rattle.workers.specs.Counted.{counted_of};
 ghost use Rattle.workers.specs.Room.{may_wait};
 

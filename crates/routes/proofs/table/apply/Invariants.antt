@@ -1,5 +1,5 @@
 use Rattle.std.proofs.Common.{◌≡◌, fold, take}
-use Rattle.routes.specs.Rows.{row_changed}
+use Rattle.members.specs.Rows.{row_changed}
 use Rattle.routes.proofs.table.apply.Given as goal
 
 abbrev pub invariant-loop-change : goal.invariant-loop-change

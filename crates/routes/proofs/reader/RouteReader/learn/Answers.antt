@@ -1,6 +1,6 @@
 use Rattle.std.proofs.Common.{List, ap, subst}
 use mathlib.Core.List.{IsPrefix}
-use Rattle.routes.specs.declared.change.Change.{Change}
+use Rattle.members.specs.declared.order.Change.{Change}
 use Rattle.routes.specs.Publications.{changes_of}
 use Rattle.routes.specs.Views.{ReaderView}
 use Rattle.routes.proofs.RowLemmas.{changes_begin}

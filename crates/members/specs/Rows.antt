@@ -3,7 +3,7 @@ use Rattle.std.specs.Prelude.{ℕ, nat_lt, List, [], ◌∷◌, replicate, fold,
 use Rattle.members.specs.declared.order.Order.{Order}
 use Rattle.members.specs.declared.order.Order.TheVariants.{Arrive, Depart, Route}
 use Rattle.members.specs.declared.order.Row.{Row}
-use Rattle.routes.specs.declared.change.Change.{Change}
+use Rattle.members.specs.declared.order.Change.{Change}
 use Rattle.members.specs.Stays.{opening_row}
 
 abbrev pub opening_rows : ℕ → List Row
