@@ -97,7 +97,7 @@ pub record IsHeardOfRest (same : Origin → Origin → Bool) (same_address : Soc
   pub behind : rest_of later ≡ drop heard.1 (rest_of rest)
 
 -- Nothing is heard of the rest of a datagram into so many bytes: the packet at its front, if there is one, is passed over, since it is a
--- stranger's or has no room there.
+-- stranger's or has no room there. Once all of it was heard, nothing waits any more.
 pub record HasNothingOfRest (same : Origin → Origin → Bool)
     (same_address : SocketAddr → SocketAddr → Bool) (senders : List (Origin × ℕ)) (rest later : Rest)
     (room : ℕ) : Type 0 where
@@ -105,7 +105,10 @@ pub record HasNothingOfRest (same : Origin → Origin → Bool)
       → sender_of same same_address senders from (source_named (rest_of rest)) ≡ Some endpoint
       → room < front_length same_address senders from (rest_of rest)
   pub over : (from : SocketAddr) → rest.from ≡ Some from → 0 < length (rest_of rest)
-      → rest_of later ≡ drop (front_length same_address senders from (rest_of rest)) (rest_of rest)
+      → (later.from ≡ Some from)
+      × (rest_of later ≡ drop (front_length same_address senders from (rest_of rest)) (rest_of rest))
+  pub all : length (rest_of rest) ≡ 0 → later.from ≡ None
+  pub empty : rest.from ≡ None → later.from ≡ None
 
 -- At some moment the report of this endpoint is the next that is due: it says no more than that the endpoint is there, and stands at
 -- the beginning of these bytes. Then the endpoint had its turn; nothing else changes.
@@ -128,23 +131,38 @@ pub record HasNoReport (sources : List Ssrc) (known later : Known) (room : ℕ) 
 
 -- ---- what is heard of a datagram that came
 
--- Whose the datagram is that came from this address, how much of it is heard at once, and that what is behind that is the rest from then
--- on; it is kept if there was room for it, as there is for each datagram of UDP. Nothing else changes what waited.
+-- What is behind so many bytes of a datagram that came from this address is the rest from then on; it is kept if there was room for it, as
+-- there is for each datagram of UDP. Where nothing is behind them, what waited stays.
+pub record KeepsBehind (rest later : Rest) (from : SocketAddr) (datagram : List ℕ) (heard : ℕ) : Type 0 where
+  pub whole : heard ≡ length datagram → later ≡ rest
+  pub still : heard < length datagram → later.from ≡ Some from
+  pub behind : heard < length datagram → length datagram ≤ vec_capacity rest.bytes
+      → rest_of later ≡ drop heard datagram
+
+-- Whose the datagram is that came from this address, how much of it is heard at once, and that what is behind that is kept.
 pub record IsHeardOf (same : Origin → Origin → Bool) (same_address : SocketAddr → SocketAddr → Bool)
     (senders : List (Origin × ℕ)) (rest later : Rest) (from : SocketAddr) (datagram : List ℕ)
     (heard : ℕ × ℕ) : Type 0 where
   pub sender : sender_of same same_address senders from (source_named datagram) ≡ Some heard.0
   pub size : heard.1 ≡ front_length same_address senders from datagram
-  pub whole : heard.1 ≡ length datagram → later ≡ rest
-  pub still : heard.1 < length datagram → later.from ≡ Some from
-  pub behind : heard.1 < length datagram → length datagram ≤ vec_capacity rest.bytes
-      → rest_of later ≡ drop heard.1 datagram
+  pub kept : KeepsBehind rest later from datagram heard.1
 
 -- At some moment one datagram more of the endpoint came, and it is heard if in that millisecond fewer came before than may be heard.
 pub record Admits (floods later : ℕ × List Tally) (endpoint : ℕ) (is_heard : Bool) : Type 0 where
   pub moment : ℕ
   pub heard : is_within floods.0 (slice_get floods.1 endpoint) moment ≡ is_heard
   pub counted : later ≡ (floods.0, tallies_with floods.1 endpoint moment)
+
+-- Nothing of a datagram is heard: as many of its endpoint came as may in a millisecond, and all of it is gone; or the packets at its front
+-- are a stranger's, for whom nothing is counted, and what is behind them is kept.
+pub record IsPassedOver (same : Origin → Origin → Bool) (same_address : SocketAddr → SocketAddr → Bool)
+    (senders : List (Origin × ℕ)) (floods counted : ℕ × List Tally) (rest later : Rest)
+    (from : SocketAddr) (datagram : List ℕ) : Type 0 where
+  pub flood : (endpoint : ℕ) → sender_of same same_address senders from (source_named datagram) ≡ Some endpoint
+      → Admits floods counted endpoint false × (later ≡ rest)
+  pub stranger : sender_of same same_address senders from (source_named datagram) ≡ None
+      → (counted ≡ floods)
+      × KeepsBehind rest later from datagram (front_length same_address senders from datagram)
 
 -- ---- what is learned of a datagram that came
 

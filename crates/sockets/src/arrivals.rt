@@ -6,7 +6,7 @@ ghost use Rattle.senders.specs.Learners.{with_seat};
 ghost use Rattle.senders.specs.Naming.{is_control, source_named};
 ghost use Rattle.senders.specs.Reports.{SaysGoodbye};
 ghost use Rattle.senders.specs.Senders.{sender_of};
-ghost use Rattle.sockets.specs.Arrivals.{Admits, HasNoReport, HasNothingOfRest, IsHeardOf, IsHeardOfRest, IsNoted, IsNotedIfHeard, IsReportMade, KnowsAfter, MayLearn, first_floods, first_learners, first_listeners, first_senders, is_same_place, kind_heard, known_by, rest_of, setup_of};
+ghost use Rattle.sockets.specs.Arrivals.{Admits, HasNoReport, HasNothingOfRest, IsHeardOf, IsHeardOfRest, IsNoted, IsNotedIfHeard, IsPassedOver, IsReportMade, KeepsBehind, KnowsAfter, MayLearn, first_floods, first_learners, first_listeners, first_senders, is_same_place, kind_heard, known_by, rest_of, setup_of};
 
 use addressing::{
     Client, Directory, Listening, is_reachable, learners_of, listeners_of, senders_of,
@@ -106,18 +106,17 @@ impl<'a> Arrivals<'a> {
         ensures heard { IfSome result (λ heard.
             IsHeardOfRest ⟦<Origin as PartialEq>⟧.eq ⟦<SocketAddr as PartialEq>⟧.eq self.old.senders
             self.old.rest self.new.rest heard out.new
+            × IsNoted self.old.sources.now heard.0 (take heard.1 out.new) (known_by self.old)
+            (known_by self.new)
             ⊎ HasNothingOfRest ⟦<Origin as PartialEq>⟧.eq ⟦<SocketAddr as PartialEq>⟧.eq self.old.senders
             self.old.rest self.new.rest (length out.old)
             × IsReportMade self.old.sources.now (known_by self.old) (known_by self.new) heard out.new) }
         ensures passed { IfNone result (HasNothingOfRest ⟦<Origin as PartialEq>⟧.eq
             ⟦<SocketAddr as PartialEq>⟧.eq self.old.senders self.old.rest self.new.rest
+            (length out.old)
+            × HasNoReport self.old.sources.now (known_by self.old) (known_by self.new)
             (length out.old)) }
-        ensures unreported { IfNone result (HasNoReport self.old.sources.now (known_by self.old)
-            (known_by self.new) (length out.old)) }
-        ensures noted { IfSome result (λ heard.
-            IsNoted self.old.sources.now heard.0 (take heard.1 out.new) (known_by self.old)
-            (known_by self.new)
-            ⊎ IsReportMade self.old.sources.now (known_by self.old) (known_by self.new) heard out.new) }
+        ensures floods { self.new.floods ≡ self.old.floods }
         ensures stays { (self.new.sources ≡ self.old.sources) × (self.new.clients ≡ self.old.clients)
             × (self.new.listening ≡ self.old.listening) }
         ensures room { vec_capacity self.old.rest.bytes ≤ vec_capacity self.new.rest.bytes }
@@ -144,9 +143,9 @@ impl<'a> Arrivals<'a> {
         ensures heard { IfSome result (λ heard. IsHeardOf ⟦<Origin as PartialEq>⟧.eq
             ⟦<SocketAddr as PartialEq>⟧.eq self.new.senders self.old.rest self.new.rest from
             (take size out.now) heard) }
-        ensures none { IfNone result ((endpoint : ℕ) → sender_of ⟦<Origin as PartialEq>⟧.eq
-            ⟦<SocketAddr as PartialEq>⟧.eq self.new.senders from (source_named (take size out.now))
-            ≡ Some endpoint → Admits self.old.floods self.new.floods endpoint false) }
+        ensures passed { IfNone result (IsPassedOver ⟦<Origin as PartialEq>⟧.eq
+            ⟦<SocketAddr as PartialEq>⟧.eq self.new.senders self.old.floods self.new.floods
+            self.old.rest self.new.rest from (take size out.now)) }
         ensures admitted { IfSome result
             (λ heard. Admits self.old.floods self.new.floods heard.0 true) }
         ensures learned { KnowsAfter (setup_of ⟦<u32 as PartialEq>⟧.eq ⟦<SocketAddr as PartialEq>⟧.eq
@@ -176,7 +175,7 @@ impl<'a> Arrivals<'a> {
         ensures rest { self.new.rest ≡ self.old.rest }
         ensures counted { (number : ℕ) → endpoint ≡ Some number
             → Admits self.old.floods self.new.floods number result }
-        ensures strangers { endpoint ≡ None → result ≡ true }
+        ensures strangers { endpoint ≡ None → (result ≡ true) × (self.new.floods ≡ self.old.floods) }
     {
         let Some(endpoint) = endpoint else {
             return true;
@@ -263,11 +262,7 @@ impl<'a> Arrivals<'a> {
         ensures stays { (self.new.sources ≡ self.old.sources) × (self.new.clients ≡ self.old.clients)
             × (self.new.listening ≡ self.old.listening) }
         ensures floods { self.new.floods ≡ self.old.floods }
-        ensures whole { heard ≡ length datagram.now → self.new.rest ≡ self.old.rest }
-        ensures still { heard < length datagram.now → self.new.rest.from ≡ Some from }
-        ensures behind { heard < length datagram.now
-            → length datagram.now ≤ vec_capacity self.old.rest.bytes
-            → rest_of self.new.rest ≡ drop heard datagram.now }
+        ensures kept { KeepsBehind self.old.rest self.new.rest from datagram.now heard }
         ensures room { vec_capacity self.old.rest.bytes ≤ vec_capacity self.new.rest.bytes }
     {
         if heard == datagram.len() {
@@ -288,6 +283,7 @@ impl<'a> Arrivals<'a> {
         ensures none { IfNone result (HasNothingOfRest ⟦<Origin as PartialEq>⟧.eq
             ⟦<SocketAddr as PartialEq>⟧.eq self.old.senders self.old.rest self.new.rest
             (length out.old)) }
+        ensures floods { self.new.floods ≡ self.old.floods }
         ensures stays { (self.new.sources ≡ self.old.sources) × (self.new.clients ≡ self.old.clients)
             × (self.new.listening ≡ self.old.listening) }
         ensures noted { IsNotedIfHeard self.old.sources.now out.new (known_by self.old)
@@ -319,6 +315,7 @@ impl<'a> Arrivals<'a> {
             (known_by self.new) heard out.new) }
         ensures none { IfNone result (HasNoReport self.old.sources.now (known_by self.old)
             (known_by self.new) (length out.old)) }
+        ensures floods { self.new.floods ≡ self.old.floods }
         ensures stays { (self.new.sources ≡ self.old.sources) × (self.new.clients ≡ self.old.clients)
             × (self.new.listening ≡ self.old.listening) }
         ensures rest { self.new.rest ≡ self.old.rest }
