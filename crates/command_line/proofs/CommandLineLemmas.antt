@@ -22,7 +22,7 @@ use Rattle.clap.specs.declared.builder.ValueParser.TheVariants as vp
 use Rattle.std.proofs.lemmas.Fmt.{decimal_is_IsNumeral}
 use Rattle.request_text.specs.Words.{number_under}
 use Rattle.request_text.proofs.DigitLemmas.{digits_back, digits_from}
-use Rattle.command_line.specs.CommandLine.{IsWritable, Types, words_of, Request, asked_for, request_found, asked_named, bound, check, replay, sfu, number_of, serve, number_in, moment_in, is_set, is_yes, draw}
+use Rattle.command_line.specs.CommandLine.{IsWritable, Types, max_status, max_ticks, words_of, Request, asked_for, request_found, asked_named, bound, check, replay, sfu, number_of, serve, number_in, moment_in, is_set, is_yes, draw}
 
 -- ---- reading a number
 
@@ -174,7 +174,7 @@ ticks_asked name d ds a others e f =
     ∙ ap (λ (o : Option Text). Some (serve (d ∷ ds) (number_of (unwrap_or o (a ∷ others))) None None)) (no_hyphen a others f)
 
 ticks_taken : (name : Text) (d : ℕ) (ds : Text) (a : ℕ) (others : Text) → (d == 45) ≡ false → (a == 45) ≡ false
-    → accepts false (option_parser 1000000) (a ∷ others) ≡ true
+    → accepts false (option_parser max_ticks) (a ∷ others) ≡ true
     → takes sfu (name ∷ codes "serve" ∷ (d ∷ ds) ∷ codes "--ticks" ∷ (a ∷ others) ∷ []) ≡ true
 unfolding clap_on_literals
 ticks_taken name d ds a others e f p = rw (e, no_hyphen d ds e, f, no_hyphen a others f, p) refl
@@ -192,7 +192,7 @@ status_asked name d ds b others e f =
     ∙ ap (λ (o : Option Text). Some (serve (d ∷ ds) None (number_of (unwrap_or o (b ∷ others))) None)) (no_hyphen b others f)
 
 status_taken : (name : Text) (d : ℕ) (ds : Text) (b : ℕ) (others : Text) → (d == 45) ≡ false → (b == 45) ≡ false
-    → accepts false (option_parser 86400) (b ∷ others) ≡ true
+    → accepts false (option_parser max_status) (b ∷ others) ≡ true
     → takes sfu (name ∷ codes "serve" ∷ (d ∷ ds) ∷ codes "--status" ∷ (b ∷ others) ∷ []) ≡ true
 unfolding clap_on_literals
 status_taken name d ds b others e f p = rw (e, no_hyphen d ds e, f, no_hyphen b others f, p) refl
@@ -340,12 +340,12 @@ read_at words (serve (d ∷ ds) None None None) name is fits =
     (serve_asked name d ds plain, serve_taken name d ds plain)
 read_at words (serve (d ∷ ds) (Some n) None None) name is fits =
     let plain : (d == 45) ≡ false = ne_eqb d 45 fits.0 in
-    let k = option_number n 1000000 fits.1.0 fits.1.1 (omega arith) in
+    let k = option_number n max_ticks fits.1.0 fits.1.1 (omega arith) in
     subst (λ (t : Text). IsRead (name ∷ codes "serve" ∷ (d ∷ ds) ∷ codes "--ticks" ∷ t ∷ []) (serve (d ∷ ds) (Some n) None None)) (sym k.is)
     (ticks_asked name d ds k.d k.ds plain k.plain ∙ ap (λ o. Some (serve (d ∷ ds) o None None)) k.read, ticks_taken name d ds k.d k.ds plain k.plain k.passes)
 read_at words (serve (d ∷ ds) None (Some m) None) name is fits =
     let plain : (d == 45) ≡ false = ne_eqb d 45 fits.0 in
-    let k = option_number m 86400 fits.1.0 fits.1.1 (omega arith) in
+    let k = option_number m max_status fits.1.0 fits.1.1 (omega arith) in
     subst (λ (t : Text). IsRead (name ∷ codes "serve" ∷ (d ∷ ds) ∷ codes "--status" ∷ t ∷ []) (serve (d ∷ ds) None (Some m) None)) (sym k.is)
     (status_asked name d ds k.d k.ds plain k.plain ∙ ap (λ o. Some (serve (d ∷ ds) None o None)) k.read, status_taken name d ds k.d k.ds plain k.plain k.passes)
 read_at words (serve file (Some n) (Some m) None) name is fits = absurd fits

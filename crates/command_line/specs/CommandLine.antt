@@ -77,10 +77,17 @@ abbrev pub replay_app : App
 replay_app =
     with_rule (with_rule choosing_app (moment_rule (codes "from"))) (flag_rule (codes "events"))
 
+-- how many turns `--ticks` may name, and how many seconds `--status`: a day
+abbrev pub max_ticks : ℕ
+max_ticks = 1000000
+
+abbrev pub max_status : ℕ
+max_status = 86400
+
 abbrev pub counted_app : App
 counted_app =
-    with_rule (with_rule (file_app (codes "serve")) (optional_rule (codes "ticks") (pos 1000000)))
-    (optional_rule (codes "status") (pos 86400))
+    with_rule (with_rule (file_app (codes "serve")) (optional_rule (codes "ticks") (pos max_ticks)))
+    (optional_rule (codes "status") (pos max_status))
 
 abbrev pub serve_app : App
 serve_app = with_rule counted_app (word_rule (codes "control"))
@@ -220,8 +227,8 @@ IsWritable (replay file (Some leg) endpoint from events) = ⊥
 IsWritable (replay file None (Some endpoint) from events) = ⊥
 IsWritable (replay file None None (Some from) events) = ⊥
 IsWritable (replay file None None None true) = ⊥
-IsWritable (serve file ticks None None) = IsFileName file × IsOption ticks 1000000
-IsWritable (serve file None (Some seconds) None) = IsFileName file × IsOption (Some seconds) 86400
+IsWritable (serve file ticks None None) = IsFileName file × IsOption ticks max_ticks
+IsWritable (serve file None (Some seconds) None) = IsFileName file × IsOption (Some seconds) max_status
 IsWritable (serve file (Some ticks) (Some seconds) None) = ⊥
 IsWritable (serve file None None (Some path)) = IsFileName file × IsFileName path
 IsWritable (serve file (Some ticks) None (Some path)) = ⊥

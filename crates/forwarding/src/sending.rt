@@ -47,6 +47,7 @@ fn give<S: Sink>(out: &Out, sink: &mut S, done: &mut Forwarded)
 pub fn send_all<S: Sink>(outs: &[Out], sink: &mut S) -> Forwarded
     ensures { Sends outs.now (S.shown sink.old) (S.shown sink.new) result }
 {
+    // So many fit a u64: what is counted below can't be more.
     let _count = outs.len();
     let mut done = Forwarded::default();
     for out in outs {
