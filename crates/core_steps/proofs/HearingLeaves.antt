@@ -1,8 +1,8 @@
 -- What the ingress takes in, as a happening: a moment, an RTP packet, RTCP packets.
 use Rattle.std.proofs.Common.{◌≡◌, ◌∙◌, ◌==◌, ℕ, ◌^◌, ◌<◌, ◌≤◌, ⊎_elim, slice_index, arith, List, [], ◌∷◌, ◌++◌, length, map, Bool, true, false, Result, Ok, Err, refl, sym, ap, ap₂, subst}
-use Rattle.std.proofs.lemmas.List.{append-nil, map-append, append_assoc}
+use Rattle.std.proofs.lemmas.List.{append-nil, append_assoc}
 use Rattle.std.proofs.lemmas.Bool.{cases_lt}
-use Rattle.std.specs.Prelude.{Option, None, Some, OnOk, if◌then◌else◌}
+use Rattle.std.specs.Prelude.{Option, None, Some, OnOk, filter, if◌then◌else◌}
 use Rattle.std.specs.List.{last_or, enumerate_from, filter_map, flat_map, list_any}
 use Rattle.std.specs.Option.{option_map_or}
 use Rattle.settings.specs.declared.fault.RoomFault.{RoomFault}
@@ -17,35 +17,26 @@ use Rattle.intake.specs.declared.intake.Heard.{Heard}
 use Rattle.intake.specs.declared.intake.Heard.TheVariants.{Media, Goodbye, Control}
 use Rattle.intake.specs.declared.intake.Unheard.{Unheard}
 use Rattle.intake.specs.declared.intake.Unheard.TheVariants.{Refused as RefusedBy}
+use Rattle.events.specs.declared.job.Job.TheVariants.{Packet}
 use Rattle.events.specs.declared.output.Out.{Out}
 use Rattle.events.specs.declared.output.Out.TheVariants.{Refused}
 use Rattle.events.specs.declared.output.Refusal.{Refusal}
 use Rattle.core_steps.specs.declared.tasks.FollowUp.{FollowUp}
 use Rattle.notices.specs.DeskCalls.{source_of}
-use Rattle.core_steps.specs.FollowUps.{follow_up_after, due_to, packet_to, report_to, follow_up_for, refusal_unless, room_with_report}
+use Rattle.core_steps.specs.FollowUps.{AddsTasks, room_with_report, tasks_due}
 use Rattle.core_steps.specs.Happening.{giving, capped_count}
 use Rattle.intake.specs.Heard.{HearsBy, heard_of, asks_of}
-use Rattle.core_steps.specs.Hearing.{IsHearing, hearing, hearing_by, selecting, selecting_by, ticking, numbers_below, leg_report, task_after, tasks_after, reports, expires, present_endpoints, is_report_due, refusals_of, jobs_of, receptions}
+use Rattle.core_steps.specs.Hearing.{IsHearing, hearing, hearing_by, selecting, selecting_by, ticking, numbers_below, is_served_by, leg_report, refusal_for, task_after, task_for, tasks_after, reports, expires, present_endpoints, is_report_due, refusals_of, jobs_of, receptions}
 use Rattle.intake.specs.Intake.{Said, media, leaves, control, Says, SaysRtp, IsRtcp, speaker_of, heeded}
 use Rattle.rewrite.specs.Rtp.{IsReadAs}
 use Rattle.rewrite.proofs.RtpLemmas.{reads_rtp, number_read, payload_read}
 use Rattle.core_steps.specs.Machine.{task_of}
 use Rattle.core_steps.specs.Rule.{is_busy}
 use Rattle.core_steps.specs.Run.{Leaves}
-use Rattle.core_steps.specs.World.{WorldState, Task, order, pulse, expire, report}
-use Rattle.core_steps.proofs.HearingLemmas.{accepted, after_follows, idle, took, taken_in, ticks, uncounted, asks_follow, asks_refused, pulses_follow, expires_follow, reports_follow, packets_follow, leg_reports_follow}
+use Rattle.core_steps.specs.World.{WorldState, Task, order, push, pulse}
+use Rattle.core_steps.proofs.HearingLemmas.{accepted, idle, took, taken_in, ticks, uncounted}
 
 -- ---- a moment
-
-if_mapped : {X Y : Type 0} (f : X → Y) (b : Bool) (xs : List X) (ys : List Y) → map f xs ≡ ys
-    → map f (if b then [] else xs) ≡ (if b then [] else ys)
-if_mapped f true xs ys e = refl
-if_mapped f false xs ys e = e
-
-if_mapped_then : {X Y : Type 0} (f : X → Y) (b : Bool) (xs : List X) (ys : List Y) → map f xs ≡ ys
-    → map f (if b then xs else []) ≡ (if b then ys else [])
-if_mapped_then f true xs ys e = e
-if_mapped_then f false xs ys e = refl
 
 abbrev pub ticked_by : WorldState → RoomState → List Order → List Task
 ticked_by w r orders =
@@ -55,64 +46,30 @@ ticked_by w r orders =
 abbrev pub reported_by : WorldState → RoomState → ℕ
 reported_by w r = if is_report_due w r then r.moment else w.reported
 
--- what follows from a moment, in the ingress's list
+-- what follows from a moment, as the ingress puts it into its list
 pub record FollowsTick (w : WorldState) (r : RoomState) (orders : List Order) (n : ℕ) (is_due : Bool) (f0 f1 f2 f3 : List FollowUp) : Type 0 where
-  pub first : f0 ≡ filter_map (follow_up_after w.setup r) orders
+  pub first : (bits : List ℕ) → map (task_of bits) f0 ≡ filter_map (task_after w.setup r) orders
   pub count : n ≡ length w.setup.table.endpoints
   pub says_due : is_due ≡ is_report_due w r
-  pub pulses : f1 ≡ f0 ++ filter_map (due_to r due.Pulse) (numbers_below n)
-  pub expiring : f2 ≡ f1 ++ (if w.setup.request_ms == 0 then [] else filter_map (due_to r due.Expire) (numbers_below n))
-  pub reporting : f3
-      ≡ f2
-      ++ (if is_due
-      then filter_map (due_to r due.Report) (numbers_below n)
-      ++ filter_map (report_to w.setup.table r) (enumerate_from 0 w.setup.table.legs)
-      else [])
+  pub pulses : AddsTasks f0 f1 (λ bits. tasks_due due.Pulse r n)
+  pub expiring : AddsTasks f1 f2 (λ bits. if w.setup.request_ms == 0 then [] else tasks_due due.Expire r n)
+  pub reporting : AddsTasks f2 f3
+      (λ bits. if is_due then tasks_due due.Report r n ++ flat_map (leg_report w.setup.table r) (enumerate_from 0 w.setup.table.legs) else [])
 
 follows_tick : (w : WorldState) (r : RoomState) (n : ℕ) (is_due : Bool) (f0 f1 f2 f3 : List FollowUp) (bits : List ℕ) (orders : List Order)
     → FollowsTick w r orders n is_due f0 f1 f2 f3 → map order orders ++ map (task_of bits) f3 ≡ ticked_by w r orders
 follows_tick w r n is_due f0 f1 f2 f3 bits orders f =
-    let m = length w.setup.table.endpoints in
     let t = w.setup.table in
-    let A : List FollowUp = filter_map (follow_up_after w.setup r) orders in
-    let P : List FollowUp = filter_map (due_to r due.Pulse) (numbers_below m) in
-    let E : List FollowUp = if w.setup.request_ms == 0 then [] else filter_map (due_to r due.Expire) (numbers_below m) in
-    let R : List FollowUp =
-    if is_report_due w r
-    then filter_map (due_to r due.Report) (numbers_below m) ++ filter_map (report_to t r) (enumerate_from 0 t.legs)
-    else [] in
-    let p1 : f1 ≡ A ++ P =
-    f.pulses
-    ∙ ap₂ (λ (l : List FollowUp) (k : ℕ). l ++ filter_map (due_to r due.Pulse) (numbers_below k)) f.first f.count in
-    let p2 : f2 ≡ A ++ P ++ E =
-    f.expiring
-    ∙ ap₂ (λ (l : List FollowUp) (k : ℕ). l ++ (if w.setup.request_ms == 0 then [] else filter_map (due_to r due.Expire) (numbers_below k))) p1 f.count in
-    let F : List FollowUp → ℕ → Bool → List FollowUp = λ l k b. l
-    ++ (if b
-    then filter_map (due_to r due.Report) (numbers_below k) ++ filter_map (report_to t r) (enumerate_from 0 t.legs)
-    else []) in
-    let p3 : f3 ≡ (A ++ P ++ E) ++ R =
-    f.reporting ∙ ap₂ (λ (l : List FollowUp) (k : ℕ). F l k is_due) p2 f.count ∙ ap (λ (b : Bool). F (A ++ P ++ E) m b) f.says_due in
-    let g = task_of bits in
     let T : List Task = filter_map (task_after w.setup r) orders in
-    let eA : map g A ≡ T = after_follows bits w.setup r orders in
-    let eP : map g P ≡ map pulse (present_endpoints t r) = pulses_follow bits r (numbers_below m) in
-    let eE : map g E ≡ expires w.setup r =
-    if_mapped g (w.setup.request_ms == 0) (filter_map (due_to r due.Expire) (numbers_below m))
-    (map expire (present_endpoints t r)) (expires_follow bits r (numbers_below m)) in
-    let both : map g (filter_map (due_to r due.Report) (numbers_below m) ++ filter_map (report_to t r) (enumerate_from 0 t.legs))
-    ≡ map report (present_endpoints t r) ++ flat_map (leg_report t r) (enumerate_from 0 t.legs) =
-    map-append g (filter_map (due_to r due.Report) (numbers_below m)) (filter_map (report_to t r) (enumerate_from 0 t.legs))
-    ∙ ap₂ (λ (a b : List Task). a ++ b) (reports_follow bits r (numbers_below m)) (leg_reports_follow bits t r (enumerate_from 0 t.legs)) in
-    let eR : map g R ≡ reports w r =
-    if_mapped_then g (is_report_due w r)
-    (filter_map (due_to r due.Report) (numbers_below m) ++ filter_map (report_to t r) (enumerate_from 0 t.legs))
-    (map report (present_endpoints t r) ++ flat_map (leg_report t r) (enumerate_from 0 t.legs)) both in
+    let E : ℕ → List Task = λ k. if w.setup.request_ms == 0 then [] else tasks_due due.Expire r k in
+    let R : ℕ → Bool → List Task = λ k b. if b then tasks_due due.Report r k ++ flat_map (leg_report t r) (enumerate_from 0 t.legs) else [] in
     let pulses : List Task = map pulse (present_endpoints t r) in
-    let all : map g f3 ≡ (T ++ pulses ++ expires w.setup r) ++ reports w r =
-    ap (map g) p3 ∙ map-append g (A ++ P ++ E) R
-    ∙ ap (λ (l : List Task). l ++ map g R) (map-append g (A ++ P) E ∙ ap (λ (l : List Task). l ++ map g E) (map-append g A P))
-    ∙ ap₂ (λ (a b : List Task). a ++ b) (ap₂ (λ (a b : List Task). a ++ b) (ap₂ (λ (a b : List Task). a ++ b) eA eP) eE) eR in
+    let all : map (task_of bits) f3 ≡ (T ++ pulses ++ expires w.setup r) ++ reports w r =
+    f.reporting bits
+    ∙ ap (λ (l : List Task). l ++ R n is_due)
+    (f.expiring bits
+    ∙ ap (λ (l : List Task). l ++ E n) (f.pulses bits ∙ ap (λ (l : List Task). l ++ tasks_due due.Pulse r n) (f.first bits)))
+    ∙ ap₂ (λ (k : ℕ) (b : Bool). (T ++ tasks_due due.Pulse r k ++ E k) ++ R k b) f.count f.says_due in
     ap (λ (l : List Task). map order orders ++ l) all
     ∙ sym (append_assoc (map order orders) (T ++ pulses ++ expires w.setup r) (reports w r))
     ∙ ap (λ (l : List Task). l ++ reports w r)
@@ -137,11 +94,10 @@ ticks_so w moment outs room before after n is_due f0 f1 f2 f3 bits tasks reporte
 -- ---- what follows from the orders
 
 first_follows : (w : WorldState) (s : Step) (bits : List ℕ) (room : RoomState) (after : List Order) (f0 f1 : List FollowUp)
-    → room ≡ s.room → after ≡ s.orders → f0 ≡ [] → f1 ≡ f0 ++ filter_map (follow_up_after w.setup room) after
+    → room ≡ s.room → after ≡ s.orders → f0 ≡ [] → AddsTasks f0 f1 (λ bytes. filter_map (task_after w.setup room) after)
     → map (task_of bits) f1 ≡ tasks_after w.setup s
 first_follows w s bits room after f0 f1 er orders e0 e1 =
-    ap (map (task_of bits)) (e1 ∙ ap (λ (l : List FollowUp). l ++ filter_map (follow_up_after w.setup room) after) e0)
-    ∙ after_follows bits w.setup room after
+    e1 bits ∙ ap (λ (l : List FollowUp). map (task_of bits) l ++ filter_map (task_after w.setup room) after) e0
     ∙ ap₂ (λ (r : RoomState) (o : List Order). filter_map (task_after w.setup r) o) er orders
 
 -- ---- an RTP packet
@@ -149,8 +105,8 @@ first_follows w s bits room after f0 f1 er orders e0 e1 =
 pub medias : (w : WorldState) (moment endpoint : ℕ) (bytes bits : List ℕ) (ssrc seq timestamp octets n : ℕ) (outs all : List Out) (before after : List Order)
     (room room' : RoomState) (f0 f1 f2 : List FollowUp) (tasks : List Task) → all ≡ outs → is_busy w ≡ false → w.lost < 2 ^ 64 → w.tmmbns < 2 ^ 64
     → Answers w.room before (hear_step w.room moment endpoint ssrc) (Ok tt) room after → before ≡ [] → bits ≡ bytes
-    → n ≡ w.setup.table.workers → f0 ≡ [] → f1 ≡ f0 ++ filter_map (follow_up_after w.setup room) after
-    → f2 ≡ f1 ++ filter_map (packet_to w.setup.table room endpoint) (numbers_below n)
+    → n ≡ w.setup.table.workers → f0 ≡ [] → AddsTasks f0 f1 (λ bytes. filter_map (task_after w.setup room) after)
+    → AddsTasks f1 f2 (λ bytes. map (λ k. push k (Packet endpoint bytes)) (filter (is_served_by w.setup.table room endpoint) (numbers_below n)))
     → room' ≡ after_packet room endpoint seq timestamp → tasks ≡ map order after ++ map (task_of bits) f2
     → Leaves (λ h. h ≡ hearing w moment endpoint bytes (Ok (media ssrc seq timestamp octets))) w outs
     (taken_in w room' tasks w.reported w.tmmbns) all
@@ -163,14 +119,11 @@ medias w moment endpoint bytes bits ssrc seq timestamp octets n outs all before 
     let here : room' ≡ room_after w.room calls =
     er' ∙ ap (λ (r : RoomState). after_packet r endpoint seq timestamp) er
     ∙ ap (λ (x : Result Step RoomFault). room_after (room_of w.room x) (Receive endpoint seq timestamp ∷ [])) (sym is) in
-    let packets : List FollowUp = filter_map (packet_to t room endpoint) (numbers_below t.workers) in
-    let follow : f2 ≡ f1 ++ packets = e2 ∙ ap (λ (k : ℕ). f1 ++ filter_map (packet_to t room endpoint) (numbers_below k)) en in
-    let jobs : map (task_of bits) packets ≡ jobs_of t s.room endpoint bytes said =
-    packets_follow bits t room endpoint (numbers_below t.workers)
-    ∙ ap₂ (λ (d : List ℕ) (r : RoomState). jobs_of t r endpoint d said) ed er in
+    let packets : List ℕ → ℕ → List Task = λ d k. map (λ worker. push worker (Packet endpoint d)) (filter (is_served_by t room endpoint) (numbers_below k)) in
+    let jobs : packets bits n ≡ jobs_of t s.room endpoint bytes said =
+    ap₂ packets ed en ∙ ap (λ (r : RoomState). jobs_of t r endpoint bytes said) er in
     let all_made : map (task_of bits) f2 ≡ tasks_after w.setup s ++ jobs_of t s.room endpoint bytes said =
-    ap (map (task_of bits)) follow ∙ map-append (task_of bits) f1 packets
-    ∙ ap₂ (λ (x y : List Task). x ++ y) (first_follows w s bits room after f0 f1 er orders e0 e1) jobs in
+    e2 bits ∙ ap₂ (λ (x y : List Task). x ++ y) (first_follows w s bits room after f0 f1 er orders e0 e1) jobs in
     let made : tasks ≡ map order s.orders ++ (tasks_after w.setup s ++ jobs_of t s.room endpoint bytes said) =
     et ∙ ap₂ (λ (o : List Order) (l : List Task). map order o ++ l) orders all_made in
     record {
@@ -192,9 +145,9 @@ pub controls : (w : WorldState) (moment endpoint : ℕ) (bytes bits : List ℕ) 
     (outs all : List Out) (before after : List Order) (room room' : RoomState) (f0 f1 f2 : List FollowUp) (tasks : List Task) (count : ℕ)
     (noting : Option (ℕ × ℕ)) → is_busy w ≡ false → w.lost < 2 ^ 64
     → Answers w.room before (hear_step w.room moment endpoint speaker) (Ok tt) room after → before ≡ [] → noting ≡ last_or None reports
-    → asks' ≡ asks → f0 ≡ [] → f1 ≡ f0 ++ filter_map (follow_up_after w.setup room) after
-    → f2 ≡ f1 ++ filter_map (follow_up_for w.setup.table room endpoint) asks'
-    → all ≡ outs ++ flat_map (λ a. refusal_unless (follow_up_for w.setup.table room endpoint a)) asks'
+    → asks' ≡ asks → f0 ≡ [] → AddsTasks f0 f1 (λ bytes. filter_map (task_after w.setup room) after)
+    → AddsTasks f1 f2 (λ bytes. filter_map (task_for w.setup.table room endpoint) asks')
+    → all ≡ outs ++ flat_map (λ a. refusal_for (task_for w.setup.table room endpoint a)) asks'
     → room' ≡ room_with_report room endpoint noting → tasks ≡ map order after ++ map (task_of bits) f2 → count ≡ capped_count w.tmmbns tmmbns
     → Leaves (λ h. h ≡ hearing w moment endpoint bytes (Ok (control speaker reports tmmbns asks))) w outs
     (taken_in w room' tasks w.reported count) all
@@ -208,19 +161,14 @@ controls w moment endpoint bytes bits speaker reports tmmbns asks asks' outs all
     let here : room' ≡ room_after w.room calls =
     er' ∙ ap₂ (λ (r : RoomState) (o : Option (ℕ × ℕ)). room_with_report r endpoint o) er en ∙ noted_is s.room endpoint (last_or None reports)
     ∙ ap (λ (x : Result Step RoomFault). room_after (room_of w.room x) notes) (sym is) in
-    let entries : List FollowUp = filter_map (follow_up_for t room endpoint) asks in
-    let follow : f2 ≡ f1 ++ entries = e2 ∙ ap (λ (k : List Ask). f1 ++ filter_map (follow_up_for t room endpoint) k) ea in
-    let jobs : map (task_of bits) entries ≡ jobs_of t s.room endpoint bytes said =
-    asks_follow bits t room endpoint asks ∙ ap (λ (r : RoomState). jobs_of t r endpoint bytes said) er in
+    let jobs : filter_map (task_for t room endpoint) asks' ≡ jobs_of t s.room endpoint bytes said =
+    ap₂ (λ (r : RoomState) (k : List Ask). filter_map (task_for t r endpoint) k) er ea in
     let all_made : map (task_of bits) f2 ≡ tasks_after w.setup s ++ jobs_of t s.room endpoint bytes said =
-    ap (map (task_of bits)) follow ∙ map-append (task_of bits) f1 entries
-    ∙ ap₂ (λ (x y : List Task). x ++ y) (first_follows w s bits room after f0 f1 er orders e0 e1) jobs in
+    e2 bits ∙ ap₂ (λ (x y : List Task). x ++ y) (first_follows w s bits room after f0 f1 er orders e0 e1) jobs in
     let made : tasks ≡ map order s.orders ++ (tasks_after w.setup s ++ jobs_of t s.room endpoint bytes said) =
     et ∙ ap₂ (λ (o : List Order) (l : List Task). map order o ++ l) orders all_made in
     let told : all ≡ outs ++ refusals_of t s.room endpoint said =
-    eout ∙ ap (λ (k : List Ask). outs ++ flat_map (λ (x : Ask). refusal_unless (follow_up_for t room endpoint x)) k) ea
-    ∙ ap (λ (l : List Out). outs ++ l) (asks_refused t room endpoint asks)
-    ∙ ap (λ (r : RoomState). outs ++ refusals_of t r endpoint said) er in
+    eout ∙ ap₂ (λ (r : RoomState) (k : List Ask). outs ++ flat_map (λ (x : Ask). refusal_for (task_for t r endpoint x)) k) er ea in
     record {
       happening = hearing_by w moment endpoint bytes said (Ok s);
       allowed = ap (hearing_by w moment endpoint bytes said) (sym is);
@@ -234,7 +182,7 @@ controls w moment endpoint bytes bits speaker reports tmmbns asks asks' outs all
 pub goodbyes : (w : WorldState) (moment endpoint : ℕ) (bytes bits : List ℕ) (outs all : List Out) (before after : List Order) (room : RoomState)
     (f0 f1 : List FollowUp) (tasks : List Task) → all ≡ outs → is_busy w ≡ false → w.lost < 2 ^ 64 → w.tmmbns < 2 ^ 64
     → Answers w.room before (bye_step w.room moment endpoint) (Ok tt) room after → before ≡ [] → f0 ≡ []
-    → f1 ≡ f0 ++ filter_map (follow_up_after w.setup room) after → tasks ≡ map order after ++ map (task_of bits) f1
+    → AddsTasks f0 f1 (λ bytes. filter_map (task_after w.setup room) after) → tasks ≡ map order after ++ map (task_of bits) f1
     → Leaves (λ h. h ≡ hearing w moment endpoint bytes (Ok leaves)) w outs (taken_in w room tasks w.reported w.tmmbns) all
 goodbyes w moment endpoint bytes bits outs all before after room f0 f1 tasks ea h lost tmmbns a eb e0 e1 et =
     let (s, is, er, eo) = accepted w.room before (bye_step w.room moment endpoint) room after a in
@@ -258,7 +206,7 @@ goodbyes w moment endpoint bytes bits outs all before after room f0 f1 tasks ea 
 pub selects : (w : WorldState) (moment leg : ℕ) (on : Bool) (bits : List ℕ) (outs all : List Out) (before after : List Order) (room : RoomState)
     (f0 f1 : List FollowUp) (tasks : List Task) → all ≡ outs → is_busy w ≡ false → w.lost < 2 ^ 64 → w.tmmbns < 2 ^ 64
     → Answers w.room before (select_step w.room moment leg on) (Ok tt) room after → before ≡ [] → f0 ≡ []
-    → f1 ≡ f0 ++ filter_map (follow_up_after w.setup room) after → tasks ≡ map order after ++ map (task_of bits) f1
+    → AddsTasks f0 f1 (λ bytes. filter_map (task_after w.setup room) after) → tasks ≡ map order after ++ map (task_of bits) f1
     → Leaves (λ h. h ≡ selecting w moment leg on) w outs (taken_in w room tasks w.reported w.tmmbns) all
 selects w moment leg on bits outs all before after room f0 f1 tasks ea h lost tmmbns a eb e0 e1 et =
     let (s, is, er, eo) = accepted w.room before (select_step w.room moment leg on) room after a in

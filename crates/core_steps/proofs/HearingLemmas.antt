@@ -1,37 +1,24 @@
 -- What the ingress takes in: the happening of each leaf, and the world behind it.
-use Rattle.std.proofs.Common.{◌≡◌, ◌∙◌, ◌==◌, ℕ, ◌+◌, ◌^◌, ◌<◌, List, [], ◌∷◌, ◌++◌, length, map, drop, take, get_or, Bool, true, false, cond, Result, Ok, Err, refl, sym, ap, ap₂, subst, arith, add-zero, ◌≤◌}
-use Rattle.std.proofs.lemmas.List.{append-nil, length-replicate, take_more, append_assoc, length-take}
-use Rattle.std.proofs.lemmas.List.Elements.{filter_map-append}
+use Rattle.std.proofs.Common.{◌≡◌, ◌∙◌, ℕ, ◌+◌, ◌^◌, ◌<◌, List, [], ◌∷◌, ◌++◌, length, map, drop, take, get_or, Bool, true, false, cond, Result, Ok, Err, refl, sym, ap, ap₂, subst, arith, add-zero, ◌≤◌}
+use Rattle.std.proofs.lemmas.List.{append-nil, length-replicate, take_more, append_assoc, length-take, map-append}
+use Rattle.std.proofs.lemmas.List.Elements.{filter-append, filter_map-append}
 use Rattle.std.proofs.lemmas.Grind.{replicate_next, flat_map-append}
-use Rattle.std.specs.Prelude.{not, ◌||◌, filter, replicate, Option, None, Some, option_map, is_some, IfOk, ◌&&◌, if◌then◌else◌}
-use Rattle.std.specs.List.{enumerate_from, filter_map, flat_map, cons_option}
+use Rattle.std.specs.Prelude.{not, ◌||◌, filter, replicate, Option, None, Some, option_map, is_some, IfOk, if◌then◌else◌}
+use Rattle.std.specs.List.{enumerate_from, filter_map, flat_map}
 use Rattle.std.specs.Option.{option_to_list}
 use Rattle.settings.specs.declared.fault.RoomFault.{RoomFault}
 use Rattle.members.specs.declared.order.Order.{Order}
-use Rattle.members.specs.declared.order.Order.TheVariants.{Arrive, Depart, Route}
-use Rattle.settings.specs.declared.settings.LegSettings.{LegSettings}
-use Rattle.members.specs.Presence.{is_present_at}
-use Rattle.members.specs.Room.{RoomState, Step, Answers, tick_step, reception_at}
-use Rattle.members.specs.Stream.{timestamps_of}
+use Rattle.members.specs.Room.{RoomState, Step, Answers, tick_step}
 use Rattle.members.specs.Calls.{Call as RoomCall, Tick, room_after}
-use Rattle.core_steps.specs.declared.ticking.Due.TheVariants as due
-use Rattle.intake.specs.declared.intake.Ask.{Ask}
-use Rattle.intake.specs.declared.intake.Ask.TheVariants.{Rate, Resend as Again, Picture}
-use Rattle.events.specs.declared.job.Job.{Job}
-use Rattle.events.specs.declared.job.Job.TheVariants as job
 use Rattle.events.specs.declared.output.Out.{Out}
 use Rattle.core_steps.specs.declared.tasks.FollowUp.{FollowUp}
-use Rattle.core_steps.specs.declared.tasks.FollowUp.TheVariants.{Push}
-use Rattle.core_steps.specs.declared.seed.Seed.TheVariants as seed
-use Rattle.core_steps.specs.Seed.{job_of}
-use Rattle.core_steps.specs.FollowUps.{due_at, due_to, packet_to, report_to, seed_by, follow_up_after, follow_up_on, follow_up_for, refusal_unless}
+use Rattle.core_steps.specs.FollowUps.{AddsTasks, IsTask}
 use Rattle.core_steps.specs.Happening.{Happening, giving, capped_count, world_after}
-use Rattle.core_steps.specs.Hearing.{ticking, numbers_below, leg_stay, owner_of, is_served_by, media_of, leg_report, is_left, task_after, task_for, task_on, refusal_for, job_by}
-use Rattle.settings.specs.Links.{LinkTable, leg_to, worker_of}
+use Rattle.core_steps.specs.Hearing.{ticking, numbers_below, refusal_for}
 use Rattle.core_steps.specs.Machine.{task_of}
 use Rattle.core_steps.specs.Rule.{is_busy, is_empty}
 use Rattle.core_steps.specs.Run.{Leaves}
-use Rattle.core_steps.specs.World.{Setup, WorldState, Task, order, push, pulse, expire, report}
+use Rattle.core_steps.specs.World.{WorldState, Task, order}
 use Rattle.notices.specs.Notification.{Pending}
 
 -- ---- the room
@@ -123,7 +110,7 @@ numbers_push k (x ∷ xs) =
 zero_and : (n : ℕ) → 0 + length {A = ℕ} (replicate n 0) ≡ n
 zero_and n = omega (arith, length-replicate {A = ℕ} n 0)
 
-pub numbers_more : (n : ℕ) → numbers_below (n + 1) ≡ numbers_below n ++ n ∷ []
+numbers_more : (n : ℕ) → numbers_below (n + 1) ≡ numbers_below n ++ n ∷ []
 numbers_more n =
     ap (λ (l : List ℕ). map (λ (p : ℕ × ℕ). p.0) (enumerate_from 0 l)) (replicate_next n 0)
     ∙ numbers_push 0 (replicate n 0) ∙ ap (λ (z : ℕ). numbers_below n ++ z ∷ []) (zero_and n)
@@ -153,13 +140,7 @@ push_option {X} {Y} h xs ys x first before after next ey eb en ea =
     ∙ ap (λ (l : List Y). first ++ l) (sym (filter_map-append h xs (x ∷ [])))
     ∙ ap (λ (l : List X). first ++ filter_map h l) (sym ey)
 
-pub number_one_more : {Y : Type 0} (h : ℕ → Option Y) (n : ℕ) (first before after : List Y) (next : Option Y)
-    → before ≡ first ++ filter_map h (numbers_below n) → next ≡ h n → after ≡ before ++ option_to_list next
-    → after ≡ first ++ filter_map h (numbers_below (n + 1))
-number_one_more h n first before after next eb en ea =
-    push_option h (numbers_below n) (numbers_below (n + 1)) n first before after next (numbers_more n) eb en ea
-
-pub item_one_more : {X Y : Type 0} (h : X → Option Y) (i : ℕ) (xs : List X) (d : X) (first before after : List Y) (next : Option Y)
+item_one_more : {X Y : Type 0} (h : X → Option Y) (i : ℕ) (xs : List X) (d : X) (first before after : List Y) (next : Option Y)
     → i < length xs → before ≡ first ++ filter_map h (take i xs) → next ≡ h (get_or xs i d) → after ≡ before ++ option_to_list next
     → after ≡ first ++ filter_map h (take (i + 1) xs)
 item_one_more h i xs d first before after next lt eb en ea =
@@ -172,14 +153,7 @@ enumerate_more {X} i xs d lt =
     ap (λ (l : List X). enumerate_from 0 l) (take_more xs i d lt) ∙ enumerate_push 0 (take i xs) (get_or xs i d)
     ∙ ap (λ (n : ℕ). enumerate_from 0 (take i xs) ++ (n, get_or xs i d) ∷ []) e
 
-pub numbered_one_more : {X Y : Type 0} (h : ℕ × X → Option Y) (i : ℕ) (xs : List X) (d : X) (first before after : List Y) (next : Option Y)
-    → i < length xs → before ≡ first ++ filter_map h (enumerate_from 0 (take i xs)) → next ≡ h (i, get_or xs i d)
-    → after ≡ before ++ option_to_list next → after ≡ first ++ filter_map h (enumerate_from 0 (take (i + 1) xs))
-numbered_one_more h i xs d first before after next lt eb en ea =
-    push_option h (enumerate_from 0 (take i xs)) (enumerate_from 0 (take (i + 1) xs)) (i, get_or xs i d) first before after next
-    (enumerate_more i xs d lt) eb en ea
-
-pub told_one_more : {X Y Z : Type 0} (h : X → Option Z) (f : Option Z → List Y) (i : ℕ) (xs : List X) (d : X) (first before after : List Y) (next : Option Z)
+told_one_more : {X Y Z : Type 0} (h : X → Option Z) (f : Option Z → List Y) (i : ℕ) (xs : List X) (d : X) (first before after : List Y) (next : Option Z)
     → i < length xs → before ≡ first ++ flat_map (λ x. f (h x)) (take i xs) → next ≡ h (get_or xs i d) → after ≡ before ++ f next
     → after ≡ first ++ flat_map (λ x. f (h x)) (take (i + 1) xs)
 told_one_more {X} {Y} {Z} h f i xs d first before after next lt eb en ea =
@@ -192,123 +166,79 @@ told_one_more {X} {Y} {Z} h f i xs d first before after next lt eb en ea =
 
 -- ---- follow-ups as tasks
 
-cons_is : {Y Z : Type 0} (f : Y → Z) (o : Option Y) (ys : List Y) → map f (cons_option o ys) ≡ cons_option (option_map f o) (map f ys)
-cons_is f None ys = refl
-cons_is f (Some y) ys = refl
+option_listed : (f : FollowUp → Task) (o : Option FollowUp) → map f (option_to_list o) ≡ option_to_list (option_map f o)
+option_listed f None = refl
+option_listed f (Some y) = refl
 
-map_filter : {X Y Z : Type 0} (f : Y → Z) (h : X → Option Y) (g : X → Option Z) → ((x : X) → option_map f (h x) ≡ g x)
-    → (xs : List X) → map f (filter_map h xs) ≡ filter_map g xs
-map_filter f h g e [] = refl
-map_filter f h g e (x ∷ xs) = cons_is f (h x) (filter_map h xs) ∙ ap₂ cons_option (e x) (map_filter f h g e xs)
+-- what was put behind those that waited, as tasks
+pushed_listed : (bits : List ℕ) (before after : List FollowUp) (next : Option FollowUp) → after ≡ before ++ option_to_list next
+    → map (task_of bits) after ≡ map (task_of bits) before ++ map (task_of bits) (option_to_list next)
+pushed_listed bits before after next e = ap (map (task_of bits)) e ∙ map-append (task_of bits) before (option_to_list next)
 
-when_cons : {X Y Z : Type 0} (k : Y → Z) (g : X → Z) (b : Bool) (x : X) (y : Y) (ys : List Y) (zs : List X)
-    → k y ≡ g x → map k ys ≡ map g zs → map k (cons_option (if b then Some y else None) ys) ≡ map g (cond b (x ∷ zs) zs)
-when_cons k g true x y ys zs ek er = λ i. ek i ∷ er i
-when_cons k g false x y ys zs ek er = er
+pushed_task : (bits : List ℕ) (before after : List FollowUp) (next : Option FollowUp) → after ≡ before ++ option_to_list next
+    → map (task_of bits) after ≡ map (task_of bits) before ++ option_to_list (option_map (task_of bits) next)
+pushed_task bits before after next e =
+    pushed_listed bits before after next e ∙ ap (λ (l : List Task). map (task_of bits) before ++ l) (option_listed (task_of bits) next)
 
-when_map : {X Y Z : Type 0} (k : Y → Z) (p : X → Bool) (f : X → Y) (g : X → Z) → ((x : X) → k (f x) ≡ g x)
-    → (xs : List X) → map k (filter_map (λ x. if p x then Some (f x) else None) xs) ≡ map g (filter p xs)
-when_map k p f g e [] = refl
-when_map {X} {Y} k p f g e (x ∷ xs) =
-    when_cons k g (p x) x (f x) (filter_map (λ (z : X). if p z then Some (f z) else None) xs) (filter p xs) (e x) (when_map k p f g e xs)
+-- one of a list more, each of which has a task or none
+pub task_one_more : {X : Type 0} (h : X → Option Task) (i : ℕ) (xs : List X) (d : X) (first before after : List FollowUp) (next : Option FollowUp)
+    → i < length xs → AddsTasks first before (λ bytes. filter_map h (take i xs)) → IsTask next (h (get_or xs i d))
+    → after ≡ before ++ option_to_list next → AddsTasks first after (λ bytes. filter_map h (take (i + 1) xs))
+task_one_more h i xs d first before after next lt eb en ea =
+    λ bits. item_one_more h i xs d (map (task_of bits) first) (map (task_of bits) before) (map (task_of bits) after) (option_map (task_of bits) next) lt
+    (eb bits) (en bits) (pushed_task bits before after next ea)
 
-flat_same : {X Y : Type 0} (f g : X → List Y) → ((x : X) → f x ≡ g x) → (xs : List X) → flat_map f xs ≡ flat_map g xs
-flat_same f g e [] = refl
-flat_same f g e (x ∷ xs) = ap₂ ◌++◌ (e x) (flat_same f g e xs)
-
-flat_filter : {X Y Z : Type 0} (f : Y → Z) (h : X → Option Y) (g : X → List Z) → ((x : X) → map f (option_to_list (h x)) ≡ g x)
-    → (xs : List X) → map f (filter_map h xs) ≡ flat_map g xs
-flat_filter f h g e [] = refl
-flat_filter {X} {Y} f h g e (x ∷ xs) = flat_cons (h x) (filter_map h xs) ∙ ap₂ ◌++◌ (e x) (flat_filter f h g e xs)
+-- one number more, if it is one of those that have a task
+chosen_one : (p : ℕ → Bool) (g : ℕ → Task) (n : ℕ) → map g (filter p (n ∷ [])) ≡ option_to_list (if p n then Some (g n) else None)
+chosen_one p g n = of (p n)
   where
-    flat_cons : (o : Option Y) (ys : List Y) → map f (cons_option o ys) ≡ map f (option_to_list o) ++ map f ys
-    flat_cons None ys = refl
-    flat_cons (Some y) ys = refl
+    of : (b : Bool) → map g (cond b (n ∷ []) []) ≡ option_to_list (if b then Some (g n) else None)
+    of true = refl
+    of false = refl
 
-asked_is : (bits : List ℕ) (moment leg stay : ℕ) (a : Ask) → job_of bits (seed_by moment leg stay a) ≡ job_by moment leg stay a
-asked_is bits moment leg stay (Rate source word) = refl
-asked_is bits moment leg stay (Again source nack) = refl
-asked_is bits moment leg stay (Picture source) = refl
+chosen_more : (p : ℕ → Bool) (g : ℕ → Task) (n : ℕ)
+    → map g (filter p (numbers_below (n + 1)))
+    ≡ map g (filter p (numbers_below n)) ++ option_to_list (if p n then Some (g n) else None)
+chosen_more p g n =
+    ap (λ (l : List ℕ). map g (filter p l)) (numbers_more n) ∙ ap (map g) (filter-append p (numbers_below n) (n ∷ []))
+    ∙ map-append g (filter p (numbers_below n)) (filter p (n ∷ []))
+    ∙ ap (λ (l : List Task). map g (filter p (numbers_below n)) ++ l) (chosen_one p g n)
 
-some_unless : {Y Z : Type 0} (f : Y → Z) (b : Bool) (y : Y) (z : Z) → f y ≡ z
-    → option_map f (if b then None else Some y) ≡ (if b then None else Some z)
-some_unless f true y z e = refl
-some_unless f false y z e = ap Some e
+pub chosen_one_more : (p : ℕ → Bool) (g : List ℕ → ℕ → Task) (n : ℕ) (first before after : List FollowUp) (next : Option FollowUp)
+    → AddsTasks first before (λ bytes. map (g bytes) (filter p (numbers_below n)))
+    → ((bytes : List ℕ) → option_map (task_of bytes) next ≡ (if p n then Some (g bytes n) else None))
+    → after ≡ before ++ option_to_list next → AddsTasks first after (λ bytes. map (g bytes) (filter p (numbers_below (n + 1))))
+chosen_one_more p g n first before after next eb en ea =
+    λ bits. pushed_task bits before after next ea
+    ∙ ap₂ (λ (l : List Task) (o : Option Task). l ++ option_to_list o) (eb bits) (en bits)
+    ∙ append_assoc (map (task_of bits) first) (map (g bits) (filter p (numbers_below n))) (option_to_list (if p n then Some (g bits n) else None))
+    ∙ ap (λ (l : List Task). map (task_of bits) first ++ l) (sym (chosen_more p (g bits) n))
 
-some_if : {Y Z : Type 0} (f : Y → Z) (b : Bool) (y : Y) (z : Z) → f y ≡ z
-    → option_map f (if b then Some y else None) ≡ (if b then Some z else None)
-some_if f true y z e = ap Some e
-some_if f false y z e = refl
+-- one of a numbered list more, each of which has a list of tasks
+pub listed_one_more : {X : Type 0} (h : ℕ × X → List Task) (i : ℕ) (xs : List X) (d : X) (first before after : List FollowUp) (next : Option FollowUp)
+    → i < length xs → AddsTasks first before (λ bytes. flat_map h (enumerate_from 0 (take i xs)))
+    → ((bytes : List ℕ) → map (task_of bytes) (option_to_list next) ≡ h (i, get_or xs i d)) → after ≡ before ++ option_to_list next
+    → AddsTasks first after (λ bytes. flat_map h (enumerate_from 0 (take (i + 1) xs)))
+listed_one_more {X} h i xs d first before after next lt eb en ea =
+    λ bits. let former : List (ℕ × X) = enumerate_from 0 (take i xs) in
+    let one : List (ℕ × X) = (i, get_or xs i d) ∷ [] in
+    pushed_listed bits before after next ea ∙ ap₂ (λ (l m : List Task). l ++ m) (eb bits) (en bits)
+    ∙ append_assoc (map (task_of bits) first) (flat_map h former) (h (i, get_or xs i d))
+    ∙ ap (λ (l : List Task). map (task_of bits) first ++ (flat_map h former ++ l)) (sym (append-nil (h (i, get_or xs i d))))
+    ∙ ap (λ (l : List Task). map (task_of bits) first ++ l) (sym (flat_map-append h former one))
+    ∙ ap (λ (l : List (ℕ × X)). map (task_of bits) first ++ flat_map h l) (sym (enumerate_more i xs d lt))
 
-after_is : (bits : List ℕ) (s : Setup) (r : RoomState) (o : Order) → option_map (task_of bits) (follow_up_after s r o) ≡ task_after s r o
-after_is bits s r (Arrive leg stay) = refl
-after_is bits s r (Depart leg stay) =
-    some_if (task_of bits) (s.rules.leg_goodbyes && is_left s.table r leg) (Push (owner_of s.table leg) (seed.Goodbye leg))
-    (push (owner_of s.table leg) (job.Goodbye leg)) refl
-after_is bits s r (Route leg stay turn on) =
-    some_if (task_of bits) (on && s.rules.early_pictures) (Push (owner_of s.table leg) (seed.Pli leg r.moment))
-    (push (owner_of s.table leg) (job.Pli leg r.moment)) refl
+-- an ask is refused by its follow-up if it is by its task
+refused_alike : (f : FollowUp → Task) (o : Option FollowUp) → refusal_for o ≡ refusal_for (option_map f o)
+refused_alike f None = refl
+refused_alike f (Some y) = refl
 
-pub after_follows : (bits : List ℕ) (s : Setup) (r : RoomState) (os : List Order)
-    → map (task_of bits) (filter_map (follow_up_after s r) os) ≡ filter_map (task_after s r) os
-after_follows bits s r os = map_filter (task_of bits) (follow_up_after s r) (task_after s r) (after_is bits s r) os
-
-follow_is : (bits : List ℕ) (t : LinkTable) (r : RoomState) (a : Ask) (o : Option ℕ)
-    → option_map (task_of bits) (follow_up_on t r a o) ≡ task_on t r a o
-follow_is bits t r a None = refl
-follow_is bits t r a (Some leg) =
-    some_unless (task_of bits) (leg_stay r leg == 0) (Push (owner_of t leg) (seed_by r.moment leg (leg_stay r leg) a))
-    (push (owner_of t leg) (job_by r.moment leg (leg_stay r leg) a))
-    (ap (λ (j : Job). push (owner_of t leg) j) (asked_is bits r.moment leg (leg_stay r leg) a))
-
-pub asks_follow : (bits : List ℕ) (t : LinkTable) (r : RoomState) (endpoint : ℕ) (asks : List Ask)
-    → map (task_of bits) (filter_map (follow_up_for t r endpoint) asks) ≡ filter_map (task_for t r endpoint) asks
-asks_follow bits t r endpoint asks =
-    map_filter (task_of bits) (follow_up_for t r endpoint) (task_for t r endpoint)
-    (λ a. follow_is bits t r a (leg_to t endpoint (media_of a))) asks
-
-refusal_is : (f : FollowUp → Task) (o : Option FollowUp) → refusal_unless o ≡ refusal_for (option_map f o)
-refusal_is f None = refl
-refusal_is f (Some y) = refl
-
-pub asks_refused : (t : LinkTable) (r : RoomState) (endpoint : ℕ) (asks : List Ask)
-    → flat_map (λ a. refusal_unless (follow_up_for t r endpoint a)) asks ≡ flat_map (λ a. refusal_for (task_for t r endpoint a)) asks
-asks_refused t r endpoint asks =
-    flat_same (λ (a : Ask). refusal_unless (follow_up_for t r endpoint a)) (λ (a : Ask). refusal_for (task_for t r endpoint a))
-    (λ a. refusal_is (task_of []) (follow_up_for t r endpoint a) ∙ ap refusal_for (follow_is [] t r a (leg_to t endpoint (media_of a)))) asks
-
-pub pulses_follow : (bits : List ℕ) (r : RoomState) (ns : List ℕ)
-    → map (task_of bits) (filter_map (due_to r due.Pulse) ns) ≡ map pulse (filter (is_present_at r.endpoints) ns)
-pulses_follow bits r ns = when_map (task_of bits) (is_present_at r.endpoints) (due_at due.Pulse) pulse (λ n. refl) ns
-
-pub expires_follow : (bits : List ℕ) (r : RoomState) (ns : List ℕ)
-    → map (task_of bits) (filter_map (due_to r due.Expire) ns) ≡ map expire (filter (is_present_at r.endpoints) ns)
-expires_follow bits r ns = when_map (task_of bits) (is_present_at r.endpoints) (due_at due.Expire) expire (λ n. refl) ns
-
-pub reports_follow : (bits : List ℕ) (r : RoomState) (ns : List ℕ)
-    → map (task_of bits) (filter_map (due_to r due.Report) ns) ≡ map report (filter (is_present_at r.endpoints) ns)
-reports_follow bits r ns = when_map (task_of bits) (is_present_at r.endpoints) (due_at due.Report) report (λ n. refl) ns
-
-pub packets_follow : (bits : List ℕ) (t : LinkTable) (r : RoomState) (publisher : ℕ) (ns : List ℕ)
-    → map (task_of bits) (filter_map (packet_to t r publisher) ns)
-    ≡ map (λ w. push w (job.Packet publisher bits)) (filter (is_served_by t r publisher) ns)
-packets_follow bits t r publisher ns =
-    when_map (task_of bits) (is_served_by t r publisher) (λ w. Push w (seed.Packet publisher)) (λ w. push w (job.Packet publisher bits)) (λ n. refl) ns
-
-unless_list : {Y Z : Type 0} (f : Y → Z) (b : Bool) (y : Y) (z : Z) → f y ≡ z
-    → map f (option_to_list (if b then None else Some y)) ≡ (if b then [] else z ∷ [])
-unless_list f true y z e = refl
-unless_list f false y z e = λ i. e i ∷ []
-
-pub leg_reports_follow : (bits : List ℕ) (t : LinkTable) (r : RoomState) (es : List (ℕ × LegSettings))
-    → map (task_of bits) (filter_map (report_to t r) es) ≡ flat_map (leg_report t r) es
-leg_reports_follow bits t r es = flat_filter (task_of bits) (report_to t r) (leg_report t r) one es
-  where
-    one : (e : ℕ × LegSettings) → map (task_of bits) (option_to_list (report_to t r e)) ≡ leg_report t r e
-    one (leg, l) =
-        unless_list (task_of bits) (leg_stay r leg == 0)
-        (Push (worker_of t l) (seed.Report leg (leg_stay r leg) (timestamps_of (reception_at r l.publisher).report)))
-        (push (worker_of t l) (job.Report leg (leg_stay r leg) (timestamps_of (reception_at r l.publisher).report))) refl
+pub refusal_one_more : {X : Type 0} (h : X → Option Task) (i : ℕ) (xs : List X) (d : X) (first before after : List Out) (next : Option FollowUp)
+    → i < length xs → before ≡ first ++ flat_map (λ x. refusal_for (h x)) (take i xs) → IsTask next (h (get_or xs i d))
+    → after ≡ before ++ refusal_for next → after ≡ first ++ flat_map (λ x. refusal_for (h x)) (take (i + 1) xs)
+refusal_one_more h i xs d first before after next lt eb en ea =
+    told_one_more h (λ (o : Option Task). refusal_for o) i xs d first before after (option_map (task_of []) next) lt eb (en [])
+    (ea ∙ ap (λ (l : List Out). before ++ l) (refused_alike (task_of []) next))
 
 pub tasks_from : (bits : List ℕ) (orders : List Order) (follow_ups : List FollowUp) (done done' : ℕ) → done ≡ 0 → done' ≡ 0
     → map order (drop done orders) ++ map (task_of bits) (drop done' follow_ups) ≡ map order orders ++ map (task_of bits) follow_ups

@@ -112,9 +112,10 @@ task_on t r a (Some leg) =
 abbrev pub task_for : LinkTable → RoomState → ℕ → Ask → Option Task
 task_for t r endpoint a = task_on t r a (leg_to t endpoint (media_of a))
 
-abbrev pub refusal_for : Option Task → List Out
+-- an ask from which nothing follows is refused
+abbrev pub refusal_for : {T : Type 0} → Option T → List Out
 refusal_for None = Refused (Room UnknownLeg) ∷ []
-refusal_for (Some task) = []
+refusal_for (Some next) = []
 
 -- the jobs that follow from a datagram, in the order of its packets and entries
 abbrev pub jobs_of : LinkTable → RoomState → ℕ → List ℕ → Said → List Task

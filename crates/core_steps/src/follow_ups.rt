@@ -1,10 +1,14 @@
 //! What follows from a datagram: a packet for each worker that serves its publisher, and jobs for what is asked for.
 
-ghost use Rattle.std.specs.Prelude.{◌≡◌, ◌+◌, ◌≤◌, ◌<◌, ◌++◌, length, vec_len, vec_capacity};
+ghost use Rattle.std.specs.Prelude.{◌≡◌, ◌+◌, ◌≤◌, ◌<◌, ◌++◌, ℕ, List, length, map, filter, None, Some, option_map, vec_len, vec_capacity, if◌then◌else◌};
 ghost use Rattle.std.specs.List.{filter_map, flat_map};
 ghost use Rattle.std.specs.Option.{option_to_list};
-ghost use Rattle.core_steps.specs.FollowUps.{packet_to, seed_by, follow_up_for, refusal_unless};
-ghost use Rattle.core_steps.specs.Hearing.{is_served_by, numbers_below, owner_of, media_of};
+ghost use Rattle.events.specs.declared.job.Job.TheVariants.{Packet};
+ghost use Rattle.core_steps.specs.FollowUps.{AddsTasks, IsTask};
+ghost use Rattle.core_steps.specs.Hearing.{is_served_by, job_by, media_of, numbers_below, owner_of, refusal_for, task_for};
+ghost use Rattle.core_steps.specs.Machine.{task_of};
+ghost use Rattle.core_steps.specs.Seed.{job_of};
+ghost use Rattle.core_steps.specs.World.{push};
 
 use crate::seed::Seed;
 use crate::tasks::FollowUp;
@@ -23,8 +27,9 @@ pub(crate) fn push_packet(
     follow_ups: &mut Vec<FollowUp>,
 )
     requires { vec_len follow_ups.old + workers ≤ vec_capacity follow_ups.old }
-    ensures { follow_ups.new.items ≡ follow_ups.old.items
-        ++ filter_map (packet_to links.now room.now publisher) (numbers_below workers) }
+    ensures { AddsTasks follow_ups.old.items follow_ups.new.items
+        (λ bytes. map (λ worker. push worker (Packet publisher bytes))
+        (filter (is_served_by links.now room.now publisher) (numbers_below workers))) }
 {
     for worker in 0..workers {
         push_some(packet_to(links, room, publisher, worker), follow_ups);
@@ -33,7 +38,9 @@ pub(crate) fn push_packet(
 
 /// The datagram for a worker that serves the publisher.
 fn packet_to(links: &Links, room: &Room, publisher: u16, worker: u16) -> Option<FollowUp>
-    ensures { result ≡ packet_to links.now room.now publisher worker }
+    ensures { (bytes : List ℕ) → option_map (task_of bytes) result
+        ≡ (if is_served_by links.now room.now publisher worker
+        then Some (push worker (Packet publisher bytes)) else None) }
 {
     if is_served_by(links, room, publisher, worker) {
         Some(FollowUp::Push {
@@ -74,10 +81,10 @@ pub(crate) fn push_asks(
 )
     requires follow_ups { vec_len follow_ups.old + length asks.now ≤ vec_capacity follow_ups.old }
     requires outs { vec_len outs.old + length asks.now ≤ vec_capacity outs.old }
-    ensures follow_ups { follow_ups.new.items ≡ follow_ups.old.items
-        ++ filter_map (follow_up_for links.now room.now endpoint) asks.now }
+    ensures follow_ups { AddsTasks follow_ups.old.items follow_ups.new.items
+        (λ bytes. filter_map (task_for links.now room.now endpoint) asks.now) }
     ensures outs { outs.new.items ≡ outs.old.items
-        ++ flat_map (λ a. refusal_unless (follow_up_for links.now room.now endpoint a)) asks.now }
+        ++ flat_map (λ a. refusal_for (task_for links.now room.now endpoint a)) asks.now }
 {
     for ask in asks {
         push_or_refuse(follow_up(links, room, endpoint, ask), follow_ups, outs);
@@ -89,7 +96,7 @@ fn push_or_refuse(next: Option<FollowUp>, follow_ups: &mut Vec<FollowUp>, outs: 
     requires follow_ups { vec_len follow_ups.old < vec_capacity follow_ups.old }
     requires outs { vec_len outs.old < vec_capacity outs.old }
     ensures follow_ups { follow_ups.new.items ≡ follow_ups.old.items ++ option_to_list next }
-    ensures outs { outs.new.items ≡ outs.old.items ++ refusal_unless next }
+    ensures outs { outs.new.items ≡ outs.old.items ++ refusal_for next }
     ensures len { vec_len follow_ups.new ≤ vec_len follow_ups.old + 1 }
     ensures outs_len { vec_len outs.new ≤ vec_len outs.old + 1 }
     ensures capacity { vec_capacity follow_ups.new ≡ vec_capacity follow_ups.old }
@@ -103,7 +110,7 @@ fn push_or_refuse(next: Option<FollowUp>, follow_ups: &mut Vec<FollowUp>, outs: 
 
 /// The job for an ask.
 fn follow_up(links: &Links, room: &Room, endpoint: u16, ask: &Ask) -> Option<FollowUp>
-    ensures { result ≡ follow_up_for links.now room.now endpoint ask.now }
+    ensures { IsTask result (task_for links.now room.now endpoint ask.now) }
 {
     let leg = links.leg_to(endpoint, media_of(ask))?;
     let stay = room.stay(leg);
@@ -129,7 +136,7 @@ fn media_of(ask: &Ask) -> Ssrc
 
 /// What an ask about a leg in which this stay stands becomes.
 fn seed_by(moment: u64, leg: u16, stay: u64, ask: &Ask) -> Seed
-    ensures { result ≡ seed_by moment leg stay ask.now }
+    ensures { (bytes : List ℕ) → job_of bytes result ≡ job_by moment leg stay ask.now }
 {
     match ask {
         Ask::Rate { word, .. } => Seed::Request {

@@ -1,9 +1,9 @@
 //! What follows from the orders of the room themselves, as legs begin and end.
 
-ghost use Rattle.std.specs.Prelude.{◌≡◌, ◌+◌, ◌≤◌, ◌++◌, length, vec_len, vec_capacity};
+ghost use Rattle.std.specs.Prelude.{◌≡◌, ◌+◌, ◌≤◌, length, vec_len, vec_capacity};
 ghost use Rattle.std.specs.List.{filter_map};
-ghost use Rattle.core_steps.specs.FollowUps.{follow_up_after, picture_after, goodbye_after};
-ghost use Rattle.core_steps.specs.Hearing.{is_left};
+ghost use Rattle.core_steps.specs.FollowUps.{AddsTasks, IsTask};
+ghost use Rattle.core_steps.specs.Hearing.{goodbye_task, is_left, picture_task, task_after};
 ghost use Rattle.core_steps.specs.Machine.{setup_of};
 
 use crate::follow_ups::{owner_of, push_some};
@@ -21,8 +21,8 @@ pub(crate) fn push_after(
     follow_ups: &mut Vec<FollowUp>,
 )
     requires { vec_len follow_ups.old + length orders.now ≤ vec_capacity follow_ups.old }
-    ensures items { follow_ups.new.items ≡ follow_ups.old.items
-        ++ filter_map (follow_up_after (setup_of setup.now) room.now) orders.now }
+    ensures items { AddsTasks follow_ups.old.items follow_ups.new.items
+        (λ bytes. filter_map (task_after (setup_of setup.now) room.now) orders.now) }
     ensures len { vec_len follow_ups.new ≤ vec_len follow_ups.old + length orders.now }
     ensures capacity { vec_capacity follow_ups.new ≡ vec_capacity follow_ups.old }
 {
@@ -33,7 +33,7 @@ pub(crate) fn push_after(
 
 /// What follows from an order.
 fn follow_up_after(setup: &Setup, room: &Room, order: Order) -> Option<FollowUp>
-    ensures { result ≡ follow_up_after (setup_of setup.now) room.now order }
+    ensures { IsTask result (task_after (setup_of setup.now) room.now order) }
 {
     match order {
         Order::Arrive { .. } => None,
@@ -44,7 +44,7 @@ fn follow_up_after(setup: &Setup, room: &Room, order: Order) -> Option<FollowUp>
 
 /// A leg that is sent from now on asks for a picture, if the settings say so.
 fn picture_after(setup: &Setup, room: &Room, leg: u16, on: bool) -> Option<FollowUp>
-    ensures { result ≡ picture_after (setup_of setup.now) room.now leg on }
+    ensures { IsTask result (picture_task (setup_of setup.now) room.now leg on) }
 {
     if on && setup.rules.early_pictures {
         Some(FollowUp::Push {
@@ -61,7 +61,7 @@ fn picture_after(setup: &Setup, room: &Room, leg: u16, on: bool) -> Option<Follo
 
 /// The subscriber of a leg that is left behind is told so, if the settings say so.
 fn goodbye_after(setup: &Setup, room: &Room, leg: u16) -> Option<FollowUp>
-    ensures { result ≡ goodbye_after (setup_of setup.now) room.now leg }
+    ensures { IsTask result (goodbye_task (setup_of setup.now) room.now leg) }
 {
     if setup.rules.leg_goodbyes && is_left(&setup.links, room, leg) {
         Some(FollowUp::Push {

@@ -1,11 +1,13 @@
 //! What the ingress takes in of a moment, and what is due to those present then.
 
-ghost use Rattle.std.specs.Prelude.{◌≡◌, ◌==◌, ◌+◌, ◌-◌, ◌≤◌, ◌<◌, ◌^◌, false, nat_le, [], ◌++◌, List, length, OnOk, OnErr, if◌then◌else◌, vec_len, vec_capacity};
-ghost use Rattle.std.specs.List.{enumerate_from, filter_map};
+ghost use Rattle.std.specs.Prelude.{◌≡◌, ◌==◌, ◌+◌, ◌-◌, ◌≤◌, ◌<◌, ◌^◌, ℕ, false, nat_le, [], ◌++◌, List, length, map, None, Some, OnOk, OnErr, if◌then◌else◌, vec_len, vec_capacity};
+ghost use Rattle.std.specs.List.{enumerate_from, flat_map};
+ghost use Rattle.std.specs.Option.{option_to_list};
+ghost use Rattle.members.specs.Presence.{is_present_at};
 ghost use Rattle.events.specs.declared.output.Out.{Out as Given};
-ghost use Rattle.core_steps.specs.Machine.{Rest, IsIdle, whole, alone};
-ghost use Rattle.core_steps.specs.FollowUps.{due_at, due_to, report_to};
-ghost use Rattle.core_steps.specs.Hearing.{ticking, numbers_below};
+ghost use Rattle.core_steps.specs.Machine.{Rest, IsIdle, whole, alone, task_of};
+ghost use Rattle.core_steps.specs.FollowUps.{AddsTasks, IsTask, task_due, tasks_due};
+ghost use Rattle.core_steps.specs.Hearing.{leg_report, ticking};
 ghost use Rattle.core_steps.specs.Rule.{is_busy};
 ghost use Rattle.core_steps.specs.Run.{Leaves};
 
@@ -91,8 +93,8 @@ enum Due {
 /// This is due to those present of so many endpoints.
 fn push_due(room: &Room, endpoints: u16, due: Due, follow_ups: &mut Vec<FollowUp>)
     requires { vec_len follow_ups.old + endpoints ≤ vec_capacity follow_ups.old }
-    ensures items { follow_ups.new.items ≡ follow_ups.old.items
-        ++ filter_map (due_to room.now due) (numbers_below endpoints) }
+    ensures items { AddsTasks follow_ups.old.items follow_ups.new.items
+        (λ bytes. tasks_due due room.now endpoints) }
     ensures len { vec_len follow_ups.new ≤ vec_len follow_ups.old + endpoints }
     ensures capacity { vec_capacity follow_ups.new ≡ vec_capacity follow_ups.old }
 {
@@ -103,7 +105,8 @@ fn push_due(room: &Room, endpoints: u16, due: Due, follow_ups: &mut Vec<FollowUp
 
 /// This is due to an endpoint, where it is present.
 fn due_to(room: &Room, due: Due, endpoint: u16) -> Option<FollowUp>
-    ensures { result ≡ due_to room.now due endpoint }
+    ensures { IsTask result (if is_present_at room.now.endpoints endpoint
+        then Some (task_due due endpoint) else None) }
 {
     if room.is_present(endpoint) {
         Some(due_at(due, endpoint))
@@ -114,7 +117,7 @@ fn due_to(room: &Room, due: Due, endpoint: u16) -> Option<FollowUp>
 
 /// This is due to an endpoint.
 fn due_at(due: Due, endpoint: u16) -> FollowUp
-    ensures { result ≡ due_at due endpoint }
+    ensures { (bytes : List ℕ) → task_of bytes result ≡ task_due due endpoint }
 {
     match due {
         Due::Pulse => FollowUp::Pulse(endpoint),
@@ -126,9 +129,9 @@ fn due_at(due: Due, endpoint: u16) -> FollowUp
 /// Requests that are too old are taken away, where the settings say so.
 fn push_expiring(setup: &Setup, room: &Room, endpoints: u16, follow_ups: &mut Vec<FollowUp>)
     requires { vec_len follow_ups.old + endpoints ≤ vec_capacity follow_ups.old }
-    ensures items { follow_ups.new.items ≡ follow_ups.old.items
-        ++ (if setup.now.request_ms == 0 then []
-        else filter_map (due_to room.now Due.Expire) (numbers_below endpoints)) }
+    ensures items { AddsTasks follow_ups.old.items follow_ups.new.items
+        (λ bytes. if setup.now.request_ms == 0 then []
+        else tasks_due Due.Expire room.now endpoints) }
     ensures len { vec_len follow_ups.new ≤ vec_len follow_ups.old + endpoints }
     ensures capacity { vec_capacity follow_ups.new ≡ vec_capacity follow_ups.old }
 {
@@ -147,9 +150,9 @@ fn push_reports(
 )
     requires { vec_len follow_ups.old + endpoints + length links.now.legs
         ≤ vec_capacity follow_ups.old }
-    ensures { follow_ups.new.items ≡ follow_ups.old.items
-        ++ (if is_due then filter_map (due_to room.now Due.Report) (numbers_below endpoints)
-        ++ filter_map (report_to links.now room.now) (enumerate_from 0 links.now.legs) else []) }
+    ensures { AddsTasks follow_ups.old.items follow_ups.new.items
+        (λ bytes. if is_due then tasks_due Due.Report room.now endpoints
+        ++ flat_map (leg_report links.now room.now) (enumerate_from 0 links.now.legs) else []) }
 {
     if is_due {
         push_due(room, endpoints, Due::Report, follow_ups);
@@ -166,8 +169,8 @@ fn push_leg_reports(
 )
     requires few { length legs.now < 2 ^ 16 }
     requires room { vec_len follow_ups.old + length legs.now ≤ vec_capacity follow_ups.old }
-    ensures { follow_ups.new.items ≡ follow_ups.old.items
-        ++ filter_map (report_to links.now room.now) (enumerate_from 0 legs.now) }
+    ensures { AddsTasks follow_ups.old.items follow_ups.new.items
+        (λ bytes. flat_map (leg_report links.now room.now) (enumerate_from 0 legs.now)) }
 {
     for (number, leg) in legs.iter().enumerate() {
         push_some(report_to(links, room, number as u16, leg), follow_ups);
@@ -176,7 +179,8 @@ fn push_leg_reports(
 
 /// The report for the subscriber of a leg.
 fn report_to(links: &Links, room: &Room, leg: u16, settings: &LegSettings) -> Option<FollowUp>
-    ensures { result ≡ report_to links.now room.now (leg, settings.now) }
+    ensures { (bytes : List ℕ) → map (task_of bytes) (option_to_list result)
+        ≡ leg_report links.now room.now (leg, settings.now) }
 {
     let stay = room.stay(leg);
     if stay == 0 {

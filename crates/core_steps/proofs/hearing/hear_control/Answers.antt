@@ -1,12 +1,12 @@
-use Rattle.std.proofs.Common.{◌∙◌, ◌++◌, List, length, ap, arith}
+use Rattle.std.proofs.Common.{◌∙◌, ◌++◌, List, length, map, ap, arith}
 use Rattle.std.specs.List.{filter_map, flat_map}
 use Rattle.intake.specs.declared.intake.Ask.{Ask}
 use Rattle.members.specs.declared.order.Order.{Order}
 use Rattle.members.specs.Calls.{Hear}
 use Rattle.members.specs.Room.{hear_step}
 use Rattle.events.specs.declared.output.Out.{Out}
-use Rattle.core_steps.specs.FollowUps.{follow_up_after, follow_up_for, refusal_unless}
-use Rattle.core_steps.specs.Machine.{setup_of, whole}
+use Rattle.core_steps.specs.Hearing.{refusal_for, task_after, task_for}
+use Rattle.core_steps.specs.Machine.{setup_of, task_of, whole}
 use Rattle.core_steps.proofs.FrontLemmas.{not_busy}
 use Rattle.core_steps.proofs.HearingLeaves.{controls}
 use Rattle.core_steps.proofs.HearingLemmas.{few_given, tasks_from}
@@ -20,11 +20,11 @@ returns-in-Ok-clause-ok c =
     c.prepare.new.self.follow_ups.items c.push_after.new.follow_ups.items c.push_asks.new.follow_ups.items _ _ c.args.control.now.report (not_busy c.args.front.now rest c.requires idle)
     idle.1 c.in-Ok.ensures.answers c.in_ok-prepare.ensures.orders is c.as_slice-in-Ok.ensures.value
     c.in_ok-prepare.ensures.follow_ups
-    (c.push_after.ensures.items
-    ∙ ap (λ (os : List Order). c.prepare.new.self.follow_ups.items
-    ++ filter_map (follow_up_after (setup_of c.args.front.now.setup) c.hear.new.self) os) c.as_slice.ensures.value)
+    (λ bits. c.push_after.ensures.items bits
+    ∙ ap (λ (os : List Order). map (task_of bits) c.prepare.new.self.follow_ups.items
+    ++ filter_map (task_after (setup_of c.args.front.now.setup) c.hear.new.self) os) c.as_slice.ensures.value)
     c.push_asks.ensures.follow_ups
-    (c.push_asks.ensures.outs ∙ ap (λ (l : List Out). l ++ flat_map (λ (a : Ask). refusal_unless (follow_up_for c.args.front.now.setup.links c.hear.new.self c.args.endpoint a)) c.as_slice-in-Ok.result.now) c.in_ok-reserve.ensures.items) c.note_report.ensures
+    (c.push_asks.ensures.outs ∙ ap (λ (l : List Out). l ++ flat_map (λ (a : Ask). refusal_for (task_for c.args.front.now.setup.links c.hear.new.self c.args.endpoint a)) c.as_slice-in-Ok.result.now) c.in_ok-reserve.ensures.items) c.note_report.ensures
     (tasks_from c.prepare.new.self.datagram c.hear.new.orders.items c.push_asks.new.follow_ups.items
     c.prepare.new.self.orders_done c.prepare.new.self.follow_ups_done c.in_ok-prepare.ensures.orders_done
     c.in_ok-prepare.ensures.follow_ups_done)

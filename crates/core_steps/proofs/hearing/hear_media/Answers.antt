@@ -1,4 +1,4 @@
-use Rattle.std.proofs.Common.{◌≡◌, ◌∙◌, ◌++◌, List, length, vec_len, ap, arith}
+use Rattle.std.proofs.Common.{◌≡◌, ◌∙◌, ◌++◌, List, length, map, vec_len, ap, arith}
 use Rattle.std.specs.Prelude.{vec_capacity}
 use Rattle.std.specs.Global.{Vec}
 use Rattle.std.specs.List.{filter_map}
@@ -6,8 +6,8 @@ use Rattle.members.specs.declared.order.Order.{Order}
 use Rattle.members.specs.Calls.{Hear}
 use Rattle.members.specs.Room.{hear_step}
 use Rattle.core_steps.specs.declared.tasks.FollowUp.{FollowUp}
-use Rattle.core_steps.specs.FollowUps.{follow_up_after}
-use Rattle.core_steps.specs.Machine.{setup_of, whole}
+use Rattle.core_steps.specs.Hearing.{task_after}
+use Rattle.core_steps.specs.Machine.{setup_of, task_of, whole}
 use Rattle.core_steps.proofs.FrontLemmas.{not_busy}
 use Rattle.core_steps.proofs.HearingLeaves.{medias}
 use Rattle.core_steps.proofs.HearingLemmas.{few_given, tasks_from}
@@ -24,9 +24,9 @@ returns-in-Ok-clause-ok c =
     idle.1 c.knows_count.ensures
     c.in-Ok.ensures.answers (ap (λ (v : Vec Order). v.items) d.orders ∙ p.orders) d.datagram
     c.workers-workers.ensures.value (ap (λ (v : Vec FollowUp). v.items) d.follow_ups ∙ p.follow_ups)
-    (c.push_after.ensures.items
-    ∙ ap (λ (os : List Order). c.copy_datagram.new.self.follow_ups.items
-    ++ filter_map (follow_up_after (setup_of c.args.front.now.setup) c.hear.new.self) os) c.as_slice.ensures.value)
+    (λ bits. c.push_after.ensures.items bits
+    ∙ ap (λ (os : List Order). map (task_of bits) c.copy_datagram.new.self.follow_ups.items
+    ++ filter_map (task_after (setup_of c.args.front.now.setup) c.hear.new.self) os) c.as_slice.ensures.value)
     c.push_packet.ensures c.received.ensures
     (tasks_from c.copy_datagram.new.self.datagram c.hear.new.orders.items c.push_packet.new.follow_ups.items
     c.copy_datagram.new.self.orders_done c.copy_datagram.new.self.follow_ups_done (d.orders_done ∙ p.orders_done)

@@ -1,13 +1,15 @@
-use Rattle.std.proofs.Common.{◌≡◌, ◌+◌, ◌≤◌, ◌++◌, take, vec_len}
+use Rattle.std.proofs.Common.{◌≡◌, ◌+◌, ◌≤◌, take, vec_len}
 use Rattle.std.specs.Prelude.{vec_capacity}
-use Rattle.std.specs.List.{enumerate_from, filter_map}
-use Rattle.core_steps.specs.FollowUps.{report_to}
+use Rattle.std.specs.List.{enumerate_from, flat_map}
+use Rattle.core_steps.specs.FollowUps.{AddsTasks}
+use Rattle.core_steps.specs.Hearing.{leg_report}
 use Rattle.core_steps.proofs.ticking.push_leg_reports.Given as goal
 
 abbrev pub invariant-loop-number : goal.invariant-loop-number
 invariant-loop-number l =
     record {
-      items : l.follow_ups.items ≡ l.initial.follow_ups.items ++ filter_map (report_to l.links l.room) (enumerate_from 0 (take l.number l.legs));
+      items : AddsTasks l.initial.follow_ups.items l.follow_ups.items
+          (λ bytes. flat_map (leg_report l.links l.room) (enumerate_from 0 (take l.number l.legs)));
       len : vec_len l.follow_ups ≤ vec_len l.initial.follow_ups + l.number;
       capacity : vec_capacity l.follow_ups ≡ vec_capacity l.initial.follow_ups;
     }

@@ -1,4 +1,4 @@
-use Rattle.std.proofs.Common.{◌≡◌, ◌≤◌, ℕ, ◌∙◌, ◌++◌, List, length, ap, arith, subst, sym}
+use Rattle.std.proofs.Common.{◌≡◌, ◌≤◌, ℕ, ◌∙◌, ◌++◌, List, length, map, ap, arith, subst, sym}
 use Rattle.std.specs.Prelude.{if◌then◌else◌}
 use Rattle.std.specs.List.{filter_map}
 use Rattle.members.specs.declared.order.Order.{Order}
@@ -7,8 +7,8 @@ use Rattle.members.specs.Room.{tick_step}
 use Rattle.settings.specs.declared.settings.LegSettings.{LegSettings}
 use Rattle.tmmbr_tuple.specs.declared.ssrc.Ssrc.{Ssrc}
 use Rattle.core_steps.specs.declared.tasks.FollowUp.{FollowUp}
-use Rattle.core_steps.specs.FollowUps.{follow_up_after}
-use Rattle.core_steps.specs.Machine.{setup_of, whole}
+use Rattle.core_steps.specs.Hearing.{task_after}
+use Rattle.core_steps.specs.Machine.{setup_of, task_of, whole}
 use Rattle.core_steps.proofs.FrontLemmas.{not_busy}
 use Rattle.core_steps.proofs.HearingLeaves.{ticks_so}
 use Rattle.core_steps.proofs.HearingLemmas.{tasks_from}
@@ -22,10 +22,10 @@ returns-clause-ok c =
     idle.1 c.knows_count.ensures c.in_ok-prepare.ensures.orders c.in_ok-tick.ensures.ok.0
     c.in_ok-tick.ensures.ok.1
     (record {
-      first = c.push_after.ensures.items
-          ∙ ap (λ (l : List FollowUp). l ++ filter_map (follow_up_after (setup_of c.args.front.now.setup) c.tick.new.self) c.as_slice.result.now)
+      first = λ bits. c.push_after.ensures.items bits
+          ∙ ap (λ (l : List FollowUp). map (task_of bits) l ++ filter_map (task_after (setup_of c.args.front.now.setup) c.tick.new.self) c.as_slice.result.now)
           c.in_ok-prepare.ensures.follow_ups
-          ∙ ap (λ (os : List Order). filter_map (follow_up_after (setup_of c.args.front.now.setup) c.tick.new.self) os) c.as_slice.ensures.value;
+          ∙ ap (λ (os : List Order). filter_map (task_after (setup_of c.args.front.now.setup) c.tick.new.self) os) c.as_slice.ensures.value;
       count = ap (λ (l : List Ssrc). length l) c.endpoints.ensures.value;
       says_due = c.is_report_due-is_due.ensures;
       pulses = c.push_due.ensures.items;
