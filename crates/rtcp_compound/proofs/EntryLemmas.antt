@@ -2,6 +2,7 @@
 use Rattle.std.proofs.Common.{◌≡◌, ◌∙◌, ℕ, suc, ◌-◌, ◌/◌, ◌<◌, ◌≤◌, ℤ, List, [], ◌∷◌, length, take, drop, slice_index, sym, ap, arith, length-drop}
 use Rattle.std.proofs.lemmas.List.{take_rest}
 use Rattle.byteorder.specs.Endian.{big_number, twos_complement}
+use Rattle.rtcp_compound.specs.declared.packet.TheConstants.{BLOCK_BYTES}
 use Rattle.rtcp_compound.specs.Content.{sources_in}
 use Rattle.rtcp_compound.specs.Entries.{entries_from}
 use Rattle.rtcp_compound.specs.Report.{ReportBlock, block_in, blocks_in}
@@ -19,19 +20,19 @@ pub sources_none : (bytes : List ℕ) → length bytes < 4 → sources_in bytes 
 unfolding sources_in
 sources_none bytes h = let none : length bytes / 4 ≡ 0 = omega arith in ap (λ n. entries_from (big_number 4) 4 n bytes) none
 
--- a whole block at the front is one of 24 bytes
-block_count : (n : ℕ) → 24 ≤ n → n / 24 ≡ suc ((n - 24) / 24)
+-- a whole block at the front is one of the blocks
+block_count : (n : ℕ) → BLOCK_BYTES ≤ n → n / BLOCK_BYTES ≡ suc ((n - BLOCK_BYTES) / BLOCK_BYTES)
 block_count n h = omega arith
 
-pub blocks_more : (bytes : List ℕ) → 24 ≤ length bytes → blocks_in bytes ≡ block_in bytes ∷ blocks_in (drop 24 bytes)
+pub blocks_more : (bytes : List ℕ) → BLOCK_BYTES ≤ length bytes → blocks_in bytes ≡ block_in bytes ∷ blocks_in (drop BLOCK_BYTES bytes)
 unfolding blocks_in
 blocks_more bytes h =
-    ap (λ n. entries_from block_in 24 n bytes) (block_count (length bytes) h)
-    ∙ ap (λ n. block_in bytes ∷ entries_from block_in 24 (n / 24) (drop 24 bytes)) (sym (length-drop 24 bytes))
+    ap (λ n. entries_from block_in BLOCK_BYTES n bytes) (block_count (length bytes) h)
+    ∙ ap (λ n. block_in bytes ∷ entries_from block_in BLOCK_BYTES (n / BLOCK_BYTES) (drop BLOCK_BYTES bytes)) (sym (length-drop BLOCK_BYTES bytes))
 
-pub blocks_none : (bytes : List ℕ) → length bytes < 24 → blocks_in bytes ≡ []
+pub blocks_none : (bytes : List ℕ) → length bytes < BLOCK_BYTES → blocks_in bytes ≡ []
 unfolding blocks_in
-blocks_none bytes h = let none : length bytes / 24 ≡ 0 = omega arith in ap (λ n. entries_from block_in 24 n bytes) none
+blocks_none bytes h = let none : length bytes / BLOCK_BYTES ≡ 0 = omega arith in ap (λ n. entries_from block_in BLOCK_BYTES n bytes) none
 
 -- the number at a place
 pub number_behind : (n k : ℕ) (bytes : List ℕ) → big_number n (take (length bytes - k) (drop k bytes)) ≡ big_number n (drop k bytes)

@@ -1,15 +1,16 @@
 -- A packet by its header and padding, and what its body holds.
-use Rattle.std.proofs.Common.{◌≡◌, ◌∙◌, ℕ, ◌+◌, ◌-◌, ◌*◌, ◌/◌, ◌%◌, ◌<◌, ◌≤◌, inl, inr, ◌⊎◌, List, [], ◌∷◌, ◌++◌, length, take, drop, slice_index, Option, Some, None, Result, Ok, Err, nat_lt, refl, sym, ap, subst, arith, length-append, true}
+use Rattle.std.proofs.Common.{◌≡◌, ◌∙◌, ℕ, ◌+◌, ◌-◌, ◌%◌, ◌≤◌, inl, inr, List, [], ◌∷◌, length, take, drop, slice_index, Some, None, Result, Ok, Err, refl, sym, ap, subst, arith, length-append, true}
 use Rattle.std.proofs.lemmas.Bool.{ltb-false, and_parts, not-true}
 use Rattle.std.proofs.lemmas.List.{length-take, length-drop}
 use Rattle.std.specs.List.{flat_map}
 use Rattle.std.specs.Result.{IfOk}
 use Rattle.rtcp_compound.specs.declared.fault.RtcpFault.{RtcpFault}
 use Rattle.rtcp_compound.specs.declared.fault.RtcpFault.TheVariants.{CountOver}
-use Rattle.rtcp_compound.specs.Grammar.{RtcpPacket, ReadsRtcp, packet_bytes}
+use Rattle.rtcp_compound.specs.Grammar.{RtcpPacket, ReadsRtcp, packet_bytes, sources_end}
+use Rattle.rtcp_compound.specs.declared.packet.TheConstants.{BYE}
 use Rattle.rtcp_compound.specs.Reading.{◌>>=◌, Gives, IsReadWhole, content_at, fault_in, fits_bye, frame_at, is_padded, packet_at, packets_in, padding_in, sizes, unless}
-use Rattle.rtcp_compound.proofs.HeaderLemmas.{bind_ok, same_ok, unless_ok, content_takes, padding_takes}
-use Rattle.rtcp_compound.proofs.PacketLemmas.{after_content, after_padding, guard_none, wanted, packet_short}
+use Rattle.rtcp_compound.proofs.HeaderLemmas.{bind_ok, same_ok, unless_ok, content_takes}
+use Rattle.rtcp_compound.proofs.PacketLemmas.{after_content, after_padding, wanted}
 use Rattle.rtcp_compound.proofs.DatagramLemmas.{packets_more, packets_none, read_cases, reads_only}
 
 abbrev framed : List ℕ → List ℕ × List ℕ → ℕ → RtcpPacket
@@ -94,24 +95,12 @@ pub ok_again : {X : Type 0} (view : X → RtcpPacket × List ℕ) (P : X → Typ
 ok_again view P bytes (Ok x) whole e h = h x (known bytes (view x) whole e)
 ok_again view P bytes (Err f) whole e h = tt
 
-pub sender_report_fits : (kind count : ℕ) (body : List ℕ) → fault_in kind count body ≡ None → kind ≡ 200 → 24 + 24 * count ≤ length body
-unfolding fault_in
-sender_report_fits kind count body e is =
-    let at : fault_in 200 count body ≡ None = ap (λ (k : ℕ). fault_in k count body) (sym is) ∙ e in
-    ltb-false (length body) (24 + 24 * count) (guard_none _ CountOver at)
-
-pub receiver_report_fits : (kind count : ℕ) (body : List ℕ) → fault_in kind count body ≡ None → kind ≡ 201 → 4 + 24 * count ≤ length body
-unfolding fault_in
-receiver_report_fits kind count body e is =
-    let at : fault_in 201 count body ≡ None = ap (λ (k : ℕ). fault_in k count body) (sym is) ∙ e in
-    ltb-false (length body) (4 + 24 * count) (guard_none _ CountOver at)
-
-pub goodbye_fits : (kind count : ℕ) (body : List ℕ) → fault_in kind count body ≡ None → kind ≡ 203 → 4 * count ≤ length body
+pub goodbye_fits : (kind count : ℕ) (body : List ℕ) → fault_in kind count body ≡ None → kind ≡ BYE → sources_end count ≤ length body
 unfolding fault_in
 goodbye_fits kind count body e is =
-    let at : fault_in 203 count body ≡ None = ap (λ (k : ℕ). fault_in k count body) (sym is) ∙ e in
+    let at : fault_in BYE count body ≡ None = ap (λ (k : ℕ). fault_in k count body) (sym is) ∙ e in
     let fits : fits_bye count body ≡ true = wanted (fits_bye count body) CountOver at in
-    ltb-false (length body) (4 * count) (not-true _ (and_parts _ _ fits).0)
+    ltb-false (length body) (sources_end count) (not-true _ (and_parts _ _ fits).0)
 
 -- a datagram that is split
 sizes_are : (ps : List RtcpPacket) → sizes ps ≡ length (flat_map packet_bytes ps)

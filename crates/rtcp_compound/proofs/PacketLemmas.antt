@@ -6,7 +6,8 @@ use Rattle.std.proofs.lemmas.Bool.{cond-true, cond-false, cond_both, cases_Bool,
 use Rattle.std.proofs.lemmas.List.{take-append-drop, length-take, length-drop, take_at, drop_at, get_or-drop, nil_from_length, get_or-append_right}
 use Rattle.rtcp_compound.specs.declared.fault.RtcpFault.{RtcpFault}
 use Rattle.rtcp_compound.specs.declared.fault.RtcpFault.TheVariants.{Short}
-use Rattle.rtcp_compound.specs.Grammar.{RtcpPacket, packet_bytes, IsPacket, IsBody, HasChunks, HasSources}
+use Rattle.rtcp_compound.specs.Grammar.{RtcpPacket, packet_bytes, IsPacket, IsBody, HasChunks, HasReports, HasSources, sources_end}
+use Rattle.rtcp_compound.specs.declared.packet.TheConstants.{SR, RR, SDES, BYE}
 use Rattle.rtcp_compound.specs.Reading.{◌>>=◌, content_at, padding_in, is_padded, fault_in, fits_bye, after_chunks, unless, packet_at}
 use Rattle.rtcp_compound.proofs.HeaderLemmas.{bind_ok, same_ok, unless_ok, HasContent, content_takes, content_again, HasPadding, padding_takes, padding_again}
 use Rattle.rtcp_compound.proofs.ChunkLemmas.{chunks_take, chunks_again}
@@ -34,21 +35,30 @@ bye_takes count body e =
 
 bye_again : (count : ℕ) (body : List ℕ) → HasSources count body → fits_bye count body ≡ true
 bye_again count body h =
-    and_from _ _ (ap not (le-ltb (length body) (4 * count) h.0))
+    and_from _ _ (ap not (le-ltb (length body) (sources_end count) h.0))
     (elim h.1 [
-      | inl ends ↦ or_left _ _ (eq-eqb (length body) (4 * count) ends)
-      | inr reason ↦ or_right _ _ (ap not (le-ltb (length body) (4 * count + 1 + slice_index body (4 * count)) reason))
+      | inl ends ↦ or_left _ _ (eq-eqb (length body) (sources_end count) ends)
+      | inr reason ↦ or_right _ _ (ap not (le-ltb (length body) (sources_end count + 1 + slice_index body (sources_end count)) reason))
     ])
+
+-- the blocks of a report stand within a body that has no fault
+pub reports_fit : (kind count : ℕ) (body : List ℕ) → fault_in kind count body ≡ None → HasReports kind count body
+unfolding fault_in
+reports_fit kind count body e =
+    let at : (k : ℕ) → kind ≡ k → fault_in k count body ≡ None = λ k is. subst (λ (j : ℕ). fault_in j count body ≡ None) is e in
+    record {
+      sender_report = λ is. ltb-false _ _ (guard_none _ _ (at SR is));
+      receiver_report = λ is. ltb-false _ _ (guard_none _ _ (at RR is));
+    }
 
 pub body_takes : (kind count : ℕ) (body : List ℕ) → length body % 4 ≡ 0 → fault_in kind count body ≡ None → IsBody kind count body
 unfolding fault_in
 body_takes kind count body whole e =
     let at : (k : ℕ) → kind ≡ k → fault_in k count body ≡ None = λ k is. subst (λ (j : ℕ). fault_in j count body ≡ None) is e in
     record {
-      sender_report = λ is. ltb-false _ _ (guard_none _ _ (at 200 is));
-      receiver_report = λ is. ltb-false _ _ (guard_none _ _ (at 201 is));
-      description = λ is. let found = some_of (after_chunks count body) (wanted _ _ (at 202 is)) in chunks_take count body found.0 whole found.1;
-      goodbye = λ is. bye_takes count body (wanted _ _ (at 203 is));
+      reports = reports_fit kind count body e;
+      description = λ is. let found = some_of (after_chunks count body) (wanted _ _ (at SDES is)) in chunks_take count body found.0 whole found.1;
+      goodbye = λ is. bye_takes count body (wanted _ _ (at BYE is));
     }
 
 chunks_found : (count : ℕ) (body : List ℕ) → length body % 4 ≡ 0 → HasChunks count body → is_some (after_chunks count body) ≡ true
@@ -60,8 +70,8 @@ pub body_again : (kind count : ℕ) (body : List ℕ) → length body % 4 ≡ 0 
 unfolding fault_in
 body_again kind count body whole h =
     let P : Option RtcpFault → Type 0 = λ o. o ≡ None in
-    cond_both (kind == 200) _ _ P (λ is. cond-false _ _ _ (le-ltb _ _ (h.sender_report (eqb-true _ _ is)))) (λ _.
-    cond_both (kind == 201) _ _ P (λ is. cond-false _ _ _ (le-ltb _ _ (h.receiver_report (eqb-true _ _ is)))) (λ _.
+    cond_both (kind == 200) _ _ P (λ is. cond-false _ _ _ (le-ltb _ _ (h.reports.sender_report (eqb-true _ _ is)))) (λ _.
+    cond_both (kind == 201) _ _ P (λ is. cond-false _ _ _ (le-ltb _ _ (h.reports.receiver_report (eqb-true _ _ is)))) (λ _.
     cond_both (kind == 202) _ _ P (λ is. cond-true _ _ _ (chunks_found count body whole (h.description (eqb-true _ _ is)))) (λ _.
     cond_both (kind == 203) _ _ P (λ is. cond-true _ _ _ (bye_again count body (h.goodbye (eqb-true _ _ is)))) (λ _. refl))))
 

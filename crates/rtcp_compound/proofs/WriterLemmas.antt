@@ -144,7 +144,7 @@ unfolding sr_packet packet_content
 sr_written old new sender ntp rtp packets octets n words bs same few is s t r p o each e =
     let long = length-blocks bs in
     appended old new n (length bs) 200 words _ _ same (omega arith) (omega arith) (omega arith)
-    (record { sender_report = λ _. omega arith; receiver_report = λ k. absurd (omega arith); description = λ k. absurd (omega arith); goodbye = λ k. absurd (omega arith) })
+    (record { reports = record { sender_report = λ _. omega arith; receiver_report = λ k. absurd (omega arith) }; description = λ k. absurd (omega arith); goodbye = λ k. absurd (omega arith) })
     (same_sr _ _ _ _ _ _ _ _ _ _ _ _ (big_number-reads_back 4 sender [] s) (big_number-reads_back 8 ntp [] t) (big_number-reads_back 4 rtp [] r)
     (big_number-reads_back 4 packets [] p) (big_number-reads_back 4 octets [] o) (blocks_taken bs each)) e
 
@@ -161,7 +161,7 @@ unfolding rr_packet packet_content
 rr_written old new sender n words bs same few is s each e =
     let long = length-blocks bs in
     appended old new n (length bs) 201 words _ _ same (omega arith) (omega arith) (omega arith)
-    (record { sender_report = λ k. absurd (omega arith); receiver_report = λ _. omega arith; description = λ k. absurd (omega arith); goodbye = λ k. absurd (omega arith) })
+    (record { reports = record { sender_report = λ k. absurd (omega arith); receiver_report = λ _. omega arith }; description = λ k. absurd (omega arith); goodbye = λ k. absurd (omega arith) })
     (ap₂ receiver_report (big_number-reads_back 4 sender [] s) (blocks_taken bs each)) e
 
 pub rr_length : (sender : ℕ) (bs : List ReportBlock) → length (packet_bytes (rr_packet sender bs)) ≡ 8 + 24 * length bs
@@ -178,7 +178,7 @@ unfolding bye_packet packet_content
 bye_written old new n words ss same few is each e =
     let long = length-sources ss in
     appended old new n (length ss) 203 words _ _ same (omega arith) (omega arith) (omega arith)
-    (record { sender_report = λ k. absurd (omega arith); receiver_report = λ k. absurd (omega arith); description = λ k. absurd (omega arith); goodbye = λ _. (omega arith, inl long) })
+    (record { reports = record { sender_report = λ k. absurd (omega arith); receiver_report = λ k. absurd (omega arith) }; description = λ k. absurd (omega arith); goodbye = λ _. (omega arith, inl long) })
     (ap goodbye (sources_taken ss each)) e
 
 pub bye_length : (ss : List ℕ) → length (packet_bytes (bye_packet ss)) ≡ 4 + 4 * length ss
@@ -239,7 +239,7 @@ cname_written old new source words cname short is e =
       bytes_are = sym (append-nil (body ++ []) ∙ append-nil body);
     } in
     appended old new 1 1 202 words body (description 1 body) refl (omega arith) (omega arith) (omega arith)
-    (record { sender_report = λ k. absurd (omega arith); receiver_report = λ k. absurd (omega arith); description = λ _. chunks; goodbye = λ k. absurd (omega arith) })
+    (record { reports = record { sender_report = λ k. absurd (omega arith); receiver_report = λ k. absurd (omega arith) }; description = λ _. chunks; goodbye = λ k. absurd (omega arith) })
     refl (e ∙ ap (λ y. old ++ (129 ∷ (202 ∷ (big_bytes 2 words ++ y)))) (sym (chunk_joined source cname)))
 
 pub cname_length : (source : ℕ) (cname : List ℕ) → length (packet_bytes (cname_packet source cname)) ≡ 12 + 4 * ((2 + length cname) / 4)

@@ -5,13 +5,13 @@ use Rattle.rtcp_compound.specs.declared.bye.Sources.{Sources}
 use Rattle.rtcp_compound.specs.declared.view.RtcpView.{RtcpView}
 use Rattle.rtcp_compound.specs.declared.view.RtcpView.TheVariants.{Sr, Rr, Sdes, Bye, Feedback, Other}
 use Rattle.rtcp_compound.specs.Entries.{entries_from}
-use Rattle.rtcp_compound.specs.Grammar.{RtcpPacket}
+use Rattle.rtcp_compound.specs.Grammar.{RtcpPacket, sources_end}
 use Rattle.rtcp_compound.specs.Report.{ReportBlock, blocks_in, blocks_left}
-use Rattle.rtcp_compound.specs.declared.packet.TheConstants.{SR, RR, SDES, BYE, RTPFB, PSFB}
+use Rattle.rtcp_compound.specs.declared.packet.TheConstants.{SR, RR, SDES, BYE, RTPFB, PSFB, SOURCE_BYTES, SENDER_BYTES, BLOCK_BYTES}
 
 -- the sources that stand whole in the bytes
 unfoldable pub sources_in : List ℕ → List ℕ
-sources_in bytes = entries_from (big_number 4) 4 (length bytes / 4) bytes
+sources_in bytes = entries_from (big_number 4) SOURCE_BYTES (length bytes / SOURCE_BYTES) bytes
 
 -- the sources that are left
 abbrev pub sources_left : Sources → List ℕ
@@ -35,11 +35,13 @@ packet_content p =
     sender_report (big_number 4 p.body) (big_number 8 (drop 4 p.body))
     (big_number 4 (drop 12 p.body))
     (big_number 4 (drop 16 p.body)) (big_number 4 (drop 20 p.body))
-    (blocks_in (take (24 * p.count) (drop 24 p.body)))
+    (blocks_in (take (BLOCK_BYTES * p.count) (drop SENDER_BYTES p.body)))
     else if p.kind == RR
-    then receiver_report (big_number 4 p.body) (blocks_in (take (24 * p.count) (drop 4 p.body)))
+    then
+    receiver_report (big_number 4 p.body)
+    (blocks_in (take (BLOCK_BYTES * p.count) (drop SOURCE_BYTES p.body)))
     else if p.kind == SDES then description p.count p.body
-    else if p.kind == BYE then goodbye (sources_in (take (4 * p.count) p.body))
+    else if p.kind == BYE then goodbye (sources_in (take (sources_end p.count) p.body))
     else if (p.kind == RTPFB) || (p.kind == PSFB) then feedback p.count p.kind p.body
     else other p.count p.kind p.body
 

@@ -1,7 +1,7 @@
 -- RTCP datagrams as trees and their bytes (RFC 3550, sections 6.1 and 6.4 to 6.6).
-use Rattle.std.specs.Prelude.{◌≡◌, ℕ, ◌+◌, ◌-◌, ◌*◌, ◌/◌, ◌%◌, ◌^◌, ◌<◌, ◌≤◌, ◌⊎◌, nat_lt, List, [], ◌∷◌, ◌++◌, length, slice_index, if◌then◌else◌}
+use Rattle.std.specs.Prelude.{◌≡◌, ℕ, ◌+◌, ◌-◌, ◌*◌, ◌/◌, ◌%◌, ◌^◌, ◌<◌, ◌≤◌, ◌⊎◌, ◌==◌, nat_lt, List, [], ◌∷◌, ◌++◌, length, slice_index, if◌then◌else◌}
 use Rattle.std.specs.List.{flat_map}
-use Rattle.rtcp_compound.specs.declared.packet.TheConstants.{SR, RR, SDES, BYE}
+use Rattle.rtcp_compound.specs.declared.packet.TheConstants.{SR, RR, SDES, BYE, SOURCE_BYTES, SENDER_BYTES, BLOCK_BYTES}
 
 -- A packet: the count of its entries (or the FMT of feedback), its type, its body, and its padding, which most have not.
 pub record RtcpPacket : Type 0 where
@@ -58,19 +58,31 @@ pub record HasChunks (n : ℕ) (body : List ℕ) : Type 0 where
   pub each : AreChunks chunks
   pub bytes_are : body ≡ flat_map chunk_bytes chunks ++ extension
 
--- A goodbye names so many sources of four bytes; then may come a byte with the length of a reason, and the reason. The
--- rest is ignored.
+-- where so many sources end, in bytes of a body that begins with them
+abbrev pub sources_end : ℕ → ℕ
+sources_end count = SOURCE_BYTES * count
+
+-- A goodbye names so many sources; then may come a byte with the length of a reason, and the reason. The rest is ignored.
 abbrev pub HasSources : ℕ → List ℕ → Type 0
 HasSources count body =
-    (4 * count ≤ length body)
-    × ((length body ≡ 4 * count) ⊎ (4 * count + 1 + slice_index body (4 * count) ≤ length body))
+    (sources_end count ≤ length body)
+    × ((length body ≡ sources_end count)
+    ⊎ (sources_end count + 1 + slice_index body (sources_end count) ≤ length body))
 
--- What stands in a body by the packet's type: behind the sender (4 bytes) and what a sender report says of its sender (20
--- bytes more) so many blocks of 24 bytes, and behind them an extension, which is ignored (RFC 3550, sections 6.4.1 and
--- 6.4.2); chunks; sources; and anything at all in packets of other types.
+-- Where so many report blocks end, in bytes of a report's body: before them stands the source, and in a sender report what
+-- it says of its sender, too (RFC 3550, sections 6.4.1 and 6.4.2).
+abbrev pub reports_end : ℕ → ℕ → ℕ
+reports_end kind count =
+    (if kind == SR then SENDER_BYTES else SOURCE_BYTES) + BLOCK_BYTES * count
+
+-- The body of a report holds the blocks that are counted. After them may come an extension, which is ignored.
+pub record HasReports (kind count : ℕ) (body : List ℕ) : Type 0 where
+  pub sender_report : kind ≡ SR → reports_end SR count ≤ length body
+  pub receiver_report : kind ≡ RR → reports_end RR count ≤ length body
+
+-- What stands in a body by the packet's type: report blocks, chunks, sources, and anything at all in packets of other types.
 pub record IsBody (kind count : ℕ) (body : List ℕ) : Type 0 where
-  pub sender_report : kind ≡ SR → 24 + 24 * count ≤ length body
-  pub receiver_report : kind ≡ RR → 4 + 24 * count ≤ length body
+  pub reports : HasReports kind count body
   pub description : kind ≡ SDES → HasChunks count body
   pub goodbye : kind ≡ BYE → HasSources count body
 

@@ -1,11 +1,11 @@
 -- How the packets of a datagram are read: the packet at the front, or the first of seven faults. What the faults are is
 -- said in Fault.
-use Rattle.std.specs.Prelude.{◌≡◌, ◌==◌, ℕ, zero, suc, ◌+◌, ◌-◌, ◌*◌, ◌/◌, ◌%◌, not, ◌&&◌, ◌||◌, Bool, nat_lt, List, [], ◌∷◌, length, take, drop, slice_index, Option, None, Some, Result, Ok, Err, MatchResult, if◌then◌else◌, option_and_then, is_some}
+use Rattle.std.specs.Prelude.{◌≡◌, ◌==◌, ℕ, zero, suc, ◌+◌, ◌-◌, ◌/◌, ◌%◌, not, ◌&&◌, ◌||◌, Bool, nat_lt, List, [], ◌∷◌, length, take, drop, slice_index, Option, None, Some, Result, Ok, Err, MatchResult, if◌then◌else◌, option_and_then, is_some}
 use Rattle.rtcp_compound.specs.declared.fault.RtcpFault.{RtcpFault}
 use Rattle.rtcp_compound.specs.declared.fault.RtcpFault.TheVariants.{Short, Version, Length, PaddingNotLast, Padding, CountOver, SdesUnended}
 use Rattle.rtcp_compound.specs.declared.packet.Packet.{Packet as ReadPacket}
 use Rattle.rtcp_compound.specs.Fault.{ends_in_padding, size_of}
-use Rattle.rtcp_compound.specs.Grammar.{RtcpPacket, last_byte}
+use Rattle.rtcp_compound.specs.Grammar.{RtcpPacket, last_byte, reports_end, sources_end}
 use Rattle.rtcp_compound.specs.declared.packet.TheConstants.{SR, RR, SDES, BYE}
 
 infixl 10 ◌>>=◌
@@ -58,15 +58,16 @@ after_chunks (suc n) body = option_and_then (after_chunks n) (after_chunk body)
 -- the sources of a goodbye, and the reason where there is one, stand within the body
 abbrev pub fits_bye : ℕ → List ℕ → Bool
 fits_bye count body =
-    not (nat_lt (length body) (4 * count))
-    && ((length body == 4 * count)
-    || not (nat_lt (length body) (4 * count + 1 + slice_index body (4 * count))))
+    not (nat_lt (length body) (sources_end count))
+    && ((length body == sources_end count)
+    || not (nat_lt (length body) (sources_end count + 1 + slice_index body (sources_end count))))
 
 unfoldable pub fault_in : ℕ → ℕ → List ℕ → Option RtcpFault
 fault_in kind count body =
-    if kind == SR then (if nat_lt (length body) (24 + 24 * count) then Some CountOver else None)
+    if kind == SR
+    then (if nat_lt (length body) (reports_end SR count) then Some CountOver else None)
     else if kind == RR
-    then (if nat_lt (length body) (4 + 24 * count) then Some CountOver else None)
+    then (if nat_lt (length body) (reports_end RR count) then Some CountOver else None)
     else if kind == SDES then (if is_some (after_chunks count body) then None else Some SdesUnended)
     else if kind == BYE then (if fits_bye count body then None else Some CountOver)
     else None

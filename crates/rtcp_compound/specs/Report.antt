@@ -4,6 +4,7 @@ use Rattle.byteorder.specs.Endian.{big_number, big_bytes, twos_complement}
 use Rattle.rtcp_compound.specs.declared.report.Block.{Block}
 use Rattle.rtcp_compound.specs.declared.report.Blocks.{Blocks}
 use Rattle.rtcp_compound.specs.Entries.{entries_from}
+use Rattle.rtcp_compound.specs.declared.packet.TheConstants.{BLOCK_BYTES}
 
 -- A report block: the source, the fraction lost, the packets lost, the extended highest sequence number, the jitter, and
 -- the last sender report with the delay since it.
@@ -32,7 +33,7 @@ pub record IsReportBlock (b : ReportBlock) : Type 0 where
   pub last_sr : b.last_sr < 2 ^ 32
   pub delay : b.delay < 2 ^ 32
 
--- a block is 24 bytes
+-- the bytes of a block, BLOCK_BYTES of them
 abbrev pub block_bytes : ReportBlock → List ℕ
 block_bytes b =
     big_bytes 4 b.source ++ (b.fraction ∷ (big_bytes 3 (lost_word b.lost)
@@ -53,7 +54,7 @@ block_in bytes = record {
 
 -- the blocks that stand whole in the bytes
 unfoldable pub blocks_in : List ℕ → List ReportBlock
-blocks_in bytes = entries_from block_in 24 (length bytes / 24) bytes
+blocks_in bytes = entries_from block_in BLOCK_BYTES (length bytes / BLOCK_BYTES) bytes
 
 -- what a block of the program stands for
 abbrev pub block_of : Block → ReportBlock

@@ -1,6 +1,6 @@
 //! Goodbyes (RFC 3550, section 6.6).
 
-use crate::packet::WORD_BYTES;
+use crate::packet::SOURCE_BYTES;
 use byteorder::{BigEndian, ByteOrder};
 use tmmbr_tuple::Ssrc;
 
@@ -22,10 +22,10 @@ impl Iterator for Sources<'_> {
 
     #[tactic(auto, using(crate::proofs::EntryLemmas::sources_more, crate::proofs::EntryLemmas::sources_none))]
     fn next(&mut self) -> Option<Ssrc> {
-        if self.bytes.len() < WORD_BYTES {
+        if self.bytes.len() < SOURCE_BYTES {
             return None;
         }
-        let (source, others) = self.bytes.split_at(WORD_BYTES);
+        let (source, others) = self.bytes.split_at(SOURCE_BYTES);
         self.bytes = others;
         Some(Ssrc(BigEndian::read_u32(source)))
     }

@@ -1,6 +1,7 @@
 //! The packet at the front of a datagram.
 
-ghost use Rattle.std.specs.Prelude.{◌≡◌, ◌≤◌, ◌*◌, ◌+◌, ◌<◌, MatchResult, MatchOption, IfOk, IsTrue, Ok, Err, Some, None, length};
+ghost use Rattle.std.specs.Prelude.{◌≡◌, ◌≤◌, ◌+◌, ◌<◌, MatchResult, MatchOption, IfOk, IsTrue, Ok, Err, Some, None, length};
+ghost use Rattle.rtcp_compound.specs.Grammar.{HasReports, sources_end};
 ghost use Rattle.rtcp_compound.specs.Reading.{Gives, IsReadWhole, content_at, padding_in, fault_in, fits_bye, frame_at, packet_at, rtcp_packet_of};
 
 use crate::fault::RtcpFault;
@@ -20,12 +21,14 @@ pub const RTPFB: u8 = 205;
 /// Payload-specific feedback (RFC 4585, section 6.1).
 pub const PSFB: u8 = 206;
 
-/// The length of a header in bytes, and of a word and a source.
+/// The length of a header in bytes, and of a word.
 pub const WORD_BYTES: usize = 4;
-/// The length of what a sender report says of its sender: source, times and counts.
-pub const SENDER: usize = 24;
-/// The length of a report block.
-pub const BLOCK: usize = 24;
+/// The length of a source: all that a receiver report has before its blocks (RFC 3550, section 6.4.2).
+pub const SOURCE_BYTES: usize = 4;
+/// The length of what a sender report has before its blocks: its source, times and counts (RFC 3550, section 6.4.1).
+pub const SENDER_BYTES: usize = 24;
+/// The length of a report block (RFC 3550, section 6.4.1).
+pub const BLOCK_BYTES: usize = 24;
 
 /// A packet without its header (RFC 3550, section 6.4.1).
 #[derive(Clone, Copy)]
@@ -56,11 +59,9 @@ pub fn read_again(bytes: &[u8]) -> Result<(Packet<'_>, &[u8]), RtcpFault>
     ensures reads { Gives (λ x. (rtcp_packet_of x.0, x.1.now)) result (packet_at bytes.now) }
     ensures rest { IfOk result (λ x. IsReadWhole x.1.now) }
     ensures counted { IfOk result (λ x. x.0.count < 32) }
-    ensures sender_report { IfOk result (λ x. x.0.kind ≡ 200
-        → 24 + 24 * x.0.count ≤ length x.0.body.now) }
-    ensures receiver_report { IfOk result (λ x. x.0.kind ≡ 201
-        → 4 + 24 * x.0.count ≤ length x.0.body.now) }
-    ensures goodbye { IfOk result (λ x. x.0.kind ≡ 203 → 4 * x.0.count ≤ length x.0.body.now) }
+    ensures reports { IfOk result (λ x. HasReports x.0.kind x.0.count x.0.body.now) }
+    ensures goodbye { IfOk result (λ x. x.0.kind ≡ BYE
+        → sources_end x.0.count ≤ length x.0.body.now) }
 {
     read_frame(bytes)
 }
@@ -135,8 +136,8 @@ fn check_body(kind: u8, count: u8, body: &[u8]) -> Result<(), RtcpFault>
 {
     let count = usize::from(count);
     match kind {
-        SR if body.len() < SENDER + BLOCK * count => Err(RtcpFault::CountOver),
-        RR if body.len() < WORD_BYTES + BLOCK * count => Err(RtcpFault::CountOver),
+        SR if body.len() < SENDER_BYTES + BLOCK_BYTES * count => Err(RtcpFault::CountOver),
+        RR if body.len() < SOURCE_BYTES + BLOCK_BYTES * count => Err(RtcpFault::CountOver),
         SDES if after_chunks(count, body).is_none() => Err(RtcpFault::SdesUnended),
         BYE if !fits_bye(count, body) => Err(RtcpFault::CountOver),
         _ => Ok(()),
@@ -148,7 +149,7 @@ fn fits_bye(count: usize, body: &[u8]) -> bool
     requires { count < 256 }
     ensures { result ≡ fits_bye count body.now }
 {
-    let sources = WORD_BYTES * count;
+    let sources = SOURCE_BYTES * count;
     body.len() == sources
         || sources < body.len() && sources + 1 + usize::from(body[sources]) <= body.len()
 }

@@ -3,7 +3,7 @@
 ghost use Rattle.std.specs.Prelude.{◌≡◌, ◌≤◌, pos, negsuc, ◌≤ℤ◌, length};
 ghost use Rattle.byteorder.specs.Endian.{big_number, twos_complement};
 
-use crate::packet::BLOCK;
+use crate::packet::BLOCK_BYTES;
 use byteorder::{BigEndian, ByteOrder};
 use tmmbr_tuple::Ssrc;
 
@@ -37,7 +37,7 @@ impl Block {
 
     /// The block that these bytes begin with.
     fn read(bytes: &[u8]) -> Block
-        requires { 24 ≤ length bytes.now }
+        requires { BLOCK_BYTES ≤ length bytes.now }
         ensures { block_of result ≡ block_in bytes.now }
     {
         Block {
@@ -62,7 +62,7 @@ fn read_lost(bytes: &[u8]) -> i32
     BigEndian::read_i24(bytes)
 }
 
-/// The blocks of a report, each 24 bytes of the datagram.
+/// The blocks of a report, as they stand in the datagram.
 #[derive(Clone, Copy)]
 pub struct Blocks<'a> {
     pub(crate) bytes: &'a [u8],
@@ -80,11 +80,11 @@ impl Iterator for Blocks<'_> {
 
     #[tactic(auto, using(crate::proofs::EntryLemmas::blocks_more, crate::proofs::EntryLemmas::blocks_none))]
     fn next(&mut self) -> Option<Block> {
-        if self.bytes.len() < BLOCK {
+        if self.bytes.len() < BLOCK_BYTES {
             return None;
         }
         let block = Block::read(self.bytes);
-        let (_, others) = self.bytes.split_at(BLOCK);
+        let (_, others) = self.bytes.split_at(BLOCK_BYTES);
         self.bytes = others;
         Some(block)
     }

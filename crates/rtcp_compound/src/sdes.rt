@@ -3,7 +3,7 @@
 ghost use Rattle.std.specs.Prelude.{◌≡◌, ◌≤◌, Some, None, MatchOption, length};
 ghost use Rattle.rtcp_compound.specs.Reading.{after_items, after_chunk, after_chunks};
 
-use crate::packet::WORD_BYTES;
+use crate::packet::{SOURCE_BYTES, WORD_BYTES};
 
 /// The bytes behind so many chunks, where they end within the body.
 pub fn after_chunks(count: usize, body: &[u8]) -> Option<&[u8]>
@@ -25,10 +25,10 @@ fn after_chunk(body: &[u8]) -> Option<&[u8]>
     ensures { MatchOption result (after_chunk body.now ≡ None)
         (λ x. after_chunk body.now ≡ Some x.now) }
 {
-    if body.len() < WORD_BYTES {
+    if body.len() < SOURCE_BYTES {
         return None;
     }
-    let rest = after_items(&body[WORD_BYTES..])?;
+    let rest = after_items(&body[SOURCE_BYTES..])?;
     Some(&rest[rest.len() % WORD_BYTES..])
 }
 

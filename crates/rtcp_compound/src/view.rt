@@ -1,11 +1,14 @@
 //! What a packet says, by its type.
 
-ghost use Rattle.std.specs.Prelude.{◌≡◌, ◌≤◌, ◌<◌, ◌+◌, ◌*◌, length};
+ghost use Rattle.std.specs.Prelude.{◌≡◌, ◌≤◌, ◌<◌, length};
 ghost use Rattle.rtcp_compound.specs.Content.{content_of, packet_content};
+ghost use Rattle.rtcp_compound.specs.Grammar.{HasReports, sources_end};
 ghost use Rattle.rtcp_compound.specs.Reading.{rtcp_packet_of};
 
 use crate::bye::Sources;
-use crate::packet::{BLOCK, BYE, PSFB, Packet, RR, RTPFB, SDES, SENDER, SR, WORD_BYTES};
+use crate::packet::{
+    BLOCK_BYTES, BYE, PSFB, Packet, RR, RTPFB, SDES, SENDER_BYTES, SOURCE_BYTES, SR,
+};
 use crate::report::Blocks;
 use byteorder::{BigEndian, ByteOrder};
 use tmmbr_tuple::Ssrc;
@@ -57,9 +60,8 @@ pub enum RtcpView<'a> {
 #[tactic(auto, unfolding(crate::specs::Content::packet_content))]
 pub fn view_of(packet: Packet<'_>) -> RtcpView<'_>
     requires counted { packet.count < 32 }
-    requires sender_report { packet.kind ≡ 200 → 24 + 24 * packet.count ≤ length packet.body.now }
-    requires receiver_report { packet.kind ≡ 201 → 4 + 24 * packet.count ≤ length packet.body.now }
-    requires goodbye { packet.kind ≡ 203 → 4 * packet.count ≤ length packet.body.now }
+    requires reports { HasReports packet.kind packet.count packet.body.now }
+    requires goodbye { packet.kind ≡ BYE → sources_end packet.count ≤ length packet.body.now }
     ensures { content_of result ≡ packet_content (rtcp_packet_of packet.entry) }
 {
     let Packet {
@@ -77,13 +79,13 @@ pub fn view_of(packet: Packet<'_>) -> RtcpView<'_>
             packets: BigEndian::read_u32(&body[16..]),
             octets: BigEndian::read_u32(&body[20..]),
             blocks: Blocks {
-                bytes: &body[SENDER..SENDER + BLOCK * entries],
+                bytes: &body[SENDER_BYTES..SENDER_BYTES + BLOCK_BYTES * entries],
             },
         },
         RR => RtcpView::Rr {
             sender: Ssrc(BigEndian::read_u32(body)),
             blocks: Blocks {
-                bytes: &body[WORD_BYTES..WORD_BYTES + BLOCK * entries],
+                bytes: &body[SOURCE_BYTES..SOURCE_BYTES + BLOCK_BYTES * entries],
             },
         },
         SDES => RtcpView::Sdes {
@@ -92,7 +94,7 @@ pub fn view_of(packet: Packet<'_>) -> RtcpView<'_>
         },
         BYE => RtcpView::Bye {
             sources: Sources {
-                bytes: &body[..WORD_BYTES * entries],
+                bytes: &body[..SOURCE_BYTES * entries],
             },
         },
         RTPFB | PSFB => RtcpView::Feedback {

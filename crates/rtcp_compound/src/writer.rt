@@ -8,7 +8,7 @@ ghost use Rattle.rtcp_compound.specs.Grammar.{packet_bytes, chunk_bytes};
 ghost use Rattle.rtcp_compound.specs.Report.{block_of, block_bytes, lost_word, IsReportBlock};
 ghost use Rattle.rtcp_compound.specs.Written.{Appends, sr_packet, rr_packet, cname_packet, cname_chunk, bye_packet};
 
-use crate::packet::{BLOCK, BYE, RR, SDES, SENDER, SR, WORD_BYTES};
+use crate::packet::{BLOCK_BYTES, BYE, RR, SDES, SENDER_BYTES, SOURCE_BYTES, SR, WORD_BYTES};
 use crate::report::Block;
 use byteorder::{BigEndian, ByteOrder};
 use std::alloc::{AllocError, Allocator};
@@ -47,7 +47,7 @@ pub fn write_sr<A: Allocator>(
         + length (packet_bytes
         (sr_packet sender.0 ntp rtp packets octets (map block_of blocks.now)))) }
 {
-    let words = (SENDER + BLOCK * blocks.len()) / WORD_BYTES;
+    let words = (SENDER_BYTES + BLOCK_BYTES * blocks.len()) / WORD_BYTES;
     out.reserve(WORD_BYTES + WORD_BYTES * words)?;
     put_header(out, blocks.len(), SR, words);
     put_u32(out, sender.0);
@@ -74,7 +74,7 @@ pub fn write_rr<A: Allocator>(
     ensures no_memory { OnErr result (vec_capacity out.old
         < vec_len out.old + length (packet_bytes (rr_packet sender.0 (map block_of blocks.now)))) }
 {
-    let words = (WORD_BYTES + BLOCK * blocks.len()) / WORD_BYTES;
+    let words = (SOURCE_BYTES + BLOCK_BYTES * blocks.len()) / WORD_BYTES;
     out.reserve(WORD_BYTES + WORD_BYTES * words)?;
     put_header(out, blocks.len(), RR, words);
     put_u32(out, sender.0);
@@ -141,7 +141,7 @@ fn put_header<A: Allocator>(out: &mut Vec<u8, A>, count: usize, kind: u8, words:
 
 /// Appends these blocks.
 fn put_blocks<A: Allocator>(out: &mut Vec<u8, A>, blocks: &[Block])
-    requires room { vec_len out.old + 24 * length blocks.now ≤ vec_capacity out.old }
+    requires room { vec_len out.old + BLOCK_BYTES * length blocks.now ≤ vec_capacity out.old }
     ensures items { out.new.items ≡ out.old.items
         ++ flat_map block_bytes (map block_of blocks.now) }
     ensures each { All IsReportBlock (map block_of blocks.now) }
@@ -153,10 +153,10 @@ fn put_blocks<A: Allocator>(out: &mut Vec<u8, A>, blocks: &[Block])
 
 /// Appends a block.
 fn put_block<A: Allocator>(out: &mut Vec<u8, A>, block: Block)
-    requires room { vec_len out.old + 24 ≤ vec_capacity out.old }
+    requires room { vec_len out.old + BLOCK_BYTES ≤ vec_capacity out.old }
     ensures items { out.new.items ≡ out.old.items ++ block_bytes (block_of block) }
     ensures block { IsReportBlock (block_of block) }
-    ensures len { vec_len out.new ≡ vec_len out.old + 24 }
+    ensures len { vec_len out.new ≡ vec_len out.old + BLOCK_BYTES }
     ensures capacity { vec_capacity out.old ≤ vec_capacity out.new }
 {
     put_u32(out, block.source.0);
@@ -170,7 +170,7 @@ fn put_block<A: Allocator>(out: &mut Vec<u8, A>, block: Block)
 
 /// Appends these sources.
 fn put_sources<A: Allocator>(out: &mut Vec<u8, A>, sources: &[Ssrc])
-    requires room { vec_len out.old + 4 * length sources.now ≤ vec_capacity out.old }
+    requires room { vec_len out.old + SOURCE_BYTES * length sources.now ≤ vec_capacity out.old }
     ensures items { out.new.items ≡ out.old.items
         ++ flat_map (big_bytes 4) (map (λ source. source.0) sources.now) }
     ensures each { All (λ source. source < 2 ^ 32) (map (λ source. source.0) sources.now) }

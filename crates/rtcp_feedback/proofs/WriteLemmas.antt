@@ -58,7 +58,7 @@ joins fmt kind body fits above words long says =
     let p = plain_packet fmt kind body in
     let one : Appends [] (packet_bytes fmt kind body) p (feedback fmt kind body) =
     appended [] (packet_bytes fmt kind body) fmt fmt kind (length body / 4) body (feedback fmt kind body) refl fits long (omega arith)
-    (record { sender_report = λ k. absurd (omega arith); receiver_report = λ k. absurd (omega arith); description = λ k. absurd (omega arith); goodbye = λ k. absurd (omega arith) })
+    (record { reports = record { sender_report = λ k. absurd (omega arith); receiver_report = λ k. absurd (omega arith) }; description = λ k. absurd (omega arith); goodbye = λ k. absurd (omega arith) })
     says refl in
     record {
       one = one;
