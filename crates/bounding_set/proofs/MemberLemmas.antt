@@ -1,6 +1,6 @@
 -- Live requests as members of the rows: who is live has a row, and what an edit does to the rows' envelope.
 use Rattle.std.proofs.Common.{◌≡◌, ◌≢◌, ℕ, IsTrue, Bool, List, [], ◌∷◌, get_or, take, drop, Some, None, Option, inl, inr, refl, sym, ap, ◌∙◌, subst, arith}
-use Rattle.std.specs.Prelude.{◌↔◌, All, Any, Contains}
+use Rattle.std.specs.Prelude.{◌↔◌, All, Contains}
 use Rattle.std.specs.Bool.{Decides}
 use Rattle.std.specs.Option.{option_eq}
 use Rattle.std.proofs.lemmas.Bool.{cases_eq}
@@ -14,6 +14,7 @@ use Rattle.rate_cert.proofs.CheckerLemmas.{no_of}
 use Rattle.rate_cert.proofs.OwnerLemmas.{place_of-row}
 use Rattle.bounding_set.specs.Rows.{HasRisingOwners, Puts, tuple_of}
 use Rattle.bounding_set.specs.Envelope.{IsEnvelopeOf}
+use Rattle.bounding_set.specs.Live.{HasLineOf}
 use Rattle.bounding_set.specs.Spliced.{IsSpliced}
 use Rattle.bounding_set.proofs.RowLemmas.{row_owner, tuple_of-row}
 use Rattle.bounding_set.proofs.SplicedLemmas.{Contains-cons_cases, Contains-head, Contains-tail, IsEnvelopeOf-members}
@@ -129,10 +130,6 @@ All-put P old new x rising puts all here = λ k d below.
           subst P is_x here
       | inr differs ↦ All-contains P old r all (member_of-live old r (sym (puts.others r.owner.0 differs) ∙ asks))
     ]
-
--- a line of the owner
-abbrev pub HasLineOf : ℕ → List Request → Type 0
-HasLineOf owner lines = Any (λ l. l.owner.0 ≡ owner) lines
 
 pub HasLineOf-line : (x : Request) (lines : List Request) → Contains lines x → HasLineOf x.owner.0 lines
 HasLineOf-line x lines (k, below, is) = (k, x, below, is, refl)

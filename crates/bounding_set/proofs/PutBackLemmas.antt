@@ -1,5 +1,5 @@
 -- The rows that are put into an envelope again, one after another.
-use Rattle.std.proofs.Common.{◌≡◌, ℕ, ◌+◌, ◌-◌, ◌<◌, ◌≤◌, Bool, false, IsTrue, Option, Some, None, List, [], ◌∷◌, ◌++◌, length, get_or, take, inl, inr, sym, ap, ◌∙◌, subst, arith}
+use Rattle.std.proofs.Common.{◌≡◌, ℕ, ◌+◌, ◌-◌, ◌<◌, ◌≤◌, Bool, Option, Some, None, List, [], ◌∷◌, ◌++◌, length, get_or, take, inl, inr, sym, ap, ◌∙◌, subst, arith}
 use Rattle.std.specs.Prelude.{All, Contains, ◌⊎◌, IfSome}
 use Rattle.std.specs.List.{HoldsAt}
 use Rattle.std.proofs.lemmas.Bool.{cases_lt, cases_eq}
@@ -8,13 +8,13 @@ use Rattle.std.proofs.lemmas.List.Elements.{All-take, All-append, All-contains, 
 use Rattle.rate_cert.specs.declared.request.Request.{Request}
 use Rattle.rate_cert.proofs.CheckerLemmas.{holds_at}
 use Rattle.bounding_set.specs.Canonical.{HasSameLine, StopsMedia}
-use Rattle.bounding_set.specs.Envelope.{IsHull, Covers, IsEnvelopeOf}
+use Rattle.bounding_set.specs.Envelope.{Covers, KeepsLeastOwner, IsEnvelopeOf}
 use Rattle.bounding_set.specs.Gap.{IsEnvelopeButAt}
 use Rattle.bounding_set.specs.Rows.{HasRisingOwners}
-use Rattle.bounding_set.specs.Spliced.{IsSpliced}
+use Rattle.bounding_set.specs.Spliced.{IsSplicedEnvelope}
 use Rattle.bounding_set.proofs.WalkLemmas.{Covers-through}
 use Rattle.bounding_set.proofs.CertificateLemmas.{no_more_than_rows}
-use Rattle.bounding_set.proofs.SplicedLemmas.{IsLeastOf, TakesOver, Contains-cons_cases, Contains-head, Contains-tail, IsEnvelopeOf-members, IsEnvelopeOf-covered, IsEnvelopeOf-spliced}
+use Rattle.bounding_set.proofs.SplicedLemmas.{IsLeastOf, Contains-cons_cases, Contains-head, Contains-tail, IsEnvelopeOf-members, IsEnvelopeOf-covered, IsEnvelopeOf-spliced}
 
 -- the overhead of the line before a place, and of the line at it
 pub record IsLeftOf (lines : List Request) (place : ℕ) (left : Option ℕ) : Type 0 where
@@ -111,7 +111,7 @@ module _ (rows start : List Request) (place : ℕ) (gap : IsEnvelopeButAt rows s
           (Contains-append_right (take count rows) start (get_or start k d) (Contains-get_or start k d at)) (gap.send k d at)
 
       -- a line that is considered has no greater owner
-      least : HasRisingOwners rows → All (λ l. HasSameLine l x → l.owner.0 ≤ x.owner.0) lines
+      least : HasRisingOwners rows → KeepsLeastOwner lines x
       least rising = λ k d at same.
           let l = get_or lines k d in
           elim (Contains-append_cases (take count rows) start l (envelope.are_rows k d at)) [
@@ -184,9 +184,7 @@ module _ (rows start : List Request) (place : ℕ) (gap : IsEnvelopeButAt rows s
           ])
 
       -- one that was spliced
-      pub put_back_spliced : (new : List Request) → (¬ StopsMedia x) → IsHull new → Covers new x → All (Covers new) lines
-          → All (λ l. HasSameLine l x → l.owner.0 ≤ x.owner.0) new → (put : Bool) (tests : ℕ) → (put ≡ false → new ≡ lines)
-          → (IsTrue put → IsSpliced lines x new tests) → (IsTrue put → TakesOver lines x) → IsEnvelopeOf (considered rows start (count + 1)) new
-      put_back_spliced new sends hull covers covers_old least put tests unchanged spliced takes =
-          one_more new (IsEnvelopeOf-spliced (considered rows start count) lines new x envelope sends hull covers covers_old least
-          put tests unchanged spliced takes)
+      pub put_back_spliced : (new : List Request) (put : Bool) (tests : ℕ) → (¬ StopsMedia x) → IsSplicedEnvelope lines x put new tests
+          → IsEnvelopeOf (considered rows start (count + 1)) new
+      put_back_spliced new put tests sends spliced =
+          one_more new (IsEnvelopeOf-spliced (considered rows start count) lines new x put tests envelope sends spliced)

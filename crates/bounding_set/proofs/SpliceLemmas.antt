@@ -10,7 +10,7 @@ use Rattle.tmmbr_tuple.specs.Tuple.{rate_of}
 use Rattle.rate_cert.specs.declared.request.Request.{Request}
 use Rattle.bounding_set.specs.Canonical.{HasSameLine, StopsMedia}
 use Rattle.bounding_set.specs.Announced.{IsAboveChord}
-use Rattle.bounding_set.specs.Envelope.{IsNotAfter, ReachesBeyond, IsBehind, Crosses, Turns, IsHull, Covers}
+use Rattle.bounding_set.specs.Envelope.{IsNotAfter, ReachesBeyond, IsBehind, Crosses, Turns, IsHull, Covers, KeepsLeastOwner}
 use Rattle.bounding_set.specs.Place.{IsPlaceOf, IsNeededAt}
 use Rattle.bounding_set.specs.Spliced.{ImplyTogether}
 use Rattle.bounding_set.proofs.TurnLemmas.{IsBelowChord, beyond_beyond, permitted_by_stricter}
@@ -343,7 +343,7 @@ module _ (lines : List Request) (x : Request) (hull : IsHull lines) (at from : �
         ]
       ]
 
-  pub least_from_first : ((d : Request) → IsNotAfter (get_or lines at d) x) → All (λ l. HasSameLine l x → l.owner.0 ≤ x.owner.0) lines
+  pub least_from_first : ((d : Request) → IsNotAfter (get_or lines at d) x) → KeepsLeastOwner lines x
   least_from_first first k d below same =
       let here : k ≡ at = only_there k d below same.overhead in
       let owners = (first d).owner (subst (λ n. (get_or lines n d).tuple.overhead ≡ x.tuple.overhead) here same.overhead)

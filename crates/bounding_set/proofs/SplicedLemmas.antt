@@ -1,12 +1,13 @@
 -- Envelopes and their rows: one row more or less, and a line that is put in.
-use Rattle.std.proofs.Common.{◌≡◌, ℕ, zero, suc, ◌≤◌, ◌↔◌, Bool, false, IsTrue, List, [], ◌∷◌, get_or, take, drop, inl, inr, refl, sym, ◌∙◌, subst, arith}
-use Rattle.std.specs.Prelude.{All, Any, Contains, ◌⊎◌}
+use Rattle.std.proofs.Common.{◌≡◌, ℕ, zero, suc, ◌+◌, ◌≤◌, ◌↔◌, Bool, IsTrue, List, [], ◌∷◌, length, get_or, take, drop, inl, inr, refl, sym, ap, ◌∙◌, subst, arith}
+use Rattle.std.specs.Prelude.{All, Contains, ◌⊎◌}
 use Rattle.std.proofs.lemmas.Bool.{cases_Bool}
+use Rattle.std.proofs.lemmas.List.{length-append, length-take, length-drop}
 use Rattle.std.proofs.lemmas.List.Elements.{All-contains, All-cons, All-tail, All-append, All-take, All-drop, Contains-get_or, Contains-append_right, AllWithin-from_all}
 use Rattle.rate_cert.specs.declared.request.Request.{Request}
 use Rattle.bounding_set.specs.Canonical.{HasSameLine, StopsMedia}
-use Rattle.bounding_set.specs.Envelope.{IsHull, Covers, IsEnvelope, IsEnvelopeOf}
-use Rattle.bounding_set.specs.Spliced.{IsSpliced}
+use Rattle.bounding_set.specs.Envelope.{Covers, TakesOver, KeepsLeastOwner, IsEnvelope, IsEnvelopeOf}
+use Rattle.bounding_set.specs.Spliced.{IsSpliced, IsSplicedEnvelope}
 use Rattle.bounding_set.proofs.WalkLemmas.{Covers-through}
 
 -- an element is the first, or stands behind it
@@ -55,7 +56,7 @@ IsEnvelopeOf-without gone rows lines envelope not_line = record {
 
 -- a row that the lines cover comes in, if no line of its own has a greater owner
 pub IsEnvelopeOf-covered : (x : Request) (rows lines : List Request) → IsEnvelopeOf rows lines → (¬ StopsMedia x → Covers lines x)
-    → All (λ l. HasSameLine l x → l.owner.0 ≤ x.owner.0) lines → IsEnvelopeOf (x ∷ rows) lines
+    → KeepsLeastOwner lines x → IsEnvelopeOf (x ∷ rows) lines
 IsEnvelopeOf-covered x rows lines envelope covers least = record {
   hull = envelope.hull;
   covers = All-cons (λ r. ¬ StopsMedia r → Covers lines r) x rows covers envelope.covers;
@@ -83,6 +84,19 @@ IsEnvelope-from_sending rows lines envelope send = record {
       (envelope.least_owner k d below);
 }
 
+-- how many lines there are then
+pub length-spliced : (old new : List Request) (x : Request) (tests : ℕ) → (s : IsSpliced old x new tests) → length new + s.high ≡ s.low + length old + 1
+length-spliced old new x tests s =
+    omega (
+      arith,
+      ap length s.is,
+      length-append (take s.low old) (x ∷ drop s.high old),
+      length-take s.low old,
+      length-drop s.high old,
+      s.rising,
+      s.in_range,
+    )
+
 -- what holds of the old lines and of the one that is put in holds of the new ones
 pub All-spliced : (P : Request → Type 0) (old new : List Request) (x : Request) (tests : ℕ) → IsSpliced old x new tests → All P old → P x → All P new
 All-spliced P old new x tests spliced all here =
@@ -90,13 +104,8 @@ All-spliced P old new x tests spliced all here =
     (All-append P (take spliced.low old) (x ∷ drop spliced.high old) (All-take P spliced.low old all)
     (All-cons P x (drop spliced.high old) here (All-drop P spliced.high old all)))
 
--- whose line the old lines cover, of that line some old one has no lesser owner
-abbrev pub TakesOver : List Request → Request → Type 0
-TakesOver old x =
-    (z : Request) → Covers old z → HasSameLine x z → Any (λ l. HasSameLine x l × (x.owner.0 ≤ l.owner.0)) old
-
-module _ (rows old new : List Request) (x : Request) (envelope : IsEnvelopeOf rows old) (sends : ¬ StopsMedia x) (hull : IsHull new)
-    (covers : Covers new x) (covers_old : All (Covers new) old) (least : All (λ l. HasSameLine l x → l.owner.0 ≤ x.owner.0) new) where
+module _ (rows old new : List Request) (x : Request) (put : Bool) (tests : ℕ) (envelope : IsEnvelopeOf rows old) (sends : ¬ StopsMedia x)
+    (spliced : IsSplicedEnvelope old x put new tests) where
   -- no row with its line has a lesser owner
   least_of_rows : TakesOver old x → IsLeastOf rows x
   least_of_rows takes k d below same =
@@ -108,28 +117,28 @@ module _ (rows old new : List Request) (x : Request) (envelope : IsEnvelopeOf ro
       let same_line : HasSameLine l y = record { rate = sym before.4.0.rate ∙ same.rate; overhead = sym before.4.0.overhead ∙ same.overhead } in
       omega (arith, no_later k d below same_line, before.4.1)
 
-  IsEnvelopeOf-put : (tests : ℕ) → IsSpliced old x new tests → TakesOver old x → IsEnvelopeOf (x ∷ rows) new
-  IsEnvelopeOf-put tests spliced takes =
+  IsEnvelopeOf-put : IsTrue put → IsEnvelopeOf (x ∷ rows) new
+  IsEnvelopeOf-put is =
+      let put_in = spliced.spliced is in
       let least_in_rows : All (IsLeastOf rows) new =
-      All-spliced (IsLeastOf rows) old new x tests spliced envelope.least_owner (least_of_rows takes) in
+      All-spliced (IsLeastOf rows) old new x tests put_in envelope.least_owner (least_of_rows (spliced.least_new is)) in
       record {
-        hull = hull;
-        covers = All-cons (λ r. ¬ StopsMedia r → Covers new r) x rows (λ _. covers)
-            (λ k d below y_sends. Covers-through old new (get_or rows k d) covers_old (envelope.covers k d below y_sends));
-        are_rows = All-spliced (Contains (x ∷ rows)) old new x tests spliced
+        hull = spliced.hull;
+        covers = All-cons (λ r. ¬ StopsMedia r → Covers new r) x rows (λ _. spliced.covers)
+            (λ k d below y_sends. Covers-through old new (get_or rows k d) spliced.covers_old (envelope.covers k d below y_sends));
+        are_rows = All-spliced (Contains (x ∷ rows)) old new x tests put_in
             (λ k d below. Contains-tail x rows (get_or old k d) (envelope.are_rows k d below)) (Contains-head x rows);
-        send = All-spliced (λ l. ¬ StopsMedia l) old new x tests spliced envelope.send sends;
+        send = All-spliced (λ l. ¬ StopsMedia l) old new x tests put_in envelope.send sends;
         least_owner = λ k d below. All-cons (λ y. HasSameLine (get_or new k d) y → (get_or new k d).owner.0 ≤ y.owner.0) x rows
-            (least k d below) (least_in_rows k d below);
+            (spliced.least k d below) (least_in_rows k d below);
       }
 
-  -- the envelope of the rows with x, from what `splice` ensures: it answered whether x was put in
-  pub IsEnvelopeOf-spliced : (put : Bool) (tests : ℕ) → (put ≡ false → new ≡ old) → (IsTrue put → IsSpliced old x new tests)
-      → (IsTrue put → TakesOver old x) → IsEnvelopeOf (x ∷ rows) new
-  IsEnvelopeOf-spliced put tests unchanged spliced takes =
+  -- the envelope of the rows with x, whether it was put in or left out
+  pub IsEnvelopeOf-spliced : IsEnvelopeOf (x ∷ rows) new
+  IsEnvelopeOf-spliced =
       elim (cases_Bool put) [
-        | inl is ↦ IsEnvelopeOf-put tests (spliced is) (takes is)
+        | inl is ↦ IsEnvelopeOf-put is
         | inr isn't ↦
-            let same = unchanged isn't in
-            IsEnvelopeOf-covered x rows new (subst (IsEnvelopeOf rows) (sym same) envelope) (λ _. covers) least
+            let same = spliced.unchanged isn't in
+            IsEnvelopeOf-covered x rows new (subst (IsEnvelopeOf rows) (sym same) envelope) (λ _. spliced.covers) spliced.least
       ]

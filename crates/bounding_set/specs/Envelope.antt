@@ -1,5 +1,5 @@
 -- The envelope of requests of positive rate: the lines that some pair is forbidden by alone, by rising overhead.
-use Rattle.std.specs.Prelude.{◌≡◌, ℕ, ◌+◌, ◌*◌, ◌<◌, ◌≤◌, ◌⊎◌, List, length, All, AllPairs, Contains, slice_index_or}
+use Rattle.std.specs.Prelude.{◌≡◌, ℕ, ◌+◌, ◌*◌, ◌<◌, ◌≤◌, ◌⊎◌, List, length, All, AllPairs, Any, Contains, slice_index_or}
 use Rattle.std.specs.List.{AllWithin}
 use Rattle.tmmbr_tuple.specs.Tuple.{rate_of}
 use Rattle.tmmbr_tuple.specs.RatePair.{RatePair, Permits}
@@ -51,6 +51,29 @@ Covers lines y = (p : RatePair) → IsFeasible lines p → Permits y.tuple p
 -- x stands where it is, or y took its place: then no request that the old lines cover has the line of y
 abbrev pub ComesFrom : List Request → Request → Request → Type 0
 ComesFrom old y x = Contains old x ⊎ ((x ≡ y) × ((z : Request) → Covers old z → ¬ HasSameLine y z))
+
+-- if the lines cover a request with the line of x, one of them has it, too, for an owner that isn't less than that of x
+abbrev pub TakesOver : List Request → Request → Type 0
+TakesOver lines x =
+    (z : Request) → Covers lines z → HasSameLine x z
+    → Any (λ l. HasSameLine x l × (x.owner.0 ≤ l.owner.0)) lines
+
+-- of the line of x the least owner stays: none of these lines has it for a greater owner than that of x
+abbrev pub KeepsLeastOwner : List Request → Request → Type 0
+KeepsLeastOwner lines x = All (λ l. HasSameLine l x → l.owner.0 ≤ x.owner.0) lines
+
+-- The lines after x, which goes after all the old ones, was added to them, or left out: a hull that covers x and the old lines.
+-- Each is an old one, or it is x, and then no request that the old lines cover has its line.
+pub record IsAddedEnvelope (old : List Request) (x : Request) (new : List Request) : Type 0 where
+  pub hull : IsHull new
+  pub covers : Covers new x
+  pub covers_old : All (Covers new) old
+  pub comes_from : All (ComesFrom old x) new
+
+-- a hull of lines that send: the rate of none is 0
+pub record IsSendingHull (lines : List Request) : Type 0 where
+  pub hull : IsHull lines
+  pub all_send : All (λ l. ¬ StopsMedia l) lines
 
 -- The envelope of the rows below a place: a hull of such rows which covers them, each with the least owner of its line.
 pub record IsEnvelopeBelow (rows : List Request) (lines : List Request) (place : ℕ) : Type 0 where

@@ -5,6 +5,8 @@ pub mod State
 pub mod Announced
 pub mod Envelope
 pub mod Spliced
+pub mod Tests
+pub mod Live
 pub mod Gap
 pub mod Place
 pub mod Reach

@@ -1,11 +1,10 @@
 -- Where a line stands among those of an envelope, and what it makes needless there.
-use Rattle.std.specs.Prelude.{◌≡◌, ℕ, ◌<◌, ◌≤◌, List, length, Any, slice_index_or}
+use Rattle.std.specs.Prelude.{◌≡◌, ℕ, ◌<◌, ◌≤◌, List, length, slice_index_or}
 use Rattle.std.specs.List.{AllWithin}
 use Rattle.tmmbr_tuple.specs.RatePair.{RatePair, Permits}
 use Rattle.rate_cert.specs.declared.request.Request.{Request}
 use Rattle.rate_cert.specs.Requests.{IsFeasible}
-use Rattle.bounding_set.specs.Canonical.{HasSameLine}
-use Rattle.bounding_set.specs.Envelope.{IsNotAfter, ReachesBeyond, IsBehind, Crosses, Turns, Covers}
+use Rattle.bounding_set.specs.Envelope.{IsNotAfter, ReachesBeyond, IsBehind, Crosses, Turns, TakesOver}
 
 -- lines of less overhead than x stand before `at`, and those of more from `from` on
 pub record IsPlaceOf (lines : List Request) (x : Request) (at from : ℕ) : Type 0 where
@@ -23,8 +22,7 @@ pub record IsNeededAt (lines : List Request) (x : Request) (at from : ℕ) : Typ
   pub first : AllWithin (IsNotAfter x) lines at from
   pub turns : (i j : ℕ) (d : Request) → i < at → from ≤ j → j < length lines
       → Turns (slice_index_or lines i d) x (slice_index_or lines j d)
-  pub new : (z : Request) → Covers lines z → HasSameLine x z
-      → Any (λ l. HasSameLine x l × (x.owner.0 ≤ l.owner.0)) lines
+  pub new : TakesOver lines x
 
 -- x in place of the lines from `low` to `high`: they follow from it and the others, which it crosses and turns with
 pub record StandsFor (lines : List Request) (x : Request) (low high : ℕ) : Type 0 where
@@ -40,3 +38,9 @@ pub record StandsFor (lines : List Request) (x : Request) (low high : ℕ) : Typ
       → Turns (slice_index_or lines i d) x (slice_index_or lines j d)
   pub turns_behind : (i j : ℕ) (d : Request) → high ≤ i → i < j → j < length lines
       → Turns x (slice_index_or lines i d) (slice_index_or lines j d)
+
+-- x in place of the lines from `low` to `high`, those of its overhead, which are from `at` to `from`, among them
+pub record StandsAround (lines : List Request) (x : Request) (at from low high : ℕ) : Type 0 where
+  pub stands : StandsFor lines x low high
+  pub before : low ≤ at
+  pub behind : from ≤ high

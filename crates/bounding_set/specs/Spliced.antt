@@ -1,9 +1,11 @@
 -- A line that is put into an envelope, and the tests that it takes.
-use Rattle.std.specs.Prelude.{◌≡◌, ℕ, ◌+◌, ◌-◌, ◌*◌, ◌<◌, ◌≤◌, List, ◌∷◌, ◌++◌, length, take, drop}
+use Rattle.std.specs.Prelude.{◌≡◌, ℕ, ◌+◌, ◌-◌, ◌*◌, ◌^◌, ◌<◌, ◌≤◌, Bool, false, IsTrue, List, ◌∷◌, ◌++◌, length, take, drop, All}
 use Rattle.tmmbr_tuple.specs.declared.tuple.Tuple.{Tuple}
 use Rattle.tmmbr_tuple.specs.Tuple.{rate_of}
 use Rattle.tmmbr_tuple.specs.RatePair.{RatePair, Permits}
 use Rattle.rate_cert.specs.declared.request.Request.{Request}
+use Rattle.rate_cert.specs.declared.certificate.TheConstants.{MAX_REQUESTS}
+use Rattle.bounding_set.specs.Envelope.{IsHull, Covers, TakesOver, KeepsLeastOwner}
 
 -- two tuples imply a third where it permits each pair that both permit
 abbrev pub ImplyTogether : Tuple → Tuple → Tuple → Type 0
@@ -31,3 +33,21 @@ pub record IsSpliced (old : List Request) (x : Request) (new : List Request)
   pub is : new ≡ take low old ++ x ∷ drop high old
   pub each_tested : high - low ≤ tests + 1
   pub few_tests : tests ≤ (high - low) + 4
+
+-- there is room for one more line, and for the tests that it may take in a count of 32 bits
+pub record HasRoomToSplice (lines : List Request) (count : ℕ) : Type 0 where
+  pub room : length lines < MAX_REQUESTS
+  pub countable : count + length lines + 4 < 2 ^ 32
+
+-- The lines after x was put among them, or left out: a hull that covers x and all the old lines, with no greater owner of its
+-- line. If x was left out, nothing changed. If it was put in, it took the place of what it makes needless, and if the old lines
+-- had or covered its line, one of them had it for no lesser owner.
+pub record IsSplicedEnvelope (old : List Request) (x : Request) (put : Bool)
+    (new : List Request) (tests : ℕ) : Type 0 where
+  pub unchanged : put ≡ false → new ≡ old
+  pub spliced : IsTrue put → IsSpliced old x new tests
+  pub hull : IsHull new
+  pub covers : Covers new x
+  pub covers_old : All (Covers new) old
+  pub least : KeepsLeastOwner new x
+  pub least_new : IsTrue put → TakesOver old x

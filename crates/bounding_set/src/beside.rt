@@ -9,6 +9,7 @@ ghost use Rattle.rate_cert.specs.Requests.{IsFeasible};
 ghost use Rattle.bounding_set.specs.Canonical.{StopsMedia};
 ghost use Rattle.bounding_set.specs.Envelope.{ReachesBeyond, IsBehind, Crosses, Turns, IsHull};
 ghost use Rattle.bounding_set.specs.Spliced.{ImplyTogether};
+ghost use Rattle.bounding_set.specs.Tests.{CountsDropped};
 
 use crate::implies::implies;
 use rate_cert::Request;
@@ -26,10 +27,7 @@ pub fn needed_before(lines: &[Request], x: &Request, count: &mut u32) -> usize
     ensures rates { AllWithin (λ l. rate_of l.tuple < rate_of x.now.tuple) lines.now 0 result }
     ensures turns { (i j : ℕ) (d : RateRequest) → i < j → j < result
         → Turns (slice_index_or lines.now i d) (slice_index_or lines.now j d) x.now }
-    ensures counted { count.old ≤ count.new }
-    ensures asked { 0 < length lines.now → count.old + 1 ≤ count.new }
-    ensures each { count.old + length lines.now ≤ count.new + result }
-    ensures few { count.new + result ≤ count.old + length lines.now + 1 }
+    ensures tests { CountsDropped count.old count.new (length lines.now) (length lines.now - result) }
 {
     let mut needed = lines.len();
     while is_needless_before(lines, needed, x, count) {
@@ -53,10 +51,7 @@ pub fn needed_behind(lines: &[Request], x: &Request, count: &mut u32) -> usize
     ensures crosses { AllWithin (Crosses x.now) lines.now result (length lines.now) }
     ensures turns { (i j : ℕ) (d : RateRequest) → result ≤ i → i < j → j < length lines.now
         → Turns x.now (slice_index_or lines.now i d) (slice_index_or lines.now j d) }
-    ensures counted { count.old ≤ count.new }
-    ensures asked { 0 < length lines.now → count.old + 1 ≤ count.new }
-    ensures each { count.old + result ≤ count.new }
-    ensures few { count.new ≤ count.old + result + 1 }
+    ensures tests { CountsDropped count.old count.new (length lines.now) result }
 {
     let mut first = 0;
     while is_needless_behind(lines, first, x, count) {

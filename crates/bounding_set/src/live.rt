@@ -1,9 +1,10 @@
 //! Changes of the live rows together with their envelope.
 
-ghost use Rattle.std.specs.Prelude.{◌≡◌, ◌≢◌, ◌+◌, ◌*◌, ◌^◌, ◌<◌, ◌≤◌, ◌↔◌, [], ◌∷◌, ◌++◌, length, All, Any, Some, None, IsTrue, false};
+ghost use Rattle.std.specs.Prelude.{◌≡◌, ◌≢◌, ◌+◌, ◌*◌, ◌<◌, ◌≤◌, ◌↔◌, [], ◌∷◌, ◌++◌, length, All, Some, None, IsTrue, false};
 ghost use Rattle.bounding_set.specs.Rows.{HasRisingOwners, Puts, tuple_of, count_with};
 ghost use Rattle.bounding_set.specs.Envelope.{IsEnvelopeOf};
-ghost use Rattle.bounding_set.specs.State.{dropped_count};
+ghost use Rattle.bounding_set.specs.Live.{HoldsLines, HasLineOf};
+ghost use Rattle.bounding_set.specs.Tests.{HasRoomToPut, CountsPut, CountsReplaced, CountsReturns};
 
 use crate::rows::{add, take};
 use crate::splice::splice;
@@ -20,22 +21,16 @@ pub fn replace(
     x: &Request,
     count: &mut u32,
 ) -> bool
-    requires rising { HasRisingOwners rows.old.items }
+    requires holds { HoldsLines rows.old.items lines.old.items }
     requires room { count_with rows.old.items x.now.owner.0 ≤ MAX_REQUESTS }
     requires differs { tuple_of rows.old.items x.now.owner.0 ≢ Some x.now.tuple }
-    requires envelope { IsEnvelopeOf rows.old.items lines.old.items }
     requires uncounted { count.old ≡ 0 }
+    ensures holds { HoldsLines rows.new.items lines.new.items }
     ensures put { Puts rows.old.items rows.new.items x.now.owner.0 (Some x.now.tuple) }
     ensures grows { length rows.new.items ≡ count_with rows.old.items x.now.owner.0 }
-    ensures rising { HasRisingOwners rows.new.items }
-    ensures envelope { IsEnvelopeOf rows.new.items lines.new.items }
     ensures changed { IsTrue result ↔ (lines.new.items ≢ lines.old.items) }
-    ensures each { tuple_of rows.old.items x.now.owner.0 ≡ None
-        → dropped_count lines.old.items lines.new.items ≤ count.new + 1 }
-    ensures few { tuple_of rows.old.items x.now.owner.0 ≡ None
-        → count.new ≤ dropped_count lines.old.items lines.new.items + 4 }
-    ensures each_more { length lines.new.items ≤ length lines.old.items + count.new + 1 }
-    ensures bounded { count.new ≤ MAX_REQUESTS * (MAX_REQUESTS + 4) + MAX_REQUESTS + 4 }
+    ensures tests { CountsReplaced count.new rows.old.items x.now.owner.0
+        lines.old.items lines.new.items }
 {
     let was_line = take_out(rows, lines, x.owner, count);
     let is_line = put_in(rows, lines, x, count);
@@ -71,18 +66,12 @@ fn put_last(
     x: &Request,
     count: &mut u32,
 )
-    requires rising { HasRisingOwners rows.old.items }
+    requires holds { HoldsLines rows.old.items lines.old.items }
     requires above { All (λ r. r.owner.0 < x.now.owner.0) rows.old.items }
-    requires room { length rows.old.items < MAX_REQUESTS }
-    requires envelope { IsEnvelopeOf rows.old.items lines.old.items }
-    requires countable { count.old ≤ MAX_REQUESTS * (MAX_REQUESTS + 4) }
+    requires room { HasRoomToPut rows.old.items count.old }
+    ensures holds { HoldsLines rows.new.items lines.new.items }
     ensures put { rows.new.items ≡ rows.old.items ++ x.now ∷ [] }
-    ensures envelope { IsEnvelopeOf rows.new.items lines.new.items }
-    ensures one_more { length lines.new.items ≤ length lines.old.items + 1 }
-    ensures tested { 0 < length lines.old.items
-        → length lines.new.items + count.old ≤ length lines.old.items + count.new }
-    ensures each_few { count.new + length lines.new.items ≤ count.old + length lines.old.items + 5 }
-    ensures counted { count.old ≤ count.new }
+    ensures tests { CountsPut count.old count.new lines.old.items lines.new.items }
 {
     let _is_line = put_in(rows, lines, x, count);
 }
@@ -94,19 +83,17 @@ fn take_out(
     owner: Ssrc,
     count: &mut u32,
 ) -> bool
-    requires rising { HasRisingOwners rows.old.items }
+    requires holds { HoldsLines rows.old.items lines.old.items }
     requires within { length rows.old.items ≤ MAX_REQUESTS }
-    requires envelope { IsEnvelopeOf rows.old.items lines.old.items }
     requires uncounted { count.old ≡ 0 }
+    ensures holds { HoldsLines rows.new.items lines.new.items }
     ensures taken { Puts rows.old.items rows.new.items owner.0 None }
     ensures shrinks { length rows.new.items + 1 ≡ count_with rows.old.items owner.0 }
-    ensures rising { HasRisingOwners rows.new.items }
-    ensures envelope { IsEnvelopeOf rows.new.items lines.new.items }
-    ensures was_line { IsTrue result → Any (λ l. l.owner.0 ≡ owner.0) lines.old.items }
-    ensures unchanged { result ≡ false → lines.new ≡ lines.old }
+    ensures was_line { IsTrue result → HasLineOf owner.0 lines.old.items }
+    ensures unchanged { result ≡ false → lines.new.items ≡ lines.old.items }
     ensures absent { tuple_of rows.old.items owner.0 ≡ None → (result ≡ false) × (count.new ≡ 0) }
-    ensures each_more { length lines.new.items ≤ length lines.old.items + count.new }
-    ensures bounded { count.new ≤ MAX_REQUESTS * (MAX_REQUESTS + 4) }
+    ensures tests { CountsReturns count.old count.new MAX_REQUESTS
+        (length lines.old.items) (length lines.new.items) }
 {
     match take(rows, owner) {
         Some(tuple) => unsplice(lines, &Request { owner, tuple }, rows.as_slice(), count),
@@ -121,25 +108,15 @@ fn put_in(
     x: &Request,
     count: &mut u32,
 ) -> bool
-    requires rising { HasRisingOwners rows.old.items }
+    requires holds { HoldsLines rows.old.items lines.old.items }
     requires absent { tuple_of rows.old.items x.now.owner.0 ≡ None }
-    requires room { length rows.old.items < MAX_REQUESTS }
-    requires envelope { IsEnvelopeOf rows.old.items lines.old.items }
-    requires countable { count.old ≤ MAX_REQUESTS * (MAX_REQUESTS + 4) }
+    requires room { HasRoomToPut rows.old.items count.old }
+    ensures holds { HoldsLines rows.new.items lines.new.items }
     ensures put { Puts rows.old.items rows.new.items x.now.owner.0 (Some x.now.tuple) }
     ensures grows { length rows.new.items ≡ length rows.old.items + 1 }
-    ensures rising { HasRisingOwners rows.new.items }
-    ensures envelope { IsEnvelopeOf rows.new.items lines.new.items }
-    ensures is_line { IsTrue result → Any (λ l. l.owner.0 ≡ x.now.owner.0) lines.new.items }
-    ensures unchanged { result ≡ false → lines.new ≡ lines.old }
-    ensures each { count.old + dropped_count lines.old.items lines.new.items ≤ count.new + 1 }
-    ensures few { count.new ≤ count.old + dropped_count lines.old.items lines.new.items + 4 }
-    ensures one_more { length lines.new.items ≤ length lines.old.items + 1 }
-    ensures tested { 0 < length lines.old.items
-        → length lines.new.items + count.old ≤ length lines.old.items + count.new }
-    ensures each_few { count.new + length lines.new.items ≤ count.old + length lines.old.items + 5 }
-    ensures counted { count.old ≤ count.new }
-    ensures bounded { count.new ≤ count.old + MAX_REQUESTS + 4 }
+    ensures is_line { IsTrue result → HasLineOf x.now.owner.0 lines.new.items }
+    ensures unchanged { result ≡ false → lines.new.items ≡ lines.old.items }
+    ensures tests { CountsPut count.old count.new lines.old.items lines.new.items }
 {
     add(rows, *x);
     if x.tuple.rate() == 0 {

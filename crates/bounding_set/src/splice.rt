@@ -1,12 +1,12 @@
 //! One more line is put into an envelope.
 
-ghost use Rattle.std.specs.Prelude.{◌≡◌, ◌+◌, ◌-◌, ◌^◌, ◌<◌, ◌≤◌, ◌∷◌, ◌++◌, length, take, drop, All, Any, IsTrue, false, slice_index_or};
+ghost use Rattle.std.specs.Prelude.{◌≡◌, ◌+◌, ◌-◌, ◌^◌, ◌<◌, ◌≤◌, ◌∷◌, ◌++◌, length, take, drop, IsTrue, false};
 ghost use Rattle.std.specs.List.{AllWithin};
-ghost use Rattle.rate_cert.specs.declared.request.Request.{Request as RateRequest};
-ghost use Rattle.bounding_set.specs.Canonical.{HasSameLine, StopsMedia};
-ghost use Rattle.bounding_set.specs.Envelope.{IsNotAfter, IsHull, Covers};
-ghost use Rattle.bounding_set.specs.Place.{IsPlaceOf, IsNeededAt, StandsFor};
-ghost use Rattle.bounding_set.specs.Spliced.{IsSpliced};
+ghost use Rattle.bounding_set.specs.Canonical.{StopsMedia};
+ghost use Rattle.bounding_set.specs.Envelope.{IsNotAfter, IsHull, IsSendingHull, Covers, KeepsLeastOwner};
+ghost use Rattle.bounding_set.specs.Place.{IsPlaceOf, IsNeededAt, StandsAround};
+ghost use Rattle.bounding_set.specs.Spliced.{HasRoomToSplice, IsSplicedEnvelope};
+ghost use Rattle.bounding_set.specs.Tests.{CountsBeside, CountsSplice};
 
 use crate::beside::{needed_before, needed_behind};
 use crate::implies::implies;
@@ -18,27 +18,12 @@ use rate_cert::{MAX_REQUESTS, Request};
 ///
 /// `count` grows by one for each test whether two lines imply a third.
 pub fn splice(lines: &mut ArrayVec<Request, MAX_REQUESTS>, x: &Request, count: &mut u32) -> bool
-    requires room { length lines.old.items < MAX_REQUESTS }
-    requires hull { IsHull lines.old.items }
+    requires hull { IsSendingHull lines.old.items }
     requires sends { ¬ StopsMedia x.now }
-    requires all_send { All (λ l. ¬ StopsMedia l) lines.old.items }
-    requires countable { count.old + length lines.old.items + 4 < 2 ^ 32 }
-    ensures unchanged { result ≡ false → lines.new ≡ lines.old }
-    ensures spliced { IsTrue result
-        → IsSpliced lines.old.items x.now lines.new.items (count.new - count.old) }
-    ensures hull { IsHull lines.new.items }
-    ensures covers { Covers lines.new.items x.now }
-    ensures covers_old { All (Covers lines.new.items) lines.old.items }
-    ensures least { All (λ l. HasSameLine l x.now → l.owner.0 ≤ x.now.owner.0) lines.new.items }
-    ensures least_new { IsTrue result → (z : RateRequest) → Covers lines.old.items z
-        → HasSameLine x.now z
-        → Any (λ l. HasSameLine x.now l × (x.now.owner.0 ≤ l.owner.0)) lines.old.items }
-    ensures one_more { length lines.new.items ≤ length lines.old.items + 1 }
-    ensures untested { count.new ≡ count.old → length lines.old.items < length lines.new.items
-        → length lines.new.items ≤ 1 }
-    ensures counted { count.old ≤ count.new }
-    ensures few { result ≡ false → count.new ≤ count.old + 4 }
-    ensures bounded { count.new ≤ count.old + length lines.old.items + 4 }
+    requires room { HasRoomToSplice lines.old.items count.old }
+    ensures envelope { IsSplicedEnvelope lines.old.items x.now result lines.new.items
+        (count.new - count.old) }
+    ensures tests { CountsSplice count.old count.new lines.old.items lines.new.items result }
 {
     let at = lines_before(lines.as_slice(), x);
     let from = lines_upto(lines.as_slice(), x);
@@ -74,13 +59,11 @@ fn lines_upto(lines: &[Request], x: &Request) -> usize
 
 /// Whether x isn't needed at its place: a line of its overhead is as strict, or its neighbours imply it.
 fn is_needless(lines: &[Request], at: usize, from: usize, x: &Request, count: &mut u32) -> bool
-    requires hull { IsHull lines.now }
-    requires all_send { All (λ l. ¬ StopsMedia l) lines.now }
+    requires hull { IsSendingHull lines.now }
     requires place { IsPlaceOf lines.now x.now at from }
     requires countable { count.old + 1 < 2 ^ 32 }
     ensures covered { IsTrue result → Covers lines.now x.now }
-    ensures least { IsTrue result
-        → All (λ l. HasSameLine l x.now → l.owner.0 ≤ x.now.owner.0) lines.now }
+    ensures least { IsTrue result → KeepsLeastOwner lines.now x.now }
     ensures needed { result ≡ false → IsNeededAt lines.now x.now at from }
     ensures counted { count.old ≤ count.new }
     ensures few { count.new ≤ count.old + 1 }
@@ -104,8 +87,7 @@ fn comes_first(line: &Request, other: &Request) -> bool
 
 /// Whether the neighbours of x, whose overhead no line has, imply it. At an end there is one neighbour.
 fn is_implied(lines: &[Request], at: usize, x: &Request, count: &mut u32) -> bool
-    requires hull { IsHull lines.now }
-    requires all_send { All (λ l. ¬ StopsMedia l) lines.now }
+    requires hull { IsSendingHull lines.now }
     requires place { IsPlaceOf lines.now x.now at at }
     requires countable { count.old + 1 < 2 ^ 32 }
     ensures covered { IsTrue result → Covers lines.now x.now }
@@ -134,14 +116,8 @@ fn needless_beside(
     requires place { IsPlaceOf lines.now x.now at from }
     requires needed { IsNeededAt lines.now x.now at from }
     requires countable { count.old + length lines.now + 2 < 2 ^ 32 }
-    ensures stands { StandsFor lines.now x.now result.0 result.1 }
-    ensures before { result.0 ≤ at }
-    ensures behind { from ≤ result.1 }
-    ensures counted { count.old ≤ count.new }
-    ensures asked_before { 0 < at → count.old + 1 ≤ count.new }
-    ensures asked_behind { from < length lines.now → count.old + 1 ≤ count.new }
-    ensures each { result.1 + count.old ≤ result.0 + count.new + 1 }
-    ensures few { count.new ≤ count.old + (result.1 - result.0) + 2 }
+    ensures stands { StandsAround lines.now x.now at from result.0 result.1 }
+    ensures tests { CountsBeside count.old count.new (length lines.now) at from result.0 result.1 }
 {
     let low = needed_before(&lines[..at], x, count);
     let high = from + needed_behind(&lines[from..], x, count);

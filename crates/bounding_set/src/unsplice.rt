@@ -1,12 +1,13 @@
 //! A line is taken out of an envelope.
 
-ghost use Rattle.std.specs.Prelude.{◌≡◌, ◌≢◌, ◌+◌, ◌-◌, ◌*◌, ◌^◌, ◌<◌, ◌≤◌, ◌↔◌, ◌∷◌, length, slice_index_or, All, Contains, IsTrue, false, None, Some, IfSome, IfNone};
+ghost use Rattle.std.specs.Prelude.{◌≡◌, ◌≢◌, ◌+◌, ◌-◌, ◌<◌, ◌≤◌, ◌↔◌, ◌∷◌, length, slice_index_or, All, Contains, IsTrue, false, None, Some, IfSome, IfNone};
 ghost use Rattle.rate_cert.specs.declared.request.Request.{Request as RateRequest};
 ghost use Rattle.bounding_set.specs.Canonical.{StopsMedia};
 ghost use Rattle.bounding_set.specs.Envelope.{IsEnvelopeOf, IsHull};
 ghost use Rattle.bounding_set.specs.Gap.{IsEnvelopeButAt};
 ghost use Rattle.bounding_set.specs.Kept.{StandsAt};
 ghost use Rattle.bounding_set.specs.Rows.{HasRisingOwners};
+ghost use Rattle.bounding_set.specs.Tests.{HasRoomToReturn, CountsReturns, IsUntouched};
 
 use crate::splice::{lines_before, splice};
 use arrayvec::ArrayVec;
@@ -26,14 +27,13 @@ pub fn unsplice(
     requires envelope { IsEnvelopeOf (gone.now ∷ rows.now) lines.old.items }
     requires others { All (λ r. r.owner.0 ≢ gone.now.owner.0) rows.now }
     requires rising { HasRisingOwners rows.now }
-    requires within { length rows.now < MAX_REQUESTS }
-    requires countable { count.old + length rows.now * (MAX_REQUESTS + 4) < 2 ^ 32 }
+    requires room { HasRoomToReturn rows.now count.old }
     ensures was_line { IsTrue result ↔ Contains lines.old.items gone.now }
-    ensures unchanged { result ≡ false → lines.new ≡ lines.old }
-    ensures untested { result ≡ false → count.new ≡ count.old }
+    ensures untouched { result ≡ false
+        → IsUntouched count.old count.new lines.old.items lines.new.items }
     ensures envelope { IsEnvelopeOf rows.now lines.new.items }
-    ensures grows { length lines.new.items + count.old ≤ length lines.old.items + count.new }
-    ensures counted { count.new ≤ count.old + length rows.now * (MAX_REQUESTS + 4) }
+    ensures tests { CountsReturns count.old count.new (length rows.now)
+        (length lines.old.items) (length lines.new.items) }
 {
     match place_of_line(lines.as_slice(), gone) {
         Some(place) => {
@@ -68,11 +68,10 @@ fn put_back(
 )
     requires envelope { IsEnvelopeButAt rows.now lines.old.items place }
     requires rising { HasRisingOwners rows.now }
-    requires within { length rows.now < MAX_REQUESTS }
-    requires countable { count.old + length rows.now * (MAX_REQUESTS + 4) < 2 ^ 32 }
+    requires room { HasRoomToReturn rows.now count.old }
     ensures envelope { IsEnvelopeOf rows.now lines.new.items }
-    ensures grows { length lines.new.items + count.old ≤ length lines.old.items + count.new + 1 }
-    ensures counted { count.new ≤ count.old + length rows.now * (MAX_REQUESTS + 4) }
+    ensures tests { CountsReturns count.old count.new (length rows.now)
+        (length lines.old.items + 1) (length lines.new.items) }
 {
     let left = overhead_before(lines.as_slice(), place);
     let right = overhead_at(lines.as_slice(), place);

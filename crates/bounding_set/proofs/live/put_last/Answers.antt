@@ -7,4 +7,4 @@ put_in-is_line-requires-clause-absent c = none_above c.args.rows.now.items c.arg
 pub returns-clause-put : goal.returns-clause-put
 returns-clause-put c =
     let put = c.put_in-is_line.ensures in
-    put_last-is c.args.rows.now.items c.put_in-is_line.new.rows.items c.args.x.now c.requires.rising put.rising c.requires.above put.put
+    put_last-is c.args.rows.now.items c.put_in-is_line.new.rows.items c.args.x.now c.requires.holds.rising put.holds.rising c.requires.above put.put

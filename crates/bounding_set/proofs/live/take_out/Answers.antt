@@ -14,7 +14,7 @@ unsplice-requires-clause-envelope c =
     let new = c.take.new.rows.items in
     subst (λ rows. IsEnvelopeOf (gone c ∷ rows) c.args.lines.now.items) (sym c.as_slice.ensures.value)
     (IsEnvelopeOf-fewer old new c.args.lines.now.items (gone c)
-    (HasOneMore-taken old new (gone c) c.requires.rising c.take.ensures.rising (sym c.in-Some.ensures.value) c.take.ensures.taken) c.requires.envelope)
+    (HasOneMore-taken old new (gone c) c.requires.holds.rising c.take.ensures.rising (sym c.in-Some.ensures.value) c.take.ensures.taken) c.requires.holds.envelope)
 
 pub unsplice-requires-clause-others : goal.unsplice-requires-clause-others
 unsplice-requires-clause-others c =

@@ -8,7 +8,7 @@ use Rattle.bounding_set.proofs.splice.is_implied.Goals as goal
 
 pub returns-then-is_empty-clause-needed : goal.returns-then-is_empty-clause-needed
 returns-then-is_empty-clause-needed c is =
-    needed_in_none c.args.lines.now c.args.x.now c.requires.hull c.args.at c.requires.place (search rules)
+    needed_in_none c.args.lines.now c.args.x.now c.requires.hull.hull c.args.at c.requires.place (search rules)
 
 pub returns-clause-needed : goal.returns-clause-needed
 returns-clause-needed c is =
@@ -18,7 +18,7 @@ returns-clause-needed c is =
     let behind : c.min.result ≡ min c.args.at (length lines - 1) = search rules in
     let a = get_or lines c.saturating_sub.result c.index-lines-saturating_sub.result in
     let b = get_or lines c.min.result c.index-lines-min.result in
-    needed_from_test lines c.args.x.now c.requires.hull c.args.at c.requires.place c.requires.all_send some a b
+    needed_from_test lines c.args.x.now c.requires.hull.hull c.args.at c.requires.place c.requires.hull.all_send some a b
     (λ d. subst (λ n. a ≡ get_or lines n d) before (get_or_default lines c.saturating_sub.result c.index-lines-saturating_sub.result d (omega arith)))
     (λ d. subst (λ n. b ≡ get_or lines n d) behind (get_or_default lines c.min.result c.index-lines-min.result d (omega arith)))
     (refuted c.implies.result c.implies.ensures.exact is)

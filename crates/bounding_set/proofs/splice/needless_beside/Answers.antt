@@ -1,10 +1,11 @@
-use Rattle.std.proofs.Common.{ℕ, ◌<◌, ◌≤◌, List, length, get_or, ap, sym, subst, arith}
+use Rattle.std.proofs.Common.{ℕ, ◌+◌, ◌<◌, ◌≤◌, List, length, get_or, ap, sym, subst, arith}
 use Rattle.std.specs.List.{AllWithin}
 use Rattle.std.proofs.lemmas.List.{take_rest, length-take-le, length-drop}
 use Rattle.tmmbr_tuple.specs.RatePair.{RatePair, Permits}
 use Rattle.rate_cert.specs.declared.request.Request.{Request as RateRequest}
 use Rattle.rate_cert.specs.Requests.{IsFeasible}
 use Rattle.bounding_set.specs.Envelope.{Crosses, Turns, IsHull}
+use Rattle.bounding_set.specs.Place.{StandsFor}
 use Rattle.bounding_set.proofs.StandsLemmas.{IsHull-take, IsHull-drop, StandsFor-from_parts}
 use Rattle.bounding_set.proofs.SpliceLemmas.{one_of_overhead}
 use Rattle.bounding_set.proofs.splice.needless_beside.Goals as goal
@@ -17,8 +18,8 @@ pub needed_behind-requires-clause-hull : goal.needed_behind-requires-clause-hull
 needed_behind-requires-clause-hull c =
     subst IsHull (sym (take_rest c.args.lines.now c.args.from)) (IsHull-drop c.args.lines.now c.args.from c.requires.hull)
 
-pub returns-clause-stands : goal.returns-clause-stands
-returns-clause-stands c =
+stands : (c : goal.After-needed_behind) → StandsFor c.args.lines.now c.args.x.now c.needed_before-low.result (c.args.from + c.needed_behind.result)
+stands c =
     let lines = c.args.lines.now in
     let x = c.args.x.now in
     let low = c.needed_before-low.ensures in
@@ -33,23 +34,29 @@ returns-clause-stands c =
     (subst (λ (s : List RateRequest). AllWithin (Crosses x) s c.needed_behind.result (length s)) rest more.crosses)
     (subst (λ (s : List RateRequest). (i j : ℕ) (d : RateRequest) → c.needed_behind.result ≤ i → i < j → j < length s → Turns x (get_or s i d) (get_or s j d)) rest more.turns)
 
-pub returns-clause-each : goal.returns-clause-each
-returns-clause-each c =
+pub returns-clause-stands : goal.returns-clause-stands
+returns-clause-stands c =
+    let lines = c.args.lines.now in
+    let at_in : c.args.at ≤ length lines = omega (arith, c.requires.place.rising, c.requires.place.in_range) in
+    record {
+      stands = stands c;
+      before = omega (arith, c.needed_before-low.ensures.within, length-take-le c.args.at lines at_in);
+      behind = omega arith;
+    }
+
+pub returns-clause-tests : goal.returns-clause-tests
+returns-clause-tests c =
     let lines = c.args.lines.now in
     let low = c.needed_before-low.ensures in
     let more = c.needed_behind.ensures in
     let at_in : c.args.at ≤ length lines = omega (arith, c.requires.place.rising, c.requires.place.in_range) in
+    let taken = length-take-le c.args.at lines at_in in
     let one = one_of_overhead lines c.args.x.now c.args.at c.args.from c.requires.hull c.requires.place in
-    omega (arith, one, low.each, more.each, length-take-le c.args.at lines at_in)
-
-pub returns-clause-asked_before : goal.returns-clause-asked_before
-returns-clause-asked_before c =
-    let lines = c.args.lines.now in
-    let at_in : c.args.at ≤ length lines = omega (arith, c.requires.place.rising, c.requires.place.in_range) in
-    λ some. omega (arith, c.needed_before-low.ensures.asked (omega (arith, some, length-take-le c.args.at lines at_in)), c.needed_behind.ensures.counted)
-
-pub returns-clause-asked_behind : goal.returns-clause-asked_behind
-returns-clause-asked_behind c =
-    let lines = c.args.lines.now in
     let rest = ap length (take_rest lines c.args.from) in
-    λ some. omega (arith, c.needed_behind.ensures.asked (omega (arith, some, rest, length-drop c.args.from lines)), c.needed_before-low.ensures.counted)
+    record {
+      counted = omega (arith, low.tests.counted, more.tests.counted);
+      asked_before = λ some. omega (arith, low.tests.asked (omega (arith, some, taken)), more.tests.counted);
+      asked_behind = λ some. omega (arith, more.tests.asked (omega (arith, some, rest, length-drop c.args.from lines)), low.tests.counted);
+      each = omega (arith, one, low.within, low.tests.each, more.tests.each, taken);
+      few = omega (arith, low.within, low.tests.few, more.tests.few, taken, c.requires.place.rising);
+    }

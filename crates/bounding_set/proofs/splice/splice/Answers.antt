@@ -1,9 +1,8 @@
-use Rattle.std.proofs.Common.{◌≡◌, ◌+◌, ◌<◌, ◌≤◌, ◌∷◌, take, drop, sym, ap, ◌∙◌, subst, length, arith}
+use Rattle.std.proofs.Common.{◌≡◌, ◌+◌, ◌<◌, ◌≤◌, ◌∷◌, take, drop, sym, ap, ◌∙◌, subst, length, arith, rules}
 use Rattle.std.proofs.lemmas.List.{length-append, length-take, length-drop}
 use Rattle.std.specs.Prelude.{All}
 use Rattle.std.specs.List.{AllWithin}
-use Rattle.bounding_set.specs.Canonical.{HasSameLine}
-use Rattle.bounding_set.specs.Envelope.{IsHull, Covers}
+use Rattle.bounding_set.specs.Envelope.{IsHull, Covers, KeepsLeastOwner}
 use Rattle.bounding_set.specs.Place.{IsNeededAt, StandsFor}
 use Rattle.bounding_set.proofs.SpliceLemmas.{place_from_counts, alone_untested}
 use Rattle.bounding_set.proofs.StandsLemmas.{IsHull-replaced, Covers-x, Covers-replaced, least-replaced}
@@ -26,32 +25,25 @@ needless_beside-low-requires-clause-place c =
 
 stands : (c : goal.After-replace) → StandsFor c.args.lines.now.items c.args.x.now c.needless_beside-low.result.0 c.needless_beside-low.result.1
 stands c =
-    subst (λ ls. StandsFor ls c.args.x.now c.needless_beside-low.result.0 c.needless_beside-low.result.1) c.as_slice-4.ensures.value c.needless_beside-low.ensures.stands
+    subst (λ ls. StandsFor ls c.args.x.now c.needless_beside-low.result.0 c.needless_beside-low.result.1) c.as_slice-4.ensures.value c.needless_beside-low.ensures.stands.stands
 
-pub returns-clause-hull : goal.returns-clause-hull
-returns-clause-hull c =
-    subst IsHull (sym c.replace.ensures)
-    (IsHull-replaced c.args.lines.now.items c.args.x.now c.requires.hull c.needless_beside-low.result.0 c.needless_beside-low.result.1 (stands c))
-
-pub returns-clause-covers : goal.returns-clause-covers
-returns-clause-covers c =
-    subst (λ new. Covers new c.args.x.now) (sym c.replace.ensures)
-    (Covers-x c.args.lines.now.items c.args.x.now c.requires.hull c.needless_beside-low.result.0 c.needless_beside-low.result.1 (stands c))
-
-pub returns-clause-covers_old : goal.returns-clause-covers_old
-returns-clause-covers_old c =
-    subst (λ new. All (Covers new) c.args.lines.now.items) (sym c.replace.ensures)
-    (Covers-replaced c.args.lines.now.items c.args.x.now c.requires.hull c.needless_beside-low.result.0 c.needless_beside-low.result.1 (stands c))
-
-pub returns-clause-least : goal.returns-clause-least
-returns-clause-least c =
-    subst (All (λ l. HasSameLine l c.args.x.now → l.owner.0 ≤ c.args.x.now.owner.0)) (sym c.replace.ensures)
-    (least-replaced c.args.lines.now.items c.args.x.now c.requires.hull c.needless_beside-low.result.0 c.needless_beside-low.result.1 (stands c))
-
-pub returns-clause-least_new : goal.returns-clause-least_new
-returns-clause-least_new c is =
-    let needed : IsNeededAt c.as_slice-3.result.now c.args.x.now c.lines_before-at.result c.lines_upto-from.result = c.is_needless.ensures.needed c.if-is_needless.false in
-    (subst (λ ls. IsNeededAt ls c.args.x.now c.lines_before-at.result c.lines_upto-from.result) c.as_slice-3.ensures.value needed).new
+pub returns-clause-envelope : goal.returns-clause-envelope
+returns-clause-envelope c =
+    let old = c.args.lines.now.items in
+    let x = c.args.x.now in
+    let low = c.needless_beside-low.result.0 in
+    let high = c.needless_beside-low.result.1 in
+    let hull = c.requires.hull.hull in
+    let needed : IsNeededAt c.as_slice-3.result.now x c.lines_before-at.result c.lines_upto-from.result = c.is_needless.ensures.needed c.if-is_needless.false in
+    record {
+      unchanged = search rules;
+      spliced = search rules;
+      hull = subst IsHull (sym c.replace.ensures) (IsHull-replaced old x hull low high (stands c));
+      covers = subst (λ new. Covers new x) (sym c.replace.ensures) (Covers-x old x hull low high (stands c));
+      covers_old = subst (λ new. All (Covers new) old) (sym c.replace.ensures) (Covers-replaced old x hull low high (stands c));
+      least = subst (λ new. KeepsLeastOwner new x) (sym c.replace.ensures) (least-replaced old x hull low high (stands c));
+      least_new = λ _. (subst (λ ls. IsNeededAt ls x c.lines_before-at.result c.lines_upto-from.result) c.as_slice-3.ensures.value needed).new;
+    }
 
 -- how many lines there are then
 long : (c : goal.After-replace) → length c.replace.new.lines.items + c.needless_beside-low.result.1 ≡ c.needless_beside-low.result.0 + length c.args.lines.now.items + 1
@@ -70,14 +62,17 @@ long c =
       (stands c).in_range,
     )
 
-pub returns-clause-one_more : goal.returns-clause-one_more
-returns-clause-one_more c = omega (arith, long c, (stands c).rising)
-
-pub returns-clause-untested : goal.returns-clause-untested
-returns-clause-untested c =
+pub returns-clause-tests : goal.returns-clause-tests
+returns-clause-tests c =
     let beside = c.needless_beside-low.ensures in
     let same : length c.as_slice-4.result.now ≡ length c.args.lines.now.items = ap length c.as_slice-4.ensures.value in
-    λ none more. alone_untested (length c.replace.new.lines.items) c.needless_beside-low.result.0 c.needless_beside-low.result.1
-    (length c.args.lines.now.items) c.lines_before-at.result c.lines_upto-from.result (length c.as_slice-4.result.now) c.args.count.now
-    c.is_needless.new.count c.needless_beside-low.new.count (long c) beside.before beside.behind same (stands c).in_range
-    c.is_needless.ensures.counted beside.asked_before beside.asked_behind none
+    record {
+      counted = search rules;
+      few = search rules;
+      bounded = search rules;
+      one_more = omega (arith, long c, (stands c).rising);
+      untested = λ none more. alone_untested (length c.replace.new.lines.items) c.needless_beside-low.result.0 c.needless_beside-low.result.1
+          (length c.args.lines.now.items) c.lines_before-at.result c.lines_upto-from.result (length c.as_slice-4.result.now) c.args.count.now
+          c.is_needless.new.count c.needless_beside-low.new.count (long c) beside.stands.before beside.stands.behind same (stands c).in_range
+          c.is_needless.ensures.counted beside.tests.asked_before beside.tests.asked_behind none;
+    }

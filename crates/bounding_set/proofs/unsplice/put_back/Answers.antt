@@ -1,4 +1,4 @@
-use Rattle.std.proofs.Common.{◌≡◌, ◌-◌, ◌≤◌, length, get_or, Some, refl, subst, arith}
+use Rattle.std.proofs.Common.{◌≡◌, ◌-◌, ◌≤◌, length, get_or, Some, subst, arith}
 use Rattle.rate_cert.proofs.CheckerLemmas.{shown, refuted}
 use Rattle.bounding_set.proofs.PutBackLemmas.{IsLeftOf, IsRightOf, put_back_none, put_back_all, put_back_skipped, put_back_spliced, no_more_lines}
 use Rattle.bounding_set.proofs.SpliceLemmas.{grown}
@@ -17,13 +17,10 @@ pub splice-requires-clause-room : goal.splice-requires-clause-room
 splice-requires-clause-room c =
     let fewer = no_more_lines c.args.rows.now c.args.lines.now.items c.args.place c.requires.envelope c.loop-row.lines.items c.loop-row.row-index
     c.loop-row.invariant.envelope in
-    omega (arith, fewer, c.requires.within)
-
-pub splice-requires-clause-countable : goal.splice-requires-clause-countable
-splice-requires-clause-countable c =
-    let fewer = no_more_lines c.args.rows.now c.args.lines.now.items c.args.place c.requires.envelope c.loop-row.lines.items c.loop-row.row-index
-    c.loop-row.invariant.envelope in
-    omega (arith, fewer, c.requires.within, c.loop-row.invariant.counted, c.requires.countable, c.loop-row-test.true)
+    record {
+      room = omega (arith, fewer, c.requires.room.within);
+      countable = omega (arith, fewer, c.requires.room.within, c.loop-row.invariant.counted, c.requires.room.countable, c.loop-row-test.true);
+    }
 
 pub loop-row-preserved : goal.loop-row-preserved
 loop-row-preserved c =
@@ -42,20 +39,18 @@ loop-row-preserved c =
     record { some = c.overhead_at-right.ensures.some; none = c.overhead_at-right.ensures.none } in
     elim c.if-may_return.branch [
       | then-may_return w ↦
-          let spliced = w.splice.ensures in
+          let tests = w.splice.ensures.tests in
           let fewer = no_more_lines rows start c.args.place gap c.loop-row.lines.items c.loop-row.row-index c.loop-row.invariant.envelope in
           record {
             envelope = rw w.lines-is
                 (put_back_spliced rows start c.args.place gap c.loop-row.lines.items c.loop-row.row-index c.loop-row.invariant.envelope
-                c.row-item.result c.loop-row-test.true c.row-item.is w.splice.new.lines.items
-                (shown c.may_return.result c.may_return.ensures w.if-may_return.true).0
-                spliced.hull spliced.covers spliced.covers_old spliced.least w.splice.result (w.splice.new.count - c.loop-row.count)
-                (λ same. rw (spliced.unchanged same) refl) spliced.spliced spliced.least_new);
-            risen = rw w.count-is (omega (arith, c.loop-row.invariant.risen, spliced.counted));
+                c.row-item.result c.loop-row-test.true c.row-item.is w.splice.new.lines.items w.splice.result (w.splice.new.count - c.loop-row.count)
+                (shown c.may_return.result c.may_return.ensures w.if-may_return.true).0 w.splice.ensures.envelope);
+            risen = rw w.count-is (omega (arith, c.loop-row.invariant.risen, tests.counted));
             grows = rw (w.count-is, w.lines-is)
                 (grown (length c.loop-row.lines.items) (length start) c.args.count.now c.loop-row.count (length w.splice.new.lines.items) w.splice.new.count
-                c.loop-row.invariant.risen c.loop-row.invariant.grows spliced.one_more spliced.counted spliced.untested);
-            counted = rw w.count-is (omega (arith, c.loop-row.invariant.counted, spliced.bounded, fewer, c.requires.within));
+                c.loop-row.invariant.risen c.loop-row.invariant.grows tests.one_more tests.counted tests.untested);
+            counted = rw w.count-is (omega (arith, c.loop-row.invariant.counted, tests.bounded, fewer, c.requires.room.within));
           }
       | else-may_return w ↦ record {
         envelope = rw w.lines-is

@@ -45,7 +45,7 @@ returns-clause-no_step c =
     elim (cases_Bool c.unsplice.result) [
       | inl was ↦ absurd (no_line rows c.self.inside.stops.items lines (announced_of c.args.self.now) gone c.self.invariant.3 send_inside announced absent
           (c.unsplice.ensures.was_line.0 was))
-      | inr wasn't ↦ c.unsplice.ensures.untested wasn't
+      | inr wasn't ↦ (c.unsplice.ensures.untouched wasn't).tests
     ]
 
 -- each request more that is announced then took a test
@@ -67,4 +67,4 @@ returns-clause-each_more c =
     (HasOneMore-taken rows rows' gone c.self.invariant.1 c.take.ensures.rising (sym c.take.ensures.value ∙ c.in_ok-tuple.was) c.take.ensures.taken) send_inside in
     let were = ap length (before ∙ ap (λ ss. announced_among ss lines) (no_stops rows c.self.inside.stops.items c.self.invariant.3 send_inside)) in
     let are = ap length (now ∙ ap (λ ss. announced_among ss lines') (no_stops rows' stops' holds send_now)) in
-    omega (arith, were, are, c.unsplice.ensures.grows)
+    omega (arith, were, are, c.unsplice.ensures.tests.grows)

@@ -19,7 +19,7 @@ update_stops-stops_changed-requires-clause-none c =
     let sends : ¬ StopsMedia x = λ stops. grind (arith, nat_tests, c.rate.ensures.value, not_zero, stops) in
     subst (All (λ r. ¬ StopsMedia r)) (sym c.as_slice-rows.ensures.value)
     (All-put (λ r. ¬ StopsMedia r) c.self.inside.rows.items c.replace-lines_changed.new.rows.items x
-    c.replace-lines_changed.ensures.rising c.replace-lines_changed.ensures.put (c.self.invariant.3.none empty) sends)
+    c.replace-lines_changed.ensures.holds.rising c.replace-lines_changed.ensures.put (c.self.invariant.3.none empty) sends)
 
 -- what was announced, and what is now
 before : (c : goal.Joined-stops_changed) → announced_of c.args.self.now ≡ announced_among c.self.inside.stops.items c.self.inside.lines.items
@@ -54,11 +54,11 @@ returns-clause-changed c =
     elim c.if-stops_changed.branch [
       | then-stops_changed w ↦ (
         λ _. other_stops rows rows' stops stops' lines lines' c.self.invariant.3 (holds c) c.self.invariant.2.send
-            c.replace-lines_changed.ensures.envelope.send (of_stops.0 w.if-stops_changed.true),
+            c.replace-lines_changed.ensures.holds.envelope.send (of_stops.0 w.if-stops_changed.true),
         λ _. w.result-is ∙ w.if-stops_changed.true,
       )
       | else-stops_changed+then-lines_changed w ↦
-          other_lines rows rows' stops stops' lines lines' result c.self.invariant.3 c.replace-lines_changed.ensures.envelope.send
+          other_lines rows rows' stops stops' lines lines' result c.self.invariant.3 c.replace-lines_changed.ensures.holds.envelope.send
           (refuted c.update_stops-stops_changed.result of_stops w.if-stops_changed.false) (of_lines.0 w.if-lines_changed.true)
           (λ is. grind (arith, nat_tests, w.result-is, w.is_empty.ensures, is), λ none. grind (arith, nat_tests, w.result-is, w.is_empty.ensures, none))
       | else-stops_changed+else-lines_changed w ↦
@@ -81,12 +81,12 @@ returns-clause-steps c =
     λ absent send.
     let absent_inside : tuple_of rows c.args.owner.0 ≡ None = ap (λ (s : State). tuple_of s.rows c.args.owner.0) c.self.view_is ∙ absent in
     let one : HasOneMore rows' rows x =
-    HasOneMore-put rows rows' x c.self.invariant.1 c.replace-lines_changed.ensures.rising absent_inside c.replace-lines_changed.ensures.put in
+    HasOneMore-put rows rows' x c.self.invariant.1 c.replace-lines_changed.ensures.holds.rising absent_inside c.replace-lines_changed.ensures.put in
     let none = no_stops_before rows rows' stops x c.self.invariant.3 one send in
     let none' = no_stops rows' stops' (holds c) send in
     let was : announced_of c.args.self.now ≡ lines = before c ∙ ap (λ ss. announced_among ss lines) none in
     let is : AnnouncedNow c ≡ lines' = now c ∙ ap (λ ss. announced_among ss lines') none' in
-    let few = c.replace-lines_changed.ensures.few absent_inside in
+    let few = c.replace-lines_changed.ensures.tests.few absent_inside in
     let same : dropped_count (announced_of c.args.self.now) (AnnouncedNow c) ≡ dropped_count lines lines' =
     ap (λ before. dropped_count before (AnnouncedNow c)) was ∙ ap (dropped_count lines) is in
     omega (arith, few, same)
@@ -103,12 +103,12 @@ returns-clause-each_step c =
     λ absent send.
     let absent_inside : tuple_of rows c.args.owner.0 ≡ None = ap (λ (s : State). tuple_of s.rows c.args.owner.0) c.self.view_is ∙ absent in
     let one : HasOneMore rows' rows x =
-    HasOneMore-put rows rows' x c.self.invariant.1 c.replace-lines_changed.ensures.rising absent_inside c.replace-lines_changed.ensures.put in
+    HasOneMore-put rows rows' x c.self.invariant.1 c.replace-lines_changed.ensures.holds.rising absent_inside c.replace-lines_changed.ensures.put in
     let none = no_stops_before rows rows' stops x c.self.invariant.3 one send in
     let none' = no_stops rows' stops' (holds c) send in
     let was : announced_of c.args.self.now ≡ lines = before c ∙ ap (λ ss. announced_among ss lines) none in
     let is : AnnouncedNow c ≡ lines' = now c ∙ ap (λ ss. announced_among ss lines') none' in
-    let each = c.replace-lines_changed.ensures.each absent_inside in
+    let each = c.replace-lines_changed.ensures.tests.each absent_inside in
     let same : dropped_count (announced_of c.args.self.now) (AnnouncedNow c) ≡ dropped_count lines lines' =
     ap (λ before. dropped_count before (AnnouncedNow c)) was ∙ ap (dropped_count lines) is in
     omega (arith, each, same)
@@ -124,4 +124,4 @@ returns-clause-each_more c =
     let sent_inside : All (λ r. ¬ StopsMedia r) rows = subst (All (λ r. ¬ StopsMedia r)) (sym (ap (λ (s : State). s.rows) c.self.view_is)) sent in
     let were = ap length (before c ∙ ap (λ ss. announced_among ss lines) (no_stops rows c.self.inside.stops.items c.self.invariant.3 sent_inside)) in
     let are = ap length (now c ∙ ap (λ ss. announced_among ss lines') (no_stops rows' stops' (holds c) send)) in
-    omega (arith, were, are, c.replace-lines_changed.ensures.each_more)
+    omega (arith, were, are, c.replace-lines_changed.ensures.tests.each_more)
