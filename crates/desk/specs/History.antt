@@ -1,11 +1,11 @@
 -- What a desk lists of its calls.
-use Rattle.std.specs.Prelude.{◌≡◌, ℕ, ◌<◌, ◌++◌, true, min, List, length, take, slice_get, slice_index_or, Some, None}
+use Rattle.std.specs.Prelude.{◌≡◌, ℕ, ◌<◌, ◌++◌, true, min, List, All, length, take, slice_get, slice_index_or, Some, None}
 use Rattle.desk.specs.declared.call.Entry.{Entry}
 use Rattle.desk.specs.declared.base.Base.{Base}
 use Rattle.desk.specs.declared.desk.TheConstants.{HISTORY_LIMIT}
 use Rattle.desk.specs.Call.{HasStay, is_done}
 use Rattle.desk.specs.Presence.{refusal_of}
-use Rattle.desk.specs.Trace.{base_after}
+use Rattle.desk.specs.Trace.{IsBase, base_after}
 use Rattle.desk.specs.Answer.{IsAnswerTo}
 
 -- each listed answer is the one that is owed to its call by the base and the entries before it
@@ -14,6 +14,12 @@ IsLegalHistory gap request_ms base entries =
     (i : ℕ) (d : Entry) → i < length entries
     → IsAnswerTo gap request_ms (base_after request_ms base (take i entries))
     (slice_index_or entries i d).call (slice_index_or entries i d).answer
+
+-- a base as it should be, and a legal history from it, whose stays are numbered from 1
+pub record IsLegalTrace (gap request_ms : ℕ) (base : Base) (entries : List Entry) : Type 0 where
+  pub begins : IsBase base
+  pub stays : All (λ e. HasStay e.call) entries
+  pub legal : IsLegalHistory gap request_ms base entries
 
 -- A base and a history stand for these entries behind a former base: the last of them are listed, as many as may be, and those
 -- that left are folded into the base.

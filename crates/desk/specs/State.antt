@@ -1,5 +1,5 @@
 -- What a contract sees of a `Desk`.
-use Rattle.std.specs.Prelude.{◌≡◌, ◌≢◌, ℕ, ◌+◌, ◌<◌, ◌≤◌, ◌⊎◌, true, false, is_some, List, ◌∷◌, ◌++◌, [], length, All, AllPairs}
+use Rattle.std.specs.Prelude.{◌≡◌, ◌≢◌, ℕ, ◌+◌, ◌<◌, ◌≤◌, ◌↔◌, ◌⊎◌, true, false, is_some, List, ◌∷◌, ◌++◌, [], length, All, AllPairs, Result, IsErr, IfOk, OnErr}
 use Rattle.bounding_set.specs.State.{State, AnnouncesSmallest, announced_of}
 use Rattle.bounding_set.specs.Rows.{HasRisingOwners}
 use Rattle.desk.specs.declared.call.Call.{Call}
@@ -8,7 +8,10 @@ use Rattle.desk.specs.declared.call.Entry.{Entry}
 use Rattle.desk.specs.declared.base.Base.{Base}
 use Rattle.desk.specs.declared.base.TheConstants.{CALL_LIMIT}
 use Rattle.desk.specs.declared.desk.TheConstants.{HISTORY_LIMIT}
+use Rattle.desk.specs.declared.desk.HistoryFull.{HistoryFull}
+use Rattle.desk.specs.declared.desk.Reply.{Reply}
 use Rattle.desk.specs.Call.{HasStay, may_change}
+use Rattle.desk.specs.Effect.{IsEffect}
 use Rattle.desk.specs.Presence.{live_requests, refusal_of}
 use Rattle.desk.specs.Trace.{IsBase, base_after, present_with}
 use Rattle.desk.specs.History.{IsLegalHistory, StandsForEntries}
@@ -57,6 +60,18 @@ pub record Records (old : DeskState) (call : Call) (number : ℕ) (answer : Answ
       (old.history ++ record { call = call; answer = answer } ∷ []) new.base new.history
   pub gap : new.gap ≡ old.gap
   pub request_ms : new.request_ms ≡ old.request_ms
+
+-- A desk is called. `HistoryFull` comes exactly if the call is over the limit, and leaves the desk as it was. Else the call is recorded
+-- with its answer, and the effect is what it changed in the announced set (RFC 5104, sections 3.5.4.2 and 4.2.2). The desk is a legal
+-- one after either.
+pub record CallsDesk (old : DeskState) (call : Call) (new : DeskState)
+    (result : Result Reply HistoryFull) : Type 0 where
+  pub full : IsErr result ↔ IsOverLimit old call
+  pub unchanged : OnErr result (new ≡ old)
+  pub recorded : IfOk result (λ r. Records old call r.number r.answer new)
+  pub effect : IfOk result (λ r. IsEffect (announced_of old.bounds) (announced_of new.bounds)
+      r.effect)
+  pub legal : HoldsLegalDesk new
 
 -- the call changes no request: by its kind, or since it is refused
 abbrev pub IsQuietCall : DeskState → Call → Type 0

@@ -87,7 +87,7 @@ impl Desk {
     ghost use Rattle.desk.specs.Call.{HasStay};
     ghost use Rattle.desk.specs.Trace.{empty_base, live_after, words_of};
     ghost use Rattle.desk.specs.Effect.{IsEffect};
-    ghost use Rattle.desk.specs.State.{DeskState, HoldsLegalDesk, IsOverLimit, IsQuietCall, Records, call_count};
+    ghost use Rattle.desk.specs.State.{DeskState, CallsDesk, HoldsLegalDesk, IsOverLimit, IsQuietCall, Records, call_count};
 
     /// A desk where nobody is present. It sends PLIs upstream at least `gap` milliseconds apart, and takes
     /// requests away that are `request_ms` milliseconds old; never where that is 0.
@@ -113,13 +113,7 @@ impl Desk {
     /// `HistoryFull` comes before both; then nothing changed.
     pub fn arrive(&mut self, owner: Ssrc, stay: u64) -> Result<Reply, HistoryFull>
         requires { 1 ≤ stay }
-        ensures full { IsErr result ↔ IsOverLimit self.old (call.Stay owner stay change.Arrive) }
-        ensures unchanged { OnErr result (self.new ≡ self.old) }
-        ensures recorded { IfOk result (λ r. Records self.old
-            (call.Stay owner stay change.Arrive) r.number r.answer self.new) }
-        ensures effect { IfOk result (λ r. IsEffect (announced_of self.old.bounds)
-            (announced_of self.new.bounds) r.effect) }
-        ensures legal { HoldsLegalDesk self.new }
+        ensures { CallsDesk self.old (call.Stay owner stay change.Arrive) self.new result }
     {
         self.reply(Call::Stay {
             owner,
@@ -134,14 +128,7 @@ impl Desk {
     /// nothing changed.
     pub fn request(&mut self, owner: Ssrc, stay: u64, tuple: Tuple) -> Result<Reply, HistoryFull>
         requires { 1 ≤ stay }
-        ensures full { IsErr result
-            ↔ IsOverLimit self.old (call.Stay owner stay (change.Request tuple)) }
-        ensures unchanged { OnErr result (self.new ≡ self.old) }
-        ensures recorded { IfOk result (λ r. Records self.old
-            (call.Stay owner stay (change.Request tuple)) r.number r.answer self.new) }
-        ensures effect { IfOk result (λ r. IsEffect (announced_of self.old.bounds)
-            (announced_of self.new.bounds) r.effect) }
-        ensures legal { HoldsLegalDesk self.new }
+        ensures { CallsDesk self.old (call.Stay owner stay (change.Request tuple)) self.new result }
     {
         self.reply(Call::Stay {
             owner,
@@ -156,13 +143,7 @@ impl Desk {
     /// before it, and then nothing changed.
     pub fn depart(&mut self, owner: Ssrc, stay: u64) -> Result<Reply, HistoryFull>
         requires { 1 ≤ stay }
-        ensures full { IsErr result ↔ IsOverLimit self.old (call.Stay owner stay change.Depart) }
-        ensures unchanged { OnErr result (self.new ≡ self.old) }
-        ensures recorded { IfOk result (λ r. Records self.old
-            (call.Stay owner stay change.Depart) r.number r.answer self.new) }
-        ensures effect { IfOk result (λ r. IsEffect (announced_of self.old.bounds)
-            (announced_of self.new.bounds) r.effect) }
-        ensures legal { HoldsLegalDesk self.new }
+        ensures { CallsDesk self.old (call.Stay owner stay change.Depart) self.new result }
     {
         self.reply(Call::Stay {
             owner,
@@ -174,13 +155,7 @@ impl Desk {
     /// Somebody wants a picture at this moment, in milliseconds (RFC 4585, section 6.3.1). `HistoryFull`
     /// leaves everything as it was.
     pub fn pli(&mut self, moment: u64) -> Result<Reply, HistoryFull>
-        ensures full { IsErr result ↔ IsOverLimit self.old (call.Time moment signal.Pli) }
-        ensures unchanged { OnErr result (self.new ≡ self.old) }
-        ensures recorded { IfOk result (λ r. Records self.old
-            (call.Time moment signal.Pli) r.number r.answer self.new) }
-        ensures effect { IfOk result (λ r. IsEffect (announced_of self.old.bounds)
-            (announced_of self.new.bounds) r.effect) }
-        ensures legal { HoldsLegalDesk self.new }
+        ensures { CallsDesk self.old (call.Time moment signal.Pli) self.new result }
     {
         self.reply(Call::Time {
             moment,
@@ -191,13 +166,7 @@ impl Desk {
     /// It is this moment now, in milliseconds: a PLI that is wanted may be due. `HistoryFull` leaves
     /// everything as it was.
     pub fn tick(&mut self, moment: u64) -> Result<Reply, HistoryFull>
-        ensures full { IsErr result ↔ IsOverLimit self.old (call.Time moment signal.Tick) }
-        ensures unchanged { OnErr result (self.new ≡ self.old) }
-        ensures recorded { IfOk result (λ r. Records self.old
-            (call.Time moment signal.Tick) r.number r.answer self.new) }
-        ensures effect { IfOk result (λ r. IsEffect (announced_of self.old.bounds)
-            (announced_of self.new.bounds) r.effect) }
-        ensures legal { HoldsLegalDesk self.new }
+        ensures { CallsDesk self.old (call.Time moment signal.Tick) self.new result }
     {
         self.reply(Call::Time {
             moment,
@@ -208,13 +177,7 @@ impl Desk {
     /// It is this moment now, in milliseconds: requests that are too old are taken away; their owners stay
     /// present. `HistoryFull` leaves everything as it was.
     pub fn expire(&mut self, moment: u64) -> Result<Reply, HistoryFull>
-        ensures full { IsErr result ↔ IsOverLimit self.old (call.Time moment signal.Expire) }
-        ensures unchanged { OnErr result (self.new ≡ self.old) }
-        ensures recorded { IfOk result (λ r. Records self.old
-            (call.Time moment signal.Expire) r.number r.answer self.new) }
-        ensures effect { IfOk result (λ r. IsEffect (announced_of self.old.bounds)
-            (announced_of self.new.bounds) r.effect) }
-        ensures legal { HoldsLegalDesk self.new }
+        ensures { CallsDesk self.old (call.Time moment signal.Expire) self.new result }
     {
         self.reply(Call::Time {
             moment,
@@ -329,12 +292,7 @@ impl Desk {
     /// Makes a call, and hands its effect out with it.
     fn reply(&mut self, call: Call) -> Result<Reply, HistoryFull>
         requires { HasStay call }
-        ensures full { IsErr result ↔ IsOverLimit self.old call }
-        ensures unchanged { OnErr result (self.new ≡ self.old) }
-        ensures recorded { IfOk result (λ r. Records self.old call r.number r.answer self.new) }
-        ensures effect { IfOk result (λ r. IsEffect (announced_of self.old.bounds)
-            (announced_of self.new.bounds) r.effect) }
-        ensures legal { HoldsLegalDesk self.new }
+        ensures { CallsDesk self.old call self.new result }
     {
         let mut effect = Effect::new();
         let Recorded { number, answer } = self.call(&call, &mut effect)?;

@@ -1,7 +1,7 @@
 //! What holds of a desk's history, over every base and list of entries. These functions do nothing: their
 //! contracts are the laws.
 
-ghost use Rattle.std.specs.Prelude.{◌≡◌, ◌≤◌, ◌+◌, ◌↔◌, ◌∷◌, ◌++◌, ℕ, List, All, None, Some, length};
+ghost use Rattle.std.specs.Prelude.{◌≡◌, ◌≤◌, ◌+◌, ◌↔◌, ◌∷◌, ◌++◌, ℕ, List, None, Some, length};
 ghost use Rattle.tmmbr_tuple.specs.declared.ssrc.Ssrc.{Ssrc};
 ghost use Rattle.tmmbr_tuple.specs.declared.tuple.Tuple.{Tuple};
 ghost use Rattle.bounding_set.specs.Rows.{tuple_of};
@@ -12,12 +12,11 @@ ghost use Rattle.desk.specs.declared.call.Entry.{Entry};
 ghost use Rattle.desk.specs.declared.base.Base.{Base};
 ghost use Rattle.desk.specs.declared.presence.TheConstants.{PRESENT_LIMIT};
 ghost use Rattle.desk.specs.Answer.{IsAnswerTo};
-ghost use Rattle.desk.specs.Call.{HasStay};
 ghost use Rattle.desk.specs.Others.{HasOthers};
 ghost use Rattle.desk.specs.Presence.{stay_in};
 ghost use Rattle.desk.specs.Trace.{IsBase, base_with, base_after, live_after, words_of};
 ghost use Rattle.desk.specs.Places.{IsPresent, IsPresentFrom, IsLiveFrom, greatest_until};
-ghost use Rattle.desk.specs.History.{IsLegalHistory};
+ghost use Rattle.desk.specs.History.{IsLegalHistory, IsLegalTrace};
 ghost use Rattle.desk.specs.Schedule.{IsGreatestUntil, IsPliSchedule, WentUpAt, calls_in};
 
 /// Folding the first entries into the base, early or late, changes nothing of what a trace comes to, and a
@@ -46,10 +45,9 @@ pub fn present_since_arrival()
 /// arrive is answered `Full`, as many others are present as may be, by the trace.
 pub fn full_where_others_present()
     ensures base { (gap ms : ℕ) (base : Base) (entries : List Entry)
-        → IsBase base → All (λ e. HasStay e.call) entries → IsLegalHistory gap ms base entries
-        → IsBase (base_after ms base entries) }
+        → IsLegalTrace gap ms base entries → IsBase (base_after ms base entries) }
     ensures full { (gap ms : ℕ) (base : Base) (entries : List Entry) (owner : Ssrc) (stay : ℕ)
-        → IsBase base → All (λ e. HasStay e.call) entries → IsLegalHistory gap ms base entries
+        → IsLegalTrace gap ms base entries
         → IsAnswerTo gap ms (base_after ms base entries) (Stay owner stay Arrive) Full
         → HasOthers base entries owner.0 PRESENT_LIMIT }
 {}
@@ -59,13 +57,12 @@ pub fn full_where_others_present()
 /// that of the request and `ms` milliseconds more. One that isn't present asks for nothing.
 pub fn live_since_request()
     ensures absent { (gap ms : ℕ) (base : Base) (entries : List Entry) (owner : ℕ)
-        → IsBase base → All (λ e. HasStay e.call) entries → IsLegalHistory gap ms base entries
+        → IsLegalTrace gap ms base entries
         → stay_in (base_after ms base entries).present.items owner ≡ 0
         → tuple_of (live_after ms base entries) owner ≡ None }
     ensures live { (gap ms : ℕ) (base : Base) (entries : List Entry)
         (owner stay from : ℕ) (tuple : Tuple)
-        → IsBase base → All (λ e. HasStay e.call) entries → IsLegalHistory gap ms base entries
-        → 1 ≤ stay → IsPresentFrom base entries owner stay from
+        → IsLegalTrace gap ms base entries → 1 ≤ stay → IsPresentFrom base entries owner stay from
         → tuple_of (live_after ms base entries) owner ≡ Some tuple
         ↔ IsLiveFrom ms base entries owner from tuple }
 {}

@@ -1,5 +1,5 @@
 -- What a contract sees of a `DeskSeat`, and what a house's calls give.
-use Rattle.std.specs.Prelude.{◌≡◌, ℕ, ◌+◌, ◌*◌, ◌^◌, ◌<◌, ◌≤◌, List, length, get_or, set, replicate, Result, MatchResult}
+use Rattle.std.specs.Prelude.{◌≡◌, ℕ, ◌+◌, ◌*◌, ◌^◌, ◌<◌, ◌≤◌, ◌↔◌, ◌⊎◌, List, length, get_or, set, replicate, Result, MatchResult, IsErr, IfOk, IfErr, OnOk, OnErr}
 use Rattle.bounding_set.specs.State.{announced_of}
 use Rattle.desk.specs.declared.call.Call.{Call}
 use Rattle.desk.specs.declared.effect.Effect.{Effect}
@@ -97,6 +97,24 @@ pub record IsFaultOf (gap request_ms p : ℕ) (call : Call) (seat : SeatState)
   pub desk : DeskState
   pub is : IsDeskOf gap request_ms desk
   pub here : IsFaultAt p call seat desk fault
+
+-- A seat called a publisher's desk. It gets a receipt of the call, and counts it; or some desk of the house has this fault, and the
+-- seat is as before.
+pub record GetsReceipt (gap request_ms p : ℕ) (call : Call) (seat later : SeatState)
+    (result : Result Receipt HouseFault) : Type 0 where
+  pub receipt : IfOk result (IsReceiptOf p call seat)
+  pub counted : OnOk result (Counts p call seat later)
+  pub fault : IfErr result (IsFaultOf gap request_ms p call seat)
+  pub unchanged : OnErr result (later ≡ seat)
+
+-- A seat calls a desk that is held. It is refused exactly if the desk has fewer calls than the seat made to it, or has no room: that is
+-- the fault, and the desk is as before. Else the desk records the call.
+pub record CallsHeldDesk (p : ℕ) (call : Call) (seat : SeatState) (former desk : DeskState)
+    (result : Result Receipt HouseFault) : Type 0 where
+  pub refused : IsErr result ↔ (call_count former < calls_to p seat) ⊎ IsOverLimit former call
+  pub fault : IfErr result (IsFaultAt p call seat former)
+  pub recorded : IfOk result (λ r. Records former call r.number r.answer desk)
+  pub unchanged : OnErr result (desk ≡ former)
 
 -- A seat called a publisher's desk. Either a desk of the house recorded that, receipt and effect are handed out, and the seat
 -- counts it; or there is a fault, and the seat is as before.

@@ -36,12 +36,12 @@ pub struct House<D: DeskCalls, S: SeatCalls> {
 }
 
 impl<D: DeskCalls, S: SeatCalls> House<D, S> {
-    ghost use Rattle.std.specs.Prelude.{◌≡◌, ◌<◌, ◌≤◌, replicate, IfOk, IfErr, OnOk, OnErr};
+    ghost use Rattle.std.specs.Prelude.{◌≡◌, ◌<◌, ◌≤◌, replicate, IfOk, OnErr};
     ghost use Rattle.desk.specs.declared.call.Call.TheVariants as call;
     ghost use Rattle.desk.specs.declared.call.Change.TheVariants as change;
     ghost use Rattle.desk.specs.declared.call.Signal.TheVariants as signal;
     ghost use Rattle.desk.specs.Call.{HasStay};
-    ghost use Rattle.rate_desk.specs.Shares.{new_seat, Counts, IsLastCall, IsReceiptOf, IsFaultOf, IsTold, IsPulsed, MakesCall};
+    ghost use Rattle.rate_desk.specs.Shares.{new_seat, GetsReceipt, IsLastCall, IsTold, IsPulsed, MakesCall};
 
     /// A house of so many publishers and seats. Each desk sends PLIs upstream at least `gap` milliseconds
     /// apart, and takes requests away that are `request_ms` milliseconds old, never where that is 0. The
@@ -253,11 +253,9 @@ impl<D: DeskCalls, S: SeatCalls> House<D, S> {
     ) -> Result<Receipt, HouseFault>
         requires publisher { publisher < S.publishers }
         requires stays { HasStay call }
-        ensures receipt { IfOk result (IsReceiptOf publisher call seat.old) }
+        ensures seat { GetsReceipt D.gap D.request_ms publisher call seat.old seat.new result }
         ensures told { IfOk result (λ r. IsTold D.gap D.request_ms r effect.new) }
-        ensures counted { OnOk result (Counts publisher call seat.old seat.new) }
-        ensures fault { IfErr result (IsFaultOf D.gap D.request_ms publisher call seat.old) }
-        ensures unchanged { OnErr result ((seat.new ≡ seat.old) × (effect.new ≡ effect.old)) }
+        ensures unchanged { OnErr result (effect.new ≡ effect.old) }
     {
         let mut hold = self.hold(rt, publisher);
         self.call_held(rt, seat, &mut hold, call, effect)
@@ -275,13 +273,11 @@ impl<D: DeskCalls, S: SeatCalls> House<D, S> {
     ) -> Result<Receipt, HouseFault>
         requires publisher { hold.old.publisher < S.publishers }
         requires stays { HasStay call }
-        ensures receipt { IfOk result (IsReceiptOf hold.old.publisher call seat.old) }
+        ensures seat { GetsReceipt D.gap D.request_ms hold.old.publisher call
+            seat.old seat.new result }
         ensures last { IfOk result (λ r. IsLastCall r effect.new hold.old.desk hold.new.desk) }
         ensures told { IfOk result (λ r. IsTold D.gap D.request_ms r effect.new) }
-        ensures counted { OnOk result (Counts hold.old.publisher call seat.old seat.new) }
-        ensures fault { IfErr result (IsFaultOf D.gap D.request_ms hold.old.publisher call seat.old) }
-        ensures unchanged { OnErr result ((seat.new ≡ seat.old) × (effect.new ≡ effect.old)
-            × (hold.new ≡ hold.old)) }
+        ensures unchanged { OnErr result ((effect.new ≡ effect.old) × (hold.new ≡ hold.old)) }
         ensures place { hold.new.publisher ≡ hold.old.publisher }
     {
         let held = &mut *hold.guard;
@@ -299,14 +295,9 @@ impl<D: DeskCalls, S: SeatCalls> House<D, S> {
         moment: u64,
     ) -> Result<Receipt, HouseFault>
         requires publisher { publisher < S.publishers }
-        ensures receipt { IfOk result (IsReceiptOf publisher (call.Time moment signal.Tick)
-            seat.old) }
+        ensures seat { GetsReceipt D.gap D.request_ms publisher (call.Time moment signal.Tick)
+            seat.old seat.new result }
         ensures answered { IfOk result (IsPulsed D.gap D.request_ms) }
-        ensures counted { OnOk result (Counts publisher (call.Time moment signal.Tick)
-            seat.old seat.new) }
-        ensures fault { IfErr result (IsFaultOf D.gap D.request_ms publisher
-            (call.Time moment signal.Tick) seat.old) }
-        ensures unchanged { OnErr result (seat.new ≡ seat.old) }
     {
         let mut held = self.hold(rt, publisher);
         seat.pulse(rt, &mut *held.guard, &self.tally, publisher, moment)

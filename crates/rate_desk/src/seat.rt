@@ -37,14 +37,13 @@ impl<S: SeatCalls> Model for DeskSeat<S> {
 }
 
 impl<S: SeatCalls> DeskSeat<S> {
-    ghost use Rattle.std.specs.Prelude.{◌≡◌, ◌<◌, ◌≤◌, ◌+◌, ◌↔◌, ◌⊎◌, length, IfOk, IfErr, IsErr, OnOk, OnErr};
+    ghost use Rattle.std.specs.Prelude.{◌≡◌, ◌<◌, ◌≤◌, ◌+◌, length, IfOk, OnOk, OnErr};
     ghost use Rattle.bounding_set.specs.State.{announced_of};
     ghost use Rattle.desk.specs.declared.call.Call.TheVariants as call;
     ghost use Rattle.desk.specs.declared.call.Signal.TheVariants as signal;
     ghost use Rattle.desk.specs.Call.{HasStay};
     ghost use Rattle.desk.specs.Effect.{IsEffect};
-    ghost use Rattle.desk.specs.State.{IsOverLimit, Records, call_count};
-    ghost use Rattle.rate_desk.specs.Shares.{calls_to, words_to, new_seat, Counts, IsReceiptOf, IsFaultAt, IsFaultOf, IsTold, IsPulsed};
+    ghost use Rattle.rate_desk.specs.Shares.{calls_to, words_to, new_seat, CallsHeldDesk, Counts, GetsReceipt, IsTold, IsPulsed};
 
     /// A seat that made no calls, with its part of the ledger.
     pub(crate) fn new(
@@ -91,20 +90,13 @@ impl<S: SeatCalls> DeskSeat<S> {
         requires stays { HasStay call }
         requires publisher { publisher < S.publishers }
         requires here { held.old.publisher ≡ publisher }
-        ensures refused { IsErr result ↔ (call_count held.old.desk < calls_to publisher self.old)
-            ⊎ IsOverLimit held.old.desk call }
-        ensures fault_here { IfErr result (IsFaultAt publisher call self.old held.old.desk) }
-        ensures fault { IfErr result (IsFaultOf D.gap D.request_ms publisher call self.old) }
-        ensures unchanged { OnErr result ((self.new ≡ self.old) × (held.new.desk ≡ held.old.desk) ×
-            (effect.new ≡ effect.old)) }
-        ensures recorded { IfOk result (λ r. Records held.old.desk call
-            r.number r.answer held.new.desk) }
+        ensures desk { CallsHeldDesk publisher call self.old held.old.desk held.new.desk result }
+        ensures seat { GetsReceipt D.gap D.request_ms publisher call self.old self.new result }
         ensures effect { OnOk result (IsEffect (announced_of held.old.desk.bounds)
             (announced_of held.new.desk.bounds) effect.new) }
-        ensures receipt { IfOk result (IsReceiptOf publisher call self.old) }
-        ensures place { held.new.publisher ≡ publisher }
         ensures told { IfOk result (λ r. IsTold D.gap D.request_ms r effect.new) }
-        ensures counted { OnOk result (Counts publisher call self.old self.new) }
+        ensures unchanged { OnErr result (effect.new ≡ effect.old) }
+        ensures place { held.new.publisher ≡ publisher }
     {
         let calls = held.desk.calls();
         if calls < self.calls(publisher) {
@@ -137,22 +129,13 @@ impl<S: SeatCalls> DeskSeat<S> {
     ) -> Result<Receipt, HouseFault>
         requires publisher { publisher < S.publishers }
         requires here { held.old.publisher ≡ publisher }
-        ensures refused { IsErr result ↔ (call_count held.old.desk < calls_to publisher self.old)
-            ⊎ IsOverLimit held.old.desk (call.Time moment signal.Tick) }
-        ensures fault_here { IfErr result (IsFaultAt publisher
-            (call.Time moment signal.Tick) self.old held.old.desk) }
-        ensures fault { IfErr result (IsFaultOf D.gap D.request_ms publisher
-            (call.Time moment signal.Tick) self.old) }
-        ensures unchanged { OnErr result ((self.new ≡ self.old) × (held.new.desk ≡ held.old.desk)) }
-        ensures recorded { IfOk result (λ r. Records held.old.desk
-            (call.Time moment signal.Tick) r.number r.answer held.new.desk) }
+        ensures desk { CallsHeldDesk publisher (call.Time moment signal.Tick)
+            self.old held.old.desk held.new.desk result }
+        ensures seat { GetsReceipt D.gap D.request_ms publisher (call.Time moment signal.Tick)
+            self.old self.new result }
         ensures announced { held.new.desk.bounds ≡ held.old.desk.bounds }
-        ensures receipt { IfOk result (IsReceiptOf publisher (call.Time moment signal.Tick)
-            self.old) }
-        ensures place { held.new.publisher ≡ publisher }
         ensures answered { IfOk result (IsPulsed D.gap D.request_ms) }
-        ensures counted { OnOk result (Counts publisher (call.Time moment signal.Tick)
-            self.old self.new) }
+        ensures place { held.new.publisher ≡ publisher }
     {
         let tick = Call::Time {
             moment,
