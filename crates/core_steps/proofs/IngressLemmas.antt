@@ -32,6 +32,7 @@ use Rattle.core_steps.specs.Happening.{RecordedCall, no_worker, giving, capped_c
 use Rattle.core_steps.specs.Pushing.{Pushed}
 use Rattle.core_steps.specs.Rule.{Replies, IngressAsks, AsksDesk, OrderAsks, DoesTask, DoesNext, IsReporting, done_task, ingress_asked, pushing, putting, pending_datagrams}
 use Rattle.core_steps.specs.Run.{Leaves}
+use Rattle.core_steps.proofs.AskingLemmas.{asking_of}
 
 -- the parts of a world that the ingress changes
 abbrev pub with_parts : WorldState → RoomState → List Task → Option Pending → List DeskState → List Row → List WorkerState → ℕ → ℕ → WorldState
@@ -101,7 +102,7 @@ nobody_left w t tasks outs lost tmmbns is = record {
 asked_left : (w : WorldState) (t : Task) (p : ℕ) (call : DeskCall) (o : Option DeskState) (tasks : List Task)
     (pending : Option Pending) (desks : List DeskState) (outs all : List Out)
     → w.pending ≡ None → w.lost < 2 ^ 64 → w.tmmbns < 2 ^ 64 → tasks ≡ drop 1 w.tasks
-    → Asked p None call o w.desks desks pending outs all
+    → Asked (asking_of p call) o w.desks desks pending outs all
     → Leaves (IngressAsks w t p call o) w outs (with_reply w tasks pending desks) all
 asked_left w t p call None tasks pending desks outs all idle lost tmmbns is asked =
     let L : Option Pending → Type 0 = λ x. Leaves (IngressAsks w t p call None) w outs (with_reply w tasks x w.desks) outs in
@@ -122,7 +123,7 @@ asked_left w t p call (Some d) tasks pending desks outs all idle lost tmmbns is 
 pub desk_asked : (w : WorldState) (t : Task) (p : ℕ) (call : DeskCall) (tasks : List Task) (pending : Option Pending) (desks : List DeskState)
     (outs all : List Out)
     → w.pending ≡ None → w.lost < 2 ^ 64 → w.tmmbns < 2 ^ 64 → tasks ≡ drop 1 w.tasks
-    → Asked p None call (slice_get w.desks p) w.desks desks pending outs all
+    → Asked (asking_of p call) (slice_get w.desks p) w.desks desks pending outs all
     → Leaves (AsksDesk w t p call) w outs (with_reply w tasks pending desks) all
 desk_asked w t p call tasks pending desks outs all idle lost tmmbns is asked =
     asked_left w t p call (slice_get w.desks p) tasks pending desks outs all idle lost tmmbns is asked

@@ -27,9 +27,9 @@ use Rattle.core_steps.specs.Laws.{TellsLegalDesk, IsGivenUpFull}
 use Rattle.core_steps.specs.Hearing.{IsHearing, hearing, hearing_by, ticking, room_call, receptions, selecting_by, jobs_of, tasks_after}
 use Rattle.intake.specs.Intake.{Said}
 use Rattle.legs.specs.Legs.{legs_after}
-use Rattle.core_steps.specs.Rule.{Does, DoesNext, DoesTask, DoesJob, Works, WorksOn, is_busy, Replies, IngressAsks, OrderAsks, JobAsks, WorkerAsks, ingress_asked, worker_asked, pushing, putting, done_task, taking, working, with_hand, forwarding, hand_of, pending_of}
+use Rattle.core_steps.specs.Rule.{Does, DoesNext, DoesTask, DoesJob, Works, WorksOn, is_busy, Replies, IngressAsks, OrderAsks, JobAsks, WorkerAsks, ingress_asked, worker_asked, pushing, putting, done_task, taking, working, with_hand, forwarding, hand_of}
 use Rattle.core_steps.specs.World.{WorldState, WorkerState, Task, order, push, pulse, expire, report, Hand, free, doing, telling}
-use Rattle.notices.specs.Notification.{Pending}
+use Rattle.notices.specs.Notification.{pending_of, Pending}
 use Rattle.core_steps.proofs.CauseLemmas.{AsksAsDone, AsksThere, AskedByJob, Causes, asked_by_task, finished_in, in_hand, orders_in, orders_first, orders_ticked, none_after, none_append, none_heard, none_received}
 
 -- What was done at a worker: it is there, it took its oldest jobs, and there was room for those that it was given; it finished what
@@ -306,7 +306,7 @@ module _ (w : WorldState) (k : ℕ) (s : WorkerState) (job : Job) (f : slice_get
         worker_kind w k s _ _ f refl tt refl refl refl refl let_go same refl refl (worker_reply_asks d None at r)
     worker_reply_kind d (Some a) at r =
         worker_kind w k s _ _ f refl (record { legal = r.legal; announced = r.effect.announced }, tt) refl refl refl refl
-        (ap (λ (js : List Job). job ∷ js) (hand_of_reply (pending_of leg a)) ∙ let_go) same refl refl (worker_reply_asks d (Some a) at r)
+        (ap (λ (js : List Job). job ∷ js) (hand_of_reply (pending_of a.publisher leg a.answer a.effect)) ∙ let_go) same refl refl (worker_reply_asks d (Some a) at r)
 
     worker_asks_kind : (d : Option DeskState) (h : Happening) → slice_get w.desks p ≡ d → WorkerAsks w k s job leg p call d h → IsKind w h
     worker_asks_kind None h at r =

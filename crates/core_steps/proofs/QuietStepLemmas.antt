@@ -34,9 +34,9 @@ use Rattle.legs.specs.Legs.{legs_after}
 use Rattle.settings.specs.Links.{LinkTable, table_of}
 use Rattle.core_steps.specs.Opening.{setup_by}
 use Rattle.core_steps.specs.Quiet.{HeardRate, HearsRates, IsHeardOf, rates_said, rates_in, rate_of}
-use Rattle.core_steps.specs.Rule.{Does, DoesNext, DoesTask, DoesJob, Works, WorksOn, is_busy, is_empty, Replies, IngressAsks, OrderAsks, JobAsks, WorkerAsks, ingress_asked, worker_asked, pushing, putting, done_task, taking, working, with_hand, hand_of, pending_of, forwarding}
+use Rattle.core_steps.specs.Rule.{Does, DoesNext, DoesTask, DoesJob, Works, WorksOn, is_busy, is_empty, Replies, IngressAsks, OrderAsks, JobAsks, WorkerAsks, ingress_asked, worker_asked, pushing, putting, done_task, taking, working, with_hand, hand_of, forwarding}
 use Rattle.core_steps.specs.World.{Setup, WorldState, WorkerState, Task, order, push, pulse, expire, report, Hand, free, doing, telling}
-use Rattle.notices.specs.Notification.{Pending}
+use Rattle.notices.specs.Notification.{pending_of, Pending}
 use Rattle.intake.proofs.OneSaidLemmas.{says_one}
 use Rattle.core_steps.proofs.QuietDeskLemmas.{NotBy}
 use Rattle.core_steps.proofs.QuietLegLemmas.{asker, IsByLeg}
@@ -370,9 +370,9 @@ module _ (c : Configuration) (range : IsInRange c) (w : WorldState) (setup : w.s
         reply d at (Some a) recorded u g =
             same_tasks (desks_by w.desks a) _ (asked ++ a ∷ [])
             (kept_requested c range w.room.endpoints w.room.legs w.room.next rates m stay word
-            (with_hand k s (Request m stay word ∷ []) (hand_of (pending_of (Some m) a))) s w.tasks w.workers there held
-            (λ n. hand_empty (pending_of (Some m) a) n) (append-nil s.jobs)
-            (record { jobs = placed_then free tt (s.jobs ++ []) (append-nil s.jobs); hand = hand_placed (pending_of (Some m) a) })
+            (with_hand k s (Request m stay word ∷ []) (hand_of (pending_of a.publisher (Some m) a.answer a.effect))) s w.tasks w.workers there held
+            (λ n. hand_empty (pending_of a.publisher (Some m) a.answer a.effect) n) (append-nil s.jobs)
+            (record { jobs = placed_then free tt (s.jobs ++ []) (append-nil s.jobs); hand = hand_placed (pending_of a.publisher (Some m) a.answer a.effect) })
             w.desks asked p d call a t at recorded legs means kept)
 
         asks : (d : Option DeskState) → slice_get w.desks p ≡ d → WorkerAsks w k s (Request m stay word) (Some m) p call d h → Keeps [] h
@@ -394,9 +394,9 @@ module _ (c : Configuration) (range : IsInRange c) (w : WorldState) (setup : w.s
             same_tasks (desks_by w.desks a) _ (asked ++ a ∷ [])
             (kept_worked_told c range w.room.endpoints w.room.legs w.room.next rates w.desks asked l.publisher d (Time moment signal.Pli) a at recorded tt
             (λ x. inr (subst (λ (y : DeskCall). NotBy (asker c x) y) (sym recorded.names) tt))
-            (with_hand k s (Pli m moment ∷ []) (hand_of (pending_of None a))) s w.tasks w.workers there
-            (record { jobs = placed_then free tt (s.jobs ++ []) (append-nil s.jobs); hand = hand_placed (pending_of None a) })
-            (λ n stay done x. frees (doing (Pli m moment)) (hand_of (pending_of None a)) held (λ _. refl) (λ i. hand_empty (pending_of None a) i) n stay done x) kept)
+            (with_hand k s (Pli m moment ∷ []) (hand_of (pending_of a.publisher None a.answer a.effect))) s w.tasks w.workers there
+            (record { jobs = placed_then free tt (s.jobs ++ []) (append-nil s.jobs); hand = hand_placed (pending_of a.publisher None a.answer a.effect) })
+            (λ n stay done x. frees (doing (Pli m moment)) (hand_of (pending_of a.publisher None a.answer a.effect)) held (λ _. refl) (λ i. hand_empty (pending_of a.publisher None a.answer a.effect) i) n stay done x) kept)
 
         asks : (d : Option DeskState) → slice_get w.desks l.publisher ≡ d → WorkerAsks w k s (Pli m moment) None l.publisher (Time moment signal.Pli) d h → Keeps [] h
         asks None at x =

@@ -18,11 +18,11 @@ use Rattle.events.specs.declared.output.Out.TheVariants.{Lost}
 use Rattle.core_steps.specs.declared.ring.TheConstants.{JOB_LIMIT}
 use Rattle.notices.specs.DeskCalls.{stay_call, picture_call}
 use Rattle.core_steps.specs.Happening.{Happening, RecordedCall, Worked, desks_by, no_worker, worker_after, workers_by, world_after}
-use Rattle.core_steps.specs.Rule.{Does, DoesJob, DoesNext, DoesTask, IngressAsks, JobAsks, OrderAsks, WorkerAsks, Works, WorksOn, done_task, hand_of, ingress_asked, is_busy, is_empty, pending_of, pushing, putting, worker_asked}
+use Rattle.core_steps.specs.Rule.{Does, DoesJob, DoesNext, DoesTask, IngressAsks, JobAsks, OrderAsks, WorkerAsks, Works, WorksOn, done_task, hand_of, ingress_asked, is_busy, is_empty, pushing, putting, worker_asked}
 use Rattle.core_steps.specs.Run.{HasRun, Runs, worlds_after}
 use Rattle.core_steps.specs.Waits.{has_work, pending_count, worker_has_work, works_more}
 use Rattle.core_steps.specs.World.{Hand, Task, WorkerState, WorldState, doing, expire, free, order, pulse, push, report, telling}
-use Rattle.notices.specs.Notification.{Pending}
+use Rattle.notices.specs.Notification.{pending_of, Pending}
 use Rattle.core_steps.specs.Settling.{hand_left, ingress_left, state_left, work_left}
 
 -- ---- a run of one event
@@ -161,7 +161,7 @@ worker_replied : (w : WorldState) (k : ℕ) (s : WorkerState) (job : Job) (leg :
     → hand_left s.hand ≡ 2 → Lessens k s (worker_asked w k s job leg p reply)
 worker_replied w k s job leg p None hand = other_hand k s _ _ refl refl refl refl (omega (arith, hand))
 worker_replied w k s job leg p (Some a) hand =
-    other_hand k s _ _ refl refl refl refl (omega (arith, hand, pending_left (pending_of leg a)))
+    other_hand k s _ _ refl refl refl refl (omega (arith, hand, pending_left (pending_of a.publisher leg a.answer a.effect)))
 
 worker_asks : (w : WorldState) (k : ℕ) (s : WorkerState) (job : Job) (leg : Option ℕ) (p : ℕ) (call : DeskCall) (d : Option DeskState)
     (h : Happening) → hand_left s.hand ≡ 2 → WorkerAsks w k s job leg p call d h → Lessens k s h

@@ -22,10 +22,10 @@ use Rattle.core_steps.specs.declared.ring.TheConstants.{JOB_LIMIT}
 use Rattle.core_steps.specs.Happening.{Happening, RecordedCall, Worked, giving, world_after, workers_by, worker_after, no_worker}
 use Rattle.core_steps.specs.Hearing.{IsHearing, hearing, hearing_by, ticking, room_call, selecting_by}
 use Rattle.intake.specs.Intake.{Said}
-use Rattle.notices.specs.Notification.{Pending}
+use Rattle.notices.specs.Notification.{pending_of, Pending}
 use Rattle.core_steps.specs.Opening.{IsNewWorld}
 use Rattle.core_steps.specs.OverRuns.{IsOfCall, TellsOf}
-use Rattle.core_steps.specs.Rule.{Does, DoesNext, DoesTask, DoesJob, Works, WorksOn, is_busy, IngressAsks, OrderAsks, JobAsks, WorkerAsks, pushing, hand_of, pending_of, ingress_asked, worker_asked}
+use Rattle.core_steps.specs.Rule.{Does, DoesNext, DoesTask, DoesJob, Works, WorksOn, is_busy, IngressAsks, OrderAsks, JobAsks, WorkerAsks, pushing, hand_of, ingress_asked, worker_asked}
 use Rattle.core_steps.specs.Run.{Runs, worlds_after}
 use Rattle.core_steps.specs.Traces.{calls_of}
 use Rattle.core_steps.specs.World.{WorldState, WorkerState, Task, order, push, pulse, expire, report, Hand, free, doing, telling}
@@ -66,7 +66,8 @@ holds w h d same one its = record {
   hands = subst (λ (ds : List Worked). AllByRecursion (IsHandOf w h.asked) ds) (sym one) (its, tt);
 }
 
-told_of_call : (leg : Option ℕ) (a : RecordedCall) (p : Pending) → pending_of leg a ≡ Some p → IsOfCall (a ∷ []) p
+told_of_call : (leg : Option ℕ) (a : RecordedCall) (p : Pending) → pending_of a.publisher leg a.answer a.effect ≡ Some p
+    → IsOfCall (a ∷ []) p
 told_of_call leg a p is = record { place = 0; call = a; there = refl; asked_by = leg; tells = is }
 
 in_hand_of : (x : Option Pending) (p : Pending) → told_in (hand_of x) ≡ Some p → x ≡ Some p
@@ -144,7 +145,7 @@ worker_asks_leaves w k s job leg p call (Some d) h r = step r.0 r.2
     step : (reply : Option RecordedCall) → h ≡ worker_asked w k s job leg p reply → Leaves w h
     step None e = along w h _ e (empty_hand w _ _ refl refl refl)
     step (Some a) e =
-        along w h _ e (holds w _ _ refl refl (λ q is. inr (told_of_call leg a q (in_hand_of (pending_of leg a) q is))))
+        along w h _ e (holds w _ _ refl refl (λ q is. inr (told_of_call leg a q (in_hand_of (pending_of a.publisher leg a.answer a.effect) q is))))
 
 job_asks_leaves : (w : WorldState) (k : ℕ) (s : WorkerState) (job : Job) (leg : Option ℕ) (asked : Option (ℕ × DeskCall)) (h : Happening)
     → JobAsks w k s job leg asked h → Leaves w h

@@ -15,6 +15,7 @@ use Rattle.events.specs.declared.output.Out.{Out}
 use Rattle.events.specs.declared.output.Out.TheVariants.{Idle}
 use Rattle.notices.specs.declared.calls.Asks.{Asks}
 use Rattle.notices.specs.declared.calls.Asks.TheVariants.{Desk, Nobody, Legs}
+use Rattle.notices.specs.declared.calls.Question.{Question}
 use Rattle.core_steps.specs.Asking.{Asked, desks_after, pending_after, refusals_after}
 use Rattle.notices.specs.DeskCalls.{stay_call, picture_call, asks_by, AsksOf}
 use Rattle.core_steps.specs.Happening.{RecordedCall, Worked, Happening, giving, no_worker, worker_after, workers_by, desks_by}
@@ -110,7 +111,7 @@ telling-steps setup rows desks s next outs all p full is e w k there lost tmmbns
 
 -- what an asked desk or nobody leaves
 AsksBy : WorldState → ℕ → WorkerState → Job → Happening → Asks → Type 0
-AsksBy v k s job h (Desk p leg call) = WorkerAsks v k s job leg p call (slice_get v.desks p) h
+AsksBy v k s job h (Desk q) = WorkerAsks v k s job q.asked_by q.publisher q.call (slice_get v.desks q.publisher) h
 AsksBy v k s job h Nobody = h ≡ working v (with_hand k s (job ∷ []) free) []
 AsksBy v k s job h Legs = h ≡ forwarding v k s job
 
@@ -165,36 +166,36 @@ forwarding-steps setup rows desks s next outs all job full asks is e w k there l
     }
 
 -- the reply of a desk
-replied-steps : (v : WorldState) (k : ℕ) (s next : WorkerState) (outs all : List Out) (job : Job) (p : ℕ) (leg : Option ℕ)
-    (call : DeskCall) (d : DeskState) (later : List DeskState) (pending : Option Pending) (reply : Option RecordedCall)
+replied-steps : (v : WorldState) (k : ℕ) (s next : WorkerState) (outs all : List Out) (job : Job) (q : Question)
+    (d : DeskState) (later : List DeskState) (pending : Option Pending) (reply : Option RecordedCall)
     → slice_get v.workers k ≡ Some s → v.lost < 2 ^ 64 → v.tmmbns < 2 ^ 64
-    → Replies p d call reply → later ≡ desks_after v.desks reply → pending ≡ pending_after leg reply
+    → Replies q.publisher d q.call reply → later ≡ desks_after v.desks reply → pending ≡ pending_after q.asked_by reply
     → all ≡ outs ++ refusals_after reply → next ≡ with_new_hand s (hand_of pending)
-    → Leaves (λ h. (r : Option RecordedCall) × Replies p d call r × (h ≡ worker_asked v k s job leg p r)) v outs
+    → Leaves (λ h. (r : Option RecordedCall) × Replies q.publisher d q.call r × (h ≡ worker_asked v k s job q.asked_by q.publisher r)) v outs
     (world_after_step v k later next) all
-replied-steps v k s next outs all job p leg call d later pending None there lost tmmbns replies becomes waits given is = record {
-  happening = worker_asked v k s job leg p None;
+replied-steps v k s next outs all job q d later pending None there lost tmmbns replies becomes waits given is = record {
+  happening = worker_asked v k s job q.asked_by q.publisher None;
   allowed = (None, replies, refl);
   leads = ap (λ (l : List DeskState). world_after_step v k l next) becomes
       ∙ turned-leads v s (with_hand k s (job ∷ []) free) v.desks next there lost tmmbns
       (hand-after s next free (is ∙ ap (λ (q : Option Pending). with_new_hand s (hand_of q)) waits));
   given = given;
 }
-replied-steps v k s next outs all job p leg call d later pending (Some a) there lost tmmbns replies becomes waits given is = record {
-  happening = worker_asked v k s job leg p (Some a);
+replied-steps v k s next outs all job q d later pending (Some a) there lost tmmbns replies becomes waits given is = record {
+  happening = worker_asked v k s job q.asked_by q.publisher (Some a);
   allowed = (Some a, replies, refl);
   leads = ap (λ (l : List DeskState). world_after_step v k l next) becomes
-      ∙ turned-leads v s (with_hand k s (job ∷ []) (hand_of (pending_after leg (Some a)))) (desks_by v.desks a) next there lost tmmbns
-      (hand-after s next (hand_of (pending_after leg (Some a))) (is ∙ ap (λ (q : Option Pending). with_new_hand s (hand_of q)) waits));
+      ∙ turned-leads v s (with_hand k s (job ∷ []) (hand_of (pending_after q.asked_by (Some a)))) (desks_by v.desks a) next there lost tmmbns
+      (hand-after s next (hand_of (pending_after q.asked_by (Some a))) (is ∙ ap (λ (q : Option Pending). with_new_hand s (hand_of q)) waits));
   given = given;
 }
 
-asked-steps-at : (v : WorldState) (k : ℕ) (s next : WorkerState) (outs all : List Out) (job : Job) (p : ℕ) (leg : Option ℕ)
-    (call : DeskCall) (found : Option DeskState) (later : List DeskState) (pending : Option Pending)
+asked-steps-at : (v : WorldState) (k : ℕ) (s next : WorkerState) (outs all : List Out) (job : Job) (q : Question)
+    (found : Option DeskState) (later : List DeskState) (pending : Option Pending)
     → slice_get v.workers k ≡ Some s → v.lost < 2 ^ 64 → v.tmmbns < 2 ^ 64
-    → Asked p leg call found v.desks later pending outs all → next ≡ with_new_hand s (hand_of pending)
-    → Leaves (WorkerAsks v k s job leg p call found) v outs (world_after_step v k later next) all
-asked-steps-at v k s next outs all job p leg call None later pending there lost tmmbns asked is = record {
+    → Asked q found v.desks later pending outs all → next ≡ with_new_hand s (hand_of pending)
+    → Leaves (WorkerAsks v k s job q.asked_by q.publisher q.call found) v outs (world_after_step v k later next) all
+asked-steps-at v k s next outs all job q None later pending there lost tmmbns asked is = record {
   happening = working v (with_hand k s (job ∷ []) free) [];
   allowed = refl;
   leads = ap (λ (l : List DeskState). world_after_step v k l next) asked.becomes
@@ -202,23 +203,22 @@ asked-steps-at v k s next outs all job p leg call None later pending there lost 
       (hand-after s next free (is ∙ ap (λ (q : Option Pending). with_new_hand s (hand_of q)) asked.waits));
   given = asked.given ∙ sym (append-nil outs);
 }
-asked-steps-at v k s next outs all job p leg call (Some d) later pending there lost tmmbns asked is =
-    replied-steps v k s next outs all job p leg call d later pending asked.reply there lost tmmbns asked.replies asked.becomes
+asked-steps-at v k s next outs all job q (Some d) later pending there lost tmmbns asked is =
+    replied-steps v k s next outs all job q d later pending asked.reply there lost tmmbns asked.replies asked.becomes
     asked.waits asked.given is
 
 pub asked-steps : (setup : Setup) (rows : List Row) (desks later : List DeskState) (s next : WorkerState) (outs all : List Out) (job : Job)
-    (p : ℕ) (leg : Option ℕ) (call : DeskCall)
-    → s.hand ≡ doing job → AsksOf setup.table job (Desk p leg call) → IsDeskTold p leg call desks later s next outs all
+    (q : Question) → s.hand ≡ doing job → AsksOf setup.table job (Desk q) → IsDeskTold q desks later s next outs all
     → StepsWorker setup rows desks later s next outs all
 unfolding AsksBy
-asked-steps setup rows desks later s next outs all job p leg call full asks told w k there lost tmmbns =
+asked-steps setup rows desks later s next outs all job q full asks told w k there lost tmmbns =
     let v : WorldState = world_with w setup rows desks in
-    let did : Leaves (WorkerAsks v k s job leg p call (slice_get desks p)) v outs (world_after_step v k later next) all =
-    asked-steps-at v k s next outs all job p leg call (slice_get desks p) later told.pending there lost tmmbns told.asked told.worker in
+    let did : Leaves (WorkerAsks v k s job q.asked_by q.publisher q.call (slice_get desks q.publisher)) v outs (world_after_step v k later next) all =
+    asked-steps-at v k s next outs all job q (slice_get desks q.publisher) later told.pending there lost tmmbns told.asked told.worker in
     record {
       happening = did.happening;
       allowed = subst (λ (hand : Hand). WorksOn v k s hand s.jobs did.happening) (sym full)
-          (does-job v k s job did.happening (Desk p leg call) asks did.allowed);
+          (does-job v k s job did.happening (Desk q) asks did.allowed);
       leads = did.leads;
       given = did.given;
     }

@@ -16,11 +16,10 @@ use Rattle.events.specs.declared.output.Out.{Out}
 use Rattle.events.specs.declared.run_fault.RunFault.{RunFault}
 use Rattle.events.specs.RunFaults.{done_of}
 use Rattle.notices.specs.DeskCalls.{source_of}
-use Rattle.notices.specs.Notification.{Pending}
+use Rattle.notices.specs.Notification.{pending_of, Pending}
 use Rattle.core_steps.specs.EveryRun.{tasks_done}
 use Rattle.core_steps.specs.Happening.{Happening, RecordedCall}
 use Rattle.core_steps.specs.Opening.{IsNewWorld}
-use Rattle.core_steps.specs.Rule.{pending_of}
 use Rattle.core_steps.specs.Run.{Runs, HasRun, worlds_after}
 use Rattle.core_steps.specs.Traces.{AtDesk, AnnouncesAfter, HasLeft, IsRequestIn, calls_of, entries_at}
 use Rattle.core_steps.specs.World.{WorldState, WorkerState, order, telling}
@@ -64,7 +63,7 @@ pub record IsOfCall (calls : List RecordedCall) (p : Pending) : Type 0 where
   pub call : RecordedCall
   pub there : slice_get calls place ≡ Some call
   pub asked_by : Option ℕ
-  pub tells : pending_of asked_by call ≡ Some p
+  pub tells : pending_of call.publisher asked_by call.answer call.effect ≡ Some p
 
 -- what waits to be told, or is in a worker's hand, is the effect of one of these calls
 pub record TellsOf (calls : List RecordedCall) (w : WorldState) : Type 0 where

@@ -16,14 +16,12 @@ use Rattle.desk.specs.declared.call.Signal.TheVariants as signal
 use Rattle.desk.specs.declared.call.Answer.{Answer}
 use Rattle.desk.specs.declared.call.Answer.TheVariants.{Done, NotPresent, AlreadyPresent, Full}
 use Rattle.desk.specs.State.{DeskState, HoldsLegalDesk, Records, IsOverLimit}
-use Rattle.desk.specs.Call.{is_done, is_answered_up}
 use Rattle.desk.specs.Effect.{IsEffect}
 use Rattle.members.specs.Rows.{changes_by}
 use Rattle.events.specs.declared.event.Event.{Event}
 use Rattle.events.specs.declared.event.Event.TheVariants.{Hear, Tick, Select, Ingress, Work}
 use Rattle.events.specs.declared.job.Job.{Job}
 use Rattle.events.specs.declared.job.Job.TheVariants.{Packet, Request, Resend, Pli, Report, Goodbye}
-use Rattle.notices.specs.declared.notification.Notification.{Notification}
 use Rattle.events.specs.declared.output.Out.{Out}
 use Rattle.events.specs.declared.output.Out.TheVariants.{Refused, Busy, Idle, Lost}
 use Rattle.events.specs.declared.output.Refusal.TheVariants.{Desk}
@@ -32,7 +30,7 @@ use Rattle.core_steps.specs.declared.ring.TheConstants.{JOB_LIMIT}
 use Rattle.notices.specs.DeskCalls.{stay_call, picture_call}
 use Rattle.legs.specs.Legs.{job_datagrams, legs_after}
 use Rattle.notices.specs.Head.{upstream_report}
-use Rattle.notices.specs.Notification.{notification_datagrams, tells, Pending}
+use Rattle.notices.specs.Notification.{notification_datagrams, pending_of, Pending}
 use Rattle.core_steps.specs.World.{WorldState, WorkerState, Task, order, push, pulse, expire, report, Hand, free, doing, telling}
 use Rattle.core_steps.specs.Happening.{RecordedCall, Happening, Worked, giving}
 use Rattle.core_steps.specs.Hearing.{IsHearing, ticking, selecting}
@@ -63,21 +61,6 @@ refusals Full = Refused (Desk desk.Full) ∷ []
 abbrev pub unrecorded_out : List Out
 unrecorded_out = Refused (Desk desk.HistoryFull) ∷ []
 
--- what is to be notified of a recorded call, by the leg that asked for a rate, where one did
-abbrev pub notification_of : Option ℕ → RecordedCall → Notification
-notification_of leg a = record {
-  publisher = a.publisher;
-  asked_by = if is_done a.answer then leg else None;
-  pli = is_answered_up a.answer;
-}
-
--- it waits, where there is anything to notify anybody of
-abbrev pub pending_of : Option ℕ → RecordedCall → Option Pending
-pending_of leg a =
-    if tells (notification_of leg a) a.effect
-    then Some (record { notification = notification_of leg a; effect = a.effect })
-    else None
-
 abbrev pub pending_datagrams : WorldState → Pending → List Out
 pending_datagrams w p =
     notification_datagrams w.setup.table w.setup.unit w.rows p.notification p.effect
@@ -91,7 +74,10 @@ done_task w t outs = record (giving w outs) { did = t ∷ [] }
 abbrev pub ingress_asked : WorldState → Task → ℕ → Option RecordedCall → Happening
 ingress_asked w t p None = record (done_task w t unrecorded_out) { unrecorded = p ∷ [] }
 ingress_asked w t p (Some a) =
-    record (done_task w t (refusals a.answer)) { asked = a ∷ []; pending = pending_of None a }
+    record (done_task w t (refusals a.answer)) {
+      asked = a ∷ [];
+      pending = pending_of a.publisher None a.answer a.effect;
+    }
 
 -- the task asks the publisher's desk; there is none of a publisher that isn't there
 abbrev pub IngressAsks : WorldState → Task → ℕ → DeskCall → Option DeskState → Happening → Type 0
@@ -181,7 +167,9 @@ abbrev pub worker_asked : WorldState → ℕ → WorkerState → Job → Option 
 worker_asked w k s job leg p None =
     record (working w (with_hand k s (job ∷ []) free) unrecorded_out) { unrecorded = p ∷ [] }
 worker_asked w k s job leg p (Some a) =
-    record (working w (with_hand k s (job ∷ []) (hand_of (pending_of leg a))) (refusals a.answer)) {
+    record (working w
+    (with_hand k s (job ∷ []) (hand_of (pending_of a.publisher leg a.answer a.effect)))
+    (refusals a.answer)) {
       asked = a ∷ [];
     }
 

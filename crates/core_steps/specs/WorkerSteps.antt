@@ -1,23 +1,23 @@
 -- A worker's step, on the parts of the world that it sees.
 use Rattle.std.specs.Prelude.{◌≡◌, ℕ, ◌^◌, ◌<◌, List, slice_get, slice_set, Option, Some}
 use Rattle.members.specs.declared.order.Row.{Row}
-use Rattle.desk.specs.declared.call.Call.{Call as DeskCall}
 use Rattle.desk.specs.State.{DeskState}
 use Rattle.events.specs.declared.output.Out.{Out}
 use Rattle.core_steps.specs.Asking.{Asked}
 use Rattle.core_steps.specs.Rule.{WorksOn, hand_of}
 use Rattle.core_steps.specs.Run.{Leaves}
 use Rattle.core_steps.specs.World.{Setup, Hand, WorkerState, WorldState}
+use Rattle.notices.specs.declared.calls.Question.{Question}
 use Rattle.notices.specs.Notification.{Pending}
 
 abbrev pub with_new_hand : WorkerState → Hand → WorkerState
 with_new_hand s hand = record s { hand = hand }
 
 -- the desk of a publisher was asked among these, and what waits to be told stays in the worker's hand
-pub record IsDeskTold (p : ℕ) (leg : Option ℕ) (call : DeskCall) (desks later : List DeskState)
-    (s next : WorkerState) (outs all : List Out) : Type 0 where
+pub record IsDeskTold (q : Question) (desks later : List DeskState) (s next : WorkerState)
+    (outs all : List Out) : Type 0 where
   pub pending : Option Pending
-  pub asked : Asked p leg call (slice_get desks p) desks later pending outs all
+  pub asked : Asked q (slice_get desks q.publisher) desks later pending outs all
   pub worker : next ≡ with_new_hand s (hand_of pending)
 
 -- the world with this setup, and these rows and desks

@@ -6,9 +6,9 @@ ghost use Rattle.core_steps.specs.Asking.{Replied, Asked};
 ghost use Rattle.notices.specs.Notification.{pending_with};
 ghost use Rattle.core_steps.specs.Rule.{refusals};
 
-use desk::{Answer, Call, Desk, Effect, HistoryFull, Recorded};
+use desk::{Answer, Desk, Effect, HistoryFull, Recorded};
 use events::{DeskRefusal, Out, Refusal};
-use notices::{Notification, notification_of, waiting};
+use notices::{Notification, Question, notification_of, waiting};
 
 /// Says why the call wasn't done, where it wasn't.
 fn refuse(answer: &Answer, outs: &mut Vec<Out>)
@@ -31,43 +31,40 @@ fn refuse(answer: &Answer, outs: &mut Vec<Out>)
 /// `effect` what changed.
 pub(crate) fn ask(
     desks: &mut [Desk],
-    publisher: u16,
-    leg: Option<u16>,
-    call: &Call,
+    question: &Question,
     effect: &mut Effect,
     outs: &mut Vec<Out>,
 ) -> Option<Notification>
-    requires stay { HasStay call.now }
+    requires stay { HasStay question.now.call }
     requires room { vec_len outs.old < vec_capacity outs.old }
-    ensures { Asked publisher leg call.now (slice_get desks.old publisher) desks.old desks.new
+    ensures { Asked question.now (slice_get desks.old question.now.publisher) desks.old desks.new
         (option_map (pending_with effect.new) result) outs.old.items outs.new.items }
 {
-    let at = usize::from(publisher);
+    let at = usize::from(question.publisher);
     if at < desks.len() {
-        ask_desk(&mut desks[at], publisher, leg, call, effect, outs)
+        ask_desk(&mut desks[at], question, effect, outs)
     } else {
         None
     }
 }
 
-/// Asks this desk of the publisher.
+/// Asks this desk, the publisher's.
 fn ask_desk(
     desk: &mut Desk,
-    publisher: u16,
-    leg: Option<u16>,
-    call: &Call,
+    question: &Question,
     effect: &mut Effect,
     outs: &mut Vec<Out>,
 ) -> Option<Notification>
-    requires stay { HasStay call.now }
+    requires stay { HasStay question.now.call }
     requires room { vec_len outs.old < vec_capacity outs.old }
-    ensures { Replied publisher leg call.now desk.old desk.new
+    ensures { Replied question.now desk.old desk.new
         (option_map (pending_with effect.new) result) outs.old.items outs.new.items }
 {
-    match desk.call(call, effect) {
+    match desk.call(&question.call, effect) {
         Ok(Recorded { answer, .. }) => {
             refuse(&answer, outs);
-            waiting(notification_of(publisher, leg, &answer), effect)
+            let notification = notification_of(question.publisher, question.asked_by, &answer);
+            waiting(notification, effect)
         }
         Err(HistoryFull) => {
             outs.push_reserved(Out::Refused(Refusal::Desk(DeskRefusal::HistoryFull)));

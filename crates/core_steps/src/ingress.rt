@@ -22,7 +22,7 @@ use crate::tasks::{FollowUp, NextTask};
 use desk::{Call, Change, Signal};
 use events::{Bytes, Job, Out};
 use members::{Order, Row};
-use notices::{Notification, notify, stay_call};
+use notices::{Notification, Question, notify, stay_call};
 use std::alloc::AllocError;
 
 /// One step of the ingress.
@@ -160,14 +160,12 @@ fn ask_desk(m: &mut Machine, publisher: u16, call: &Call, outs: &mut Vec<Out>)
         (state_of m.old) outs.old.items (state_of m.new) outs.new.items }
 {
     m.knows_counts();
-    m.pending = ask(
-        m.desks.as_mut_slice(),
+    let question = Question {
         publisher,
-        None,
-        call,
-        &mut m.effect,
-        outs,
-    );
+        asked_by: None,
+        call: *call,
+    };
+    m.pending = ask(m.desks.as_mut_slice(), &question, &mut m.effect, outs);
     m.front.tasks.finish();
 }
 

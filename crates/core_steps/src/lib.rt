@@ -30,7 +30,7 @@ pub use events::{Bytes, DeskRefusal, Event, Job, Out, Refusal, RunFault};
 pub use intake::{Ask, Control, Heard, Unheard, hear_datagram, says_one_thing};
 pub use legs::{LegState, Legs, Plan};
 pub use notices::{
-    Asks, Head, Notification, asked_by, notification_of, notify, picture_call, stay_call,
+    Asks, Head, Notification, Question, asked_by, notification_of, notify, picture_call, stay_call,
     tells_each_change, upstream_report, waiting,
 };
 pub use rewrite::rtp_laws;

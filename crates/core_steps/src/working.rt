@@ -10,11 +10,11 @@ ghost use Rattle.core_steps.specs.WorkerSteps.{IsDeskTold, StepsWorker};
 use crate::asking::ask;
 use crate::front::Setup;
 use crate::machine::{Hand, Machine, Worker};
-use desk::{Call, Desk};
+use desk::Desk;
 use events::Out;
 use legs::Plan;
 use members::Row;
-use notices::{Asks, asked_by, notify};
+use notices::{Asks, Question, asked_by, notify};
 use std::alloc::{AllocError, Global};
 
 /// One step of the worker of this number.
@@ -77,8 +77,8 @@ fn step(
             Ok(())
         }
         Hand::Doing(job) => match asked_by(&setup.links, job) {
-            Asks::Desk(publisher, leg, call) => {
-                ask_desk(desks, publisher, leg, &call, w, outs);
+            Asks::Desk(question) => {
+                ask_desk(desks, &question, w, outs);
                 Ok(())
             }
             Asks::Nobody => {
@@ -105,20 +105,13 @@ fn step(
 }
 
 /// Asks the desk; what is to be told stays in the worker's hand.
-fn ask_desk(
-    desks: &mut [Desk],
-    publisher: u16,
-    leg: Option<u16>,
-    call: &Call,
-    w: &mut Worker,
-    outs: &mut Vec<Out>,
-)
-    requires stay { HasStay call.now }
+fn ask_desk(desks: &mut [Desk], question: &Question, w: &mut Worker, outs: &mut Vec<Out>)
+    requires stay { HasStay question.now.call }
     requires room { vec_len outs.old < vec_capacity outs.old }
-    ensures { IsDeskTold publisher leg call.now desks.old desks.new
+    ensures { IsDeskTold question.now desks.old desks.new
         (worker_state w.old) (worker_state w.new) outs.old.items outs.new.items }
 {
-    match ask(desks, publisher, leg, call, &mut w.effect, outs) {
+    match ask(desks, question, &mut w.effect, outs) {
         Some(notification) => w.hand = Hand::Telling(notification),
         None => w.hand = Hand::Free,
     }

@@ -9,6 +9,8 @@ mod cut_tests;
 #[cfg(test)]
 mod intake_tests;
 #[cfg(test)]
+mod job_tests;
+#[cfg(test)]
 mod listener;
 #[cfg(test)]
 mod memory_tests;

@@ -1,2 +1,3 @@
 pub mod Refusals
 pub mod RunFaults
+pub mod Jobs

@@ -41,3 +41,19 @@ pub enum Job {
         leg: u16,
     },
 }
+
+impl Job {
+    ghost use Rattle.std.specs.Prelude.{◌≡◌};
+    ghost use Rattle.events.specs.Jobs.{leg_asking};
+
+    /// The leg by which the job asks a desk, if it does.
+    pub fn leg_asking(&self) -> Option<u16>
+        ensures { result ≡ leg_asking self.now }
+    {
+        match self {
+            Job::Request { leg, .. } | Job::Pli { leg, .. } => Some(*leg),
+            Job::Packet { .. } | Job::Resend { .. } | Job::Report { .. } | Job::Goodbye { .. } =>
+                None,
+        }
+    }
+}

@@ -14,13 +14,13 @@ use Rattle.rate_desk.specs.Shares.{HoldState, IsLastCall, SeatState, Counts, IsR
 use Rattle.events.specs.declared.job.Job.{Job}
 use Rattle.notices.specs.declared.notification.Notification.{Notification}
 use Rattle.events.specs.declared.output.Out.{Out}
-use Rattle.notices.specs.Notification.{told_of, pending_with, tells, is_changed, notification_datagrams, requests_upstream, requests_bytes, to_publisher, notices_to_others, notice_to, others_of, picture_upstream, Pending}
+use Rattle.notices.specs.declared.calls.Question.{Question}
+use Rattle.notices.specs.Notification.{told_of, pending_of, pending_with, tells, is_changed, notification_datagrams, requests_upstream, requests_bytes, to_publisher, notices_to_others, notice_to, others_of, picture_upstream, Pending}
 use Rattle.rtcp_feedback.specs.Writing.{entries_of}
 use Rattle.notices.specs.Head.{Identity}
 use Rattle.settings.specs.Links.{LinkTable}
 use Rattle.forwarding.specs.declared.done.Forwarded.{Forwarded}
 use Rattle.forwarding.specs.declared.done.ForwardFault.{ForwardFault}
-use Rattle.forwarding.specs.declared.question.Question.{Question}
 use Rattle.forwarding.specs.Asking.{IsAsked, nowhere, unrecorded, IsOfLastCall, IsTelling, GivesUp, Notifies, QuestionOf, Feeds, Asking, Telling, Terms, picture_of}
 use Rattle.forwarding.specs.Forwarding.{NotifierState, ForwarderState}
 use Rattle.forwarding.specs.Sending.{Sends, nothing_done}
@@ -39,8 +39,7 @@ asked_unrecorded gap request_ms publishers q seat later fault is same =
 pub asked_recorded : (gap request_ms publishers : ℕ) (q : Question) (seat later : SeatState) (receipt : Receipt) (effect : Effect)
     (pending : Option Pending) → IsReceiptOf q.publisher q.call seat receipt → IsTold gap request_ms receipt effect
     → Counts q.publisher q.call seat later
-    → pending ≡ (if tells (told_of q.publisher q.asked_by receipt.answer) effect
-    then Some (pending_with effect (told_of q.publisher q.asked_by receipt.answer)) else None)
+    → pending ≡ pending_of q.publisher q.asked_by receipt.answer effect
     → IsAsked gap request_ms publishers q seat later pending
 asked_recorded gap request_ms publishers q seat later receipt effect pending is told counts waits =
     record { reply = Some (record { receipt = receipt; effect = effect }); is = record { receipt = is; told = told }; counted = counts; waits = waits }

@@ -1,5 +1,5 @@
 -- How a desk of a house is asked, and what is told then.
-use Rattle.std.specs.Prelude.{◌≡◌, ◌==◌, ◌≤◌, ℕ, Bool, true, false, Option, None, Some, List, Result, Ok, MatchOption, MatchBool, MatchResult, option_map, slice_get, if◌then◌else◌}
+use Rattle.std.specs.Prelude.{◌≡◌, ◌==◌, ◌≤◌, ℕ, Bool, true, false, Option, None, Some, List, Result, Ok, MatchOption, MatchBool, MatchResult, option_map, option_and_then, slice_get}
 use Rattle.std.specs.Option.{option_map_or}
 use Rattle.members.specs.declared.order.Row.{Row}
 use Rattle.settings.specs.declared.settings.LegSettings.{LegSettings}
@@ -10,16 +10,16 @@ use Rattle.desk.specs.State.{DeskState}
 use Rattle.rate_desk.specs.Shares.{HoldState, IsLastCall, SeatState, Counts, IsReceiptOf, IsFaultOf, IsTold}
 use Rattle.routes.specs.Views.{ReaderView}
 use Rattle.events.specs.declared.job.Job.{Job}
-use Rattle.events.specs.declared.job.Job.TheVariants.{Packet, Request, Resend, Pli, Report, Goodbye}
+use Rattle.events.specs.Jobs.{leg_asking}
 use Rattle.notices.specs.declared.notification.Notification.{Notification}
 use Rattle.notices.specs.declared.calls.Asks.{Asks}
 use Rattle.notices.specs.declared.calls.Asks.TheVariants.{Desk, Nobody}
-use Rattle.notices.specs.Notification.{told_of, notification_datagrams, tells, Pending}
+use Rattle.notices.specs.declared.calls.Question.{Question}
+use Rattle.notices.specs.Notification.{told_of, pending_of, notification_datagrams, Pending}
 use Rattle.settings.specs.Links.{worker_of}
 use Rattle.notices.specs.DeskCalls.{AsksOf}
 use Rattle.forwarding.specs.declared.done.Forwarded.{Forwarded}
 use Rattle.forwarding.specs.declared.done.ForwardFault.{ForwardFault}
-use Rattle.forwarding.specs.declared.question.Question.{Question}
 use Rattle.outside.specs.Outside.{SinkView}
 use Rattle.forwarding.specs.Sending.{Sends, nothing_done}
 use Rattle.forwarding.specs.Forwarding.{NotifierState, ForwarderState, IsView, LeavesRows}
@@ -60,17 +60,6 @@ abbrev pub Counted : Question → Option Reply → SeatState → SeatState → T
 Counted q None seat later = later ≡ seat
 Counted q (Some r) seat later = Counts q.publisher q.call seat later
 
--- what is to be told of the reply, where there is anything to tell
-abbrev pub pending_by : Question → Option Reply → Option Pending
-pending_by q None = None
-pending_by q (Some r) =
-    if tells (told_of q.publisher q.asked_by r.receipt.answer) r.effect
-    then Some (record {
-      notification = told_of q.publisher q.asked_by r.receipt.answer;
-      effect = r.effect;
-    })
-    else None
-
 -- a seat asked this of the house, and this is to be told then
 pub record IsAsked (gap request_ms publishers : ℕ) (q : Question) (seat later : SeatState)
     (pending : Option Pending) : Type 0 where
@@ -78,7 +67,8 @@ pub record IsAsked (gap request_ms publishers : ℕ) (q : Question) (seat later 
   pub is : MatchOption reply (IsUnanswered gap request_ms publishers q seat)
       (IsReply gap request_ms q seat)
   pub counted : Counted q reply seat later
-  pub waits : pending ≡ pending_by q reply
+  pub waits : pending ≡ option_and_then
+      (λ (r : Reply). pending_of q.publisher q.asked_by r.receipt.answer r.effect) reply
 
 -- the same, where there was anything to ask
 abbrev pub MayBeAsked : Terms → Option Question → SeatState → SeatState → Option Pending → Type 0
@@ -160,12 +150,7 @@ is_owned f leg =
 
 -- the job is one for a desk, and its leg is one of the worker's
 abbrev pub is_asking : ForwarderState → Job → Bool
-is_asking f (Packet publisher bytes) = false
-is_asking f (Request leg stay word) = is_owned f leg
-is_asking f (Resend leg stay nack) = false
-is_asking f (Pli leg moment) = is_owned f leg
-is_asking f (Report leg stay sr) = false
-is_asking f (Goodbye leg) = false
+is_asking f job = option_map_or (is_owned f) (leg_asking job) false
 
 -- the subscriber of a leg
 abbrev pub subscriber_of : ForwarderState → ℕ → Option ℕ
@@ -174,16 +159,11 @@ subscriber_of f leg =
 
 -- the subscriber for whom a job asks a desk
 abbrev pub subscriber_asking : ForwarderState → Job → Option ℕ
-subscriber_asking f (Packet publisher bytes) = None
-subscriber_asking f (Request leg stay word) = subscriber_of f leg
-subscriber_asking f (Resend leg stay nack) = None
-subscriber_asking f (Pli leg moment) = subscriber_of f leg
-subscriber_asking f (Report leg stay sr) = None
-subscriber_asking f (Goodbye leg) = None
+subscriber_asking f job = option_and_then (subscriber_of f) (leg_asking job)
 
 abbrev pub asks_of : Option Question → Asks
 asks_of None = Nobody
-asks_of (Some q) = Desk q.publisher q.asked_by q.call
+asks_of (Some q) = Desk q
 
 -- what the job asks of a desk: nothing where it is no job for one, where its leg isn't there or is another worker's, or
 -- where its stay is 0

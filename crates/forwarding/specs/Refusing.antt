@@ -1,5 +1,5 @@
 -- Why a desk refuses a call.
-use Rattle.std.specs.Prelude.{ℕ, Option, None, Some}
+use Rattle.std.specs.Prelude.{Option, None, Some}
 use Rattle.desk.specs.declared.call.Answer.{Answer}
 use Rattle.desk.specs.declared.call.Answer.TheVariants as answer
 use Rattle.events.specs.declared.output.DeskRefusal.{DeskRefusal}

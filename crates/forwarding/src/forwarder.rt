@@ -1,16 +1,15 @@
 //! What one worker does with its jobs.
 
-ghost use Rattle.std.specs.Prelude.{◌≡◌, IfSome};
+ghost use Rattle.std.specs.Prelude.{◌≡◌, IfSome, option_map};
 ghost use Rattle.desk.specs.Call.{HasStay};
 ghost use Rattle.forwarding.specs.Asking.{is_owned, is_asking, QuestionOf, subscriber_asking, subscriber_of};
 
 use crate::done::{ForwardFault, Forwarded};
 use crate::notifier::Notifier;
-use crate::question::Question;
 use crate::sending::send_all;
 use events::{Job, Out};
 use legs::{Legs, Plan};
-use notices::{Asks, asked_by};
+use notices::{Asks, Question, asked_by};
 use outside::Sink;
 use rate_desk::{DeskCalls, DeskSeat, House, SeatCalls};
 use routes::{Naming, RouteNote, RouteReader};
@@ -123,9 +122,9 @@ impl Forwarder {
             (S.shown sink.old) (S.shown sink.new))) result }
     {
         match self.question(job) {
-            Some(question) => self
+            Some((question, endpoint)) => self
                 .notifier
-                .ask(rt, house, seat, reader, note, &question, sink),
+                .ask(rt, house, seat, reader, note, &question, endpoint, sink),
             None => {
                 reader.learn(note);
                 Ok(Forwarded::default())
@@ -133,23 +132,17 @@ impl Forwarder {
         }
     }
 
-    /// What the job asks of a desk.
-    fn question(&self, job: &Job) -> Option<Question>
-        ensures names { QuestionOf self.now job.now result }
-        ensures endpoint { IfSome result (λ q. q.endpoint ≡ subscriber_asking self.now job.now) }
-        ensures stay { IfSome result (λ q. HasStay q.call) }
+    /// What the job asks of a desk, and for whom.
+    fn question(&self, job: &Job) -> Option<(Question, Option<u16>)>
+        ensures names { QuestionOf self.now job.now (option_map (λ q. q.0) result) }
+        ensures endpoint { IfSome result (λ q. q.1 ≡ subscriber_asking self.now job.now) }
+        ensures stay { IfSome result (λ q. HasStay q.0.call) }
     {
         if !self.is_asking(job) {
             return None;
         }
-        let endpoint = self.subscriber_asking(job);
         match asked_by(&self.notifier.links, job) {
-            Asks::Desk(publisher, asked_by, call) => Some(Question {
-                publisher,
-                asked_by,
-                endpoint,
-                call,
-            }),
+            Asks::Desk(question) => Some((question, self.subscriber_asking(job))),
             Asks::Nobody | Asks::Legs => None,
         }
     }
@@ -158,10 +151,9 @@ impl Forwarder {
     fn is_asking(&self, job: &Job) -> bool
         ensures { result ≡ is_asking self.now job.now }
     {
-        match job {
-            Job::Request { leg, .. } | Job::Pli { leg, .. } => self.owns(*leg),
-            Job::Packet { .. } | Job::Resend { .. } | Job::Report { .. } | Job::Goodbye { .. } =>
-                false,
+        match job.leg_asking() {
+            Some(leg) => self.owns(leg),
+            None => false,
         }
     }
 
@@ -169,11 +161,7 @@ impl Forwarder {
     fn subscriber_asking(&self, job: &Job) -> Option<u16>
         ensures { result ≡ subscriber_asking self.now job.now }
     {
-        match job {
-            Job::Request { leg, .. } | Job::Pli { leg, .. } => self.subscriber_of(*leg),
-            Job::Packet { .. } | Job::Resend { .. } | Job::Report { .. } | Job::Goodbye { .. } =>
-                None,
-        }
+        self.subscriber_of(job.leg_asking()?)
     }
 
     /// The subscriber of a leg.

@@ -8,7 +8,6 @@
 mod done;
 mod forwarder;
 mod notifier;
-mod question;
 mod refusing;
 mod sending;
 
@@ -16,5 +15,4 @@ pub use done::{ForwardFault, Forwarded};
 pub use forwarder::Forwarder;
 pub use notifier::Notifier;
 pub use outside::{Clock, Datagram, Gate, ReceiveFault, SendFault, Sink, Source};
-pub use question::Question;
 pub use sending::send_all;

@@ -7,11 +7,10 @@ ghost use Rattle.forwarding.specs.Asking.{IsAsked, IsOfLastCall, IsTelling, tell
 ghost use mathlib.Core.List.{IsPrefix};
 
 use crate::done::{ForwardFault, Forwarded};
-use crate::question::Question;
 use crate::refusing::{refusal_by, refusal_in, tell_refusal};
 use crate::sending::send_all;
 use desk::Effect;
-use notices::{Head, Notification, notification_of, notify, waiting};
+use notices::{Head, Notification, Question, notification_of, notify, waiting};
 use outside::Sink;
 use rate_desk::{DeskCalls, DeskSeat, Hold, House, SeatCalls};
 use routes::{Naming, RouteNote, RouteReader};
@@ -60,7 +59,8 @@ impl Notifier {
 
     /// Asks the publisher's desk, then learns the note, and if there is anything to tell enters and tells it, before anybody else
     /// may call the desk: what is told of a publisher's calls leaves in the order of the calls. A call that the desk refuses or doesn't
-    /// record is Ok and tells nobody anything but the sink, why. After a fault the call stands, and the note is learnt; nothing was sent.
+    /// record is Ok and tells nobody anything but the sink, why, as of the endpoint whose datagram led to it, if one did. After a fault the
+    /// call stands, and the note is learnt; nothing was sent.
     #[tactic(auto, using(crate::proofs::AskingLemmas::asked_nowhere, crate::proofs::AskingLemmas::notified_nobody))]
     pub fn ask<J: Naming, D: DeskCalls, C: SeatCalls, R: Wait, S: Sink>(
         &mut self,
@@ -70,6 +70,7 @@ impl Notifier {
         reader: &mut RouteReader<J>,
         note: RouteNote<J>,
         question: &Question,
+        endpoint: Option<u16>,
         sink: &mut S,
     ) -> Result<Forwarded, ForwardFault>
         requires stay { HasStay question.now.call }
@@ -86,7 +87,9 @@ impl Notifier {
             return Ok(Forwarded::default());
         }
         let mut hold = house.hold(rt, at);
-        self.ask_held(rt, house, seat, &mut hold, reader, note, question, sink)
+        self.ask_held(
+            rt, house, seat, &mut hold, reader, note, question, endpoint, sink,
+        )
     }
 
     /// Asks the desk that is held, and tells what follows while it is.
@@ -100,6 +103,7 @@ impl Notifier {
         reader: &mut RouteReader<J>,
         note: RouteNote<J>,
         question: &Question,
+        endpoint: Option<u16>,
         sink: &mut S,
     ) -> Result<Forwarded, ForwardFault>
         requires stay { HasStay question.now.call }
@@ -112,7 +116,16 @@ impl Notifier {
             (Some question.now) (asking seat.old seat.new (telling reader.old.rows reader.new
             (S.shown sink.old) (S.shown sink.new))) result }
     {
-        let pending = ask_desk(rt, house, seat, hold, question, &mut self.effect, sink);
+        let pending = ask_desk(
+            rt,
+            house,
+            seat,
+            hold,
+            question,
+            endpoint,
+            &mut self.effect,
+            sink,
+        );
         reader.learn(note);
         match pending {
             Some(notification) => tell_held(
@@ -175,6 +188,7 @@ fn ask_desk<D: DeskCalls, C: SeatCalls, R: Wait, S: Sink>(
     seat: &mut DeskSeat<C>,
     hold: &mut Hold<'_, D>,
     question: &Question,
+    endpoint: Option<u16>,
     effect: &mut Effect,
     sink: &mut S,
 ) -> Option<Notification>
@@ -189,7 +203,6 @@ fn ask_desk<D: DeskCalls, C: SeatCalls, R: Wait, S: Sink>(
     let Question {
         publisher,
         asked_by,
-        endpoint,
         call,
     } = *question;
     let receipt = match house.call_held(rt, seat, hold, call, effect) {

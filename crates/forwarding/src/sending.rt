@@ -47,10 +47,9 @@ fn give<S: Sink>(out: &Out, sink: &mut S, done: &mut Forwarded)
 pub fn send_all<S: Sink>(outs: &[Out], sink: &mut S) -> Forwarded
     ensures { Sends outs.now (S.shown sink.old) (S.shown sink.new) result }
 {
-    // So many fit a u64: what is counted below can't be more.
-    let _count = outs.len();
     let mut done = Forwarded::default();
-    for out in outs {
+    // Each has a place, so that they are no more than fit a u64, nor is what is counted.
+    for (_place, out) in outs.iter().enumerate() {
         give(out, sink, &mut done);
     }
     done

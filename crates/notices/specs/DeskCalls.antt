@@ -36,7 +36,7 @@ picture_call t leg moment =
 -- the call of a desk, where there is one, by this leg where a rate is asked for
 abbrev pub asks_by : Option ℕ → Option (ℕ × DeskCall) → Asks
 asks_by leg None = Nobody
-asks_by leg (Some (p, call)) = Desk p leg call
+asks_by leg (Some (p, call)) = Desk (record { publisher = p; asked_by = leg; call = call })
 
 -- a job asks the desk of a leg's publisher, or nobody where there is no such leg or stay, or the worker's legs
 abbrev pub AsksOf : LinkTable → Job → Asks → Type 0
@@ -51,6 +51,6 @@ AsksOf t (Pli leg moment) asks = asks ≡ asks_by None (picture_call t leg momen
 
 -- a call of a desk is in a stay
 abbrev pub IsCallable : Asks → Type 0
-IsCallable (Desk p leg call) = HasStay call
+IsCallable (Desk q) = HasStay q.call
 IsCallable Nobody = Unit {0}
 IsCallable Legs = Unit {0}

@@ -1,6 +1,6 @@
 -- The datagrams that follow from a desk's call, to the publisher whose rate is asked for and to its
 -- subscribers (RFC 5104, sections 4.2.1 and 4.2.2; RFC 4585, section 6.3.1).
-use Rattle.std.specs.Prelude.{◌≡◌, ◌==◌, ℕ, ◌+◌, ◌*◌, ◌^◌, ◌<◌, nat_lt, Bool, false, not, ◌&&◌, ◌||◌, List, [], ◌∷◌, ◌++◌, length, filter, flat_map, Option, None, IfSome, is_some, slice_get, if◌then◌else◌}
+use Rattle.std.specs.Prelude.{◌≡◌, ◌==◌, ℕ, ◌+◌, ◌*◌, ◌^◌, ◌<◌, nat_lt, Bool, false, not, ◌&&◌, ◌||◌, List, [], ◌∷◌, ◌++◌, length, filter, flat_map, Option, None, Some, IfSome, is_some, slice_get, if◌then◌else◌}
 use Rattle.std.specs.Option.{option_map_or}
 use Rattle.tmmbr_tuple.specs.declared.ssrc.Ssrc.{Ssrc}
 use Rattle.tmmbr_tuple.specs.Tuple.{word_of}
@@ -140,3 +140,10 @@ told_of p leg answer = record {
   asked_by = if is_done answer then leg else None;
   pli = is_answered_up answer;
 }
+
+-- it waits with the call's effect, where there is anything to tell
+abbrev pub pending_of : ℕ → Option ℕ → Answer → Effect → Option Pending
+pending_of p leg answer effect =
+    if tells (told_of p leg answer) effect
+    then Some (pending_with effect (told_of p leg answer))
+    else None

@@ -12,10 +12,19 @@ use events::Job;
 use settings::Links;
 use tmmbr_tuple::{Ssrc, Tuple};
 
+/// What a publisher's desk is asked: a call, by the leg whose subscriber asks for a rate, where one does.
+#[derive(Clone, Copy, PartialEq, Eq)]
+pub struct Question {
+    /// The number of the publisher.
+    pub publisher: u16,
+    pub asked_by: Option<u16>,
+    pub call: Call,
+}
+
 /// Whom a job asks.
 pub enum Asks {
-    /// A publisher's desk, by this leg where a rate is asked for.
-    Desk(u16, Option<u16>, Call),
+    /// A publisher's desk.
+    Desk(Question),
     /// A leg or a stay that isn't there.
     Nobody,
     /// The worker's legs.
@@ -47,7 +56,11 @@ fn asks_by(leg: Option<u16>, called: Option<(u16, Call)>) -> Asks
     ensures stay { IsCallable result }
 {
     match called {
-        Some((publisher, call)) => Asks::Desk(publisher, leg, call),
+        Some((publisher, call)) => Asks::Desk(Question {
+            publisher,
+            asked_by: leg,
+            call,
+        }),
         None => Asks::Nobody,
     }
 }

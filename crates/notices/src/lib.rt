@@ -9,6 +9,6 @@ mod calls;
 mod head;
 mod notification;
 
-pub use calls::{Asks, asked_by, notification_of, picture_call, stay_call, waiting};
+pub use calls::{Asks, Question, asked_by, notification_of, picture_call, stay_call, waiting};
 pub use head::{Draft, Head, upstream_report};
 pub use notification::{Notification, notify, tells_each_change};

@@ -17,9 +17,9 @@ use crate::settling::{Patience, settle};
 use core_steps::{Duty, IngressCore};
 use desk::{Answer, Call, Change, Signal};
 use events::{DeskRefusal, Job, Out, Refusal};
-use forwarding::{ForwardFault, Forwarded, Notifier, Question, send_all};
+use forwarding::{ForwardFault, Forwarded, Notifier, send_all};
 use members::Order;
-use notices::stay_call;
+use notices::{Question, stay_call};
 use outside::{Look, Sink, Ticks, Watch};
 use rate_desk::{DeskCalls, DeskSeat, House, HouseFault, SeatCalls};
 use routes::{Naming, RouteWriter};
@@ -206,14 +206,20 @@ impl<'a, D: DeskCalls, C: SeatCalls, J: Naming, S: Sink + Drop> Ingress<'a, D, C
         let question = Question {
             publisher,
             asked_by: None,
-            endpoint: self.endpoint,
             call,
         };
         let note = self.writer.note();
         let Gear { seat, reader, sink } = &mut self.gear;
-        let told = self
-            .notifier
-            .ask(rt, self.house, seat, reader, note, &question, sink);
+        let told = self.notifier.ask(
+            rt,
+            self.house,
+            seat,
+            reader,
+            note,
+            &question,
+            self.endpoint,
+            sink,
+        );
         self.count(told)
     }
 

@@ -20,7 +20,7 @@ mod unit;
 mod worker;
 
 pub use fault::UnitFault;
-pub use forwarding::{ForwardFault, Forwarded, Forwarder, Notifier, Question};
+pub use forwarding::{ForwardFault, Forwarded, Forwarder, Notifier};
 pub use outside::{
     Clock, Datagram, Gate, Look, MAX_DATAGRAM, MAX_FAULTS, Open, ReceiveFault, Received, SendFault,
     Sink, Source, Status, Unwatched, Watch,

@@ -73,12 +73,11 @@ impl<'a, D: DeskCalls, C: SeatCalls, J: Naming, S: Sink + Drop, G: Gate> WorkerT
         note: RouteNote<J>,
     ) -> Result<Forwarded, ForwardFault> {
         let Gear { seat, reader, sink } = &mut self.gear;
-        match job {
-            Job::Request { .. } | Job::Pli { .. } => self
-                .forwarder
-                .feedback(rt, self.house, seat, reader, note, job, sink),
-            Job::Packet { .. } | Job::Resend { .. } | Job::Report { .. } | Job::Goodbye { .. } =>
-                self.forwarder.forward(reader, note, job, sink),
+        if job.leg_asking().is_some() {
+            self.forwarder
+                .feedback(rt, self.house, seat, reader, note, job, sink)
+        } else {
+            self.forwarder.forward(reader, note, job, sink)
         }
     }
 }

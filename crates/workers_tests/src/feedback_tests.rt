@@ -6,6 +6,7 @@ use crate::doubles::MemorySink;
 use crate::rooms::{HEAD, examples, is, on};
 use desk::{Call, Change};
 use events::{DeskRefusal, Job, Refusal};
+use notices::Question;
 use rate_desk::{DeskCalls, DeskSeat, House, SeatCalls};
 use routes::{Naming, RouteReader, RouteWriter, routes};
 use rtcp_feedback::Nack;
@@ -97,7 +98,6 @@ impl<J: Naming, D: DeskCalls, C: SeatCalls> Bench<'_, J, D, C> {
         let question = Question {
             publisher: 0,
             asked_by: None,
-            endpoint: Some(1),
             call: Call::Stay {
                 owner: Ssrc(17),
                 stay: 1,
@@ -112,6 +112,7 @@ impl<J: Naming, D: DeskCalls, C: SeatCalls> Bench<'_, J, D, C> {
             self.reader,
             note,
             &question,
+            Some(1),
             &mut self.sink,
         )
     }

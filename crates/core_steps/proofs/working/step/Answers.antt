@@ -16,8 +16,7 @@ returns-in_ok-notify-in-Telling-clause-ok c =
 pub returns-in-Desk-clause-ok : goal.returns-in-Desk-clause-ok
 returns-in-Desk-clause-ok c =
     asked-steps (setup_of c.args.setup.now) c.args.rows.now c.args.desks.now c.ask_desk.new.desks (worker_state c.args.w.now)
-    (worker_state c.ask_desk.new.w) c.args.outs.now.items c.ask_desk.new.outs.items c.in-Doing.job c.in-Desk.publisher c.in-Desk.leg
-    c.in-Desk.call (ap (hand_in c.args.w.now.effect) c.in-Doing.is) c.in-Desk.ensures.value c.ask_desk.ensures
+    (worker_state c.ask_desk.new.w) c.args.outs.now.items c.ask_desk.new.outs.items c.in-Doing.job c.in-Desk.question (ap (hand_in c.args.w.now.effect) c.in-Doing.is) c.in-Desk.ensures.value c.ask_desk.ensures
 
 pub returns-in-Nobody-clause-ok : goal.returns-in-Nobody-clause-ok
 returns-in-Nobody-clause-ok c =
