@@ -1,4 +1,4 @@
--- Clients that texts spell, one behind the other.
+-- Clients that texts spell, one after the other.
 use Rattle.std.proofs.Common.{◌≡◌, ◌∙◌, ℕ, Bool, Option, None, Some, MatchOption, ◌+◌, ◌<◌, ◌≤◌, List, [], ◌∷◌, ◌++◌, length, drop, get_or, drop-cons, add-one, Result, Ok, Err, refl, sym, ap, subst, inl, inr}
 use Rattle.std.proofs.lemmas.List.{drop_all}
 use Rattle.std.specs.declared.net.socket_addr.SocketAddr.{SocketAddr}
@@ -21,7 +21,7 @@ abbrev pub Left : Same → Listening → List ClientText → ℕ → List Client
 Left same listen texts k before =
     (read : Result (List Client) (ℕ × AddressKey)) → AreSpelledBehind same listen before (drop k texts) read → AreSpelled same listen texts read
 
--- the texts spell this client behind those
+-- the texts spell this client after those
 abbrev pub Puts : Same → Listening → ClientText → List Client → List Client → Type 0
 Puts same listen text before after = (client : Client) × SpellsClient same listen text client × (after ≡ before ++ client ∷ [])
 

@@ -19,7 +19,7 @@ cons_of : {X : Type 0} (x : Option X) (xs : List X) → option_to_list x ++ xs �
 cons_of None xs = refl
 cons_of (Some x) xs = refl
 
--- whatever the rest gives, put behind these
+-- whatever the rest gives, put after these
 passed : {X : Type 0} (before new after rest rest_before all : List X) → after ≡ before ++ new → rest_before ≡ new ++ rest → before ++ rest_before ≡ all
     → after ++ rest ≡ all
 passed {X} before new after rest rest_before all is ahead left =
@@ -47,7 +47,7 @@ map_passed h i xs d before after all below is left =
     passed before (h (i, get_or xs i d) ∷ []) after (map h (enumerate_from (i + 1) (drop (i + 1) xs))) (map h (enumerate_from i (drop i xs))) all is
     (ap (map h) (rest_at xs i d below)) left
 
--- where those of the clients from here on come from, put behind these, are all
+-- where those of the clients from here on come from, put after these, are all
 abbrev pub OriginsLeft : List Ssrc → List Client → LearnersState → ℕ → List (Origin × ℕ) → Type 0
 OriginsLeft sources clients learners i before =
     before ++ flat_map (numbered_origins sources learners) (enumerate_from i (drop i clients)) ≡ senders_of sources clients learners
@@ -59,7 +59,7 @@ pub origins_passed : (sources : List Ssrc) (clients : List Client) (learners : L
 origins_passed sources clients learners i d before after endpoint source learner places number own seated placed is below left =
     flat_passed (numbered_origins sources learners) i clients d before after (senders_of sources clients learners) below (rw (is, placed, seated, own, number) refl) left
 
--- those of the clients from here on, put behind these, are all
+-- those of the clients from here on, put after these, are all
 pub record ClientsLeft (sources : List Ssrc) (clients : List Client) (timeout_ms i : ℕ) (s : LearnersState) : Type 0 where
   pub named : s.sources ++ filter_map (numbered_source sources) (enumerate_from i (drop i clients)) ≡ (learners_of sources clients timeout_ms).sources
   pub learned : s.learners ++ map (numbered_learner sources) (enumerate_from i (drop i clients)) ≡ (learners_of sources clients timeout_ms).learners

@@ -146,7 +146,7 @@ FaultOfClient same listen here text NoMemory = Unit {0}
 FaultOfClient same listen here text (Endpoint number key) =
     (number ≡ here) × SpellsNone same listen text key
 
--- what texts spell behind these clients: all of them, or the first endpoint with a key that spells no such address
+-- what texts spell after these clients: all of them, or the first endpoint with a key that spells no such address
 abbrev pub AreSpelledBehind : (SocketAddr → SocketAddr → Bool) → Listening → List Client
     → List ClientText → Result (List Client) (ℕ × AddressKey) → Type 0
 AreSpelledBehind same listen before [] read = read ≡ Ok before

@@ -11,7 +11,7 @@ use Rattle.addressing.specs.declared.clients.Client.{Client}
 use Rattle.addressing.specs.declared.clients.Location.{Location}
 use Rattle.addressing.specs.declared.clients.Location.TheVariants.{Fixed, Learned}
 
--- the endpoint with this number, where all beyond 65535 are that one
+-- the endpoint with this number; all beyond 65535 are that one
 abbrev pub endpoint_at : ℕ → ℕ
 endpoint_at number = min number 65535
 
@@ -84,7 +84,7 @@ numbered_origins sources learners e =
     origins_at (endpoint_at e.0) (slice_get sources e.0)
     (places_of e.1.location (learner_at learners (endpoint_at e.0)))
 
--- Where datagrams of each endpoint that has a source come from: the addresses of its client, or of its seat where these are learned.
+-- Where datagrams of each endpoint that has a source come from: the addresses of its client, or of its seat if these are learned.
 abbrev pub senders_of : List Ssrc → List Client → LearnersState → List (Origin × ℕ)
 senders_of sources clients learners =
     flat_map (numbered_origins sources learners) (enumerate_from 0 clients)

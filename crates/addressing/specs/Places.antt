@@ -10,7 +10,7 @@ use Rattle.addressing.specs.declared.clients.Location.TheVariants as location
 use Rattle.addressing.specs.declared.directory.Entry.{Entry}
 use Rattle.addressing.specs.declared.directory.Entry.TheVariants as entry
 
--- the addresses of an entry; none where they are learned
+-- the addresses of an entry; none if they are learned
 abbrev pub fixed_in : Entry → Option Addresses
 fixed_in (entry.Fixed places) = Some places
 fixed_in (entry.Learned seat) = None

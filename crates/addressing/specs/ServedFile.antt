@@ -16,7 +16,7 @@ use Rattle.settings_text.specs.declared.settings_file.FileSettings.{FileSettings
 use Rattle.settings_text.specs.declared.settings_file.SettingsProblem.{SettingsProblem}
 use Rattle.settings_text.specs.declared.settings_file.SettingsProblem.TheVariants.{NoMemory, File, Toml, Top, Endpoint, Leg, SameSsrc}
 
--- what is looked at, where a file says so: sources that begin anew go unnoticed unless it says otherwise, and feedback has to name
+-- what is looked at, if a file says so: sources that begin anew go unnoticed unless it says otherwise, and feedback has to name
 -- the endpoint's own source; what one client may cost the others; and how often a publisher is asked again
 abbrev pub rules_in : Option Bool → Option Bool → BoundKeys → Rules
 rules_in new_starts strict_ssrc bounds = record {

@@ -16,7 +16,7 @@ const LEARN: &str = "learn";
 pub struct Listening {
     /// For all, or for all but RTCP.
     pub media: SocketAddr,
-    /// For RTCP, where it has a port of its own.
+    /// For RTCP, if it has a port of its own.
     pub rtcp: Option<SocketAddr>,
 }
 
@@ -91,7 +91,7 @@ impl AddressKey {
 #[derive(Clone, Copy, PartialEq, Eq)]
 pub enum ClientFault {
     NoMemory,
-    /// Of the endpoint with this number the first key that is missing where it is needed, or stands where it can't, or spells no
+    /// Of the endpoint with this number the first key that is missing when it is needed, or stands where it can't, or spells no
     /// address or network, or one that can't be reached.
     Endpoint(usize, AddressKey),
 }
@@ -113,7 +113,7 @@ pub fn read_clients(
     Ok(clients)
 }
 
-/// Puts the client that the texts of the next endpoint spell behind the others.
+/// Appends the client that the texts of the next endpoint spell.
 fn take_client(
     clients: &mut Vec<Client>,
     listen: Listening,
@@ -199,7 +199,7 @@ pub fn is_learned(text: &Option<String>) -> bool
     }
 }
 
-/// The network that an address is learned from: none where there is no text; `None` where the text spells none of the version that the
+/// The network that an address is learned from: none if there is no text; `None` if the text spells none of the version that the
 /// unit listens with.
 fn within_in(listen: Listening, text: &Option<String>) -> Option<Option<Network>>
     ensures { MatchOption result (SpellsNoBound listen text.now) (SpellsBound listen text.now) }
@@ -246,7 +246,7 @@ fn reachable_in(listen: Listening, text: &Option<String>) -> Option<SocketAddr>
     }
 }
 
-/// The address that a text spells, if it can be reached; this one where there is no text.
+/// The address that a text spells, if it can be reached; this one if there is no text.
 fn rtcp_address_in(
     listen: Listening,
     text: &Option<String>,

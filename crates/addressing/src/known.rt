@@ -46,7 +46,7 @@ fn origins_of(
     Ok(origins)
 }
 
-/// The endpoint with this number, where all beyond 65535 are that one.
+/// The endpoint with this number; all beyond 65535 are that one.
 fn endpoint_at(number: usize) -> u16
     ensures { result ≡ endpoint_at number }
 {
@@ -73,7 +73,7 @@ fn places_of(client: &Client, learner: Option<Learner>) -> (Option<SocketAddr>, 
     }
 }
 
-/// Puts where datagrams of an endpoint come from behind the others, if it has a source.
+/// Appends where datagrams of an endpoint come from, if it has a source.
 fn push_origins(
     origins: &mut Vec<(Origin, u16)>,
     endpoint: u16,
@@ -90,7 +90,7 @@ fn push_origins(
     push_origin(origins, endpoint, source, places.1)
 }
 
-/// Puts where datagrams with this source come from behind the others, if that is known.
+/// Appends where datagrams with this source come from, if that is known.
 fn push_origin(
     origins: &mut Vec<(Origin, u16)>,
     endpoint: u16,
@@ -130,7 +130,7 @@ pub fn learners_of(
     Ok(learners)
 }
 
-/// Puts the endpoint with this number behind the others: one that is learned if it has a source, and its client is.
+/// Puts the endpoint with this number after the others: one that is learned if it has a source, and its client is.
 fn push_client(
     learners: &mut Learners,
     endpoint: u16,

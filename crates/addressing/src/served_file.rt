@@ -31,7 +31,7 @@ pub struct ServedSettings {
     pub texts: Vec<ClientText>,
 }
 
-/// The settings that a text spells, with all addresses; else its first fault, where an address that is missing, is none or can't be
+/// The settings that a text spells, with all addresses; else its first fault; an address that is missing, is none or can't be
 /// reached is a fault of its key.
 pub fn read_served(alloc: Global, text: &[u8]) -> Result<ServedSettings, SettingsProblem>
     ensures ok { IfOk result (GivesPlaces ⟦<SocketAddr as PartialEq>⟧.eq text.now) }
@@ -71,7 +71,7 @@ fn placed(alloc: Global, file: FileSettings) -> Result<ServedSettings, SettingsP
     }
 }
 
-/// What is looked at, where a file says so: sources that begin anew go unnoticed unless it says otherwise, and feedback has to name
+/// What is looked at, if a file says so: sources that begin anew go unnoticed unless it says otherwise, and feedback has to name
 /// the endpoint's own source; what one client may cost the others, and how often a publisher is asked again.
 fn rules_in(new_starts: Option<bool>, strict_ssrc: Option<bool>, bounds: BoundKeys) -> Rules
     ensures { result ≡ rules_in new_starts strict_ssrc bounds }
@@ -88,7 +88,7 @@ fn rules_in(new_starts: Option<bool>, strict_ssrc: Option<bool>, bounds: BoundKe
     }
 }
 
-/// Where RTCP is listened for apart, where a text says so; `None` where the text spells no address, or one of the other version of IP.
+/// Where RTCP is listened for apart, if a text says so; `None` if the text spells no address, or one of the other version of IP.
 fn apart_in(media: SocketAddr, text: &Option<String>) -> Option<Option<SocketAddr>>
     ensures { IfSome result (ListensApart media text.now) }
 {
@@ -175,7 +175,7 @@ fn copied(alloc: Global, value: Option<&Value>) -> Option<String> {
     }
 }
 
-/// The truth value that a value is; false where it is none.
+/// The truth value that a value is; false if it is none.
 fn truth_of(value: Option<&Value>) -> bool {
     match value {
         Some(value) => value.as_bool().unwrap_or(false),

@@ -116,7 +116,7 @@ SaysNoDocument line =
 abbrev pub shared_words : List ℕ
 shared_words = codes " is another's: the unit, each endpoint and each leg have sources of their own"
 
--- What is said of a problem: of a key what it takes or, if there is no such key, which there are; nothing where memory is wanting or
+-- What is said of a problem: of a key what it takes or, if there is no such key, which there are; nothing if memory is wanting or
 -- the file can't be read.
 abbrev pub SaysOfProblem : (SocketAddr → SocketAddr → Bool) → SettingsProblem → List ℕ → Type 0
 SaysOfProblem same NoMemory line = line ≡ []

@@ -15,7 +15,7 @@ use std::alloc::{AllocError, Global};
 use std::io::ErrorKind;
 use std::net::SocketAddr;
 
-/// What is wrong with a settings file, and what may stand there. Nothing where memory is wanting, or the file can't be read.
+/// What is wrong with a settings file, and what may stand there. Nothing if memory is wanting, or the file can't be read.
 pub fn settings_advice(
     alloc: Global,
     text: &str,

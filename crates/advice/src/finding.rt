@@ -6,7 +6,7 @@ use settings_text::Place;
 #[derive(Clone, Copy, PartialEq, Eq)]
 pub(crate) struct Spotted<'a> {
     pub(crate) line: usize,
-    /// What stands there, without blanks around it and without a comment behind it.
+    /// What stands there, without blanks around it and without a comment after it.
     pub(crate) text: &'a str,
 }
 
@@ -38,7 +38,7 @@ struct Cursor {
 }
 
 impl Cursor {
-    /// Behind one more line.
+    /// After one more line.
     fn past(self, line: &str) -> Cursor {
         if line.starts_with("[[endpoint]]") {
             return Cursor {

@@ -17,7 +17,7 @@ use Rattle.bounding_set.specs.Spliced.{ImpliesAlone}
 use Rattle.bounding_set.proofs.TurnLemmas.{beyond_beyond, permitted_by_reach}
 use Rattle.bounding_set.proofs.EnvelopeLemmas.{CoversBeside}
 
--- the first elements, and one behind them
+-- the first elements, and one after them
 abbrev pub ends_with : {X : Type 0} → List X → X → ℕ → List X
 ends_with xs x count = take count xs ++ x ∷ []
 

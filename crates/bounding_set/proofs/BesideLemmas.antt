@@ -83,7 +83,7 @@ without_first lines x first some is last more = record {
 module _ (lines : List Request) (x : Request) (hull : IsHull lines) (behind : All (IsBehind x) lines) (first : ℕ)
     (reach : (d : Request) → first < length lines
     → rate_of (get_or lines first d).tuple * x.tuple.overhead < rate_of x.tuple * (get_or lines first d).tuple.overhead) where
-  -- if the first of them reaches less far than x, so do those behind it
+  -- if the first of them reaches less far than x, so do those after it
   pub crosses_behind : AllWithin (Crosses x) lines first (length lines)
   crosses_behind k d low below =
       let t = get_or lines first d in
@@ -103,7 +103,7 @@ module _ (lines : List Request) (x : Request) (hull : IsHull lines) (behind : Al
 
 module _ (lines : List Request) (x : Request) (hull : IsHull lines) (behind : All (IsBehind x) lines) (first : ℕ)
     (more : (d : Request) → first + 1 < length lines → Turns x (get_or lines first d) (get_or lines (first + 1) d)) where
-  -- x turns with the first and any behind it
+  -- x turns with the first and any after it
   turns_first : (j : ℕ) (d : Request) → first < j → j < length lines → Turns x (get_or lines first d) (get_or lines j d)
   turns_first j d before below =
       let t = get_or lines first d in

@@ -16,7 +16,7 @@ use Rattle.bounding_set.proofs.SplicedLemmas.{IsEnvelope-from_sending}
 use Rattle.bounding_set.proofs.MemberLemmas.{HasOneMore, All-fewer}
 use Rattle.bounding_set.proofs.DropLemmas.{owner_has}
 
--- where all rows send, the lines of their envelope are announced
+-- if all rows send, the lines of their envelope are announced
 pub AnnouncesList-lines : (rows lines : List Request) → HasRisingOwners rows → IsEnvelopeOf rows lines → All (λ r. ¬ StopsMedia r) rows
     → AnnouncesList rows lines
 AnnouncesList-lines rows lines rising envelope send =
@@ -32,17 +32,17 @@ one_stops : (rows stops : List Request) → AnnouncesList rows stops → Any Sto
 one_stops rows stops list (k, r, below, is, stopped) send =
     All-contains (λ q. ¬ StopsMedia q) rows r send (All-contains (Contains rows) stops r list.are_rows (k, below, is)) stopped
 
--- where all rows send, there are no stops
+-- if all rows send, there are no stops
 pub no_stops : (rows stops : List Request) → HoldsStops rows stops → All (λ r. ¬ StopsMedia r) rows → stops ≡ []
 no_stops rows [] holds send = refl
 no_stops rows (s ∷ ss) holds send = absurd (one_stops rows (s ∷ ss) (holds.announced (omega arith)) (holds.stopped (omega arith)) send)
 
--- where they did before one more came that does, there were none
+-- if they did before one more came that does, there were none
 pub no_stops_before : (rows rows' stops : List Request) (x : Request) → HoldsStops rows stops → HasOneMore rows' rows x → All (λ r. ¬ StopsMedia r) rows'
     → stops ≡ []
 no_stops_before rows rows' stops x holds one send = no_stops rows stops holds (All-fewer (λ r. ¬ StopsMedia r) rows' rows x one send)
 
--- what is announced, where slices have what the lists have
+-- what is announced, if slices have what the lists have
 pub chosen_among : (rows rows' lines lines' stops stops' : List Request) (cert : Cert) → rows' ≡ rows → lines' ≡ lines → stops' ≡ stops
     → chosen_requests rows' (kept_places cert) ≡ announced_among stops' lines' → chosen_requests rows (kept_places cert) ≡ announced_among stops lines
 chosen_among rows rows' lines lines' stops stops' cert same_rows same_lines same_stops chosen =
@@ -51,7 +51,7 @@ chosen_among rows rows' lines lines' stops stops' cert same_rows same_lines same
     ∙ ap (announced_among stops') same_lines
     ∙ ap (λ ss. announced_among ss lines) same_stops
 
--- What is announced changes with the stops, and with the lines where there are no stops.
+-- What is announced changes with the stops, and with the lines if there are no stops.
 module _ (rows rows' : List Request) where
   pub other_stops : (stops stops' lines lines' : List Request) → HoldsStops rows stops → HoldsStops rows' stops' → All (λ l. ¬ StopsMedia l) lines
       → All (λ l. ¬ StopsMedia l) lines' → stops' ≢ stops → announced_among stops' lines' ≢ announced_among stops lines
@@ -80,7 +80,7 @@ nothing_other stops stops' lines lines' stops_stay lines_stay other =
     stops_stay (λ same. lines_stay (λ same_lines.
     other (ap (announced_among stops') same_lines ∙ ap (λ ss. announced_among ss lines) same)))
 
--- where all rows send, whose request isn't announced has no line
+-- if all rows send, whose request isn't announced has no line
 pub no_line : (rows stops lines announced : List Request) (r : Request) → HoldsStops rows stops → All (λ q. ¬ StopsMedia q) rows
     → announced ≡ announced_among stops lines → tuple_of announced r.owner.0 ≡ None → Contains lines r → ⊥
 no_line rows stops lines announced r holds send is absent has =

@@ -27,7 +27,7 @@ lines_within rows lines envelope = no_more_than_rows rows lines envelope.are_row
     let crosses = envelope.hull.crosses i j d before below in
     record { overhead = crosses.overhead; rate = crosses.rate; reach = omega (arith, crosses.reach) })
 
--- where all between two places pass a test, at least as many do
+-- if all between two places pass a test, at least as many do
 count_between : {X : Type 0} (p : X → Bool) (xs : List X) (low high : ℕ) → high ≤ length xs
     → ((k : ℕ) (d : X) → low ≤ k → k < high → p (get_or xs k d) ≡ true) → high - low ≤ count_by p xs
 count_between p [] low high within holds = omega (arith, within)
@@ -43,7 +43,7 @@ count_between p (x ∷ xs) (suc low) (suc high) within holds =
     let tally : Bool → ℕ = λ b. cond b 1 0 in
     omega (arith, rest, sum_by-cons (λ y. tally (p y)) x xs)
 
--- where none outside of two places passes a test, no more do than stand between them
+-- if none outside of two places passes a test, no more do than stand between them
 count_within : {X : Type 0} (p : X → Bool) (xs : List X) (low high : ℕ)
     → ((k : ℕ) (d : X) → k < length xs → k < low → p (get_or xs k d) ≡ false)
     → ((k : ℕ) (d : X) → k < length xs → high ≤ k → p (get_or xs k d) ≡ false) → count_by p xs ≤ high - low

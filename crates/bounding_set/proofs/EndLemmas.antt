@@ -62,7 +62,7 @@ module _ (ha hb ra rb v u : ℕ) (hv : ha + v ≡ hb) (ru : ra + u ≡ rb) where
   before_reach : rb * ha < ra * hb → u * (8 * hb) < rb * (8 * v)
   before_reach reach = omega (arith, reach, ap (λ z. z * hb) ru, ap (λ z. rb * z) hv)
 
-  -- and before the crossing with a third behind a turn
+  -- and before the crossing with a third after a turn
   before_crossing : (hc rc w t : ℕ) → hb + w ≡ hc → rb + t ≡ rc → hc * rb + hb * ra + ha * rc < hc * ra + hb * rc + ha * rb → u * (8 * w) < t * (8 * v)
   before_crossing hc rc w t hw rt turn =
       omega (

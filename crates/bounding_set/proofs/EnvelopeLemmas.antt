@@ -18,7 +18,7 @@ pub record IsNeededBeside (lines : List Request) (x : Request) (count : ℕ) : T
   pub within : count ≤ length lines
   pub covers : CoversBeside lines x count
 
--- so one less of them does, where they and x permit it
+-- so one less of them does, if they and x permit it
 pub one_less : (lines : List Request) (x : Request) (count : ℕ) → 0 < count → IsNeededBeside lines x count
     → ((p : RatePair) (d : Request) → AllWithin (λ l. Permits l.tuple p) lines 0 (count - 1) → Permits x.tuple p → Permits (get_or lines (count - 1) d).tuple p)
     → IsNeededBeside lines x (count - 1)

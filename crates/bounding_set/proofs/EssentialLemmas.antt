@@ -98,7 +98,7 @@ length-pairs_from : (left : End) (xs : List Request) → length (pairs_from left
 length-pairs_from left [] = refl
 length-pairs_from left (x ∷ xs) = ap suc (length-pairs_from (right_end x xs) xs)
 
--- where no line stops the media, the pairs are those between the ends
+-- if no line stops the media, the pairs are those between the ends
 kept_pairs_send : (xs : List Request) → All (λ l. 0 < rate_of l.tuple) xs → kept_pairs xs ≡ pairs_from start_end xs
 kept_pairs_send [] send = refl
 kept_pairs_send (x ∷ []) send = refl
@@ -133,7 +133,7 @@ same_among x (y ∷ ys) =
           ]
     ]
 
--- a row that starts lower, where it has more overhead, follows from neighbours
+-- a row that starts lower, if it has more overhead, follows from neighbours
 covered_from : (rows : List Request) (a : Request) (xs : List Request) (k : ℕ) (d : Request) → HasEnds rows (a ∷ xs) → k < length rows
     → 0 < (get_or rows k d).tuple.overhead → IsCoveredFrom a xs (get_or rows k d)
 covered_from rows a [] k d ends below some =

@@ -13,7 +13,7 @@ use Rattle.bounding_set.proofs.TurnLemmas.{by_difference, permitted_between, per
 abbrev pub ImplyAtAnyTime : Tuple → Tuple → Tuple → Type 0
 ImplyAtAnyTime a b x = (p : RatePair) → Permits a p → Permits b p → Permits x p
 
--- without time no bits are permitted, and packets only where there is no overhead
+-- without time no bits are permitted, and packets only if there is no overhead
 without_time : (m n d ha hb hx ra rb rx : ℕ) → d ≡ 0 → m + 8 * ha * n ≤ ra * d → m + 8 * hb * n ≤ rb * d → (ha ≡ 0 → hb ≡ 0 → hx ≡ 0)
     → m + 8 * hx * n ≤ rx * d
 without_time m n (suc d) ha hb hx ra rb rx none by_a by_b same = absurd (omega (arith, none))
@@ -22,7 +22,7 @@ without_time m (suc n) zero ha hb hx ra rb rx none by_a by_b same =
     let no_overhead : hx ≡ 0 = same (omega (arith, by_a)) (omega (arith, by_b)) in
     subst (λ h. m + 8 * h * suc n ≤ rx * 0) (sym no_overhead) (omega (arith, by_a))
 
--- where both have no overhead, pairs of one second show that the third has none
+-- if both have no overhead, pairs of one second show that the third has none
 no_overhead : (a b x : Tuple) → ImplyTogether a b x → a.overhead ≡ 0 → b.overhead ≡ 0 → x.overhead ≡ 0
 no_overhead a b x together none_a none_b =
     let many = rate_of x + 1 in
@@ -44,14 +44,14 @@ at_any_time a b x together p by_a by_b =
       | inr some ↦ together p (omega (arith, some)) by_a by_b
     ]
 
--- a tuple alone, where a test was of it twice
+-- a tuple alone, if a test was of it twice
 pub alone_from_twice : (a x : Tuple) (r : Bool) → (IsTrue r ↔ ImplyTogether a a x) → (IsTrue r ↔ ImpliesAlone a x)
 alone_from_twice a x r iff = (
   λ is p by_a. at_any_time a a x (iff.0 is) p by_a by_a,
   λ alone. iff.1 (λ p time by_a again. alone p by_a),
 )
 
--- one tuple alone: it bounds no less without packets, and none the less where it leaves no media
+-- one tuple alone: it bounds no less without packets, and none the less if it leaves no media
 pub record IsWithin (a x : Tuple) : Type 0 where
   pub rate : rate_of a ≤ rate_of x
   pub reach : rate_of a * x.overhead ≤ rate_of x * a.overhead

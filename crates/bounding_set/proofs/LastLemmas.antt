@@ -1,4 +1,4 @@
--- Rows that come by rising owner: each goes behind those before it.
+-- Rows that come by rising owner: each goes after those before it.
 use Rattle.std.proofs.Common.{◌≡◌, ℕ, zero, ◌+◌, ◌-◌, ◌*◌, ◌<◌, ◌≤◌, List, [], ◌∷◌, ◌++◌, length, get_or, take, Option, Some, None, refl, sym, ap, ◌∙◌, subst, inl, inr, arith}
 use Rattle.std.specs.Prelude.{All}
 use Rattle.std.proofs.lemmas.Bool.{cases_lt, cases_eq}
@@ -64,7 +64,7 @@ same_rows (x ∷ xs) (y ∷ ys) rising_xs rising_ys same =
           ]
     ]
 
--- a row whose owner is above the others goes behind them
+-- a row whose owner is above the others goes after them
 with_row-last : (rows : List Request) (r : Request) → All (λ x. x.owner.0 < r.owner.0) rows → with_row row_owner rows r ≡ rows ++ r ∷ []
 with_row-last [] r above = refl
 with_row-last (x ∷ rows) r above =

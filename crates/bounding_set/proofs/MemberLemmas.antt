@@ -139,7 +139,7 @@ Contains-spliced old new x tests spliced =
     subst (λ ls. Contains ls x) (sym spliced.is)
     (Contains-append_right (take spliced.low old) (x ∷ drop spliced.high old) x (Contains-head x (drop spliced.high old)))
 
--- The owner asked for something else before; so an envelope before is none of now, where it has a line of the owner.
+-- The owner asked for something else before; so an envelope before is none of now, if it has a line of the owner.
 pub lines_differ : (rows rows' lines lines' : List Request) (x : Request) → HasRisingOwners rows → HasRisingOwners rows' → IsEnvelopeOf rows lines
     → IsEnvelopeOf rows' lines' → tuple_of rows x.owner.0 ≢ Some x.tuple → tuple_of rows' x.owner.0 ≡ Some x.tuple → HasLineOf x.owner.0 lines
     → lines' ≢ lines

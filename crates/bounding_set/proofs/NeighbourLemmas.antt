@@ -50,7 +50,7 @@ module _ (place overhead : ℕ) where
   above_next a b bs le =
       ap (λ t. cond t (entry_between place overhead a b) (implied_above place overhead b bs)) (not_less_fails overhead b.overhead le)
 
-  -- so many of those behind have no more overhead, and the next one has more
+  -- so many of those that come after have no more overhead, and the next one has more
   implied_between : (a : Listed) (ls : List Listed) (at : ℕ) (d : Listed) → at < length ls → ((k : ℕ) → k < at → (get_or ls k d).overhead ≤ overhead)
       → overhead < (get_or ls at d).overhead → implied_above place overhead a ls ≡ entry_between place overhead (get_or (a ∷ ls) at d) (get_or ls at d)
   implied_between a [] at d below upto above = absurd (omega (arith, below))
@@ -59,7 +59,7 @@ module _ (place overhead : ℕ) where
       above_next a b bs (upto 0 (omega arith))
       ∙ implied_between b bs n d (omega (arith, below)) (λ k less. upto (suc k) (omega arith)) above
 
-  -- none of those behind has more
+  -- none of those that come after has more
   implied_past : (a : Listed) (ls : List Listed) (d : Listed) → ((k : ℕ) → k < length ls → (get_or ls k d).overhead ≤ overhead)
       → implied_above place overhead a ls ≡ entry_past place overhead (get_or (a ∷ ls) (length ls) d)
   implied_past a [] d upto = refl
@@ -171,7 +171,7 @@ Lists-listed_of rows announced kept d keeps =
           ∙ ap (λ p. record { place = p; overhead = (get_or announced j r).tuple.overhead }) place;
     }
 
--- where the first has no more overhead, some have
+-- if the first has no more overhead, some have
 pub one_at_least : (announced : List Request) (overhead next : ℕ) → 0 < length announced → ((d : Request) → (get_or announced 0 d).tuple.overhead < overhead)
     → AllWithin (λ l. overhead < l.tuple.overhead) announced next (length announced) → 1 ≤ next
 one_at_least [] overhead next some low above = absurd (omega arith)

@@ -19,7 +19,7 @@ take_before (suc low) zero xs ys before within = absurd (omega (arith, before))
 take_before (suc low) (suc i) [] ys before within = absurd (omega (arith, within))
 take_before (suc low) (suc i) (x ∷ xs) ys before within = ap (λ zs. x ∷ zs) (take_before low i xs ys (omega (arith, before)) (omega (arith, within)))
 
--- what is left behind a place
+-- what is left after a place
 pub drop_behind : {X : Type 0} (i n m : ℕ) (xs ys : List X) → i ≤ length xs → m ≡ i + n → drop m (take i xs ++ ys) ≡ drop n ys
 drop_behind i n m xs ys within is =
     let whole : m ≡ length (take i xs) + n = omega (arith, length-take-le i xs within, is) in
@@ -63,7 +63,7 @@ pairs_before left (x ∷ x' ∷ xs) (y ∷ y' ∷ ys) (suc n) in_xs in_ys same =
     (first_same x' y' xs ys n behind)
     (ap (λ ps. pair_between x left (crossing_of x x') ∷ ps) rest))
 
--- the pairs behind the first of these requests
+-- the pairs after the first of these requests
 abbrev pairs_after_first : List Request → List RatePair
 pairs_after_first [] = []
 pairs_after_first (x ∷ xs) = pairs_from (right_end x xs) xs

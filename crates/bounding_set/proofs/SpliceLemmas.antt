@@ -268,7 +268,7 @@ module _ (lines : List Request) (x : Request) (hull : IsHull lines) (at : ℕ) (
       new = λ z covers same. absurd (none_has_line z covers same);
     }
 
-  -- where the neighbours, or at an end the one, don't imply it, x is needed
+  -- if the neighbours, or at an end the one, don't imply it, x is needed
   module _ (send : All (λ l. ¬ StopsMedia l) lines) (some : 0 < length lines) (a b : Request)
       (a_is : (d : Request) → a ≡ get_or lines (at - 1) d) (b_is : (d : Request) → b ≡ get_or lines (min at (length lines - 1)) d)
       (not_implied : ¬ ImplyTogether a.tuple b.tuple x.tuple) where

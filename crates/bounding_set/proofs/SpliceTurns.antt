@@ -43,7 +43,7 @@ module _ (ra rx rb : ℕ) where
         | inr more ↦ absurd (omega (arith, mul-le-mul_left ha axb, mul-le-mul_left (m + k) more, mul-le-mul_left m reach))
       ]
 
-  -- and where the start reaches beyond the end, it reaches beyond what is below the chord
+  -- and if the start reaches beyond the end, it reaches beyond what is below the chord
   pub reach_below : (ha hx hb : ℕ) → ha < hx → hx < hb → rb * ha < ra * hb → IsBelowChord ha ra hx rx hb rb → rx * ha < ra * hx
   reach_below ha hx hb ax xb =
       by_distances (λ a x b. rb * a < ra * b → IsBelowChord a ra x rx b rb → rx * a < ra * x) ha hx hb ax xb

@@ -10,7 +10,7 @@ use Rattle.bounding_set.specs.Envelope.{Covers, TakesOver, KeepsLeastOwner, IsEn
 use Rattle.bounding_set.specs.Spliced.{IsSpliced, IsSplicedEnvelope}
 use Rattle.bounding_set.proofs.WalkLemmas.{Covers-through}
 
--- an element is the first, or stands behind it
+-- an element is the first, or stands after it
 pub Contains-cons_cases : {X : Type 0} (x : X) (xs : List X) (y : X) → Contains (x ∷ xs) y → (x ≡ y) ⊎ Contains xs y
 Contains-cons_cases x xs y (zero, below, is) = inl is
 Contains-cons_cases x xs y (suc k, below, is) = inr (k, omega arith, is)
@@ -74,7 +74,7 @@ IsEnvelopeOf-stopped x rows lines stops = (
   λ envelope. IsEnvelopeOf-without x rows lines envelope (λ is. All-contains (λ l. ¬ StopsMedia l) lines x envelope.send is stops),
 )
 
--- where all rows send, it is the envelope of all
+-- if all rows send, it is the envelope of all
 pub IsEnvelope-from_sending : (rows lines : List Request) → IsEnvelopeOf rows lines → All (λ r. ¬ StopsMedia r) rows → IsEnvelope rows lines
 IsEnvelope-from_sending rows lines envelope send = record {
   hull = envelope.hull;

@@ -17,7 +17,7 @@ use Rattle.bounding_set.proofs.TurnLemmas.{permitted_by_stricter}
 abbrev pub replaced : {X : Type 0} → List X → X → ℕ → ℕ → List X
 replaced xs x low high = take low xs ++ x ∷ drop high xs
 
--- the element at a place of the new list, where it isn't x, stood at this place
+-- the element at a place of the new list, if it isn't x, stood at this place
 record CameFrom {X : Type 0} (xs ys : List X) (low high k : ℕ) : Type 0 where
   place : ℕ
   in_range : place < length xs

@@ -1,4 +1,4 @@
--- What is announced where a request has the rate 0: the strictest stop, or the first stop, alone or with the
+-- What is announced if a request has the rate 0: the strictest stop, or the first stop, alone or with the
 -- request of least reach.
 use Rattle.std.proofs.Common.{◌≡◌, ℕ, zero, suc, ◌<◌, ◌≤◌, ◌⊎◌, inl, inr, List, [], ◌∷◌, get_or, refl, sym, ap, subst, arith, if◌then◌else◌}
 use Rattle.std.specs.Prelude.{All, Any, AllPairs, Contains}
@@ -40,7 +40,7 @@ module _ (rows : List Request) (x : Request) (stops : StopsMedia x) where
     one_each = λ j k p before below. absurd (omega arith);
   }
 
--- a stop that is kept alone covers what has no more overhead than it, and where it has some, all else
+-- a stop that is kept alone covers what has no more overhead than it, and if it has some, all else
 covered_alone : (x y : Request) → StopsMedia x → (x.tuple.overhead < y.tuple.overhead → 0 < x.tuple.overhead) → IsCovered (x ∷ []) y
 covered_alone x y stops some = (
   λ no_more. rw stops (omega arith),
@@ -89,7 +89,7 @@ module _ (rows : List Request) (rising : HasRisingOwners rows) (x : Request) (at
     covered = λ k d below. covered_alone x (get_or rows k d) strictest.stops.0 (λ _. strictest.stops.1);
   }
 
--- a request that stops the media, where none stops everything
+-- a request that stops the media, if none stops everything
 module _ (rows : List Request) (rising : HasRisingOwners rows) (x : Request) (at_x : Contains rows x) (first : IsFirstStop rows x) where
   -- who stops the media has no overhead
   pub no_overhead : (r : Request) → Contains rows r → StopsMedia r → r.tuple.overhead ≡ 0

@@ -71,7 +71,7 @@ module _ (ra rb rc rd : ℕ) where
       bc cd)
       bc
 
--- a turn upwards behind a rise rises
+-- a turn upwards after a rise rises
 rises_behind : (ra rb rc ha m k : ℕ) → ra ≤ rb → 0 < m → IsBelowChord ha ra (ha + m) rb (ha + m + k) rc → rb < rc
 rises_behind ra rb rc ha m k le some abc =
     elim (cases_lt rb rc) [

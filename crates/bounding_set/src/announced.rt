@@ -18,7 +18,7 @@ use rate_cert::{Cert, MAX_REQUESTS, Request};
 /// change.
 const MADE_ANEW: usize = 16;
 
-/// Keeps a copy of what is announced, where these are many: their certificate is mended once they have
+/// Keeps a copy of what is announced, if these are many: their certificate is mended once they have
 /// changed. Of few, and beside a rate of 0, it keeps none.
 pub fn remember(lines: &[Request], stops: &[Request], before: &mut ArrayVec<Request, MAX_REQUESTS>)
     ensures { 0 < length before.new.items → before.new.items ≡ announced_among stops.now lines.now }
@@ -30,7 +30,7 @@ pub fn remember(lines: &[Request], stops: &[Request], before: &mut ArrayVec<Requ
 }
 
 /// Makes the certificate of the set that is announced for these rows: the lines of their envelope, or
-/// what stands for them where a rate is 0. It was that of the requests before, if they are given.
+/// what stands for them if a rate is 0. It was that of the requests before, if they are given.
 pub fn announce(
     rows: &[Request],
     before: &[Request],

@@ -60,7 +60,7 @@ pub fn needed_behind(lines: &[Request], x: &Request, count: &mut u32) -> usize
     first
 }
 
-/// Whether the line before it, or x where there is none, and x imply the last of so many lines.
+/// Whether the line before it, or x if there is none, and x imply the last of so many lines.
 fn is_needless_before(lines: &[Request], needed: usize, x: &Request, count: &mut u32) -> bool
     requires within { needed ≤ length lines.now }
     requires countable { count.old + 1 < 2 ^ 32 }
@@ -88,7 +88,7 @@ fn is_needless_before(lines: &[Request], needed: usize, x: &Request, count: &mut
     }
 }
 
-/// Whether x and the line behind it, or x alone where there is none, imply the line at this place.
+/// Whether x and the line after it, or x alone if there is none, imply the line at this place.
 fn is_needless_behind(lines: &[Request], place: usize, x: &Request, count: &mut u32) -> bool
     requires within { place ≤ length lines.now }
     requires countable { count.old + 1 < 2 ^ 32 }

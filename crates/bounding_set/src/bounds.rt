@@ -22,7 +22,7 @@ pub struct Bounds {
     lines: ArrayVec<Request, MAX_REQUESTS>,
     /// What is announced while a rate is 0; empty while none is.
     stops: ArrayVec<Request, MAX_STOPS>,
-    /// What was announced before the last change, where these were many.
+    /// What was announced before the last change, if these were many.
     before: ArrayVec<Request, MAX_REQUESTS>,
     cert: Cert,
     /// How many tests the last change took.
@@ -70,10 +70,10 @@ impl Bounds {
         }
     }
 
-    /// Puts the owner's request, or replaces it. True where the announced set changed: other requests
+    /// Puts the owner's request, or replaces it. True if the announced set changed: other requests
     /// in it, or another spelling of one.
     ///
-    /// Refused as `Full` exactly where the owner isn't live and as many others are as may be; then
+    /// Refused as `Full` exactly if the owner isn't live and as many others are as may be; then
     /// nothing changed.
     pub fn set(&mut self, owner: Ssrc, tuple: Tuple) -> Result<bool, Full>
         ensures full { IsErr result
@@ -128,8 +128,8 @@ impl Bounds {
     /// What is announced, with its certificate, is as if each had been put by `set`, but the certificate
     /// is made once. `steps` counts the tests of all together.
     ///
-    /// Refused as `TooMany` exactly where they are more than may be live, else as `NotRising` exactly
-    /// where their owners don't rise; then nothing changed.
+    /// Refused as `TooMany` exactly if they are more than may be live, else as `NotRising` exactly
+    /// if their owners don't rise; then nothing changed.
     pub fn set_all(&mut self, requests: &[Request]) -> Result<(), RowsFault>
         ensures too_many { (result ≡ Err RowsFault.TooMany) ↔ (LIVE_LIMIT < length requests.now) }
         ensures not_rising { (result ≡ Err RowsFault.NotRising)
@@ -153,7 +153,7 @@ impl Bounds {
         Ok(())
     }
 
-    /// Removes the owner's request, and answers what it asked for. `None` where it has none; then
+    /// Removes the owner's request, and answers what it asked for. `None` if it has none; then
     /// nothing changed.
     pub fn remove(&mut self, owner: Ssrc) -> Option<Tuple>
         ensures value { result ≡ tuple_of self.old.rows owner.0 }

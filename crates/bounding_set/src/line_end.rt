@@ -5,7 +5,7 @@ ghost use Rattle.std.specs.Prelude.{◌^◌, ◌<◌};
 use rate_cert::Request;
 use tmmbr_tuple::Pair;
 
-/// A packet rate: `upper / lower` packets per second, or no bound where `lower` is 0.
+/// A packet rate: `upper / lower` packets per second, or no bound if `lower` is 0.
 #[derive(Clone, Copy)]
 pub struct LineEnd {
     /// Packets in `lower` seconds, below 2^80.

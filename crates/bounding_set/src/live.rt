@@ -14,7 +14,7 @@ use rate_cert::{MAX_REQUESTS, Request};
 use tmmbr_tuple::Ssrc;
 
 /// Puts a request in the place of what its owner asked for, which was something else or nothing. True
-/// where the envelope changed.
+/// if the envelope changed.
 pub fn replace(
     rows: &mut ArrayVec<Request, MAX_REQUESTS>,
     lines: &mut ArrayVec<Request, MAX_REQUESTS>,
@@ -76,7 +76,7 @@ fn put_last(
     let _is_line = put_in(rows, lines, x, count);
 }
 
-/// Takes the owner's row out, where it has one. True where it was a line of the envelope.
+/// Takes the owner's row out, if it has one. True if it was a line of the envelope.
 fn take_out(
     rows: &mut ArrayVec<Request, MAX_REQUESTS>,
     lines: &mut ArrayVec<Request, MAX_REQUESTS>,
@@ -101,7 +101,7 @@ fn take_out(
     }
 }
 
-/// Adds the row of an owner that isn't live. True where it is a line of the envelope then.
+/// Adds the row of an owner that isn't live. True if it is a line of the envelope then.
 fn put_in(
     rows: &mut ArrayVec<Request, MAX_REQUESTS>,
     lines: &mut ArrayVec<Request, MAX_REQUESTS>,

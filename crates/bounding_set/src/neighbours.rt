@@ -9,7 +9,7 @@ ghost use Rattle.bounding_set.specs.Kept.{Lists};
 
 use rate_cert::{Implied, Kept, Request};
 
-/// How a request follows from the first kept one, where its overhead isn't greater, or from others.
+/// How a request follows from the first kept one, if its overhead isn't greater, or from others.
 /// The announced requests are given by rising overhead, with the entries that keep them.
 pub fn implied_by(announced: &[Request], kept: &[Kept], place: u16, overhead: u16) -> Implied
     requires as_many { length kept.now ≡ length announced.now }

@@ -9,11 +9,11 @@ use crate::line_end::LineEnd;
 use arrayvec::ArrayVec;
 use rate_cert::{Kept, MAX_REQUESTS, Request};
 
-/// How many more requests may be announced than before for the entries behind the change to be moved:
+/// How many more requests may be announced than before for the entries that stand after the change to be moved:
 /// each one more moves them all by one.
 const MOST_MORE: usize = 4;
 
-/// Gives the kept entries the pairs between the ends of the announced requests' lines, where they had
+/// Gives the kept entries the pairs between the ends of the announced requests' lines. They had
 /// those of the requests that were announced before; if no such are given, they had any.
 pub fn mend_pairs(
     before: &[Request],

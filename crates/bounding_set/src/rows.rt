@@ -55,7 +55,7 @@ fn owners_rise(requests: &[Request]) -> bool
     true
 }
 
-/// What the owner asks for, where it is live.
+/// What the owner asks for, if it is live.
 pub fn asked_by(rows: &[Request], owner: Ssrc) -> Option<Tuple>
     requires { HasRisingOwners rows.now }
     ensures { result ≡ tuple_of rows.now owner.0 }

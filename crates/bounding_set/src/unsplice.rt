@@ -14,7 +14,7 @@ use arrayvec::ArrayVec;
 use rate_cert::{MAX_REQUESTS, Request};
 
 /// Takes the line of a request that is no row any more out of the envelope, and puts back those of
-/// the rows that it hid. True where it was a line of the envelope; else nothing changes.
+/// the rows that it hid. True if it was a line of the envelope; else nothing changes.
 ///
 /// Only rows whose overhead lies between those of the line's neighbours are looked at, or past the end at
 /// an end.
@@ -45,7 +45,7 @@ pub fn unsplice(
     }
 }
 
-/// Where the request stands among the lines; `None` where it is no line.
+/// Where the request stands among the lines; `None` if it is no line.
 fn place_of_line(lines: &[Request], request: &Request) -> Option<usize>
     requires { IsHull lines.now }
     ensures found { IfSome result (StandsAt lines.now request.now) }

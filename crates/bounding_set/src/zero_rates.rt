@@ -1,4 +1,4 @@
-//! What is announced where a live request has the rate 0.
+//! What is announced if a live request has the rate 0.
 
 ghost use Rattle.std.specs.Prelude.{◌≡◌, ◌≢◌, ◌<◌, ◌↔◌, [], length, All, Any, Contains, IfSome, IsTrue, MatchOption, false};
 ghost use Rattle.bounding_set.specs.Rows.{HasRisingOwners};
@@ -10,11 +10,11 @@ use crate::rows::are_same;
 use arrayvec::ArrayVec;
 use rate_cert::Request;
 
-/// How many requests are announced at most where one has the rate 0.
+/// How many requests are announced at most if one has the rate 0.
 pub const MAX_STOPS: usize = 2;
 
-/// Keeps the stops, what is announced while a rate is 0, up to date once the rows have changed, where
-/// `one_stops` is true if a row came whose rate is 0. True where the stops changed.
+/// Keeps the stops, what is announced while a rate is 0, up to date once the rows have changed;
+/// `one_stops` is true if a row came whose rate is 0. True if the stops changed.
 pub fn update_stops(
     rows: &[Request],
     stops: &mut ArrayVec<Request, MAX_STOPS>,
@@ -36,9 +36,9 @@ pub fn update_stops(
     changed
 }
 
-/// Where a request has the rate 0, makes the list of what is announced then, and answers true: the
+/// If a request has the rate 0, makes the list of what is announced then, and answers true: the
 /// strictest of those that stop everything, or else the first that stops the media, with the
-/// request of least reach behind it where one has an overhead.
+/// request of least reach after it if one has an overhead.
 ///
 /// False leaves the list as it was: no request has the rate 0.
 pub fn announce_stops(rows: &[Request], announced: &mut ArrayVec<Request, MAX_STOPS>) -> bool
@@ -117,7 +117,7 @@ fn stops_everything(request: &Request) -> bool
     request.tuple.rate() == 0 && request.tuple.overhead > 0
 }
 
-/// Whether the request has more overhead than the strictest stop so far, where there is one.
+/// Whether the request has more overhead than the strictest stop so far, if there is one.
 fn is_stricter(request: &Request, strictest: Option<Request>) -> bool
     ensures { IsTrue result
         ↔ IfSome strictest (λ x. x.tuple.overhead < request.now.tuple.overhead) }
@@ -125,7 +125,7 @@ fn is_stricter(request: &Request, strictest: Option<Request>) -> bool
     strictest.is_none_or(|best| best.tuple.overhead < request.tuple.overhead)
 }
 
-/// Whether the request reaches sooner than the one of least reach so far, where there is one.
+/// Whether the request reaches sooner than the one of least reach so far, if there is one.
 fn is_sooner(request: &Request, least: Option<Request>) -> bool
     ensures { IsTrue result ↔ IfSome least (λ x. ReachesSooner request.now x) }
 {

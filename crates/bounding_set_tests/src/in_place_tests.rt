@@ -59,7 +59,7 @@ fn announces(alloc: Global, bounds: &Bounds, lines: &[Request]) -> Result<bool, 
     Ok(bounds.announced().as_slice() == lines && *bounds.cert() == wanted)
 }
 
-/// How many tests the plain walk takes over all rows; `None` where a rate is 0, and the definition is asked
+/// How many tests the plain walk takes over all rows; `None` if a rate is 0, and the definition is asked
 /// instead. That way finds the announced requests, and their certificate is the same.
 fn assert_as_walked(rt: &impl Abort, alloc: Global, bounds: &Bounds) -> Result<Option<u32>, Fail> {
     let mut lines = ArrayVec::new();
@@ -145,7 +145,7 @@ fn in_place_equals_plain(rt: HostRuntime) -> Result<(), Fail> {
     Ok(())
 }
 
-/// How the certificate of 64 owners begins where owner 64 hides all but the farthest of the others.
+/// How the certificate of 64 owners begins if owner 64 hides all but the farthest of the others.
 const HIDDEN: &str = "kept 64 00000200 pair 8968 506 505\n\
     kept 63 0046123f pair 17937 505 1008\n\
     implied 1 00271201 by 64 63 times 62 1 63\n";
@@ -156,15 +156,15 @@ fn begins(alloc: Global, bounds: &Bounds, first: &str) -> Result<bool, Fail> {
     Ok(text.as_str().lines().count() == 64 && text.as_str().starts_with(first))
 }
 
-/// The last comes behind the others and hides none: one test of it, and one of the line before it. The walk looks at each.
+/// The last comes after the others and hides none: one test of it, and one of the line before it. The walk looks at each.
 fn come_in_few_steps(rt: &impl Abort, alloc: Global, bounds: &Bounds) -> Result<(), Fail> {
     let walk_steps = assert_as_walked(rt, alloc, bounds)?;
     assert!(rt; bounds.steps() == 2 && walk_steps.is_some_and(|steps| steps >= 62));
     Ok(())
 }
 
-/// One bit per second without overhead: only the farthest of the others still bounds. It goes from behind all others, which hides
-/// nothing. Then one test of it, 62 of lines that it hides, and one of the line that it doesn't.
+/// One bit per second without overhead: only the farthest of the others still bounds. It goes from its place after all others, which
+/// hides nothing. Then one test of it, 62 of lines that it hides, and one of the line that it doesn't.
 fn hides_the_others(rt: &impl Abort, alloc: Global, bounds: &mut Bounds) -> Result<(), Fail> {
     let one_bit = Tuple::from_word(0x0000_0200);
     play(
@@ -201,7 +201,7 @@ fn steps_of_sixty_four_owners(rt: HostRuntime) -> Result<(), Fail> {
     let is_back = begins(rt.alloc(), &bounds, before.as_str())?;
     assert!(rt; is_back);
     let steps = [
-        // Asking for the same again takes no test, nor does a removal from behind all others.
+        // Asking for the same again takes no test, nor does the removal of the one after all others.
         Step::Set(64, tuple_of_64(64), Ok(false)),
         Step::Steps(0),
         Step::Remove(64, Some(tuple_of_64(64))),

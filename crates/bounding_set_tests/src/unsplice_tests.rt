@@ -1,4 +1,4 @@
-//! What comes back where a line goes, worked out by hand.
+//! What comes back when a line goes, worked out by hand.
 use crate::set_tests::{Step, play};
 use bounding_set::Bounds;
 use rate_cert::Request;

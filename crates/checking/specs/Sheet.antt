@@ -53,14 +53,14 @@ pub record AnswersFile (text : List ℕ) (old new : Option (List ℕ))
   pub is : TextAnswers text answer
   pub printed : Appends old new (answer_text answer)
 
--- where there is no answer for a fault of the file, nothing was printed: its line can't be read, or all of it can't
+-- if there is no answer for a fault of the file, nothing was printed: its line can't be read, or all of it can't
 abbrev pub FailsFile : Option (List ℕ) → Option (List ℕ) → Option (List ℕ) → Failure → Type 0
 FailsFile file old new failure.NoMemory = Unit {0}
 FailsFile file old new failure.Io = Unit {0}
 FailsFile file old new (failure.Refused line fault) =
     (fault ≡ Text) × Keeps old new × ((line ≡ 0) ⊎ IfSome file (λ text. FileSpells text (Err line)))
 
--- A no for the text is printed; or nothing is, and the error output has its first line that can't be read, or line 0 where
+-- A no for the text is printed; or nothing is, and the error output has its first line that can't be read, or line 0 if
 -- the file can't.
 abbrev pub RefusesFile : Option (List ℕ) → Option (List ℕ) → Option (List ℕ) → Option (List ℕ)
     → Option (List ℕ) → Type 0

@@ -31,7 +31,7 @@ struct Sheet {
 }
 
 /// Checks the certificate that the file's lines spell, and prints the answer: `yes`, or `no` with the
-/// number of the first condition that fails and its least place, where it has one.
+/// number of the first condition that fails and its least place, if it has one.
 ///
 /// A line that can't be read is said on the error output, and so is a file that can't, as line 0. The meter is shown each line.
 pub fn check_lines<I: Read, O: Write, E: Write>(
@@ -269,7 +269,7 @@ fn implied_entry(kept: &[(Ssrc, Kept)], past: u16, place: u16, claim: &Claim) ->
     }
 }
 
-/// The place of the owner's first kept entry; `past` where it has none.
+/// The place of the owner's first kept entry; `past` if it has none.
 fn place_for(kept: &[(Ssrc, Kept)], past: u16, owner: Ssrc) -> u16
     ensures { result ≡ place_for kept.now past owner }
 {

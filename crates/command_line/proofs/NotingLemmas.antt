@@ -23,7 +23,7 @@ pub without_is : {B : Type 0} (f : B → Text) (words shown left : List B) (name
 without_is f words shown left name place at same is =
     ap (map f) is ∙ map_remove f words place ∙ ap (remove (map f words)) (at ∙ ap (λ l. place_in (map f l) name) same)
 
--- and the one behind it
+-- and the one after it
 pub without_value_is : {B : Type 0} (f : B → Text) (words shown first left : List B) (name : Text) (place : ℕ) (value : B)
     → place ≡ place_in (map f shown) name → shown ≡ words → first ≡ remove words place → left ≡ remove first place
     → slice_get words (place + 1) ≡ Some value → map f left ≡ without_value (map f words) name

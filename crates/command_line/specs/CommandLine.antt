@@ -194,7 +194,7 @@ AsksToServe (Some (replay file leg endpoint from events)) = ⊥
 AsksToServe (Some (serve file ticks status control)) = Unit {0}
 AsksToServe (Some (draw media)) = ⊥
 
--- the words behind the program's name that ask for it in the plainest way
+-- the words after the program's name that ask for it in the plainest way
 abbrev pub words_of : Request → List Text
 words_of (bound media) = codes "bound" ∷ codes "--sender" ∷ decimal media ∷ []
 words_of (check file) = codes "check" ∷ file ∷ []
@@ -212,7 +212,7 @@ abbrev pub IsFileName : Text → Type 0
 IsFileName [] = ⊥
 IsFileName (b ∷ bs) = b ≢ 45
 
--- an option's number, where there is one
+-- an option's number, if there is one
 abbrev pub IsOption : Option ℕ → ℕ → Type 0
 IsOption None most = Unit {0}
 IsOption (Some n) most = (1 ≤ n) × (n ≤ most)

@@ -18,11 +18,11 @@ has_word words name = nat_lt (place_in words name) (length words)
 abbrev pub without_word : List Text → Text → List Text
 without_word words name = remove words (place_in words name)
 
--- the word behind the first that is this
+-- the word after the first that is this
 abbrev pub value_in : List Text → Text → Option Text
 value_in words name = slice_get words (place_in words name + 1)
 
--- the words without these two, if the first has a word behind it
+-- the words without these two, if the first has a word after it
 abbrev pub without_both : List Text → Text → Option Text → List Text
 without_both words name None = words
 without_both words name (Some value) = remove (without_word words name) (place_in words name)

@@ -23,7 +23,7 @@ pub struct Noted<'a> {
     pub words: Vec<&'a str>,
 }
 
-/// What the words say is written down of a unit; nothing where they say nothing of that, or name a limit without a record, or one that is
+/// What the words say is written down of a unit; nothing if they say nothing of that, or name a limit without a record, or one that is
 /// no number from 1 on. Refused for want of memory alone.
 pub fn noted_in<'a, S: AsStr>(
     alloc: Global,
@@ -78,7 +78,7 @@ fn take_word(words: &mut Vec<&str>, name: &str) -> bool
     is_there
 }
 
-/// Takes out the first word that is this and the one behind it, if there is one, which is answered.
+/// Takes out the first word that is this and the one after it, if there is one, which is answered.
 fn take_value<'a>(words: &mut Vec<&'a str>, name: &str) -> Option<&'a str>
     ensures value { option_map (λ value. value.now) result
         ≡ value_in (map (λ word. word.now) words.old.items) name.now }

@@ -126,7 +126,7 @@ fn line_of<S: AsStr>(alloc: Global, words: &[S]) -> Result<String, AllocError>
     Ok(line)
 }
 
-/// Puts each word and a space before it behind the line.
+/// Appends each word to the line, with a space before it.
 fn push_spaced<S: AsStr>(line: &mut String, words: &[S]) -> Result<(), AllocError>
     ensures { OnOk result (string_bytes line.new
         ≡ string_bytes line.old ++ flat_map spaced (map S.text words.now)) }

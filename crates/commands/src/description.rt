@@ -32,7 +32,7 @@ impl From<AllocError> for SdpFault {
 /// Prints the session description of what these endpoints receive, by the settings of the file: a media description for each leg to
 /// one of them.
 ///
-/// Ends as `Refused` where a word is no endpoint's number, and as `Settings` where the address of one of them is learned, or what a
+/// Ends as `Refused` if a word is no endpoint's number, and as `Settings` if the address of one of them is learned, or what a
 /// publisher's packets hold isn't said (`rtpmap`).
 pub fn run_sdp<R: AllocGlobal + Files, S: AsStr, O: Write, E: Write>(
     rt: &R,
@@ -88,7 +88,7 @@ fn number_of(word: &str, endpoints: usize) -> Result<u16, SdpFault> {
     }
 }
 
-/// Puts what an endpoint receives behind the other streams, leg by leg.
+/// Puts what an endpoint receives after the other streams, leg by leg.
 fn push_streams<'a>(
     alloc: Global,
     streams: &mut Vec<Stream<'a>>,

@@ -1,4 +1,4 @@
-//! What is said to people beside the line that scripts read, where a command had no settings or no socket.
+//! What is said to people beside the line that scripts read, if a command had no settings or no socket.
 
 use addressing::{ServedSettings, read_served};
 use advice::bind_advice;
@@ -12,7 +12,7 @@ use std::net::{Net, SocketAddr, UdpSocket};
 use std::rt::Files;
 
 /// Says on the error output which line of the settings file is wrong and what may stand there, or which socket can't be had and why,
-/// after a command with these words ended so. The file is read again, and the sockets are tried again: where all is well by now,
+/// after a command with these words ended so. The file is read again, and the sockets are tried again: if all is well by now,
 /// nothing is said.
 pub fn explain<R: AllocGlobal + Files + Net, S: AsStr, E: Write>(
     rt: &R,

@@ -58,7 +58,7 @@ LeavesEvents outside old new Busy = (¬ IsIdle old.world) × (new ≡ old)
 LeavesEvents outside old new NoMemory = new ≡ old
 LeavesEvents outside old new Unsettled = Serves outside old new
 
--- the same of the machine and what it gave out, where nothing waited
+-- the same of the machine and what it gave out, if nothing waited
 abbrev pub StopsAfter : List Event → WorldState → List Out → WorldState → List Out → EventFault
     → Type 0
 StopsAfter outside old outs new all Busy = ⊥
@@ -69,7 +69,7 @@ StopsAfter outside old outs new all Unsettled = Drives outside old outs new all
 
 -- Since it was opened by these settings a conference was given these events from outside, and these datagrams were taken from it.
 -- Those and the ones that wait are what the machine gave out, in order; no job was given up. What each desk announces, what is told
--- of it, the stays that ended, and what is live where nothing waits, are as the machine's laws say.
+-- of it, the stays that ended, and what is live when nothing waits, are as the machine's laws say.
 pub record HasServed (c : Configuration) (outside : List Event) (taken : List Datagram)
     (s : ConferenceState) : Type 0 where
   pub range : IsInRange c

@@ -180,7 +180,7 @@ impl Conference {
     /// A datagram came from this endpoint at this moment, in milliseconds: it is heard, with all that follows. What is to be sent
     /// waits after what was to be sent before.
     ///
-    /// Refused as `Busy`, exactly where something waits, and as `NoMemory`: then nothing was done. As `Unsettled` where there is no
+    /// Refused as `Busy`, exactly if something waits, and as `NoMemory`: then nothing was done. As `Unsettled` if there is no
     /// memory for all that follows: then it was heard, and the rest waits for `settle`.
     pub fn hear(&mut self, moment: u64, endpoint: u16, bytes: &[u8]) -> Result<(), EventFault>
         ensures ok { OnOk result (Serves (Hear moment endpoint bytes.now ∷ []) self.old self.new) }

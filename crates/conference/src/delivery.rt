@@ -29,7 +29,7 @@ fn is_datagram(out: &Out) -> bool
     }
 }
 
-/// The datagram, where this is one.
+/// The datagram, if this is one.
 fn delivery_in(out: &Out) -> Option<Delivery<'_>>
     ensures { option_map datagram_of result ≡ slice_get (datagram_in out.now) 0 }
 {

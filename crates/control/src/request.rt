@@ -35,7 +35,7 @@ pub enum Request {
     Stop,
 }
 
-/// What the line asks for, without its end; `None` where it asks for nothing. Its words are parted by single spaces. Refused for want
+/// What the line asks for, without its end; `None` if it asks for nothing. Its words are parted by single spaces. Refused for want
 /// of memory alone.
 pub fn read_request(alloc: Global, line: &[u8]) -> Result<Option<Request>, AllocError>
     ensures { IfOk result (λ r. r ≡ request_in line.now) }

@@ -161,7 +161,7 @@ orders_by_history w (e ∷ events) (h ∷ history) r =
     ∙ ap (λ (os : List Order). orders_after w.room h.calls ++ os) (orders_by_history (world_after w h) events history r.1)
     ∙ sym (orders_after-append w.room h.calls calls)
 
--- from a new world, no stay begins by a task that is done behind the one that ends it
+-- from a new world, no stay begins by a task that is done after the one that ends it
 new_ends_last : (c : Configuration) (w : WorldState) (events : List Event) (history : List Happening) → IsNewWorld c w
     → Runs w events history
     → EndsLast (orders_in (flat_map (λ (h : Happening). h.did) history) ++ orders_in (worlds_after w history).tasks)
@@ -176,7 +176,7 @@ new_ends_last c w events history new r =
     ∙ ap (λ (x : RoomState). orders_after x calls) new.room in
     subst EndsLast (sym is) (ends_last c calls)
 
--- no task of these stays arrives behind the event that does the depart
+-- no task of these stays arrives after the event that does the depart
 no_return : (c : Configuration) (w : WorldState) (events later : List Event) (past next : List Happening) (e : Event) (h : Happening)
     (leg stay : ℕ) → IsNewWorld c w → Runs w events past → Does (worlds_after w past) e h → h.did ≡ order (Depart leg stay) ∷ []
     → Runs (world_after (worlds_after w past) h) later next
@@ -218,7 +218,7 @@ depart_asks t leg stay l some f = step (stay == 0) refl
     step true e = absurd (let none : stay ≡ 0 = grind (arith, nat_tests, e) in omega (arith, none, some))
     step false e = ap (option_map (asked_of stay change.Depart t)) f
 
--- the desk of the publisher behind the event
+-- the desk of the publisher after the event
 left_by : (w : WorldState) (h : Happening) (p : ℕ) (o : Ssrc) (stay : ℕ) (d : DeskState) → 1 ≤ stay → All HoldsLegalDesk w.desks
     → AsksThere p (Stay o stay change.Depart) (slice_get w.desks p) h → slice_get (world_after w h).desks p ≡ Some d → HasLeft o.0 stay d
 left_by w h p o stay d some all r f = step (slice_get w.desks p) refl r

@@ -1,4 +1,4 @@
--- What the ingress takes in: the happening of each leaf, and the world behind it.
+-- What the ingress takes in: the happening of each leaf, and the world after it.
 use Rattle.std.proofs.Common.{◌≡◌, ◌∙◌, ℕ, ◌+◌, ◌^◌, ◌<◌, List, [], ◌∷◌, ◌++◌, length, map, drop, take, get_or, Bool, true, false, cond, Result, Ok, Err, refl, sym, ap, ap₂, subst, arith, add-zero, ◌≤◌}
 use Rattle.std.proofs.lemmas.List.{append-nil, length-replicate, take_more, append_assoc, length-take, map-append}
 use Rattle.std.proofs.lemmas.List.Elements.{filter-append, filter_map-append}
@@ -170,7 +170,7 @@ option_listed : (f : FollowUp → Task) (o : Option FollowUp) → map f (option_
 option_listed f None = refl
 option_listed f (Some y) = refl
 
--- what was put behind those that waited, as tasks
+-- what was put after those that waited, as tasks
 pushed_listed : (bits : List ℕ) (before after : List FollowUp) (next : Option FollowUp) → after ≡ before ++ option_to_list next
     → map (task_of bits) after ≡ map (task_of bits) before ++ map (task_of bits) (option_to_list next)
 pushed_listed bits before after next e = ap (map (task_of bits)) e ∙ map-append (task_of bits) before (option_to_list next)

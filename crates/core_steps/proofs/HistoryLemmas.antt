@@ -119,7 +119,7 @@ one_ring_by w k d i false e =
     = get_or-set_other w.workers d.worker k (worker_after (get_or w.workers d.worker no_worker) d) no_worker other in
     ap (λ (x : WorkerState). x.jobs) here ∙ sym (append-nil (jobs_at k w))
 
--- the ring of a worker behind what was done at workers
+-- the ring of a worker after what was done at workers
 one_step : (w : WorldState) (k : ℕ) (ds : List Worked) → IsAtOne w ds
     → flat_map (taken_by k) ds ++ (get_or (fold workers_by w.workers ds) k no_worker).jobs ≡ jobs_at k w ++ flat_map (put_by k) ds
 one_step w k [] i = sym (append-nil (jobs_at k w))
@@ -129,7 +129,7 @@ one_step w k (d ∷ []) i =
     ∙ ap (λ (js : List Job). jobs_at k w ++ js) (sym (append-nil (put_by k d)))
 one_step w k (d ∷ (e ∷ ds)) i = absurd i
 
--- what left, then what is held, is what was held, then what came: for one step, then for those behind it
+-- what left, then what is held, is what was held, then what came: for one step, then for those after it
 joined : (left more held now next came rest : List Job) → left ++ now ≡ held ++ came → more ++ next ≡ now ++ rest
     → (left ++ more) ++ next ≡ held ++ (came ++ rest)
 joined left more held now next came rest e f =

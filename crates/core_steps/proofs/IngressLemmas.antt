@@ -209,7 +209,7 @@ routed w leg stay turn on tasks rows outs lost tmmbns is put =
 
 -- ---- a job
 
--- what is left where the job was given up, or not
+-- what is left if the job was given up, or not
 abbrev pub lost_after : Bool → ℕ → ℕ
 lost_after lost n = if lost then capped_count n 1 else n
 
@@ -279,7 +279,7 @@ job_put w k job tasks workers outs fits tmmbns is pushed =
     let O : List Out → Type 0 = λ x. Leaves (λ h. h ≡ pushing w k job (slice_get w.workers k)) w outs (with_job w tasks workers w.lost) x in
     subst O (append-nil outs) (pushed_to w k job (slice_get w.workers k) false tasks workers outs fits tmmbns is pushed)
 
--- the states of the workers, where that of one is this from then on
+-- the states of the workers, with this as that of one from then on
 ring_put : (workers : List Worker) (k : ℕ) (d : Worker) (job : Job) (jobs : List Job) (full : Bool) → k < length workers
     → jobs ≡ (if full then (get_or workers k d).jobs else (get_or workers k d).jobs ++ job ∷ [])
     → map worker_state (slice_set workers k (record (get_or workers k d) { jobs = jobs }))
@@ -341,7 +341,7 @@ reported w p block room tasks outs all lost tmmbns is answer becomes given = rec
   given = given;
 }
 
--- the same, where the report was written before the task was done
+-- the same, if the report was written before the task was done
 pub reported_by : (w v : WorldState) (p : ℕ) (bytes : List ℕ) (tasks : List Task) (outs all : List Out)
     → w.lost < 2 ^ 64 → w.tmmbns < 2 ^ 64 → Reports w p v bytes → tasks ≡ drop 1 v.tasks → all ≡ outs ++ Send p bytes ∷ []
     → Leaves (IsReporting w p) w outs (record v { tasks = tasks }) all

@@ -87,7 +87,7 @@ leg_at_place legs (j ∷ jobs) place s f =
 
 -- ---- one job
 
--- what a leg makes of these packets, whatever comes behind them
+-- what a leg makes of these packets, whatever comes after them
 record Goes (first : List Taken) (s now : LegState) : Type 0 where
   number : now.number ≡ s.number
   link : now.link ≡ s.link

@@ -1,4 +1,4 @@
--- Over the calls of a room, no stay begins by the order in which it stands behind its end.
+-- Over the calls of a room, no stay begins by the order in which it stands after its end.
 use Rattle.std.proofs.Common.{◌≡◌, ◌≢◌, ◌<◌, ◌≤◌, ◌+◌, ℕ, zero, suc, List, [], ◌∷◌, ◌++◌, length, Bool, true, false, cond, Result, Ok, Err, refl, ap, sym, ◌∙◌, subst, append_assoc, arith}
 use Rattle.std.specs.Prelude.{map, max, not, ◌&&◌, ◌==◌, nat_le, nat_lt}
 use Rattle.std.specs.List.{flat_map, enumerate_from}
@@ -66,7 +66,7 @@ EndsBehind (Arrive leg stay) orders = Unit {0}
 EndsBehind (Depart leg stay) orders = IsNotIn stay (arrivals orders)
 EndsBehind (Route leg stay turn on) orders = Unit {0}
 
--- no stay begins behind its end
+-- no stay begins after its end
 abbrev pub EndsLast : List Order → Type 0
 EndsLast [] = Unit {0}
 EndsLast (o ∷ orders) = EndsBehind o orders × EndsLast orders

@@ -26,7 +26,7 @@ use Rattle.desk.proofs.TraceLemmas.{done_accepted, refusal-not_done, base_after-
 use Rattle.core_steps.specs.Quiet.{ExpireTook}
 use Rattle.core_steps.specs.Traces.{IsRequestIn}
 
--- ---- a call behind others
+-- ---- a call after others
 
 last_of : (ys zs xs : List Entry) (e : Entry) → xs ++ e ∷ [] ≡ ys ++ zs → 1 ≤ length zs
     → (m : List Entry) × (zs ≡ m ++ e ∷ []) × (xs ≡ ys ++ m)

@@ -339,7 +339,7 @@ module _ (c : Configuration) (workers : List WorkerState) (s : WorkerState) (at 
         | inr other ↦ each k x other.1
       ]
 
-  -- whatever holds of the worker before and of it behind, or of another
+  -- whatever holds of the worker before and of it after, or of another
   pub worker_cases : (P Q : WorkerState → Type 0) (k : ℕ) → ((x : WorkerState) → slice_get workers k ≡ Some x → P x)
       → (at.worker ≡ k → P s → Q (worker_after s at)) → (at.worker ≢ k → (x : WorkerState) → P x → Q x)
       → (x : WorkerState) → slice_get (workers_by workers at) k ≡ Some x → Q x

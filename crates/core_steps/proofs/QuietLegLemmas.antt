@@ -165,7 +165,7 @@ request_in : (owner stay : ℕ) (t : Tuple) (call : DeskCall) → IsRequestIn ow
 request_in owner stay t (Stay o s change) is = (is.0, is.1.1)
 request_in owner stay t (Time moment signal) is = is
 
--- with this stay the leg's subscriber is present, 0 where it isn't; and this is the last word that it asked for in it
+-- with this stay the leg's subscriber is present, 0 if it isn't; and this is the last word that it asked for in it
 pub record IsAsking (c : Configuration) (l : LegSettings) (d : DeskState) (asked : List RecordedCall) (stay : ℕ) (word : Option ℕ) : Type 0 where
   pub stays : stay_in (now_of d).present.items (asker c l) ≡ stay
   pub holds : 1 ≤ stay → Holding c.request_ms (entries_at l.publisher asked) (asker c l) stay (asked_in (now_of d).present.items (asker c l)) word

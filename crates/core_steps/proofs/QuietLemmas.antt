@@ -145,7 +145,7 @@ kept_run c range w setup (e ∷ events) (x ∷ history) rates more asked runs he
     (subst (λ (cs : List RecordedCall). KeptIn c (worlds_after (world_after w x) history) ((rates ++ heard.0) ++ heard.1) cs)
     (append_assoc asked x.asked (calls_of history)) rest)
 
--- where none was lost in the end, none was given up
+-- if none was lost in the end, none was given up
 pub none_lost : (w : WorldState) (history : List Happening) → (worlds_after w history).lost ≡ 0
     → (w.lost ≡ 0) × (flat_map (λ (h : Happening). h.given_up) history ≡ [])
 none_lost w [] e = (e, refl)
@@ -159,7 +159,7 @@ none_lost w (h ∷ history) e =
     empty [] same = refl
     empty (x ∷ gs) same = absurd (omega (arith, same))
 
--- ---- where nothing waits
+-- ---- when nothing waits
 
 empty_list : {X : Type 0} (xs : List X) → length xs ≡ 0 → xs ≡ []
 empty_list [] same = refl
@@ -344,7 +344,7 @@ heard_in w (e ∷ events) (h ∷ history) r =
     let others = heard_in (world_after w h) events history r.1 in
     (first.0 ++ others.0, (first.0, others.0, first.1, others.1, refl))
 
--- ---- a run behind a run
+-- ---- a run after a run
 
 pub obeys : (events : List Event) (old : WorldState) (outs : List Out) (new : WorldState) (all : List Out) → HasRun events old outs new all
     → ObeysQuietLaw events old new

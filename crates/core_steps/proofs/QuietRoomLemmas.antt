@@ -17,7 +17,7 @@ use Rattle.members.specs.Calls.{Call, Hear, Bye, Tick, Select, Receive, Report, 
 use Rattle.members.proofs.StandLemmas.{Stand, StandsIn, Matches, both_present, stand_leaving, equal_of}
 use Rattle.core_steps.specs.Hearing.{leg_stay}
 
--- From this stay of the leg on, the orders end and begin stays of it in turn, up to that one; 0 where none stands. Whatever stay
+-- From this stay of the leg on, the orders end and begin stays of it in turn, up to that one; 0 if none stands. Whatever stay
 -- they begin is numbered from the bound on.
 abbrev pub Follows : ℕ → ℕ → ℕ → List Order → ℕ → Type 0
 Follows n bound now [] stands = now ≡ stands
@@ -192,7 +192,7 @@ beginnings_at (suc i) k bound begins next (l ∷ ls) least low fresh =
     )
     step false more same = same
 
--- where an endpoint is absent none of its stays stands
+-- if an endpoint is absent none of its stays stands
 absent_begins : (es : List Endpoint) (e : ℕ) (l : LegStay) → is_present_at es e ≡ false → Matches es l → begins_with es e l ≡ true → l.stay ≡ 0
 absent_begins es e l absent matches begins =
     step (l.subscriber == e) (l.publisher == e) refl refl begins

@@ -54,7 +54,7 @@ some_none x xs e = let sizes = ap length e in absurd (omega (arith, sizes))
 
 module _ (c : Configuration) (range : IsInRange c) (w : WorldState) (setup : w.setup ≡ setup_by c) (rates : List HeardRate) (asked : List RecordedCall)
     (kept : KeptIn c w rates asked) where
-  -- where no history was full and no job was given up
+  -- if no history was full and no job was given up
   abbrev pub Keeps : List HeardRate → Happening → Type 0
   Keeps more h = h.unrecorded ≡ [] → h.given_up ≡ [] → KeptIn c (world_after w h) (rates ++ more) (asked ++ h.asked)
 

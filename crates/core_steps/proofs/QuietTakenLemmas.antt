@@ -143,7 +143,7 @@ silent-moment c w r =
     (silent-legs c r w.setup.table r (enumerate_from 0 w.setup.table.legs)))
     (silent-none c r)))
 
--- ---- an entry becomes a request, where a stay stands
+-- ---- an entry becomes a request, if a stay stands
 
 abbrev one_task : LinkTable → RoomState → Ask → Option ℕ → List Task → List Task
 one_task t r a leg rest = cons_option (task_on t r a leg) rest

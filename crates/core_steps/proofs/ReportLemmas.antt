@@ -31,7 +31,7 @@ again room endpoint x y =
     ap (λ (rs : List Heard). record room { receptions = rs })
     (reported_again (is_present_at room.endpoints endpoint) room.receptions endpoint room.moment x y)
 
--- the room after the one report that is kept, where there is one
+-- the room after the one report that is kept, if there is one
 abbrev pub after_last : RoomState → ℕ → Option (ℕ × ℕ) → RoomState
 after_last room endpoint None = room
 after_last room endpoint (Some report) = after_report room endpoint report.0 report.1

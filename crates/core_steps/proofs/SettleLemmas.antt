@@ -95,7 +95,7 @@ task_one w (pulse p) h r = asks_one w (pulse p) p (Time w.room.moment signal.Tic
 task_one w (expire p) h r = asks_one w (expire p) p (Time w.room.moment signal.Expire) (slice_get w.desks p) h r
 task_one w (report p) h r = along (report p) h _ r.does (refl, refl)
 
--- what is left behind so many tasks that were done
+-- what is left after so many tasks that were done
 left_behind : (did made tasks : List Task) (pending : Option Pending) → made ≡ []
     → 2 * length (drop (length did) tasks ++ made) + pending_count pending ≤ 2 * length (drop (length did) tasks) + 1
 left_behind did made tasks pending none =

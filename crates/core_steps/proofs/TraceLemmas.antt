@@ -40,7 +40,7 @@ legal-cons : (gap ms : ℕ) (base : Base) (e : Entry) (rest : List Entry) → Is
 legal-cons gap ms base e rest is legal zero d below = is
 legal-cons gap ms base e rest is legal (suc i) d below = legal i d (omega (arith, below))
 
--- what is legal behind the first entries is legal behind them
+-- what is legal after the first entries is legal after them
 legal-join : (gap ms : ℕ) (base : Base) (first listed rest : List Entry) → IsLegalHistory gap ms base (first ++ listed)
     → IsLegalHistory gap ms (base_after ms base first) rest → IsLegalHistory gap ms base (first ++ rest)
 legal-join gap ms base [] listed rest legal more = more
@@ -398,7 +398,7 @@ stays_of_run w (e ∷ events) (h ∷ history) r =
           | inr one ↦ subst HaveStays (sym one.1) (one.2.stay, tt)
         ]
 
--- ---- what each desk announces, behind every run from a new world
+-- ---- what each desk announces, after every run from a new world
 
 pub announced_over_run : (c : Configuration) (w : WorldState) (events : List Event) (history : List Happening)
     → IsNewWorld c w → Runs w events history → (p : ℕ) → p < length c.endpoints

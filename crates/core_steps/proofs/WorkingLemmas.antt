@@ -28,7 +28,7 @@ use Rattle.core_steps.specs.WorkerSteps.{with_new_hand, IsDeskTold, world_with, 
 use Rattle.core_steps.specs.World.{Setup, Hand, free, doing, telling, WorkerState, WorldState}
 use Rattle.core_steps.proofs.RunLemmas.{settled, settled-same, giving-leads}
 
--- ---- the world behind a step
+-- ---- the world after a step
 
 abbrev working_in : WorldState → Worked → List DeskState → WorldState
 working_in v d later = record v { desks = later; workers = workers_by v.workers d }
@@ -223,7 +223,7 @@ asked-steps setup rows desks later s next outs all job q full asks told w k ther
       given = did.given;
     }
 
--- ---- the machine behind a worker's step
+-- ---- the machine after a worker's step
 
 abbrev with_both : WorldState → List DeskState → List WorkerState → WorldState
 with_both w desks workers = record w { desks = desks; workers = workers }

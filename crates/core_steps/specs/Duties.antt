@@ -39,7 +39,7 @@ HandsOut old new None = (old.tasks ≡ []) × (new ≡ old)
 HandsOut old new (Some duty) =
     (old.tasks ≡ task_by duty ∷ new.tasks) × (new ≡ record old { tasks = new.tasks })
 
--- a report to the publisher at the room's moment, with the block about it, where a packet of it was received
+-- a report to the publisher at the room's moment, with the block about it, if a packet of it was received
 pub record Reports (old : WorldState) (p : ℕ) (new : WorldState) (bytes : List ℕ) : Type 0 where
   pub block : Option Block
   pub answer : IsBlockAnswer (reception_at old.room p) old.room.moment

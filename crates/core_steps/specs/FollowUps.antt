@@ -30,7 +30,7 @@ abbrev pub tasks_due : Due → RoomState → ℕ → List Task
 tasks_due d r endpoints =
     map (task_due d) (filter (is_present_at r.endpoints) (numbers_below endpoints))
 
--- the room with this sender report of the endpoint, where there is one
+-- the room with this sender report of the endpoint, if there is one
 abbrev pub room_with_report : RoomState → ℕ → Option (ℕ × ℕ) → RoomState
 room_with_report r endpoint None = r
 room_with_report r endpoint (Some t) = after_report r endpoint t.0 t.1

@@ -1,4 +1,4 @@
--- What one event did, by lists, and the world behind it.
+-- What one event did, by lists, and the world after it.
 use Rattle.std.specs.Prelude.{ℕ, ◌+◌, ◌-◌, ◌^◌, min, List, [], ◌++◌, length, drop, fold, slice_index_or, slice_set, Option}
 use Rattle.members.specs.Calls.{Call as RoomCall, room_after}
 use Rattle.desk.specs.declared.call.Call.{Call as DeskCall}
@@ -22,7 +22,7 @@ pub record RecordedCall : Type 0 where
   pub effect : Effect
   pub desk : DeskState
 
--- what was done at a worker: jobs taken off its ring, jobs put behind those in it, and jobs finished; its hand and its legs
+-- what was done at a worker: jobs taken off its ring, jobs put after those in it, and jobs finished; its hand and its legs
 -- from then on
 pub record Worked : Type 0 where
   pub worker : ℕ
@@ -89,7 +89,7 @@ workers_by workers d =
 abbrev pub desks_by : List DeskState → RecordedCall → List DeskState
 desks_by desks a = slice_set desks a.publisher a.desk
 
--- the world behind what was done
+-- the world after what was done
 abbrev pub world_after : WorldState → Happening → WorldState
 world_after w h = record {
   setup = w.setup;

@@ -41,7 +41,7 @@ receptions endpoint leaves = []
 receptions endpoint (control speaker reports tmmbns asks) =
     option_map_or (λ (r : ℕ × ℕ). SenderReport endpoint r.0 r.1 ∷ []) (last_or None reports) []
 
--- the stay of the leg that stands in the room; 0 where none does
+-- the stay of the leg that stands in the room; 0 if none does
 abbrev pub leg_stay : RoomState → ℕ → ℕ
 leg_stay r leg = (leg_at r.legs leg).stay
 
@@ -165,7 +165,7 @@ pub record IsHearing (w : WorldState) (moment endpoint : ℕ) (bytes : List ℕ)
 abbrev pub present_endpoints : LinkTable → RoomState → List ℕ
 present_endpoints t r = filter (is_present_at r.endpoints) (numbers_below (length t.endpoints))
 
--- requests grow old only where the settings say so
+-- requests grow old only if the settings say so
 abbrev pub expires : Setup → RoomState → List Task
 expires s r = if s.request_ms == 0 then [] else map expire (present_endpoints s.table r)
 

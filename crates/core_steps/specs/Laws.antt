@@ -8,7 +8,7 @@ use Rattle.core_steps.specs.declared.ring.TheConstants.{JOB_LIMIT}
 use Rattle.core_steps.specs.Happening.{Happening, GivenUp, RecordedCall, Worked, no_worker}
 use Rattle.core_steps.specs.World.{WorldState, WorkerState}
 
--- The desk is legal behind the call, and the set that the call's effect shows is the one that is announced then.
+-- The desk is legal after the call, and the set that the call's effect shows is the one that is announced then.
 pub record TellsLegalDesk (a : RecordedCall) : Type 0 where
   pub legal : HoldsLegalDesk a.desk
   pub announced : a.effect.set.items ≡ announced_of a.desk.bounds

@@ -18,7 +18,7 @@ use Rattle.core_steps.specs.Seed.{job_of}
 use Rattle.core_steps.specs.World.{Setup, Task, order, push, pulse, expire, report, Hand, free, doing, telling, WorkerState, WorldState}
 use Rattle.notices.specs.Notification.{Pending, pending_with}
 
--- the task that follows, where the datagram has these bytes
+-- the task that follows, if the datagram has these bytes
 abbrev pub task_of : List ℕ → FollowUp → Task
 task_of bytes (Push worker seed) = push worker (job_of bytes seed)
 task_of bytes (Pulse publisher) = pulse publisher

@@ -1,4 +1,4 @@
--- A job behind those in a worker's ring.
+-- A job after those in a worker's ring.
 use Rattle.std.specs.Prelude.{◌≡◌, ℕ, nat_le, Bool, false, List, length, Option, None, Some, if◌then◌else◌}
 use Rattle.events.specs.declared.job.Job.{Job}
 use Rattle.core_steps.specs.declared.ring.TheConstants.{JOB_LIMIT}

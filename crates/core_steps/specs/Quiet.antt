@@ -97,7 +97,7 @@ words_heard leg stay rates = flat_map (word_heard leg stay) rates
 abbrev pub last_heard_word : ℕ → ℕ → List HeardRate → Option ℕ
 last_heard_word leg stay rates = last_or None (words_heard leg stay rates)
 
--- ---- where nothing waits
+-- ---- when nothing waits
 
 -- nothing waits, no job was given up, and no history was full
 pub record IsQuiet (history : List Happening) (w : WorldState) : Type 0 where
@@ -136,8 +136,8 @@ IsLiveOrTaken request_ms entries d owner stay word =
     ((tuple : Tuple) × (word_of tuple ≡ word) × (tuple_of d.bounds.rows owner ≡ Some tuple))
     ⊎ ExpireTook request_ms entries owner stay word
 
--- Each live request is the word heard last in the stay that stands; where there is such a word, it is live, unless it was asked for
--- in that stay and an expire took it; and where no stay stands, nothing is live.
+-- Each live request is the word heard last in the stay that stands; if there is such a word, it is live, unless it was asked for
+-- in that stay and an expire took it; and if no stay stands, nothing is live.
 pub record LastHeardIsLive (c : Configuration) (history : List Happening) (rates : List HeardRate)
     (w : WorldState) : Type 0 where
   pub live : (publisher owner : ℕ) (d : DeskState) (tuple : Tuple)
@@ -153,8 +153,8 @@ pub record LastHeardIsLive (c : Configuration) (history : List Happening) (rates
       → slice_get w.desks leg.publisher ≡ Some d → leg_stay w.room number ≡ 0
       → tuple_of d.bounds.rows (source_of (table_of c) leg.subscriber).0 ≡ None
 
--- Behind a run from a new world: these events have a history that leads on to the new world, with what was heard in the whole
--- run, and where that is quiet, what was heard last is live.
+-- After a run from a new world: these events have a history that leads on to the new world, with what was heard in the whole
+-- run, and if that is quiet, what was heard last is live.
 pub record LeavesLastHeardLive (c : Configuration) (start : WorldState) (before : List Event)
     (past : List Happening) (events : List Event) (old new : WorldState) : Type 0 where
   pub next : List Happening
@@ -164,7 +164,7 @@ pub record LeavesLastHeardLive (c : Configuration) (start : WorldState) (before 
   pub heard : HeardIn start (before ++ events) (past ++ next) rates
   pub live : IsQuiet (past ++ next) new → LastHeardIsLive c (past ++ next) rates new
 
--- it is so behind every run from a new world of settings, in however many calls
+-- it is so after every run from a new world of settings, in however many calls
 abbrev pub ObeysQuietLaw : List Event → WorldState → WorldState → Type 0
 ObeysQuietLaw events old new =
     (c : Configuration) (start : WorldState) (before : List Event) (past : List Happening)

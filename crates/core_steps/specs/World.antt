@@ -41,7 +41,7 @@ pub record WorkerState : Type 0 where
   pub hand : Hand
   pub legs : List LegState
 
--- the room; what waits for the ingress, oldest first, behind the notification of its last desk call; the desk of each endpoint;
+-- the room; what waits for the ingress, oldest first, after the notification of its last desk call; the desk of each endpoint;
 -- the published row of each leg; the workers; the moment of the last reports; how many jobs were given up, and how many
 -- TMMBNs were heard
 pub record WorldState : Type 0 where

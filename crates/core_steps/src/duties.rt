@@ -73,7 +73,7 @@ impl IngressCore {
     }
 
     /// A datagram came from this endpoint at this moment, in milliseconds. Appends what was
-    /// refused of it; `Busy` alone where a duty waits. Refused for want of memory alone; then nothing was done.
+    /// refused of it; `Busy` alone if a duty waits. Refused for want of memory alone; then nothing was done.
     pub fn hear(
         &mut self,
         moment: u64,
@@ -88,7 +88,7 @@ impl IngressCore {
         hear_or_busy(&mut self.front, moment, endpoint, bytes, outs)
     }
 
-    /// It is this moment. Appends nothing, but `Busy` where a duty waits. Refused for want of memory alone; then nothing
+    /// It is this moment. Appends nothing, but `Busy` if a duty waits. Refused for want of memory alone; then nothing
     /// was done.
     pub fn tick(&mut self, moment: u64, outs: &mut Vec<Out>) -> Result<(), AllocError>
         ensures ok { OnOk result (Leaves (Does self.old (Tick moment))
@@ -98,7 +98,7 @@ impl IngressCore {
         tick_or_busy(&mut self.front, moment, outs)
     }
 
-    /// The leg is selected or not from this moment on. Appends what was refused; `Busy` alone where a duty waits. Refused
+    /// The leg is selected or not from this moment on. Appends what was refused; `Busy` alone if a duty waits. Refused
     /// for want of memory alone; then nothing was done.
     pub fn select(
         &mut self,
@@ -114,7 +114,7 @@ impl IngressCore {
         select_or_busy(&mut self.front, moment, leg, on, outs)
     }
 
-    /// Takes the oldest duty; `None` where none waits. Refused where a packet's bytes have too many holders; then it still waits.
+    /// Takes the oldest duty; `None` if none waits. Refused if a packet's bytes have too many holders; then it still waits.
     pub fn next_duty(&mut self) -> Result<Option<Duty>, AllocError>
         ensures ok { IfOk result (HandsOut self.old self.new) }
         ensures err { OnErr result (self.new ≡ self.old) }
@@ -128,7 +128,7 @@ impl IngressCore {
         Ok(Some(duty))
     }
 
-    /// The report to a publisher, with the block about it, where a packet of it was received. The next block's interval
+    /// The report to a publisher, with the block about it, if a packet of it was received. The next block's interval
     /// begins where this one's ends. Refused for want of memory alone; then nothing was done.
     pub fn report(&mut self, publisher: u16) -> Result<Bytes, AllocError>
         ensures ok { IfOk result (Reports self.old publisher self.new) }
@@ -151,7 +151,7 @@ impl IngressCore {
         self.front.room.is_present(endpoint)
     }
 
-    /// The stay that stands for this leg; `None` where none does.
+    /// The stay that stands for this leg; `None` if none does.
     pub fn stay(&self, leg: u16) -> Option<u64>
         ensures { MatchOption result ((leg_at self.now.room.legs leg).stay ≡ 0)
             (λ s. (s ≢ 0) × ((leg_at self.now.room.legs leg).stay ≡ s)) }
@@ -181,7 +181,7 @@ impl IngressCore {
     }
 }
 
-/// A datagram came from this endpoint; `Busy` where a duty waits.
+/// A datagram came from this endpoint; `Busy` if a duty waits.
 fn hear_or_busy(
     front: &mut Front,
     moment: u64,
@@ -200,7 +200,7 @@ fn hear_or_busy(
     hear(front, moment, endpoint, bytes, outs)
 }
 
-/// It is this moment; `Busy` where a duty waits.
+/// It is this moment; `Busy` if a duty waits.
 fn tick_or_busy(front: &mut Front, moment: u64, outs: &mut Vec<Out>) -> Result<(), AllocError>
     ensures ok { OnOk result (Leaves (Does (alone front.old) (Tick moment))
         (alone front.old) outs.old.items (alone front.new) outs.new.items) }
@@ -213,7 +213,7 @@ fn tick_or_busy(front: &mut Front, moment: u64, outs: &mut Vec<Out>) -> Result<(
     tick(front, moment)
 }
 
-/// The leg is selected or not; `Busy` where a duty waits.
+/// The leg is selected or not; `Busy` if a duty waits.
 fn select_or_busy(
     front: &mut Front,
     moment: u64,
@@ -232,7 +232,7 @@ fn select_or_busy(
     select(front, moment, leg, on, outs)
 }
 
-/// The duty that this task is, where the datagram has these bytes.
+/// The duty that this task is, if the datagram has these bytes.
 fn duty_of(datagram: &SharedPacket, next: NextTask) -> Result<Duty, AllocError>
     ensures { IfOk result (λ duty. task_by duty ≡ task_in datagram.now next) }
 {
@@ -242,7 +242,7 @@ fn duty_of(datagram: &SharedPacket, next: NextTask) -> Result<Duty, AllocError>
     }
 }
 
-/// The duty that this follow-up is, where the datagram has these bytes.
+/// The duty that this follow-up is, if the datagram has these bytes.
 fn duty_that_follows(datagram: &SharedPacket, next: FollowUp) -> Result<Duty, AllocError>
     ensures { IfOk result (λ duty. task_by duty ≡ task_in datagram.now (AFollowUp next)) }
 {

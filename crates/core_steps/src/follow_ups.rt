@@ -91,7 +91,7 @@ pub(crate) fn push_asks(
     }
 }
 
-/// Puts a follow-up behind those that wait, or says that there is none; there is room for it.
+/// Puts a follow-up after those that wait, or says that there is none; there is room for it.
 fn push_or_refuse(next: Option<FollowUp>, follow_ups: &mut Vec<FollowUp>, outs: &mut Vec<Out>)
     requires follow_ups { vec_len follow_ups.old < vec_capacity follow_ups.old }
     requires outs { vec_len outs.old < vec_capacity outs.old }
@@ -153,7 +153,7 @@ fn seed_by(moment: u64, leg: u16, stay: u64, ask: &Ask) -> Seed
     }
 }
 
-/// Puts a follow-up behind those that wait, where there is one; there is room for it.
+/// Puts a follow-up after those that wait, if there is one; there is room for it.
 pub(crate) fn push_some(next: Option<FollowUp>, follow_ups: &mut Vec<FollowUp>)
     requires { vec_len follow_ups.old < vec_capacity follow_ups.old }
     ensures items { follow_ups.new.items ≡ follow_ups.old.items ++ option_to_list next }

@@ -37,7 +37,7 @@ pub(crate) struct Front {
 pub(crate) struct Setup {
     pub(crate) links: Links,
     pub(crate) head: Head,
-    /// 0 where requests never grow too old.
+    /// 0 if requests never grow too old.
     pub(crate) request_ms: u64,
     pub(crate) report_ms: u64,
     pub(crate) rules: LegRules,

@@ -234,7 +234,7 @@ fn hear_control(
     }
 }
 
-/// The endpoint's sender report, where there is one, came at the room's moment.
+/// The endpoint's sender report, if there is one, came at the room's moment.
 fn note_report(room: &mut Room, endpoint: u16, report: Option<(u64, u32)>)
     ensures { room.new ≡ room_with_report room.old endpoint report }
 {

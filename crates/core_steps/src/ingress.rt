@@ -63,7 +63,7 @@ fn tell(m: &mut Machine, notification: Notification, outs: &mut Vec<Out>) -> Res
     Ok(())
 }
 
-/// Does the oldest task, where one waits.
+/// Does the oldest task, if one waits.
 fn do_oldest(m: &mut Machine, outs: &mut Vec<Out>) -> Result<(), AllocError>
     requires { m.old.pending ≡ None }
     ensures ok { OnOk result (Leaves (DoesNext (state_of m.old) None (state_of m.old).tasks)
@@ -124,7 +124,7 @@ fn do_order(m: &mut Machine, order: Order, outs: &mut Vec<Out>)
     }
 }
 
-/// The row of the leg is this one from then on, where there is such a leg.
+/// The row of the leg is this one from then on, if there is such a leg.
 fn put_row(rows: &mut [Row], leg: u16, row: Row)
     ensures { rows.new ≡ slice_set rows.old leg row }
 {
@@ -221,7 +221,7 @@ fn push_seed(
     Ok(())
 }
 
-/// Puts a job into its worker's ring; it is given up where the ring is full.
+/// Puts a job into its worker's ring; it is given up if the ring is full.
 fn push(m: &mut Machine, worker: u16, job: Job, outs: &mut Vec<Out>)
     requires idle { m.old.pending ≡ None }
     requires room { vec_len outs.old < vec_capacity outs.old }
@@ -250,7 +250,7 @@ fn is_given_up(workers: &mut [Worker], worker: u16, job: Job) -> bool
     }
 }
 
-/// Puts the job behind those in the ring; answers whether the ring was full.
+/// Puts the job after those in the ring; answers whether the ring was full.
 fn put(ring: &mut JobRing, job: Job) -> bool
     ensures full { result ≡ nat_le JOB_LIMIT (length ring.old) }
     ensures jobs { ring.new ≡ (if result then ring.old else ring.old ++ job ∷ []) }

@@ -13,7 +13,7 @@ ghost use Rattle.core_steps.specs.Laws.{IsGivenUpFull, jobs_at};
 ghost use Rattle.core_steps.specs.Run.{Runs, worlds_after};
 ghost use Rattle.core_steps.specs.World.{WorldState};
 
-/// A run behind a run is one run of both lists of events.
+/// A run after a run is one run of both lists of events.
 pub fn runs_join()
     ensures { (w : WorldState) (first second : List Event) (past next : List Happening)
         → Runs w first past → Runs (worlds_after w past) second next
@@ -35,7 +35,7 @@ pub fn jobs_in_order()
         ≡ jobs_at k w ++ jobs_put k history) }
 {}
 
-/// A job is given up only where as many wait for its worker as may.
+/// A job is given up only if as many wait for its worker as may.
 pub fn given_up_where_full()
     ensures { OfEveryHappening (λ w h. AllByRecursion (IsGivenUpFull w) h.given_up) }
 {}

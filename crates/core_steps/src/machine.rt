@@ -73,7 +73,7 @@ impl Machine {
         let (_lost, _tmmbns) = (self.lost, self.front.tmmbns);
     }
 
-    /// Whether the ingress has something to do. Where it hasn't, its front may take something in.
+    /// Whether the ingress has something to do. If it hasn't, its front may take something in.
     pub(crate) fn is_busy(&self) -> bool
         ensures value { result ≡ is_busy (state_of self.now) }
         ensures front { result ≡ false → is_busy (alone self.now.front) ≡ false }

@@ -10,8 +10,8 @@ ghost use Rattle.core_steps.specs.Run.{Runs, worlds_after};
 ghost use Rattle.core_steps.specs.World.{WorldState};
 
 /// After a run that begins with a new world and leaves nothing to do, gave up no job and met no full history, each live
-/// request is the word that was heard last in the stay that stands; where one was heard, it is live, unless it was asked for in
-/// that stay and an expire took it; and where no stay stands, nothing is live.
+/// request is the word that was heard last in the stay that stands; if one was heard, it is live, unless it was asked for in
+/// that stay and an expire took it; and if no stay stands, nothing is live.
 pub fn last_heard_is_live()
     ensures { (c : Configuration) (w : WorldState) (events : List Event) (history : List Happening)
         (rates : List HeardRate)

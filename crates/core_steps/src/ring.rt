@@ -48,7 +48,7 @@ impl JobRing {
         self.jobs.len()
     }
 
-    /// Puts a job behind those that wait; a full ring hands it back.
+    /// Puts a job after those that wait; a full ring hands it back.
     pub(crate) fn push(&mut self, job: Job) -> Result<(), Job>
         ensures room { IsOk result ↔ (length self.old < JOB_LIMIT) }
         ensures put { OnOk result (self.new ≡ self.old ++ job ∷ []) }

@@ -110,7 +110,7 @@ fn step(m: &mut Machine, event: &Event, outs: &mut Vec<Out>) -> Result<(), Alloc
     }
 }
 
-/// A datagram came from this endpoint; `Busy` where something waits.
+/// A datagram came from this endpoint; `Busy` if something waits.
 fn hear_or_busy(
     m: &mut Machine,
     moment: u64,

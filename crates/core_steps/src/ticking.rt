@@ -103,7 +103,7 @@ fn push_due(room: &Room, endpoints: u16, due: Due, follow_ups: &mut Vec<FollowUp
     }
 }
 
-/// This is due to an endpoint, where it is present.
+/// This is due to an endpoint, if it is present.
 fn due_to(room: &Room, due: Due, endpoint: u16) -> Option<FollowUp>
     ensures { IsTask result (if is_present_at room.now.endpoints endpoint
         then Some (task_due due endpoint) else None) }
@@ -126,7 +126,7 @@ fn due_at(due: Due, endpoint: u16) -> FollowUp
     }
 }
 
-/// Requests that are too old are taken away, where the settings say so.
+/// Requests that are too old are taken away, if the settings say so.
 fn push_expiring(setup: &Setup, room: &Room, endpoints: u16, follow_ups: &mut Vec<FollowUp>)
     requires { vec_len follow_ups.old + endpoints ≤ vec_capacity follow_ups.old }
     ensures items { AddsTasks follow_ups.old.items follow_ups.new.items
@@ -140,7 +140,7 @@ fn push_expiring(setup: &Setup, room: &Room, endpoints: u16, follow_ups: &mut Ve
     }
 }
 
-/// Where reports are due, those present are sent one, and the subscriber of each leg in which a stay stands.
+/// If reports are due, those present are sent one, and the subscriber of each leg in which a stay stands.
 fn push_reports(
     links: &Links,
     room: &Room,

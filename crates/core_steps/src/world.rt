@@ -218,7 +218,7 @@ impl World {
         self.machine.front.room.is_present(endpoint)
     }
 
-    /// The stay that stands for this leg; `None` where none does.
+    /// The stay that stands for this leg; `None` if none does.
     pub fn stay(&self, leg: u16) -> Option<u64>
         ensures { MatchOption result ((leg_at self.now.room.legs leg).stay ≡ 0)
             (λ s. (s ≢ 0) × ((leg_at self.now.room.legs leg).stay ≡ s)) }

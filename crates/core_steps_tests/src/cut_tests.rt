@@ -117,7 +117,7 @@ fn run_cut(
     Ok(())
 }
 
-/// What was given out, and what the world behind it shows.
+/// What was given out, and what the world shows after it.
 fn text_of(alloc: Global, world: &World, outs: &[Out]) -> Result<String, fmt::Error> {
     let mut text = lines(alloc, outs)?;
     let behind = shown(alloc, world)?;

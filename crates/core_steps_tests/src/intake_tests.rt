@@ -122,7 +122,7 @@ fn hear(datagram: &[u8], own: u32, asks: &mut Vec<Ask>) -> Result<Heard, Unheard
     hear_datagram(datagram, Ssrc(own), asks)
 }
 
-/// What a datagram of this source says, and all that is asked for after it, where a picture of source 1 was asked for before.
+/// What a datagram of this source says, and all that is asked for after it, if a picture of source 1 was asked for before.
 fn heard(alloc: Global, own: u32, datagram: &[u8]) -> Result<String, Fail> {
     let mut asks = Vec::new(alloc);
     asks.push(Ask::Picture { media: Ssrc(1) })?;

@@ -8,7 +8,7 @@ pub(crate) struct Word {
     pub(crate) word: u32,
     /// No stamp is earlier: the tick that its publisher's desk had been told of when it was heard.
     earliest: u64,
-    /// No stamp is later: the moment of the first settling behind it.
+    /// No stamp is later: the moment of the first settling after it.
     latest: Option<u64>,
 }
 
@@ -105,7 +105,7 @@ impl Listener {
         }
     }
 
-    /// The endpoint asks for this word about the leg in this place: heard where it is the leg's subscriber, and its
+    /// The endpoint asks for this word about the leg in this place: heard if it is the leg's subscriber, and its
     /// publisher is present.
     fn ask(&mut self, at: usize, endpoint: u16, word: u32) {
         if let Some((subscriber, publisher)) = LEGS.get(at) {

@@ -67,7 +67,7 @@ fn after(alloc: Global, events: &[Event]) -> Option<String> {
     after_in(alloc, &mut world, events)
 }
 
-/// The same where each datagram is lent, and held by no event.
+/// The same if each datagram is lent, and held by no event.
 fn after_lent(alloc: Global, events: &[Event]) -> Option<String> {
     let mut world = new_world(alloc)?;
     let mut outs = Vec::new(alloc);
@@ -99,7 +99,7 @@ struct Trial {
     outs: Vec<Out>,
 }
 
-/// The events and a new world, made again where memory was refused for them.
+/// The events and a new world, made again if memory was refused for them.
 fn begin(alloc: Global) -> Option<Trial> {
     let events = match events(alloc) {
         Some(made) => made,
@@ -117,7 +117,7 @@ fn begin(alloc: Global) -> Option<Trial> {
     })
 }
 
-/// Does the events. Where a growth is refused, outs and world are those of the events before, and the others are done again.
+/// Does the events. If a growth is refused, outs and world are those of the events before, and the others are done again.
 fn go_through(
     rt: &impl Abort,
     alloc: Global,
@@ -135,7 +135,7 @@ fn go_through(
     Ok(())
 }
 
-/// What they left, as text; made again where memory was refused for it.
+/// What they left, as text; made again if memory was refused for it.
 fn left_by(alloc: Global, world: &World, outs: &[Out]) -> Option<String> {
     match text_of(alloc, world, outs) {
         Some(text) => Some(text),

@@ -162,7 +162,7 @@ fn want(holds: bool, what: &'static str) -> Result<(), &'static str> {
     if holds { Ok(()) } else { Err(what) }
 }
 
-/// Compares what is live with what was heard; words are missing only where requests grow old, and they are too old.
+/// Compares what is live with what was heard; words are missing only if requests grow old, and they are too old.
 fn compare(
     world: &World,
     listener: &Listener,

@@ -7,7 +7,7 @@ use std::test::Fail;
 
 pub(crate) const TIMEOUT_MS: u64 = 60;
 
-/// How old requests grow, where they do.
+/// How old requests grow, if they do.
 pub(crate) const REQUEST_MS: u64 = 40;
 
 /// The subscriber and the publisher of each leg; it is sent on as source 257 and on.
@@ -35,7 +35,7 @@ pub(crate) fn source(endpoint: u16) -> u32 {
     16 + u32::from(endpoint)
 }
 
-/// Three endpoints and five legs; where requests never grow old the age is 0.
+/// Three endpoints and five legs; if requests never grow old the age is 0.
 pub(crate) fn room(alloc: Global, request_ms: u64) -> Result<Settings, Fail> {
     let mut legs = Vec::new(alloc);
     let mut out = i64::from(FIRST_OUT);

@@ -1,4 +1,4 @@
--- What a desk holds behind a call that it recorded.
+-- What a desk holds after a call that it recorded.
 use Rattle.std.proofs.Common.{◌≡◌, ℕ, ◌+◌, ◌-◌, ◌≤◌, ◌<◌, Bool, true, false, cond, List, [], ◌∷◌, ◌++◌, length, drop, inl, inr, None, Some, refl, sym, ap, subst, ◌∙◌, arith}
 use Rattle.std.specs.Prelude.{◌↔◌, IsTrue, nat_lt, slice_get, All}
 use Rattle.std.proofs.lemmas.Bool.{cases_lt, ltb-true, lt-ltb}
@@ -35,7 +35,7 @@ nothing_first : (xs : List Entry) → slice_get xs 0 ≡ None → length xs ≡ 
 nothing_first [] none = refl
 nothing_first (x ∷ xs) none = absurd (let no : Some x ≡ None = none in cc)
 
--- an entry behind fewer than are listed pushes none out
+-- an entry after fewer than are listed pushes none out
 pub stands-listed : (request_ms : ℕ) (base : Base) (items : List Entry) (e : Entry) (capacity : ℕ) → capacity ≡ HISTORY_LIMIT
     → cond (nat_lt (length items) capacity) None (slice_get (items ++ e ∷ []) 0) ≡ None
     → StandsForEntries request_ms base (items ++ e ∷ []) base (keep_last capacity (items ++ e ∷ []))
@@ -69,7 +69,7 @@ first_out request_ms base (x ∷ rest) oldest capacity is count first =
       stands = refl;
     }
 
--- an entry behind as many as are listed pushes the oldest out
+-- an entry after as many as are listed pushes the oldest out
 pub stands-folded : (request_ms : ℕ) (base : Base) (items : List Entry) (e oldest : Entry) (capacity : ℕ) → capacity ≡ HISTORY_LIMIT
     → length items ≤ HISTORY_LIMIT
     → cond (nat_lt (length items) capacity) None (slice_get (items ++ e ∷ []) 0) ≡ Some oldest

@@ -226,7 +226,7 @@ live-aged request_ms now n present p rows rising below is old rows_rise puts =
     (λ same. differs (same ∙ sym (ap (λ (q : Present). q.owner.0) is))))
     rows_rise puts
 
--- what a walk that removes them leaves behind one more
+-- what a walk that removes them leaves after one more
 pub live_old : (request_ms now n : ℕ) (present : List Present) (p : Present) (before rows : List Request) → HasRisingOwners present
     → n < length present → before ≡ live_requests (aged request_ms now n present)
     → p ≡ get_or present n p → is_aged request_ms now p ≡ true → RowsRise rows → Puts before rows p.owner.0 None

@@ -1,4 +1,4 @@
--- After a legal history owners rise; and where an arrive is answered that there is no room, as many others are present as may be.
+-- After a legal history owners rise; and if an arrive is answered that there is no room, as many others are present as may be.
 use Rattle.std.proofs.Common.{◌≡◌, ℕ, zero, suc, ◌<◌, ◌≤◌, List, [], ◌∷◌, length, get_or, map, Bool, true, false, Option, None, Some, refl, ap, sym, subst, arith}
 use Rattle.std.specs.Prelude.{◌==◌, nat_le, not, All, if◌then◌else◌}
 use Rattle.std.specs.Option.{option_map_or}

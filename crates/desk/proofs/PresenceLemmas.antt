@@ -80,7 +80,7 @@ present_with_stay present owner from none =
     let nothing : stay_in present owner ≡ 0 = ap (λ known. option_map_or (λ (p : Present). p.stay) known 0) none in
     omega (arith, nothing, from)
 
--- and where stays are numbered from 1, no other is
+-- and if stays are numbered from 1, no other is
 pub absent_without_stay : (present : List Present) (owner : ℕ) → HasStays present → stay_in present owner ≡ 0 → presence_of present owner ≡ None
 absent_without_stay [] owner stays is = refl
 absent_without_stay (p ∷ present) owner stays is =
@@ -236,7 +236,7 @@ aged-young request_ms now zero (p ∷ present) d below young = ap (λ q. q ∷ p
 aged-young request_ms now (suc n) (p ∷ present) d below young =
     ap (λ ps. without_old request_ms now p ∷ ps) (aged-young request_ms now n present d (omega (arith, below)) young)
 
--- what an in-place walk leaves behind one more of them
+-- what an in-place walk leaves after one more of them
 pub aged_old : (request_ms now n : ℕ) (present slice : List Present) (p : Present) → n < length present → slice ≡ aged request_ms now n present
     → p ≡ get_or slice n p → is_aged request_ms now p ≡ true
     → set slice n (record { owner = p.owner; stay = p.stay; asked = None }) ≡ aged request_ms now (n + 1) present

@@ -1,4 +1,4 @@
--- What stands behind a call that isn't refused.
+-- What stands after a call that isn't refused.
 use Rattle.std.proofs.Common.{◌≡◌, ℕ, ◌≤◌, length, None, Some, refl, sym, ap, ◌∙◌, arith}
 use Rattle.std.specs.Prelude.{◌↔◌, Bool, Result, Ok, Err, IsOk, IsErr, OnOk, IsNone, Option}
 use Rattle.bounding_set.specs.declared.rows.Full.{Full as FullRows}

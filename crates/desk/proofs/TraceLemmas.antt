@@ -83,7 +83,7 @@ done_accepted gap request_ms before call answer is done = step (refusal_of befor
 pub answer_follows : (gap request_ms : ℕ) (before : Base) (e : Entry) → HasStay e.call → IsAnswerTo gap request_ms before e.call e.answer → Follows before e
 answer_follows gap request_ms before e from is = record { stay = from; accepted = done_accepted gap request_ms before e.call e.answer is }
 
--- who is present behind an answered call
+-- who is present after an answered call
 pub present-answered : (gap request_ms : ℕ) (before : Base) (e : Entry) → IsAnswerTo gap request_ms before e.call e.answer
     → (base_with request_ms before e).present.items ≡ present_with request_ms before e.call
 present-answered gap request_ms before e is = step (refusal_of before.present.items e.call) refl is
@@ -161,7 +161,7 @@ legal-push gap request_ms base entries e legal is i d below =
         subst (λ zs. IsAnswerTo gap request_ms (base_after request_ms base zs) x.call x.answer) (sym a)
         (subst (λ z. IsAnswerTo gap request_ms (base_after request_ms base ys) z.call z.answer) (sym b) h)
 
--- the first entry is the one that is owed behind the base
+-- the first entry is the one that is owed after the base
 pub legal-first : (gap request_ms : ℕ) (base : Base) (e : Entry) (rest : List Entry) → IsLegalHistory gap request_ms base (e ∷ rest)
     → IsAnswerTo gap request_ms base e.call e.answer
 legal-first gap request_ms base e rest legal = legal 0 e (omega arith)

@@ -21,7 +21,7 @@ abbrev pub moment_after : ℕ → Call → ℕ
 moment_after greatest (Stay owner stay change) = greatest
 moment_after greatest (Time moment signal) = max greatest moment
 
--- the word that is requested, 0 where none is
+-- the word that is requested, 0 if none is
 abbrev pub word_in : Change → ℕ
 word_in Arrive = 0
 word_in (Ask tuple) = word_of tuple

@@ -21,7 +21,7 @@ pub record IsLegalTrace (gap request_ms : ℕ) (base : Base) (entries : List Ent
   pub stays : All (λ e. HasStay e.call) entries
   pub legal : IsLegalHistory gap request_ms base entries
 
--- A base and a history stand for these entries behind a former base: the last of them are listed, as many as may be, and those
+-- A base and a history stand for these entries after a former base: the last of them are listed, as many as may be, and those
 -- that left are folded into the base.
 pub record StandsForEntries (request_ms : ℕ) (former : Base) (entries : List Entry) (base : Base)
     (history : List Entry) : Type 0 where
@@ -30,7 +30,7 @@ pub record StandsForEntries (request_ms : ℕ) (former : Base) (entries : List E
   pub listed : length history ≡ min HISTORY_LIMIT (length entries)
   pub stands : base ≡ base_after request_ms former folded
 
--- the entry may follow what the calls before it come to: where it was done it wasn't refused
+-- the entry may follow what the calls before it come to: if it was done it wasn't refused
 pub record Follows (before : Base) (e : Entry) : Type 0 where
   pub stay : HasStay e.call
   pub accepted : is_done e.answer ≡ true → refusal_of before.present.items e.call ≡ None

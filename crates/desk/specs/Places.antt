@@ -44,7 +44,7 @@ IsExpire (Time moment signal) = signal ≡ Expire
 
 -- ---- presence
 
--- The owner is present with this stay, and its calls from this place on count: the place behind its arrive, or the first place where
+-- The owner is present with this stay, and its calls from this place on count: the place after its arrive, or the first place where
 -- it is present in the base. No depart of it was done from there on.
 pub record IsPresentFrom (base : Base) (entries : List Entry) (owner stay from : ℕ) : Type 0 where
   pub began : ((from ≡ 0) × (stay_in base.present.items owner ≡ stay))
@@ -70,7 +70,7 @@ pub record TakesAt (request_ms : ℕ) (base : Base) (entries : List Entry)
   pub some_limit : 1 ≤ request_ms
   pub old : stamp + request_ms ≤ greatest_until base entries place
 
--- the last request of the owner that was done from this place on asks for this tuple, and no expire behind it took it
+-- the last request of the owner that was done from this place on asks for this tuple, and no expire after it took it
 pub record IsLastRequestFrom (request_ms : ℕ) (base : Base) (entries : List Entry) (owner from : ℕ)
     (tuple : Tuple) : Type 0 where
   pub asked : ℕ

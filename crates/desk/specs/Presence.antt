@@ -25,15 +25,15 @@ HasRisingOwners present = OwnersRise (λ p. p.owner.0) present
 abbrev pub HasStays : List Present → Type 0
 HasStays present = All (λ p. 1 ≤ p.stay) present
 
--- what is known of the owner, where it is present
+-- what is known of the owner, if it is present
 abbrev pub presence_of : List Present → ℕ → Option Present
 presence_of present owner = value_for (λ p. p.owner.0) (λ p. p) present owner
 
--- the stay with which the owner is present, 0 where it isn't
+-- the stay with which the owner is present, 0 if it isn't
 abbrev pub stay_in : List Present → ℕ → ℕ
 stay_in present owner = option_map_or (λ (p : Present). p.stay) (presence_of present owner) 0
 
--- what the owner asks for, where it is present
+-- what the owner asks for, if it is present
 abbrev pub asked_in : List Present → ℕ → Option Asked
 asked_in present owner = option_map_or (λ (p : Present). p.asked) (presence_of present owner) None
 
@@ -53,7 +53,7 @@ live_requests present = filter_map request_of present
 
 -- ---- age
 
--- What was asked at its stamp is too old now. Where the limit is 0 nothing ever is.
+-- What was asked at its stamp is too old now. If the limit is 0 nothing ever is.
 abbrev pub is_old : ℕ → ℕ → ℕ → Bool
 is_old request_ms now stamp = nat_lt 0 request_ms && nat_le (stamp + request_ms) now
 
@@ -62,7 +62,7 @@ unless_old request_ms now None = None
 unless_old request_ms now (Some asked) =
     if is_old request_ms now asked.stamp then None else Some asked
 
--- the owner stays, and asks for nothing any more where its request is too old
+-- the owner stays, and asks for nothing any more if its request is too old
 abbrev pub without_old : ℕ → ℕ → Present → Present
 without_old request_ms now p =
     record { owner = p.owner; stay = p.stay; asked = unless_old request_ms now p.asked }

@@ -54,7 +54,7 @@ pub record IsDueAt (gap : ℕ) (base : Base) (entries : List Entry) (place : ℕ
   pub gapped_since_base : NoneUpBefore entries place
       → IfSome base.last_up (λ up. up + gap ≤ greatest_until base entries place)
 
--- PLIs are sent upstream just where they are due
+-- PLIs are sent upstream just when they are due
 abbrev pub IsPliSchedule : ℕ → Base → List Entry → Type 0
 IsPliSchedule gap base entries = (place : ℕ) → place < length entries
     → WentUpAt entries place ↔ IsDueAt gap base entries place

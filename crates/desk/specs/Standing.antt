@@ -20,7 +20,7 @@ pub record IsStand (whole : Base) (bounds : State) : Type 0 where
   pub live : bounds.rows ≡ live_requests whole.present.items
   pub announced : AnnouncesSmallest bounds
 
--- how many are present behind a call that isn't refused, of so many before it
+-- how many are present after a call that isn't refused, of so many before it
 abbrev pub count_changed : Change → ℕ → ℕ
 count_changed Arrive count = count + 1
 count_changed (Request tuple) count = count

@@ -27,7 +27,7 @@ abbrev pub present_behind : ℕ → Base → Call → List Present
 present_behind request_ms base call =
     present_by request_ms (moment_after base.greatest call) base.present.items call
 
--- What the base and one entry come to. Who is present changes where the call was done. A PLI that was sent upstream leaves no
+-- What the base and one entry come to. Who is present changes if the call was done. A PLI that was sent upstream leaves no
 -- wish and its moment. Each entry counts, and its word.
 abbrev pub base_with : ℕ → Base → Entry → Base
 base_with request_ms base e = record {
@@ -62,20 +62,20 @@ pub record IsBase (base : Base) : Type 0 where
   pub few : length base.present.items ≤ PRESENT_LIMIT
   pub words : base.words ≤ base.calls * 2 ^ 32
 
--- ---- a call behind a trace
+-- ---- a call after a trace
 
 -- no PLI was sent upstream before, or the last one so long ago
 abbrev pub is_due : ℕ → Option ℕ → ℕ → Bool
 is_due gap last now = option_map_or (λ up. nat_le (up + gap) now) last true
 
--- A PLI is sent upstream at a `pli` or a `tick` where a picture is wanted, by this call or since the last PLI, and where that
+-- A PLI is sent upstream at a `pli` or a `tick` if a picture is wanted, by this call or since the last PLI, and if that
 -- one was sent at least the gap ago (RFC 4585, section 6.3.1; the gap is this project's own).
 abbrev pub goes_up : ℕ → Base → Call → Bool
 goes_up gap base call =
     can_send call && (wishes call || base.wanted)
     && is_due gap base.last_up (moment_after base.greatest call)
 
--- who is present behind a call, done or refused
+-- who is present after a call, done or refused
 abbrev pub present_unless : ℕ → Base → Call → Option Answer → List Present
 present_unless request_ms base call None = present_behind request_ms base call
 present_unless request_ms base call (Some refusal) = base.present.items

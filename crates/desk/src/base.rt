@@ -52,7 +52,7 @@ impl Base {
         }
     }
 
-    /// Why a call isn't done behind these; `None` where it is.
+    /// Why a call isn't done after these; `None` if it is.
     pub(crate) fn refusal(&self, call: &Call) -> Option<Answer>
         requires { IsBase self.now }
         ensures { result ≡ refusal_of self.now.present.items call.now }
@@ -60,7 +60,7 @@ impl Base {
         refusal(self.present.as_slice(), call)
     }
 
-    /// How many are present behind a call.
+    /// How many are present after a call.
     pub(crate) fn count_behind(&self, call: &Call) -> usize
         requires base { IsBase self.now }
         requires stays { HasStay call.now }
@@ -85,7 +85,7 @@ impl Base {
         }
     }
 
-    /// Whether a PLI is sent upstream at a call behind these: one is wanted, and either none was sent
+    /// Whether a PLI is sent upstream at a call after these: one is wanted, and either none was sent
     /// before, or the last one at least so many milliseconds ago.
     pub(crate) fn goes_up(&self, gap: u64, call: &Call) -> bool
         ensures { result ≡ goes_up gap self.now call.now }
@@ -119,7 +119,7 @@ impl Base {
     }
 }
 
-/// How many are present behind a call that isn't refused, of so many before it.
+/// How many are present after a call that isn't refused, of so many before it.
 fn count_by(count: usize, call: &Call) -> usize
     requires few { count ≤ PRESENT_LIMIT }
     requires some { IsDepart call.now → 1 ≤ count }

@@ -58,7 +58,7 @@ impl Call {
         }
     }
 
-    /// The word that it requests, 0 where it is no request.
+    /// The word that it requests, 0 if it is no request.
     pub fn requested_word(&self) -> u32
         ensures { result ≡ requested_word self.now }
     {
@@ -104,7 +104,7 @@ pub enum Answer {
     /// request, by rising owner from 0: that of number i, which is bit i modulo 64 of word i / 64, says
     /// that it is announced.
     Done { pli: bool, kept: [u64; KEPT_WORDS] },
-    /// 1: the owner isn't present with the stay that was named. Shows the stay with which it is; 0 where it
+    /// 1: the owner isn't present with the stay that was named. Shows the stay with which it is; 0 if it
     /// isn't present.
     NotPresent(u64),
     /// 2: the owner that arrives is present. Shows its stay.

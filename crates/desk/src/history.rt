@@ -10,7 +10,7 @@ use crate::base::Base;
 use crate::call::Entry;
 use circular_buffer::HeapCircularBuffer;
 
-/// Lists an entry behind the others. Where the list is full, its oldest entry is folded into the base.
+/// Lists an entry after the others. If the list is full, its oldest entry is folded into the base.
 pub fn list(base: &mut Base, history: &mut HeapCircularBuffer<Entry>, request_ms: u64, entry: Entry)
     requires capacity { history.old.capacity ≡ HISTORY_LIMIT }
     requires listed { length history.old.items ≤ HISTORY_LIMIT }

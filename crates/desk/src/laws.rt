@@ -32,7 +32,7 @@ pub fn folding_keeps_the_trace()
         → (base_after ms base entries).words ≡ base.words + words_of entries }
 {}
 
-/// After every legal history an owner is present with a stay exactly where it is in the base or arrived
+/// After every legal history an owner is present with a stay exactly if it is in the base or arrived
 /// with it, and no depart of it was done since.
 pub fn present_since_arrival()
     ensures { (gap ms : ℕ) (base : Base) (entries : List Entry) (owner stay : ℕ)
@@ -41,7 +41,7 @@ pub fn present_since_arrival()
         ↔ IsPresent base entries owner stay }
 {}
 
-/// What the calls of a legal history come to is a base as it should be: owners rise, so that nobody is present twice. So where an
+/// What the calls of a legal history come to is a base as it should be: owners rise, so that nobody is present twice. So if an
 /// arrive is answered `Full`, as many others are present as may be, by the trace.
 pub fn full_where_others_present()
     ensures base { (gap ms : ℕ) (base : Base) (entries : List Entry)
@@ -53,7 +53,7 @@ pub fn full_where_others_present()
 {}
 
 /// What an owner asks for that is present is the last request of it that was done since it arrived, or what
-/// it asks for in the base where none was, unless an expire took it: one at which the greatest moment is
+/// it asks for in the base if none was, unless an expire took it: one at which the greatest moment is
 /// that of the request and `ms` milliseconds more. One that isn't present asks for nothing.
 pub fn live_since_request()
     ensures absent { (gap ms : ℕ) (base : Base) (entries : List Entry) (owner : ℕ)
@@ -67,7 +67,7 @@ pub fn live_since_request()
         ↔ IsLiveFrom ms base entries owner from tuple }
 {}
 
-/// In every legal history, PLIs are sent upstream by the schedule: at a `pli` or a `tick`, where a picture
+/// In every legal history, PLIs are sent upstream by the schedule: at a `pli` or a `tick`, if a picture
 /// is still wanted and the last PLI was sent at least the gap ago (RFC 4585, section 6.3.1). It is always
 /// as late as the greatest moment that a call showed.
 pub fn plis_on_schedule()
@@ -77,7 +77,7 @@ pub fn plis_on_schedule()
         → IsGreatestUntil base entries place (greatest_until base entries place) }
 {}
 
-/// There is one such schedule: the base and the calls alone decide it. Where the same calls are answered in
+/// There is one such schedule: the base and the calls alone decide it. If the same calls are answered in
 /// two ways, and both keep to the schedule, PLIs go upstream at the same places, whatever else is answered.
 pub fn one_pli_schedule()
     ensures { (gap : ℕ) (base : Base) (entries others : List Entry) (place : ℕ)

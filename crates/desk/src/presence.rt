@@ -31,7 +31,7 @@ pub struct Present {
 /// How many owners may be present at once.
 pub const PRESENT_LIMIT: usize = MAX_REQUESTS;
 
-/// Why a call isn't done, the refusal of least number; `None` where it is.
+/// Why a call isn't done, the refusal of least number; `None` if it is.
 pub fn refusal(present: &[Present], call: &Call) -> Option<Answer>
     requires { HasRisingOwners present.now }
     ensures { result ≡ refusal_of present.now call.now }
@@ -72,7 +72,7 @@ fn refusal_in(present: &[Present], owner: Ssrc, stay: u64, change: &Change) -> O
     }
 }
 
-/// The stay with which the owner is present; 0 where it isn't.
+/// The stay with which the owner is present; 0 if it isn't.
 fn stay_of(present: &[Present], owner: Ssrc) -> u64
     requires { HasRisingOwners present.now }
     ensures { result ≡ stay_in present.now owner.0 }
@@ -130,7 +130,7 @@ fn change_stay(
     put(present, Present { owner, stay, asked });
 }
 
-/// Takes the owner out, where it is present.
+/// Takes the owner out, if it is present.
 fn leave(present: &mut ArrayVec<Present, MAX_REQUESTS>, owner: Ssrc)
     requires { HasRisingOwners present.old.items }
     ensures { present.new.items ≡ without_owner present.old.items owner.0 }

@@ -91,7 +91,7 @@ impl Standing {
     }
 }
 
-/// The answer to a call behind these calls: a refusal, or it is done in the live requests.
+/// The answer to a call after these calls: a refusal, or it is done in the live requests.
 fn owed(bounds: &mut Bounds, before: &Base, gap: u64, request_ms: u64, call: &Call) -> Answer
     requires stays { HasStay call.now }
     requires stand { IsStand before.now bounds.old }
@@ -126,7 +126,7 @@ fn done(bounds: &mut Bounds, before: &Base, gap: u64, request_ms: u64, call: &Ca
     Answer::Done { pli, kept }
 }
 
-/// Puts or removes the requests that a call is about, where it isn't refused.
+/// Puts or removes the requests that a call is about, if it isn't refused.
 fn follow(bounds: &mut Bounds, before: &Base, request_ms: u64, call: &Call)
     requires stays { HasStay call.now }
     requires accepted { refusal_of before.now.present.items call.now ≡ None }
@@ -152,7 +152,7 @@ fn follow(bounds: &mut Bounds, before: &Base, request_ms: u64, call: &Call)
     }
 }
 
-/// Puts or removes the request of an owner, where its change isn't refused.
+/// Puts or removes the request of an owner, if its change isn't refused.
 fn follow_change(bounds: &mut Bounds, before: &Base, owner: Ssrc, stay: u64, change: &Change)
     requires stays { 1 ≤ stay }
     requires accepted { refusal_in before.now.present.items owner.0 stay change.now ≡ None }

@@ -8,7 +8,7 @@ use Rattle.drawing.specs.declared.line.Line.{Line}
 use Rattle.drawing.specs.Scale.{column, row}
 
 -- At no packets, or at (4 R - 5 B) / 32 H, which leave 5 B / 4, the rate at the plot's upper edge. A difference is 0
--- where it would be negative.
+-- if it would be negative.
 abbrev pub left_of : Scale → Tuple → ℕ
 left_of s t =
     if t.overhead == 0 then LEFT

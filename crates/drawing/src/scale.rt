@@ -42,7 +42,7 @@ pub struct Scale {
 }
 
 /// The scale for these requests: the least packet rate at which one of them leaves nothing for media, and the least rate of one,
-/// of those that ask for some rate. Where there is none, 100 packets and 100,000 bits per second.
+/// of those that ask for some rate. If there is none, 100 packets and 100,000 bits per second.
 pub fn scale_of(rows: &[Request]) -> Scale
     ensures value { result ≡ scale_of rows.now }
     ensures usable { IsUsable result }

@@ -86,7 +86,7 @@ const SCREENED: Screened = Screened {
     flooded: 3,
 };
 
-/// The counts, where so much is known of what wasn't heard.
+/// The counts, if so much is known of what wasn't heard.
 fn counts(alloc: Global, unread: Option<u64>) -> Result<String, AllocError> {
     let unheard = Unheard {
         strangers: 7,

@@ -350,7 +350,7 @@ const ANSWERS: [&[u8]; 4] = [
 ];
 
 /// Rates are of the octets that were added, in bits a second, of each endpoint and of all together; they are kept for a minute, the oldest
-/// first. Where a count falls all of them are gone.
+/// first. If a count falls, all of them are gone.
 #[test]
 fn keeps_rates_for_a_minute(rt: HostRuntime) -> Result<(), Fail> {
     let alloc = rt.alloc();

@@ -142,7 +142,7 @@ const ASK_AND_MEDIA_GIVEN: &str =
 const ASK_258_AND_MEDIA_GIVEN: &str =
     "1 83cd00040000001100000000000001020007d028\n0 806000070000000000000010aa\n";
 
-/// What a subscriber asks for before its publishers are there, where requests grow too old: it is heard once a tick was made after they came.
+/// What a subscriber asks for before its publishers are there, if requests grow too old: it is heard once a tick was made after they came.
 const AGEING_CUES: [Cue; 11] = [
     Cue {
         moment: 0,
@@ -241,7 +241,7 @@ impl Source for Put<'_> {
     }
 }
 
-/// The settings of the room, where requests of this age are given up.
+/// The settings of the room, in which requests of this age are given up.
 fn room(alloc: Global, request_ms: u64) -> Result<Settings, Fail> {
     let mut text = String::new(alloc);
     write!(text, "request_ms = {request_ms}\n")?;
@@ -268,7 +268,7 @@ fn given(alloc: Global, source: &mut Holding<'_, Put<'_>>) -> Result<String, Fai
     Ok(text)
 }
 
-/// Plays the cues in the room, where requests of this age are given up.
+/// Plays the cues in the room, in which requests of this age are given up.
 fn play(rt: &impl Abort, alloc: Global, request_ms: u64, cues: &[Cue]) -> Result<(), Fail> {
     let settings = room(alloc, request_ms)?;
     let (endpoint, moment_ms) = (Cell::new(0), Cell::new(0));
@@ -295,13 +295,13 @@ fn heard_once_the_publisher_comes(rt: HostRuntime) -> Result<(), Fail> {
     play(&rt, rt.alloc(), 0, &CUES)
 }
 
-/// Where requests grow too old it is heard again once its publisher's desk was told the moment.
+/// If requests grow too old it is heard again once its publisher's desk was told the moment.
 #[test]
 fn heard_after_a_tick_if_requests_age(rt: HostRuntime) -> Result<(), Fail> {
     play(&rt, rt.alloc(), 700, &AGEING_CUES)
 }
 
-/// Where nothing is to be held, all is given as it comes.
+/// If nothing is to be held, all is given as it comes.
 #[test]
 fn given_as_it_comes(rt: HostRuntime) -> Result<(), Fail> {
     let alloc = rt.alloc();

@@ -61,7 +61,7 @@ const MEDIA: [u8; 28] = [
     0x80, 0x60, 0, 7, 0, 0, 0, 0, 0, 0, 0, 16, 0xaa, 0, 0, 0, 0, 0, 0, 0, 0, 0, 0, 0, 0, 0, 0, 0,
 ];
 
-/// A NACK of source 17 for this source with one entry, of this PID and BLP, and a PLI behind it (RFC 4585, sections 6.2.1 and 6.3.1).
+/// A NACK of source 17 for this source with one entry, of this PID and BLP, and a PLI after it (RFC 4585, sections 6.2.1 and 6.3.1).
 fn nack(media: u8, entry: [u8; 2]) -> [u8; 28] {
     let [pid, blp] = entry;
     [
@@ -80,7 +80,7 @@ struct Inlet<'a> {
 }
 
 /// What is given of a NACK with a PLI of endpoint 1 at this moment: how many bytes, the length in words of the first packet, and its
-/// first entry's PID and BLP, or 0 and 0 of the PLI's header where there is none.
+/// first entry's PID and BLP, or 0 and 0 of the PLI's header if there is none.
 fn given<S: Source + Drop>(
     screen: &mut Screen<'_, S>,
     inlet: &Inlet<'_>,
@@ -206,7 +206,7 @@ fn held_in(
     Ok(held.get())
 }
 
-/// Of a room where a number is let through once in a hundred milliseconds.
+/// Of a room in which a number is let through once in a hundred milliseconds.
 const TOO_SOON: [Deed; 8] = [
     // 100, 101 and 103.
     Deed::Ask(1000, 1, [100, 0b101], [28, 3, 100, 0b101]),
@@ -214,7 +214,7 @@ const TOO_SOON: [Deed; 8] = [
     Deed::Ask(1050, 1, [100, 0b1011], [28, 3, 102, 0b10]),
     // On the other leg none was asked for.
     Deed::Ask(1050, 2, [100, 0b1011], [28, 3, 100, 0b1011]),
-    // Of 100 and 101 none: the NACK has two words behind its header, and the PLI follows.
+    // Of 100 and 101 none: the NACK has two words after its header, and the PLI follows.
     Deed::Ask(1099, 1, [100, 0b1], HELD),
     // The gap is over, for 102 it isn't.
     Deed::Ask(1100, 1, [100, 0b11], [28, 3, 100, 0b1]),
@@ -226,7 +226,7 @@ const TOO_SOON: [Deed; 8] = [
 ];
 
 /// A number is let through once in a hundred milliseconds on each leg; what is left of an entry begins with the first number that is; a NACK
-/// of which nothing is left has no entry, and what stands behind it stays.
+/// of which nothing is left has no entry, and what stands after it stays.
 #[test]
 fn asks_again_too_soon(rt: HostRuntime) -> Result<(), Fail> {
     let held = held_in(&rt, rt.alloc(), 100, 0, &TOO_SOON)?;
@@ -234,7 +234,7 @@ fn asks_again_too_soon(rt: HostRuntime) -> Result<(), Fail> {
     Ok(())
 }
 
-/// Of a room where a number is let through once in fifty milliseconds.
+/// Of a room in which a number is let through once in fifty milliseconds.
 const WITHIN_A_TRIP: [Deed; 16] = [
     // A round trip of 200 ms on the one leg, and none that is known on the other.
     Deed::Report(1_000, 1_200),
@@ -257,7 +257,7 @@ const WITHIN_A_TRIP: [Deed; 16] = [
     Deed::Ask(30_099, 1, [100, 0], LEFT),
 ];
 
-/// Where the round trip is longer than the gap a number is let through once in that, of which a second counts at most; on a leg of which none
+/// If the round trip is longer than the gap, a number is let through once in that, of which a second counts at most; on a leg of which none
 /// is known the gap is as it was.
 #[test]
 fn asks_again_within_a_round_trip(rt: HostRuntime) -> Result<(), Fail> {
@@ -266,7 +266,7 @@ fn asks_again_within_a_round_trip(rt: HostRuntime) -> Result<(), Fail> {
     Ok(())
 }
 
-/// Of a room where half as many are let through as came.
+/// Of a room in which half as many are let through as came.
 const TOO_MANY: [Deed; 8] = [
     // Nothing came yet.
     Deed::Ask(0, 1, [7, 0], HELD),
@@ -290,7 +290,7 @@ fn asks_for_too_many(rt: HostRuntime) -> Result<(), Fail> {
     Ok(())
 }
 
-/// Two datagrams of each endpoint are heard in a millisecond; where there is no limit, all.
+/// Two datagrams of each endpoint are heard in a millisecond; if there is no limit, all.
 #[test]
 fn hears_two_in_a_millisecond(rt: HostRuntime) -> Result<(), AllocError> {
     let mut floods = Floods::new(rt.alloc(), 2, 2)?;

@@ -234,7 +234,7 @@ const OF_ANOTHER: [u8; 48] = [
     0x80, 0xc9, 0, 1, 0, 0, 0, 0x99, 0x81, 0xce, 0, 2, 0, 0, 0, 0x99, 0, 0, 1, 1,
 ];
 
-/// Feedback of another source is given so, where the rules about sources are strict or not.
+/// Feedback of another source is given so, with rules about sources that are strict or not.
 fn gives_feedback(
     rt: &impl Abort,
     alloc: Global,
@@ -263,7 +263,7 @@ const UNDER_16: [&str; 2] = [
     "80c9000100000010",
 ];
 
-/// Feedback under a source that a client made up is the endpoint's, but where the rules are strict; what a sender report says is its own.
+/// Feedback under a source that a client made up is the endpoint's, unless the rules are strict; what a sender report says is its own.
 /// So is a report of eight bytes that comes alone.
 #[test]
 fn feedback_under_another_source(rt: HostRuntime) -> Result<(), Fail> {

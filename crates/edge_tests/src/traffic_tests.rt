@@ -133,7 +133,7 @@ const fn sent_at(moment: u32) -> Option<SentReport> {
     })
 }
 
-/// The round trip after this block, which comes at this moment, where 7 was known.
+/// The round trip after this block, which comes at this moment, if 7 was known.
 fn trip_after(block: &Block, sent: Option<SentReport>, moment: u64) -> Option<u32> {
     let known = ReceptionReport {
         fraction: 0,

@@ -86,8 +86,8 @@ EndsAsFailed (RefusedLine line fault) old new s =
     EndsSaying status.Refused (refused_text (record { line = line; fault = fault })) old new s
     ⊎ EndsWanting old new s
 
--- What the error output says of a status: nothing where the command is done, else why it isn't. What refuses a line or
--- words is said elsewhere; and where the error output fails, nothing is.
+-- What the error output says of a status: nothing if the command is done, else why it isn't. What refuses a line or
+-- words is said elsewhere; and if the error output fails, nothing is.
 pub record SaysWhy (old new : Option (List ℕ)) (s : Status) : Type 0 where
   pub done : s ≡ status.Done → Keeps old new
   pub no_memory : s ≡ status.NoMemory → Appends old new (codes "no memory\n")

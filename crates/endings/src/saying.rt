@@ -32,7 +32,7 @@ pub fn report_words<E: Write>(errors: &mut E, error: &io::Error) -> Status
     say(errors, b"a word is no text\n", Status::CommandLine)
 }
 
-/// Says on the error output why a command isn't done. Where memory is wanting for a line, says that.
+/// Says on the error output why a command isn't done. If memory is wanting for a line, says that.
 pub fn report<E: Write>(alloc: Global, errors: &mut E, failure: Failure) -> Status
     ensures { ShowsFailure failure (E.contents errors.old) (E.contents errors.new) result }
 {
@@ -46,7 +46,7 @@ pub fn report<E: Write>(alloc: Global, errors: &mut E, failure: Failure) -> Stat
     }
 }
 
-/// Says on the error output why there are no settings in a file. Where memory is wanting for a line, says that.
+/// Says on the error output why there are no settings in a file. If memory is wanting for a line, says that.
 pub fn report_settings<E: Write>(alloc: Global, errors: &mut E, problem: &SettingsProblem) -> Status
     ensures failed { (result ≢ Status.Done) × (result ≢ Status.Refused)
         × (result ≢ Status.CommandLine) }

@@ -30,7 +30,7 @@ pub enum Job {
         moment: u64,
     },
     /// The subscriber of the leg is sent a report in this stay: the NTP and RTP timestamps of the publisher's last
-    /// sender report, where there is one (RFC 3550, section 6.4).
+    /// sender report, if there is one (RFC 3550, section 6.4).
     Report {
         leg: u16,
         stay: u64,

@@ -105,7 +105,7 @@ pub something_asked : (t : Terms) (f : ForwarderState) (job : Job) (a : Asking) 
     → QuestionOf f job (Some q) → Notifies t f.notifier (Some q) a result → Feeds t f job a result
 something_asked t f job a result q names notifies = record { question = Some q; names = names; notifies = notifies }
 
--- where nothing changed, a picture that is wanted is all that is told
+-- if nothing changed, a picture that is wanted is all that is told
 pub picture_only : (t : LinkTable) (u : Identity) (rows : List Row) (publisher : ℕ) (e : Effect) → e.lifted.items ≡ [] → e.fresh.items ≡ []
     → notification_datagrams t u rows (picture_of publisher) e ≡ picture_upstream t u (picture_of publisher)
 picture_only t u rows publisher e lifted fresh =

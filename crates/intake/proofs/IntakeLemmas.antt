@@ -1,4 +1,4 @@
--- What packets say one behind the other, and what is kept of it.
+-- What packets say one after the other, and what is kept of it.
 use Rattle.std.proofs.Common.{◌≡◌, ◌∙◌, ℕ, ◌+◌, ◌≤◌, inr, Bool, true, false, List, [], ◌∷◌, ◌++◌, length, map, Option, None, Some, Result, Ok, Err, refl, sym, ap, ap₂, arith, append_assoc, add_assoc, add-zero, zero-add, eqb}
 use Rattle.std.specs.Prelude.{◌==◌, ◌||◌, not, cond}
 use Rattle.std.specs.List.{flat_map, last_or}
@@ -45,7 +45,7 @@ joined_assoc a b c = λ i. record {
   asks = sym (append_assoc a.asks b.asks c.asks) i;
 }
 
--- what is said behind this gist, with it
+-- what is said after this gist, with it
 abbrev pub behind : Gist → Result Gist FbFault → Result Gist FbFault
 behind a (Ok b) = Ok (joint_gist a b)
 behind a (Err fault) = Err fault
@@ -112,7 +112,7 @@ kept_of_both own x y z a b sx sy goodbye asking speaker report tmmbns = record {
   tmmbns = tmmbns ∙ ap₂ (λ (p q : ℕ). p + q) sx.tmmbns sy.tmmbns;
 }
 
--- where nobody leaves, what is kept is what is heard
+-- if nobody leaves, what is kept is what is heard
 pub control_said : (own : ℕ) (s : Survey) (g : Gist) → IsSurveyOf own s g → s.goodbye ≡ false
     → control (speaker_of own g.senders) g.reports g.tmmbns (heeded g.asks) ≡ said_by own g
 control_said own s g is stays = sym (cond-false _ _ _ (sym is.goodbye ∙ stays))

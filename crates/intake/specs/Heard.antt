@@ -73,12 +73,12 @@ abbrev pub Surveys : ℕ → (Result Gist FbFault → Type 0) → Result Survey 
 Surveys own says r =
     MatchResult r (λ s. (g : Gist) × says (Ok g) × IsSurveyOf own s g) (λ fault. says (Err fault))
 
--- a call appends all of this, or nothing where memory is wanted
+-- a call appends all of this, or nothing if memory is wanted
 abbrev pub Appends : {E : Type 0} → List Ask → List Ask → List Ask → Result (Unit {0}) E → Type 0
 Appends before after more r =
     MatchResult r (λ _. after ≡ before ++ more) (λ _. (0 < length more) × (after ≡ before))
 
--- a call appends all of this, or something where memory is wanted
+-- a call appends all of this, or something if memory is wanted
 abbrev pub Fills : {E : Type 0} → List Ask → List Ask → List Ask → Result (Unit {0}) E → Type 0
 Fills before after more r =
     MatchResult r (λ _. after ≡ before ++ more)

@@ -58,7 +58,7 @@ pub enum Heard {
 pub struct Control {
     /// The first sender of a report or of feedback that isn't the endpoint's own source, else that.
     pub speaker: Ssrc,
-    /// The last sender report's NTP and RTP timestamps, where there is one (RFC 3550, section 6.4.1).
+    /// The last sender report's NTP and RTP timestamps, if there is one (RFC 3550, section 6.4.1).
     pub report: Option<(u64, u32)>,
     /// How many TMMBNs there are (RFC 5104, section 4.2.2).
     pub tmmbns: u64,
@@ -73,10 +73,10 @@ pub enum Unheard {
     Refused(Refusal),
 }
 
-/// Reads a datagram of the endpoint with this source: RTCP where the second byte is 192 to 223 (RFC
+/// Reads a datagram of the endpoint with this source: RTCP if the second byte is 192 to 223 (RFC
 /// 5761, section 4), else RTP. Answers what it says, and appends what it asks for in the order of packets
 /// and entries, the first `MAX_ENTRIES` of them; a NACK or a TMMBR without entries asks for nothing. All of it is read
-/// before memory is wanted, so a refusal comes before `NoMemory`. Where the datagram isn't heard, `asks` is as it was.
+/// before memory is wanted, so a refusal comes before `NoMemory`. If the datagram isn't heard, `asks` is as it was.
 pub fn hear_datagram(datagram: &[u8], own: Ssrc, asks: &mut Vec<Ask>) -> Result<Heard, Unheard>
     ensures { Hears own.0 datagram.now asks.old.items asks.new.items result }
 {

@@ -49,7 +49,7 @@ met P legs i s h at = subst P (get_or_from_slice_get legs i s s at) (h i s (slic
 
 -- ---- jobs that concern no leg, or one
 
--- where each leg does nothing, nothing is planned
+-- if each leg does nothing, nothing is planned
 silent : (rows : List Row) (work : Job) (Q : LegState → Type 0) (n : ℕ) (legs : List LegState)
     → ((k : ℕ) (s : LegState) → Q s → leg_plan rows work (k, s) ≡ []) → All Q legs
     → flat_map (leg_plan rows work) (enumerate_from n legs) ≡ []
@@ -90,7 +90,7 @@ stands_only rows leg stay s t here other =
     let same : s.number ≡ leg = number_of (s.number == leg) s.number leg _ refl here in
     ap (λ (x : Bool). x && (not (stay == 0) && ((row_of rows t).stay == stay))) (no_number t.number leg (λ e. other (e ∙ sym same)))
 
--- where the stay stands nowhere, its jobs plan nothing
+-- if the stay stands nowhere, its jobs plan nothing
 pub nowhere_resend : (rows : List Row) (leg stay : ℕ) (nack : Nack) (legs : List LegState)
     → IsNowhere rows leg stay legs → job_plan rows legs (job.Resend leg stay nack) ≡ []
 nowhere_resend rows leg stay nack legs h =
@@ -104,7 +104,7 @@ nowhere_report rows leg stay sr legs h =
 on : (b : Bool) (x y : List Planned) → b ≡ true → (if b then x else y) ≡ x
 on b x y h = ap (λ (c : Bool). if c then x else y) h
 
--- where the stay stands on a leg, its jobs plan what that leg does
+-- if the stay stands on a leg, its jobs plan what that leg does
 pub standing_resend : (rows : List Row) (leg stay place : ℕ) (nack : Nack) (legs : List LegState) (s : LegState)
     → IsStandingAt rows leg stay legs place s
     → job_plan rows legs (job.Resend leg stay nack) ≡ resends place s (lost_numbers nack)
@@ -125,13 +125,13 @@ standing_report rows leg stay place sr legs s h =
 
 -- ---- goodbyes
 
--- where no leg has the number, its goodbye plans nothing
+-- if no leg has the number, its goodbye plans nothing
 pub nowhere_goodbye : (rows : List Row) (leg : ℕ) (legs : List LegState) → HasNoNumber leg legs
     → job_plan rows legs (job.Goodbye leg) ≡ []
 nowhere_goodbye rows leg legs h =
     silent rows (job.Goodbye leg) (λ s. (s.number == leg) ≡ false) 0 legs (λ k s quiet. off _ _ _ quiet) h
 
--- where a leg has it, its goodbye is planned
+-- if a leg has it, its goodbye is planned
 pub numbered_goodbye : (rows : List Row) (leg : ℕ) (legs : List LegState) (s : LegState) → IsNumbered leg legs s
     → job_plan rows legs (job.Goodbye leg) ≡ sent_alone s.link.subscriber (leg_goodbye_bytes s) ∷ []
 numbered_goodbye rows leg legs s h =
@@ -228,7 +228,7 @@ pub number_at : (number place : ℕ) (legs : List LegState) → leg_place number
     → HasNumberAt number place legs
 number_at number place legs found = number_from number place legs [] 0 legs refl refl found
 
--- where no place is found no leg has the number
+-- if no place is found no leg has the number
 no_place : (number n : ℕ) (legs : List LegState) → leg_place number (enumerate_from n legs) ≡ None → All (λ s. s.number ≢ number) legs
 no_place number n [] none = All-nil (λ s. s.number ≢ number)
 no_place number n (s ∷ legs) none =
@@ -243,12 +243,12 @@ no_place number n (s ∷ legs) none =
     All-cons (λ t. t.number ≢ number) s legs h.1 (no_place number (n + 1) legs (sym later ∙ none)))
     (eqb_tells s.number number)
 
--- where no place is found, none has the number
+-- if no place is found, none has the number
 pub none_numbered : (number : ℕ) (legs : List LegState) → leg_place number (enumerate_from 0 legs) ≡ None → HasNoNumber number legs
 none_numbered number legs none = λ k d below.
     no_number (slice_index_or legs k d).number number (no_place number 0 legs none k d below)
 
--- the stay stands nowhere where no leg has the number
+-- the stay stands nowhere if no leg has the number
 pub nowhere_without : (rows : List Row) (number stay : ℕ) (legs : List LegState) → leg_place number (enumerate_from 0 legs) ≡ None
     → IsNowhere rows number stay legs
 nowhere_without rows number stay legs none = λ k d below.
@@ -271,7 +271,7 @@ both_false : (a b : Bool) → b ≡ false → (a && b) ≡ false
 both_false true b h = h
 both_false false b h = refl
 
--- the stay stands nowhere where it doesn't stand on the leg with the number
+-- the stay stands nowhere if it doesn't stand on the leg with the number
 pub nowhere_beside : (rows : List Row) (number stay place : ℕ) (legs : List LegState) (s : LegState) → IsRising legs
     → slice_get legs place ≡ Some s → s.number ≡ number → (not (stay == 0) && ((row_of rows s).stay == stay)) ≡ false
     → IsNowhere rows number stay legs

@@ -364,7 +364,7 @@ impl Legs {
         Some(leg)
     }
 
-    /// The leg with this number and its place, where this stay stands on it.
+    /// The leg with this number and its place, if this stay stands on it.
     fn standing(&self, rows: &[Row], number: u16, stay: u64) -> Option<(u16, &LegState)>
         ensures { MatchOption result (IsNowhere rows.now number stay self.now)
             (λ found. IsStandingAt rows.now number stay self.now found.0 found.1.now) }

@@ -125,7 +125,7 @@ fn save(spare: &mut Vec<Vec<u8>>, buffer: Vec<u8>)
     }
 }
 
-/// Puts a packet by, where it is one and nobody else holds it, if there is room for it.
+/// Puts a packet by if it is one, nobody else holds it, and there is room for it.
 fn save_packet(spare: &mut Vec<SharedBytes>, packet: Option<Readdressed>) {
     let Some(packet) = packet else {
         return;
@@ -137,7 +137,7 @@ fn save_packet(spare: &mut Vec<SharedBytes>, packet: Option<Readdressed>) {
     }
 }
 
-/// The buffer that was put by last, which is then no spare one; a new one where there is none.
+/// The buffer that was put by last, which is then no spare one; a new one if there is none.
 fn taken(spare: &mut Vec<Vec<u8>>, alloc: Global) -> Vec<u8>
     ensures last { (d : Buffer ℕ) → 0 < vec_len spare.old
         → result ≡ slice_index_or spare.old.items (vec_len spare.old - 1) d }

@@ -72,7 +72,7 @@ pub fn plan_packet(
     }
 }
 
-/// What the leg at this place does where a packet with this sequence number is wanted again.
+/// What the leg at this place does if a packet with this sequence number is wanted again.
 fn plan_again(
     leg: &LegState,
     alloc: Global,
@@ -108,7 +108,7 @@ fn plan_again(
     }
 }
 
-/// Plans what the leg at this place does where packets with these sequence numbers are wanted again.
+/// Plans what the leg at this place does if packets with these sequence numbers are wanted again.
 pub fn plan_resends(
     leg: &LegState,
     alloc: Global,

@@ -87,7 +87,7 @@ left_endpoints t m s (suc n) = step (is_overdue_at t m (after_overdue t m s n).e
 
 -- ---- what a room holds of a last hear
 
--- the last hear, where it was less than the timeout ago
+-- the last hear, if it was less than the timeout ago
 abbrev pub fresh : ℕ → ℕ → Option ℕ → Option ℕ
 fresh t m heard = if is_recent t m heard then heard else None
 
@@ -108,7 +108,7 @@ is_some-fresh t m (Some h) = some_recent t m h
     some_recent : (t m h : ℕ) → is_some (fresh t m (Some h)) ≡ is_recent t m (Some h)
     some_recent t m h = grind (arith, nat_tests)
 
--- what a call leaves of one endpoint, where the room held its last hear
+-- what a call leaves of one endpoint, if the room held its last hear
 pub record Keeps (e : ℕ) (heard : Option ℕ) (r : RoomState) (c : Call) (step : Step) : Type 0 where
   pub timeout : step.room.timeout ≡ r.timeout
   pub moment : step.room.moment ≡ max r.moment (moment_of c)

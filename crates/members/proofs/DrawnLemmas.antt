@@ -62,7 +62,7 @@ none_gone t e none = step (is_present_at t.endpoints e)
     step true = none_leave t e none
     step false = none
 
--- a stay that begins draws its number alone: where the leg is selected it is its turn too
+-- a stay that begins draws its number alone: if the leg is selected it is its turn too
 one_beginning : (k next : ℕ) (l : LegStay) → drawn_numbers (Arrive k next ∷ Route k next (cond l.selected next l.turn) l.selected ∷ []) ≡ next ∷ []
 one_beginning k next l = step l.selected
   where

@@ -303,7 +303,7 @@ once_call past r (MakeBlock e) h = h
 
 -- ---- every list of calls
 
--- orders count alike before and behind
+-- orders count alike before and after
 once_moved : (past : List ℕ) (orders more : List Order) (next : ℕ) (ls : List LegStay)
     → Once (past ++ departures orders) more next ls → Once past (orders ++ more) next ls
 once_moved past orders more next ls h = record {

@@ -83,7 +83,7 @@ fades_switched (suc k) (l ∷ ls) (suc n) next on =
 
 -- ---- stays begin
 
--- what becomes of the leg of this number where stays are numbered from the next
+-- what becomes of the leg of this number if stays are numbered from the next
 record Starts (k next : ℕ) (begins : LegStay → Bool) (ls ms : List LegStay) : Type 0 where
   count : length ms ≡ length ls
   subscriber : (leg_at ms k).subscriber ≡ (leg_at ls k).subscriber

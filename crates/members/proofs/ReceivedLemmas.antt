@@ -80,7 +80,7 @@ present_recent r m e heard more b =
 
 -- ---- one call
 
--- what is held of the endpoint, where it is present, are these calls
+-- what is held of the endpoint, if it is present, are these calls
 record Holds (e : ℕ) (since : List ReceptionCall) (r : RoomState) : Type 0 where
   counted : length r.receptions ≡ length r.endpoints
   held : is_present_at r.endpoints e ≡ true → get_or r.receptions e nothing_heard ≡ reception_of since

@@ -46,7 +46,7 @@ told_all more old new (Some orders) tells some =
 
 -- ---- legs
 
--- what is told at a place, and then behind it, is what is told from the place on
+-- what is told at a place, and then after it, is what is told from the place on
 pub tells_next : (f : ℕ × LegStay → List Order) (legs : List LegStay) (k : ℕ) (d : LegStay) (a b c : Option (List Order)) → k < length legs
     → Tells a (f (k, get_or legs k d)) b
     → Tells b (flat_map f (enumerate_from (k + 1) (drop (k + 1) legs))) c → Tells a (flat_map f (enumerate_from k (drop k legs))) c
@@ -90,7 +90,7 @@ pub quiet_more : (timeout moment : ℕ) (es : List Endpoint) (k : ℕ) (d : Endp
 quiet_more timeout moment es k d below before here =
     rw (take_more es k d below) (All-push (λ e. is_overdue timeout moment e ≡ false) (take k es) (get_or es k d) before here)
 
--- where nobody is overdue nobody leaves
+-- if nobody is overdue nobody leaves
 pub leaving_quiet : (timeout moment : ℕ) (es : List Endpoint) (ls : List LegStay) → All (λ e. is_overdue timeout moment e ≡ false) es
     → leaving timeout moment es ls ≡ without_orders es ls
 unfolding leaving
@@ -150,7 +150,7 @@ never_reached timeout first moment (e ∷ es) more reached nobody =
 less_than : (a b : ℕ) → a < b → nat_lt a b ≡ true
 less_than a b less = grind (arith, nat_tests)
 
--- so where nobody is overdue the first moment is still to come
+-- so if nobody is overdue the first moment is still to come
 pub still_to_come : (timeout first moment : ℕ) (es : List Endpoint) → (first < LAST_MOMENT → list_any (is_overdue timeout first) es ≡ true)
     → moment < LAST_MOMENT → NobodyOverdue timeout moment es → nat_lt moment first ≡ true
 still_to_come timeout first moment es reached bound nobody = elim (cases_lt moment first) [

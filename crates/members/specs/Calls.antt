@@ -65,7 +65,7 @@ accepted_calls r (c ∷ calls) =
 
 -- ---- presence, by the whole list of accepted calls
 
--- the moment that a call is handed; 0 where it is handed none
+-- the moment that a call is handed; 0 if it is handed none
 abbrev pub moment_of : Call → ℕ
 moment_of (Hear moment endpoint ssrc) = moment
 moment_of (Bye moment endpoint) = moment
@@ -91,7 +91,7 @@ heard_by endpoint moment heard (Receive other seq timestamp) = heard
 heard_by endpoint moment heard (Report other ntp rtp) = heard
 heard_by endpoint moment heard (MakeBlock other) = heard
 
--- the greatest moment up to the endpoint's last hear, where no goodbye of it came after
+-- the greatest moment up to the endpoint's last hear, if no goodbye of it came after
 abbrev pub last_heard : ℕ → ℕ → Option ℕ → List Call → Option ℕ
 last_heard endpoint moment heard [] = heard
 last_heard endpoint moment heard (c ∷ calls) =
@@ -135,7 +135,7 @@ reception_call endpoint moment (Report other ntp rtp) =
     else []
 reception_call endpoint moment (MakeBlock other) = if other == endpoint then BlockMade ∷ [] else []
 
--- these, and that of one more call, begun anew where the endpoint comes by it
+-- these, and that of one more call, begun anew if the endpoint comes by it
 abbrev pub received_by : ℕ → ℕ → ℕ → Option ℕ → List ReceptionCall → Call → List ReceptionCall
 received_by timeout endpoint moment heard since c =
     if comes_by timeout endpoint moment heard c then []
@@ -150,7 +150,7 @@ received_since timeout endpoint moment heard since (c ∷ calls) =
     received_since timeout endpoint now (heard_by endpoint now heard c)
     (received_by timeout endpoint now heard since c) calls
 
--- the reception calls of the endpoint in its present presence: none where it is absent
+-- the reception calls of the endpoint in its present presence: none if it is absent
 abbrev pub received_in_presence : ℕ → ℕ → List Call → List ReceptionCall
 received_in_presence timeout endpoint calls =
     if is_present_after timeout endpoint calls then received_since timeout endpoint 0 None [] calls
@@ -176,7 +176,7 @@ pub record IsOnePresence (s : Configuration) (endpoint : ℕ) (before all : List
   pub same : comings s.timeout_ms endpoint (accepted_calls (new_room s) all)
       ≡ comings s.timeout_ms endpoint (accepted_calls (new_room s) before)
 
--- the stay of the leg of this number after these calls; 0 where none stands
+-- the stay of the leg of this number after these calls; 0 if none stands
 abbrev pub stay_after : Configuration → List Call → ℕ → ℕ
 stay_after s calls leg = (leg_at (room_after (new_room s) calls).legs leg).stay
 
@@ -191,7 +191,7 @@ arrival_of (Route leg stay turn on) = []
 abbrev pub arrivals : List Order → List ℕ
 arrivals orders = flat_map arrival_of orders
 
--- A stay's number is drawn as it begins. A row that is on begins a turn: that of the stay's number where it is the first,
+-- A stay's number is drawn as it begins. A row that is on begins a turn: that of the stay's number if it is the first,
 -- else one that is drawn for it.
 abbrev pub drawn_of : Order → List ℕ
 drawn_of (Arrive leg stay) = stay ∷ []

@@ -180,7 +180,7 @@ AnswersBlock before [] report moment source answer = answer ≡ None
 AnswersBlock before (first ∷ rest) report moment source answer =
     IsSomeAnd answer (IsBlockAbout before (first ∷ rest) report moment source)
 
--- the answer to the wish for a block after these calls: None exactly where no packet was received
+-- the answer to the wish for a block after these calls: None exactly if no packet was received
 abbrev pub IsBlockAfter : List ReceptionCall → ℕ → Ssrc → Option Block → Type 0
 IsBlockAfter calls moment source answer =
     AnswersBlock (packets_before_block calls) (counted_packets calls)

@@ -95,14 +95,14 @@ leg_at legs number = slice_index_or legs number no_leg
 abbrev pub is_selected : Bool → LegStay → Bool
 is_selected on l = if on then l.selected else not l.selected
 
--- switching on takes a new number as turn, where a stay stands
+-- switching on takes a new number as turn, if a stay stands
 abbrev pub takes_turn : Bool → LegStay → Bool
 takes_turn on l = on && not (l.stay == 0)
 
 abbrev pub switched_leg : Bool → ℕ → LegStay → LegStay
 switched_leg on next l = record l { selected = on; turn = if takes_turn on l then next else l.turn }
 
--- the leg's row as it is now, where a stay stands
+-- the leg's row as it is now, if a stay stands
 abbrev pub row_order : ℕ → LegStay → List Order
 row_order number l = if l.stay == 0 then [] else Route number l.stay l.turn l.selected ∷ []
 
@@ -116,7 +116,7 @@ with_leg t number l = record {
 abbrev pub next_after : Bool → ℕ → LegStay → ℕ
 next_after on next l = if takes_turn on l then next + 1 else next
 
--- another selection than the leg has is noted, and its row changes where a stay stands
+-- another selection than the leg has is noted, and its row changes if a stay stands
 abbrev pub selected_step : RoomState → ℕ → Told → ℕ → Bool → LegStay → Result Step RoomFault
 selected_step r moment t number on l =
     if is_selected on l then Ok (step_with r moment r.next t)
@@ -138,7 +138,7 @@ TakesStep step orders new new_orders = (new ≡ step.room) × (new_orders ≡ or
 abbrev pub ChangesNothing : RoomState → List Order → RoomState → List Order → Type 0
 ChangesNothing old orders new new_orders = (new ≡ old) × (new_orders ≡ orders)
 
--- What a call answers and leaves. Where its step is a fault it is refused with that, and else for want of memory alone.
+-- What a call answers and leaves. If its step is a fault it is refused with that, and else for want of memory alone.
 -- Refused it changes nothing; else it takes its step.
 pub record Answers (old : RoomState) (orders : List Order) (step : Result Step RoomFault)
     (result : Result (Unit {0}) RoomFault) (new : RoomState)
@@ -155,13 +155,13 @@ IsCalm r handed =
 
 -- ---- what is received
 
--- what was received of the endpoint in its present presence: nothing where it is absent
+-- what was received of the endpoint in its present presence: nothing if it is absent
 abbrev pub reception_at : RoomState → ℕ → Heard
 reception_at r endpoint =
     if is_present_at r.endpoints endpoint then slice_index_or r.receptions endpoint nothing_heard
     else nothing_heard
 
--- the room with this as what was received of the endpoint, where it is present
+-- the room with this as what was received of the endpoint, if it is present
 abbrev pub with_reception : RoomState → ℕ → Heard → RoomState
 with_reception r endpoint h = record r {
   receptions = if is_present_at r.endpoints endpoint then slice_set r.receptions endpoint h

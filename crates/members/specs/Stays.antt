@@ -102,12 +102,12 @@ come t moment next endpoint = record {
   orders = t.orders ++ coming_orders t.endpoints endpoint next t.legs;
 }
 
--- orders in the making, with more behind them; None once no memory was left for one
+-- orders in the making, with more after them; None once no memory was left for one
 abbrev pub told_more : Option (List Order) → List Order → Option (List Order)
 told_more None more = None
 told_more (Some orders) more = Some (orders ++ more)
 
--- The draft holds the orders that it held and these behind them, unless it is short.
+-- The draft holds the orders that it held and these after them, unless it is short.
 pub record Tells (old : Option (List Order)) (more : List Order)
     (new : Option (List Order)) : Type 0 where
   pub ends : (orders : List Order) → new ≡ Some orders → told_more old more ≡ Some orders

@@ -40,8 +40,8 @@ pub fn numbers_run()
         (drawn_numbers (orders_after (new_room s) calls)) (room_after (new_room s) calls).next }
 {}
 
-/// A stay's number is that of one presence of its leg's subscriber and of one of its publisher: where
-/// a stay stands after some calls, it is the same after more of them exactly where each is in the presence
+/// A stay's number is that of one presence of its leg's subscriber and of one of its publisher: if
+/// a stay stands after some calls, it is the same after more of them exactly if each is in the presence
 /// that it was in.
 pub fn stays_number_presences()
     ensures { (s : Configuration) (before after : List Call) (leg : ℕ)
@@ -83,7 +83,7 @@ pub fn receives()
 
 /// After any calls of a new room what it holds of an endpoint's reception, and the answer to a wish for a
 /// block about it, are what the reception calls of the endpoint in its present presence come to: those since
-/// it last came, each at the greatest moment handed in before it; none where it is absent.
+/// it last came, each at the greatest moment handed in before it; none if it is absent.
 pub fn receives_since_it_came()
     ensures values { (s : Configuration) (calls : List Call) (endpoint : ℕ)
         → IsInRange s → endpoint < length s.endpoints

@@ -18,7 +18,7 @@ pub enum Order {
         leg: u16,
         stay: u64,
     },
-    /// The leg's row is from now on this one; the stay is 0 where none stands.
+    /// The leg's row is from now on this one; the stay is 0 if none stands.
     Route {
         leg: u16,
         stay: u64,
@@ -30,7 +30,7 @@ pub enum Order {
 /// A row of the route table: what is forwarded on a leg.
 #[derive(Clone, Copy, Debug, PartialEq, Eq)]
 pub struct Row {
-    /// The stay that stands; 0 where none does.
+    /// The stay that stands; 0 if none does.
     pub stay: u64,
     /// The turn of what is forwarded; 0 before the first.
     pub turn: u64,
@@ -84,7 +84,7 @@ impl Draft {
         }
     }
 
-    /// Appends the orders. Refused where they are short, or where no memory is left; then nothing is
+    /// Appends the orders. Refused if they are short, or if no memory is left; then nothing is
     /// appended.
     pub fn append_to(&self, orders: &mut Vec<Order>) -> Result<(), AllocError>
         ensures ok { OnOk result

@@ -68,7 +68,7 @@ pub fn is_present_at(endpoints: &[Endpoint], number: usize) -> bool
     }
 }
 
-/// The first moment at which an endpoint is overdue; the last moment of all where there is none before it.
+/// The first moment at which an endpoint is overdue; the last moment of all if there is none before it.
 pub fn first_overdue(endpoints: &[Endpoint], timeout: u64) -> u64
     ensures before { (moment : ℕ) → moment < result → NobodyOverdue timeout moment endpoints.now }
     ensures first { result < LAST_MOMENT

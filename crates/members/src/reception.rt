@@ -75,7 +75,7 @@ impl Reception {
         self.report = Some(SenderReport { moment, ntp, rtp });
     }
 
-    /// The report block about this source, at this moment; `None` exactly where no packet was received,
+    /// The report block about this source, at this moment; `None` exactly if no packet was received,
     /// and then nothing changes. The next block's interval begins where this one's ends.
     ///
     /// A moment before the last sender report's counts as that report's own.
@@ -104,7 +104,7 @@ impl Reception {
         Some(block)
     }
 
-    /// The last sender report's NTP and RTP timestamps; `None` where none came.
+    /// The last sender report's NTP and RTP timestamps; `None` if none came.
     pub fn last_sr(&self) -> Option<(u64, u32)>
         ensures { result ≡ timestamps_of self.now.report }
     {

@@ -116,7 +116,7 @@ impl Room {
         is_present_at(self.held.endpoints.as_slice(), usize::from(endpoint))
     }
 
-    /// The stay of the leg; 0 where none stands.
+    /// The stay of the leg; 0 if none stands.
     pub fn stay(&self, leg: u16) -> u64
         ensures { result ≡ (leg_at self.now.legs leg).stay }
     {
@@ -136,7 +136,7 @@ impl Room {
     }
 
     /// Whether no endpoint is overdue at this moment, and the moment isn't the last of all. Goes over the
-    /// endpoints only where the moment was reached from which one may be.
+    /// endpoints only if the moment was reached from which one may be.
     fn is_quiet(&mut self, moment: u64) -> bool
         ensures same { self.new ≡ self.old }
         ensures quiet { IsTrue result
@@ -153,7 +153,7 @@ impl Room {
     }
 
     /// Lets every endpoint leave that is overdue at this moment. Refused only for want of memory; then
-    /// nothing changed, the orders and the moment included. Where nobody is overdue it takes none and isn't
+    /// nothing changed, the orders and the moment included. If nobody is overdue it takes none and isn't
     /// refused, unless the moment is the last of all.
     pub fn tick(&mut self, moment: u64, orders: &mut Vec<Order>) -> Result<(), AllocError>
         ensures ok { OnOk result
@@ -177,7 +177,7 @@ impl Room {
         Ok(())
     }
 
-    /// The endpoint says goodbye: after those overdue at this moment it leaves too, where it is present.
+    /// The endpoint says goodbye: after those overdue at this moment it leaves too, if it is present.
     ///
     /// Refused as `UnknownEndpoint`, or as `NoMemory`; then nothing changed, the orders and the moment
     /// included.
@@ -228,13 +228,13 @@ impl Room {
         None
     }
 
-    /// A packet of this source was heard at the endpoint, which comes where it isn't present: its
+    /// A packet of this source was heard at the endpoint, which comes if it isn't present: its
     /// reception begins anew. Those overdue at this moment leave before.
     ///
-    /// Refused as `UnknownEndpoint`; as `WrongSsrc` where the source isn't the endpoint's; as `StaysSpent`
-    /// where a stay that begins would get the number `MAX_STAY`; as `NoMemory`. Then nothing changed, the
+    /// Refused as `UnknownEndpoint`; as `WrongSsrc` if the source isn't the endpoint's; as `StaysSpent`
+    /// if a stay that begins would get the number `MAX_STAY`; as `NoMemory`. Then nothing changed, the
     /// orders and the moment included. A present endpoint's own packet takes no memory and isn't refused
-    /// where nobody is overdue, unless the moment is the last of all.
+    /// if nobody is overdue, unless the moment is the last of all.
     pub fn hear(
         &mut self,
         moment: u64,
@@ -281,7 +281,7 @@ impl Room {
         Ok(())
     }
 
-    /// An endpoint is heard where somebody may leave or it may come.
+    /// An endpoint is heard when somebody may leave or it may come.
     fn join(&mut self, moment: u64, at: usize, orders: &mut Vec<Order>) -> Result<(), RoomFault>
         requires { at < length self.old.endpoints }
         ensures { Answers self.old orders.old.items
@@ -307,10 +307,10 @@ impl Room {
     }
 
     /// Selects the leg or not, after those overdue at this moment left. Selecting what is selected already
-    /// gives no order. Another selection is noted; where a stay stands the leg's row changes, and switching on
+    /// gives no order. Another selection is noted; if a stay stands, the leg's row changes, and switching on
     /// takes a new number as turn.
     ///
-    /// Refused as `UnknownLeg`; as `StaysSpent` where the new number would be `MAX_STAY`; as `NoMemory`.
+    /// Refused as `UnknownLeg`; as `StaysSpent` if the new number would be `MAX_STAY`; as `NoMemory`.
     /// Then nothing changed, the orders and the moment included.
     pub fn select(
         &mut self,
@@ -341,7 +341,7 @@ impl Room {
     }
 
     /// A packet of the endpoint came, with this sequence number and timestamp, at the room's moment. Does
-    /// nothing where the endpoint is absent, or there is none of this number. The first
+    /// nothing if the endpoint is absent, or there is none of this number. The first
     /// `COUNTED_PACKETS` of a presence count.
     pub fn received(&mut self, endpoint: u16, seq: u16, timestamp: u32)
         ensures { self.new ≡ after_packet self.old endpoint seq timestamp }
@@ -352,7 +352,7 @@ impl Room {
     }
 
     /// A sender report of the endpoint came, with these NTP and RTP timestamps, at the room's moment. Does
-    /// nothing where the endpoint is absent, or there is none of this number.
+    /// nothing if the endpoint is absent, or there is none of this number.
     pub fn sender_report(&mut self, endpoint: u16, ntp: u64, rtp: u32)
         ensures { self.new ≡ after_report self.old endpoint ntp rtp }
     {
@@ -362,7 +362,7 @@ impl Room {
     }
 
     /// The report block about the endpoint's source, at the room's moment (RFC 3550, section 6.4.1);
-    /// `None` exactly where no packet of it was received in its present presence, and then nothing
+    /// `None` exactly if no packet of it was received in its present presence, and then nothing
     /// changes. The next block's interval begins where this one's ends.
     pub fn block(&mut self, endpoint: u16) -> Option<Block>
         ensures answer { IsBlockAnswer (reception_at self.old endpoint) self.old.moment
@@ -379,7 +379,7 @@ impl Room {
         self.receptions[at].block(self.moment, source)
     }
 
-    /// The NTP and RTP timestamps of the endpoint's last sender report since it came; `None` where none
+    /// The NTP and RTP timestamps of the endpoint's last sender report since it came; `None` if none
     /// came, or the endpoint is absent.
     pub fn last_sr(&self, endpoint: u16) -> Option<(u64, u32)>
         ensures { result ≡ timestamps_of (reception_at self.now endpoint).report }

@@ -20,7 +20,7 @@ pub struct LegStay {
     pub subscriber: u16,
     /// The number of the endpoint whose packets these are.
     pub publisher: u16,
-    /// The stay that stands; 0 where none does.
+    /// The stay that stands; 0 if none does.
     pub stay: u64,
     /// The latest turn; 0 before the first.
     pub turn: u64,
@@ -57,7 +57,7 @@ impl LegStay {
     }
 }
 
-/// Tells the end of the leg's stay, where one stands and the endpoint is one of the leg's.
+/// Tells the end of the leg's stay, if one stands and the endpoint is one of the leg's.
 fn tell_ending(number: u16, leg: &LegStay, endpoint: usize, draft: &mut Draft)
     ensures { Tells draft.old (ending_of endpoint (number, leg.now)) draft.new }
 {
@@ -142,7 +142,7 @@ pub fn count_beginning(endpoints: &[Endpoint], legs: &[LegStay], endpoint: usize
         .count() as u64
 }
 
-/// Begins the leg's stay, where the leg's other endpoint is present; answers whether it did.
+/// Begins the leg's stay, if the leg's other endpoint is present; answers whether it did.
 fn begin_stay(
     endpoints: &[Endpoint],
     number: u16,
@@ -198,8 +198,8 @@ pub fn begin_stays(
     }
 }
 
-/// The endpoint is heard: it comes where it isn't present, and its stays begin. Answers the next number
-/// from then on; `StaysSpent` where there are too few numbers.
+/// The endpoint is heard: it comes if it isn't present, and its stays begin. Answers the next number
+/// from then on; `StaysSpent` if there are too few numbers.
 pub fn arrive(
     endpoints: &mut [Endpoint],
     legs: &mut [LegStay],
@@ -237,7 +237,7 @@ pub fn arrive(
     Ok(next + count)
 }
 
-/// The endpoint leaves, where it is present.
+/// The endpoint leaves, if it is present.
 pub fn leave_present(
     endpoints: &mut [Endpoint],
     legs: &mut [LegStay],
@@ -258,7 +258,7 @@ pub fn leave_present(
     }
 }
 
-/// Selects the leg or not. Where that is another selection, its row changes where a stay stands, and
+/// Selects the leg or not. If that is another selection, its row changes if a stay stands, and
 /// switching on then takes the next number as turn. Answers the next number from then on.
 pub fn select_leg(
     legs: &mut [LegStay],

@@ -22,7 +22,7 @@ const LEAST_LOST: i64 = -(1 << 23);
 /// The most that it says to be lost.
 const MOST_LOST: i64 = (1 << 23) - 1;
 
-/// The counted packets of one stream. Their extended numbers count on where sequence numbers wrap, and
+/// The counted packets of one stream. Their extended numbers count on when sequence numbers wrap, and
 /// begin one cycle up, so that those before the first packet's are whole numbers too.
 #[derive(Clone, Copy)]
 pub struct Stream {
@@ -119,7 +119,7 @@ impl Stream {
     }
 }
 
-/// Of so many packets expected how many were lost, in 256ths (RFC 3550, appendix A.3); 0 where none were
+/// Of so many packets expected how many were lost, in 256ths (RFC 3550, appendix A.3); 0 if none were
 /// expected, or as many were received.
 pub fn fraction(expected: u64, received: u64) -> u8
     ensures { result ≡ fraction_of expected received }

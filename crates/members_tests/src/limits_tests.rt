@@ -18,7 +18,7 @@ fn endpoints(alloc: Global, count: u16) -> Result<Vec<EndpointParts>, AllocError
     Ok(endpoints)
 }
 
-/// The parts of a room of 256 endpoints and 4,096 legs: each endpoint sends to the 16 behind it, round the end.
+/// The parts of a room of 256 endpoints and 4,096 legs: each endpoint sends to the 16 after it, round the end.
 fn full_parts(alloc: Global) -> Result<Parts, AllocError> {
     let mut parts = found_parts(alloc)?;
     parts.endpoints = endpoints(alloc, 256)?;
@@ -53,7 +53,7 @@ fn write_state(text: &mut String, room: &Room, orders: &[Order]) -> Result<(), A
     write!(text, " {stays} stays\n")
 }
 
-/// All endpoints come, the last one behind the others, and leave in one call.
+/// All endpoints come, the last one after the others, and leave in one call.
 fn come_and_leave(alloc: Global, room: &mut Room) -> Result<String, Fail> {
     let mut text = String::new(alloc);
     let mut orders = Vec::new(alloc);

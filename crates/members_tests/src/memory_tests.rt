@@ -8,7 +8,7 @@ use std::process::Abort;
 use std::test::Fail;
 use tmmbr_tuple::Ssrc;
 
-/// A room, made again where memory was refused for it.
+/// A room, made again if memory was refused for it.
 fn room_at_last(alloc: Global) -> Result<Room, SettingsFault> {
     match larger_room(alloc) {
         Ok(room) => Ok(room),
@@ -54,7 +54,7 @@ const ALL: &str =
     route 0 0 1 off depart 0 1 route 2 0 3 off depart 2 3 arrive 0 5 route 0 5 1 off arrive 2 6 route 2 6 6 on \
     route 0 0 1 off depart 0 5 route 2 0 6 off depart 2 6 arrive 0 7 route 0 7 1 off arrive 2 8 route 2 8 8 on";
 
-/// These orders as text, made again where memory was refused for it.
+/// These orders as text, made again if memory was refused for it.
 fn text_of(alloc: Global, orders: &[Order]) -> Result<String, Fail> {
     let mut text = String::new(alloc);
     if write_orders(&mut text, orders).is_err() {
@@ -64,7 +64,7 @@ fn text_of(alloc: Global, orders: &[Order]) -> Result<String, Fail> {
     Ok(text)
 }
 
-/// Makes a call until memory is there for it; where it was refused the room and the orders are as before.
+/// Makes a call until memory is there for it; if it was refused, the room and the orders are as before.
 fn is_done(room: &mut Room, orders: &mut Vec<Order>, number: u8) -> bool {
     for _ in 0..9 {
         let before = shown(room);

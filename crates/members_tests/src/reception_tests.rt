@@ -45,7 +45,7 @@ fn play_words(
     Ok(())
 }
 
-/// The script again, with what its lines gave, where sequence numbers begin at this one.
+/// The script again, with what its lines gave, if sequence numbers begin at this one.
 fn played(alloc: Global, base: u16, script: &str) -> Result<String, Fail> {
     let mut reception = Reception::new();
     let mut text = String::new(alloc);

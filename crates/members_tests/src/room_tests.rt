@@ -124,7 +124,7 @@ fn endpoint_by_endpoint_and_leg_by_leg(rt: HostRuntime) -> Result<(), Fail> {
 }
 
 /// The moment before which nobody is overdue is remembered, so that a packet goes over no endpoint: the endpoints are heard since 0, 1
-/// and 10, and behind each call stands the first moment at which one of the three is overdue, or a lower one that was found before. At
+/// and 10, and after each call stands the first moment at which one of the three is overdue, or a lower one that was found before. At
 /// 1000 it is reached: endpoint 1 was heard at 20, and is heard again; at 1020 likewise: 0 was heard at 999.
 #[test]
 fn quiet_moment_is_remembered(rt: HostRuntime) -> Result<(), Fail> {

@@ -1,4 +1,4 @@
-//! The language of a room's and a reception's tests: a script has a line for each thing that is done or asked, and behind a colon
+//! The language of a room's and a reception's tests: a script has a line for each thing that is done or asked, and after a colon
 //! what it gives.
 //!
 //! | Line | What is done |
@@ -158,7 +158,7 @@ fn write_shown(
     }
 }
 
-/// Writes what a call gave: its orders, behind the one that stood there before.
+/// Writes what a call gave: its orders, after the one that stood there before.
 fn write_given(
     text: &mut String,
     answer: Result<(), RoomFault>,

@@ -51,7 +51,7 @@ fn write_numbers(text: &mut String, settings: &Settings) -> Result<(), AllocErro
     )
 }
 
-/// Writes the names of settings: the unit's, and behind each endpoint's source the one that is said of it.
+/// Writes the names of settings: the unit's, and after each endpoint's source the one that is said of it.
 fn write_names(text: &mut String, settings: &Settings) -> Result<(), AllocError> {
     if settings.cname() == b"sfu".as_slice() {
         text.push_str(" sfu")?;

@@ -1,4 +1,4 @@
--- A call changed the announced set exactly where an owner is lifted or a request is fresh.
+-- A call changed the announced set exactly if an owner is lifted or a request is fresh.
 use Rattle.std.proofs.Common.{◌≡◌, ◌≢◌, ◌==◌, ℕ, zero, suc, ◌<◌, ◌↔◌, inl, inr, not, Bool, true, false, List, [], ◌∷◌, length, get_or, filter, refl, sym, ap, subst, ◌∙◌, arith}
 use Rattle.std.specs.Prelude.{AllPairs, Contains, nat_lt}
 use Rattle.std.proofs.lemmas.Bool.{and_parts, and_from, or_parts, or_from, cases_Bool, cases_order, cond-true, cond-false, not-false, not_from_true, true_from_ne_false, both_ways}
@@ -72,7 +72,7 @@ one_place xs once d i k i_below k_below owners =
       | inr (inr behind) ↦ absurd (once k i d behind i_below (sym owners))
     ]
 
--- ---- where nobody is lifted and nothing is fresh
+-- ---- if nobody is lifted and nothing is fresh
 
 -- each request of the new set is one of the former
 old_at : (former now : List Request) → filter (λ r. not (is_member former r)) now ≡ [] → (k : ℕ) (d : Request) → k < length now
@@ -114,7 +114,7 @@ former_in_now former now once lifted none r member =
     still : (Contains (owners_of now) r.owner.0 → ⊥) → ⊥
     still gone = let bad = (lifted.members r.owner.0).1 (in_former, gone) in omega (arith, bad.1)
 
--- ---- where the members are the same
+-- ---- if the members are the same
 
 none_lifted : (former now : List Request) (owners : List Ssrc) → IsLifted former now (ssrcs_of owners) → HasSameMembers former now → owners ≡ []
 none_lifted former now [] lifted same = refl

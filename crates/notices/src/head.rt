@@ -116,7 +116,7 @@ pub struct Draft {
     description: Vec<u8>,
 }
 
-/// Appends a receiver report with this block, if any, where there is room for it.
+/// If there is room for it, appends a receiver report with this block, if any.
 fn put_report(out: &mut Vec<u8>, sender: Ssrc, block: Option<Block>)
     requires empty { out.old.items ≡ [] }
     requires len { vec_len out.old ≡ 0 }
@@ -130,7 +130,7 @@ fn put_report(out: &mut Vec<u8>, sender: Ssrc, block: Option<Block>)
     }
 }
 
-/// Appends a receiver report with these blocks, where there is room for it.
+/// Appends a receiver report with these blocks, if there is room for it.
 fn put_reports(out: &mut Vec<u8>, sender: Ssrc, blocks: &[Block])
     requires empty { out.old.items ≡ [] }
     requires len { vec_len out.old ≡ 0 }
@@ -145,7 +145,7 @@ fn put_reports(out: &mut Vec<u8>, sender: Ssrc, blocks: &[Block])
     }
 }
 
-/// Appends bytes, where there is room for them.
+/// Appends bytes, if there is room for them.
 fn put(out: &mut Vec<u8>, bytes: &[u8])
     requires { vec_len out.old + length bytes.now ≤ vec_capacity out.old }
     ensures items { out.new.items ≡ out.old.items ++ bytes.now }
@@ -158,7 +158,7 @@ fn put(out: &mut Vec<u8>, bytes: &[u8])
     }
 }
 
-/// Tells the publisher what came from it: the block about it, where there is one (RFC 3550, section 6.4.2). Refused
+/// Tells the publisher what came from it: the block about it, if there is one (RFC 3550, section 6.4.2). Refused
 /// for want of memory alone; then nothing is appended.
 pub fn upstream_report(
     alloc: Global,

@@ -35,7 +35,7 @@ const ENTRY_LEN: usize = 8;
 pub struct Notification {
     /// The number of the publisher whose desk was called.
     pub publisher: u16,
-    /// The leg whose subscriber asked, where the call was a request and the desk accepted it.
+    /// The leg whose subscriber asked, if the call was a request and the desk accepted it.
     pub asked_by: Option<u16>,
     /// Whether the desk answered that a PLI is due upstream.
     pub pli: bool,
@@ -91,7 +91,7 @@ pub fn notify(
     outs.append(&mut told)
 }
 
-/// A law, and nothing to do: where nobody is lifted and nothing is fresh, and only there, the announced set has the
+/// A law, and nothing to do: if nobody is lifted and nothing is fresh, and only then, the announced set has the
 /// members that it had.
 pub fn tells_each_change()
     ensures { (former : List Request) (e : Effect) → AllPairs (λ x y. x.owner.0 ≢ y.owner.0) former
@@ -106,7 +106,7 @@ fn is_changed(effect: &Effect) -> bool
     !effect.lifted.is_empty() || !effect.fresh.is_empty()
 }
 
-/// Where the set changed, the publisher is asked for what is new in it.
+/// If the set changed, the publisher is asked for what is new in it.
 fn request_upstream(
     alloc: Global,
     links: &Links,
@@ -172,7 +172,7 @@ fn notify_others(
     Ok(())
 }
 
-/// Where a PLI is due, the publisher is sent one.
+/// If a PLI is due, the publisher is sent one.
 fn picture_upstream(
     alloc: Global,
     links: &Links,

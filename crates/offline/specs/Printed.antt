@@ -36,7 +36,7 @@ pub record RefusesBound (media : ℕ) (input : List ℕ) (old new : Option (List
   pub first : TextLeaves media input (Err refused)
   pub shown : Appends old new (refused_text refused)
 
--- where a command isn't done for a fault of its input, nothing was printed
+-- if a command isn't done for a fault of its input, nothing was printed
 abbrev pub FailsBound : ℕ → Option (List ℕ) → Option (List ℕ) → Option (List ℕ) → Failure → Type 0
 FailsBound media input old new NoMemory = Unit {0}
 FailsBound media input old new Io = Unit {0}

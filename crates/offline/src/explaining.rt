@@ -1,4 +1,4 @@
-//! What is said to people beside the line that scripts read, where a replay had no settings.
+//! What is said to people beside the line that scripts read, if a replay had no settings.
 
 use advice::{file_advice, settings_advice};
 use settings_text::{SettingsProblem, read_settings};
@@ -7,7 +7,7 @@ use std::fs;
 use std::io::{ErrorKind, Read};
 use std::rt::Files;
 
-/// Which line of a settings file is wrong, and what may stand there, for a replay; nothing where all is well by now. The file is read again.
+/// Which line of a settings file is wrong, and what may stand there, for a replay; nothing if all is well by now. The file is read again.
 pub fn replay_advice<R: AllocGlobal + Files>(rt: &R, file: &str) -> Result<String, AllocError> {
     settings_line(rt, file, read_problem)
 }

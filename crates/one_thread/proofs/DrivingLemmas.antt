@@ -136,7 +136,7 @@ taken (Select moment leg on) o = refl
 taken Ingress o = no_outside o
 taken (Work k) o = no_outside o
 
--- ---- where nothing waits
+-- ---- when nothing waits
 
 free_hand : (hand : Hand) (jobs : List Job) → hand_count hand ≡ 0 → length jobs ≡ 0 → works_more hand jobs ≡ false
 free_hand free [] h j = refl

@@ -22,7 +22,7 @@ fold_workers workers (d ∷ worked) =
 pub same_workers : (w : WorldState) (h : Happening) → length (world_after w h).workers ≡ length w.workers
 same_workers w h = fold_workers w.workers h.worked
 
--- ---- where the worker has nothing to do, no job is given up
+-- ---- if the worker has nothing to do, no job is given up
 
 free_ring : (hand : Hand) (jobs : List Job) → works_more hand jobs ≡ false → jobs ≡ []
 free_ring free [] e = refl

@@ -38,7 +38,7 @@ who_came failure = None
 abbrev pub whose : Option ℕ → ℕ → ℕ → Option ℕ
 whose endpoint count place = if nat_lt place count then endpoint else None
 
--- a tick is made where one is due
+-- a tick is made if one is due
 abbrev pub tick_at : TicksState → ℕ → List Event
 tick_at ticks moment = if is_due ticks moment then Tick moment ∷ [] else []
 
@@ -118,7 +118,7 @@ Raises count more next = (n : ℕ) → count ≡ as_counted n → next ≡ as_co
 
 -- ---- the outside
 
--- what the source gave, what the clock told and what the sink was handed, where that is known; and how many sends failed
+-- what the source gave, what the clock told and what the sink was handed, if that is known; and how many sends failed
 pub record OutsideView : Type 0 where
   pub given : Option (List Arrival)
   pub told : Option (List ℕ)

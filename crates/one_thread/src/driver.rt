@@ -142,7 +142,7 @@ fn report_of(engine: Engine) -> Report
 /// clock; hears a datagram that came, or selects a leg, and ticks if a tick is due, each with all that follows from it; and hands what
 /// the machine gives out to the sink, in order. A turn in which a stop came is the last. No job is ever given up. What the machine's laws say holds of all that was received (`ok`).
 ///
-/// Refused as `NoMemory` where there is no memory, and then what the machine gave out in this turn isn't handed over; as `Receive`
+/// Refused as `NoMemory` if there is no memory, and then what the machine gave out in this turn isn't handed over; as `Receive`
 /// after 100 receives in a row that fail (`err`).
 #[tactic(auto, using(crate::proofs::DriverLemmas::never_began, crate::proofs::DriverLemmas::ends_early))]
 pub fn run_one_thread<Src: Source, Snk: Sink, Clk: Clock, W: Watch>(

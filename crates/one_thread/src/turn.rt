@@ -1,4 +1,4 @@
-//! A turn: a receive, what came of it, a tick where one is due, and what goes out.
+//! A turn: a receive, what came of it, a tick if one is due, and what goes out.
 
 ghost use Rattle.std.specs.Prelude.{◌≡◌, ◌≤◌, ◌<◌, ◌∷◌, ◌++◌, [], List, ℕ, length, slice_get, None, Some, MatchOption, IfOk, OnOk, OnErr};
 ghost use Rattle.events.specs.declared.event.Event.TheVariants.{Select};
@@ -66,7 +66,7 @@ fn take_received(
     }
 }
 
-/// A tick is made where one is due.
+/// A tick is made if one is due.
 #[tactic(auto, using(crate::proofs::DrivingLemmas::drives_nothing))]
 fn tick(
     world: &mut World,
@@ -123,7 +123,7 @@ fn is_stop(received: Receipt) -> bool
     }
 }
 
-/// What came is taken in, then a tick is made where one is due. Says how much of what is given out by then came before the tick.
+/// What came is taken in, then a tick is made if one is due. Says how much of what is given out by then came before the tick.
 #[tactic(auto, using(crate::proofs::DrivingLemmas::drives_on, crate::proofs::DrivingLemmas::drives_both, crate::proofs::DrivingLemmas::some_first, crate::proofs::DrivingLemmas::some_after))]
 fn take_turn(
     world: &mut World,
@@ -197,7 +197,7 @@ fn hand_over<S: Sink>(sink: &mut S, endpoint: u16, bytes: &[u8], tally: &mut Tal
     }
 }
 
-/// Hands what the machine gave out to the sink, where it is a datagram; tells it a miss and a skip, and what was refused of whose datagram.
+/// Hands what the machine gave out to the sink, if it is a datagram; tells it a miss and a skip, and what was refused of whose datagram.
 #[tactic(auto, using(crate::proofs::TurnLemmas::counted_none))]
 fn give<S: Sink>(out: &Out, endpoint: Option<u16>, sink: &mut S, tally: &mut Tally)
     ensures { SendsCounted (out.now ∷ []) (S.shown sink.old) (S.shown sink.new) tally.old tally.new }
@@ -282,7 +282,7 @@ fn count_present(world: &World) -> u64 {
     present
 }
 
-/// Receives once, asks the clock, takes in what came and ticks where a tick is due, with all that follows, and hands what comes out to
+/// Receives once, asks the clock, takes in what came and ticks if a tick is due, with all that follows, and hands what comes out to
 /// the sink. For want of memory it stops; then what the machine gave out in this turn isn't handed over.
 pub(crate) fn turn<Src: Source, Snk: Sink, Clk: Clock, W: Watch>(
     engine: &mut Engine,

@@ -176,7 +176,7 @@ impl Sink for ListSink {
     }
 }
 
-/// A source that plays its script; each receive takes 10 ms, by which a clock that is asked behind it is later.
+/// A source that plays its script; each receive takes 10 ms, by which a clock that is asked after it is later.
 #[derive(Drop)]
 pub(super) struct Slow<'a> {
     pub(super) script: Script<'a>,

@@ -78,7 +78,7 @@ fn legs_of(alloc: Global, settings: &Settings) -> Result<Vec<LegLine>, AllocErro
     Ok(all)
 }
 
-/// Where a client is before anything came: where its address is learned, no host's of the version that the unit listens with.
+/// Where a client is before anything came: if its address is learned, no host's of the version that the unit listens with.
 fn address_at_first(location: Location, listen: SocketAddr) -> SocketAddr {
     match location {
         Location::Fixed(addresses) => addresses.media,
@@ -121,7 +121,7 @@ fn bind<R: Files + Net>(rt: &R, path: &str) -> Result<UnixListener, ControlFault
     }
 }
 
-/// Whether the file at the path is a socket where nobody listens any more.
+/// Whether the file at the path is a socket on which nobody listens any more.
 fn is_left<R: Files + Net>(rt: &R, path: &str) -> bool {
     let Ok(found) = fs::symlink_metadata(rt, path) else {
         return false;

@@ -109,7 +109,7 @@ pub struct TimedLines<'a, R: time::Clock, W: Drop> {
 }
 
 impl<R: AllocGlobal + time::Clock, W: Drop> TimedLines<'_, R, W> {
-    /// The line behind the time.
+    /// The line after the time.
     fn timed(&self, line: &[u8]) -> Result<Vec<u8>, AllocError> {
         let alloc = self.rt.alloc();
         let mut timed = Vec::new(alloc);

@@ -114,7 +114,7 @@ pub fn close_record<R: Threads>(rt: &R, gauges: Gauges) {
     gauges.finish(rt);
 }
 
-/// What the wall clock says, in milliseconds since the beginning of 1970; 0 where it says nothing, or an earlier time.
+/// What the wall clock says, in milliseconds since the beginning of 1970; 0 if it says nothing, or an earlier time.
 fn unix_ms<R: time::Clock>(rt: &R) -> u64 {
     let Ok(now) = SystemTime::now(rt) else {
         return 0;

@@ -206,7 +206,7 @@ impl Recorder {
         }
     }
 
-    /// The record has ended: hands on what waits, and lets go of where it is written. Where the thread has no room to be told so, the
+    /// The record has ended: hands on what waits, and lets go of where it is written. If the thread has no room to be told so, the
     /// next turn tries again.
     fn close(&mut self) {
         self.hand_on();
@@ -244,7 +244,7 @@ impl Recorder {
         }
     }
 
-    /// Hands on what waits. Nobody is waited for: where the ring is full, who writes is too slow, and the record ends.
+    /// Hands on what waits. Nobody is waited for: if the ring is full, who writes is too slow, and the record ends.
     fn hand_on(&mut self) {
         if self.outlet.has_failed() {
             self.tape.end(End::Failed);

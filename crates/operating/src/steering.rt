@@ -209,7 +209,7 @@ impl Steering {
         }
     }
 
-    /// A datagram came from this address, which is nobody's. Where memory is wanting it isn't listed.
+    /// A datagram came from this address, which is nobody's. If memory is wanting it isn't listed.
     pub(crate) fn note_stranger(&mut self, from: SocketAddr, moment: u64) {
         let _ = self.strangers.note(from, moment);
     }

@@ -51,7 +51,7 @@ is_stop failure = false
 
 -- ---- a sink
 
--- the datagrams that were handed over, failed ones too, where that is known; and how many sends failed
+-- the datagrams that were handed over, failed ones too, if that is known; and how many sends failed
 pub record SinkView : Type 0 where
   pub handed : Option (List Datagram)
   pub failures : ℕ

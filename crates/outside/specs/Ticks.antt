@@ -10,7 +10,7 @@ pub record TicksState : Type 0 where
 abbrev pub new_ticks : ℕ → TicksState
 new_ticks step_ms = record { step_ms = step_ms; last = None }
 
--- a tick is due where none was made yet, and where the moment rose by the step since the last one
+-- a tick is due if none was made yet, and if the moment rose by the step since the last one
 abbrev pub is_due_after : ℕ → Option ℕ → ℕ → Bool
 is_due_after step_ms None moment = true
 is_due_after step_ms (Some last) moment = nat_le (last + step_ms) moment

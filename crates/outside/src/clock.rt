@@ -5,7 +5,7 @@ pub trait Clock {
     ghost use Rattle.std.specs.Prelude.{◌∷◌, [], List, Option, ℕ};
     ghost use Rattle.outside.specs.Outside.{Grows};
 
-    /// The moments that it told, in order, where that is known. The system's clock doesn't know them.
+    /// The moments that it told, in order, if that is known. The system's clock doesn't know them.
     ghost told: { Self → Option (List ℕ) };
 
     /// How many milliseconds went by since the run began.

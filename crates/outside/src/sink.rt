@@ -13,7 +13,7 @@ pub trait Sink {
     ghost use Rattle.std.specs.Prelude.{◌≡◌, ◌+◌, ◌∷◌, [], OnOk, OnErr};
     ghost use Rattle.outside.specs.Outside.{SinkView, Grows};
 
-    /// What was handed over, failed sends too, where that is known, and how many sends failed. A socket doesn't know what
+    /// What was handed over, failed sends too, if that is known, and how many sends failed. A socket doesn't know what
     /// it was handed, nor does a list in memory that found no room. A count that can't rise any more answers Ok.
     ghost shown: { Self → SinkView };
 
@@ -34,7 +34,7 @@ pub trait Sink {
         ensures { shown self.new ≡ shown self.old }
     {}
 
-    /// Something was refused: of a datagram of the endpoint with this number, or of none, where it is `None`. Nothing is sent.
+    /// Something was refused: of a datagram of the endpoint with this number, or of none, if it is `None`. Nothing is sent.
     fn refused(&mut self, _endpoint: Option<u16>, _refusal: Refusal)
         ensures { shown self.new ≡ shown self.old }
     {}

@@ -34,7 +34,7 @@ pub trait Source {
     /// How many receives failed. A count that can't rise any more answers Ok.
     ghost failures: { Self → ℕ };
 
-    /// What each receive gave, in order, where that is known. A socket doesn't know it.
+    /// What each receive gave, in order, if that is known. A socket doesn't know it.
     ghost given: { Self → Option (List Arrival) };
 
     /// What comes next. The bytes of a datagram are written to the beginning of `out`.

@@ -47,13 +47,13 @@ pub trait Watch {
         Look::Nothing
     }
 
-    /// Whether the endpoint with this number is present. Where presence is looked at, each endpoint is shown, by rising number.
+    /// Whether the endpoint with this number is present. If presence is looked at, each endpoint is shown, by rising number.
     fn show_endpoint(&mut self, _endpoint: u16, _is_present: bool) {}
 
-    /// The stay of the leg with this number; `None` if none stands. Where stays are looked at, each leg is shown, by rising number.
+    /// The stay of the leg with this number; `None` if none stands. If stays are looked at, each leg is shown, by rising number.
     fn show_stay(&mut self, _leg: u16, _stay: Option<u64>) {}
 
-    /// The desk of this publisher. Where a desk is looked at that isn't there, none is shown.
+    /// The desk of this publisher. If a desk is looked at that isn't there, none is shown.
     fn show_desk(&mut self, _publisher: u16, _desk: &Desk) {}
 
     /// All that was to be seen was shown.

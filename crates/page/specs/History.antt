@@ -117,7 +117,7 @@ is_below before c = is_lower c.octets (octets_before before c.flow)
 abbrev pub has_fallen : List FlowCount → List FlowCount → Bool
 has_fallen before counts = list_any (is_below before) counts
 
--- those of the last minute in their order, then one for each flow; none where a count fell
+-- those of the last minute in their order, then one for each flow; none if a count fell
 abbrev pub rates_after : List FlowCount → List FlowRate → List FlowCount → ℕ → List FlowRate
 rates_after before rates counts elapsed = if has_fallen before counts then []
     else kept_rates elapsed rates ++ flat_map (new_rate elapsed before) counts

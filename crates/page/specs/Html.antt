@@ -124,7 +124,7 @@ loss_figures words =
     ++ (figure_text (codes "dropped") (word_at words 11)
     ++ figure_text (codes "strangers") (word_at words 13))
 
--- what the system dropped at the unit's sockets, where it says it
+-- what the system dropped at the unit's sockets, if it says it
 abbrev pub unread_figure : List (List ℕ) → List ℕ
 unread_figure words = if bytes_eq (word_at words 14) (codes "unread")
     then figure_text (codes "unread") (word_at words 15) else []

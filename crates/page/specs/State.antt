@@ -16,7 +16,7 @@ use Rattle.page.specs.History.{rate_now}
 use Rattle.page.specs.Reports.{fraction_of, jitter_of, leg_reported, publisher_reported, trip_of}
 use Rattle.page.specs.Words.{plain_word, refused_word, word_at}
 
--- these tokens come behind those that were written
+-- these tokens come after those that were written
 abbrev pub Tells : {E : Type 0} → Result (Unit {0}) E → Written → Written → List Token → Type 0
 Tells r old new tokens = OnOk r ((new.before ≡ old.before) × (new.tokens ≡ old.tokens ++ tokens))
 

@@ -24,7 +24,7 @@ is_plain word = list_all is_plain_byte word
 abbrev pub plain_word : List ℕ → List ℕ
 plain_word word = if is_plain word then word else codes "?"
 
--- what stands behind a start, and before an end
+-- what stands after a start, and before an end
 abbrev pub without_start : List ℕ → List ℕ → Option (List ℕ)
 without_start start path =
     if bytes_eq (take (length start) path) start then Some (drop (length start) path) else None

@@ -89,7 +89,7 @@ impl History {
     }
 
     /// The unit answered this to `metrics` at this moment. Rates that are older than a minute then are gone; each flow that was counted
-    /// before has one more, over the time since. Where a count is lower than before the unit began anew, and so does the history.
+    /// before has one more, over the time since. If a count is lower than before, the unit began anew, and so does the history.
     /// Refused for want of memory alone, and unchanged then.
     pub fn take_in(
         &mut self,

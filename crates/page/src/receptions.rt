@@ -9,7 +9,7 @@ use crate::reports::{Report, jitter_of};
 use crate::style::NO_CELL;
 use std::alloc::AllocError;
 
-/// What was lost, and the jitter; empty cells where nothing is known.
+/// What was lost, and the jitter; empty cells if nothing is known.
 #[tactic(auto, unfolding(crate::specs::Receptions::reception_cells))]
 pub(crate) fn push_reception(text: &mut String, report: Option<Report>) -> Result<(), AllocError>
     ensures { OnOk result
@@ -38,7 +38,7 @@ fn push_loss(text: &mut String, fraction: u8) -> Result<(), AllocError>
     text.push_str("</td>")
 }
 
-/// A cell with a number; an empty one where none is known.
+/// A cell with a number; an empty one if none is known.
 pub(crate) fn push_known_cell(text: &mut String, number: Option<u64>) -> Result<(), AllocError>
     ensures { OnOk result (string_bytes text.new ≡ string_bytes text.old ++ known_cell number) }
 {

@@ -425,7 +425,7 @@ fn push_number(writer: &mut Writer, name: &str, word: &[u8]) -> Result<(), Alloc
     push_known(writer, name, number_u64(word))
 }
 
-/// A member that is a number, or null where none is known.
+/// A member that is a number, or null if none is known.
 #[tactic(auto, unfolding(crate::specs::State::known_member))]
 fn push_known(writer: &mut Writer, name: &str, number: Option<u64>) -> Result<(), AllocError>
     ensures { Tells result writer.old writer.new (known_member name.now number) }

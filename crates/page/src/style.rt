@@ -52,7 +52,7 @@ dd { margin: 0; font-size: 1.15rem; font-variant-numeric: tabular-nums }
 <main>
 ";
 
-/// Where the unit doesn't answer.
+/// If the unit doesn't answer.
 pub const SILENT: &str = "<p>The unit does not answer.</p>\n";
 
 /// The totals.

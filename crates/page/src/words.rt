@@ -6,7 +6,7 @@ ghost use Rattle.page.specs.Words.{is_plain, is_plain_byte, plain_word, refused_
 
 use request_text::is_word;
 
-/// The word at a place from 0 on; an empty one where there is none.
+/// The word at a place from 0 on; an empty one if there is none.
 pub(crate) fn word_at<'a>(words: &[&'a [u8]], place: usize) -> &'a [u8]
     ensures { result.now ≡ word_at (map (λ x. x.now) words.now) place }
 {
@@ -54,7 +54,7 @@ fn is_plain_byte(byte: u8) -> bool
     byte <= b'z' && (byte >= b'a' || (byte >= b'.' && byte <= b':') || byte == b'[' || byte == b']')
 }
 
-/// What stands behind this start, if it begins so.
+/// What stands after this start, if it begins so.
 pub(crate) fn without_start<'a>(path: &'a [u8], start: &[u8]) -> Option<&'a [u8]>
     ensures { option_map (λ x. x.now) result ≡ without_start start.now path.now }
 {

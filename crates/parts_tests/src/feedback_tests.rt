@@ -35,7 +35,7 @@ fn read(packet: &[u8]) -> Result<Feedback<'_>, FbFault> {
     read_feedback(packet[0] & 0x1f, packet[1], &packet[4..])
 }
 
-/// The number of the fault of a body; 0 where it has none.
+/// The number of the fault of a body; 0 if it has none.
 fn fault(fmt: u8, kind: u8, body: &[u8]) -> u8 {
     match read_feedback(fmt, kind, body) {
         Ok(_) => 0,
@@ -50,8 +50,8 @@ fn entry(ssrc: u32, word: u32) -> TmmbrEntry {
     }
 }
 
-/// A writer's answer, and what it left of a list that began with one byte: that byte, and behind it
-/// where memory was there the packet.
+/// A writer's answer, and what it left of a list that began with one byte: that byte, and after it,
+/// if memory was there, the packet.
 fn written(
     rt: &impl Abort,
     out: &Vec<u8>,
@@ -194,7 +194,7 @@ fn lists_without_entries(rt: HostRuntime) -> Result<(), Fail> {
 /// A body whose FCI has one byte.
 const ODD: &[u8] = &[0, 0, 0, 9, 0, 0, 0, 16, 1];
 
-/// An FCI of three bytes behind a PLI; a TMMBR whose source of media is 5 in place of 0; a FIR (RFC 5104, section 4.3.1), FMTs that
+/// An FCI of three bytes after a PLI; a TMMBR whose source of media is 5 in place of 0; a FIR (RFC 5104, section 4.3.1), FMTs that
 /// aren't known, and a type that isn't feedback.
 const IGNORED: [Case; 8] = [
     (1, 206, &[0, 0, 0, 9, 0, 0, 0, 16, 1, 2, 3], "pli 9 16"),
@@ -220,7 +220,7 @@ fn ignored_parts(rt: HostRuntime) -> Result<(), Fail> {
 /// 83cd0003000000110000000000000001: an FCI of four bytes.
 const HALF: &[u8] = &[0, 0, 0, 0x11, 0, 0, 0, 0, 0, 0, 0, 1];
 
-/// The FMT, the type and the body of feedback, and the number of its fault; 0 where it has none.
+/// The FMT, the type and the body of feedback, and the number of its fault; 0 if it has none.
 const FAULTS: [(u8, u8, &[u8], u8); 7] = [
     (3, 205, HALF, 2),
     (4, 205, HALF, 2),
@@ -246,7 +246,7 @@ fn each_fault(rt: HostRuntime) {
     }
 }
 
-/// The longest packet: 65,534 words behind its header.
+/// The longest packet: 65,534 words after its header.
 #[test]
 fn as_many_entries_as_may_be(rt: HostRuntime) -> Result<(), Fail> {
     let entries = vec![in rt.alloc(); entry(16, TUPLE); MAX_ENTRIES]?;

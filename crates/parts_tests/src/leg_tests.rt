@@ -42,7 +42,7 @@ fn copy_numbers_as_the_leg(rt: HostRuntime) {
     plays(&rt, &mut leg, &[(1, 65535, Ok(101)), (2, 3, Ok(102))]);
 }
 
-/// One packet after another on one turn, whose sequence numbers wrap where they reach 65,536.
+/// One packet after another on one turn, whose sequence numbers wrap when they reach 65,536.
 fn counts_on(rt: &impl Abort, base: u16) {
     let mut leg = Leg::new(base);
     let start = u64::from(base);

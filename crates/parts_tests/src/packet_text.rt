@@ -1,7 +1,7 @@
 //! What RTCP datagrams and feedback say, as text.
 //!
 //! A packet is a line: `sr`, `rr`, `sdes`, `bye`, `feedback` or `other`, and what it has in the order of its fields; sources, and
-//! numbers but NTP timestamps, are decimal, bytes hexadecimal. A report's blocks follow behind semicolons. Behind a feedback packet's
+//! numbers but NTP timestamps, are decimal, bytes hexadecimal. A report's blocks follow after semicolons. After a feedback packet's
 //! bytes stands what it says: `nack`, `pli`, `tmmbr`, `tmmbn` or `unknown`, its sources, and its entries.
 
 use rtcp_compound::*;

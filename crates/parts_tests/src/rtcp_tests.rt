@@ -5,7 +5,7 @@ use std::alloc::{AllocError, Global};
 use std::process::Abort;
 use std::test::Fail;
 
-/// The number of the fault of a datagram; 0 where it has none.
+/// The number of the fault of a datagram; 0 if it has none.
 fn fault(datagram: &[u8]) -> u8 {
     match split(datagram) {
         Ok(_) => 0,
@@ -69,7 +69,7 @@ struct Compound {
 }
 
 /// Worked out by hand. Fewer words than counted are fault 6 (in the source description 7). With more words
-/// the packet takes in what stands behind it, and what then stands where the next header should be has
+/// the packet takes in what stands after it, and what then stands where the next header should be has
 /// another version, fault 2, unless it is the header of a packet or the end.
 const COMPOUNDS: [Compound; 3] = [
     // A sender report of 17 with a block of 9, and the CNAME "sfu" of 17.

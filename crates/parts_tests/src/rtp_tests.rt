@@ -75,7 +75,7 @@ fn has_parts(rt: &impl Abort, alloc: Global, datagram: &[u8], wanted: &str) -> R
 fn rewritten_under_ssrc_257_and_number_102(rt: HostRuntime) -> Result<(), Fail> {
     let wanted = "false 96 7 3000 17 csrcs  payload aabb padding  whole";
     has_parts(&rt, rt.alloc(), &PLAIN, wanted)?;
-    // Two bytes behind the packet stay as they were.
+    // Two bytes after the packet stay as they were.
     let mut out = [0x55; 16];
     let view = RtpView::parse(&PLAIN).map_err(|_| "read")?;
     let size = view.rewritten_into(Ssrc(257), 102, &mut out);

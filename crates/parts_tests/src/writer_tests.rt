@@ -11,10 +11,10 @@ use std::process::Abort;
 use std::test::Fail;
 use tmmbr_tuple::Ssrc;
 
-/// Feedback of FMT 1, to stand behind what was written.
+/// Feedback of FMT 1, to stand after what was written.
 const BEHIND: [u8; 12] = [0x81, 0xce, 0, 2, 0, 0, 0, 9, 0, 0, 0, 0x11];
 
-/// What it says, behind the line of another packet.
+/// What it says, after the line of another packet.
 const BEHIND_TEXT: &str = "\nfeedback 1 206 0000000900000011 pli 9 17\n";
 
 /// A report of 16: eight packets, none lost, a jitter of 168, and a sender report 80 ms ago.

@@ -17,7 +17,7 @@ shown b iff is = iff.0 is
 pub refuted : {P : Type 0} (b : Bool) → (IsTrue b ↔ P) → b ≡ false → P → ⊥
 refuted b iff is p = false≢true (sym is ∙ iff.1 p)
 
--- what a function returns where its loop ended, and where a test failed
+-- what a function returns if its loop ended, and if a test failed
 pub yes_is : {P : Type 0} → P → (IsTrue true ↔ P)
 yes_is p = (λ _. p, λ _. refl)
 

@@ -55,7 +55,7 @@ module _ {A : Type 0} (owner_of : A → ℕ) where
 
   -- ---- places and gaps
 
-  -- where there is a gap for an owner, it has no row
+  -- if there is a gap for an owner, it has no row
   pub none_with_gap : (rows : List A) (owner place : ℕ) → IsOwnerGap owner_of rows owner place → NoOwnerBefore rows owner (length rows)
   none_with_gap rows owner place gap = λ k d low below same.
       elim (cases_lt k place) [
@@ -118,7 +118,7 @@ module _ {A : Type 0} (owner_of : A → ℕ) where
   -- ---- what is known of an owner
 
   module _ {B : Type 0} (value_of : A → B) where
-    -- nothing, where no row is the owner's
+    -- nothing, if no row is the owner's
     pub value_for-absent : (rows : List A) (owner : ℕ) → NoOwnerBefore rows owner (length rows) → value_for owner_of value_of rows owner ≡ None
     value_for-absent [] owner before = refl
     value_for-absent (r ∷ rows) owner before =
@@ -198,7 +198,7 @@ module _ {A : Type 0} (owner_of : A → ℕ) where
         insert_is rows place new (gap_tail r rows (owner_of new) place gap),
       )
 
-  -- nothing is taken out where no row is the owner's
+  -- nothing is taken out if no row is the owner's
   pub without-absent : (rows : List A) (owner : ℕ) → NoOwnerBefore rows owner (length rows) → without_row owner_of rows owner ≡ rows
   without-absent [] owner before = refl
   without-absent (r ∷ rows) owner before =

@@ -1,4 +1,4 @@
--- Where each of some things has a partner, and no two share one, there are no more things than partners.
+-- If each of some things has a partner, and no two share one, there are no more things than partners.
 use Rattle.std.proofs.Common.{◌≡◌, suc, ◌≤◌, List, [], ◌∷◌, length, get_or, ◌⊎◌, inl, inr, ap, refl, arith}
 use Rattle.std.specs.Prelude.{All, AllPairs}
 use Rattle.std.proofs.lemmas.List.Elements.{All-head, All-tail}

@@ -104,7 +104,7 @@ feasible_from_kept requests kept implied p meets by_kept = λ place d below.
           (at_kept i.a neighbours.0 in_range.a) (at_kept i.b neighbours.1 in_range.b))
     ]
 
--- where requests don't all permit a pair, one of them forbids it
+-- if requests don't all permit a pair, one of them forbids it
 any_forbids : (M : Request → Type 0) (p : RatePair) (rs : List Request) → All M rs → (IsFeasible rs p → ⊥)
     → AnyByRecursion (λ r. M r × Forbids r.tuple p) rs
 any_forbids M p [] all infeasible = absurd (infeasible (All-nil (λ r. Permits r.tuple p)))

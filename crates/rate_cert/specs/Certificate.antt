@@ -71,7 +71,7 @@ pub record IsInRange (requests : List Request) (i : Implied) : Type 0 where
 abbrev pub IsNamed : List Kept → List Implied → ℕ → Type 0
 IsNamed kept implied place = Contains (named_places kept implied) place
 
--- The certificate holds where all five conditions do.
+-- The certificate holds if all five conditions do.
 pub record MeetsConditions (requests : List Request) (kept : List Kept)
     (implied : List Implied) : Type 0 where
   pub places : HasPlaces requests kept implied

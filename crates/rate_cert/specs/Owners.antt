@@ -6,7 +6,7 @@ use Rattle.std.specs.List.{HoldsAt, AllWithin}
 abbrev pub OwnersRise : {A : Type 0} → (A → ℕ) → List A → Type 0
 OwnersRise owner_of rows = AllPairs (λ x y. owner_of x < owner_of y) rows
 
--- what the first row of the owner says, where it has one
+-- what the first row of the owner says, if it has one
 abbrev pub value_for : {A B : Type 0} → (A → ℕ) → (A → B) → List A → ℕ → Option B
 value_for owner_of value_of [] owner = None
 value_for owner_of value_of (r ∷ rows) owner =

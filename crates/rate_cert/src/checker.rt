@@ -14,7 +14,7 @@ use tmmbr_tuple::permits;
 /// How many places a certificate names at most.
 const MAX_NAMED: usize = 2 * MAX_REQUESTS;
 
-/// Whether the certificate holds of these requests, in any number and order; where it doesn't, the
+/// Whether the certificate holds of these requests, in any number and order; if it doesn't, the
 /// first condition that fails, by rising number, with its least place.
 ///
 /// A yes means that the kept requests permit exactly the pairs that all the requests together permit,

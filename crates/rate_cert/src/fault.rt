@@ -2,7 +2,7 @@
 
 use thiserror::Error;
 
-/// The first condition that a certificate fails, by rising number; where it shows a place, the least
+/// The first condition that a certificate fails, by rising number; if it shows a place, the least
 /// one that fails it. Places count the requests from 0.
 #[derive(Clone, Copy, Debug, PartialEq, Eq, Error)]
 pub enum CertFault {

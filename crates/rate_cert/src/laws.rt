@@ -7,7 +7,7 @@ ghost use Rattle.rate_cert.specs.declared.certificate.Cert.{Cert as Certificate}
 ghost use Rattle.rate_cert.specs.Choice.{IsChoice, IsSmallest};
 ghost use Rattle.rate_cert.specs.Certificate.{IsCertified, kept_places};
 
-/// Where a certificate holds, its kept places are a choice of requests, and a smallest one: each kept pair
+/// If a certificate holds, its kept places are a choice of requests, and a smallest one: each kept pair
 /// has to be forbidden by a member of any faithful choice, and no member forbids two of these.
 pub fn certified_is_smallest()
     ensures choice { (requests : List RateRequest) (cert : Certificate) → IsCertified requests cert

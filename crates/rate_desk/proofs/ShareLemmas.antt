@@ -53,7 +53,7 @@ few_words d legal =
     let low : CALL_LIMIT * 2 ^ 32 < 2 ^ 128 - 1 = lit< tt in
     omega (arith, legal.within, legal.base.words, words_within d.history, low)
 
--- a sum that is cut off above a number is this number exactly where the whole sum is
+-- a sum that is cut off above a number is this number exactly if the whole sum is
 uncut : (sum most n : ℕ) → n < most → min sum most ≡ n → sum ≡ n
 uncut sum most n low is = omega arith
 

@@ -44,7 +44,7 @@ impl<D: DeskCalls, S: SeatCalls> House<D, S> {
     ghost use Rattle.rate_desk.specs.Shares.{new_seat, GetsReceipt, IsLastCall, IsTold, IsPulsed, MakesCall};
 
     /// A house of so many publishers and seats. Each desk sends PLIs upstream at least `gap` milliseconds
-    /// apart, and takes requests away that are `request_ms` milliseconds old, never where that is 0. The
+    /// apart, and takes requests away that are `request_ms` milliseconds old, never if that is 0. The
     /// first ledger has a part for each publisher, the second one for each seat.
     ///
     /// It takes the memory that `gather` needs, too.

@@ -1,4 +1,4 @@
-//! The language of a desk's tests: a script has a call a line, and behind a colon what it gives.
+//! The language of a desk's tests: a script has a call a line, and after a colon what it gives.
 //!
 //! | Line | What is done |
 //! |---|---|

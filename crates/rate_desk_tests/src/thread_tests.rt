@@ -1,4 +1,4 @@
-//! Calls of four threads through a house, and what is gathered behind them.
+//! Calls of four threads through a house, and what is gathered after them.
 
 ghost use Rattle.std.specs.Prelude.{◌≡◌, ◌<◌};
 
@@ -14,7 +14,7 @@ use std::test::Fail;
 use std::thread::{self, Threads};
 use tmmbr_tuple::{Ssrc, Tuple};
 
-/// A seat behind its calls, with what each gave.
+/// A seat after its calls, with what each gave.
 #[derive(Drop)]
 struct Made<S: SeatCalls> {
     seat: DeskSeat<S>,
@@ -109,7 +109,7 @@ fn ask_by_threads<D: DeskCalls + Send + Sync, S: SeatCalls + Send + Sync, R: Thr
     .ok()
 }
 
-/// Receipts, each with its effect where it isn't of a pulse.
+/// Receipts, each with its effect if it isn't of a pulse.
 #[derive(Drop)]
 struct Told {
     receipts: Vec<Receipt>,
@@ -239,7 +239,7 @@ fn handed(alloc: Global, receipts: &[Receipt], end: End) -> Option<Vec<Receipt>>
     Some(handed)
 }
 
-/// Each of the two desks has so many calls; where none was folded, each was told what it changed.
+/// Each of the two desks has so many calls; if none was folded, each was told what it changed.
 fn assert_desks(
     rt: &impl Abort,
     alloc: Global,

@@ -14,7 +14,7 @@ use tmmbr_tuple::Ssrc;
 /// The calls of a desk that were gone over so far, the first one first.
 #[derive(Drop)]
 pub struct Walk {
-    /// What is known of the owner of each number; a stay of 0 where it isn't present.
+    /// What is known of the owner of each number; a stay of 0 if it isn't present.
     known: Vec<Present>,
     /// The greatest moment at the last expire.
     expired: Option<u64>,
@@ -87,7 +87,7 @@ impl Walk {
         }
     }
 
-    /// What the calls come to. A request is taken by an expire that finds it too old; of those behind it
+    /// What the calls come to. A request is taken by an expire that finds it too old; of those after it
     /// the last one has the greatest moment, and one before it has none that is later than its stamp.
     pub fn come_to(&self, request_ms: u64) -> Base {
         let mut present = ArrayVec::new();
@@ -128,7 +128,7 @@ pub fn live_of(base: &Base) -> ArrayVec<Request, MAX_REQUESTS> {
     rows
 }
 
-/// What is announced for these requests: by the plain walk over all of them, or made anew where one has
+/// What is announced for these requests: by the plain walk over all of them, or made anew if one has
 /// the rate 0.
 pub fn announced_for(rows: &ArrayVec<Request, MAX_REQUESTS>) -> ArrayVec<Request, MAX_REQUESTS> {
     let rows = rows.as_slice();
@@ -169,7 +169,7 @@ pub fn bits_for(rows: &[Request], announced: &[Request]) -> [u64; KEPT_WORDS] {
     bits
 }
 
-/// Why a call isn't done behind calls that come to this; `None` where it is.
+/// Why a call isn't done after calls that come to this; `None` if it is.
 pub fn refusal_after(base: &Base, call: &Call) -> Option<Answer> {
     let Call::Stay {
         owner,
@@ -194,7 +194,7 @@ pub fn refusal_after(base: &Base, call: &Call) -> Option<Answer> {
     }
 }
 
-/// Whether a PLI is to be sent upstream at a call behind calls that come to this.
+/// Whether a PLI is to be sent upstream at a call after calls that come to this.
 pub fn is_sent(gap: u64, base: &Base, call: &Call) -> bool {
     let Call::Time { moment, signal } = *call else {
         return false;

@@ -12,7 +12,7 @@ use std::test::Fail;
 /// How often each desk is called.
 const CALLS: u32 = 2500;
 
-/// The answer is the one that is owed to a call behind calls that come to this, but for the rows that are
+/// The answer is the one that is owed to a call after calls that come to this, but for the rows that are
 /// announced.
 fn assert_owed(rt: &impl Abort, gap: u64, before: &Base, call: &Call, answer: &Answer) {
     match refusal_after(before, call) {

@@ -25,7 +25,7 @@ end_or why (Some end) = Some end
 abbrev pub ended : End → TapeState → TapeState
 ended why t = record t { end = end_or why t.end }
 
--- these lines wait behind the others
+-- these lines wait after the others
 abbrev pub with_lines : List ℕ → TapeState → TapeState
 with_lines lines t = record t { waits = t.waits ++ lines; written = t.written + length lines }
 

@@ -46,7 +46,7 @@ fn digits_of(byte: u8) -> u16
         ≡ slice_index lower_digits (byte / 16) + 256 * slice_index lower_digits (byte % 16) }
 {
     let halves = u16::from(byte >> 4) + 256 * u16::from(byte & 0x0f);
-    // One for each half that is above nine, whose digit is a letter: '0' is 48, and 'a' is 39 behind what would follow '9'.
+    // One for each half that is above nine, whose digit is a letter: '0' is 48, and 'a' is 39 after what would follow '9'.
     let letters = ((halves + 0x0606) >> 4) & 0x0101;
     halves + 0x3030 + 39 * letters
 }

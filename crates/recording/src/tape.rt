@@ -63,7 +63,7 @@ impl Tape {
         }
     }
 
-    /// Puts whole lines behind what waits. Where they would be too many bytes the record ends, as it does where there is no memory;
+    /// Puts whole lines after what waits. If they would be too many bytes the record ends, as it does if there is no memory;
     /// once it has ended nothing more is put.
     pub fn put(&mut self, lines: &str)
         ensures { IsPut self.old lines.now self.new }
@@ -82,7 +82,7 @@ impl Tape {
     }
 
     /// Puts the lines of a datagram that an endpoint's number sent, heard at this moment in milliseconds, as `heard_lines` makes them, and
-    /// as `put` puts them. Where there is no memory to make them the record ends.
+    /// as `put` puts them. If there is no memory to make them the record ends.
     pub fn put_heard(&mut self, moment: u64, endpoint: u16, bytes: &[u8])
         ensures { IsMadeAndPut self.old (event_lines (Hear moment endpoint bytes.now)) self.new }
     {
@@ -191,7 +191,7 @@ fn append_line(list: &mut Vec<u8>, head: &str, bytes: &[u8]) -> Result<(), Alloc
     appended
 }
 
-/// The same, but for want of memory something may stand behind what was there.
+/// The same, but for want of memory something may stand after what was there.
 fn append_parts(list: &mut Vec<u8>, head: &str, bytes: &[u8]) -> Result<(), AllocError>
     ensures ok { OnOk result (list.new.items
         ≡ list.old.items ++ (head.now ++ (encode_lower bytes.now ++ follow_line))) }

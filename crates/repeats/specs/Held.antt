@@ -54,7 +54,7 @@ pub data GivesOn : Knowing → List ℕ → List ℕ → Type 0 where
       → GivesOn k (drop (heard_size bytes) bytes) given
       → GivesOn k bytes (packet_given k (take (heard_size bytes) bytes) ++ given)
 
--- Behind what was there stands what is given on of these bytes.
+-- After what was there stands what is given on of these bytes.
 pub record GivesRest (k : Knowing) (bytes old new : List ℕ) : Type 0 where
   pub given : List ℕ
   pub behind : new ≡ old ++ given

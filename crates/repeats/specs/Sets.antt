@@ -84,7 +84,7 @@ asked_from (Some from) sets = next_asked from 0 sets
 abbrev pub look_of : SetsState → ℕ → Option ℕ
 look_of s moment = asked_from (look_from s.next (nat_lt moment s.due_ms)) s.publishers
 
--- whose desk is looked at at this moment; nobody's where there are no rounds
+-- whose desk is looked at at this moment; nobody's if there are no rounds
 abbrev pub look_due : SetsState → ℕ → Option ℕ
 look_due s moment = if s.every_ms == 0 then None else look_of s moment
 

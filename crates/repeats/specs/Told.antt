@@ -4,7 +4,7 @@ use Rattle.byteorder.specs.Endian.{big_number}
 use Rattle.rtcp_compound.specs.Content.{Content, sender_report, receiver_report, description, goodbye, feedback, other}
 use Rattle.rtcp_compound.specs.declared.packet.TheConstants.{RTPFB}
 
--- the bytes of a body behind its sources, if the first of these is this one (RFC 4585, section 6.1)
+-- the bytes of a body after its sources, if the first of these is this one (RFC 4585, section 6.1)
 abbrev pub notice_body : ℕ → List ℕ → Option (List ℕ)
 notice_body own body =
     if nat_le 8 (length body) && (big_number 4 body == own) then Some (drop 8 body) else None

@@ -23,7 +23,7 @@ pub(crate) struct Comings {
     wait_ms: u64,
 }
 
-/// How long what is held waits, where requests of this age are given up and the moment rises so far from one tick to the next: a desk
+/// How long what is held waits, if requests of this age are given up and the moment rises so far from one tick to the next: a desk
 /// counts the age of a request from the last moment that it was told, and a tick tells it of who is present.
 pub(crate) fn wait_by(request_ms: u64, tick_ms: u64) -> u64
     ensures { result ≡ wait_by request_ms tick_ms }
@@ -84,7 +84,7 @@ impl Comings {
         Ok(())
     }
 
-    /// The first who has waited long enough, where the last turn was at this moment.
+    /// The first who has waited long enough, if the last turn was at this moment.
     pub(crate) fn due(&mut self, moment: u64) -> Option<Coming>
         ensures due { result
             ≡ first_due self.old.wait_ms moment (map (noted_in moment) self.old.list.items) }

@@ -17,7 +17,7 @@ use tmmbr_tuple::Ssrc;
 /// The first byte of a TMMBR without padding: the version 2 and the FMT 3 (RFC 5104, section 4.2.1.1).
 const TMMBR: u8 = 0x83;
 
-/// The length in bytes of a header and the two sources behind it (RFC 4585, section 6.1).
+/// The length in bytes of a header and the two sources after it (RFC 4585, section 6.1).
 const FRONT: usize = 12;
 
 /// Who sent a datagram, and what is known as it comes.

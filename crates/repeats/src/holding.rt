@@ -38,7 +38,7 @@ struct Held<'a> {
 }
 
 /// The datagrams of a source. What subscribers ask for is held (RFC 5104, section 4.2.1), and what is held for the legs of a publisher is
-/// heard again after the datagram by which it comes, each as a TMMBR of its subscriber; where requests grow too old not before a tick was made
+/// heard again after the datagram by which it comes, each as a TMMBR of its subscriber; if requests grow too old, not before a tick was made
 /// since, so that their age counts from then on. A TMMBR whose publishers surely aren't there isn't given on.
 #[derive(Drop)]
 pub struct Holding<'a, S: Source + Drop> {

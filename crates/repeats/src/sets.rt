@@ -152,7 +152,7 @@ fn is_told(told: &[TmmbrEntry], entry: TmmbrEntry) -> bool
 #[derive(Drop)]
 pub struct Sets {
     publishers: Vec<PublisherSet>,
-    /// How far rounds are apart, in milliseconds; there are none where that is 0.
+    /// How far rounds are apart, in milliseconds; there are none if that is 0.
     every_ms: u64,
     /// The moment from which on the next round begins.
     due_ms: u64,
@@ -179,7 +179,7 @@ impl Sets {
     ghost use Rattle.repeats.specs.Sets.{asks_of, look_due, new_set, set_asked, set_seen, set_told, sets_after, with_set};
 
     /// Nobody asked any of so many endpoints yet. Rounds of looks are so many milliseconds apart, and the first is due at once; there are
-    /// none where that is 0. Refused for want of memory alone.
+    /// none if that is 0. Refused for want of memory alone.
     pub fn new(alloc: Global, endpoints: usize, every_ms: u64) -> Result<Sets, AllocError>
         ensures { IfOk result (λ s. s ≡ record {
           publishers = replicate endpoints new_set;

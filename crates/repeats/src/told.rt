@@ -49,7 +49,7 @@ fn notice_in(packet: RtcpView<'_>, own: Ssrc) -> Option<&[u8]>
     }
 }
 
-/// The bytes of a body behind its sources, if the first of these is this one.
+/// The bytes of a body after its sources, if the first of these is this one.
 fn notice_body(body: &[u8], own: Ssrc) -> Option<&[u8]>
     ensures { option_map (λ s. s.now) result ≡ notice_body own.0 body.now }
 {

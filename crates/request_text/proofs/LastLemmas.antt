@@ -8,7 +8,7 @@ use Rattle.request_text.specs.Asked.{Change, asks, leaves}
 use Rattle.request_text.specs.Lines.{Asked, AreRowsOf, Demands, HoldsLastWords, HasOwnersOnce, LineLeaves, LinesAsk, LinesLeave, Refused, TextLeaves, after_changes, lines_of, put_word, spelled_by, without, word_after, word_for, ◌>>=◌}
 use Rattle.request_text.proofs.LiveLemmas.{once_put, once_without, word_for-put_word, word_for-without}
 
--- the words of some live requests, each owner once, are those of others behind changes
+-- the words of some live requests, each owner once, are those of others after changes
 pub record HasWordsAfter (live : List Asked) (changes : List Change) (next : List Asked) : Type 0 where
   pub once : HasOwnersOnce next
   pub words : (owner : ℕ) → word_for next owner ≡ word_after (word_for live owner) changes owner

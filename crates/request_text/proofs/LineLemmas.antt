@@ -1,4 +1,4 @@
--- Lines one behind the other.
+-- Lines one after the other.
 use Rattle.std.proofs.Common.{◌≡◌, ℕ, suc, ◌+◌, ◌<◌, ◌≤◌, List, ◌∷◌, map, Bor, length, drop, get_or, drop-cons, add-one, Result, Ok, Err, refl, sym, ap, subst, ◌∙◌, inl, inr}
 use Rattle.std.proofs.lemmas.List.{drop_all, get_or-map, length-map}
 use Rattle.request_text.specs.declared.bound.Refusal.{Refusal}
@@ -17,7 +17,7 @@ at_line i lines d below =
     drop-cons (map text lines) i line lt ∙ (λ j. is j ∷ drop (suc i) (map text lines))
     ∙ ap (λ k. line ∷ drop k (map text lines)) (sym (add-one i))
 
--- behind the last line nothing changes
+-- after the last line nothing changes
 pub at_end : (media i : ℕ) (lines : List (Bor (List ℕ))) (now : List Asked) → length lines ≤ i
     → LinesLeave media (i + 1) (drop i (map (λ (x : Bor (List ℕ)). x.now) lines)) now (Ok now)
 at_end media i lines now past =

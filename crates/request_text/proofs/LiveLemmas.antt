@@ -77,7 +77,7 @@ is_some-map : {A B : Type 0} (f : A → B) (o : Option A) → is_some (option_ma
 is_some-map f None = refl
 is_some-map f (Some x) = refl
 
--- the owner is live in the rows where it is live
+-- the owner is live in the rows if it is live
 same_live : (live : List Asked) (rows : List Request) (owner : ℕ) → AreRowsOf live rows → is_some (word_for live owner) ≡ is_some (tuple_of rows owner)
 same_live live rows owner are = ap is_some (sym (are.words owner)) ∙ is_some-map word_of (tuple_of rows owner)
 
@@ -165,7 +165,7 @@ bind_ok r x f is = ap (λ r. r >>= f) is
 pub bind_err : {A B E : Type 0} (r : Result A E) (e : E) (f : A → Result B E) → r ≡ Err e → (r >>= f) ≡ Err e
 bind_err r e f is = ap (λ r. r >>= f) is
 
--- changes behind others
+-- changes after others
 pub after_changes-append : (first others : List Change) (live : List Asked)
     → after_changes (first ++ others) live ≡ (after_changes first live >>= after_changes others)
 after_changes-append [] others live = refl

@@ -40,7 +40,7 @@ Asks media (feedback fmt kind body) changes =
     (m : Message) × ReadsFeedback fmt kind body m × (changes ≡ changes_of media m)
 Asks media (other count kind body) changes = changes ≡ []
 
--- packets ask one behind the other
+-- packets ask one after the other
 abbrev pub AskTogether : ℕ → List Content → List Change → Type 0
 AskTogether media [] changes = changes ≡ []
 AskTogether media (c ∷ cs) changes =

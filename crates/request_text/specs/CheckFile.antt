@@ -79,7 +79,7 @@ pub data Line : Type 0 where
   kept : Asked → RatePair → Line
   implied : Asked → Claim → Line
 
--- the words behind the first
+-- the words after the first
 abbrev pub live_words : List (List ℕ) → Option Line
 live_words (owner ∷ (word ∷ [])) = option_map live (ask_spelled owner word)
 live_words words = None
@@ -156,7 +156,7 @@ claims_from place (Live r ∷ entries) = claims_from (place + 1) entries
 claims_from place (Kept r pair ∷ entries) = claims_from (place + 1) entries
 claims_from place (Implied r claim ∷ entries) = (place, claim) ∷ claims_from (place + 1) entries
 
--- the place of the owner's first kept entry; the one past the last request where it has none
+-- the place of the owner's first kept entry; the one past the last request if it has none
 abbrev pub place_for : List (Ssrc × KeptEntry) → ℕ → Ssrc → ℕ
 place_for [] past owner = past
 place_for (k ∷ kepts) past owner =
@@ -188,7 +188,7 @@ has_room entries (Kept r pair) =
 has_room entries (Implied r claim) =
     nat_lt (length entries) MAX_LINES && nat_lt (length (claims_from 0 entries)) MAX_REQUESTS
 
--- the entries behind another line; none where it can't be read, or has no room
+-- the entries after another line; none if it can't be read, or has no room
 abbrev pub entries_after : List Entry → Reading → Option (List Entry)
 entries_after entries Skipped = Some entries
 entries_after entries Unreadable = None
@@ -211,7 +211,7 @@ LinesSpell n (line ∷ lines) entries spelled =
 abbrev pub FileSpells : List ℕ → Result (List Entry) ℕ → Type 0
 FileSpells text spelled = LinesSpell 1 (lines_of text) [] spelled
 
--- What is answered for entries: yes where the certificate holds of the requests, whose kept ones are then a smallest
+-- What is answered for entries: yes if the certificate holds of the requests, whose kept ones are then a smallest
 -- choice; else the first condition that it fails.
 abbrev pub IsCheckAnswer : List Entry → Result (Unit {0}) CertFault → Type 0
 IsCheckAnswer entries (Ok done) =

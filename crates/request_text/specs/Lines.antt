@@ -19,7 +19,7 @@ abbrev pub word_for : List Asked → ℕ → Option ℕ
 word_for [] owner = None
 word_for (a ∷ live) owner = if a.owner == owner then Some a.word else word_for live owner
 
--- the owner's word is replaced where it is live; else it comes behind the others
+-- the owner's word is replaced if it is live; else it comes after the others
 abbrev pub put_word : List Asked → ℕ → ℕ → List Asked
 put_word [] owner word = record { owner = owner; word = word } ∷ []
 put_word (a ∷ live) owner word =
@@ -31,7 +31,7 @@ abbrev pub without : List Asked → ℕ → List Asked
 without [] owner = []
 without (a ∷ live) owner = if a.owner == owner then live else a ∷ without live owner
 
--- a request is refused where it makes more live ones than may be
+-- a request is refused if it makes more live ones than may be
 abbrev pub after_change : Change → List Asked → Result (List Asked) LineFault
 after_change (asks owner word) live =
     if nat_lt (length (put_word live owner word)) (LIVE_LIMIT + 1)
@@ -48,7 +48,7 @@ abbrev pub after_changes : List Change → List Asked → Result (List Asked) Li
 after_changes [] live = Ok live
 after_changes (c ∷ changes) live = after_change c live >>= after_changes changes
 
--- what a line stands for: nothing where it is empty or begins with #, else the hexadecimal text of a datagram
+-- what a line stands for: nothing if it is empty or begins with #, else the hexadecimal text of a datagram
 pub data Spelled : Type 0 where
   skipped : Spelled
   datagram : List ℕ → Spelled
@@ -67,7 +67,7 @@ Demands media skipped asked = asked ≡ Ok []
 Demands media (datagram bytes) asked = DatagramAsks media bytes asked
 Demands media no_hex asked = asked ≡ Err Hex
 
--- what is live behind a line, or the line's fault
+-- what is live after a line, or the line's fault
 pub record LineLeaves (media : ℕ) (line : List ℕ) (live : List Asked)
     (left : Result (List Asked) LineFault) : Type 0 where
   pub asked : Result (List Change) LineFault
@@ -79,7 +79,7 @@ pub record Refused : Type 0 where
   pub line : ℕ
   pub fault : LineFault
 
--- what is live behind lines, of which the first has this number, or the first fault
+-- what is live after lines, of which the first has this number, or the first fault
 abbrev pub LinesLeave : ℕ → ℕ → List (List ℕ) → List Asked → Result (List Asked) Refused → Type 0
 LinesLeave media n [] live left = left ≡ Ok live
 LinesLeave media n (line ∷ lines) live left =
@@ -96,14 +96,14 @@ lines_of text = slice_split (λ b. b == 10) text
 abbrev pub TextLeaves : ℕ → List ℕ → Result (List Asked) Refused → Type 0
 TextLeaves media text left = LinesLeave media 1 (lines_of text) [] left
 
--- lines that can be read ask one behind the other
+-- lines that can be read ask one after the other
 abbrev pub LinesAsk : ℕ → List (List ℕ) → List Change → Type 0
 LinesAsk media [] changes = changes ≡ []
 LinesAsk media (line ∷ lines) changes =
     (first : List Change) × (others : List Change) × Demands media (spelled_by line) (Ok first)
     × LinesAsk media lines others × (changes ≡ first ++ others)
 
--- what an owner asks for behind changes: the word of the last that names it; none behind its leave
+-- what an owner asks for after changes: the word of the last that names it; none after its leave
 abbrev pub word_after : Option ℕ → List Change → ℕ → Option ℕ
 word_after word [] owner = word
 word_after word (asks o w ∷ changes) owner =
@@ -111,7 +111,7 @@ word_after word (asks o w ∷ changes) owner =
 word_after word (leaves o ∷ changes) owner =
     word_after (if o == owner then None else word) changes owner
 
--- The text asks for these changes, and each owner has a row just where it asks for a word last: for that word.
+-- The text asks for these changes, and each owner has a row just if it asks for a word last: for that word.
 pub record HoldsLastWords (media : ℕ) (text : List ℕ) (rows : List Request) : Type 0 where
   pub changes : List Change
   pub asked : LinesAsk media (lines_of text) changes

@@ -20,7 +20,7 @@ abbrev pub Leaves : Result (List Asked) LineFault → List Request → Result (U
     → Type 0
 Leaves says rows r = MatchResult r (λ _. HasRowsOf says rows) (λ fault. says ≡ Err fault)
 
--- what is live behind a datagram, or its fault
+-- what is live after a datagram, or its fault
 pub record DatagramLeaves (media : ℕ) (bytes : List ℕ) (live : List Asked)
     (left : Result (List Asked) LineFault) : Type 0 where
   pub asked : Result (List Change) LineFault
@@ -39,7 +39,7 @@ abbrev pub undecoded_at : ℕ → FromHexError → Refusal
 undecoded_at line OutOfMemory = NoMemory
 undecoded_at line error = Line line Hex
 
--- the same for a line and for a whole text, where memory may be wanting
+-- the same for a line and for a whole text, for which memory may be wanting
 abbrev pub RefusesLine : ℕ → ℕ → List ℕ → List Asked → Refusal → Type 0
 RefusesLine media number line live NoMemory = Unit {0}
 RefusesLine media number line live (Line n fault) =

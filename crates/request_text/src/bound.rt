@@ -121,7 +121,7 @@ fn check_feedback(packets: Packets<'_>) -> Result<(), FbFault>
     Ok(())
 }
 
-/// Reads the packet where it is feedback.
+/// Reads the packet if it is feedback.
 fn check_packet(packet: RtcpView<'_>) -> Result<(), FbFault>
     ensures { MatchResult result (λ _. IsReadable (content_of packet.entry))
         (HasAskFault (content_of packet.entry)) }

@@ -138,7 +138,7 @@ module _ (seq : ℕ) (seqs : List ℕ) where
   from_latest zero s = tt
   from_latest (suc back) s = λ k below. s (suc k) (omega arith)
 
-  -- what stands is the latest of each number, where no older packet has the new one's
+  -- what stands is the latest of each number, if no older packet has the new one's
   pub latest_alone : (chains : ℕ) (links : List ℕ) → AreLinks chains (After (IsLatest seqs)) links (seq ∷ seqs)
       → ((k : ℕ) → k < length seqs → get_or seqs k 0 ≢ seq) → AreLinks chains (IsLatest (seq ∷ seqs)) links (seq ∷ seqs)
   latest_alone chains links leads none =
@@ -150,7 +150,7 @@ module _ (seq : ℕ) (seqs : List ℕ) where
       none_else zero inside same = refl
       none_else (suc k) inside same = absurd (none k (omega arith) same)
 
-  -- and where one has it, and is out of its chain
+  -- and if one has it, and is out of its chain
   pub latest_again : (chains : ℕ) (links : List ℕ) (found : ℕ) → IsLatestWith seq seqs found
       → AreLinks chains (λ back. After (IsLatest seqs) back × (back ≢ suc found)) links (seq ∷ seqs)
       → AreLinks chains (IsLatest (seq ∷ seqs)) links (seq ∷ seqs)

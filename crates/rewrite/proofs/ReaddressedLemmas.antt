@@ -43,7 +43,7 @@ pub readdressed-again : (u s : ℕ) (d : List ℕ) → 12 ≤ length d
     → (v n : ℕ) → readdressed_bytes v n (readdressed_bytes u s d) ≡ readdressed_bytes v n d
 readdressed-again u s d h = (twelve u s d h).2
 
--- the first byte stays, and all behind the fixed header
+-- the first byte stays, and all after the fixed header
 pub first-readdressed : (u s : ℕ) (d : List ℕ) → 12 ≤ length d → slice_index (readdressed_bytes u s d) 0 ≡ slice_index d 0
 first-readdressed u s d h = (twelve u s d h).3
 

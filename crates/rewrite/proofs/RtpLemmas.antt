@@ -143,7 +143,7 @@ csrcs_before d = grind (arith, nat_tests)
 miscounted : (e n x : ℕ) → (n ≤ e) ⊎ ((x ≡ 0) ⊎ (n < e + x)) → e ≤ n → (nat_le (e + x) n && nat_lt 0 x) ≡ false
 miscounted e n x h low = grind (arith, nat_tests, h)
 
--- the last byte, behind a place
+-- the last byte, after a place
 last_behind : (d : List ℕ) (e : ℕ) → e < length d → slice_index (drop e d) (length (drop e d) - 1) ≡ slice_index d (length d - 1)
 last_behind d e h =
     let left = length-drop e d in
@@ -166,7 +166,7 @@ no_count d e h none =
 
 -- ---- another source and sequence number
 
--- the place behind the extension, by the first byte and what stands behind the fixed header
+-- the place after the extension, by the first byte and what stands after the fixed header
 end_by : ℕ → List ℕ → ℕ
 end_by first behind =
     if (first / 16 % 2) == 1
@@ -181,7 +181,7 @@ end_is d =
     let words : drop (csrc_end d + 2) d ≡ drop (c + 2) (drop 12 d) = ap (λ (n : ℕ). drop n d) place ∙ sym (drop-drop (c + 2) 12 d) in
     ap (λ (l : List ℕ). if (slice_index d 0 / 16 % 2) == 1 then csrc_end d + (4 + 4 * big_number 2 l) else csrc_end d) words
 
--- the octets of the payload, by the length, the first byte, the place behind the extension, and the last byte
+-- the octets of the payload, by the length, the first byte, the place after the extension, and the last byte
 octets_by : ℕ → ℕ → ℕ → ℕ → ℕ
 octets_by size first end last =
     let padded = (first / 32 % 2) == 1 in

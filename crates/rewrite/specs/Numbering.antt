@@ -33,7 +33,7 @@ entry_numbers e = numbered_as e.turn e.seq e.answer
 abbrev pub within_limit : ℕ → Result ℕ Skip
 within_limit number = if nat_lt number (2 ^ 62) then Ok number else Err Spent
 
--- The number is one above all that were given, or the leg's first where none was.
+-- The number is one above all that were given, or the leg's first if none was.
 abbrev pub IsNextNumber : ℕ → List Numbered → ℕ → Type 0
 IsNextNumber first [] number = number ≡ first
 IsNextNumber first (p ∷ past) number =

@@ -48,8 +48,8 @@ impl Leg {
     /// number one above all given, or the leg's first. A packet of the same turn gets a number as far
     /// above as its sequence number is, across wraps, so that a repeated packet gets its number again.
     ///
-    /// `Old` where the turn is a lesser one, or the packet stands before the first of its turn; `Spent`
-    /// where the number would be `NUMBER_LIMIT` or more. A `Skip` changes nothing.
+    /// `Old` if the turn is a lesser one, or the packet stands before the first of its turn; `Spent`
+    /// if the number would be `NUMBER_LIMIT` or more. A `Skip` changes nothing.
     pub fn next(&mut self, turn: u64, seq: u16) -> Result<u64, Skip>
         ensures answer { result ≡ answer_to self.old turn seq }
         ensures kept { self.new ≡ held_with self.old turn seq result }

@@ -85,7 +85,7 @@ impl SharedPacket {
         }
     }
 
-    /// The same for one holder more; no byte is copied, nor read again. Refused where the bytes have too many holders.
+    /// The same for one holder more; no byte is copied, nor read again. Refused if the bytes have too many holders.
     pub fn share(&self) -> Result<SharedPacket, AllocError>
         ensures { IfOk result (λ shared. shared ≡ self.now) }
     {

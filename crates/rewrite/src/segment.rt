@@ -9,7 +9,7 @@ use rtp_packet::{SEQ_CYCLE, extended_number};
 /// Outgoing numbers are below this.
 pub const NUMBER_LIMIT: u64 = 1 << 62;
 
-/// The packets of one turn. Their extended numbers count on where sequence numbers wrap (RFC 3550,
+/// The packets of one turn. Their extended numbers count on when sequence numbers wrap (RFC 3550,
 /// appendix A.1), and begin one cycle up, so that those before the first are whole numbers too.
 #[derive(Clone, Copy)]
 pub struct Segment {

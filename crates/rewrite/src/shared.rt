@@ -47,7 +47,7 @@ impl SharedBytes {
         SharedBytes::new(alloc, bytes.to_vec(alloc)?)
     }
 
-    /// The same bytes for one holder more; no byte is copied. Refused where they have too many holders.
+    /// The same bytes for one holder more; no byte is copied. Refused if they have too many holders.
     pub fn share(&self) -> Result<SharedBytes, AllocError>
         ensures { IfOk result (λ shared. shared ≡ self.now) }
     {
@@ -69,7 +69,7 @@ impl SharedBytes {
         }
     }
 
-    /// The same, where nobody else holds them any more.
+    /// The same, if nobody else holds them any more.
     pub fn alone(self) -> Option<SharedBytes>
         ensures { IfSome result (λ alone. alone ≡ self) }
     {
@@ -80,7 +80,7 @@ impl SharedBytes {
         if holders == 1 { Some(self) } else { None }
     }
 
-    /// These bytes in the memory of those, where nobody else holds them; `None` where others do.
+    /// These bytes in the memory of those, if nobody else holds them; `None` if others do.
     pub fn refill(self, bytes: &[u8]) -> Result<Option<SharedBytes>, AllocError>
         ensures { IfOk result (λ filled. IfSome filled (λ shared. shared ≡ bytes.now)) }
     {

@@ -36,7 +36,7 @@ pub no_longer : {A : Type 0} (xs ys : List A) (n m : ℕ) → n ≡ length xs �
 no_longer xs ys n m nx my p =
     let le : n ≤ m = omega (arith, ap length p.1, length-append xs p.0) in grind (arith, nat_tests)
 
--- two beginnings are the same exactly where they are as long
+-- two beginnings are the same exactly if they are as long
 pub same_by : {A : Type 0} (xs ys zs : List A) (n m : ℕ) → n ≡ length xs → m ≡ length ys → IsPrefix xs zs → IsPrefix ys zs
     → IsTrue (n == m) ↔ (xs ≡ ys)
 same_by xs ys zs n m nx my p q = (
@@ -77,7 +77,7 @@ publishes_goes log v e old len pre false is =
       rw is tt,
     )
 
--- whatever the book is, the exchange puts the publication behind all that was seen, or changes nothing
+-- whatever the book is, the exchange puts the publication after all that was seen, or changes nothing
 pub publishes_moves : (v : List Publication) (e : Publication) (old : ℕ) → length v ≡ old
     → Moves IsCounted shown moved 0 (v, (no_nib, None)) (λ n. either (n == old) (old + 1) n) (Publishes (step 0 old (old + 1) e) (v, (no_nib, None)))
 publishes_moves v e old len cs log kept pre away =

@@ -18,6 +18,6 @@ IsCounted cells log = cells ≡ (length log, true) ∷ (0, true) ∷ []
 abbrev pub head_of : Book → Named
 head_of b = record { tracked = true; key = 0; book = b }
 
--- where the number found is the one expected, the publication was put behind all that was seen
+-- if the number found is the one expected, the publication was put after all that was seen
 abbrev pub Publishes : Step Publication → View Publication ℕ → ℕ → View Publication ℕ → Type 0
 Publishes s v found w = MatchBool (found == s.old) (w.0 ≡ v.0 ++ s.ask ∷ []) (Unit {0})

@@ -37,7 +37,7 @@ impl Gain<[Change; 0], u64> for Nothing {
     ghost after = { λ names about answer. ftrue };
 }
 
-/// A step that puts a publication behind all others.
+/// A step that puts a publication after all others.
 pub struct Publish;
 
 impl Play<[Change; 0], u64> for Publish {

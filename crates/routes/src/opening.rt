@@ -79,7 +79,7 @@ impl Blank {
 
 /// The writer of a table and so many readers. All rows begin without a stay, at turn 0 and off.
 ///
-/// Refused with `NoPlace` where a reader finds no place, else with `NoMemory`. It may wait only where it
+/// Refused with `NoPlace` if a reader finds no place, else with `NoMemory`. It may wait only if it
 /// is refused, to let the table go.
 pub fn routes<J: Naming, R: Wait>(
     rt: &R,

@@ -92,7 +92,7 @@ impl<J: Naming> RouteReader<J> {
         learn_mark(&mut self.known, note.mark);
     }
 
-    /// Takes the rows that are published, and says whether it did: not where the table gives no view.
+    /// Takes the rows that are published, and says whether it did: not if the table gives no view.
     /// Then nothing changed. It waits for nobody, and takes no memory.
     pub fn enter(&mut self) -> bool
         ensures view { MatchBool result
@@ -207,7 +207,7 @@ fn take_table<J: Naming>(table: &Table, held: Held) -> Held
     }
 }
 
-/// The copy, brought to where the table is. Where it is there already, no row is copied.
+/// The copy, brought to where the table is. If it is there already, no row is copied.
 #[tactic(auto, using(crate::proofs::RowLemmas::rows_after_length))]
 fn renew<J: Naming>(taken: Table, table: &Table) -> Table
     requires taken { IsTable J.book J.legs taken }

@@ -107,7 +107,7 @@ impl<J: Naming> RouteWriter<J> {
     }
 
     /// Publishes all that was noted at once, and gives the note of all that is then published. It waits
-    /// for readers that are at the rows from before the last publication. It is not refused: where no
+    /// for readers that are at the rows from before the last publication. It is not refused: if no
     /// memory is left it waits for some.
     pub fn publish<R: Wait>(&mut self, rt: &R) -> RouteNote<J>
         ensures published { self.new.published ≡ self.old.published ++ self.old.noted }
@@ -173,7 +173,7 @@ fn advance<R: Wait>(
     unreachable!()
 }
 
-/// Puts the batch behind what the table has still to take in, once there is memory for it.
+/// Puts the batch after what the table has still to take in, once there is memory for it.
 fn queue<J: Naming, R: Wait>(rt: &R, writer: &mut TableWriter<J>, batch: Batch)
     ensures desk { writer.new.desk ≡ writer.old.desk }
     ensures pending { drop writer.new.behind writer.new.log.items

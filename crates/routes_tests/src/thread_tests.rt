@@ -81,7 +81,7 @@ fn tell_all<J: Naming, R: Wait>(
     }
 }
 
-/// Publishes the stays from 1 on. False where there was no memory.
+/// Publishes the stays from 1 on. False if there was no memory.
 fn publish_all<J: Naming, R: Wait>(
     rt: &R,
     writer: &mut RouteWriter<J>,
@@ -97,7 +97,7 @@ fn publish_all<J: Naming, R: Wait>(
     noted
 }
 
-/// Takes the reader's letter, and says which publication it tells of; 0 where there is none.
+/// Takes the reader's letter, and says which publication it tells of; 0 if there is none.
 fn hear<J: Naming, R: Wait>(rt: &R, reader: &mut RouteReader<J>, letter: &Letter<J>) -> u64 {
     let told = letter.lock(rt).take();
     match told {
@@ -122,8 +122,8 @@ fn stay_of(rows: &[Row]) -> Option<u64> {
     }
 }
 
-/// Enters until it was told of the last publication. None where there was no view, where rows of two
-/// publications stood together, or where a view was older than the one before or than what was told.
+/// Enters until it was told of the last publication. None if there was no view, if rows of two
+/// publications stood together, or if a view was older than the one before or than what was told.
 fn follow<J: Naming, R: Wait>(
     rt: &R,
     reader: RouteReader<J>,

@@ -1,4 +1,4 @@
--- Entries that stand one behind the other, read from the front.
+-- Entries that stand one after the other, read from the front.
 use Rattle.std.proofs.Common.{◌≡◌, ◌∙◌, ℕ, suc, ◌-◌, ◌/◌, ◌<◌, ◌≤◌, ℤ, List, [], ◌∷◌, length, take, drop, slice_index, sym, ap, arith, length-drop}
 use Rattle.std.proofs.lemmas.List.{take_rest}
 use Rattle.byteorder.specs.Endian.{big_number, twos_complement}

@@ -30,7 +30,7 @@ pub unless_ok : (o : Option RtcpFault) (p q : RtcpPacket) → unless o p ≡ Ok 
 unless_ok None p q e = (refl, same_ok p q e)
 unless_ok (Some f) p q e = cc
 
--- ---- the content behind a header
+-- ---- the content after a header
 
 pub record HasContent (bytes content rest : List ℕ) : Type 0 where
   pub header : 4 ≤ length bytes

@@ -50,7 +50,7 @@ same_head x y xs ys e = cc
 same_tail : (x y : ℕ) (xs ys : List ℕ) → x ∷ xs ≡ y ∷ ys → xs ≡ ys
 same_tail x y xs ys e = cc
 
--- the items, and what stands behind the zero byte
+-- the items, and what stands after the zero byte
 same_items : (is js : List Item) (r s : List ℕ) → AreItems is → AreItems js → flat_map item_bytes is ++ (0 ∷ r) ≡ flat_map item_bytes js ++ (0 ∷ s) → (is ≡ js) × (r ≡ s)
 same_items [] [] r s hi hj e = (refl, same_tail _ _ _ _ e)
 same_items [] (j ∷ js) r s hi hj e = let some : 0 < j.kind = hj.0 in let none = same_head _ _ _ _ e in absurd (omega arith)

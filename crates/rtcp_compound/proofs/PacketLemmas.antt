@@ -172,7 +172,7 @@ takes_made (b0 ∷ (b1 ∷ [])) content rest n fit h pad fits = let header : 4 �
 takes_made (b0 ∷ (b1 ∷ (b2 ∷ []))) content rest n fit h pad fits = let header : 4 ≤ 3 = h.header in absurd (omega arith)
 takes_made (b0 ∷ (b1 ∷ (b2 ∷ (b3 ∷ tail)))) content rest n fit h pad fits = packet_made b0 b1 b2 b3 tail content rest n (fit 2) (fit 3) h pad fits
 
--- reading goes on behind the content, and behind the padding
+-- reading goes on after the content, and after the padding
 abbrev pub ends_with : ℕ → ℕ → List ℕ → List ℕ → List ℕ → Result (RtcpPacket × List ℕ) RtcpFault
 ends_with kind count body padding rest =
     unless (fault_in kind count body) (record { count = count; kind = kind; body = body; padding = padding }) >>= λ p. Ok (p, rest)

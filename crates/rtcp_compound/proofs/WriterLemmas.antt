@@ -20,7 +20,7 @@ use Rattle.rtcp_compound.proofs.EntryLemmas.{same_block, blocks_more, blocks_non
 pub puts_more : (old mid new a b : List ℕ) → mid ≡ old ++ a → new ≡ mid ++ b → new ≡ old ++ (a ++ b)
 puts_more old mid new a b p q = q ∙ ap (λ y. y ++ b) p ∙ append_assoc old a b
 
--- the parts of a block, one behind the other
+-- the parts of a block, one after the other
 pub block_put : (b : ReportBlock) (o o1 o2 o3 o4 o5 o6 o7 : List ℕ) → o1 ≡ o ++ big_bytes 4 b.source → o2 ≡ o1 ++ (b.fraction ∷ []) → o3 ≡ o2 ++ big_bytes 3 (lost_word b.lost)
     → o4 ≡ o3 ++ big_bytes 4 b.highest → o5 ≡ o4 ++ big_bytes 4 b.jitter → o6 ≡ o5 ++ big_bytes 4 b.last_sr → o7 ≡ o6 ++ big_bytes 4 b.delay
     → o7 ≡ o ++ block_bytes b
@@ -185,7 +185,7 @@ pub bye_length : (ss : List ℕ) → length (packet_bytes (bye_packet ss)) ≡ 4
 unfolding bye_packet
 bye_length ss = let long = length-sources ss in packet_length (length ss) 203 (flat_map (big_bytes 4) ss) ∙ omega arith
 
--- a zero byte and the zeros that fill up the word, behind so many bytes
+-- a zero byte and the zeros that fill up the word, after so many bytes
 pub zeros_behind : ℕ → List ℕ
 zeros_behind n = 0 ∷ replicate (3 - n % 4) 0
 
@@ -246,7 +246,7 @@ pub cname_length : (source : ℕ) (cname : List ℕ) → length (packet_bytes (c
 unfolding cname_packet
 cname_length source cname = let long = chunk_length source cname in packet_length 1 202 (chunk_bytes (cname_chunk source cname)) ∙ omega arith
 
--- the zeros that are put behind so many bytes
+-- the zeros that are put after so many bytes
 pub zeros_put : (n : ℕ) → replicate (4 - n % 4) 0 ≡ zeros_behind n
 unfolding zeros_behind
 zeros_put n = let one : 4 - n % 4 ≡ suc (3 - n % 4) = omega arith in ap (λ (k : ℕ). replicate k 0) one

@@ -17,7 +17,7 @@ sources_in bytes = entries_from (big_number 4) SOURCE_BYTES (length bytes / SOUR
 abbrev pub sources_left : Sources → List ℕ
 sources_left s = sources_in s.bytes.now
 
--- What stands behind the last block, chunk or source that is counted is an extension, and ignored; but a reader of chunks
+-- What stands after the last block, chunk or source that is counted is an extension, and ignored; but a reader of chunks
 -- gets them with it.
 pub data Content : Type 0 where
   sender_report : ℕ → ℕ → ℕ → ℕ → ℕ → List ReportBlock → Content

@@ -1,4 +1,4 @@
--- Entries of one size that stand one behind the other.
+-- Entries of one size that stand one after the other.
 use Rattle.std.specs.Prelude.{ℕ, zero, suc, List, [], ◌∷◌, drop}
 
 -- so many entries of this size, each as it is read from its bytes

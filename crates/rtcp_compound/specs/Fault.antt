@@ -41,7 +41,7 @@ ends_in_padding bytes = nat_lt 0 (last_byte bytes) && (last_byte bytes % 4 == 0)
     && nat_le (last_byte bytes) (length bytes)
 
 -- Header, length and padding of the packet at the front are good: between header and padding stands this body. There is
--- padding where the header says so, the packet then is the last, and the last byte is how much.
+-- padding if the header says so, the packet then is the last, and the last byte is how much.
 pub record HasFrame (bytes body : List ℕ) : Type 0 where
   pub within : IsWithin bytes
   pub padding : List ℕ
@@ -75,14 +75,14 @@ abbrev pub AreUnpadded : List RtcpPacket → Type 0
 AreUnpadded [] = Unit {0}
 AreUnpadded (p ∷ ps) = IsPacket p × (p.padding ≡ []) × AreUnpadded ps
 
--- Before the rest stand whole packets without padding. There may be none of them; behind one something follows.
+-- Before the rest stand whole packets without padding. There may be none of them; after one something follows.
 pub record Passes (bytes rest : List ℕ) : Type 0 where
   pub before : List RtcpPacket
   pub each : AreUnpadded before
   pub goes_on : 0 < length before → 0 < length rest
   pub bytes_are : bytes ≡ flat_map packet_bytes before ++ rest
 
--- Behind such packets stands one with this fault: the first that is faulty.
+-- After such packets stands one with this fault: the first that is faulty.
 pub record Refuses (bytes : List ℕ) (fault : RtcpFault) : Type 0 where
   pub rest : List ℕ
   pub passes : Passes bytes rest

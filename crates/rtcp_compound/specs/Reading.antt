@@ -21,7 +21,7 @@ Gives view r read = MatchResult r (λ x. read ≡ Ok (view x)) (λ f. read ≡ E
 abbrev pub is_padded : List ℕ → Bool
 is_padded bytes = slice_index bytes 0 / 32 % 2 == 1
 
--- what follows the header at the front, as long as the header says, and the bytes behind it
+-- what follows the header at the front, as long as the header says, and the bytes after it
 unfoldable pub content_at : List ℕ → Result (List ℕ × List ℕ) RtcpFault
 content_at bytes =
     if nat_lt (length bytes) 4 then Err Short
@@ -37,7 +37,7 @@ padding_in padded content =
     else if ends_in_padding content then Ok (last_byte content)
     else Err Padding
 
--- the bytes behind the zero byte that ends the items; so many bytes of an item's text are still to come
+-- the bytes after the zero byte that ends the items; so many bytes of an item's text are still to come
 abbrev pub after_items : ℕ → List ℕ → Option (List ℕ)
 after_items (suc n) (b ∷ bs) = after_items n bs
 after_items (suc n) [] = None
@@ -45,7 +45,7 @@ after_items zero [] = None
 after_items zero (kind ∷ []) = if kind == 0 then Some [] else None
 after_items zero (kind ∷ (len ∷ bs)) = if kind == 0 then Some (len ∷ bs) else after_items len bs
 
--- the bytes behind a chunk, in a body that ends at a word boundary
+-- the bytes after a chunk, in a body that ends at a word boundary
 unfoldable pub after_chunk : List ℕ → Option (List ℕ)
 after_chunk body =
     if nat_lt (length body) 4 then None
@@ -55,7 +55,7 @@ abbrev pub after_chunks : ℕ → List ℕ → Option (List ℕ)
 after_chunks zero body = Some body
 after_chunks (suc n) body = option_and_then (after_chunks n) (after_chunk body)
 
--- the sources of a goodbye, and the reason where there is one, stand within the body
+-- the sources of a goodbye, and the reason if there is one, stand within the body
 abbrev pub fits_bye : ℕ → List ℕ → Bool
 fits_bye count body =
     not (nat_lt (length body) (sources_end count))
@@ -76,7 +76,7 @@ abbrev pub unless : Option RtcpFault → RtcpPacket → Result RtcpPacket RtcpFa
 unless None p = Ok p
 unless (Some f) p = Err f
 
--- the packet at the front, and the bytes behind it
+-- the packet at the front, and the bytes after it
 unfoldable pub packet_at : List ℕ → Result (RtcpPacket × List ℕ) RtcpFault
 packet_at bytes =
     content_at bytes >>= λ c.
@@ -112,7 +112,7 @@ sizes (p ∷ ps) = 4 + (length p.body + length p.padding) + sizes ps
 abbrev pub IsReadWhole : List ℕ → Type 0
 IsReadWhole bytes = sizes (packets_in bytes) ≡ length bytes
 
--- the packet at the front by its header and padding alone, whatever its body holds, and the bytes behind it
+-- the packet at the front by its header and padding alone, whatever its body holds, and the bytes after it
 unfoldable pub frame_at : List ℕ → Result (RtcpPacket × List ℕ) RtcpFault
 frame_at bytes =
     content_at bytes >>= λ c.

@@ -1,4 +1,4 @@
--- The packets that the writers append: without padding, and with nothing behind what is counted.
+-- The packets that the writers append: without padding, and with nothing after what is counted.
 use Rattle.std.specs.Prelude.{◌≡◌, ℕ, ◌+◌, ◌-◌, ◌%◌, List, [], ◌∷◌, ◌++◌, length, replicate}
 use Rattle.std.specs.List.{flat_map}
 use Rattle.byteorder.specs.Endian.{big_bytes}
@@ -39,7 +39,7 @@ cname_packet source cname = plain_packet 1 SDES (chunk_bytes (cname_chunk source
 unfoldable pub bye_packet : List ℕ → RtcpPacket
 bye_packet sources = plain_packet (length sources) BYE (flat_map (big_bytes 4) sources)
 
--- Behind the old bytes this packet stands now. It is whole and without padding, and what it says is this content.
+-- After the old bytes this packet stands now. It is whole and without padding, and what it says is this content.
 pub record Appends (old new : List ℕ) (packet : RtcpPacket) (content : Content) : Type 0 where
   pub bytes_are : new ≡ old ++ packet_bytes packet
   pub whole : IsPacket packet

@@ -8,7 +8,7 @@ ghost use Rattle.rtcp_compound.specs.Fault.{AreUnpadded};
 ghost use Rattle.rtcp_compound.specs.Written.{Appends};
 
 /// Whole packets without padding are read as themselves, alone or in front of any datagram, whose packets
-/// then follow; so what writers append is read again as what it says, whatever stands behind it.
+/// then follow; so what writers append is read again as what it says, whatever stands after it.
 pub fn reads_in_front()
     ensures alone { (packets : List RtcpPacket) → AreUnpadded packets → 0 < length packets
         → ReadsRtcp (flat_map packet_bytes packets) packets }

@@ -2,7 +2,7 @@
 //! and any other packet by its header.
 //!
 //! Read `packets` first, then `writer`. Reading is lenient (any packet may come first, unknown types are
-//! passed on) and takes no memory; each packet is a header with the length of the body behind it, and only
+//! passed on) and takes no memory; each packet is a header with the length of the body after it, and only
 //! the last one may have padding. Writing appends a packet to a `Vec`, and asks for memory once.
 #![tactic(auto)]
 

@@ -12,21 +12,21 @@ use tmmbr_tuple::Ssrc;
 pub struct Block {
     /// The source that is reported, any 32 bits.
     pub source: Ssrc,
-    /// The share of its packets lost since the last report, in 256ths. 0 where none was lost, or more
+    /// The share of its packets lost since the last report, in 256ths. 0 if none was lost, or more
     /// came than were expected.
     pub fraction: u8,
     /// Packets lost since its reception began, -8,388,608 to 8,388,607: those expected less those that
-    /// came. Below 0 where more came than were expected.
+    /// came. Below 0 if more came than were expected.
     pub lost: i32,
     /// The highest sequence number that came, extended: how often the numbers began anew in the upper 16
     /// bits, the number in the lower. 0 is a number like any other.
     pub highest: u32,
-    /// How much the time between packets varies, in units of the source's RTP timestamp. 0 where it
+    /// How much the time between packets varies, in units of the source's RTP timestamp. 0 if it
     /// doesn't.
     pub jitter: u32,
-    /// Of the source's last sender report: the NTP timestamp's 32 bits in the middle. 0 where none came.
+    /// Of the source's last sender report: the NTP timestamp's 32 bits in the middle. 0 if none came.
     pub last_sr: u32,
-    /// The time since that report came, in 65,536ths of a second. 0 where none came.
+    /// The time since that report came, in 65,536ths of a second. 0 if none came.
     pub delay: u32,
     pub ghost lost_low: { negsuc 8388607 ≤ℤ lost },
     pub ghost lost_high: { lost ≤ℤ pos 8388607 },

@@ -5,7 +5,7 @@ ghost use Rattle.rtcp_compound.specs.Reading.{after_items, after_chunk, after_ch
 
 use crate::packet::{SOURCE_BYTES, WORD_BYTES};
 
-/// The bytes behind so many chunks, where they end within the body.
+/// The bytes after so many chunks, if they end within the body.
 pub fn after_chunks(count: usize, body: &[u8]) -> Option<&[u8]>
     ensures { MatchOption result (after_chunks count body.now ≡ None)
         (λ x. after_chunks count body.now ≡ Some x.now) }
@@ -19,7 +19,7 @@ pub fn after_chunks(count: usize, body: &[u8]) -> Option<&[u8]>
     Some(rest)
 }
 
-/// The bytes behind the chunk at the front, in a body that ends at a word boundary.
+/// The bytes after the chunk at the front, in a body that ends at a word boundary.
 #[tactic(auto, unfolding(crate::specs::Reading::after_chunk))]
 fn after_chunk(body: &[u8]) -> Option<&[u8]>
     ensures { MatchOption result (after_chunk body.now ≡ None)
@@ -32,7 +32,7 @@ fn after_chunk(body: &[u8]) -> Option<&[u8]>
     Some(&rest[rest.len() % WORD_BYTES..])
 }
 
-/// The bytes behind the zero byte that ends the items.
+/// The bytes after the zero byte that ends the items.
 #[tactic(auto, using(crate::proofs::SdesLemmas::items_end, crate::proofs::SdesLemmas::items_single, crate::proofs::SdesLemmas::items_cut))]
 fn after_items(items: &[u8]) -> Option<&[u8]>
     ensures { MatchOption result (after_items 0 items.now ≡ None)

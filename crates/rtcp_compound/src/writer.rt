@@ -1,4 +1,4 @@
-//! The packets that are sent: each is appended to a `Vec`, behind room that is reserved once.
+//! The packets that are sent: each is appended to a `Vec`, after room is reserved once.
 
 ghost use Rattle.std.specs.Prelude.{◌≡◌, ◌≤◌, ◌<◌, ◌+◌, ◌*◌, ◌/◌, ◌%◌, ◌^◌, ◌≤ℤ◌, pos, negsuc, ◌++◌, [], ◌∷◌, length, map, All, replicate, vec_len, vec_capacity, OnOk, OnErr};
 ghost use Rattle.std.specs.List.{flat_map};

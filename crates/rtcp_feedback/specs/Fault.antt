@@ -8,7 +8,7 @@ abbrev pub feedback_fault_number : FbFault → ℕ
 feedback_fault_number Short = 1
 feedback_fault_number OddFci = 2
 
--- behind the two sources, entries of a NACK (4 bytes) or of a TMMBR or TMMBN (8 bytes) don't end where the body ends
+-- after the two sources, entries of a NACK (4 bytes) or of a TMMBR or TMMBN (8 bytes) don't end where the body ends
 abbrev pub HasOddFci : ℕ → ℕ → List ℕ → Type 0
 HasOddFci fmt kind body =
     (8 ≤ length body) × (kind ≡ RTPFB)

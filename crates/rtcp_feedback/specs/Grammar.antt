@@ -47,7 +47,7 @@ IsKnown fmt kind =
     ((kind ≡ RTPFB) × ((fmt ≡ 1) ⊎ ((fmt ≡ 3) ⊎ (fmt ≡ 4)))) ⊎ ((kind ≡ PSFB) × (fmt ≡ 1))
 
 -- A packet of this FMT, type and body says this. The source of media in a TMMBR and a TMMBN may be any, and so may the
--- FCI of a PLI, and all behind the sender of an unknown packet.
+-- FCI of a PLI, and all after the sender of an unknown packet.
 abbrev pub ReadsFeedback : ℕ → ℕ → List ℕ → Message → Type 0
 ReadsFeedback fmt kind body (nack sender media entries) =
     (kind ≡ RTPFB) × (fmt ≡ 1) × All IsNack entries

@@ -42,7 +42,7 @@ message_of (Tmmbr sender entries) = tmmbr sender.0 (entries_left entries)
 message_of (Tmmbn sender entries) = tmmbn sender.0 (entries_left entries)
 message_of (Unknown sender) = unknown sender.0
 
--- what a packet of this FMT and type says behind its two sources
+-- what a packet of this FMT and type says after its two sources
 unfoldable pub message_at : ℕ → ℕ → ℕ → ℕ → List ℕ → Result Message FbFault
 message_at fmt kind sender media fci =
     if (kind == RTPFB) && (fmt == 1)

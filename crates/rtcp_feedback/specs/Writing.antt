@@ -12,7 +12,7 @@ use Rattle.rtcp_feedback.specs.declared.tmmb.TmmbrEntry.{TmmbrEntry}
 use Rattle.rtcp_feedback.specs.Grammar.{Message, ReadsFeedback, body_bytes, entry_bytes}
 
 -- A packet without padding of this FMT, type and body: the version 2 in two bits and the FMT in five; the type; the length
--- in words behind the header in two bytes; the body (RFC 4585, section 6.1).
+-- in words after the header in two bytes; the body (RFC 4585, section 6.1).
 abbrev pub packet_bytes : ℕ → ℕ → List ℕ → List ℕ
 packet_bytes fmt kind body = (128 + fmt) ∷ kind ∷ (big_bytes 2 (length body / 4) ++ body)
 

@@ -44,7 +44,7 @@ pub enum Feedback<'a> {
     },
 }
 
-/// What a feedback packet of this FMT and type says, by its body: the bytes behind the header, without
+/// What a feedback packet of this FMT and type says, by its body: the bytes after the header, without
 /// padding. Refused with `Short` and `OddFci`, each exactly by its cause. Takes no memory.
 pub fn read_feedback(fmt: u8, kind: u8, body: &[u8]) -> Result<Feedback<'_>, FbFault>
     ensures read { IfOk result (λ found. ReadsFeedback fmt kind body.now (message_of found)) }

@@ -10,16 +10,16 @@ use byteorder::{BigEndian, ByteOrder};
 /// The length of an entry in bytes.
 const ENTRY: usize = 4;
 
-/// How many packets an entry may name behind its first.
+/// How many packets an entry may name after its first.
 const FOLLOWING: u16 = 16;
 
-/// One entry of a generic NACK (RFC 4585, section 6.2.1): a lost packet, and which of the 16 behind it are
+/// One entry of a generic NACK (RFC 4585, section 6.2.1): a lost packet, and which of the 16 after it are
 /// lost too.
 #[derive(Clone, Copy, PartialEq, Eq)]
 pub struct Nack {
     /// The sequence number of a lost packet.
     pub pid: u16,
-    /// A bit for each packet behind it, from the next one, the least significant bit, on; 0 for none.
+    /// A bit for each packet after it, from the next one, the least significant bit, on; 0 for none.
     pub blp: u16,
 }
 
@@ -33,7 +33,7 @@ impl<'a> Nacks<'a> {
     ghost use Rattle.std.specs.Prelude.{◌↔◌, ◌%◌, length, IfOk, IsOk, IsOkUnless};
     ghost use Rattle.rtcp_feedback.specs.Reading.{nacks_in, nacks_left};
 
-    /// The entries that an FCI consists of; `OddFci` where it ends within one.
+    /// The entries that an FCI consists of; `OddFci` if it ends within one.
     pub(crate) fn read(fci: &'a [u8]) -> Result<Nacks<'a>, FbFault>
         ensures whole { IsOk result ↔ (length fci.now % 4 ≡ 0) }
         ensures entries { IfOk result (λ found. nacks_left found ≡ nacks_in fci.now) }
@@ -68,7 +68,7 @@ impl<'a> Iterator for Nacks<'a> {
 }
 
 /// The sequence numbers that an entry says are lost: its `pid`, then by rising i from 1 to 16 the i-th
-/// behind it, modulo 65,536, where the i-th bit of `blp` is set, counted from the least significant.
+/// after it, modulo 65,536, if the i-th bit of `blp` is set, counted from the least significant.
 pub fn lost(nack: Nack) -> ArrayVec<u16, 17>
     ensures { result.items ≡ lost_numbers nack }
 {

@@ -22,7 +22,7 @@ pub const SOURCES: usize = 8;
 /// The length in bytes of a packet's front, a header and these sources.
 pub const FRONT: usize = 12;
 
-/// Appends the front of a packet without padding, which has so many words behind its header.
+/// Appends the front of a packet without padding, which has so many words after its header.
 pub fn put_front<A: Allocator>(
     out: &mut Vec<u8, A>,
     fmt: u8,

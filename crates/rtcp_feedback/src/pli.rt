@@ -9,7 +9,7 @@ use std::alloc::{AllocError, Allocator};
 use tmmbr_tuple::Ssrc;
 
 /// Appends a PLI of this sender about this source of media, a whole RTCP packet without FCI. Refused only
-/// where memory is wanted and there is none; then `out` is as it was.
+/// if memory is wanted and there is none; then `out` is as it was.
 pub fn write_pli<A: Allocator>(
     out: &mut Vec<u8, A>,
     sender: Ssrc,

@@ -48,7 +48,7 @@ impl<'a> TmmbEntries<'a> {
     ghost use Rattle.std.specs.Prelude.{◌↔◌, ◌%◌, IfOk, IsOkUnless};
     ghost use Rattle.rtcp_feedback.specs.Reading.{entries_in, entries_left};
 
-    /// The entries that an FCI consists of; `OddFci` where it ends within one.
+    /// The entries that an FCI consists of; `OddFci` if it ends within one.
     pub(crate) fn read(fci: &'a [u8]) -> Result<TmmbEntries<'a>, FbFault>
         ensures whole { IsOk result ↔ (length fci.now % 8 ≡ 0) }
         ensures entries { IfOk result (λ found. entries_left found ≡ entries_in fci.now) }
@@ -83,7 +83,7 @@ impl<'a> Iterator for TmmbEntries<'a> {
 }
 
 /// Appends a TMMBR of this sender with these entries, a whole RTCP packet (RFC 5104, section 4.2.1).
-/// Refused only where memory is wanted and there is none; then `out` is as it was.
+/// Refused only if memory is wanted and there is none; then `out` is as it was.
 pub fn write_tmmbr<A: Allocator>(
     out: &mut Vec<u8, A>,
     sender: Ssrc,
@@ -100,7 +100,7 @@ pub fn write_tmmbr<A: Allocator>(
 }
 
 /// Appends a TMMBN of this sender with these entries, a whole RTCP packet (RFC 5104, section 4.2.2).
-/// Refused only where memory is wanted and there is none; then `out` is as it was.
+/// Refused only if memory is wanted and there is none; then `out` is as it was.
 pub fn write_tmmbn<A: Allocator>(
     out: &mut Vec<u8, A>,
     sender: Ssrc,

@@ -42,7 +42,7 @@ one_packet datagram p q rp rq =
     let parts = padding-injective p.payload q.payload p.padding q.padding vp.padding vq.padding padded extension.1 in
     same_packet p q second.0 second.1 fixed.2 fixed.3 fixed.4 csrcs.0 extension.0 parts.0 parts.1
 
--- The parts that were cut one behind the other are a packet.
+-- The parts that were cut one after the other are a packet.
 pub packet_of_parts : (d : List ℕ) (h : Header) (csrcs rest : List ℕ) (e : Option ExtensionTree) (more payload padding : List ℕ)
     → IsHeaderOf d h → ((k : ℕ) → get_or d k 0 < 256)
     → drop 12 d ≡ csrcs ++ rest → length csrcs ≡ 4 * h.csrc_count
@@ -85,7 +85,7 @@ packet_of_parts d h csrcs rest e more payload padding header bytes cut size cut_
       bytes = cc;
     }
 
--- The place behind the CSRCs is that behind the header and them.
+-- The place after the CSRCs is that after the header and them.
 pub csrc_end-is : (d : List ℕ) (h : Header) (csrcs : List ℕ) → IsHeaderOf d h → length csrcs ≡ 4 * h.csrc_count → csrc_end d ≡ 12 + length csrcs
 csrc_end-is d h csrcs header size =
     let parts = first_parts (slice_index d 0) h.csrc_count h.padding h.extension header.first header.csrc_count in

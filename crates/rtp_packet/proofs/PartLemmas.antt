@@ -36,7 +36,7 @@ append-parts a b x y h e = (
   sym (drop_at a x (length a) refl) ∙ ap (drop (length a)) e ∙ drop_at b y (length a) (sym h),
 )
 
--- what stands behind a part of what stands behind n bytes
+-- what stands after a part of what stands after n bytes
 pub drop-part : (d part rest : List ℕ) (n m : ℕ) → drop n d ≡ part ++ rest → m ≡ n + length part → drop m d ≡ rest
 drop-part d part rest n m e h =
     ap (λ (k : ℕ). drop k d) h ∙ sym (drop-drop (length part) n d) ∙ ap (drop (length part)) e ∙ drop_at part rest (length part) refl
@@ -112,7 +112,7 @@ padding-injective a b (u ∷ x) (v ∷ y) hx hy there e =
     let fronts : length a ≡ length b = omega (arith, length-append a (u ∷ x), length-append b (v ∷ y), sizes, same) in
     append-parts a b (u ∷ x) (v ∷ y) fronts e
 
--- The place behind the extension: that behind the CSRCs, or the extension's bytes further.
+-- The place after the extension: that after the CSRCs, or the extension's bytes further.
 pub extension_end-is : (d rest more : List ℕ) (e : Option ExtensionTree) → slice_index d 0 / 16 % 2 ≡ bit_of (is_there e) → IsExtension e
     → drop (csrc_end d) d ≡ rest → rest ≡ extension_bytes e ++ more → extension_end d ≡ csrc_end d + length (extension_bytes e)
 extension_end-is d rest more None there he place h =

@@ -7,11 +7,11 @@ use Rattle.rtp_packet.specs.Grammar.{RtpPacket, ReadsRtp, bytes_of, body_bytes, 
 use Rattle.rtp_packet.proofs.FixedLemmas.{length-packet_bytes, sequence_number_written, ssrc_written}
 use Rattle.rtp_packet.proofs.PacketLemmas.{whole_header}
 
--- a part up to the end has what stands behind its start
+-- a part up to the end has what stands after its start
 pub length-part : (n k : ℕ) (xs : List ℕ) → n + k ≤ length xs → k ≤ length (take (length xs - n) (drop n xs))
 length-part n k xs h = rw (take_rest xs n, length-drop n xs) (omega arith)
 
--- the packet's bytes and what stands behind them
+-- the packet's bytes and what stands after them
 copied : (d copy tail : List ℕ) (p : RtpPacket) → ReadsRtp d p → copy ≡ d
     → copy ++ tail ≡ fixed_bytes (first_byte p) (second_byte p) p.sequence_number p.timestamp p.ssrc ++ (body_bytes p ++ tail)
 copied d copy tail p reads same =

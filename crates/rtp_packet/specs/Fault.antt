@@ -17,11 +17,11 @@ rtp_number Room = 6
 abbrev pub HasFixedHeader : List ℕ → Type 0
 HasFixedHeader d = (12 ≤ length d) × (slice_index d 0 / 64 ≡ 2)
 
--- the place behind the CSRCs, of which the first byte has a count in four bits
+-- the place after the CSRCs, of which the first byte has a count in four bits
 abbrev pub csrc_end : List ℕ → ℕ
 csrc_end d = 12 + 4 * (slice_index d 0 % 16)
 
--- the place behind the extension, which counts its words behind its own header, in its second two bytes
+-- the place after the extension, which counts its words after its own header, in its second two bytes
 abbrev pub extension_end : List ℕ → ℕ
 extension_end d =
     if (slice_index d 0 / 16 % 2) == 1

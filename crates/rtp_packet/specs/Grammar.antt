@@ -60,7 +60,7 @@ abbrev pub IsExtension : Option ExtensionTree → Type 0
 IsExtension o =
     ForSome o (λ e. (e.profile < 2 ^ 16) × (length e.words % 4 ≡ 0) × (length e.words / 4 < 2 ^ 16))
 
--- where there is padding, its last byte counts its bytes
+-- if there is padding, its last byte counts its bytes
 abbrev pub IsPadding : List ℕ → Type 0
 IsPadding padding = slice_index padding (length padding - 1) ≡ length padding
 

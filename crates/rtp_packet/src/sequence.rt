@@ -1,4 +1,4 @@
-//! Extended sequence numbers, which count on where sequence numbers wrap (RFC 3550, appendix A.1).
+//! Extended sequence numbers, which count on when sequence numbers wrap (RFC 3550, appendix A.1).
 
 ghost use Rattle.std.specs.Prelude.{◌≡◌, ◌+◌, ◌^◌, ◌≤◌};
 ghost use Rattle.rtp_packet.specs.Sequence.{IsExtendedNumber, extended_number};

@@ -28,11 +28,11 @@ pub struct RtpView<'a> {
     pub ssrc: Ssrc,
     /// The contributing sources, four bytes each, 0 to 15 of them.
     pub csrcs: &'a [u8],
-    /// The header extension, where the packet has one.
+    /// The header extension, if the packet has one.
     pub extension: Option<Extension<'a>>,
     /// The payload, which may be empty.
     pub payload: &'a [u8],
-    /// The padding, its count in the last byte; empty where the packet has none.
+    /// The padding, its count in the last byte; empty if the packet has none.
     pub padding: &'a [u8],
     pub ghost is_read: { ReadsRtp datagram.now (record {
       marker = marker;
@@ -54,7 +54,7 @@ impl<'a> RtpView<'a> {
     ghost use Rattle.rtp_packet.specs.Fault.{HasRtpFault};
     ghost use Rattle.rtp_packet.specs.declared.fault.RtpFault.{RtpFault as Fault};
 
-    /// The packet that a datagram is. Refused where it is none: `Short`, `Version`, `CsrcShort`,
+    /// The packet that a datagram is. Refused if it is none: `Short`, `Version`, `CsrcShort`,
     /// `ExtensionShort` and `Padding`, the first of these that applies.
     pub fn parse(datagram: &'a [u8]) -> Result<RtpView<'a>, RtpFault>
         ensures read { IfOk result (λ view. ReadsRtp datagram.now (rtp_packet_of view)) }
@@ -82,8 +82,8 @@ impl<'a> RtpView<'a> {
     }
 
     /// Writes the packet under this SSRC and sequence number to the front of `out`, all else as it was
-    /// read, and answers its length in bytes; what stands behind it in `out` stays. Refused with `Room`
-    /// where `out` is shorter than the packet, and then `out` is unchanged.
+    /// read, and answers its length in bytes; what stands after it in `out` stays. Refused with `Room`
+    /// if `out` is shorter than the packet, and then `out` is unchanged.
     pub fn rewritten_into(
         &self,
         ssrc: Ssrc,

@@ -21,7 +21,7 @@ or_assoc : (x y z : Bool) → ((x || y) || z) ≡ (x || (y || z))
 or_assoc true y z = refl
 or_assoc false y z = refl
 
--- the bit for a number that stands so far behind the first one
+-- the bit for a number that stands so far after the first one
 abbrev bit_for : ℕ → ℕ
 bit_for d = if (d == 0) || nat_lt 16 d then 0 else 2 ^ (d - 1)
 

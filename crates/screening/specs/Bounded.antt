@@ -19,11 +19,11 @@ idle_flow = record { second = 0; packets = 0; before = 0 }
 abbrev pub empty_book : ℕ → Book
 empty_book remembered = record { last = replicate remembered None; second = 0; count = 0; held = 0 }
 
--- where no gap is wanted no number is
+-- if no gap is wanted no number is
 abbrev pub remembered_by : ResendBounds → ℕ
 remembered_by bounds = if bounds.gap_ms == 0 then 0 else REMEMBERED
 
--- Nothing came and nothing was let through in a unit of these settings, where resends are bounded so.
+-- Nothing came and nothing was let through in a unit of these settings, in which resends are bounded so.
 pub record AreIdle (c : Configuration) (bounds : ResendBounds) (r : Resends) : Type 0 where
   pub table : r.links ≡ table_of c
   pub by : r.bounds ≡ bounds
@@ -48,7 +48,7 @@ abbrev pub flows_with : List Flow → ℕ → ℕ → List Flow
 flows_with flows endpoint moment =
     flow_noted flows endpoint moment (slice_get flows endpoint)
 
--- Behind what was there stands what is given on of the datagram.
+-- After what was there stands what is given on of the datagram.
 pub record GivesDatagram (t : Terms) (who : Asking) (books : List Book) (datagram old new : List ℕ)
     (final : List Book) : Type 0 where
   pub given : List ℕ

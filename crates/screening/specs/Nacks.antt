@@ -20,7 +20,7 @@ use Rattle.screening.specs.declared.resends.ResendBounds.{ResendBounds}
 
 -- ---- an entry
 
--- how far a number stands behind another one, across the wrap
+-- how far a number stands after another one, across the wrap
 abbrev pub behind_by : ℕ → ℕ → ℕ
 behind_by pid seq = (seq + (SEQ_CYCLE - pid)) % SEQ_CYCLE
 
@@ -43,7 +43,7 @@ entry_from part (seq ∷ seqs) = entry_from (Some (joined part seq)) seqs
 abbrev pub entry_of : List ℕ → Option Nack
 entry_of seqs = entry_from None seqs
 
--- PID is this number, and the bit of each number behind it is set exactly if that is among the others
+-- PID is this number, and the bit of each number after it is set exactly if that is among the others
 pub record NamesJust (seq : ℕ) (seqs : List ℕ) : Type 0 where
   pub blp : ℕ
   pub entry : entry_of (seq ∷ seqs) ≡ Some (record { pid = seq; blp = blp })
@@ -69,7 +69,7 @@ abbrev pub padding_at : List ℕ → ℕ
 padding_at packet =
     if slice_index packet 0 / 32 % 2 == 1 then slice_index packet (length packet - 1) else 0
 
--- It is a NACK: transport layer feedback with the FMT 1 that has two sources behind its header (RFC 4585, section 6.1).
+-- It is a NACK: transport layer feedback with the FMT 1 that has two sources after its header (RFC 4585, section 6.1).
 abbrev pub is_nack : List ℕ → Bool
 is_nack packet =
     nat_le 12 (length packet)
@@ -96,7 +96,7 @@ packet_with packet entries =
 
 -- ---- who asks, of which leg, and what may be let through there
 
--- who is sent what; how resends are bounded; what came of each endpoint; and the round trip on each leg, in milliseconds, where it is known
+-- who is sent what; how resends are bounded; what came of each endpoint; and the round trip on each leg, in milliseconds, if it is known
 pub record Terms : Type 0 where
   pub table : LinkTable
   pub bounds : ResendBounds

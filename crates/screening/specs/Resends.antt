@@ -48,8 +48,7 @@ pub record Book : Type 0 where
 
 -- ---- how long a number has to be let through before
 
--- The gap where this round trip is known: the longer of both, but of a round trip no more than MAX_TRIP_MS count. Where no gap is wanted,
--- none.
+-- The gap if this round trip is known: the longer of both, but of a round trip no more than MAX_TRIP_MS count. If no gap is wanted, none.
 abbrev pub gap_by : ℕ → Option ℕ → ℕ
 gap_by gap None = gap
 gap_by gap (Some trip) = if gap == 0 then 0 else max gap (min trip MAX_TRIP_MS)

@@ -24,7 +24,7 @@ pub(crate) struct Resends {
     bounds: ResendBounds,
     /// What came of each endpoint, by its number.
     flows: Vec<Flow>,
-    /// The round trip on each leg in milliseconds, by its number; `None` where it isn't known.
+    /// The round trip on each leg in milliseconds, by its number; `None` if it isn't known.
     trips: Vec<Option<u32>>,
     /// What was let through on each leg, by its number.
     books: Vec<LegBook>,
@@ -42,7 +42,7 @@ pub(crate) struct Known<'a> {
 }
 
 impl Resends {
-    /// Nothing came and nothing was let through in a unit of these settings. Where no gap is wanted nothing is remembered of numbers.
+    /// Nothing came and nothing was let through in a unit of these settings. If no gap is wanted nothing is remembered of numbers.
     pub(crate) fn new(
         alloc: Global,
         settings: &Settings,
@@ -202,7 +202,7 @@ fn allowance_on(known: Known<'_>, who: Asking, leg: u16) -> Allowance
     }
 }
 
-/// The round trip on a leg, where it is known.
+/// The round trip on a leg, if it is known.
 fn trip_on(known: Known<'_>, leg: u16) -> Option<u32>
     ensures { result ≡ trip_on (terms_of known.entry) leg }
 {

@@ -33,7 +33,7 @@ impl Floods {
     ghost use Rattle.std.specs.Prelude.{◌≡◌, IfOk, replicate, slice_get};
     ghost use Rattle.screening.specs.Floods.{is_within, tallies_with};
 
-    /// Nothing came of any of so many endpoints. So many datagrams of each will be heard in a millisecond; any number where that is 0.
+    /// Nothing came of any of so many endpoints. So many datagrams of each will be heard in a millisecond; any number if that is 0.
     pub fn new(alloc: Global, endpoints: usize, limit: u32) -> Result<Floods, AllocError>
         ensures { IfOk result
             (λ f. f ≡ (limit, replicate endpoints (record { moment = 0; count = 0 }))) }

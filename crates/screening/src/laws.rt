@@ -15,7 +15,7 @@ pub fn anew_follows_far()
 {}
 
 /// An entry of a NACK that is written for some numbers names just these (RFC 4585, section 6.2.1): the first of them is PID, and each bit of
-/// BLP is set exactly if the number so far behind it is among the others.
+/// BLP is set exactly if the number so far after it is among the others.
 #[tactic(auto, using(crate::proofs::EntryLemmas::names_just))]
 pub fn entries_name_numbers()
     ensures { (seq : ℕ) (seqs : List ℕ) → NamesJust seq seqs }

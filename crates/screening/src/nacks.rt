@@ -21,7 +21,7 @@ use tmmbr_tuple::Ssrc;
 /// The FMT of a generic NACK (RFC 4585, section 6.2.1).
 const FMT_NACK: u8 = 1;
 
-/// The length in bytes of a header and the two sources behind it (RFC 4585, section 6.1).
+/// The length in bytes of a header and the two sources after it (RFC 4585, section 6.1).
 const FRONT: usize = 12;
 
 /// Where the length stands in a header, the sources, and the second of them, that of the media.
@@ -34,7 +34,7 @@ const MEDIA: usize = 8;
 /// The length of an entry in bytes.
 const ENTRY: usize = 4;
 
-/// How many packets an entry may name behind its first.
+/// How many packets an entry may name after its first.
 const FOLLOWING: u16 = 16;
 
 /// Who sent a datagram, and when it came.

@@ -20,7 +20,7 @@ const SECOND_MS: u64 = 1000;
 #[derive(Clone, Copy, PartialEq, Eq)]
 pub struct ResendBounds {
     /// A packet isn't sent again within so many milliseconds after it was asked for and let through, nor within the round trip to the
-    /// subscriber where that is known and longer. 0: it may.
+    /// subscriber if that is known and longer. 0: it may.
     pub gap_ms: u64,
     /// In a second no more are let through than so many percent of the packets that came. 0: any number.
     pub share: u8,
@@ -44,7 +44,7 @@ pub(crate) struct Allowance {
     pub(crate) most: u64,
 }
 
-/// How long a number has to be let through before, where this gap is wanted and this round trip is known.
+/// How long a number has to be let through before, if this gap is wanted and this round trip is known.
 pub(crate) fn gap_by(gap_ms: u64, trip: Option<u32>) -> u64
     ensures { result ≡ gap_by gap_ms trip }
 {
@@ -151,7 +151,7 @@ fn second_of(moment: u64) -> u64
 /// What was let through on a leg.
 #[derive(Drop)]
 pub(crate) struct LegBook {
-    /// By number modulo `REMEMBERED` the last one that was let through; no places where nothing is remembered.
+    /// By number modulo `REMEMBERED` the last one that was let through; no places if nothing is remembered.
     last: Vec<Option<Passed>>,
     /// In which second the last one was let through, and how many in it.
     second: u64,

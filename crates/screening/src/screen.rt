@@ -257,7 +257,7 @@ impl<'a, S: Source + Drop> Screen<'a, S> {
         }
     }
 
-    /// Takes out of a datagram, the first bytes of `out`, what of its NACKs isn't let through, and says how long it is then. `None` where
+    /// Takes out of a datagram, the first bytes of `out`, what of its NACKs isn't let through, and says how long it is then. `None` if
     /// memory is wanting for that: then it isn't given.
     fn let_through(&mut self, endpoint: u16, size: usize, out: &mut [u8]) -> Option<usize>
         requires { size ≤ length out.old }

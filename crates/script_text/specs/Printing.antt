@@ -1,4 +1,4 @@
--- What is printed of what a line gives, behind what stands there.
+-- What is printed of what a line gives, after what stands there.
 use Rattle.std.specs.Prelude.{◌≡◌, ℕ, List, Option}
 use Rattle.std.specs.Io.KnownBytes.{Appends}
 use Rattle.settings.specs.Settings.{Configuration}

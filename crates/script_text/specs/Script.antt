@@ -20,7 +20,7 @@ abbrev pub datagram_in : List ℕ → Option (List ℕ)
 datagram_in [] = None
 datagram_in (d ∷ ds) = result_ok (decode_of (d ∷ ds))
 
--- ---- the words behind the first
+-- ---- the words after the first
 
 abbrev pub hear_words : Numbers → List (List ℕ) → Option Command
 hear_words n (moment ∷ (endpoint ∷ (datagram ∷ []))) =

@@ -82,7 +82,7 @@ abbrev pub is_named : ℕ → Option ℕ → Bool
 is_named source None = false
 is_named source (Some other) = source == other
 
--- Whether a datagram names the source: RTP by its SSRC, RTCP by the word behind the header of one of its packets, of which so many
+-- Whether a datagram names the source: RTP by its SSRC, RTCP by the word after the header of one of its packets, of which so many
 -- are looked at.
 abbrev pub names_source : ℕ → ℕ → List ℕ → Bool
 names_source zero source datagram = false
@@ -138,7 +138,7 @@ shown_of c s given = filter (is_shown c s) given
 
 -- ---- its text
 
--- the line of the event, where it is to stand there and isn't the one that stands there already
+-- the line of the event, if it is to stand there and isn't the one that stands there already
 abbrev pub heading : Shown → ℕ → Cause → List ℕ
 heading s said cause =
     if s.events then (if said == cause.number then [] else cause.line ++ codes "\n") else []

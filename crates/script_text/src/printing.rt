@@ -106,7 +106,7 @@ fn print_out<O: Write>(
     print_line(shown, latest, said, line.as_bytes(), writer)
 }
 
-/// A line that follows from the latest event, behind what follows from the event of the number `said`.
+/// A line that follows from the latest event, after what follows from the event of the number `said`.
 fn print_line<O: Write>(
     shown: Shown,
     latest: Latest<'_>,

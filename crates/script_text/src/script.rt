@@ -170,7 +170,7 @@ fn shown(numbers: Numbers, words: &[&[u8]]) -> Option<Command>
     }
 }
 
-/// The command, where no word stands behind it.
+/// The command, if no word stands after it.
 fn alone(words: &[&[u8]], command: Command) -> Option<Command>
     ensures { result ≡ no_words command (map (λ x. x.now) words.now) }
 {

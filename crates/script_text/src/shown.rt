@@ -124,7 +124,7 @@ fn is_on_leg(leg: &LegSettings, out: &Out) -> bool
     }
 }
 
-/// Whether a datagram names the source: RTP by its SSRC (RFC 3550, section 5.1), RTCP by the word behind the header of one of its
+/// Whether a datagram names the source: RTP by its SSRC (RFC 3550, section 5.1), RTCP by the word after the header of one of its
 /// packets (RFC 3550, section 6.1).
 fn is_source_of(source: u32, datagram: &[u8]) -> bool
     ensures { result ≡ names_source (length datagram.now) source datagram.now }
@@ -132,7 +132,7 @@ fn is_source_of(source: u32, datagram: &[u8]) -> bool
     names_source(datagram.len(), source, datagram)
 }
 
-/// The same, where so many packets are looked at.
+/// The same, if so many packets are looked at.
 fn names_source(left: usize, source: u32, datagram: &[u8]) -> bool
     ensures { result ≡ names_source left source datagram.now }
 {

@@ -1,4 +1,4 @@
--- Lines, steps and what they print, one behind the other.
+-- Lines, steps and what they print, one after the other.
 use Rattle.std.proofs.Common.{◌≡◌, ◌∙◌, ℕ, ◌+◌, ◌<◌, ◌≤◌, zero, suc, Bool, true, false, List, [], ◌∷◌, ◌++◌, map, Bor, length, drop, get_or, Option, None, Some, Result, Ok, Err, refl, sym, ap, subst, inl, inr, arith, append_assoc}
 use Rattle.std.specs.Prelude.{IfSome, OnOk}
 use Rattle.std.specs.Io.KnownBytes.{Appends}
@@ -30,7 +30,7 @@ use Rattle.request_text.proofs.LineLemmas.{at_line}
 
 -- ---- what is given out
 
--- outs behind outs
+-- outs after outs
 pub joined : (old mid new first second : List Out) → mid ≡ old ++ first → new ≡ mid ++ second → new ≡ old ++ (first ++ second)
 joined old mid new first second p q = q ∙ (ap (λ (xs : List Out). xs ++ second) p ∙ append_assoc old first second)
 
@@ -39,7 +39,7 @@ joined old mid new first second p q = q ∙ (ap (λ (xs : List Out). xs ++ secon
 abbrev texts : List (Bor (List ℕ)) → List (List ℕ)
 texts lines = map (λ (x : Bor (List ℕ)). x.now) lines
 
--- behind the last line nothing is given
+-- after the last line nothing is given
 pub played_out : (c : Configuration) (i : ℕ) (cause : Cause) (lines : List (Bor (List ℕ))) (w : WorldState) → length lines ≤ i
     → LinesPlay c (i + 1) cause (drop i (texts lines)) w [] None
 played_out c i cause lines w past =
@@ -68,7 +68,7 @@ stops_at c i cause lines d w below unreadable =
     (inr (unreadable, refl, refl))
 
 -- What was played so far: from a new world, and what is shown of what it gave was printed; whatever the lines from here on give comes
--- behind it.
+-- after it.
 pub record Played (c : Configuration) (s : Shown) (script : List ℕ) (i : ℕ) (lines : List (List ℕ)) (w : WorldState) (here : Progress)
     (old new : Option (List ℕ)) : Type 0 where
   pub first : WorldState
@@ -168,7 +168,7 @@ whole_printed c s (Some xs) text old new is p = subst (λ (t : List ℕ). Prints
 
 -- ---- settling
 
--- What was done so far, and was given out; whatever is done from here on comes behind it.
+-- What was done so far, and was given out; whatever is done from here on comes after it.
 pub record Drained (waits : WorldState → Bool) (event : Event) (first w : WorldState) (old new : List Out) : Type 0 where
   pub outs : List Out
   pub given : new ≡ old ++ outs
@@ -256,7 +256,7 @@ work_keeps_ingress k w next outs all r =
     let s = step_of w (Work k) next outs all r in
     ap ingress_left s.leads ∙ ingress_same w s.happening (work_aside w k s.happening s.does)
 
--- Rounds that were made so far, and what they gave; whatever is done from here on comes behind it.
+-- Rounds that were made so far, and what they gave; whatever is done from here on comes after it.
 pub record RoundsMade (workers : ℕ) (first w : WorldState) (old new : List Out) : Type 0 where
   pub outs : List Out
   pub given : new ≡ old ++ outs

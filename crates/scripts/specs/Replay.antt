@@ -33,7 +33,7 @@ use Rattle.script_text.specs.declared.shown.Shown.{Shown}
 
 -- ---- what is given out
 
--- these were given out, behind those that were given out before
+-- these were given out, after those that were given out before
 abbrev pub GivesOut : (List Out → Type 0) → List Out → List Out → Type 0
 GivesOut P old new = (outs : List Out) × P outs × (new ≡ old ++ outs)
 
@@ -142,7 +142,7 @@ pub record PrintsLine (c : Configuration) (s : Shown) (n : ℕ) (line : List ℕ
   pub latest : cause_of there.latest ≡ cause_behind c n line (cause_of here.latest)
   pub printed : PrintsGiven c s here.said (given_at (cause_of there.latest) told) there.said old new
 
--- Lines, of which the first has this number, give this, behind the latest event before them; they are played to their end, or up to
+-- Lines, of which the first has this number, give this, after the latest event before them; they are played to their end, or up to
 -- the line of the number that can't be read.
 abbrev pub LinesPlay : Configuration → ℕ → Cause → List (List ℕ) → WorldState → List Given
     → Option ℕ → Type 0
@@ -176,7 +176,7 @@ pub record StopsReplay (c : Configuration) (s : Shown) (script : List ℕ) (line
   pub plays : Plays c script given (Some line)
   pub printed : Appends old new (shown_text c s given)
 
--- where a script isn't played to its end, one of its lines can't be read, or memory is wanting, or a read or a write failed
+-- if a script isn't played to its end, one of its lines can't be read, or memory is wanting, or a read or a write failed
 abbrev pub FailsReplay : Configuration → Shown → Option (List ℕ) → Option (List ℕ)
     → Option (List ℕ) → Failure → Type 0
 FailsReplay c s script old new NoMemory = Unit {0}
@@ -184,7 +184,7 @@ FailsReplay c s script old new Io = Unit {0}
 FailsReplay c s script old new (RefusedLine line fault) =
     (fault ≡ Text) × IfSome script (λ text. StopsReplay c s text line old new)
 
--- where a line isn't played, it can't be read and prints nothing, or memory is wanting, or a write failed
+-- if a line isn't played, it can't be read and prints nothing, or memory is wanting, or a write failed
 abbrev pub FailsLine : Configuration → ℕ → List ℕ → Option (List ℕ) → Option (List ℕ) → Failure
     → Type 0
 FailsLine c number line old new NoMemory = Unit {0}

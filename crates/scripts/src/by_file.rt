@@ -18,7 +18,7 @@ use std::fs;
 use std::io::{self, Read, Write};
 use std::rt::Files;
 
-/// Plays the script of the input by the settings of the file, and prints what is to be shown of what it gives. Nothing is played where
+/// Plays the script of the input by the settings of the file, and prints what is to be shown of what it gives. Nothing is played if
 /// the settings lack the endpoint or the leg that is to be shown: that ends as `Refused`, as a line does that can't be read.
 pub fn run_replay<R: AllocGlobal + Files, I: Read, O: Write, E: Write>(
     rt: &R,

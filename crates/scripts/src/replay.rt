@@ -284,7 +284,7 @@ fn drain_worker(worker: u16, world: &mut World, outs: &mut Vec<Out>) -> Result<(
     Ok(())
 }
 
-/// Does one event, and puts what it gives out behind the rest. Refused for want of memory alone.
+/// Does one event, and puts what it gives out after the rest. Refused for want of memory alone.
 fn step(world: &mut World, event: Event, outs: &mut Vec<Out>) -> Result<(), AllocError>
     ensures done { OnOk result (GivesOut
         (λ given. HasRun (event ∷ []) world.old [] world.new given)

@@ -1,4 +1,4 @@
-//! What an `rtpmap` says: a payload type, and behind a space its encoding (RFC 8866, section 6.6).
+//! What an `rtpmap` says: a payload type, and after a space its encoding (RFC 8866, section 6.6).
 
 ghost use Rattle.std.specs.Prelude.{◌≡◌};
 ghost use Rattle.sdp.specs.Encoding.{is_video, payload_type};
@@ -6,7 +6,7 @@ ghost use Rattle.sdp.specs.Encoding.{is_video, payload_type};
 /// The clock that each encoding of pictures has, in hertz (RFC 3551, section 5).
 const PICTURE_CLOCK: &[u8] = b"/90000";
 
-/// The payload type of an encoding: what stands before the first space, or all where there is none.
+/// The payload type of an encoding: what stands before the first space, or all if there is none.
 pub fn payload_type(rtpmap: &str) -> &str
     ensures { result.now ≡ payload_type rtpmap.now }
 {

@@ -21,15 +21,15 @@ const FEEDBACK: &str =
 pub struct Stream<'a> {
     /// Where it comes to.
     pub address: SocketAddr,
-    /// Where its RTCP comes to; the same where both share a port (RFC 5761).
+    /// Where its RTCP comes to; the same if both share a port (RFC 5761).
     pub rtcp: SocketAddr,
     /// The source that it has, any 32 bits.
     pub ssrc: u32,
     /// The canonical name of that source (RFC 3550, section 6.5.1).
     pub cname: &'a str,
-    /// Its encodings, each behind its payload type, as `96 H264/90000`.
+    /// Its encodings, each after its payload type, as `96 H264/90000`.
     pub rtpmap: &'a [String],
-    /// The parameters of formats, each behind its payload type, as `96 packetization-mode=1`.
+    /// The parameters of formats, each after its payload type, as `96 packetization-mode=1`.
     pub fmtp: &'a [String],
 }
 

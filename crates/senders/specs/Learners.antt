@@ -65,7 +65,7 @@ claim_named same same_host s arrived (Some endpoint) =
     claim_with same same_host endpoint arrived (until arrived.moment s.keep_ms)
     (learner_at s endpoint)
 
--- The endpoint whose datagram this is, by its source, and its seat from then on; none where no endpoint that learns has the source,
+-- The endpoint whose datagram this is, by its source, and its seat from then on; none if no endpoint that learns has the source,
 -- and for a stranger.
 abbrev pub claim_of : (ℕ → ℕ → Bool) → (SocketAddr → SocketAddr → Bool) → (IpAddr → IpAddr → Bool)
     → LearnersState → Arrived → Option (ℕ × Seat)

@@ -19,7 +19,7 @@ abbrev pub heard_size : List ℕ → ℕ
 heard_size datagram =
     if nat_lt (length datagram) 4 then length datagram else min (size_of datagram) (length datagram)
 
--- of RTP the SSRC (RFC 3550, section 5.1); of RTCP the word behind the header of its first packet, if it has one
+-- of RTP the SSRC (RFC 3550, section 5.1); of RTCP the word after the header of its first packet, if it has one
 abbrev pub source_named : List ℕ → Option ℕ
 source_named datagram =
     if is_control datagram

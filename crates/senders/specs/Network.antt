@@ -58,7 +58,7 @@ HasSlash text = position_or_len (λ b. b == 47) text < length text
 abbrev pub HasNoSlash : List ℕ → Type 0
 HasNoSlash text = position_or_len (λ b. b == 47) text ≡ length text
 
--- the text before the first slash is the address, and the text behind it the number of bits
+-- the text before the first slash is the address, and the text after it the number of bits
 abbrev pub SpellsNetwork : List ℕ → Network → Type 0
 SpellsNetwork text network =
     HasSlash text × SpellsPairWithin (before_slash text) (after_slash text) network

@@ -14,7 +14,7 @@ use std::net::{IpAddr, SocketAddr};
 /// An endpoint whose address is learned.
 #[derive(Clone, Copy, Debug, PartialEq, Eq)]
 pub struct Learner {
-    /// Where its datagrams may come from; from anywhere where there is no network.
+    /// Where its datagrams may come from; from anywhere if there is no network.
     pub within: Option<Network>,
     pub seat: Seat,
 }
@@ -112,7 +112,7 @@ impl Learners {
         }
     }
 
-    /// The endpoint whose datagram this is, by its source, and its seat from then on. `None` where no endpoint that learns has the
+    /// The endpoint whose datagram this is, by its source, and its seat from then on. `None` if no endpoint that learns has the
     /// source, and for a stranger: who comes from outside of the network, or while somebody else has the seat.
     pub fn claim(&self, arrived: Arrived) -> Option<(u16, Seat)>
         ensures { result ≡ claim_of ⟦<u32 as PartialEq>⟧.eq ⟦<SocketAddr as PartialEq>⟧.eq

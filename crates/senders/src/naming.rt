@@ -23,7 +23,7 @@ pub fn is_control(datagram: &[u8]) -> bool
 
 /// The source that a datagram names: of RTP its SSRC (RFC 3550, section 5.1), of RTCP the first word of its first packet, which is
 /// the sender of a report or of feedback, and the first source of a description or a goodbye (RFC 3550, section 6; RFC 4585,
-/// section 6.1). `None` where the datagram, or the packet, ends before it.
+/// section 6.1). `None` if the datagram, or the packet, ends before it.
 pub fn source_named(datagram: &[u8]) -> Option<u32>
     ensures { result ≡ source_named datagram.now }
 {

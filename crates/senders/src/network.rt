@@ -64,7 +64,7 @@ pub fn read_network(text: &str) -> Option<Network>
     }
 }
 
-/// What stands before the first slash of a text, and what behind it.
+/// What stands before the first slash of a text, and what after it.
 fn parts(text: &str) -> Option<(&str, &str)>
     ensures { MatchOption result (HasNoSlash text.now)
         (λ x. (x.0.now ≡ before_slash text.now) × (x.1.now ≡ after_slash text.now)

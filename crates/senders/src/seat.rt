@@ -5,7 +5,7 @@ ghost use Rattle.senders.specs.Seat.{first_known, may_take};
 
 use std::net::{IpAddr, SocketAddr};
 
-/// What goes to an address and comes from it, where RTP and RTCP have one each (RFC 3550, section 11).
+/// What goes to an address and comes from it, if RTP and RTCP have one each (RFC 3550, section 11).
 #[derive(Clone, Copy, PartialEq, Eq)]
 pub enum Kind {
     Rtp,
@@ -15,7 +15,7 @@ pub enum Kind {
 /// The addresses that are known of an endpoint, and until when they are kept.
 #[derive(Clone, Copy, Debug, PartialEq, Eq)]
 pub struct Seat {
-    /// Where its RTP comes from; all, where both share a port.
+    /// Where its RTP comes from; all, if both share a port.
     pub rtp: Option<SocketAddr>,
     /// Where its RTCP comes from.
     pub rtcp: Option<SocketAddr>,
@@ -49,7 +49,7 @@ impl Seat {
     }
 
     /// The seat once a datagram of this kind with its source came from this address at this moment; it is then kept until `until_ms`.
-    /// `None` where a stranger sent it, since somebody else has the seat: another address is known of this kind, or one of the other
+    /// `None` if a stranger sent it, since somebody else has the seat: another address is known of this kind, or one of the other
     /// kind on another host.
     pub fn claimed(self, kind: Kind, from: SocketAddr, moment: u64, until_ms: u64) -> Option<Seat>
         ensures { result

@@ -23,7 +23,7 @@ pub struct Origin {
 pub struct Front {
     /// Who sent it; `None` for a stranger.
     pub endpoint: Option<u16>,
-    /// How many bytes it has. What stands behind them is heard by itself.
+    /// How many bytes it has. What stands after them is heard by itself.
     pub length: usize,
 }
 

@@ -1,4 +1,4 @@
--- The lines of a report, one behind the other.
+-- The lines of a report, one after the other.
 use Rattle.std.proofs.Common.{◌≡◌, ◌∙◌, ℕ, suc, ◌+◌, ◌<◌, List, ◌∷◌, ◌++◌, length, drop, get_or, drop-cons, add-one, append_assoc, sym, ap, ap₂}
 use Rattle.tmmbr_tuple.specs.declared.ssrc.Ssrc.{Ssrc}
 use Rattle.bounding_set.specs.State.{announced_of}
@@ -9,13 +9,13 @@ use Rattle.serving.specs.ReportText.{announced_lines}
 from_here : {X : Type 0} (xs : List X) (k : ℕ) (d : X) → k < length xs → drop k xs ≡ get_or xs k d ∷ drop (k + 1) xs
 from_here xs k d below = drop-cons xs k d below ∙ ap (λ n. get_or xs k d ∷ drop n xs) (sym (add-one k))
 
--- the line at a place, and the others behind it
+-- the line at a place, and the others after it
 pub line_at : (senders : List Ssrc) (desks : List DeskState) (k : ℕ) (s : Ssrc) (d : DeskState) → k < length senders → k < length desks
     → announced_lines (drop k senders) (drop k desks)
     ≡ announced_line (get_or senders k s).0 (announced_of (get_or desks k d).bounds) ++ announced_lines (drop (k + 1) senders) (drop (k + 1) desks)
 line_at senders desks k s d among here = ap₂ announced_lines (from_here senders k s among) (from_here desks k d here)
 
--- once the line at a place stands behind the text, the others are still to come
+-- once the line at a place stands after the text, the others are still to come
 pub pushed : (senders : List Ssrc) (desks : List DeskState) (k : ℕ) (s : Ssrc) (d : DeskState) (old new line all : List ℕ) → k < length senders → k < length desks
     → new ≡ old ++ line → line ≡ announced_line (get_or senders k s).0 (announced_of (get_or desks k d).bounds)
     → old ++ announced_lines (drop k senders) (drop k desks) ≡ all → new ++ announced_lines (drop (k + 1) senders) (drop (k + 1) desks) ≡ all

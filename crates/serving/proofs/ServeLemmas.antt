@@ -15,7 +15,7 @@ pub keeps_itself : (known : Option (List ℕ)) → Keeps known known
 keeps_itself None = tt
 keeps_itself (Some xs) = refl
 
--- what is said behind a notice is said behind what was there and the notice
+-- what is said after a notice is said after what was there and the notice
 said_behind : (old mid new : Option (List ℕ)) (notice : List ℕ) (s : Status) → Appends old mid notice → SaysWhy mid new s → SaysWhy (append_known old notice) new s
 said_behind None mid new notice s there said = record {
   done = λ _. tt;

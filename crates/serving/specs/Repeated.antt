@@ -7,7 +7,7 @@ use Rattle.settings.specs.Links.{LinkTable}
 use Rattle.notices.specs.Head.{Identity}
 use Rattle.notices.specs.Notification.{notification_datagrams}
 
--- Behind what was there stands what follows where nobody asked and this whole set is fresh (RFC 5104, section 4.2.1).
+-- After what was there stands what follows if nobody asked and this whole set is fresh (RFC 5104, section 4.2.1).
 pub record AsksForAll (table : LinkTable) (unit : Identity) (publisher : ℕ) (set : List Request) (old new : List Out)
     : Type 0 where
   pub effect : Effect

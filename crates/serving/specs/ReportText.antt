@@ -1,4 +1,4 @@
--- What `sfu serve` prints behind its turns.
+-- What `sfu serve` prints after its turns.
 use Rattle.std.specs.Prelude.{◌++◌, ℕ, List, [], ◌∷◌, Option, codes, length}
 use Rattle.std.specs.Io.KnownBytes.{Appends}
 use Rattle.std.specs.Fmt.{decimal}

@@ -1,4 +1,4 @@
--- What `sfu serve` says, and what it leaves where it isn't done.
+-- What `sfu serve` says, and what it leaves if it isn't done.
 use Rattle.std.specs.Prelude.{◌≡◌, ◌≢◌, ◌⊎◌, ◌++◌, ℕ, List, [], Option, Some, None, codes}
 use Rattle.std.specs.Io.KnownBytes.{Keeps, append_known}
 use Rattle.std.specs.Net.Text.{socket_text}
@@ -32,7 +32,7 @@ abbrev pub courier_fault_of : CourierFault → ServeFault
 courier_fault_of courier_fault.NoMemory = NoMemory
 courier_fault_of courier_fault.System = Socket
 
--- where the unit isn't served to its end for its socket and its threads, nothing was printed
+-- if the unit isn't served to its end for its socket and its threads, nothing was printed
 abbrev pub FailsServe : Option (List ℕ) → Option (List ℕ) → ServeFault → Type 0
 FailsServe old new fault = fault ≡ Socket → Keeps old new
 
@@ -65,7 +65,7 @@ serving_line address (Some rtcp) =
     ++ (socket_text address ++ (codes " rtcp " ++ (socket_text rtcp ++ codes "\n")))
 
 -- What the error output says of a unit that was to be served without lines of counts: where it listens, if it came so far,
--- and behind that what other commands say.
+-- and after that what other commands say.
 pub record SaysWhyServing (old new : Option (List ℕ)) (s : Status) : Type 0 where
   pub notice : List ℕ
   pub listened : (notice ≡ [])

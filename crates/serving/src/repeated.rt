@@ -72,7 +72,7 @@ impl<'a, W: Watch + Drop> RepeatingWatch<'a, W> {
         u16::try_from(publisher).ok()
     }
 
-    /// Asks the publisher for the members of its announced set again, if that is due. Where memory is wanting it isn't asked this time.
+    /// Asks the publisher for the members of its announced set again, if that is due. If memory is wanting it isn't asked this time.
     fn ask_again(&mut self, publisher: u16, desk: &Desk) -> Result<(), AllocError> {
         let set = desk.announced();
         let entries = entries_of(self.repeater.alloc, set.as_slice())?;
@@ -108,7 +108,7 @@ impl Repeater<'_> {
     }
 }
 
-/// Appends what a publisher is sent where its whole announced set is fresh, and nobody asked.
+/// Appends what a publisher is sent if its whole announced set is fresh, and nobody asked.
 fn ask_for_all(
     alloc: Global,
     links: &Links,

@@ -1,4 +1,4 @@
-//! The text that `sfu serve` prints behind its turns.
+//! The text that `sfu serve` prints after its turns.
 
 ghost use Rattle.std.specs.Prelude.{◌≡◌, ◌++◌, length, IfOk, OnOk};
 ghost use Rattle.std.specs.String.{string_bytes};

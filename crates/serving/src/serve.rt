@@ -28,9 +28,9 @@ use workers::{Report, Unwatched};
 /// How long the unit is served, and how often it says how it goes.
 #[derive(Clone, Copy, PartialEq, Eq)]
 pub struct Term {
-    /// How many turns it makes; until it is stopped where there are none.
+    /// How many turns it makes; if there are none, until it is stopped.
     pub ticks: Option<u32>,
-    /// How many seconds there are between two lines of counts; no lines where there are none.
+    /// How many seconds there are between two lines of counts; no lines if there are none.
     pub status: Option<u32>,
 }
 
@@ -44,7 +44,7 @@ impl Term {
     }
 }
 
-/// The sockets that are bound: the one for all, or for RTP, and the one for RTCP, where it has its own.
+/// The sockets that are bound: the one for all, or for RTP, and the one for RTCP, if it has its own.
 #[derive(Drop)]
 struct Bound {
     media: UdpSocket,
@@ -155,7 +155,7 @@ fn serving_text(
     }
 }
 
-/// Serves the endpoints on sockets that are bound, and says on the error output why that failed where it did. What the system drops at
+/// Serves the endpoints on sockets that are bound, and says on the error output why that failed, if it did. What the system drops at
 /// the sockets is looked at meanwhile, if anybody is told of it: the thread that looks makes each system call of the others dearer.
 fn serve_bound<
     R: AllocGlobal + ErrorOutput + Files<File = File> + Net + Threads + Wait + Sync + time::Clock,
@@ -238,7 +238,7 @@ fn serve_lined<
     }
 }
 
-/// How the command ends where the unit ended so; says on the error output why it failed.
+/// How the command ends if the unit ended so; says on the error output why it failed.
 fn ended<E: Write>(served: Result<(), ServeFault>, errors: &mut E) -> Status
     ensures ends { MatchResult served (λ _. result
         ≡ Status.Done) (SaysFault (E.contents errors.old) (E.contents errors.new) result) }
@@ -264,7 +264,7 @@ fn say_fault<E: Write>(errors: &mut E, fault: ServeFault) -> Status
 /// Serves the endpoints with these clients on the sockets for so many turns, screened by these rules, and prints the counts and what is announced to
 /// each publisher by then.
 ///
-/// Fails as `Socket` where 100 receives in a row fail, no timeout can be set, a thread can't be started or the desks don't
+/// Fails as `Socket` if 100 receives in a row fail, no timeout can be set, a thread can't be started or the desks don't
 /// agree with what was counted; then nothing is printed.
 pub fn serve_socket<R: AllocGlobal + Threads + Wait + Sync + time::Clock, O: Write>(
     rt: &R,

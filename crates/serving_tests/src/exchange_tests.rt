@@ -167,7 +167,7 @@ impl Peer {
     }
 }
 
-/// Both endpoints, driven behind each turn of the unit.
+/// Both endpoints, driven after each turn of the unit.
 #[derive(Drop)]
 struct Exchange<'a, 'b> {
     alloc: Global,

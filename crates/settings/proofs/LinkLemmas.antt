@@ -15,7 +15,7 @@ use Rattle.std.specs.Global.{Vec}
 use Rattle.settings.specs.Links.{leg_numbers_of, first_to}
 use Rattle.settings.specs.Places.{Sources, ListsLegs, FindsLegs}
 
--- a list to which one element is put behind has at each place what it had, or that element
+-- a list after which one element is put has at each place what it had, or that element
 pub at_push : {X : Type 0} (xs : List X) (x : X) (P : ℕ → X → Type 0)
     → ((k : ℕ) (v : X) → slice_get xs k ≡ Some v → P k v) → P (length xs) x
     → (k : ℕ) (v : X) → slice_get (xs ++ x ∷ []) k ≡ Some v → P k v

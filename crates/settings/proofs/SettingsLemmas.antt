@@ -269,7 +269,7 @@ names_short p k (e ∷ es) unit passes =
     All-cons (λ e. length (said_name p e) ≤ CNAME_LIMIT) e es
     (name_bounds (said_name p e) (name_passes p k e unit parts.0)).1 (names_short p (k + 1) es unit parts.1)
 
--- where every check passes, each name that is said is short enough to be said
+-- if every check passes, each name that is said is short enough to be said
 pub names_fit : (p : Parts) → first_fault (checks p) ≡ None → All (λ e. length (said_name p e) ≤ CNAME_LIMIT) p.endpoints.items
 names_fit p passes = names_short p 0 p.endpoints.items (top_passes p (top_of p passes)).cname (endpoints_of p passes)
 
@@ -326,7 +326,7 @@ legs_pass p k (l ∷ ls) passes =
     All-cons (IsLegAmong (length p.endpoints.items)) (leg_of (length p.endpoints.items) l) (map (leg_of (length p.endpoints.items)) ls)
     (leg_passes p k l parts.0) (legs_pass p (k + 1) ls parts.1)
 
--- where the checks of all pass, so do those of the one at this place
+-- if the checks of all pass, so do those of the one at this place
 passes_at : {X : Type 0} (f : ℕ × X → List Check) (xs : List X) (k : ℕ) (d : X) → k < length xs → checks_from f xs k ≡ None
     → (first_fault (f (k, get_or xs k d)) ≡ None) × (checks_from f xs (k + 1) ≡ None)
 passes_at f xs k d below passes =

@@ -21,7 +21,7 @@ table_of c = record {
   legs = c.legs;
 }
 
--- the canonical name that is said of what an endpoint publishes; empty where there is no such endpoint
+-- the canonical name that is said of what an endpoint publishes; empty if there is no such endpoint
 abbrev pub cname_of : LinkTable → ℕ → List ℕ
 cname_of t endpoint = slice_index_or t.cnames endpoint []
 

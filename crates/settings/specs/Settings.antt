@@ -38,7 +38,7 @@ is_same None b = false
 is_same (Some a) None = false
 is_same (Some a) (Some b) = a == b
 
--- a check, and the fault where it doesn't pass
+-- a check, and the fault if it doesn't pass
 pub record Check : Type 0 where
   pub passes : Bool
   pub fault : SettingsFault
@@ -183,7 +183,7 @@ rules_of p = record {
   leg_goodbyes = unwrap_or p.leg_goodbyes false;
 }
 
--- the settings that these parts spell, where they pass every check
+-- the settings that these parts spell, if they pass every check
 abbrev pub configuration_of : Parts → Configuration
 configuration_of p = record {
   workers = unwrap_or (number_within p.workers 1 MAX_WORKERS) 0;

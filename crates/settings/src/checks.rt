@@ -25,7 +25,7 @@ pub struct Numbers {
     pub pli_gap_ms: u64,
 }
 
-/// The number, where it is there and lies from `least` to `most`.
+/// The number, if it is there and lies from `least` to `most`.
 fn number_in(value: Option<i64>, least: u64, most: u64) -> Option<u64>
     ensures { result ≡ number_within value least most }
 {
@@ -41,7 +41,7 @@ fn number_in(value: Option<i64>, least: u64, most: u64) -> Option<u64>
     }
 }
 
-/// The number, where it is there and lies from 0 to below the limit.
+/// The number, if it is there and lies from 0 to below the limit.
 fn number_under(value: Option<i64>, limit: u64) -> Option<u64>
     ensures value { result ≡ number_below value limit }
     ensures bound { IfSome result (λ n. n < limit) }
@@ -113,7 +113,7 @@ fn require(passes: bool, fault: SettingsFault) -> Result<(), SettingsFault>
 }
 
 impl Numbers {
-    /// The plain numbers, where every key of the table passes; else the first fault.
+    /// The plain numbers, if every key of the table passes; else the first fault.
     #[tactic(auto, unfolding(crate::specs::Settings::top_checks))]
     fn read(parts: &Parts) -> Result<Numbers, SettingsFault>
         ensures { MatchResult result
@@ -232,7 +232,7 @@ fn check_legs(parts: &Parts) -> Result<(), SettingsFault>
     Ok(())
 }
 
-/// The number, where it is there and below the limit; else 0.
+/// The number, if it is there and below the limit; else 0.
 pub fn number_or_none(value: Option<i64>, limit: u64) -> u64
     requires { 1 ≤ limit }
     ensures value { result ≡ number_or_zero value limit }
@@ -257,7 +257,7 @@ fn source_at(parts: &Parts, place: usize) -> u64
     number_or_none(parts.legs[place - endpoints].out_ssrc, SSRCS)
 }
 
-/// Whether no source behind this place is the same.
+/// Whether no source after this place is the same.
 fn is_single(parts: &Parts, place: usize, count: usize) -> bool
     requires within { place < count }
     requires counted { count ≡ 1 + length parts.now.endpoints.items + length parts.now.legs.items }
@@ -287,7 +287,7 @@ fn are_all_distinct(parts: &Parts) -> bool
     true
 }
 
-/// The plain numbers, where every check passes; else the first fault.
+/// The plain numbers, if every check passes; else the first fault.
 pub fn checked(parts: &Parts) -> Result<Numbers, SettingsFault>
     ensures { MatchResult result
         (λ n. (first_fault (checks parts.now) ≡ None) × AreNumbersOf parts.now n)

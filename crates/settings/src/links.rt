@@ -173,14 +173,14 @@ impl Links {
         self.endpoints.as_slice()
     }
 
-    /// The source of an endpoint, where there is one with this number.
+    /// The source of an endpoint, if there is one with this number.
     pub fn ssrc_of(&self, endpoint: u16) -> Option<Ssrc>
         ensures { result ≡ slice_get self.now.endpoints endpoint }
     {
         self.endpoints.get(usize::from(endpoint)).copied()
     }
 
-    /// The canonical name that is said of what an endpoint publishes; an empty one where there is no such endpoint.
+    /// The canonical name that is said of what an endpoint publishes; an empty one if there is no such endpoint.
     pub fn cname_of(&self, endpoint: u16) -> &str
         ensures value { result.now ≡ cname_of self.now endpoint }
         ensures limit { length result.now ≤ CNAME_LIMIT }
@@ -199,7 +199,7 @@ impl Links {
         self.legs.as_slice()
     }
 
-    /// The leg with this number, where there is one.
+    /// The leg with this number, if there is one.
     pub fn leg(&self, leg: u16) -> Option<&LegSettings>
         ensures value { option_copied result ≡ slice_get self.now.legs leg }
         ensures table { IsLinkTable self.now }
@@ -207,7 +207,7 @@ impl Links {
         self.legs.get(usize::from(leg))
     }
 
-    /// The numbers of the legs of this publisher, rising; none where there is no such endpoint.
+    /// The numbers of the legs of this publisher, rising; none if there is no such endpoint.
     pub fn of_publisher(&self, publisher: u16) -> &[u16]
         ensures { result.now ≡ legs_of self.now publisher }
     {
@@ -217,7 +217,7 @@ impl Links {
         }
     }
 
-    /// The number of the leg on which this subscriber is sent this source, where there is one; the first of them.
+    /// The number of the leg on which this subscriber is sent this source, if there is one; the first of them.
     pub fn leg_to(&self, subscriber: u16, out_ssrc: Ssrc) -> Option<u16>
         ensures { result ≡ leg_to self.now subscriber out_ssrc.0 }
     {

@@ -2,7 +2,7 @@
 
 use std::alloc::{AllocError, Global};
 
-/// What was found of the settings. A number is `None` where it is missing or of the wrong kind.
+/// What was found of the settings. A number is `None` if it is missing or of the wrong kind.
 #[derive(Drop)]
 pub struct Parts {
     /// Threads that forward, 1 to 8.
@@ -15,7 +15,7 @@ pub struct Parts {
     pub timeout_ms: Option<i64>,
     /// Time between two reports, in milliseconds, 1 to 86,400,000.
     pub report_ms: Option<i64>,
-    /// Age at which a request is given up, in milliseconds, 0 to 86,400,000; 0, which is never, where absent.
+    /// Age at which a request is given up, in milliseconds, 0 to 86,400,000; 0, which is never, if absent.
     pub request_ms: Option<i64>,
     /// Least time between two picture loss indications to a publisher, in milliseconds, 0 to 86,400,000.
     pub pli_gap_ms: Option<i64>,
@@ -24,9 +24,9 @@ pub struct Parts {
     /// The unit's canonical name (RFC 3550, section 6.5.1), 1 to 255 bytes of ASCII. It is also said of what an endpoint without a
     /// name of its own publishes.
     pub cname: Option<String>,
-    /// Whether a leg that begins asks for a picture at once; false where absent.
+    /// Whether a leg that begins asks for a picture at once; false if absent.
     pub early_pictures: Option<bool>,
-    /// Whether a leg's subscriber is told when its publisher is gone; false where absent.
+    /// Whether a leg's subscriber is told when its publisher is gone; false if absent.
     pub leg_goodbyes: Option<bool>,
     /// The endpoints.
     pub endpoints: Vec<EndpointParts>,
@@ -66,7 +66,7 @@ impl Parts {
 pub struct EndpointParts {
     /// Its source, 32 bits.
     pub ssrc: Option<i64>,
-    /// The canonical name of whoever publishes it (RFC 3550, section 6.5.1), 1 to 255 bytes of ASCII; the unit's, where absent.
+    /// The canonical name of whoever publishes it (RFC 3550, section 6.5.1), 1 to 255 bytes of ASCII; the unit's, if absent.
     /// Endpoints of one participant have one name: their clock is one.
     pub cname: Option<String>,
 }
@@ -99,8 +99,8 @@ pub struct LegParts {
     pub publisher: Option<i64>,
     /// The source of what is sent on, 32 bits.
     pub out_ssrc: Option<i64>,
-    /// The sequence number of the first packet sent on, 16 bits; 0 where absent.
+    /// The sequence number of the first packet sent on, 16 bits; 0 if absent.
     pub first_seq: Option<i64>,
-    /// Whether the leg is selected from the start; true where absent.
+    /// Whether the leg is selected from the start; true if absent.
     pub on: Option<bool>,
 }

@@ -104,7 +104,7 @@ impl Model for Settings {
     }) };
 }
 
-/// A source, where the parts have it; else source 0.
+/// A source, if the parts have it; else source 0.
 fn source_of(value: Option<i64>) -> Ssrc
     ensures { result ≡ ssrc_of value }
 {
@@ -223,7 +223,7 @@ impl Settings {
     ghost use Rattle.settings.specs.Settings.{checks, configuration_of, IsInRange};
 
     /// The settings that these parts spell. Refused with the first fault by the order of the checks, and
-    /// as `NoMemory` only where every check passes.
+    /// as `NoMemory` only if every check passes.
     pub fn new(alloc: Global, parts: &Parts) -> Result<Settings, SettingsFault>
         ensures ok { IfOk result
             (λ s. (first_fault (checks parts.now) ≡ None) × (s ≡ configuration_of parts.now)) }
@@ -280,7 +280,7 @@ impl Settings {
         self.numbers.report_ms
     }
 
-    /// The age at which a request is given up, in milliseconds; 0 where it never is.
+    /// The age at which a request is given up, in milliseconds; 0 if it never is.
     pub fn request_ms(&self) -> u64
         ensures value { result ≡ self.now.request_ms }
         ensures range { IsInRange self.now }

@@ -17,7 +17,7 @@ list_of-items : (ds : List Data) → list_of (items_of ds) ≡ ds
 list_of-items [] = refl
 list_of-items (d ∷ ds) = ap (λ t. d ∷ t) (list_of-items ds)
 
--- the items of a value, where these are its list
+-- the items of a value, if these are its list
 abbrev items_or : List Data → Option Items → List Data
 items_or none None = none
 items_or none (Some ds) = list_of ds

@@ -88,7 +88,7 @@ has_tables value = has_all is_table value
 abbrev pub has_texts : Data → Bool
 has_texts value = has_all is_text value
 
--- a key that has to be there: its value is missed where it isn't of its kind
+-- a key that has to be there: its value is missed if it isn't of its kind
 abbrev pub is_required : List ℕ → Bool
 is_required key =
     bytes_eq key (codes "cname") || bytes_eq key (codes "history")
@@ -191,7 +191,7 @@ pub record IsFirstSettingsFault (t : Members) (problem : SettingsProblem) : Type
   pub first : problem_spot problem
       ≡ earlier (misfit_of t) (checks_spot (first_fault (checks parts)))
 
--- What a table gives: its settings, where no key misfits; else its first fault; or memory is wanting.
+-- What a table gives: its settings, if no key misfits; else its first fault; or memory is wanting.
 abbrev pub TableGives : Members → Result FileSettings SettingsProblem → Type 0
 TableGives t (Ok f) = (misfit_of t ≡ None) × HoldsSettings t f
 TableGives t (Err NoMemory) = Unit {0}

@@ -26,19 +26,19 @@ abbrev pub list_of : Items → List Data
 list_of no_items = []
 list_of (item d ds) = d ∷ list_of ds
 
--- the items of a list; none where there is no list
+-- the items of a list; none if there is no list
 abbrev pub items_in : Option Data → List Data
 items_in (Some (array ds)) = list_of ds
 items_in value = []
 
--- the text that an item is; nothing where it is none
+-- the text that an item is; nothing if it is none
 abbrev pub text_of : Data → List ℕ
 text_of value = unwrap_or (as_str value) []
 
 abbrev pub texts_of : List Data → List (List ℕ)
 texts_of items = map text_of items
 
--- the texts of a list; none where there is no list
+-- the texts of a list; none if there is no list
 abbrev pub texts_in : Option Data → List (List ℕ)
 texts_in value = texts_of (items_in value)
 
@@ -102,12 +102,12 @@ abbrev pub repeat_if : Option ℕ → Option ℕ
 repeat_if None = None
 repeat_if (Some n) = if (n == 0) || nat_le LEAST_REPEAT_MS n then Some n else None
 
--- the time between two repeats that a number is, where it is there: 0, or from the least to the greatest
+-- the time between two repeats that a number is, if it is there: 0, or from the least to the greatest
 abbrev pub repeat_of : Option ℤ → Option ℕ
 repeat_of value = repeat_if (number_below value REPEATS_MS)
 
 -- what one client may cost the others, and how often a publisher is asked again: the numbers at their keys; 0, which bounds and repeats
--- nothing, where there is none
+-- nothing, if there is none
 abbrev pub bounds_in : Members → BoundKeys
 bounds_in t = record {
   flood_limit = number_or_zero (integer_in (get_member (codes "flood_limit") t)) FLOODS;

@@ -25,7 +25,7 @@ pub const LEAST_REPEAT_MS: u64 = 100;
 /// One more than the greatest such time.
 pub const REPEATS_MS: u64 = 60_001;
 
-/// What a settings file says of bounds; each is 0, which bounds and repeats nothing, where the file says nothing.
+/// What a settings file says of bounds; each is 0, which bounds and repeats nothing, if the file says nothing.
 #[derive(Clone, Copy, PartialEq, Eq)]
 pub struct BoundKeys {
     /// How many datagrams of one endpoint are heard in a millisecond.
@@ -50,7 +50,7 @@ pub(crate) fn bounds_at(table: &Table) -> BoundKeys
     }
 }
 
-/// The number at a key, below this limit; 0 where there is none.
+/// The number at a key, below this limit; 0 if there is none.
 fn bound_at(table: &Table, key: &str, limit: u64) -> u64
     requires { 1 ≤ limit }
     ensures value { result
@@ -74,7 +74,7 @@ pub(crate) fn is_repeat(value: &Value) -> bool
     repeat_of(value.as_integer()).is_some()
 }
 
-/// The time between two repeats that a number is, where it is there: 0, or from the least to the greatest.
+/// The time between two repeats that a number is, if it is there: 0, or from the least to the greatest.
 fn repeat_of(value: Option<i64>) -> Option<u64>
     ensures { result ≡ repeat_of value }
 {
@@ -86,7 +86,7 @@ fn repeat_of(value: Option<i64>) -> Option<u64>
     }
 }
 
-/// The number, where it is there and lies from 0 to below the limit.
+/// The number, if it is there and lies from 0 to below the limit.
 fn number_under(value: Option<i64>, limit: u64) -> Option<u64>
     ensures value { result ≡ number_below value limit }
     ensures bound { IfSome result (λ n. n < limit) }

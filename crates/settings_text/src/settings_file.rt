@@ -25,7 +25,7 @@ pub struct FileSettings {
     pub strict_ssrc: Option<bool>,
     /// What one client may cost the others.
     pub bounds: BoundKeys,
-    /// Where it listens for RTCP, as the file spells it; where it listens for all where the file says nothing.
+    /// Where it listens for RTCP, as the file spells it; where it listens for all if the file says nothing.
     pub listen_rtcp: Option<String>,
     /// What the file says of each endpoint's client, by the endpoint's number.
     pub clients: Vec<ClientText>,
@@ -38,7 +38,7 @@ pub struct ClientText {
     pub address: Option<String>,
     /// The network from which an address may be learned, as the file spells it.
     pub learn_from: Option<String>,
-    /// Where its RTCP comes from and goes to, as the file spells it; the same as all else where the file says nothing.
+    /// Where its RTCP comes from and goes to, as the file spells it; the same as all else if the file says nothing.
     pub rtcp_address: Option<String>,
     /// Whether it only listens, and is present whatever it says.
     pub receive_only: bool,
@@ -61,7 +61,7 @@ pub enum SettingsProblem {
     Top(String),
     /// Such a key of the endpoint of this number.
     Endpoint(usize, String),
-    /// Such a key of the leg of this number; a leg's publisher also where it is its subscriber, or where an earlier leg has
+    /// Such a key of the leg of this number; a leg's publisher also if it is its subscriber, or if an earlier leg has
     /// the same two endpoints.
     Leg(usize, String),
     /// Two of the unit, the endpoints and the legs have one source.
@@ -79,7 +79,7 @@ impl From<AllocError> for SettingsProblem {
     }
 }
 
-/// The settings that a text spells; else its first fault. Want of memory comes only where there is no fault before it.
+/// The settings that a text spells; else its first fault. Want of memory comes only if there is no fault before it.
 pub fn read_settings(alloc: Global, text: &[u8]) -> Result<FileSettings, SettingsProblem>
     ensures { TextGives text.now result }
 {
@@ -159,7 +159,7 @@ fn place_of(fault: SettingsFault) -> Option<Place<'static>>
     }
 }
 
-/// The problem at a place; want of memory, where there is none for its key.
+/// The problem at a place; want of memory, if there is none for its key.
 pub fn problem_at(alloc: Global, place: Place<'_>) -> SettingsProblem
     ensures { (result ≡ SettingsProblem.NoMemory)
         ⊎ (problem_spot result ≡ Some (spot_of place.entry)) }
@@ -274,7 +274,7 @@ fn client_in(alloc: Global, endpoint: &Value) -> Result<ClientText, AllocError>
     })
 }
 
-/// The texts of a list; none where there is no list.
+/// The texts of a list; none if there is no list.
 fn texts_in(alloc: Global, value: Option<&Value>) -> Result<Vec<String>, AllocError>
     ensures { IfOk result (λ texts. map string_bytes texts.items
         ≡ texts_in (option_map (λ v. view v.now) value.entry)) }
@@ -296,7 +296,7 @@ fn texts_of(alloc: Global, items: &[Value]) -> Result<Vec<String>, AllocError>
     Ok(texts)
 }
 
-/// The text that an item is; nothing where it is none.
+/// The text that an item is; nothing if it is none.
 fn text_of(item: &Value) -> &str
     ensures { result.now ≡ text_of (view item.now) }
 {
@@ -325,7 +325,7 @@ fn bool_at(table: &Table, key: &str) -> Option<bool>
     bool_in(value_at(table, key))
 }
 
-/// The integer, where a value is one.
+/// The integer, if a value is one.
 fn integer_in(value: Option<&Value>) -> Option<i64>
     ensures { result ≡ integer_in (option_map (λ v. view v.now) value.entry) }
 {
@@ -335,7 +335,7 @@ fn integer_in(value: Option<&Value>) -> Option<i64>
     }
 }
 
-/// The truth value, where a value is one.
+/// The truth value, if a value is one.
 fn bool_in(value: Option<&Value>) -> Option<bool>
     ensures { result ≡ bool_in (option_map (λ v. view v.now) value.entry) }
 {
@@ -345,7 +345,7 @@ fn bool_in(value: Option<&Value>) -> Option<bool>
     }
 }
 
-/// A copy of the text, where a value is one.
+/// A copy of the text, if a value is one.
 fn text_in(alloc: Global, value: Option<&Value>) -> Result<Option<String>, AllocError>
     ensures { IfOk result
         (λ text. text_bytes text ≡ text_in (option_map (λ v. view v.now) value.entry)) }
@@ -356,7 +356,7 @@ fn text_in(alloc: Global, value: Option<&Value>) -> Result<Option<String>, Alloc
     }
 }
 
-/// A copy of the text, where there is one.
+/// A copy of the text, if there is one.
 fn copied(alloc: Global, text: Option<&str>) -> Result<Option<String>, AllocError>
     ensures { IfOk result (λ copy. text_bytes copy ≡ option_map (λ t. t.now) text.entry) }
 {

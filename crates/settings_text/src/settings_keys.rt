@@ -46,7 +46,7 @@ fn top_misfit(table: &Table) -> Option<&str>
     None
 }
 
-/// Whether settings may have this key, and may have this value there. A required one may have any: it is missed where it
+/// Whether settings may have this key, and may have this value there. A required one may have any: it is missed if it
 /// isn't of its kind.
 fn takes_top(key: &str, value: &Value) -> bool
     ensures { result ≡ takes_top key.now (view value.now) }
@@ -206,7 +206,7 @@ fn takes_leg(key: &str, value: &Value) -> bool
     }
 }
 
-/// The items of the list at a key; none where there is no list.
+/// The items of the list at a key; none if there is no list.
 pub fn items_at<'a>(table: &'a Table, key: &str) -> &'a [Value]
     ensures { map view result.now ≡ items_in (get_member key.now (table_view table.now)) }
 {
@@ -216,7 +216,7 @@ pub fn items_at<'a>(table: &'a Table, key: &str) -> &'a [Value]
     }
 }
 
-/// The items of a list; none where the value is none.
+/// The items of a list; none if the value is none.
 pub(crate) fn items_in(value: &Value) -> &[Value]
     ensures { map view result.now ≡ items_in (Some (view value.now)) }
 {

@@ -18,8 +18,8 @@
  * is safe, too.
  *
  * The caller's part. Nothing here tests it:
- *   - No pointer is null, also where the count beside it is 0: then any other address does.
- *   - Each array has as many elements as the count beside it says, set by the caller where they are read; it is aligned as C aligns
+ *   - No pointer is null, also if the count beside it is 0: then any other address does.
+ *   - Each array has as many elements as the count beside it says, set by the caller if they are read; it is aligned as C aligns
  *     its type, and overlaps nothing else of the call. Until the call returns nobody writes to what it reads, and nobody touches
  *     what it writes.
  *   - A slot (sfu_conference) is SFU_CLOSED before its first call. From then on only the library writes to it. It may be moved, but
@@ -63,7 +63,7 @@ enum sfu_fault {
     SFU_BAD_KEY = 5,
     /* Such a key of the endpoint of the number that is told. */
     SFU_BAD_ENDPOINT = 6,
-    /* Such a key of the leg of the number that is told; also where its two endpoints are one, or those of an earlier leg. */
+    /* Such a key of the leg of the number that is told; also if its two endpoints are one, or those of an earlier leg. */
     SFU_BAD_LEG = 7,
     /* Two of the unit, the endpoints and the legs have one source. */
     SFU_SAME_SSRC = 8,
@@ -179,7 +179,7 @@ sfu_opened sfu_open(sfu_conference *conference, const uint8_t *text, size_t text
  *   endpoint            the number of the endpoint it came from; of a number that no endpoint has it is dropped
  *   bytes, bytes_size   the datagram: RTP or RTCP (RFC 5761), in the clear
  *
- * Refused as SFU_IS_CLOSED; as SFU_BUSY, exactly where something waits, and as SFU_NO_MEMORY: then nothing was done. SFU_UNSETTLED: it
+ * Refused as SFU_IS_CLOSED; as SFU_BUSY, exactly if something waits, and as SFU_NO_MEMORY: then nothing was done. SFU_UNSETTLED: it
  * was heard, and the rest of what follows waits for sfu_settle. A datagram that is no RTP or RTCP, or isn't the endpoint's to send, is
  * SFU_DONE, too: nothing follows from it.
  */
@@ -198,7 +198,7 @@ uint32_t sfu_tick(sfu_conference *conference, uint64_t moment);
 uint32_t sfu_select(sfu_conference *conference, uint64_t moment, uint16_t leg, bool on);
 
 /*
- * What waits since a call met no memory is done. Refused as SFU_IS_CLOSED; as SFU_UNSETTLED where there is no memory: then the first
+ * What waits since a call met no memory is done. Refused as SFU_IS_CLOSED; as SFU_UNSETTLED if there is no memory: then the first
  * of it was done, and the rest waits.
  */
 uint32_t sfu_settle(sfu_conference *conference);
@@ -206,7 +206,7 @@ uint32_t sfu_settle(sfu_conference *conference);
 /*
  * Hands out the datagram that is to be sent next: the next call gives the one after it.
  *
- *   room, room_size   where its bytes go, and how many fit; 2048 are enough where no datagram that comes is longer than 1500
+ *   room, room_size   where its bytes go, and how many fit; 2048 are enough if no datagram that comes is longer than 1500
  *
  * SFU_DONE: the datagram's bytes stand at the front of room, and the rest of it is as it was. Refused as SFU_IS_CLOSED; as SFU_NOTHING,
  * if nothing is to be sent; as SFU_NO_ROOM: then the answer says how many bytes the datagram has, and it is still the next. A refusal

@@ -15,7 +15,7 @@ told_request r = record {
   overhead = r.tuple.overhead;
 }
 
--- The answer says how many requests there are. DONE, exactly where there is room for them: they stand at the front. Else NO_ROOM, and
+-- The answer says how many requests there are. DONE, exactly if there is room for them: they stand at the front. Else NO_ROOM, and
 -- the array is as it was.
 pub record TellsRequests (requests : List Request) (old new : List SfuRequest)
     (answer : SfuAnnounced) : Type 0 where

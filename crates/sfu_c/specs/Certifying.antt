@@ -30,7 +30,7 @@ told_implied i = record { place = i.place; a = i.a; b = i.b; p = i.p; q = i.q; r
 abbrev pub tells_nothing : ℕ → SfuCertified
 tells_nothing fault = record { fault = fault; live = 0; kept = 0; implied = 0 }
 
--- The answer says how many requests are live, and how many entries of each kind the certificate has. DONE, exactly where there is room
+-- The answer says how many requests are live, and how many entries of each kind the certificate has. DONE, exactly if there is room
 -- for all of them: they stand at the fronts. Else NO_ROOM, and the arrays are as they were.
 pub record TellsCertificate (requests : List Request) (cert : Cert)
     (live_old live_new : List SfuRequest) (kept_old kept_new : List SfuKept)

@@ -1,4 +1,4 @@
--- What is answered where a conference isn't opened.
+-- What is answered if a conference isn't opened.
 use Rattle.std.specs.Prelude.{◌≡◌, ℕ, List, Option, Some}
 use Rattle.settings_text.specs.declared.settings_file.SettingsProblem.{SettingsProblem}
 use Rattle.settings_text.specs.declared.settings_file.SettingsProblem.TheVariants.{Toml, Top, Endpoint, Leg, SameSsrc}

@@ -10,7 +10,7 @@ pub record PutsInFront {A : Type 0} (front old new : List A) : Type 0 where
   pub put : take (length front) new ≡ front
   pub rest : drop (length front) new ≡ drop (length front) old
 
--- The answer says where the datagram goes and how many bytes it has. DONE, exactly where there is room for them: they stand at the
+-- The answer says where the datagram goes and how many bytes it has. DONE, exactly if there is room for them: they stand at the
 -- front of the buffer. Else NO_ROOM, and the buffer is as it was.
 pub record WritesDatagram (d : Datagram) (old new : List ℕ) (answer : SfuNext) : Type 0 where
   pub endpoint : answer.endpoint ≡ d.endpoint
@@ -26,7 +26,7 @@ AnswersNext [] old new answer =
     (answer ≡ record { fault = NOTHING; endpoint = 0; size = 0 }) × (new ≡ old)
 AnswersNext (d ∷ others) old new answer = WritesDatagram d old new answer
 
--- The oldest datagram that waits is answered, and where it was written it is taken, after all that were taken since the opening;
+-- The oldest datagram that waits is answered, and if it was written it is taken, after all that were taken since the opening;
 -- nothing else changes.
 pub record HandsOut (room_old room_new : List ℕ) (answer : SfuNext) (old new : ConferenceState)
     : Type 0 where

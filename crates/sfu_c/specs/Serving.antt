@@ -17,8 +17,8 @@ pub record OnHeld (P : ConferenceState → ConferenceState → Type 0)
   pub fact : P before after
 
 -- What a conference was given, and what is answered. DONE: these events from outside were done with all that follows, and nothing waits.
--- BUSY, exactly where something waited, and NO_MEMORY: nothing was done. UNSETTLED: the events were done, and the rest of what follows
--- waits. Where they were done the conference has served them after all that it served since its opening: so the machine's laws hold of all
+-- BUSY, exactly if something waited, and NO_MEMORY: nothing was done. UNSETTLED: the events were done, and the rest of what follows
+-- waits. If they were done the conference has served them after all that it served since its opening: so the machine's laws hold of all
 -- calls together.
 pub record AnswersEvents (outside : List Event) (fault : ℕ) (old new : ConferenceState) : Type 0 where
   pub numbered : (fault ≡ DONE) ⊎ (fault ≡ BUSY) ⊎ (fault ≡ NO_MEMORY) ⊎ (fault ≡ UNSETTLED)

@@ -103,7 +103,7 @@ fn tell_certificate(
     answer
 }
 
-/// The answer where nothing is told.
+/// The answer if nothing is told.
 fn told_nothing(fault: u32) -> SfuCertified
     ensures { result ≡ tells_nothing fault }
 {

@@ -14,9 +14,9 @@ pub struct SfuOpened {
 #[derive(Clone, Copy, PartialEq, Eq)]
 pub struct SfuNext {
     pub fault: u32,
-    /// The endpoint that the datagram goes to; 0 where there is none.
+    /// The endpoint that the datagram goes to; 0 if there is none.
     pub endpoint: u32,
-    /// How many bytes the datagram has; 0 where there is none.
+    /// How many bytes the datagram has; 0 if there is none.
     pub size: usize,
 }
 
@@ -35,7 +35,7 @@ pub struct SfuRequest {
 #[derive(Clone, Copy, PartialEq, Eq)]
 pub struct SfuAnnounced {
     pub fault: u32,
-    /// How many requests there are; 0 where there is no such endpoint.
+    /// How many requests there are; 0 if there is no such endpoint.
     pub count: usize,
 }
 
@@ -78,11 +78,11 @@ pub struct SfuImplied {
 #[derive(Clone, Copy, PartialEq, Eq)]
 pub struct SfuCertified {
     pub fault: u32,
-    /// How many requests are live; 0 where there is no such endpoint.
+    /// How many requests are live; 0 if there is no such endpoint.
     pub live: usize,
-    /// How many of them are announced; 0 where there is no such endpoint.
+    /// How many of them are announced; 0 if there is no such endpoint.
     pub kept: usize,
-    /// How many aren't; 0 where there is no such endpoint.
+    /// How many aren't; 0 if there is no such endpoint.
     pub implied: usize,
 }
 

@@ -50,7 +50,7 @@ fn write_next(conference: &Conference, room: &mut [u8]) -> SfuNext
     }
 }
 
-/// Writes the oldest datagram that waits, and takes it where it was written.
+/// Writes the oldest datagram that waits, and takes it if it was written.
 fn hand_out(conference: &mut Conference, room: &mut [u8]) -> SfuNext
     ensures { HandsOut room.old room.new result conference.old conference.new }
 {

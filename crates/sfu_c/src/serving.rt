@@ -56,7 +56,7 @@ fn settle(conference: &mut Conference) -> u32
 /// A datagram came from this endpoint at this moment, in milliseconds: it is heard, with all that follows. What is to be sent waits
 /// after what was to be sent before.
 ///
-/// Refused as `CLOSED`; as `BUSY`, exactly where something waits, and as `NO_MEMORY`: then nothing was done. As `UNSETTLED` where there
+/// Refused as `CLOSED`; as `BUSY`, exactly if something waits, and as `NO_MEMORY`: then nothing was done. As `UNSETTLED` if there
 /// is no memory for all that follows: then it was heard, and the rest waits for `sfu_settle`.
 #[unsafe(no_mangle)]
 pub extern "C" fn sfu_hear(
@@ -118,7 +118,7 @@ pub extern "C" fn sfu_select(
     answer
 }
 
-/// What waits is done. Refused as `CLOSED`; as `UNSETTLED` where there is no memory: then the first of it was done, and the rest waits.
+/// What waits is done. Refused as `CLOSED`; as `UNSETTLED` if there is no memory: then the first of it was done, and the rest waits.
 #[unsafe(no_mangle)]
 pub extern "C" fn sfu_settle(alloc: Global, conference: &mut SfuConference) -> u32
     ensures answers { result ≢ CLOSED → OnHeld (AnswersSettle result)

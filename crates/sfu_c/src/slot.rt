@@ -12,7 +12,7 @@ use std::mem;
 #[repr(C)]
 #[derive(Drop)]
 pub struct SfuConference {
-    /// 0 where it holds none.
+    /// 0 if it holds none.
     pub is_open: u32,
     pub handle: Handle,
     ghost as_open: { (is_open ≡ 0) ↔ (handle.held ≡ None) },

@@ -51,7 +51,7 @@ fn main(rt: HostRuntime) -> ExitCode {
     ExitCode::from(status.code())
 }
 
-/// Runs the command that the words ask for, and records a unit, or has its lines begin with the time, where they say so.
+/// Runs the command that the words ask for, and records a unit, or has its lines begin with the time, if they say so.
 fn run_words<
     R: AllocGlobal + ErrorOutput + Files<File = File> + Net + Threads + Wait + Sync + Clock,
     I: Read,

@@ -83,7 +83,7 @@ setup_of same_source same same_host a = record {
 abbrev pub rest_of : Rest → List ℕ
 rest_of rest = drop rest.heard rest.bytes.items
 
--- A packet of an endpoint that is heard of the rest of a datagram stands at the beginning of these bytes, and what is behind it is the
+-- A packet of an endpoint that is heard of the rest of a datagram stands at the beginning of these bytes, and what comes after it is the
 -- rest from then on.
 pub record IsHeardOfRest (same : Origin → Origin → Bool) (same_address : SocketAddr → SocketAddr → Bool)
     (senders : List (Origin × ℕ)) (rest later : Rest) (heard : ℕ × ℕ) (out : List ℕ) : Type 0 where
@@ -131,15 +131,15 @@ pub record HasNoReport (sources : List Ssrc) (known later : Known) (room : ℕ) 
 
 -- ---- what is heard of a datagram that came
 
--- What is behind so many bytes of a datagram that came from this address is the rest from then on; it is kept if there was room for it, as
--- there is for each datagram of UDP. Where nothing is behind them, what waited stays.
+-- What comes after so many bytes of a datagram that came from this address is the rest from then on; it is kept if there was room for it,
+-- as there is for each datagram of UDP. If nothing comes after them, what waited stays.
 pub record KeepsBehind (rest later : Rest) (from : SocketAddr) (datagram : List ℕ) (heard : ℕ) : Type 0 where
   pub whole : heard ≡ length datagram → later ≡ rest
   pub still : heard < length datagram → later.from ≡ Some from
   pub behind : heard < length datagram → length datagram ≤ vec_capacity rest.bytes
       → rest_of later ≡ drop heard datagram
 
--- Whose the datagram is that came from this address, how much of it is heard at once, and that what is behind that is kept.
+-- Whose the datagram is that came from this address, how much of it is heard at once, and that what comes after that is kept.
 pub record IsHeardOf (same : Origin → Origin → Bool) (same_address : SocketAddr → SocketAddr → Bool)
     (senders : List (Origin × ℕ)) (rest later : Rest) (from : SocketAddr) (datagram : List ℕ)
     (heard : ℕ × ℕ) : Type 0 where
@@ -154,7 +154,7 @@ pub record Admits (floods later : ℕ × List Tally) (endpoint : ℕ) (is_heard 
   pub counted : later ≡ (floods.0, tallies_with floods.1 endpoint moment)
 
 -- Nothing of a datagram is heard: as many of its endpoint came as may in a millisecond, and all of it is gone; or the packets at its front
--- are a stranger's, for whom nothing is counted, and what is behind them is kept.
+-- are a stranger's, for whom nothing is counted, and what comes after them is kept.
 pub record IsPassedOver (same : Origin → Origin → Bool) (same_address : SocketAddr → SocketAddr → Bool)
     (senders : List (Origin × ℕ)) (floods counted : ℕ × List Tally) (rest later : Rest)
     (from : SocketAddr) (datagram : List ℕ) : Type 0 where
@@ -166,7 +166,7 @@ pub record IsPassedOver (same : Origin → Origin → Bool) (same_address : Sock
 
 -- ---- what is learned of a datagram that came
 
--- RTCP is of a kind of its own where it has an address of its own (RFC 3550, section 11)
+-- RTCP is of a kind of its own if it has an address of its own (RFC 3550, section 11)
 abbrev pub kind_heard : Option SocketAddr → List ℕ → Kind
 kind_heard None datagram = Rtp
 kind_heard (Some rtcp) datagram = if is_control datagram then Rtcp else Rtp

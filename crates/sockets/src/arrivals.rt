@@ -44,7 +44,7 @@ pub struct Arrivals<'a> {
     rest: Rest,
 }
 
-/// The packets of a datagram behind those that were heard.
+/// The packets of a datagram after those that were heard.
 #[derive(Drop)]
 struct Rest {
     bytes: Vec<u8>,
@@ -56,7 +56,7 @@ struct Rest {
 
 impl<'a> Arrivals<'a> {
     /// Nothing came yet to a unit that listens there, with these settings and these clients. So many datagrams of one endpoint will be
-    /// heard in a millisecond; any number where that is 0.
+    /// heard in a millisecond; any number if that is 0.
     pub fn new(
         alloc: Global,
         listening: Listening,
@@ -127,7 +127,7 @@ impl<'a> Arrivals<'a> {
         }
     }
 
-    /// Whether something of a datagram that came still waits to be heard, as behind a stranger's packet that was passed over.
+    /// Whether something of a datagram that came still waits to be heard, as after a stranger's packet that was passed over.
     pub fn has_rest(&self) -> bool
         ensures { IsTrue result ↔ (0 < length (rest_of self.now.rest)) × IsSome self.now.rest.from }
     {
@@ -135,7 +135,7 @@ impl<'a> Arrivals<'a> {
     }
 
     /// What is heard of a datagram that came from this address and is the beginning of `out`, so many bytes: its endpoint, and how
-    /// many of them. The rest is kept. `None` where a stranger sent it, or more than may come in a millisecond came of its endpoint before;
+    /// many of them. The rest is kept. `None` if a stranger sent it, or more than may come in a millisecond came of its endpoint before;
     /// both are counted.
     pub fn heard(&mut self, from: SocketAddr, size: usize, out: &[u8]) -> Option<(u16, usize)>
         requires { size ≤ length out.now }
@@ -217,7 +217,7 @@ impl<'a> Arrivals<'a> {
         }
     }
 
-    /// An endpoint is at this seat from now on. Where memory is wanting, or a thread looks at its seat just now, it stays where it was
+    /// An endpoint is at this seat from now on. If memory is wanting, or a thread looks at its seat just now, it stays where it was
     /// and is learned from a later datagram.
     fn move_to(&mut self, endpoint: u16, seat: Seat, before: Seat)
         ensures rest { self.new.rest ≡ self.old.rest }
@@ -244,7 +244,7 @@ impl<'a> Arrivals<'a> {
         }
     }
 
-    /// What goes to one address and comes from it: RTCP, where it has a port of its own; else all is of one kind.
+    /// What goes to one address and comes from it: RTCP, if it has a port of its own; else all is of one kind.
     fn kind_of(&self, datagram: &[u8]) -> Kind
         ensures { result ≡ kind_heard self.now.listening.rtcp datagram.now }
     {
@@ -255,7 +255,7 @@ impl<'a> Arrivals<'a> {
         }
     }
 
-    /// Keeps what is behind so many bytes of a datagram, if anything is.
+    /// Keeps what is after so many bytes of a datagram, if anything is.
     fn keep(&mut self, from: SocketAddr, datagram: &[u8], heard: usize)
         requires { heard ≤ length datagram.now }
         ensures known { known_by self.new ≡ known_by self.old }
@@ -414,7 +414,7 @@ fn looks_of(
     Ok((listeners, floods, rest))
 }
 
-/// Writes bytes to the beginning of `out`, and says how many; nothing where there is no room.
+/// Writes bytes to the beginning of `out`, and says how many; nothing if there is no room.
 fn written(bytes: &[u8], out: &mut [u8]) -> Option<usize>
     ensures none { IfNone result (length out.old < length bytes.now) }
     ensures within { IfSome result (λ written. written ≤ length out.new) }

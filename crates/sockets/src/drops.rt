@@ -40,7 +40,7 @@ struct Looker {
     unread: Arc<AtomicU64, Global>,
 }
 
-/// Starts the thread, which says to the gauges what was dropped. Where the system says nothing of it, or has no thread, there is none.
+/// Starts the thread, which says to the gauges what was dropped. If the system says nothing of it, or has no thread, there is none.
 pub fn watch_drops<R: AllocGlobal + Files<File = File> + Net + Threads>(
     rt: &R,
     sockets: Sockets<'_>,

@@ -19,10 +19,10 @@ use traffic::Traffic;
 /// How long a receive waits, in milliseconds, so that time goes on while nothing comes.
 const RECEIVE_MS: u64 = 10;
 
-/// How long it waits where RTCP comes to a socket of its own, which is asked when the moment has changed.
+/// How long it waits if RTCP comes to a socket of its own, which is asked when the moment has changed.
 const SHORT_RECEIVE_MS: u64 = 2;
 
-/// How many receives in a row are from the socket of RTCP where both have something.
+/// How many receives in a row are from the socket of RTCP if both have something.
 const CONTROL_TURNS: u32 = 16;
 
 /// The sockets of a unit: one for all (RFC 5761), or one for RTP and one for RTCP (RFC 3550, section 11).
@@ -30,7 +30,7 @@ const CONTROL_TURNS: u32 = 16;
 pub struct Sockets<'a> {
     /// The one for all, or for RTP.
     pub media: &'a UdpSocket,
-    /// The one for RTCP, where it has its own.
+    /// The one for RTCP, if it has its own.
     pub control: Option<&'a UdpSocket>,
 }
 
@@ -302,7 +302,7 @@ impl<'a, R: time::Clock> RunClock<'a, R> {
         }
     }
 
-    /// How many milliseconds went by since the clock was asked first, where the system says so.
+    /// How many milliseconds went by since the clock was asked first, if the system says so.
     fn elapsed_ms(&mut self) -> Option<u64> {
         let now = Instant::now(self.rt).ok()?;
         let start = *self.start.get_or_insert(now);
@@ -323,7 +323,7 @@ impl<R: time::Clock> Clock for RunClock<'_, R> {
     }
 }
 
-/// The moment that a clock tells which told this one last, where so many milliseconds went by if the system says so: none before it.
+/// The moment that a clock tells which told this one last, when so many milliseconds went by if the system says so: none before it.
 fn later_moment(told: u64, elapsed_ms: Option<u64>) -> u64
     ensures { result ≡ later_moment told elapsed_ms }
 {

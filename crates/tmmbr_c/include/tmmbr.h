@@ -11,11 +11,11 @@
  *
  *     bits + 8 * overhead * packets <= rate * seconds
  *
- * and forbids it where the left side is greater. A set of requests permits what each of them does.
+ * and forbids it if the left side is greater. A set of requests permits what each of them does.
  *
  * The caller's part. Nothing here tests it:
- *   - No pointer is null, also where the count beside it is 0: then any other address does.
- *   - Each array has as many elements as the count beside it says, set by the caller where they are read; it is aligned as C
+ *   - No pointer is null, also if the count beside it is 0: then any other address does.
+ *   - Each array has as many elements as the count beside it says, set by the caller if they are read; it is aligned as C
  *     aligns its type, and overlaps no other array of the call. Until the call returns nobody writes to what it reads, and
  *     nobody touches what it writes.
  *   - A state (tmmbr_state) is TMMBR_NO_STATE before its first call. From then on only the library writes to it. It may be moved,
@@ -137,7 +137,7 @@ typedef struct tmmbr_answer {
 /* What tmmbr_check answers. */
 typedef struct tmmbr_verdict {
     uint32_t fault; /* TMMBR_DONE, the first condition that fails, or why the numbers are refused */
-    uint32_t place; /* the least place that the fault speaks of; 0 where it speaks of none */
+    uint32_t place; /* the least place that the fault speaks of; 0 if it speaks of none */
 } tmmbr_verdict;
 
 /*
@@ -165,7 +165,7 @@ tmmbr_answer tmmbr_announced(const tmmbr_request *asked, size_t asked_count, tmm
  *   kept, kept_count        the kept entries, in any order; 0 to TMMBR_MAX_REQUESTS
  *   implied, implied_count  the implied entries, in any order; 0 to TMMBR_MAX_REQUESTS
  *
- * TMMBR_DONE is answered exactly where all five conditions hold. Then the requests at the places of the kept entries permit
+ * TMMBR_DONE is answered exactly if all five conditions hold. Then the requests at the places of the kept entries permit
  * what all of the requests together permit, and no smaller set of them does. Else the answer is the first condition that
  * fails, and the least place where it does.
  *
@@ -188,7 +188,7 @@ typedef struct tmmbr_state {
 /* What tmmbr_set answers. */
 typedef struct tmmbr_change {
     uint32_t fault;   /* TMMBR_DONE, or why the request is refused */
-    uint32_t changed; /* 1 where the announced set changed: other requests in it, or another spelling of one; else 0 */
+    uint32_t changed; /* 1 if the announced set changed: other requests in it, or another spelling of one; else 0 */
 } tmmbr_change;
 
 /* What tmmbr_live answers. */

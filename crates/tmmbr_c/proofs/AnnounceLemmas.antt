@@ -186,7 +186,7 @@ module _ (asked : List TmmbrRequest) (kept : List TmmbrKept) (implied : List Tmm
   no_request : TmmbrRequest
   no_request = record { ssrc = 0; exponent = 0; mantissa = 0; overhead = 0 }
 
-  -- a fault that is neither of the two where requests are accepted
+  -- a fault that is neither of the two with which requests are accepted
   not_accepted : (IsAccepted asked → ⊥) → (a.fault ≡ DONE → ⊥) → (a.fault ≡ NO_ROOM → ⊥)
       → record {
         accepted : ((a.fault ≡ DONE) ⊎ (a.fault ≡ NO_ROOM)) ↔ IsAccepted asked;

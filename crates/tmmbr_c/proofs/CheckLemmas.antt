@@ -21,7 +21,7 @@ module _ (asked : List TmmbrRequest) (kept : List TmmbrKept) (implied : List Tmm
   no_implied : TmmbrImplied
   no_implied = record { place = 0; a = 0; b = 0; p = 0; q = 0; r = 0 }
 
-  -- where numbers can't be read, the refusal is one of three, and nothing is said of a certificate
+  -- if numbers can't be read, the refusal is one of three, and nothing is said of a certificate
   pub record Unread : Type 0 where
     pub readable : (v.fault ≤ NOT_NAMED) ↔ CanBeRead asked kept implied
     pub certified : CanBeRead asked kept implied
@@ -86,7 +86,7 @@ module _ (asked : List TmmbrRequest) (kept : List TmmbrKept) (implied : List Tmm
         );
       }
 
-  -- where they can be read, nothing is refused
+  -- if they can be read, nothing is refused
   pub read_refuses_none : CanBeRead asked kept implied → v.fault ≤ NOT_NAMED → record {
     request_range : (place : ℕ) → (((v.fault ≡ REQUEST_RANGE) × (v.place ≡ place)) ↔ IsUnreadRequest asked kept implied place);
     kept_range : (place : ℕ) → (((v.fault ≡ KEPT_RANGE) × (v.place ≡ place)) ↔ IsUnreadKept asked kept implied place);

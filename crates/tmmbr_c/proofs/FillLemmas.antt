@@ -24,7 +24,7 @@ module _ (requests : List Request) (order : List OwnerPlace) (d : Request) where
       → (get_or (ordered requests d order) k e).owner.0 ≡ (get_or order k o).ssrc
   owner_there owns k e o below = ap (λ (r : Request). r.owner.0) (get_or-map at order k o e below) ∙ owns k o below d
 
-  -- where owners rise, so do those of their requests
+  -- if owners rise, so do those of their requests
   pub ordered-rises : OwnersRise (λ o. o.ssrc) order → All (λ o. HoldsAt (λ r. r.owner.0 ≡ o.ssrc) requests o.place) order
       → HasRisingOwners (ordered requests d order)
   ordered-rises rising owns i j e before below =

@@ -1,4 +1,4 @@
--- There is one first, and none where nothing is said against any element.
+-- There is one first, and none if nothing is said against any element.
 use Rattle.std.proofs.Common.{◌≡◌, ◌≢◌, ℕ, ◌<◌, List, length, ap, ◌∙◌, inl, inr, arith}
 use Rattle.std.specs.Prelude.{All, AllPairs}
 use Rattle.std.proofs.lemmas.Bool.{cases_lt}
@@ -42,7 +42,7 @@ module _ (asked : List TmmbrRequest) where
       let earlier = first.repeated in
       differ earlier.0 p none earlier.1 first.in_range (earlier.2 none)
 
-  -- owners differ where each place has no earlier one of its owner
+  -- owners differ if each place has no earlier one of its owner
   pub differ_from_none : ((k : ℕ) → k < length asked → ¬ IsRepeated asked k) → AllPairs (λ x y. x.ssrc ≢ y.ssrc) asked
   differ_from_none none = λ i j d before below same.
       let ssrc : TmmbrRequest → ℕ = λ c. c.ssrc in

@@ -18,7 +18,7 @@ fn refused(fault: u32) -> TmmbrChange
     TmmbrChange { fault, changed: 0 }
 }
 
-/// 1 where the announced set changed; else 0.
+/// 1 if the announced set changed; else 0.
 fn told(changed: bool) -> u32
     ensures { (result ≡ 1) ↔ IsTrue changed }
 {

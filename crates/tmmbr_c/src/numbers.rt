@@ -58,14 +58,14 @@ pub struct TmmbrImplied {
 #[repr(C)]
 #[derive(Clone, Copy)]
 pub struct TmmbrAnswer {
-    /// 0 where it is done; else the number of the refusal.
+    /// 0 if it is done; else the number of the refusal.
     pub fault: u32,
-    /// The place of the request that is refused; 0 where none is.
+    /// The place of the request that is refused; 0 if none is.
     pub place: u32,
-    /// How many kept entries there are, which is how many requests are announced; also where there is
+    /// How many kept entries there are, which is how many requests are announced; also if there is
     /// no room for them.
     pub kept: u32,
-    /// How many implied entries there are; also where there is no room for them.
+    /// How many implied entries there are; also if there is no room for them.
     pub implied: u32,
 }
 
@@ -73,10 +73,10 @@ pub struct TmmbrAnswer {
 #[repr(C)]
 #[derive(Clone, Copy)]
 pub struct TmmbrVerdict {
-    /// 0 where the certificate holds; else the number of the first condition that fails, or of the
+    /// 0 if the certificate holds; else the number of the first condition that fails, or of the
     /// refusal.
     pub fault: u32,
-    /// The least place where the condition fails, or of the request or entry that is refused; 0 where
+    /// The least place where the condition fails, or of the request or entry that is refused; 0 if
     /// none is shown.
     pub place: u32,
 }
@@ -85,9 +85,9 @@ pub struct TmmbrVerdict {
 #[repr(C)]
 #[derive(Clone, Copy)]
 pub struct TmmbrChange {
-    /// 0 where it is done; else the number of the refusal.
+    /// 0 if it is done; else the number of the refusal.
     pub fault: u32,
-    /// 1 where the announced set changed; else 0.
+    /// 1 if the announced set changed; else 0.
     pub changed: u32,
 }
 
@@ -95,8 +95,8 @@ pub struct TmmbrChange {
 #[repr(C)]
 #[derive(Clone, Copy)]
 pub struct TmmbrLive {
-    /// 0 where it is done; else the number of the refusal.
+    /// 0 if it is done; else the number of the refusal.
     pub fault: u32,
-    /// How many requests are live; also where there is no room for them.
+    /// How many requests are live; also if there is no room for them.
     pub count: u32,
 }

@@ -62,7 +62,7 @@ pub fn read_implied_entries(
     Ok(implied)
 }
 
-/// The request of these numbers; `None` exactly where one is out of range.
+/// The request of these numbers; `None` exactly if one is out of range.
 pub fn read_request(asked: &TmmbrRequest) -> Option<Request>
     ensures in_range { IsSome result ↔ IsRequestInRange asked.now }
     ensures value { IfSome result (λ r. r ≡ asked_request asked.now) }
@@ -76,7 +76,7 @@ pub fn read_request(asked: &TmmbrRequest) -> Option<Request>
     })
 }
 
-/// The kept entry of these numbers; `None` exactly where one is out of range.
+/// The kept entry of these numbers; `None` exactly if one is out of range.
 pub fn read_kept(entry: &TmmbrKept) -> Option<Kept>
     ensures in_range { IsSome result ↔ IsKeptInRange entry.now }
     ensures value { IfSome result (λ k. k ≡ kept_entry entry.now) }
@@ -88,7 +88,7 @@ pub fn read_kept(entry: &TmmbrKept) -> Option<Kept>
     Some(Kept { place, pair })
 }
 
-/// The implied entry of these numbers; `None` exactly where one is out of range.
+/// The implied entry of these numbers; `None` exactly if one is out of range.
 pub fn read_implied(entry: &TmmbrImplied) -> Option<Implied>
     ensures in_range { IsSome result ↔ IsImpliedInRange entry.now }
     ensures value { IfSome result (λ i. i ≡ implied_entry entry.now) }

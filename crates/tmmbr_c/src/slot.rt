@@ -12,7 +12,7 @@ use std::mem;
 #[repr(C)]
 #[derive(Drop)]
 pub struct TmmbrState {
-    /// 0 where it isn't open.
+    /// 0 if it isn't open.
     pub is_open: u32,
     pub handle: Handle,
     ghost as_open: { (is_open ≡ 0) ↔ (handle.held ≡ None) },

@@ -126,7 +126,7 @@ fn checks_example_4(rt: HostRuntime) {
     kept[1].place = 1;
     let verdict = tmmbr_check(&THREE, &kept, &IMPLIED);
     assert_eq!(rt; (verdict.fault, verdict.place), (PAIR_PERMITTED, 0));
-    // Of example 5, where owner 19 asks for 1 bit per second less.
+    // Of example 5, in which owner 19 asks for 1 bit per second less.
     let mut asked = THREE;
     asked[0].mantissa = 61_999;
     let verdict = tmmbr_check(&asked, &KEPT, &IMPLIED);

@@ -5,7 +5,7 @@ use Rattle.tmmbr_tuple.specs.declared.pair.Pair.{Pair}
 use Rattle.tmmbr_tuple.specs.Tuple.{rate_of}
 
 -- packets / seconds packets per second, and bits / seconds bits of net media per second. No number
--- has an upper bound; where seconds is 0 it is no pair, and no statement speaks of it.
+-- has an upper bound; if seconds is 0 it is no pair, and no statement speaks of it.
 pub record RatePair : Type 0 where
   pub packets : ℕ
   pub bits : ℕ
@@ -15,7 +15,7 @@ pub record RatePair : Type 0 where
 abbrev pub pair_of : Pair → RatePair
 pair_of p = record { packets = p.packets; bits = p.bits; seconds = p.seconds }
 
--- A tuple permits a pair where the media and 8 bits for each byte of header stay within its rate.
+-- A tuple permits a pair if the media and 8 bits for each byte of header stay within its rate.
 abbrev pub Permits : Tuple → RatePair → Type 0
 Permits t p = p.bits + 8 * t.overhead * p.packets ≤ rate_of t * p.seconds
 

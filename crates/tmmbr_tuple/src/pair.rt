@@ -19,7 +19,7 @@ pub struct Pair {
 }
 
 impl Pair {
-    /// The pair of these three numbers; `None` exactly where one of them is out of its range.
+    /// The pair of these three numbers; `None` exactly if one of them is out of its range.
     pub fn new(packets: u128, bits: u128, seconds: u128) -> Option<Pair>
         ensures in_range { IsSome result
             ↔ ((packets < 2 ^ 100) × (bits < 2 ^ 100) × (1 ≤ seconds) × (seconds < 2 ^ 14)) }

@@ -5,7 +5,7 @@ ghost use Rattle.std.specs.Prelude.{◌≡◌, ℕ, ◌*◌, ◌^◌, ◌<◌, �
 /// What one request allows (RFC 5104, section 4.2.1.1): a total rate of `mantissa * 2^exp` bits per
 /// second, of which each packet takes `overhead` bytes for its headers.
 ///
-/// A rate of 0 asks for no media at all. Two tuples may spell one rate; they are equal only where
+/// A rate of 0 asks for no media at all. Two tuples may spell one rate; they are equal only if
 /// all three numbers are.
 #[derive(Clone, Copy, Debug, PartialEq, Eq)]
 pub struct Tuple {
@@ -23,7 +23,7 @@ pub struct Tuple {
 impl Tuple {
     ghost use Rattle.tmmbr_tuple.specs.Tuple.{rate_of, word_of};
 
-    /// The tuple of these three numbers; `None` exactly where one of them is out of its range.
+    /// The tuple of these three numbers; `None` exactly if one of them is out of its range.
     pub fn new(exp: u8, mantissa: u32, overhead: u16) -> Option<Tuple>
         ensures in_range { IsSome result ↔ ((exp < 64) × (mantissa < 131072) × (overhead < 512)) }
         ensures value { IfSome result (λ t. (t.exp ≡ exp) × (t.mantissa ≡ mantissa)

@@ -66,7 +66,7 @@ reason_words (Desk desk.HistoryFull) = codes "a desk that has no call left"
 abbrev pub AreCounted : List RefusedCount → Type 0
 AreCounted counts = All (λ (c : RefusedCount). 1 ≤ c.count) counts
 
--- of whose datagrams; of none where none is known
+-- of whose datagrams; of none if none is known
 abbrev pub whose_word : Option ℕ → List ℕ
 whose_word None = codes "none"
 whose_word (Some endpoint) = decimal endpoint

@@ -87,7 +87,7 @@ reading_start f number =
     report_figure_name f
     ++ (codes "{" ++ (report_figure_label f ++ (codes "=\"" ++ (decimal number ++ codes "\"} "))))
 
--- its value of one leg, or of one publisher; no line where it has none
+-- its value of one leg, or of one publisher; no line if it has none
 abbrev pub reading_line : ReportFigure → ℕ → Option Reading → List ℕ
 reading_line f number None = []
 reading_line f number (Some reading) = reading_start f number ++ (reading_text reading ++ codes "\n")

@@ -49,7 +49,7 @@ abbrev pub newer_trip : Option ℕ → Option ℕ → Option ℕ
 newer_trip None before = before
 newer_trip (Some trip) before = Some trip
 
--- the round trip by a block, where the last sender report of the stream is this one, or none was sent
+-- the round trip by a block, if the last sender report of the stream is this one, or none was sent
 abbrev pub trip_by : Option SentReport → ReportBlock → ℕ → Option ℕ
 trip_by None b moment = None
 trip_by (Some sent) b moment = round_trip sent b (moment % 2 ^ 32)

@@ -43,7 +43,7 @@ impl Kinds {
     }
 }
 
-/// How many packets of each kind of feedback this datagram of RTCP holds; none where it is no compound (RFC 3550, section 6.1).
+/// How many packets of each kind of feedback this datagram of RTCP holds; none if it is no compound (RFC 3550, section 6.1).
 pub fn kinds_of(datagram: &[u8]) -> Kinds
     ensures read { (packets : List RtcpPacket) → ReadsRtcp datagram.now packets
         → result ≡ kinds_in (map packet_content packets) }

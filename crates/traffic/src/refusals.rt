@@ -12,7 +12,7 @@ use settings::RoomFault;
 /// How often something was refused for this reason of what came from an endpoint.
 #[derive(Clone, Copy, PartialEq, Eq)]
 pub struct RefusedCount {
-    /// Whose datagrams it came of; `None` where it came of none.
+    /// Whose datagrams it came of; `None` if it came of none.
     pub endpoint: Option<u16>,
     pub refusal: Refusal,
     pub count: u64,

@@ -26,7 +26,7 @@ pub enum ReportFigure {
 pub enum Reading {
     /// So many 256ths of 1.
     Parts(u8),
-    /// So many packets; below 0 where more came than were expected.
+    /// So many packets; below 0 if more came than were expected.
     Packets(i32),
     /// So many units of the RTP timestamp.
     Units(u32),
@@ -57,7 +57,7 @@ const PUBLISHER_FIGURES: [ReportFigure; 3] = [
 ];
 
 impl ReportFigure {
-    /// What it is by this report; `None` where the report doesn't say it.
+    /// What it is by this report; `None` if the report doesn't say it.
     pub fn of(self, report: &ReceptionReport) -> Option<Reading>
         ensures { result ≡ reading_of self report.now }
     {

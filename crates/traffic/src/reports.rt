@@ -22,9 +22,9 @@ pub struct SentReport {
 /// What was last reported of the reception of a stream.
 #[derive(Clone, Copy, Debug, PartialEq, Eq)]
 pub struct ReceptionReport {
-    /// The share of packets lost since the report before, in 256ths. 0 where none was lost, or more came than were expected.
+    /// The share of packets lost since the report before, in 256ths. 0 if none was lost, or more came than were expected.
     pub fraction: u8,
-    /// Packets lost since reception began, -8,388,608 to 8,388,607. Below 0 where more came than were expected.
+    /// Packets lost since reception began, -8,388,608 to 8,388,607. Below 0 if more came than were expected.
     pub lost: i32,
     /// How much the time between packets varies, in units of the RTP timestamp.
     pub jitter: u32,
@@ -39,7 +39,7 @@ impl ReceptionReport {
     ghost use Rattle.rtcp_compound.specs.Report.{block_of};
     ghost use Rattle.traffic.specs.Reports.{report_after};
 
-    /// What is known after this block, which passes at this moment, where `before` was known, and `sent` is the last sender report that was
+    /// What is known after this block, which passes at this moment, if `before` was known, and `sent` is the last sender report that was
     /// sent on the stream.
     pub fn after(
         before: Option<ReceptionReport>,

@@ -254,7 +254,7 @@ impl Traffic {
         }
     }
 
-    /// Something was refused of a datagram of this endpoint, or, where it is `None`, of none.
+    /// Something was refused of a datagram of this endpoint, or, if it is `None`, of none.
     pub fn refused(&self, endpoint: Option<u16>, refusal: Refusal) {
         let Some(number) = endpoint else {
             return self.refused.add(refusal);
@@ -288,14 +288,14 @@ impl Traffic {
         Some(cells.seen())
     }
 
-    /// What this leg's subscriber reported last; `None` where it has reported nothing, or there is no such leg.
+    /// What this leg's subscriber reported last; `None` if it has reported nothing, or there is no such leg.
     pub fn leg_report(&self, leg: u16) -> Option<ReceptionReport>
         ensures { IfSome result (λ _. leg < vec_len self.now.legs) }
     {
         self.legs.get(usize::from(leg))?.reported.seen()
     }
 
-    /// What the unit reported of this endpoint last; `None` where it has reported nothing, or there is no such endpoint.
+    /// What the unit reported of this endpoint last; `None` if it has reported nothing, or there is no such endpoint.
     pub fn publisher_report(&self, endpoint: u16) -> Option<ReceptionReport>
         ensures { IfSome result (λ _. endpoint < vec_len self.now.endpoints) }
     {

@@ -75,7 +75,7 @@ fn drops_of_words(words: &[&[u8]], address: &[u8]) -> u64
     }
 }
 
-/// The word at a place; an empty one where there is none.
+/// The word at a place; an empty one if there is none.
 fn word_at<'a>(words: &[&'a [u8]], place: usize) -> &'a [u8]
     ensures { result.now ≡ get_or (map (λ x. x.now) words.now) place [] }
 {

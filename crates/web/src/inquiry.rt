@@ -171,7 +171,7 @@ impl<S: Read + Write + Drop> Inquiry<S> {
         }
     }
 
-    /// Reads once: whether something came. `None` where nothing will come any more.
+    /// Reads once: whether something came. `None` if nothing will come any more.
     fn read_piece(&mut self) -> Option<bool> {
         let mut piece = [0; PIECE];
         match self.stream.read(&mut piece) {

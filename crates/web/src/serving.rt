@@ -192,7 +192,7 @@ fn begin<R: AllocGlobal + Clock + RandomSource>(rt: &R, name: &str) -> Option<Pa
     })
 }
 
-/// Asks the unit and answers those who come, turn by turn. Ends only where the clock or the random source fails.
+/// Asks the unit and answers those who come, turn by turn. Ends only if the clock or the random source fails.
 fn serve_at<R: AllocGlobal + Net + Wait + Clock + RandomSource>(
     rt: &R,
     place: Place<'_>,

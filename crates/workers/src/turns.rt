@@ -41,7 +41,7 @@ impl<Src: Source + Drop, Clk: Clock + Drop, W: Watch + Drop> Inlet<Src, Clk, W> 
         })
     }
 
-    /// Makes so many turns, where all workers were started.
+    /// Makes so many turns, if all workers were started.
     pub(crate) fn run_started<D: DeskCalls, C: SeatCalls, J: Naming, S: Sink + Drop, R: Wait>(
         &mut self,
         rt: &R,
@@ -55,7 +55,7 @@ impl<Src: Source + Drop, Clk: Clock + Drop, W: Watch + Drop> Inlet<Src, Clk, W> 
         }
     }
 
-    /// Makes so many turns, fewer if a stop comes: then that turn is the last. Ends early where memory is wanting or too many
+    /// Makes so many turns, fewer if a stop comes: then that turn is the last. Ends early if memory is wanting or too many
     /// receives in a row fail.
     fn run<D: DeskCalls, C: SeatCalls, J: Naming, S: Sink + Drop, R: Wait>(
         &mut self,

@@ -57,12 +57,12 @@ const TICK_MS: u64 = 1;
 
 /// Runs the unit for so many turns, each one receive and one tick, with all that follows; a turn in which a stop came is the last.
 /// Each worker sends on its legs in
-/// a thread of its own, and calls the gate before and after each job. Behind the turns each worker does the jobs that wait,
+/// a thread of its own, and calls the gate before and after each job. After the turns each worker does the jobs that wait,
 /// all threads end, and the desks are gathered.
 ///
-/// Refused with the first fault that comes: `Receive` where 100 receives in a row failed; `Start` where no thread could be
-/// started, or a reader of the routes found no place; `Gather` where the desks don't agree with what was counted;
-/// `NoMemory` where memory was wanting, but in a worker. All threads end then, too.
+/// Refused with the first fault that comes: `Receive` if 100 receives in a row failed; `Start` if no thread could be
+/// started, or a reader of the routes found no place; `Gather` if the desks don't agree with what was counted;
+/// `NoMemory` if memory was wanting, but in a worker. All threads end then, too.
 pub fn run_unit<
     R: Threads + Wait + Sync,
     Src: Source + Drop,

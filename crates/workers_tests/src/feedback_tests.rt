@@ -127,7 +127,7 @@ impl<J: Naming, D: DeskCalls, C: SeatCalls> Bench<'_, J, D, C> {
         (self.seat.calls(0), self.sink.handed.len())
     }
 
-    /// Whether the datagram at this place went to this endpoint, with these bytes behind the head.
+    /// Whether the datagram at this place went to this endpoint, with these bytes after the head.
     fn sent(&self, alloc: Global, place: usize, endpoint: u16, bytes: &[u8]) -> bool {
         match (self.sink.handed.get(place), compound(alloc, bytes)) {
             (Some(datagram), Ok(all)) => is(datagram, endpoint, all.as_slice()),

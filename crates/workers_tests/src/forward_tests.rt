@@ -189,7 +189,7 @@ fn does_in_vain<J: Naming>(rt: &impl Abort, bench: &mut Bench<'_, J>, jobs: &[Jo
     assert!(rt; bench.sink.handed.is_empty());
 }
 
-/// Does a job. What it gives out stands behind what the sink was handed before.
+/// Does a job. What it gives out stands after what the sink was handed before.
 fn lists<J: Naming>(
     worker: &mut Forwarder,
     reader: &mut RouteReader<J>,

@@ -24,7 +24,7 @@ const BOTH: Forwarded = Forwarded {
 /// So many packets fill the rings of the room's legs, which keep 8, and bring their lists to the length that they need.
 const FIRST: u16 = 12;
 
-/// So many packets come behind those.
+/// So many packets come after those.
 const STEADY: u16 = 1_000;
 
 /// The only worker of a room with two subscribers.
@@ -32,7 +32,7 @@ fn worker(alloc: Global) -> Option<Forwarder> {
     Forwarder::new(alloc, &two_subscribers(alloc)?, 0).ok()
 }
 
-/// The same, made again where memory was refused for it.
+/// The same, made again if memory was refused for it.
 fn worker_at_last(alloc: Global) -> Option<Forwarder> {
     match worker(alloc) {
         Some(made) => Some(made),
@@ -40,7 +40,7 @@ fn worker_at_last(alloc: Global) -> Option<Forwarder> {
     }
 }
 
-/// A job that a packet makes, made again where memory was refused for it.
+/// A job that a packet makes, made again if memory was refused for it.
 fn packet_at_last(alloc: Global, seq: u8) -> Result<Job, AllocError> {
     match packet(alloc, seq) {
         Ok(job) => Ok(job),
@@ -135,7 +135,7 @@ fn packet_of(alloc: Global, seq: u16) -> Result<Job, AllocError> {
     })
 }
 
-/// The same, made again where memory was refused for it.
+/// The same, made again if memory was refused for it.
 fn packet_of_at_last(alloc: Global, seq: u16) -> Result<Job, AllocError> {
     match packet_of(alloc, seq) {
         Ok(job) => Ok(job),
@@ -143,7 +143,7 @@ fn packet_of_at_last(alloc: Global, seq: u16) -> Result<Job, AllocError> {
     }
 }
 
-/// The first packets take memory, and a refused one goes out when it comes again; each one behind them goes out at once,
+/// The first packets take memory, and a refused one goes out when it comes again; each one after them goes out at once,
 /// whichever growth is refused.
 fn streams<J: Naming>(
     rt: &impl Abort,

@@ -81,7 +81,7 @@ fn all_links(alloc: Global) -> Result<Vec<Link>, AllocError> {
     Ok(links)
 }
 
-/// What an endpoint sends. Feedback asks desks, so that its order among other calls matters: it comes only where `may_ask`.
+/// What an endpoint sends. Feedback asks desks, so that its order among other calls matters: it comes only if `may_ask`.
 fn datagram(
     alloc: Global,
     dice: &mut Dice,

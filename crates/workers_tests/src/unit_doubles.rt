@@ -99,7 +99,7 @@ pub(super) enum Arrival {
     Fault,
 }
 
-/// A source that plays its arrivals one after the other; behind them nothing comes, and it says so.
+/// A source that plays its arrivals one after the other; after them nothing comes, and it says so.
 #[derive(Drop)]
 pub(super) struct Script<'a> {
     arrivals: Vec<Arrival>,

@@ -226,7 +226,7 @@ fn ticks_while_receives_fail(rt: HostRuntime) -> Result<(), Fail> {
     Ok(())
 }
 
-/// How many datagrams the unit sends where a publisher comes, and so many receives fail after that. A report is due each second.
+/// How many datagrams the unit sends if a publisher comes, and so many receives fail after that. A report is due each second.
 fn sent_beside_faults<R: Threads + Wait + Sync>(
     rt: &R,
     alloc: Global,

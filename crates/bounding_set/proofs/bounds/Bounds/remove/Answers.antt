@@ -33,7 +33,7 @@ update_stops-requires-clause-none c =
     (All-fewer (λ r. ¬ StopsMedia r) old new gone
     (HasOneMore-taken old new gone c.self.invariant.1 c.take.ensures.rising (sym c.take.ensures.value ∙ c.in_ok-tuple.was) c.take.ensures.taken) (c.self.invariant.3.none empty))
 
--- where the owner's request isn't announced and no rate is 0, no line goes
+-- if the owner's request isn't announced and no rate is 0, no line goes
 pub returns-clause-no_step : goal.returns-clause-no_step
 returns-clause-no_step c =
     let gone : Request = record { owner = c.args.owner; tuple = c.in_ok-tuple.tuple } in
