@@ -1,15 +1,10 @@
 //! The commands of the program, over a reader and writers.
 
-ghost use Rattle.std.specs.Prelude.{◌≡◌, ◌≢◌, ◌⊎◌, Bool, ℕ, List, Option, map, None, Some, Ok, Err, IfSome, codes};
+ghost use Rattle.std.specs.Prelude.{◌≡◌, ◌≢◌, map, Some, codes};
 ghost use Rattle.std.specs.Io.KnownBytes.{Appends, Keeps};
-ghost use Rattle.command_line.specs.CommandLine.{AsksToServe, Request, Types, asked_for, bound, check, draw, replay, serve};
-ghost use Rattle.offline.specs.Printed.{PrintsBound, PrintsPicture, RefusesBound};
-ghost use Rattle.checking.specs.Sheet.{SaysNo};
+ghost use Rattle.command_line.specs.CommandLine.{AsksToServe, Request, Types, asked_for};
+ghost use Rattle.commands.specs.Commands.{Ends, EndsUnit};
 ghost use Rattle.endings.specs.Endings.{SaysWhy};
-ghost use Rattle.scripts.specs.ByFile.{NamesNobody, PrintsByFile, RefusesByFile, shown_by};
-ghost use Rattle.settings.specs.Settings.{Configuration};
-ghost use Rattle.serving.specs.ReportText.{PrintsReport};
-ghost use Rattle.serving.specs.Serving.{SaysWhyServing};
 ghost use Rattle.settings_text.specs.SettingsText.{SaysProblem};
 
 use command_line::{Action, Noted, Record, read_words};
@@ -54,55 +49,9 @@ pub fn run_command<
     O: Write,
     E: Write,
 >(rt: &R, words: &[S], meter: &Meter, reader: &mut I, writer: &mut O, errors: &mut E) -> Status
-    ensures bound_done { (media : ℕ) → asked_for (map S.text words.now) ≡ Some (bound media)
-        → result ≡ Status.Done
-        → IfSome (I.remaining reader.old)
-        (λ input. PrintsBound media input (O.contents writer.old) (O.contents writer.new)) }
-    ensures bound_refused { (media : ℕ) → asked_for (map S.text words.now) ≡ Some (bound media)
-        → result ≡ Status.Refused
-        → IfSome (I.remaining reader.old)
-        (λ input. Keeps (O.contents writer.old) (O.contents writer.new)
-        × RefusesBound media input (E.contents errors.old) (E.contents errors.new)) }
-    ensures check_done { (file : List ℕ) → asked_for (map S.text words.now) ≡ Some (check file)
-        → result ≡ Status.Done
-        → Appends (O.contents writer.old) (O.contents writer.new) (codes "yes\n") }
-    ensures check_refused { (file : List ℕ) → asked_for (map S.text words.now) ≡ Some (check file)
-        → result ≡ Status.Refused
-        → SaysNo (O.contents writer.old) (O.contents writer.new) (E.contents errors.old)
-        (E.contents errors.new) }
-    ensures replay_done { (file : List ℕ) (leg endpoint from : Option ℕ) (events : Bool)
-        → asked_for (map S.text words.now) ≡ Some (replay file leg endpoint from events)
-        → result ≡ Status.Done
-        → IfSome (I.remaining reader.old) (λ script.
-        PrintsByFile (shown_by leg endpoint from events) script (O.contents writer.old)
-        (O.contents writer.new)) }
-    ensures replay_refused { (file : List ℕ) (leg endpoint from : Option ℕ) (events : Bool)
-        → asked_for (map S.text words.now) ≡ Some (replay file leg endpoint from events)
-        → result ≡ Status.Refused
-        → NamesNobody (shown_by leg endpoint from events) (O.contents writer.old)
-        (O.contents writer.new) (E.contents errors.old) (E.contents errors.new)
-        ⊎ IfSome (I.remaining reader.old) (λ script.
-        RefusesByFile (shown_by leg endpoint from events) script (O.contents writer.old)
-        (O.contents writer.new) (E.contents errors.old) (E.contents errors.new)) }
-    ensures serve_done { (file : List ℕ) (ticks status : Option ℕ) (control : Option (List ℕ))
-        → asked_for (map S.text words.now) ≡ Some (serve file ticks status control)
-        → result ≡ Status.Done
-        → (c : Configuration) × PrintsReport c (O.contents writer.old) (O.contents writer.new) }
-    ensures serve_failed { (file : List ℕ) (ticks status : Option ℕ) (control : Option (List ℕ))
-        → asked_for (map S.text words.now) ≡ Some (serve file ticks status control)
-        → result ≡ Status.Socket → Keeps (O.contents writer.old) (O.contents writer.new) }
-    ensures serve_said { (file : List ℕ) (ticks status : Option ℕ) (control : Option (List ℕ))
-        → asked_for (map S.text words.now) ≡ Some (serve file ticks status control)
-        → SaysWhyServing (E.contents errors.old) (E.contents errors.new) result }
-    ensures draw_done { (media : ℕ) → asked_for (map S.text words.now) ≡ Some (draw media)
-        → result ≡ Status.Done
-        → IfSome (I.remaining reader.old)
-        (λ input. PrintsPicture media input (O.contents writer.old) (O.contents writer.new)) }
-    ensures draw_refused { (media : ℕ) → asked_for (map S.text words.now) ≡ Some (draw media)
-        → result ≡ Status.Refused
-        → IfSome (I.remaining reader.old)
-        (λ input. Keeps (O.contents writer.old) (O.contents writer.new)
-        × RefusesBound media input (E.contents errors.old) (E.contents errors.new)) }
+    ensures ends { (asked : Request) → asked_for (map S.text words.now) ≡ Some asked
+        → Ends asked (I.remaining reader.old) (O.contents writer.old) (O.contents writer.new)
+        (E.contents errors.old) (E.contents errors.new) result }
     ensures settings { result ≡ Status.Settings
         → Keeps (O.contents writer.old) (O.contents writer.new)
         × SaysProblem (E.contents errors.old) (E.contents errors.new) }
@@ -159,23 +108,19 @@ pub fn run_command<
 
 /// Runs the unit that the words ask for, of which the first is the program's name, and writes down of it what they say. Words that ask for
 /// another command are refused: nothing else is recorded, or has lines of counts.
-#[tactic(auto, using(serving::proofs::ServeLemmas::says_alone))]
 pub fn run_noted<
     R: AllocGlobal + ErrorOutput + Files<File = File> + Net + Threads + Wait + Sync + time::Clock,
     O: Write,
     E: Write,
 >(rt: &R, noted: &Noted<'_>, writer: &mut O, errors: &mut E) -> Status
-    ensures done { result ≡ Status.Done
-        → (c : Configuration) × PrintsReport c (O.contents writer.old) (O.contents writer.new) }
-    ensures failed { result ≡ Status.Socket
-        → Keeps (O.contents writer.old) (O.contents writer.new) }
+    ensures ends { EndsUnit (O.contents writer.old) (O.contents writer.new) (E.contents errors.old)
+        (E.contents errors.new) result }
     ensures settings { result ≡ Status.Settings
         → Keeps (O.contents writer.old) (O.contents writer.new)
         × SaysProblem (E.contents errors.old) (E.contents errors.new) }
     ensures refused { result ≢ Status.Refused }
     ensures others { ¬ (AsksToServe (asked_for (map (λ word. word.now) noted.now.words.items)))
         → (result ≢ Status.Done) × Keeps (O.contents writer.old) (O.contents writer.new) }
-    ensures said { SaysWhyServing (E.contents errors.old) (E.contents errors.new) result }
 {
     match read_words(rt.alloc(), noted.words.as_slice()) {
         Ok(
@@ -222,21 +167,17 @@ fn refuse_other<E: Write>(errors: &mut E, log_time: bool) -> Status
 }
 
 /// `sfu serve`: serves the endpoints that the settings of the file name.
-#[tactic(auto, using(serving::proofs::ServeLemmas::says_alone))]
 fn run_serve<
     R: AllocGlobal + ErrorOutput + Files<File = File> + Net + Threads + Wait + Sync + time::Clock,
     O: Write,
     E: Write,
 >(rt: &R, file: &str, term: Term, paths: Paths<'_>, writer: &mut O, errors: &mut E) -> Status
-    ensures done { result ≡ Status.Done
-        → (c : Configuration) × PrintsReport c (O.contents writer.old) (O.contents writer.new) }
-    ensures failed { result ≡ Status.Socket
-        → Keeps (O.contents writer.old) (O.contents writer.new) }
+    ensures ends { EndsUnit (O.contents writer.old) (O.contents writer.new) (E.contents errors.old)
+        (E.contents errors.new) result }
     ensures settings { result ≡ Status.Settings
         → Keeps (O.contents writer.old) (O.contents writer.new)
         × SaysProblem (E.contents errors.old) (E.contents errors.new) }
     ensures understood { (result ≢ Status.CommandLine) × (result ≢ Status.Refused) }
-    ensures said { SaysWhyServing (E.contents errors.old) (E.contents errors.new) result }
 {
     match served_in(rt, file) {
         Ok(file) => serve_steered(rt, &file, term, paths, writer, errors),
@@ -245,19 +186,15 @@ fn run_serve<
 }
 
 /// Serves the endpoints, and does what is asked at the path of `--control`, if there is one.
-#[tactic(auto, using(serving::proofs::ServeLemmas::says_alone))]
 fn serve_steered<
     R: AllocGlobal + ErrorOutput + Files<File = File> + Net + Threads + Wait + Sync + time::Clock,
     O: Write,
     E: Write,
 >(rt: &R, file: &ServedFile, term: Term, paths: Paths<'_>, writer: &mut O, errors: &mut E) -> Status
-    ensures done { result ≡ Status.Done
-        → (c : Configuration) × PrintsReport c (O.contents writer.old) (O.contents writer.new) }
-    ensures failed { result ≡ Status.Socket
-        → Keeps (O.contents writer.old) (O.contents writer.new) }
+    ensures ends { EndsUnit (O.contents writer.old) (O.contents writer.new) (E.contents errors.old)
+        (E.contents errors.new) result }
     ensures understood { (result ≢ Status.CommandLine) × (result ≢ Status.Refused)
         × (result ≢ Status.Settings) }
-    ensures said { SaysWhyServing (E.contents errors.old) (E.contents errors.new) result }
 {
     match gauges_for(rt, file, paths.control) {
         Ok(mut gauges) => {
@@ -271,7 +208,6 @@ fn serve_steered<
 }
 
 /// Serves the endpoints, and records what the unit takes in at the path of `--record`, if there is one.
-#[tactic(auto, using(serving::proofs::ServeLemmas::says_alone))]
 fn serve_recorded<
     R: AllocGlobal + ErrorOutput + Files<File = File> + Net + Threads + Wait + Sync + time::Clock,
     O: Write,
@@ -285,13 +221,10 @@ fn serve_recorded<
     writer: &mut O,
     errors: &mut E,
 ) -> Status
-    ensures done { result ≡ Status.Done
-        → (c : Configuration) × PrintsReport c (O.contents writer.old) (O.contents writer.new) }
-    ensures failed { result ≡ Status.Socket
-        → Keeps (O.contents writer.old) (O.contents writer.new) }
+    ensures ends { EndsUnit (O.contents writer.old) (O.contents writer.new) (E.contents errors.old)
+        (E.contents errors.new) result }
     ensures understood { (result ≢ Status.CommandLine) × (result ≢ Status.Refused)
         × (result ≢ Status.Settings) }
-    ensures said { SaysWhyServing (E.contents errors.old) (E.contents errors.new) result }
 {
     match set_noted(rt, file, paths, gauges) {
         Ok(()) => serve_file(rt, &file.settings, term, gauges, writer, errors),

@@ -1,9 +1,8 @@
 //! `sfu check FILE`: reads a certificate and checks it.
 
-ghost use Rattle.std.specs.Prelude.{◌≡◌, ◌≢◌, codes};
-ghost use Rattle.std.specs.Io.KnownBytes.{Appends};
-ghost use Rattle.checking.specs.Sheet.{SaysNo};
+ghost use Rattle.std.specs.Prelude.{◌≢◌};
 ghost use Rattle.endings.specs.Endings.{SaysWhy};
+ghost use Rattle.offline.specs.Ends.{EndsCheck};
 
 use checking::check_lines;
 use endings::{Status, report, unreadable};
@@ -20,11 +19,8 @@ pub fn run_check<R: AllocGlobal + Files, O: Write, E: Write>(
     writer: &mut O,
     errors: &mut E,
 ) -> Status
-    ensures yes { result ≡ Status.Done
-        → Appends (O.contents writer.old) (O.contents writer.new) (codes "yes\n") }
-    ensures no { result ≡ Status.Refused
-        → SaysNo (O.contents writer.old) (O.contents writer.new) (E.contents errors.old)
-        (E.contents errors.new) }
+    ensures ends { EndsCheck (O.contents writer.old) (O.contents writer.new) (E.contents errors.old)
+        (E.contents errors.new) result }
     ensures understood { (result ≢ Status.CommandLine) × (result ≢ Status.Settings) }
     ensures said { SaysWhy (E.contents errors.old) (E.contents errors.new) result }
 {

@@ -1,9 +1,9 @@
 //! `sfu draw --sender N`: draws requests, and the set that is announced for them.
 
-ghost use Rattle.std.specs.Prelude.{◌≡◌, ◌≢◌, IfErr, IfSome, OnOk};
-ghost use Rattle.std.specs.Io.KnownBytes.{Keeps};
+ghost use Rattle.std.specs.Prelude.{◌≢◌, IfErr, IfSome, OnOk};
 ghost use Rattle.endings.specs.Endings.{SaysWhy};
-ghost use Rattle.offline.specs.Printed.{FailsBound, PrintsPicture, RefusesBound};
+ghost use Rattle.offline.specs.Ends.{EndsDraw};
+ghost use Rattle.offline.specs.Printed.{FailsBound, PrintsPicture};
 
 use drawing::set_picture;
 use endings::{Failure, Status, report};
@@ -21,11 +21,8 @@ pub fn run_draw<I: Read, O: Write, E: Write>(
     writer: &mut O,
     errors: &mut E,
 ) -> Status
-    ensures done { result ≡ Status.Done → IfSome (I.remaining reader.old) (λ input.
-        PrintsPicture media.0 input (O.contents writer.old) (O.contents writer.new)) }
-    ensures refused { result ≡ Status.Refused → IfSome (I.remaining reader.old) (λ input.
-        Keeps (O.contents writer.old) (O.contents writer.new)
-        × RefusesBound media.0 input (E.contents errors.old) (E.contents errors.new)) }
+    ensures ends { EndsDraw media.0 (I.remaining reader.old) (O.contents writer.old)
+        (O.contents writer.new) (E.contents errors.old) (E.contents errors.new) result }
     ensures understood { (result ≢ Status.CommandLine) × (result ≢ Status.Settings) }
     ensures said { SaysWhy (E.contents errors.old) (E.contents errors.new) result }
 {

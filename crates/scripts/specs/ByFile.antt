@@ -1,8 +1,10 @@
 -- What `sfu replay` prints by the settings of a file.
-use Rattle.std.specs.Prelude.{◌≡◌, ℕ, Bool, List, Option, Some, Ok, codes, unwrap_or}
+use Rattle.std.specs.Prelude.{◌≡◌, ◌⊎◌, ℕ, Bool, List, Option, Some, Ok, IfSome, codes, unwrap_or}
 use Rattle.std.specs.Io.KnownBytes.{Appends, Keeps}
 use Rattle.std.specs.declared.io.ErrorKind.{ErrorKind}
 use Rattle.std.specs.declared.io.ErrorKind.TheVariants.{OutOfMemory}
+use Rattle.endings.specs.declared.status.Status.{Status}
+use Rattle.endings.specs.declared.status.Status.TheVariants as status
 use Rattle.script_text.specs.Shown.{unknown_in}
 use Rattle.script_text.specs.declared.shown.Shown.{Shown}
 use Rattle.script_text.specs.declared.shown.Unknown.{Unknown}
@@ -54,3 +56,15 @@ pub record RefusesByFile (s : Shown) (script : List ℕ)
   pub settings : FileSettings
   pub gives : TextGives file (Ok settings)
   pub refuses : RefusesReplay settings.settings s script old new errors_old errors_new
+
+-- How `sfu replay` ends: `input` is what there was to read, `old` and `new` what was printed before it and is after it, `errors_old` and
+-- `errors_new` what was said on the error output.
+pub record EndsReplay (shown : Shown) (input old new errors_old errors_new : Option (List ℕ))
+    (s : Status) : Type 0 where
+  -- if it is done, what is to be shown of what the script gives is printed
+  pub done : s ≡ status.Done → IfSome input (λ script. PrintsByFile shown script old new)
+  -- if it is refused, the settings lack who is to be shown; or what comes before the first line that can't be read is printed, and that line's
+  -- number is said
+  pub refused : s ≡ status.Refused
+      → NamesNobody shown old new errors_old errors_new
+      ⊎ IfSome input (λ script. RefusesByFile shown script old new errors_old errors_new)

@@ -1,10 +1,10 @@
 //! `sfu replay FILE`: plays the script of the input by the settings of the file, and prints what is to be shown of that.
 
-ghost use Rattle.std.specs.Prelude.{◌≡◌, ◌≢◌, ◌⊎◌, ℕ, List, Ok, Some, IfOk, IfSome};
+ghost use Rattle.std.specs.Prelude.{◌≡◌, ◌≢◌, ℕ, List, Ok, IfOk, IfSome};
 ghost use Rattle.std.specs.Io.KnownBytes.{Appends, Keeps};
 ghost use Rattle.std.specs.IoError.{error_kind};
 ghost use Rattle.endings.specs.Endings.{SaysWhy};
-ghost use Rattle.scripts.specs.ByFile.{NamesNobody, PrintsByFile, RefusesByFile, problem_by, unknown_text};
+ghost use Rattle.scripts.specs.ByFile.{EndsReplay, problem_by, unknown_text};
 ghost use Rattle.settings_text.specs.SettingsFaults.{TextGives};
 ghost use Rattle.settings_text.specs.SettingsText.{SaysProblem};
 
@@ -29,14 +29,8 @@ pub fn run_replay<R: AllocGlobal + Files, I: Read, O: Write, E: Write>(
     writer: &mut O,
     errors: &mut E,
 ) -> Status
-    ensures done { result ≡ Status.Done → IfSome (I.remaining reader.old) (λ script.
-        PrintsByFile shown script (O.contents writer.old) (O.contents writer.new)) }
-    ensures refused { result ≡ Status.Refused
-        → NamesNobody shown (O.contents writer.old) (O.contents writer.new) (E.contents errors.old)
-        (E.contents errors.new)
-        ⊎ IfSome (I.remaining reader.old) (λ script.
-        RefusesByFile shown script (O.contents writer.old) (O.contents writer.new)
-        (E.contents errors.old) (E.contents errors.new)) }
+    ensures ends { EndsReplay shown (I.remaining reader.old) (O.contents writer.old)
+        (O.contents writer.new) (E.contents errors.old) (E.contents errors.new) result }
     ensures settings { result ≡ Status.Settings
         → Keeps (O.contents writer.old) (O.contents writer.new)
         × SaysProblem (E.contents errors.old) (E.contents errors.new) }
