@@ -17,7 +17,7 @@ pub record EndsUnit (old new errors_old errors_new : Option (List ℕ)) (s : Sta
   pub done : s ≡ status.Done → (c : Configuration) × PrintsReport c old new
   -- if its socket or its threads failed, nothing is printed
   pub failed : s ≡ status.Socket → Keeps old new
-  -- however it ends, where it listened is said, if it came so far, and behind that what any other command says
+  -- however it ends, where it listened is said, if it came so far, and after that what any other command says
   pub said : SaysWhyServing errors_old errors_new s
 
 -- how each command ends

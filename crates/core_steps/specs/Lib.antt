@@ -10,6 +10,7 @@ pub mod Traces
 pub mod OverRuns
 pub mod Numbered
 pub mod FollowUps
+pub mod TakingIn
 pub mod Seed
 pub mod Machine
 pub mod Waits

@@ -5,14 +5,15 @@ ghost use Rattle.std.specs.Prelude.{◌≡◌, ◌≢◌, ◌<◌, ℕ, false, [
 ghost use Rattle.std.specs.List.{last_or};
 ghost use Rattle.events.specs.declared.output.Out.TheVariants.{Refused};
 ghost use Rattle.events.specs.declared.output.Refusal.TheVariants.{Room as ByRoom};
-ghost use Rattle.core_steps.specs.Machine.{Rest, IsIdle, whole, alone};
+ghost use Rattle.core_steps.specs.Machine.{alone};
 ghost use Rattle.notices.specs.DeskCalls.{source_of};
 ghost use Rattle.core_steps.specs.FollowUps.{room_with_report};
 ghost use Rattle.core_steps.specs.Hearing.{IsHearing, hearing, selecting};
 ghost use Rattle.rewrite.specs.Rtp.{IsReadAs};
 ghost use Rattle.intake.specs.Intake.{media as Packet, leaves as Leaving, control as Controls};
 ghost use Rattle.core_steps.specs.Rule.{is_busy};
-ghost use Rattle.core_steps.specs.Run.{Leaves, Stays};
+ghost use Rattle.core_steps.specs.Run.{Stays};
+ghost use Rattle.core_steps.specs.TakingIn.{TakesIn};
 
 use crate::follow_ups::{push_asks, push_packet};
 use crate::front::Front;
@@ -42,9 +43,8 @@ pub(crate) fn hear(
     outs: &mut Vec<Out>,
 ) -> Result<(), AllocError>
     requires { is_busy (alone front.old) ≡ false }
-    ensures ok { (rest : Rest) → IsIdle rest
-        → OnOk result (Leaves (IsHearing (whole front.old rest) moment endpoint bytes.now)
-        (whole front.old rest) outs.old.items (whole front.new rest) outs.new.items) }
+    ensures ok { TakesIn front.old (λ w. IsHearing w moment endpoint bytes.now) front.new
+        outs.old.items outs.new.items result }
     ensures err { OnErr result (Stays (alone front.old) outs.old.items
         (alone front.new) outs.new.items) }
 {
@@ -100,10 +100,9 @@ fn hear_media(
 ) -> Result<(), AllocError>
     requires idle { is_busy (alone front.old) ≡ false }
     requires read { IsReadAs bytes.now packet.reading }
-    ensures ok { (rest : Rest) → IsIdle rest → OnOk result (Leaves
-        (λ h. h ≡ hearing (whole front.old rest) moment endpoint bytes.now
+    ensures ok { TakesIn front.old (λ w h. h ≡ hearing w moment endpoint bytes.now
         (Ok (Packet packet.ssrc.0 packet.reading.sequence_number packet.timestamp packet.reading.octets)))
-        (whole front.old rest) outs.old.items (whole front.new rest) outs.new.items) }
+        front.new outs.old.items outs.new.items result }
     ensures err { OnErr result (Stays (alone front.old) outs.old.items
         (alone front.new) outs.new.items) }
 {
@@ -159,9 +158,9 @@ fn hear_goodbye(
     outs: &mut Vec<Out>,
 ) -> Result<(), AllocError>
     requires { is_busy (alone front.old) ≡ false }
-    ensures ok { (bytes : List ℕ) (rest : Rest) → IsIdle rest
-        → OnOk result (Leaves (λ h. h ≡ hearing (whole front.old rest) moment endpoint bytes (Ok Leaving))
-        (whole front.old rest) outs.old.items (whole front.new rest) outs.new.items) }
+    ensures ok { (bytes : List ℕ) → TakesIn front.old
+        (λ w h. h ≡ hearing w moment endpoint bytes (Ok Leaving)) front.new
+        outs.old.items outs.new.items result }
     ensures err { OnErr result (Stays (alone front.old) outs.old.items
         (alone front.new) outs.new.items) }
 {
@@ -191,11 +190,11 @@ fn hear_control(
     outs: &mut Vec<Out>,
 ) -> Result<(), AllocError>
     requires { is_busy (alone front.old) ≡ false }
-    ensures ok { (bytes : List ℕ) (reports : List (ℕ × ℕ)) (rest : Rest) → IsIdle rest
+    ensures ok { (bytes : List ℕ) (reports : List (ℕ × ℕ))
         → control.now.report ≡ last_or None reports
-        → OnOk result (Leaves (λ h. h ≡ hearing (whole front.old rest) moment endpoint bytes
+        → TakesIn front.old (λ w h. h ≡ hearing w moment endpoint bytes
         (Ok (Controls control.now.speaker.0 reports control.now.tmmbns front.old.asks.items)))
-        (whole front.old rest) outs.old.items (whole front.new rest) outs.new.items) }
+        front.new outs.old.items outs.new.items result }
     ensures err { OnErr result (Stays (alone front.old) outs.old.items
         (alone front.new) outs.new.items) }
 {
@@ -252,9 +251,8 @@ pub(crate) fn select(
     outs: &mut Vec<Out>,
 ) -> Result<(), AllocError>
     requires { is_busy (alone front.old) ≡ false }
-    ensures ok { (rest : Rest) → IsIdle rest
-        → OnOk result (Leaves (λ h. h ≡ selecting (whole front.old rest) moment leg on)
-        (whole front.old rest) outs.old.items (whole front.new rest) outs.new.items) }
+    ensures ok { TakesIn front.old (λ w h. h ≡ selecting w moment leg on) front.new
+        outs.old.items outs.new.items result }
     ensures err { OnErr result (Stays (alone front.old) outs.old.items
         (alone front.new) outs.new.items) }
 {

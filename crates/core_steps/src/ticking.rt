@@ -5,11 +5,11 @@ ghost use Rattle.std.specs.List.{enumerate_from, flat_map};
 ghost use Rattle.std.specs.Option.{option_to_list};
 ghost use Rattle.members.specs.Presence.{is_present_at};
 ghost use Rattle.events.specs.declared.output.Out.{Out as Given};
-ghost use Rattle.core_steps.specs.Machine.{Rest, IsIdle, whole, alone, task_of};
+ghost use Rattle.core_steps.specs.Machine.{alone, task_of};
 ghost use Rattle.core_steps.specs.FollowUps.{AddsTasks, IsTask, task_due, tasks_due};
 ghost use Rattle.core_steps.specs.Hearing.{leg_report, ticking};
 ghost use Rattle.core_steps.specs.Rule.{is_busy};
-ghost use Rattle.core_steps.specs.Run.{Leaves};
+ghost use Rattle.core_steps.specs.TakingIn.{TakesIn};
 
 use crate::follow_ups::push_some;
 use crate::front::{Front, Setup};
@@ -23,10 +23,8 @@ use std::alloc::AllocError;
 /// It is this moment, and nothing waits.
 pub(crate) fn tick(front: &mut Front, moment: u64) -> Result<(), AllocError>
     requires { is_busy (alone front.old) ≡ false }
-    ensures ok { (outs : List Given) (rest : Rest) → IsIdle rest
-        → OnOk result
-        (Leaves (λ h. h ≡ ticking (whole front.old rest) moment) (whole front.old rest) outs
-        (whole front.new rest) outs) }
+    ensures ok { (outs : List Given) → TakesIn front.old (λ w h. h ≡ ticking w moment) front.new
+        outs outs result }
     ensures err { OnErr result (alone front.new ≡ alone front.old) }
 {
     front.knows_count();

@@ -31,7 +31,7 @@ returns-in-Ok-Control-clause-ok c =
     λ rest idle. hears_control c.hear_control.result (whole c.args.front.now rest) c.args.moment c.args.endpoint c.own_source-own.result.0 c.args.bytes.now
     c.args.bytes.now c.args.outs.now.items c.hear_control.new.outs.items (whole c.hear_control.new.front rest) c.in-Ok-Control.field-0
     c.in-Ok-Control.control c.clear.new.self.items c.hear_datagram.new.asks.items (ap (λ (x : Ssrc). x.0) c.own_source-own.ensures)
-    refl c.in-Ok-Control.field-0-is c.clear.ensures.items c.in-Ok-Control.ensures (λ reports. c.hear_control.ensures.ok c.args.bytes.now reports rest idle)
+    refl c.in-Ok-Control.field-0-is c.clear.ensures.items c.in-Ok-Control.ensures (λ reports is. c.hear_control.ensures.ok c.args.bytes.now reports is rest idle)
 
 pub returns-in_ok-push-in-Err-Refused-clause-ok : goal.returns-in_ok-push-in-Err-Refused-clause-ok
 returns-in_ok-push-in-Err-Refused-clause-ok c =

@@ -14,7 +14,7 @@ use Rattle.core_steps.proofs.hearing.hear_control.Goals as goal
 
 pub returns-in-Ok-clause-ok : goal.returns-in-Ok-clause-ok
 returns-in-Ok-clause-ok c =
-    λ bytes reports rest idle is. controls (whole c.args.front.now rest) c.args.moment c.args.endpoint bytes c.prepare.new.self.datagram
+    λ bytes reports is rest idle. controls (whole c.args.front.now rest) c.args.moment c.args.endpoint bytes c.prepare.new.self.datagram
     c.args.control.now.speaker.0 reports c.args.control.now.tmmbns c.args.front.now.asks.items c.as_slice-in-Ok.result.now c.args.outs.now.items
     c.push_asks.new.outs.items c.prepare.new.self.orders.items c.hear.new.orders.items c.hear.new.self c.note_report.new.room
     c.prepare.new.self.follow_ups.items c.push_after.new.follow_ups.items c.push_asks.new.follow_ups.items _ _ c.args.control.now.report (not_busy c.args.front.now rest c.requires idle)
