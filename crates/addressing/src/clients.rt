@@ -1,11 +1,11 @@
 //! Where the endpoints' clients are, as a settings file spells it.
 
-ghost use Rattle.std.specs.Prelude.{◌≡◌, ◌↔◌, ◌∷◌, ◌++◌, ◌/◌, [], Ok, IsTrue, IfErr, IfOk, OnOk, MatchOption, MatchResult, length, map, slice_get};
+ghost use Rattle.std.specs.Prelude.{◌≡◌, ◌↔◌, ◌∷◌, ◌++◌, ◌/◌, [], Ok, IsTrue, IfErr, OnOk, MatchOption, MatchResult, length};
 ghost use Rattle.addressing.specs.Clients.{AreSpelled, ClientFaults, FaultOfClient, IsApart, IsLearned, IsReachable, Spells, SpellsBound, SpellsClient, SpellsNoBound, SpellsNone, SpellsNoRtcp, SpellsNowhere, SpellsReachable, SpellsRtcp, client_at};
 
 use senders::{Network, read_network};
 use settings_text::ClientText;
-use std::alloc::{AllocError, Global};
+use std::alloc::Global;
 use std::net::SocketAddr;
 
 /// What stands in place of an address that is learned.

@@ -1,6 +1,6 @@
 //! The live requests of one media sender.
 
-ghost use Rattle.std.specs.Prelude.{◌≡◌, ◌≢◌, ◌<◌, ◌≤◌, ◌↔◌, [], length, All, Some, None, Err, IsTrue, IsOk, IsErr, IfOk, OnOk, OnErr, OnSome, IfNone, IsNone, ◌+◌, ◌*◌};
+ghost use Rattle.std.specs.Prelude.{◌≡◌, ◌≢◌, ◌<◌, ◌≤◌, ◌↔◌, [], length, All, Some, None, Err, IsTrue, IsErr, IfOk, OnOk, OnErr, OnSome, IfNone, IsNone, ◌+◌, ◌*◌};
 
 use crate::announced::{announce, remember};
 use crate::certificate::chosen;
@@ -52,7 +52,7 @@ impl Model for Bounds {
 
 impl Bounds {
     ghost use Rattle.bounding_set.specs.Canonical.{StopsMedia};
-    ghost use Rattle.bounding_set.specs.State.{State, AnnouncesSmallest, announced_of, dropped_count};
+    ghost use Rattle.bounding_set.specs.State.{AnnouncesSmallest, announced_of, dropped_count};
     ghost use Rattle.bounding_set.specs.Rows.{HasRisingOwners, Puts, tuple_of, count_with};
 
     /// No live request: nothing is announced, and every pair is permitted.

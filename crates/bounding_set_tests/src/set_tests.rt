@@ -11,7 +11,7 @@ use std::alloc::{AllocError, Global};
 use std::fmt::Write;
 use std::process::Abort;
 use std::test::Fail;
-use tmmbr_tuple::{Pair, Ssrc, Tuple};
+use tmmbr_tuple::{Ssrc, Tuple};
 
 fn request(owner: u32, word: u32) -> Request {
     Request {

@@ -1,6 +1,6 @@
 //! What the words of a command line ask for.
 
-ghost use Rattle.std.specs.Prelude.{◌≡◌, ◌∷◌, ◌<◌, ◌^◌, ℕ, List, [], IfErr, IfOk, MatchResult, Some, codes, map, true, option_map, false};
+ghost use Rattle.std.specs.Prelude.{◌≡◌, ◌<◌, IfErr, IfOk, MatchResult, Some, map, true, option_map, false};
 ghost use Rattle.clap.specs.Words.{app_of, found_of, kind_of, rows_of, rule_of, subcommand_rows_of, takes};
 ghost use Rattle.command_line.specs.CommandLine.{HasNoGlobals, Request, Types, action_request, asked_for, asked_named, choosing_app, counted_app, file_app, file_rule, flag_rule, is_set, moment_in, moment_rule, number_in, number_rule, number_to_rule, optional_rule, replay_app, request_found, sender_app, serve_app, sfu, sfu_first, sfu_top, word_rule};
 

@@ -1,8 +1,8 @@
 //! A conference: the machine of its settings, and what it gave out that wasn't taken yet.
 
-ghost use Rattle.std.specs.Prelude.{◌≡◌, ◌≢◌, ◌≤◌, ◌∷◌, ◌↔◌, [], true, None, Err, length, drop, slice_get, option_map, IfErr, IfOk, IfSome, OnOk};
+ghost use Rattle.std.specs.Prelude.{◌≡◌, ◌≤◌, ◌∷◌, ◌↔◌, [], true, None, Err, length, drop, slice_get, option_map, IfErr, IfOk, IfSome, OnOk};
 ghost use Rattle.bounding_set.specs.State.{announced_of};
-ghost use Rattle.desk.specs.State.{DeskState, HoldsLegalDesk};
+ghost use Rattle.desk.specs.State.{DeskState};
 ghost use Rattle.events.specs.declared.event.Event.TheVariants.{Hear, Select, Tick};
 ghost use Rattle.core_steps.specs.Waits.{waiting_in};
 ghost use Rattle.one_thread.specs.Driving.{Drives, IsIdle, is_from_outside};

@@ -26,7 +26,7 @@ impl Model for Inbox {
 }
 
 impl Inbox {
-    ghost use Rattle.std.specs.Prelude.{◌≡◌, ◌≤◌, ◌<◌, ◌+◌, ◌↔◌, ◌++◌, [], length, IsTrue, IsErr, IfOk, IfSome, IfNone, MatchOption, OnErr, OnOk};
+    ghost use Rattle.std.specs.Prelude.{◌≡◌, ◌≤◌, ◌<◌, ◌+◌, ◌++◌, [], length, IfOk, MatchOption, OnErr, OnOk};
     ghost use Rattle.control.specs.Inboxes.{IsLineOf, IsOpen};
     ghost use Rattle.control.specs.declared.inbox.TheConstants.{MAX_INBOX};
 

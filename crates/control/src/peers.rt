@@ -1,6 +1,6 @@
 //! Who asks: a few peers, each with what came from it and isn't read yet.
 
-ghost use Rattle.std.specs.Prelude.{◌≡◌, ◌≤◌, ◌<◌, ◌+◌, vec_len, IfOk};
+ghost use Rattle.std.specs.Prelude.{◌≡◌, ◌≤◌, ◌<◌, ◌+◌, vec_len};
 ghost use Rattle.control.specs.declared.peers.TheConstants.{MAX_PEERS};
 
 use crate::answer::{Refused, refused_text};

@@ -1,6 +1,6 @@
 //! What a peer asks for.
 
-ghost use Rattle.std.specs.Prelude.{◌≡◌, ◌^◌, IfOk, map};
+ghost use Rattle.std.specs.Prelude.{◌≡◌, IfOk, map};
 ghost use Rattle.control.specs.Requests.{alone_words, record_asked, request_in, request_words, select_asked, show_asked, switched};
 
 use request_text::{is_word, number_u16, words_of};

@@ -1,6 +1,6 @@
 //! What the ingress takes in of a moment, and what is due to those present then.
 
-ghost use Rattle.std.specs.Prelude.{◌≡◌, ◌==◌, ◌+◌, ◌-◌, ◌≤◌, ◌<◌, ◌^◌, ℕ, false, nat_le, [], ◌++◌, List, length, map, None, Some, OnOk, OnErr, if◌then◌else◌, vec_len, vec_capacity};
+ghost use Rattle.std.specs.Prelude.{◌≡◌, ◌==◌, ◌+◌, ◌-◌, ◌≤◌, ◌<◌, ◌^◌, ℕ, false, nat_le, [], ◌++◌, List, length, map, None, Some, OnErr, if◌then◌else◌, vec_len, vec_capacity};
 ghost use Rattle.std.specs.List.{enumerate_from, flat_map};
 ghost use Rattle.std.specs.Option.{option_to_list};
 ghost use Rattle.members.specs.Presence.{is_present_at};

@@ -3,7 +3,6 @@
 ghost use Rattle.std.specs.Prelude.{◌≡◌, ◌≢◌, ◌≤◌, ◌<◌, [], All, length, map, sum_by, IfOk, slice_get, Some, MatchOption};
 ghost use Rattle.members.specs.Rows.{opening_rows};
 ghost use Rattle.desk.specs.declared.effect.Effect.{Effect as EffectValue};
-ghost use Rattle.settings.specs.declared.settings.TheConstants.{MAX_WORKERS};
 ghost use Rattle.settings.specs.Links.{table_of};
 ghost use Rattle.core_steps.specs.Machine.{state_of, worker_state, hand_in};
 ghost use Rattle.core_steps.specs.Waits.{as_counted, hand_count};

@@ -79,7 +79,7 @@ impl Model for Desk {
 }
 
 impl Desk {
-    ghost use Rattle.std.specs.Prelude.{◌≡◌, ◌≤◌, ◌+◌, ◌↔◌, ◌++◌, ◌∷◌, [], IsErr, IsTrue, IfOk, OnOk, OnErr};
+    ghost use Rattle.std.specs.Prelude.{◌≡◌, ◌≤◌, ◌+◌, ◌↔◌, [], IsErr, IsTrue, IfOk, OnOk, OnErr};
     ghost use Rattle.bounding_set.specs.State.{announced_of};
     ghost use Rattle.desk.specs.declared.call.Call.TheVariants as call;
     ghost use Rattle.desk.specs.declared.call.Change.TheVariants as change;
@@ -87,7 +87,7 @@ impl Desk {
     ghost use Rattle.desk.specs.Call.{HasStay};
     ghost use Rattle.desk.specs.Trace.{empty_base, live_after, words_of};
     ghost use Rattle.desk.specs.Effect.{IsEffect};
-    ghost use Rattle.desk.specs.State.{DeskState, CallsDesk, HoldsLegalDesk, IsOverLimit, IsQuietCall, Records, call_count};
+    ghost use Rattle.desk.specs.State.{CallsDesk, HoldsLegalDesk, IsOverLimit, IsQuietCall, Records, call_count};
 
     /// A desk where nobody is present. It sends PLIs upstream at least `gap` milliseconds apart, and takes
     /// requests away that are `request_ms` milliseconds old; never where that is 0.

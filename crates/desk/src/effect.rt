@@ -28,8 +28,6 @@ pub struct Effect {
 
 impl Effect {
     ghost use Rattle.std.specs.Prelude.{◌≡◌, []};
-    ghost use Rattle.bounding_set.specs.State.{announced_of};
-    ghost use Rattle.desk.specs.Effect.{IsEffect};
 
     /// Nothing is announced, lifted or fresh: a place for what a call changes.
     pub fn new() -> Effect

@@ -1,6 +1,6 @@
 //! Which rows are announced, as bits.
 
-ghost use Rattle.std.specs.Prelude.{◌≡◌, ◌<◌, ◌≤◌, List, length, All};
+ghost use Rattle.std.specs.Prelude.{◌<◌, List, All};
 ghost use Rattle.rate_cert.specs.declared.request.Request.{Request};
 ghost use Rattle.rate_cert.specs.Certificate.{kept_places};
 ghost use Rattle.bounding_set.specs.Canonical.{IsCanonical};

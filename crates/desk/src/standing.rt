@@ -39,7 +39,7 @@ impl Standing {
     ghost use Rattle.desk.specs.Call.{HasStay, may_change, is_done};
     ghost use Rattle.desk.specs.Trace.{empty_base, base_with};
     ghost use Rattle.desk.specs.Answer.{IsAnswerTo};
-    ghost use Rattle.desk.specs.Standing.{Stand, IsStand};
+    ghost use Rattle.desk.specs.Standing.{IsStand};
 
     /// No calls, and nothing is live.
     pub fn new() -> Standing

@@ -1,6 +1,6 @@
 //! The picture of a set of requests.
 
-ghost use Rattle.std.specs.Prelude.{◌≡◌, ◌<◌, ◌≤◌, ◌++◌, length, IfOk, OnOk, All};
+ghost use Rattle.std.specs.Prelude.{◌≡◌, ◌<◌, ◌++◌, length, IfOk, OnOk, All};
 ghost use Rattle.std.specs.String.{string_bytes};
 ghost use Rattle.drawing.specs.Scale.{IsUsable};
 ghost use Rattle.drawing.specs.Picture.{HasEachLineOnce, counts_text, description_text, figures_part, forbidden_part, ground_part, heading_text, lines_part, marks_part, more_text, names_part, picture_text, picture_with, points_part};

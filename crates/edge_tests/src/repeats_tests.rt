@@ -6,7 +6,7 @@ use repeats::{Holding, Sets};
 use rtcp_feedback::TmmbrEntry;
 use settings::Settings;
 use settings_text::read_settings;
-use std::alloc::{AllocError, Global};
+use std::alloc::Global;
 use std::cell::{Cell, RefCell};
 use std::fmt::Write;
 use std::process::Abort;

@@ -38,7 +38,6 @@ fn counted(count: u32, more: u64) -> u32
 }
 
 impl LegState {
-    ghost use Rattle.std.specs.Option.{option_to_list};
     ghost use Rattle.legs.specs.Legs.{new_state, handed_out, leg_after_packet};
 
     /// The leg with this number and this name before its first packet, which keeps so many packets.

@@ -1,7 +1,7 @@
 //! The legs that one worker owns. A job is planned first, which may fail and changes no leg, and then applied, which
 //! can't fail.
 
-ghost use Rattle.std.specs.Prelude.{◌≡◌, ◌≤◌, ◌++◌, [], length, IfOk, OnOk, OnErr};
+ghost use Rattle.std.specs.Prelude.{◌≡◌, ◌≤◌, ◌++◌, length, IfOk, OnOk, OnErr};
 ghost use Rattle.std.specs.Prelude.{List};
 ghost use Rattle.std.specs.List.{enumerate_from, flat_map};
 ghost use Rattle.legs.specs.Legs.{new_legs, row_of};

@@ -1,6 +1,6 @@
 //! What a job is about to do on the legs of a worker.
 
-ghost use Rattle.std.specs.Prelude.{◌≡◌, ◌-◌, ◌+◌, ◌<◌, ◌≤◌, ◌++◌, ◌∷◌, [], length, take, slice_index_or, vec_len, vec_capacity, ℕ, IfOk, IfNone, IfSome, OnOk, OnErr};
+ghost use Rattle.std.specs.Prelude.{◌≡◌, ◌-◌, ◌+◌, ◌<◌, ◌≤◌, ◌++◌, ◌∷◌, [], length, take, slice_index_or, vec_len, vec_capacity, ℕ, IfOk, OnOk, OnErr};
 ghost use Rattle.std.specs.Global.{Vec as Buffer};
 ghost use Rattle.legs.specs.Legs.{leg_after_packet, handed_out};
 ghost use Rattle.legs.specs.Plan.{changed_at, changed_by, legs_after_plan, plan_outs};

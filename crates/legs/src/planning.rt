@@ -1,6 +1,6 @@
 //! What a leg does for a job.
 
-ghost use Rattle.std.specs.Prelude.{◌≡◌, ◌++◌, ◌∷◌, [], length, IfOk, OnOk};
+ghost use Rattle.std.specs.Prelude.{◌≡◌, ◌++◌, [], IfOk, OnOk};
 ghost use Rattle.rewrite.specs.Leg.{answer_to};
 ghost use Rattle.resend_ring.specs.Kept.{last_kept_with};
 ghost use Rattle.legs.specs.Legs.{leg_goodbye_bytes, leg_report_bytes};
@@ -14,7 +14,6 @@ use rewrite::{Readdressed, Reading, SharedPacket};
 use rtcp_compound::{write_bye, write_rr, write_sdes_cname, write_sr};
 use rtp_packet::SEQ_CYCLE;
 use std::alloc::{AllocError, Global};
-use tmmbr_tuple::Ssrc;
 
 /// The bytes of a packet that goes out.
 fn bytes_of(packet: &Readdressed, alloc: Global, plan: &mut Plan) -> Result<Bytes, AllocError>

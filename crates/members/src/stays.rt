@@ -1,10 +1,10 @@
 //! The stays of legs, as endpoints leave and come.
 
-ghost use Rattle.std.specs.Prelude.{◌≡◌, ◌+◌, ◌<◌, ◌≤◌, ◌&&◌, ◌||◌, ◌==◌, not, length, map, count_by, None, Some, [], if◌then◌else◌};
+ghost use Rattle.std.specs.Prelude.{◌≡◌, ◌+◌, ◌<◌, ◌≤◌, ◌&&◌, ◌||◌, ◌==◌, not, length, map, None, Some, [], if◌then◌else◌};
 ghost use Rattle.std.specs.Prelude.{true, false, nat_le, nat_lt, slice_set, IsTrue, Ok, Err};
 ghost use Rattle.members.specs.Presence.{is_present_at, is_overdue_at, with_heard};
 ghost use Rattle.members.specs.Room.{is_selected, leg_at, takes_turn, switched_leg, next_after, row_order};
-ghost use Rattle.members.specs.Stays.{is_of, ending, ending_of, endings, leg_without, leaving, begins_with, turn_from, beginning, coming_count, coming_orders, coming_legs, Tells};
+ghost use Rattle.members.specs.Stays.{is_of, ending_of, endings, leg_without, leaving, begins_with, turn_from, beginning, coming_count, coming_orders, coming_legs, Tells};
 
 use crate::order::{Draft, Order};
 use crate::presence::{Endpoint, is_overdue_at, is_present_at, mark};

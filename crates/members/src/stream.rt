@@ -1,7 +1,7 @@
 //! The packets received of one stream, as a few numbers under the names of RFC 3550, appendix A.1.
 
-ghost use Rattle.std.specs.Prelude.{◌≡◌, ◌+◌, ◌-◌, ◌^◌, ◌<◌, ◌≤◌};
-ghost use Rattle.members.specs.Reception.{transit_at, expected_in, lost_of, fraction_of, jitter_after};
+ghost use Rattle.std.specs.Prelude.{◌≡◌, ◌+◌, ◌-◌, ◌^◌, ◌<◌};
+ghost use Rattle.members.specs.Reception.{transit_at, expected_in, lost_of, fraction_of};
 ghost use Rattle.members.specs.Stream.{IsCounted, new_stream, counted_with, stream_after_block};
 
 use rtp_packet::{SEQ_CYCLE, extended_number};

@@ -1,13 +1,13 @@
 //! A turn: a receive, what came of it, a tick if one is due, and what goes out.
 
-ghost use Rattle.std.specs.Prelude.{◌≡◌, ◌≤◌, ◌<◌, ◌∷◌, ◌++◌, [], List, ℕ, length, slice_get, None, Some, MatchOption, IfOk, OnOk, OnErr};
+ghost use Rattle.std.specs.Prelude.{◌≡◌, ◌<◌, ◌∷◌, ◌++◌, [], List, ℕ, length, slice_get, None, Some, MatchOption, IfOk, OnOk, OnErr};
 ghost use Rattle.events.specs.declared.event.Event.TheVariants.{Select};
 ghost use Rattle.events.specs.declared.output.Out.TheVariants.{Send};
-ghost use Rattle.outside.specs.Outside.{FitsIn, arrival_in, arrival_of, is_stop};
+ghost use Rattle.outside.specs.Outside.{FitsIn, arrival_of, is_stop};
 ghost use Rattle.outside.specs.Ticks.{ticks_after};
 ghost use Rattle.outside.specs.declared.source.TheConstants.{MAX_FAULTS};
 ghost use Rattle.one_thread.specs.Driving.{Drives, DrivesSome, DrivesBoth, IsIdle};
-ghost use Rattle.one_thread.specs.Turns.{BreaksOff, SendsCounted, MakesTurn, Raises, faults_with, brought_at, heard_count, tick_at, turn_events, view_of, who_came};
+ghost use Rattle.one_thread.specs.Turns.{BreaksOff, SendsCounted, MakesTurn, Raises, faults_with, brought_at, heard_count, tick_at, view_of, who_came};
 
 use crate::settle::{hear_in, take_in};
 use crate::tally::Tally;

@@ -1,7 +1,6 @@
 //! The pictures of the sets that are announced.
 
 ghost use Rattle.std.specs.Prelude.{◌≡◌, ◌==◌, ◌++◌, OnOk, flat_map};
-ghost use Rattle.std.specs.List.{list_any};
 ghost use Rattle.std.specs.String.{string_bytes};
 ghost use Rattle.page.specs.Html.{gallery_part, image_text, publisher_image, publishes};
 

@@ -1,6 +1,6 @@
 //! What a unit is like, as JSON (RFC 8259).
 
-ghost use Rattle.std.specs.Prelude.{◌≡◌, IfOk, codes, flat_map, map};
+ghost use Rattle.std.specs.Prelude.{◌≡◌, IfOk, flat_map, map};
 ghost use Rattle.json.specs.Print.{print};
 ghost use Rattle.request_text.specs.Lines.{lines_of};
 ghost use Rattle.page.specs.Reports.{reports_in};

@@ -1,7 +1,6 @@
 //! The words of the unit's lines, by their places.
 
 ghost use Rattle.std.specs.Prelude.{◌≡◌, ◌<◌, map, option_map};
-ghost use Rattle.std.specs.List.{list_all};
 ghost use Rattle.page.specs.Words.{is_plain, is_plain_byte, plain_word, refused_word, without_end, without_start, word_at};
 
 use request_text::is_word;

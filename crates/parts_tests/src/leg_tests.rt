@@ -2,7 +2,6 @@
 use crate::expected::same;
 use rewrite::*;
 use std::process::Abort;
-use std::test::Fail;
 
 /// A turn and a sequence number, and what the leg answers.
 type Step = (u64, u16, Result<u64, Skip>);

@@ -2,7 +2,7 @@
 
 ghost use Rattle.std.specs.Prelude.{◌≡◌, ◌≢◌, ◌<◌, ◌≤◌, ◌↔◌, length, IsTrue, IsOk, IfErr, OnOk, All, AllPairs, Contains, EachIndex, MatchOption};
 ghost use Rattle.rate_cert.specs.Choice.{IsChoice, IsSmallest};
-ghost use Rattle.rate_cert.specs.Certificate.{kept_places, HasNeighbours, IsInRange, IsImpliedIfAt, HasPlaces, ForbidsItsPair, ForbidsOnePair, ForbidsOnePairAt, Implies, IsImplied, IsImpliedAt, IsNamed, MeetsConditions, IsCertified, named_places, places_of};
+ghost use Rattle.rate_cert.specs.Certificate.{kept_places, HasNeighbours, IsInRange, IsImpliedIfAt, HasPlaces, ForbidsItsPair, ForbidsOnePair, ForbidsOnePairAt, Implies, IsImplied, IsImpliedAt, IsNamed, MeetsConditions, IsCertified, named_places};
 ghost use Rattle.rate_cert.specs.Fault.{FailsFirstAt, FailsFirst, IsFirstCertFault};
 
 use crate::certificate::{Cert, Implied, Kept, MAX_REQUESTS};

@@ -1,9 +1,9 @@
 //! The end of a house: its desks are taken out of their locks, and compared with what the seats counted and
 //! with the receipts.
 
-ghost use Rattle.std.specs.Prelude.{◌≡◌, ◌≢◌, ◌<◌, ◌≤◌, ◌-◌, ◌↔◌, ◌⊎◌, [], length, vec_len, vec_capacity, min, sum_by, slice_get, Some, All, AllPairs, MatchOption, MatchResult, IfOk, IfErr, IsTrue, ◌^◌};
+ghost use Rattle.std.specs.Prelude.{◌≡◌, ◌<◌, ◌≤◌, ◌-◌, ◌↔◌, [], length, vec_len, vec_capacity, min, sum_by, slice_get, Some, All, AllPairs, MatchOption, MatchResult, IfOk, IfErr, IsTrue, ◌^◌};
 ghost use Rattle.rate_desk.specs.Shares.{calls_to, words_to};
-ghost use Rattle.rate_desk.specs.Gathered.{AddsUp, AddUpBelow, Agrees, AreDesksOf, AtItsDesk, FailsToGather, Fits, GathersAll, IsApart, IsFirst, IsFirstGatherFault, IsFirstOff, IsFirstTwice, IsFoldedAt, IsFoldedIn, StandsIn, receipt_entry};
+ghost use Rattle.rate_desk.specs.Gathered.{AddsUp, AddUpBelow, Agrees, AreDesksOf, AtItsDesk, FailsToGather, Fits, GathersAll, IsApart, IsFirst, IsFirstGatherFault, IsFirstOff, IsFirstTwice, IsFoldedAt, StandsIn, receipt_entry};
 
 use crate::held::HeldDesk;
 use crate::house::House;

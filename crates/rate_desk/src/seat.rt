@@ -37,7 +37,7 @@ impl<S: SeatCalls> Model for DeskSeat<S> {
 }
 
 impl<S: SeatCalls> DeskSeat<S> {
-    ghost use Rattle.std.specs.Prelude.{◌≡◌, ◌<◌, ◌≤◌, ◌+◌, length, IfOk, OnOk, OnErr};
+    ghost use Rattle.std.specs.Prelude.{◌≡◌, ◌<◌, ◌+◌, IfOk, OnOk, OnErr};
     ghost use Rattle.bounding_set.specs.State.{announced_of};
     ghost use Rattle.desk.specs.declared.call.Call.TheVariants as call;
     ghost use Rattle.desk.specs.declared.call.Signal.TheVariants as signal;

@@ -1,6 +1,6 @@
 //! Calls of a desk by value, made of desks and of houses by their names.
 
-ghost use Rattle.std.specs.Prelude.{◌≡◌, ◌<◌};
+ghost use Rattle.std.specs.Prelude.{◌<◌};
 
 use rate_desk::*;
 use std::process::Abort;

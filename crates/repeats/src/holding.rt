@@ -1,6 +1,6 @@
 //! The datagrams of a source, with what has to be heard once more.
 
-ghost use Rattle.std.specs.Prelude.{◌≡◌, ◌≤◌, ◌==◌, [], length, fold, map, None, IfOk, IfSome};
+ghost use Rattle.std.specs.Prelude.{◌≡◌, ◌≤◌, ◌==◌, [], length, fold, None, IfOk, IfSome};
 ghost use Rattle.repeats.specs.Holding.{HoldsNothing};
 ghost use Rattle.repeats.specs.Requests.{ask_in, asked_by};
 

@@ -38,7 +38,7 @@ impl Model for Requests {
 }
 
 impl Requests {
-    ghost use Rattle.std.specs.Prelude.{◌≡◌, IfOk, map, option_copied, slice_get};
+    ghost use Rattle.std.specs.Prelude.{◌≡◌, IfOk, map, slice_get};
     ghost use Rattle.repeats.specs.Requests.{place_without, unasked, with_request};
 
     /// Nothing was asked for on these legs.

@@ -1,6 +1,6 @@
 //! The requests that the lines of `sfu bound` leave.
 
-ghost use Rattle.std.specs.Prelude.{◌≡◌, List, [], IfOk, map, All, MatchResult};
+ghost use Rattle.std.specs.Prelude.{◌≡◌, List, IfOk, map, All, MatchResult};
 ghost use Rattle.rtcp_compound.specs.Content.{content_of, sources_left};
 ghost use Rattle.rtcp_compound.specs.Left.{contents_left};
 ghost use Rattle.rtcp_feedback.specs.Reading.{entries_left};

@@ -7,7 +7,6 @@ ghost use Rattle.rewrite.specs.Rtp.{payload_octets};
 use crate::packet::SharedPacket;
 use crate::shared::SharedBytes;
 use byteorder::{BigEndian, ByteOrder};
-use std::alloc::AllocError;
 use std::marker::Model;
 use tmmbr_tuple::Ssrc;
 

@@ -1,6 +1,6 @@
 //! The resends on all legs of a unit, bounded.
 
-ghost use Rattle.std.specs.Prelude.{◌≡◌, ◌<◌, ◌≤◌, ◌+◌, ◌^◌, ◌++◌, ℕ, List, length, replicate, slice_get, IfOk, OnOk};
+ghost use Rattle.std.specs.Prelude.{◌≡◌, ◌<◌, ◌≤◌, ◌+◌, ◌^◌, ◌++◌, List, length, replicate, slice_get, IfOk, OnOk};
 ghost use Rattle.rtcp_compound.specs.Fault.{Refuses};
 ghost use Rattle.rtcp_compound.specs.Grammar.{RtcpPacket, ReadsRtcp};
 ghost use Rattle.rtcp_compound.specs.declared.fault.RtcpFault.{RtcpFault};

@@ -1,6 +1,6 @@
 //! What is asked of publishers again, while a unit is served.
 
-ghost use Rattle.std.specs.Prelude.{◌≡◌, ◌++◌, [], OnOk};
+ghost use Rattle.std.specs.Prelude.{[], OnOk};
 ghost use Rattle.bounding_set.specs.State.{announced_of};
 ghost use Rattle.serving.specs.Repeated.{AsksForAll};
 

@@ -1,6 +1,6 @@
 //! The goodbyes of a unit that is stopped.
 
-ghost use Rattle.std.specs.Prelude.{◌≡◌, ◌++◌, ◌∷◌, [], IfOk, OnOk};
+ghost use Rattle.std.specs.Prelude.{◌≡◌, ◌++◌, [], IfOk, OnOk};
 ghost use Rattle.std.specs.List.{flat_map};
 ghost use Rattle.notices.specs.Head.{report_head};
 ghost use Rattle.sockets.specs.Goodbyes.{LeavesEndpoint, LeavesPresent, goodbye_bytes, goodbye_packet, leg_goodbye};

@@ -7,7 +7,6 @@ ghost use Rattle.bounding_set.specs.Rows.{HasRisingOwners};
 ghost use Rattle.tmmbr_c.specs.declared.order.OwnerPlace.{OwnerPlace as Place};
 ghost use Rattle.tmmbr_c.specs.Numbers.{IsRequestInRange, asked_request};
 ghost use Rattle.tmmbr_c.specs.Answer.{HasSizes, HasNoRoom, AnnouncesIn, AreInRange, KeepsRest};
-ghost use Rattle.tmmbr_c.specs.Order.{OrdersRequests, ordered};
 ghost use Rattle.tmmbr_c.specs.Standing.{ShowsRequests};
 
 use crate::announcing::write_cert;

@@ -1,6 +1,6 @@
 //! The tuple of a rate request: a media rate and the overhead that it is asked with.
 
-ghost use Rattle.std.specs.Prelude.{◌≡◌, ℕ, ◌*◌, ◌^◌, ◌<◌, ◌↔◌, IsSome, IfSome};
+ghost use Rattle.std.specs.Prelude.{◌≡◌, ◌*◌, ◌^◌, ◌<◌, ◌↔◌, IsSome, IfSome};
 
 /// What one request allows (RFC 5104, section 4.2.1.1): a total rate of `mantissa * 2^exp` bits per
 /// second, of which each packet takes `overhead` bytes for its headers.

@@ -1,6 +1,6 @@
 //! Where threads count what was refused: any raises, any reads.
 
-ghost use Rattle.std.specs.Prelude.{◌≡◌, IsSome, OnOk};
+ghost use Rattle.std.specs.Prelude.{IsSome, OnOk};
 ghost use Rattle.traffic.specs.Refusals.{AreCounted};
 
 use crate::refusals::{REFUSALS, RefusedCount, reason_number};

@@ -2,7 +2,7 @@
 
 ghost use Rattle.std.specs.Prelude.{◌≡◌, ◌-◌, ◌^◌, [], IfOk, map, flat_map, get_or, min, sum_by};
 ghost use Rattle.request_text.specs.Lines.{lines_of};
-ghost use Rattle.udp_table.specs.Rows.{drops_of_row, drops_of_words, dropped_in, full_word, row_words};
+ghost use Rattle.udp_table.specs.Rows.{drops_of_row, drops_of_words, dropped_in, full_word};
 
 use request_text::{is_word, number_u64, words_of};
 use std::alloc::{AllocError, Global};

@@ -28,7 +28,7 @@ pub struct Teller {
 }
 
 impl Teller {
-    ghost use Rattle.std.specs.Prelude.{◌≡◌, None, Some};
+    ghost use Rattle.std.specs.Prelude.{◌≡◌, None};
 
     /// Of a unit that said nothing yet. It answers to addresses, to `localhost` and to this name.
     pub fn new(alloc: Global, name: String) -> Teller

@@ -1,6 +1,6 @@
 //! The ingress: it takes in what comes, and does what follows, in the thread that runs the unit.
 
-ghost use Rattle.std.specs.Prelude.{◌≡◌, ◌<◌, ◌≤◌, ◌++◌, [], IfOk, OnOk, OnErr};
+ghost use Rattle.std.specs.Prelude.{◌≡◌, ◌<◌, ◌++◌, [], OnOk, OnErr};
 ghost use Rattle.desk.specs.Call.{HasStay};
 ghost use Rattle.events.specs.declared.event.Event.TheVariants.{Hear, Select, Tick};
 ghost use Rattle.core_steps.specs.Rule.{Does};

@@ -1,6 +1,6 @@
 //! Lanes: workers in threads of their own, and the ends of their rings where the ingress puts jobs.
 
-ghost use Rattle.std.specs.Prelude.{◌≡◌, ◌<◌, ◌++◌, ◌∷◌, [], IfNone, IfSome, IfOk, nat_lt, vec_len};
+ghost use Rattle.std.specs.Prelude.{◌≡◌, ◌<◌, ◌++◌, ◌∷◌, [], IfNone, IfSome, IfOk, nat_lt};
 ghost use Rattle.rtrb.specs.Ring.{known_free, sent, producer_capacity};
 
 use crate::counts::{Counts, Station};

@@ -1,7 +1,7 @@
 //! The turns of the ingress: one receive and one tick each.
 
-ghost use Rattle.std.specs.Prelude.{◌≡◌, ◌<◌, ◌≤◌, List, ℕ, length, vec_len, IfOk};
-ghost use Rattle.outside.specs.Outside.{FitsIn, arrival_of, is_stop};
+ghost use Rattle.std.specs.Prelude.{◌≡◌, ◌<◌, List, ℕ, length, vec_len, IfOk};
+ghost use Rattle.outside.specs.Outside.{arrival_of, is_stop};
 
 use crate::fault::UnitFault;
 use crate::faults::Faults;

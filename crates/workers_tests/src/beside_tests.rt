@@ -1,6 +1,6 @@
 //! The unit in threads, the unit in one thread and the machine beside each other: the same events, and sinks that are told the same.
 
-ghost use Rattle.std.specs.Prelude.{◌≡◌, ◌+◌, vec_len, None};
+ghost use Rattle.std.specs.Prelude.{◌+◌, None};
 
 use crate::machine_turns::{TICK_MS, Tellings, play};
 use crate::random_turns::{Plan, Turn, WORKERS, make_turns, room, room_with};

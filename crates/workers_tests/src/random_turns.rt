@@ -1,6 +1,6 @@
 //! Random turns for tests: what the endpoints of a room send, from a seed.
 
-ghost use Rattle.std.specs.Prelude.{◌≡◌, ◌+◌, ◌<◌, ◌≤◌};
+ghost use Rattle.std.specs.Prelude.{◌+◌, ◌<◌, ◌≤◌};
 
 use crate::unit_doubles::{Link, Times, settings_with};
 use settings::Settings;

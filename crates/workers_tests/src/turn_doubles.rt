@@ -1,7 +1,7 @@
 //! What stands for the outside of a unit that plays the turns of a test: a source that moves the clock, a count of the jobs
 //! that are done, and sinks that hand on what they are told. All of them share a `Stage`.
 
-ghost use Rattle.std.specs.Prelude.{◌≡◌, ◌+◌, vec_len, None};
+ghost use Rattle.std.specs.Prelude.{◌+◌, None};
 
 use crate::random_turns::{Coming, Turn};
 use crate::told::{Told, What};

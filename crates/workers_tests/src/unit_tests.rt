@@ -1,6 +1,6 @@
 //! Whole runs of the unit, on threads.
 
-ghost use Rattle.std.specs.Prelude.{◌≡◌, ◌+◌, vec_len};
+ghost use Rattle.std.specs.Prelude.{◌+◌};
 
 use crate::doubles::{MemorySink, OpenGate, RisingClock, StoppedClock};
 use crate::unit_doubles::{
