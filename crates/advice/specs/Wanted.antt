@@ -5,7 +5,7 @@ use Rattle.std.specs.Str.{bytes_eq}
 use Rattle.toml.specs.Data.{Data}
 use Rattle.rtp_packet.specs.declared.header.TheConstants.{SEQ_CYCLE}
 use Rattle.rtcp_compound.specs.declared.writer.TheConstants.{CNAME_LIMIT}
-use Rattle.settings.specs.declared.settings.TheConstants.{LEAST_HISTORY, MAX_ENDPOINTS, MAX_HISTORY, MAX_LEGS, MAX_PERIOD_MS, MAX_RING, MAX_WORKERS, SSRCS}
+use Rattle.settings.specs.declared.limits.TheConstants.{LEAST_HISTORY, MAX_ENDPOINTS, MAX_HISTORY, MAX_LEGS, MAX_PERIOD_MS, MAX_RING, MAX_WORKERS, SSRCS}
 use Rattle.settings_text.specs.SettingsFaults.{Spot, endpoint, leg, sources, top}
 use Rattle.settings_text.specs.declared.bound_keys.TheConstants.{FLOODS, GAPS_MS, LEAST_REPEAT_MS, REPEATS_MS, SHARES}
 use Rattle.advice.specs.declared.wanted.Kind.{Kind}

@@ -1,47 +1,26 @@
 //! `sfu ask PATH WORD..`: a unit that runs is asked, and what it answers is printed.
 
-ghost use Rattle.std.specs.Prelude.{◌≡◌, ◌≢◌, ◌++◌, ℕ, List, Some, codes, flat_map, map, IfOk, OnOk};
+ghost use Rattle.std.specs.Prelude.{◌≡◌, ◌++◌, codes, flat_map, map, IfOk, OnOk};
 ghost use Rattle.std.specs.Io.KnownBytes.{Appends, Keeps};
 ghost use Rattle.std.specs.String.{string_bytes};
 ghost use Rattle.commands.specs.Asking.{asking_line, spaced};
-ghost use Rattle.control.specs.Asking.{answered_by, done, refused};
 
 use crate::ask_record::{print_record, write_record};
-use control::{Answered, read_answer};
-use endings::{Status, say, say_no_memory};
+use crate::connection::{AskFault, connect, print_answer, say_fault};
+use control::read_answer;
+use endings::Status;
 use std::alloc::{AllocError, Global};
 use std::convert::AsStr;
 use std::fs::File;
 use std::io::{ErrorKind, Read, Write};
 use std::net::Net;
-use std::os::unix::net::UnixStream;
 use std::rt::Files;
-use std::time::Duration;
-
-/// So many seconds the unit may take to go on with its answer.
-const PATIENCE_S: u64 = 5;
 
 /// So many bytes are read at a time.
 const PIECE: usize = 4_096;
 
 /// So many pieces an answer may come in.
 const MAX_PIECES: u32 = 4_096;
-
-/// Why there is no answer.
-#[derive(Clone, Copy, PartialEq, Eq)]
-pub(crate) enum AskFault {
-    NoMemory,
-    /// Nobody listens at the path.
-    Nobody,
-    /// The answer didn't come, or not all of it.
-    Io,
-}
-
-impl From<AllocError> for AskFault {
-    fn from(_e: AllocError) -> AskFault {
-        AskFault::NoMemory
-    }
-}
 
 /// Asks the unit that is steered at the path, with these words as a line. Prints the answer without its last line; why it was refused
 /// goes to the error output. `record` and `record FILE` don't end with the answer: what the unit takes in is printed, or written to the
@@ -74,19 +53,6 @@ pub fn run_ask<R: AllocGlobal + Files<File = File> + Net, S: AsStr, O: Write, E:
     }
 }
 
-/// Says on the error output why there is no answer.
-pub(crate) fn say_fault<E: Write>(errors: &mut E, fault: AskFault) -> Status
-    ensures refused { result ≢ Status.Refused }
-    ensures control { result ≡ Status.Control
-        → Appends (E.contents errors.old) (E.contents errors.new) (codes "nobody listens\n") }
-{
-    match fault {
-        AskFault::NoMemory => say_no_memory(errors),
-        AskFault::Nobody => say(errors, b"nobody listens\n", Status::Control),
-        AskFault::Io => say(errors, b"io\n", Status::Io),
-    }
-}
-
 /// The whole answer of the unit at the path.
 fn ask_at<R: AllocGlobal + Files + Net, S: AsStr>(
     rt: &R,
@@ -99,18 +65,6 @@ fn ask_at<R: AllocGlobal + Files + Net, S: AsStr>(
         return Err(AskFault::Io);
     }
     read_whole(rt.alloc(), &mut stream)
-}
-
-/// The way to the unit at the path, which may take its time for an answer, but no longer.
-pub(crate) fn connect<R: Net>(rt: &R, path: &str) -> Result<UnixStream, AskFault> {
-    let Ok(stream) = UnixStream::connect(rt, path) else {
-        return Err(AskFault::Nobody);
-    };
-    let patience = Some(Duration::from_secs(PATIENCE_S));
-    match stream.set_read_timeout(patience) {
-        Ok(()) => Ok(stream),
-        Err(_) => Err(AskFault::Io),
-    }
 }
 
 /// The words with single spaces between them, and the end of the line.
@@ -154,30 +108,4 @@ fn read_whole<I: Read>(alloc: Global, stream: &mut I) -> Result<Vec<u8>, AskFaul
         }
     }
     Err(AskFault::Io)
-}
-
-/// Prints the lines of an answer, or says why it was refused.
-pub(crate) fn print_answer<O: Write, E: Write>(
-    text: &[u8],
-    writer: &mut O,
-    errors: &mut E,
-) -> Status
-    ensures done { result ≡ Status.Done → (lines : List ℕ)
-        × (answered_by text.now ≡ Some (done lines))
-        × Appends (O.contents writer.old) (O.contents writer.new) lines }
-    ensures refused { result ≡ Status.Refused
-        → Keeps (O.contents writer.old) (O.contents writer.new) }
-    ensures understood { result ≢ Status.Control }
-{
-    match read_answer(text) {
-        Some(Answered::Done(lines)) => match writer.write_all(lines) {
-            Ok(()) => Status::Done,
-            Err(_) => say(errors, b"io\n", Status::Io),
-        },
-        Some(Answered::Refused(why)) => match errors.write_all(why) {
-            Ok(()) => say(errors, b"\n", Status::Refused),
-            Err(_) => Status::UnsaidIo,
-        },
-        None => say(errors, b"io\n", Status::Io),
-    }
 }

@@ -3,10 +3,10 @@
 ghost use Rattle.std.specs.Prelude.{◌≡◌, ◌≢◌, codes};
 ghost use Rattle.std.specs.Io.KnownBytes.{Appends, Keeps};
 
-use crate::ask::{AskFault, connect, print_answer, say_fault};
+use crate::connection::{AskFault, connect, print_answer, say_fault};
 use control::{Answered, read_answer};
 use endings::{Status, say};
-use std::alloc::{AllocError, Global};
+use std::alloc::Global;
 use std::fs::{self, File, OpenOptions};
 use std::io::{self, ErrorKind, Read, Write};
 use std::net::Net;

@@ -1,6 +1,6 @@
 //! The commands of `sfu`: the words that ask for them, and what each does with which file.
 //!
-//! Read `command` first, `run_command` and `run_noted`, which the program calls, `ask` and `ask_record`, which are `sfu ask`, and
+//! Read `command` first, `run_command` and `run_noted`, which the program calls, `ask` and `ask_record`, which are `sfu ask` (over a `connection`), and
 //! `description`, `sfu sdp`; `explaining` says to people what was wrong. The words are `command_line`; the commands that need no socket are
 //! `offline`, `sfu replay` is `scripts`, `sfu serve` is `serving`, and how a command ends is `endings`. What callers need of these is handed on.
 #![tactic(auto)]
@@ -8,6 +8,7 @@
 mod ask;
 mod ask_record;
 mod command;
+mod connection;
 mod description;
 mod explaining;
 

@@ -1,7 +1,7 @@
 -- What the ingress takes in, as a happening: a moment, an RTP packet, RTCP packets.
-use Rattle.std.proofs.Common.{◌≡◌, ◌∙◌, ◌==◌, ℕ, ◌^◌, ◌<◌, ◌≤◌, ⊎_elim, slice_index, arith, List, [], ◌∷◌, ◌++◌, length, map, Bool, true, false, Result, Ok, Err, refl, sym, ap, ap₂, subst}
+use Rattle.std.proofs.Common.{◌≡◌, ◌∙◌, ◌==◌, ℕ, ◌^◌, ◌<◌, ◌≤◌, ⊎_elim, List, [], ◌∷◌, ◌++◌, length, map, Bool, true, false, Result, Ok, Err, refl, sym, ap, ap₂, subst}
 use Rattle.std.proofs.lemmas.List.{append-nil, append_assoc}
-use Rattle.std.proofs.lemmas.Bool.{cases_lt}
+use Rattle.std.proofs.lemmas.Bool.{cases_Bool}
 use Rattle.std.specs.Prelude.{Option, None, Some, OnOk, filter, if◌then◌else◌}
 use Rattle.std.specs.List.{last_or, enumerate_from, filter_map, flat_map, list_any}
 use Rattle.std.specs.Option.{option_map_or}
@@ -27,7 +27,8 @@ use Rattle.core_steps.specs.FollowUps.{AddsTasks, room_with_report, tasks_due}
 use Rattle.core_steps.specs.Happening.{giving, capped_count}
 use Rattle.intake.specs.Heard.{HearsBy, heard_of, asks_of}
 use Rattle.core_steps.specs.Hearing.{IsHearing, hearing, hearing_by, selecting, selecting_by, ticking, numbers_below, is_served_by, leg_report, refusal_for, task_after, task_for, tasks_after, reports, expires, present_endpoints, is_report_due, refusals_of, jobs_of, receptions}
-use Rattle.intake.specs.Intake.{Said, media, leaves, control, Says, SaysRtp, IsRtcp, speaker_of, heeded}
+use Rattle.intake.specs.Intake.{Said, media, leaves, control, Says, SaysRtp, speaker_of, heeded}
+use Rattle.rtcp_compound.specs.Mux.{is_rtcp}
 use Rattle.rewrite.specs.Rtp.{IsReadAs}
 use Rattle.rewrite.proofs.RtpLemmas.{reads_rtp, number_read, payload_read}
 use Rattle.core_steps.specs.Machine.{task_of}
@@ -291,17 +292,13 @@ packet_read d s q p n (packet, reads, is) = record {
 
 says_read : (own : ℕ) (d : List ℕ) (s q p n : ℕ) → Says own d (Ok (media s q p n)) → IsReadAs d (record { sequence_number = q; octets = n })
 says_read own d s q p n (rtcp, rtp) =
-    let kind = slice_index d 1 in
     ⊎_elim
-    (λ (below : kind < 192). packet_read d s q p n (rtp (λ (h : IsRtcp d). absurd (omega (arith, below, h.0)))))
-    (λ (least : 192 ≤ kind). ⊎_elim
-    (λ (above : 223 < kind). packet_read d s q p n (rtp (λ (h : IsRtcp d). absurd (omega (arith, above, h.1)))))
-    (λ (most : kind ≤ 223).
-    let said = rtcp (least, most) in
+    (λ (is : is_rtcp d ≡ true).
+    let said = rtcp is in
     absurd (no_packet_said (list_any (λ x. x == own) said.0.goodbyes) s q p n (speaker_of own said.0.senders) said.0.reports said.0.tmmbns
     (heeded said.0.asks) said.2))
-    (cases_lt 223 kind))
-    (cases_lt kind 192)
+    (λ (unlike : is_rtcp d ≡ false). packet_read d s q p n (rtp unlike))
+    (cases_Bool (is_rtcp d))
 
 -- a packet that was heard was read so
 pub media_read : (own : ℕ) (d : List ℕ) (heard : Heard) (ssrc : Ssrc) (seq timestamp octets : ℕ) (before after : List Ask)

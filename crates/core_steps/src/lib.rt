@@ -31,7 +31,7 @@ pub use intake::{Ask, Control, Heard, Unheard, hear_datagram, says_one_thing};
 pub use legs::{LegState, Legs, Plan};
 pub use notices::{
     Asks, Head, Notification, Question, asked_by, notification_of, notify, picture_call, stay_call,
-    tells_each_change, upstream_report, waiting,
+    tells_each_change, waiting,
 };
 pub use rewrite::rtp_laws;
 pub use ring::JOB_LIMIT;

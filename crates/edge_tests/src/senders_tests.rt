@@ -3,7 +3,7 @@
 use crate::expected::same;
 use senders::{
     Arrived, Front, Kind, Learners, Listeners, Occupancy, Occupants, Origin, Seat, Senders,
-    empty_report, is_control, read_network, says_goodbye, source_named,
+    empty_report, read_network, says_goodbye, source_named,
 };
 use std::net::{IpAddr, Ipv4Addr, Ipv6Addr, SocketAddr};
 use std::test::Fail;
@@ -39,8 +39,6 @@ fn finds_occupants(rt: HostRuntime) -> Result<(), Fail> {
 /// The source stands in the third word of RTP, and in the second of RTCP, if its first packet has one.
 #[test]
 fn names_sources(rt: HostRuntime) -> Result<(), Fail> {
-    assert!(rt; !is_control(&MEDIA));
-    assert!(rt; is_control(&REPORTS));
     same(&rt, &source_named(&MEDIA), &Some(16));
     same(&rt, &source_named(&REPORTS), &Some(17));
     same(&rt, &source_named(&MEDIA[..11]), &None);

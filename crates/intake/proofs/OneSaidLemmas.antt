@@ -1,12 +1,13 @@
 -- A datagram says one thing.
-use Rattle.std.proofs.Common.{◌≡◌, ◌∙◌, ℕ, ◌+◌, ◌<◌, ◌≤◌, ◌⊎◌, inl, inr, List, [], ◌∷◌, ◌++◌, length, map, get_or, Result, Ok, Err, refl, sym, ap, ap₂, subst, arith}
-use Rattle.std.proofs.lemmas.Bool.{cases_lt}
+use Rattle.std.proofs.Common.{◌≡◌, ◌∙◌, ℕ, inl, inr, List, [], ◌∷◌, ◌++◌, length, map, Result, Ok, Err, refl, sym, ap, ap₂, subst, arith}
+use Rattle.std.proofs.lemmas.Bool.{cases_Bool}
 use Rattle.rtp_packet.specs.declared.fault.RtpFault.{RtpFault}
 use Rattle.rtp_packet.specs.Fault.{HasRtpFault}
 use Rattle.rtp_packet.specs.Grammar.{RtpPacket}
 use Rattle.rtp_packet.proofs.PacketLemmas.{exact_fault, no_fault, one_packet}
 use Rattle.rtcp_compound.specs.Content.{Content, packet_content, sender_report, receiver_report, description, goodbye, feedback, other}
 use Rattle.rtcp_compound.specs.Grammar.{RtcpPacket}
+use Rattle.rtcp_compound.specs.Mux.{is_rtcp}
 use Rattle.rtcp_compound.proofs.DatagramLemmas.{reads_only, refuses_none, refuses_one}
 use Rattle.rtcp_feedback.specs.declared.fault.FbFault.{FbFault}
 use Rattle.rtcp_feedback.specs.declared.fault.FbFault.TheVariants.{Short, OddFci}
@@ -17,7 +18,7 @@ use Rattle.rtcp_feedback.proofs.EntryLemmas.{length-entries, length-nacks}
 use Rattle.rtcp_feedback.proofs.MessageLemmas.{again, reads_long}
 use Rattle.events.specs.declared.output.Refusal.{Refusal}
 use Rattle.events.specs.declared.output.Refusal.TheVariants.{Rtp, Rtcp, Feedback, Room, Desk}
-use Rattle.intake.specs.Intake.{FeedbackSays, Gist, IsRtcp, JoinsPackets, PacketSays, PacketsSay, Said, Says, SaysRtcp, SaysRtp, gist_of, joint_gist, media, said_by}
+use Rattle.intake.specs.Intake.{FeedbackSays, Gist, JoinsPackets, PacketSays, PacketsSay, Said, Says, SaysRtcp, SaysRtp, gist_of, joint_gist, media, said_by}
 
 same_ok : {A E : Type 0} (x y : A) → ◌≡◌ {A = Result A E} (Ok x) (Ok y) → x ≡ y
 same_ok x y e = cc
@@ -137,22 +138,11 @@ rtp_one datagram (Err (Feedback e)) b x y = absurd x
 rtp_one datagram (Err (Room e)) b x y = absurd x
 rtp_one datagram (Err (Desk e)) b x y = absurd x
 
--- ---- the second byte
-
-is_or_not : (datagram : List ℕ) → IsRtcp datagram ⊎ (IsRtcp datagram → ⊥)
-is_or_not datagram =
-    elim (cases_lt (get_or datagram 1 0) 192) [
-      | inl low ↦ inr (λ is. let from = is.0 in omega arith)
-      | inr high ↦
-          elim (cases_lt 223 (get_or datagram 1 0)) [
-            | inl above ↦ inr (λ is. let upto = is.1 in omega arith)
-            | inr within ↦ inl (high, within)
-          ]
-    ]
+-- ---- any datagram
 
 pub says_one : (own : ℕ) (datagram : List ℕ) (a b : Result Said Refusal) → Says own datagram a → Says own datagram b → a ≡ b
 says_one own datagram a b x y =
-    elim (is_or_not datagram) [
+    elim (cases_Bool (is_rtcp datagram)) [
       | inl is ↦ rtcp_one own datagram a b (x.0 is) (y.0 is)
       | inr unlike ↦ rtp_one datagram a b (x.1 unlike) (y.1 unlike)
     ]

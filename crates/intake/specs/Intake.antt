@@ -1,6 +1,6 @@
 -- What a datagram of an endpoint says (RFC 3550, sections 5.1, 6.1 and 6.6; RFC 4585, sections 6.1 to 6.3; RFC 5104,
 -- section 4.2), by the grammars of RTP packets, of RTCP datagrams and of feedback.
-use Rattle.std.specs.Prelude.{◌≡◌, ◌==◌, ◌⊎◌, ◌<◌, ◌≤◌, ℕ, ◌+◌, not, unwrap_or, List, take, [], ◌∷◌, ◌++◌, length, map, slice_index, fold, Result, Ok, Err, if◌then◌else◌}
+use Rattle.std.specs.Prelude.{◌≡◌, ◌==◌, ◌⊎◌, ◌<◌, ℕ, ◌+◌, not, true, false, unwrap_or, List, take, [], ◌∷◌, ◌++◌, length, map, slice_index, fold, Result, Ok, Err, if◌then◌else◌}
 use Rattle.std.specs.List.{find, list_any}
 use Rattle.members.specs.Room.{RoomState, after_report}
 use Rattle.rtp_packet.specs.Fault.{HasRtpFault}
@@ -8,6 +8,7 @@ use Rattle.rtp_packet.specs.Grammar.{RtpPacket, ReadsRtp}
 use Rattle.rtcp_compound.specs.Content.{Content, packet_content, sender_report, receiver_report, description, goodbye, feedback, other}
 use Rattle.rtcp_compound.specs.Fault.{Refuses}
 use Rattle.rtcp_compound.specs.Grammar.{RtcpPacket, ReadsRtcp}
+use Rattle.rtcp_compound.specs.Mux.{is_rtcp}
 use Rattle.rtcp_feedback.specs.declared.fault.FbFault.{FbFault}
 use Rattle.rtcp_feedback.specs.declared.fault.FbFault.TheVariants.{Short, OddFci}
 use Rattle.rtcp_feedback.specs.Fault.{HasOddFci}
@@ -128,14 +129,11 @@ SaysRtp datagram (Err (Feedback fault)) = ⊥
 SaysRtp datagram (Err (Room fault)) = ⊥
 SaysRtp datagram (Err (Desk fault)) = ⊥
 
--- the second byte is a packet type of RTCP (RFC 5761, section 4); a byte past the end counts as 0
-abbrev pub IsRtcp : List ℕ → Type 0
-IsRtcp datagram = (192 ≤ slice_index datagram 1) × (slice_index datagram 1 ≤ 223)
-
 -- what a datagram of the endpoint whose own source this is says, or why it is refused
 abbrev pub Says : ℕ → List ℕ → Result Said Refusal → Type 0
 Says own datagram said =
-    (IsRtcp datagram → SaysRtcp own datagram said) × (¬ IsRtcp datagram → SaysRtp datagram said)
+    (is_rtcp datagram ≡ true → SaysRtcp own datagram said)
+    × (is_rtcp datagram ≡ false → SaysRtp datagram said)
 
 -- the room once sender reports of the endpoint with these timestamps came at its moment
 abbrev pub after_reports : RoomState → ℕ → List (ℕ × ℕ) → RoomState

@@ -1,26 +1,21 @@
 //! What a datagram of an endpoint says.
 
-ghost use Rattle.std.specs.Prelude.{◌≡◌, ◌==◌, ◌↔◌, ℕ, ◌+◌, ◌^◌, ◌<◌, ◌≤◌, List, ◌++◌, drop, length, map, take, IfOk, IsTrue, Result, Ok};
+ghost use Rattle.std.specs.Prelude.{◌≡◌, ◌==◌, ℕ, ◌+◌, ◌^◌, ◌<◌, ◌≤◌, List, ◌++◌, drop, length, map, take, IfOk, Result, Ok};
 ghost use Rattle.std.specs.List.{list_any};
 ghost use Rattle.rtcp_compound.specs.Content.{content_of, sources_left};
 ghost use Rattle.rtcp_compound.specs.Left.{contents_left};
 ghost use Rattle.rtcp_feedback.specs.Reading.{entries_left, message_of, nacks_left};
 ghost use Rattle.intake.specs.Heard.{Appends, Fills, Hears, HearsPackets, HearsRtcp, HearsRtp, IsSurveyOf, Surveys};
-ghost use Rattle.intake.specs.Intake.{Gist, heeded, IsRtcp, PacketSays, PacketsSay, Said, Says, gist_of, joint_gist, empty_gist, sent_by};
+ghost use Rattle.intake.specs.Intake.{Gist, heeded, PacketSays, PacketsSay, Said, Says, gist_of, joint_gist, empty_gist, sent_by};
 ghost use Rattle.intake.specs.declared.intake.Ask.{Ask as Asked};
 ghost use Rattle.events.specs.declared.output.Refusal.{Refusal as RefusedBy};
 
 use events::Refusal;
-use rtcp_compound::{Packets, RtcpView, Sources, split};
+use rtcp_compound::{Packets, RtcpView, Sources, is_rtcp, split};
 use rtcp_feedback::{FbFault, Feedback, Nack, Nacks, TmmbEntries, read_feedback};
 use rtp_packet::RtpView;
 use std::alloc::AllocError;
 use tmmbr_tuple::Ssrc;
-
-/// The first packet type of RTCP (RFC 5761, section 4).
-const FIRST_RTCP: u8 = 192;
-/// The last packet type of RTCP (RFC 5761, section 4).
-const LAST_RTCP: u8 = 223;
 
 /// How many entries of a datagram's feedback are heeded, the first; a PLI is one.
 pub const MAX_ENTRIES: usize = 256;
@@ -85,13 +80,6 @@ pub fn hear_datagram(datagram: &[u8], own: Ssrc, asks: &mut Vec<Ask>) -> Result<
     } else {
         hear_rtp(datagram)
     }
-}
-
-/// Whether the second byte is a packet type of RTCP.
-fn is_rtcp(datagram: &[u8]) -> bool
-    ensures { IsTrue result ↔ IsRtcp datagram.now }
-{
-    matches!(datagram.get(1), Some(FIRST_RTCP..=LAST_RTCP))
 }
 
 /// Reads an RTP packet.

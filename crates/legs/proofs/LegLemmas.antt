@@ -9,7 +9,7 @@ use Rattle.std.specs.Global.{Vec}
 use Rattle.std.specs.List.{flat_map, enumerate_from}
 use Rattle.members.specs.declared.order.Row.{Row}
 use Rattle.settings.specs.declared.settings.LegSettings.{LegSettings}
-use Rattle.settings.specs.declared.settings.TheConstants.{MAX_LEGS}
+use Rattle.settings.specs.declared.limits.TheConstants.{MAX_LEGS}
 use Rattle.settings.specs.Settings.{IsLegAmong}
 use Rattle.rewrite.specs.Leg.{answer_to}
 use Rattle.rtcp_feedback.specs.declared.nack.Nack.{Nack}

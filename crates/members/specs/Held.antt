@@ -3,7 +3,7 @@ use Rattle.std.specs.Prelude.{◌≡◌, ℕ, ◌<◌, ◌≤◌, List, length}
 use Rattle.members.specs.declared.presence.Endpoint.{Endpoint}
 use Rattle.members.specs.declared.stays.LegStay.{LegStay}
 use Rattle.members.specs.declared.stays.TheConstants.{MAX_STAY}
-use Rattle.settings.specs.declared.settings.TheConstants.{MAX_LEGS}
+use Rattle.settings.specs.declared.limits.TheConstants.{MAX_LEGS}
 use Rattle.members.specs.Presence.{NobodyOverdue}
 use Rattle.members.specs.Reception.{Heard}
 

@@ -69,12 +69,12 @@ impl Model for Room {
 }
 
 impl Room {
-    ghost use Rattle.std.specs.Prelude.{◌≡◌, ◌<◌, ◌≤◌, ◌+◌, ◌*◌, ◌++◌, ◌↔◌, ℕ, max, true, Err, IsTrue, IsOk, IsNone, IfNone, IfSome, IfOk, OnOk, OnErr, length};
+    ghost use Rattle.std.specs.Prelude.{◌≡◌, ◌<◌, ◌≤◌, ◌+◌, ◌*◌, ◌↔◌, ℕ, max, true, Err, IsTrue, IsOk, IsNone, IfNone, IfSome, IfOk, OnOk, OnErr, length};
     ghost use Rattle.members.specs.Presence.{NobodyOverdue, is_present_at, source_at};
     ghost use Rattle.members.specs.Room.{new_room, tick_step, bye_step, hear_step, heard_step, select_step, after_leaving, leg_at, Answers, ChangesNothing, IsCalm, TakesStep};
     ghost use Rattle.members.specs.Room.{reception_at, after_packet, after_report, after_block};
     ghost use Rattle.members.specs.Calls.{Call, step_of};
-    ghost use Rattle.settings.specs.declared.settings.TheConstants.{MAX_LEGS};
+    ghost use Rattle.settings.specs.declared.limits.TheConstants.{MAX_LEGS};
     ghost use Rattle.members.specs.Stream.{IsBlockAnswer, timestamps_of};
 
     /// The room of these settings: nobody is present, its moment is 0.

@@ -1,21 +1,20 @@
-//! What the unit's compounds begin with, and its reports upstream.
+//! What the unit's compounds begin with, and its reports to publishers.
 
-ghost use Rattle.std.specs.Prelude.{◌≡◌, ◌≤◌, ◌+◌, ◌++◌, [], length, map, vec_len, vec_capacity, OnOk, OnErr};
+ghost use Rattle.std.specs.Prelude.{◌≡◌, ◌≤◌, ◌+◌, ◌++◌, [], length, map, vec_len, vec_capacity};
 ghost use Rattle.rtcp_compound.specs.Grammar.{packet_bytes};
 ghost use Rattle.rtcp_compound.specs.Report.{block_of};
 ghost use Rattle.rtcp_compound.specs.Written.{rr_packet};
-ghost use Rattle.notices.specs.Head.{blocks_of, upstream_report};
+ghost use Rattle.notices.specs.Head.{blocks_of};
 
-use events::{Bytes, Out};
-use rtcp_compound::{Block, CNAME_LIMIT, write_rr, write_sdes_cname};
+use rtcp_compound::{
+    BLOCK_BYTES, Block, CNAME_LIMIT, SOURCE_BYTES, WORD_BYTES, write_rr, write_sdes_cname,
+};
 use std::alloc::{AllocError, Global};
 use std::marker::Model;
 use tmmbr_tuple::Ssrc;
 
-/// The length of a receiver report without blocks in bytes (RFC 3550, section 6.4.2).
-const RR_LEN: usize = 8;
-/// The length of a report block in bytes (RFC 3550, section 6.4.1).
-const BLOCK_LEN: usize = 24;
+/// The length of a receiver report with one block in bytes (RFC 3550, section 6.4.2).
+const REPORT_BYTES: usize = WORD_BYTES + SOURCE_BYTES + BLOCK_BYTES;
 
 /// What each compound of the unit begins with: a receiver report without blocks, and a description with its CNAME
 /// (RFC 3550, section 6.1).
@@ -84,8 +83,8 @@ impl Head {
         let mut description = Vec::new(alloc);
         write_sdes_cname(&mut description, self.unit_ssrc, self.cname.as_slice())?;
         Ok(Draft {
-            report: Vec::with_capacity(alloc, RR_LEN + BLOCK_LEN)?,
-            datagram: Vec::with_capacity(alloc, RR_LEN + BLOCK_LEN + description.len())?,
+            report: Vec::with_capacity(alloc, REPORT_BYTES)?,
+            datagram: Vec::with_capacity(alloc, REPORT_BYTES + description.len())?,
             description,
         })
     }
@@ -156,26 +155,4 @@ fn put(out: &mut Vec<u8>, bytes: &[u8])
         Ok(()) => {}
         Err(AllocError) => {}
     }
-}
-
-/// Tells the publisher what came from it: the block about it, if there is one (RFC 3550, section 6.4.2). Refused
-/// for want of memory alone; then nothing is appended.
-pub fn upstream_report(
-    alloc: Global,
-    head: &Head,
-    publisher: u16,
-    block: Option<Block>,
-    outs: &mut Vec<Out>,
-) -> Result<(), AllocError>
-    ensures ok { OnOk result (outs.new.items
-        ≡ outs.old.items ++ upstream_report head.now publisher block) }
-    ensures unchanged { OnErr result (outs.new.items ≡ outs.old.items) }
-{
-    let draft = head.draft(alloc)?;
-    let bytes = Bytes::new(head.fill(draft, block));
-    outs.push(Out::Send {
-        endpoint: publisher,
-        bytes,
-    })?;
-    Ok(())
 }

@@ -10,5 +10,5 @@ mod head;
 mod notification;
 
 pub use calls::{Asks, Question, asked_by, notification_of, picture_call, stay_call, waiting};
-pub use head::{Draft, Head, upstream_report};
+pub use head::{Draft, Head};
 pub use notification::{Notification, notify, tells_each_change};

@@ -15,20 +15,15 @@ use desk::Effect;
 use events::{Bytes, Out};
 use members::Row;
 use rate_cert::Request;
-use rtcp_feedback::{TmmbrEntry, entries_of, write_pli, write_tmmbn, write_tmmbr};
+use rtcp_feedback::{
+    ENTRY_BYTES, FRONT_BYTES, TmmbrEntry, entries_of, write_pli, write_tmmbn, write_tmmbr,
+};
 use settings::Links;
 use std::alloc::{AllocError, Global};
 use tmmbr_tuple::Ssrc;
 
 /// The word of the greatest rate that can be spelled, without overhead: it lifts a bound (RFC 5104, section 4.2.1.1).
 const NO_LIMIT: u32 = 0xffff_fe00;
-
-/// The length in bytes of a TMMBR with one entry.
-const TMMBR_LEN: usize = 20;
-/// The length in bytes of a TMMBN without entries, and of a PLI.
-const FRONT_LEN: usize = 12;
-/// The length in bytes of an entry.
-const ENTRY_LEN: usize = 8;
 
 /// A desk's call that something follows from; its effect goes beside it.
 #[derive(Clone, Copy, PartialEq, Eq)]
@@ -188,7 +183,7 @@ fn picture_upstream(
     }
     match links.ssrc_of(notification.publisher) {
         Some(source) => {
-            let mut bytes = head.begin(alloc, FRONT_LEN)?;
+            let mut bytes = head.begin(alloc, FRONT_BYTES)?;
             write_pli(&mut bytes, head.unit_ssrc(), source)?;
             send(notification.publisher, bytes, outs)
         }
@@ -212,7 +207,7 @@ fn notify_leg(
     let Some(leg) = links.leg(leg) else {
         return Ok(());
     };
-    let mut bytes = head.begin(alloc, FRONT_LEN + ENTRY_LEN * entries.len())?;
+    let mut bytes = head.begin(alloc, FRONT_BYTES + ENTRY_BYTES * entries.len())?;
     write_tmmbn(&mut bytes, leg.out_ssrc, entries)?;
     send(leg.subscriber, bytes, outs)
 }
@@ -228,7 +223,7 @@ fn requests(
         ≡ report_head head.now ++ requests_bytes publisher effect.now) }
 {
     let count = effect.lifted.len() + effect.fresh.len();
-    let mut bytes = head.begin(alloc, TMMBR_LEN * count)?;
+    let mut bytes = head.begin(alloc, (FRONT_BYTES + ENTRY_BYTES) * count)?;
     write_lifted(&mut bytes, publisher, effect.lifted.as_slice())?;
     write_fresh(&mut bytes, publisher, effect.fresh.as_slice())?;
     Ok(bytes)

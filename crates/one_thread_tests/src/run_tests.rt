@@ -1,7 +1,5 @@
 //! Whole runs of the unit in one thread, over lists in memory.
 
-ghost use Rattle.std.specs.Prelude.{◌≡◌};
-
 use crate::doubles::{Cue, ListSink, Script, Steps};
 use one_thread::{DriveFault, Pace, Report, run_one_thread};
 use outside::{Datagram, Unwatched};

@@ -1,7 +1,5 @@
 //! What a watch and a sink are told while the unit runs.
 
-ghost use Rattle.std.specs.Prelude.{◌≡◌};
-
 use crate::doubles::{Cue, Looker, Moved, Script, Shaky, Slow};
 use crate::run_tests::settings_with;
 use events::Refusal;

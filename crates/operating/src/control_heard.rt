@@ -1,7 +1,7 @@
 //! RTCP that came in a turn, until the moment of that turn is known: a receive may wait, and the clock is asked after it.
 
 use outside::{MAX_DATAGRAM, ReceiveFault, Received};
-use senders::is_control;
+use rtcp_compound::is_rtcp;
 use std::alloc::{AllocError, Global};
 use std::cell::{Cell, RefCell};
 use traffic::Traffic;
@@ -31,7 +31,7 @@ impl ControlHeard {
         let Some(datagram) = out.get(..length) else {
             return;
         };
-        if is_control(datagram) {
+        if is_rtcp(datagram) {
             self.keep(endpoint, datagram);
         }
     }

@@ -1,8 +1,8 @@
 //! Who looks at a unit that runs, steers it and records it.
 //!
 //! Read `gauges` first, what a run shows. `control_socket` is where a unit is steered, `steering` who does that, `steered` how what they
-//! want comes to the unit. `recorder` writes down what the unit takes in, `recorded` how that comes to it, and `record_file` is where it
-//! goes, a file or a peer. `status_lines` are the lines of counts. `courier` is a thread that writes what nobody waits for: a record, and
+//! want comes to the unit. `recorder` writes down what the unit takes in, `recorded` how that comes to it, and `record_file` opens what
+//! it goes to, a `scroll`: a file or a peer. `status_lines` are the lines of counts. `courier` is a thread that writes what nobody waits for: a record, and
 //! the lines of counts (`lines`). `control_heard` keeps RTCP until the moment of its turn is known.
 #![tactic(auto)]
 
@@ -14,6 +14,7 @@ mod lines;
 mod record_file;
 mod recorded;
 mod recorder;
+mod scroll;
 mod status_lines;
 mod steered;
 mod steering;

@@ -7,12 +7,12 @@ ghost use Rattle.operating.specs.Records.{BeginsRecord, IsHead};
 use crate::courier::start_courier;
 use crate::gauges::{Gauges, TICK_MS};
 use crate::recorder::Recorder;
+use crate::scroll::Scroll;
 use recording::{Header, RecordFault, header_text};
 use std::fs::{File, OpenOptions};
-use std::io::{self, ErrorKind, Write};
+use std::io::ErrorKind;
 use std::net::Net;
 use std::os::unix::fs::OpenOptionsExt;
-use std::os::unix::net::UnixStream;
 use std::rt::Files;
 use std::thread::Threads;
 use std::time::{self, SystemTime};
@@ -25,43 +25,6 @@ const BLOCKS: usize = 256;
 
 /// The version of the program that a record names.
 const VERSION: &str = "0.1.0";
-
-/// Where a record is written.
-#[derive(Drop)]
-pub(crate) enum Scroll {
-    /// Nobody wants one.
-    Nobody,
-    File(File),
-    /// Who asked for it by the control.
-    Peer(UnixStream),
-}
-
-impl Write for Scroll {
-    ghost use Rattle.std.specs.Prelude.{◌≡◌, None, Ok, length};
-    ghost use Rattle.std.specs.Io.{WritesAtMost};
-    ghost use Rattle.std.specs.Io.KnownBytes.{WriteAppends};
-    ghost use Rattle.operating.specs.declared.record_file.Scroll.TheVariants.{Nobody};
-
-    fn write(&mut self, buf: &[u8]) -> io::Result<usize>
-        ensures bound { WritesAtMost result buf.now }
-        ensures bytes { WriteAppends None None result buf.now }
-        ensures nobody { self.old ≡ Nobody → result ≡ Ok (length buf.now) }
-    {
-        match self {
-            Scroll::Nobody => Ok(buf.len()),
-            Scroll::File(file) => file.write(buf),
-            Scroll::Peer(stream) => stream.write(buf),
-        }
-    }
-
-    fn flush(&mut self) -> io::Result<()> {
-        match self {
-            Scroll::Nobody => Ok(()),
-            Scroll::File(file) => file.flush(),
-            Scroll::Peer(stream) => stream.flush(),
-        }
-    }
-}
 
 /// Makes a file at the path, which isn't there yet, and records there what a unit takes in, at most so many bytes. The settings that the
 /// unit has come from a file with this SHA-256.

@@ -5,7 +5,7 @@ ghost use Rattle.std.specs.String.{string_bytes};
 ghost use Rattle.recording.specs.Tapes.{IsPut, new_tape};
 
 use crate::courier::Outlet;
-use crate::record_file::Scroll;
+use crate::scroll::Scroll;
 use outside::{ReceiveFault, Received, Ticks};
 use recording::{End, Tape, begun_line, made_lines, selected_lines, ticked_lines};
 use std::alloc::{AllocError, Global};

@@ -19,6 +19,19 @@ fn says(rt: &impl Abort, alloc: Global, datagram: &[u8], wanted: &str) -> Result
     Ok(())
 }
 
+/// Packet types of RTCP are 192 to 223; what is beside them, or has no second byte, is taken for RTP (RFC 5761, section 4).
+#[test]
+fn tells_rtcp_from_rtp(rt: HostRuntime) {
+    for kind in [192, 200, 207, 223] {
+        assert!(rt; is_rtcp(&[0x80, kind, 0, 1]));
+    }
+    for kind in [0, 96, 127, 191, 224, 255] {
+        assert!(rt; !is_rtcp(&[0x80, kind, 0, 1]));
+    }
+    assert!(rt; !is_rtcp(&[200]));
+    assert!(rt; !is_rtcp(&[]));
+}
+
 /// A datagram of no bytes, which no script can have; what else is refused are cases of `cases/`.
 #[test]
 fn no_packets(rt: HostRuntime) -> Result<(), Fail> {

@@ -4,12 +4,9 @@ ghost use Rattle.std.specs.Prelude.{◌≡◌, ◌+◌, ◌<◌, ◌∷◌, ◌+
 ghost use Rattle.rtcp_feedback.specs.Reading.{entries_in};
 
 use byteorder::{BigEndian, ByteOrder};
-use rtcp_feedback::TmmbrEntry;
+use rtcp_feedback::{ENTRY_BYTES, TmmbrEntry};
 use std::alloc::AllocError;
 use tmmbr_tuple::Ssrc;
-
-/// The length of an entry in bytes.
-pub(crate) const ENTRY: usize = 8;
 
 /// The entry that bytes begin with, and those after it.
 #[tactic(auto, using(rtcp_feedback::proofs::EntryLemmas::entries_next, rtcp_feedback::proofs::EntryLemmas::entries_end))]
@@ -19,7 +16,7 @@ pub(crate) fn first_entry(bytes: &[u8]) -> Option<(TmmbrEntry, &[u8])>
     ensures shorter { MatchOption result (length bytes.now < 8)
         (λ r. length r.1.now + 8 ≡ length bytes.now) }
 {
-    let (entry, behind) = bytes.split_at_checked(ENTRY)?;
+    let (entry, behind) = bytes.split_at_checked(ENTRY_BYTES)?;
     let entry = TmmbrEntry {
         ssrc: Ssrc(BigEndian::read_u32(entry)),
         word: BigEndian::read_u32(&entry[4..]),

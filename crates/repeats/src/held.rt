@@ -1,14 +1,14 @@
 //! What of a datagram is given on.
 
-ghost use Rattle.std.specs.Prelude.{◌≡◌, ◌≤◌, ◌++◌, length, drop, OnOk};
+ghost use Rattle.std.specs.Prelude.{◌≡◌, ◌++◌, OnOk};
 ghost use Rattle.std.specs.List.{list_all};
 ghost use Rattle.rtcp_feedback.specs.Reading.{entries_in};
-ghost use Rattle.repeats.specs.Held.{GivesDatagram, GivesRest, is_left_out, is_moot, is_moot_leg, is_moot_place, is_request, knowing, packet_given};
+ghost use Rattle.repeats.specs.Held.{GivesDatagram, GivesRest, is_left_out, is_moot, is_moot_leg, is_request, knowing, packet_given};
 
-use crate::entries::{ENTRY, first_entry};
+use crate::entries::first_entry;
 use crate::presence::Presence;
 use rtcp_compound::RTPFB;
-use rtcp_feedback::TmmbrEntry;
+use rtcp_feedback::{ENTRY_BYTES, FRONT_BYTES, TmmbrEntry};
 use senders::{empty_report, first_size};
 use settings::{LegSettings, Links};
 use std::alloc::AllocError;
@@ -16,9 +16,6 @@ use tmmbr_tuple::Ssrc;
 
 /// The first byte of a TMMBR without padding: the version 2 and the FMT 3 (RFC 5104, section 4.2.1.1).
 const TMMBR: u8 = 0x83;
-
-/// The length in bytes of a header and the two sources after it (RFC 4585, section 6.1).
-const FRONT: usize = 12;
 
 /// Who sent a datagram, and what is known as it comes.
 #[derive(Clone, Copy)]
@@ -79,14 +76,14 @@ fn give_packet(out: &mut Vec<u8>, known: Known<'_>, packet: &[u8]) -> Result<(),
 fn is_left_out(known: Known<'_>, packet: &[u8]) -> bool
     ensures { result ≡ is_left_out (knowing known.entry) packet.now }
 {
-    is_request(packet) && are_moot(known, &packet[FRONT..])
+    is_request(packet) && are_moot(known, &packet[FRONT_BYTES..])
 }
 
 /// Whether the packet is a TMMBR without padding that has an entry.
 fn is_request(packet: &[u8]) -> bool
     ensures value { result ≡ is_request packet.now }
 {
-    packet.len() >= FRONT + ENTRY && packet[0] == TMMBR && packet[1] == RTPFB
+    packet.len() >= FRONT_BYTES + ENTRY_BYTES && packet[0] == TMMBR && packet[1] == RTPFB
 }
 
 /// Whether each of the entries that these bytes are asks a publisher that surely isn't there.

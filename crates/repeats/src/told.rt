@@ -7,13 +7,8 @@ ghost use Rattle.repeats.specs.Told.{later_notice, notice_body, notice_in};
 
 use byteorder::{BigEndian, ByteOrder};
 use rtcp_compound::{Packets, RTPFB, RtcpView};
+use rtcp_feedback::{FMT_TMMBN, SOURCES_BYTES};
 use tmmbr_tuple::Ssrc;
-
-/// The FMT of a TMMBN (RFC 5104, section 4.2.2.1).
-const FMT_TMMBN: u8 = 4;
-
-/// The length in bytes of the two sources before the entries (RFC 4585, section 6.1).
-const SOURCES: usize = 8;
 
 /// The entries' bytes of the last TMMBN of this source among packets.
 pub(crate) fn last_notice(packets: Packets<'_>, own: Ssrc) -> Option<&[u8]>
@@ -53,8 +48,8 @@ fn notice_in(packet: RtcpView<'_>, own: Ssrc) -> Option<&[u8]>
 fn notice_body(body: &[u8], own: Ssrc) -> Option<&[u8]>
     ensures { option_map (λ s. s.now) result ≡ notice_body own.0 body.now }
 {
-    if body.len() >= SOURCES && BigEndian::read_u32(body) == own.0 {
-        Some(&body[SOURCES..])
+    if body.len() >= SOURCES_BYTES && BigEndian::read_u32(body) == own.0 {
+        Some(&body[SOURCES_BYTES..])
     } else {
         None
     }

@@ -2,7 +2,7 @@
 -- belongs to the chain n % chains. Places are counted from the newest packet back.
 use Rattle.std.specs.Prelude.{◌≡◌, ◌≢◌, ◌<◌, ◌≤◌, ◌+◌, ◌-◌, ◌%◌, ℕ, List, ◌⊎◌, length, map, slice_index, MatchOption}
 use Rattle.rtp_packet.specs.declared.header.TheConstants.{SEQ_CYCLE}
-use Rattle.resend_ring.specs.declared.ring.TheConstants.{MAX_CAPACITY}
+use Rattle.resend_ring.specs.declared.packets.TheConstants.{MAX_CAPACITY}
 use Rattle.resend_ring.specs.declared.chains.TheConstants.{MAX_CHAIN, MANY_CHAINS, FEW_CHAINS}
 use Rattle.resend_ring.specs.declared.chains.Chains.{Chains}
 use Rattle.resend_ring.specs.declared.chains.Found.{Found}

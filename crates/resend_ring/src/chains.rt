@@ -3,7 +3,7 @@
 ghost use Rattle.std.specs.Prelude.{◌≡◌, ◌≢◌, ◌<◌, ◌≤◌, ◌%◌, ℕ, [], ◌∷◌, length, take, slice_index, IfOk, MatchOption};
 ghost use Rattle.resend_ring.specs.Chains.{AreChains, AreLinks, IsChainCount, IsHead, IsFound, IsLatest, IsLatestWith, sequence_numbers};
 
-use crate::ring::{MAX_CAPACITY, Packets};
+use crate::packets::{MAX_CAPACITY, Packets};
 use circular_buffer::HeapCircularBuffer;
 use rtp_packet::SEQ_CYCLE;
 use std::alloc::{AllocError, Allocator};

@@ -4,6 +4,8 @@
 
 mod chains;
 pub mod laws;
+mod packets;
 mod ring;
 
-pub use ring::{MAX_CAPACITY, Ring};
+pub use packets::MAX_CAPACITY;
+pub use ring::Ring;

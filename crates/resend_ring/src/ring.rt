@@ -5,17 +5,12 @@ ghost use Rattle.std.specs.Option.{option_to_list};
 ghost use Rattle.circular_buffer.specs.Buffer.{keep_last};
 
 use crate::chains::Chains;
+use crate::packets::{MAX_CAPACITY, Packets};
 use circular_buffer::HeapCircularBuffer;
 use rewrite::Readdressed;
 use rtp_packet::SEQ_CYCLE;
 use std::alloc::{AllocError, Allocator, Global};
 use std::marker::Model;
-
-/// The most packets that a ring may keep.
-pub const MAX_CAPACITY: usize = 512;
-
-/// Packets from the newest to the oldest, each with its outgoing number.
-pub type Packets<A> = HeapCircularBuffer<(u64, Readdressed), A>;
 
 /// The last packets of a leg, each with its outgoing number. Of packets that many legs keep the bytes are shared.
 #[derive(Drop)]
@@ -42,7 +37,7 @@ impl<A: Allocator> Model for Ring<A> {
 }
 
 impl<A: Allocator> Ring<A> {
-    ghost use Rattle.resend_ring.specs.Kept.{Kept, SentPacket, sent_packet, last_kept_with};
+    ghost use Rattle.resend_ring.specs.Kept.{sent_packet, last_kept_with};
 
     /// An empty ring that keeps this many packets, from 1 to `MAX_CAPACITY`.
     pub fn new(alloc: A, capacity: usize) -> Result<Ring<A>, AllocError>

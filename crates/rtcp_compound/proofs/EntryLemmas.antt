@@ -2,7 +2,7 @@
 use Rattle.std.proofs.Common.{◌≡◌, ◌∙◌, ℕ, suc, ◌-◌, ◌/◌, ◌<◌, ◌≤◌, ℤ, List, [], ◌∷◌, length, take, drop, slice_index, sym, ap, arith, length-drop}
 use Rattle.std.proofs.lemmas.List.{take_rest}
 use Rattle.byteorder.specs.Endian.{big_number, twos_complement}
-use Rattle.rtcp_compound.specs.declared.packet.TheConstants.{BLOCK_BYTES}
+use Rattle.rtcp_compound.specs.declared.sizes.TheConstants.{BLOCK_BYTES}
 use Rattle.rtcp_compound.specs.Content.{sources_in}
 use Rattle.rtcp_compound.specs.Entries.{entries_from}
 use Rattle.rtcp_compound.specs.Report.{ReportBlock, block_in, blocks_in}

@@ -7,7 +7,8 @@ use Rattle.rtcp_compound.specs.declared.view.RtcpView.TheVariants.{Sr, Rr, Sdes,
 use Rattle.rtcp_compound.specs.Entries.{entries_from}
 use Rattle.rtcp_compound.specs.Grammar.{RtcpPacket, sources_end}
 use Rattle.rtcp_compound.specs.Report.{ReportBlock, blocks_in, blocks_left}
-use Rattle.rtcp_compound.specs.declared.packet.TheConstants.{SR, RR, SDES, BYE, RTPFB, PSFB, SOURCE_BYTES, SENDER_BYTES, BLOCK_BYTES}
+use Rattle.rtcp_compound.specs.declared.packet.TheConstants.{SR, RR, SDES, BYE, RTPFB, PSFB}
+use Rattle.rtcp_compound.specs.declared.sizes.TheConstants.{SOURCE_BYTES, SENDER_BYTES, BLOCK_BYTES}
 
 -- the sources that stand whole in the bytes
 unfoldable pub sources_in : List ℕ → List ℕ

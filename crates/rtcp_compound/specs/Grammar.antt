@@ -1,7 +1,8 @@
 -- RTCP datagrams as trees and their bytes (RFC 3550, sections 6.1 and 6.4 to 6.6).
 use Rattle.std.specs.Prelude.{◌≡◌, ℕ, ◌+◌, ◌-◌, ◌*◌, ◌/◌, ◌%◌, ◌^◌, ◌<◌, ◌≤◌, ◌⊎◌, ◌==◌, nat_lt, List, [], ◌∷◌, ◌++◌, length, slice_index, if◌then◌else◌}
 use Rattle.std.specs.List.{flat_map}
-use Rattle.rtcp_compound.specs.declared.packet.TheConstants.{SR, RR, SDES, BYE, SOURCE_BYTES, SENDER_BYTES, BLOCK_BYTES}
+use Rattle.rtcp_compound.specs.declared.packet.TheConstants.{SR, RR, SDES, BYE}
+use Rattle.rtcp_compound.specs.declared.sizes.TheConstants.{SOURCE_BYTES, SENDER_BYTES, BLOCK_BYTES}
 
 -- A packet: the count of its entries (or the FMT of feedback), its type, its body, and its padding, which most have not.
 pub record RtcpPacket : Type 0 where

@@ -1,4 +1,5 @@
 pub mod Fault
+pub mod Mux
 pub mod Grammar
 pub mod Entries
 pub mod Report

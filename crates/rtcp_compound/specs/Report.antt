@@ -4,7 +4,7 @@ use Rattle.byteorder.specs.Endian.{big_number, big_bytes, twos_complement}
 use Rattle.rtcp_compound.specs.declared.report.Block.{Block}
 use Rattle.rtcp_compound.specs.declared.report.Blocks.{Blocks}
 use Rattle.rtcp_compound.specs.Entries.{entries_from}
-use Rattle.rtcp_compound.specs.declared.packet.TheConstants.{BLOCK_BYTES}
+use Rattle.rtcp_compound.specs.declared.sizes.TheConstants.{BLOCK_BYTES}
 
 -- A report block: the source, the fraction lost, the packets lost, the extended highest sequence number, the jitter, and
 -- the last sender report with the delay since it.

@@ -1,6 +1,6 @@
 //! Goodbyes (RFC 3550, section 6.6).
 
-use crate::packet::SOURCE_BYTES;
+use crate::sizes::SOURCE_BYTES;
 use byteorder::{BigEndian, ByteOrder};
 use tmmbr_tuple::Ssrc;
 

@@ -9,19 +9,23 @@
 mod bye;
 mod fault;
 pub mod laws;
+mod mux;
 mod packet;
 mod packets;
 mod report;
 mod sdes;
+mod sizes;
 mod unread;
 mod view;
 mod writer;
 
 pub use bye::Sources;
 pub use fault::RtcpFault;
-pub use packet::{PSFB, RTPFB};
+pub use mux::is_rtcp;
+pub use packet::{PSFB, RR, RTPFB};
 pub use packets::split;
 pub use report::{Block, Blocks};
+pub use sizes::{BLOCK_BYTES, SOURCE_BYTES, WORD_BYTES};
 pub use unread::Packets;
 pub use view::RtcpView;
 pub use writer::{CNAME_LIMIT, ENTRY_LIMIT, write_bye, write_rr, write_sdes_cname, write_sr};

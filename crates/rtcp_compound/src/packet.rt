@@ -1,11 +1,12 @@
 //! The packet at the front of a datagram.
 
-ghost use Rattle.std.specs.Prelude.{◌≡◌, ◌≤◌, ◌+◌, ◌<◌, MatchResult, MatchOption, IfOk, IsTrue, Ok, Err, Some, None, length};
+ghost use Rattle.std.specs.Prelude.{◌≡◌, ◌≤◌, ◌+◌, ◌<◌, MatchResult, IfOk, Ok, Err, Some, None, length};
 ghost use Rattle.rtcp_compound.specs.Grammar.{HasReports, sources_end};
 ghost use Rattle.rtcp_compound.specs.Reading.{Gives, IsReadWhole, content_at, padding_in, fault_in, fits_bye, frame_at, packet_at, rtcp_packet_of};
 
 use crate::fault::RtcpFault;
 use crate::sdes::after_chunks;
+use crate::sizes::{BLOCK_BYTES, SENDER_BYTES, SOURCE_BYTES, WORD_BYTES};
 use byteorder::{BigEndian, ByteOrder};
 
 /// Sender report (RFC 3550, section 6.4.1).
@@ -20,15 +21,6 @@ pub const BYE: u8 = 203;
 pub const RTPFB: u8 = 205;
 /// Payload-specific feedback (RFC 4585, section 6.1).
 pub const PSFB: u8 = 206;
-
-/// The length of a header in bytes, and of a word.
-pub const WORD_BYTES: usize = 4;
-/// The length of a source: all that a receiver report has before its blocks (RFC 3550, section 6.4.2).
-pub const SOURCE_BYTES: usize = 4;
-/// The length of what a sender report has before its blocks: its source, times and counts (RFC 3550, section 6.4.1).
-pub const SENDER_BYTES: usize = 24;
-/// The length of a report block (RFC 3550, section 6.4.1).
-pub const BLOCK_BYTES: usize = 24;
 
 /// A packet without its header (RFC 3550, section 6.4.1).
 #[derive(Clone, Copy)]

@@ -3,7 +3,7 @@
 ghost use Rattle.std.specs.Prelude.{◌≡◌, ◌≤◌, pos, negsuc, ◌≤ℤ◌, length};
 ghost use Rattle.byteorder.specs.Endian.{big_number, twos_complement};
 
-use crate::packet::BLOCK_BYTES;
+use crate::sizes::BLOCK_BYTES;
 use byteorder::{BigEndian, ByteOrder};
 use tmmbr_tuple::Ssrc;
 

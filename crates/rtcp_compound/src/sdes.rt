@@ -1,9 +1,9 @@
 //! Source descriptions (RFC 3550, section 6.5).
 
-ghost use Rattle.std.specs.Prelude.{◌≡◌, ◌≤◌, Some, None, MatchOption, length};
+ghost use Rattle.std.specs.Prelude.{◌≡◌, Some, None, MatchOption};
 ghost use Rattle.rtcp_compound.specs.Reading.{after_items, after_chunk, after_chunks};
 
-use crate::packet::{SOURCE_BYTES, WORD_BYTES};
+use crate::sizes::{SOURCE_BYTES, WORD_BYTES};
 
 /// The bytes after so many chunks, if they end within the body.
 pub fn after_chunks(count: usize, body: &[u8]) -> Option<&[u8]>

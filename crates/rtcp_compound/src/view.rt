@@ -6,10 +6,9 @@ ghost use Rattle.rtcp_compound.specs.Grammar.{HasReports, sources_end};
 ghost use Rattle.rtcp_compound.specs.Reading.{rtcp_packet_of};
 
 use crate::bye::Sources;
-use crate::packet::{
-    BLOCK_BYTES, BYE, PSFB, Packet, RR, RTPFB, SDES, SENDER_BYTES, SOURCE_BYTES, SR,
-};
+use crate::packet::{BYE, PSFB, Packet, RR, RTPFB, SDES, SR};
 use crate::report::Blocks;
+use crate::sizes::{BLOCK_BYTES, SENDER_BYTES, SOURCE_BYTES};
 use byteorder::{BigEndian, ByteOrder};
 use tmmbr_tuple::Ssrc;
 

@@ -1,6 +1,6 @@
 //! The packets that are sent: each is appended to a `Vec`, after room is reserved once.
 
-ghost use Rattle.std.specs.Prelude.{◌≡◌, ◌≤◌, ◌<◌, ◌+◌, ◌*◌, ◌/◌, ◌%◌, ◌^◌, ◌≤ℤ◌, pos, negsuc, ◌++◌, [], ◌∷◌, length, map, All, replicate, vec_len, vec_capacity, OnOk, OnErr};
+ghost use Rattle.std.specs.Prelude.{◌≡◌, ◌≤◌, ◌<◌, ◌+◌, ◌*◌, ◌/◌, ◌%◌, ◌^◌, ◌≤ℤ◌, pos, negsuc, ◌++◌, ◌∷◌, length, map, All, replicate, vec_len, vec_capacity, OnOk, OnErr};
 ghost use Rattle.std.specs.List.{flat_map};
 ghost use Rattle.byteorder.specs.Endian.{big_bytes};
 ghost use Rattle.rtcp_compound.specs.Content.{sender_report, receiver_report, description, goodbye};
@@ -8,8 +8,9 @@ ghost use Rattle.rtcp_compound.specs.Grammar.{packet_bytes, chunk_bytes};
 ghost use Rattle.rtcp_compound.specs.Report.{block_of, block_bytes, lost_word, IsReportBlock};
 ghost use Rattle.rtcp_compound.specs.Written.{Appends, sr_packet, rr_packet, cname_packet, cname_chunk, bye_packet};
 
-use crate::packet::{BLOCK_BYTES, BYE, RR, SDES, SENDER_BYTES, SOURCE_BYTES, SR, WORD_BYTES};
+use crate::packet::{BYE, RR, SDES, SR};
 use crate::report::Block;
+use crate::sizes::{BLOCK_BYTES, SENDER_BYTES, SOURCE_BYTES, WORD_BYTES};
 use byteorder::{BigEndian, ByteOrder};
 use std::alloc::{AllocError, Allocator};
 use tmmbr_tuple::Ssrc;

@@ -7,7 +7,7 @@ ghost use Rattle.rtcp_feedback.specs.Reading.{Gives, message_at, message_of};
 
 use crate::fault::FbFault;
 use crate::nack::Nacks;
-use crate::packet::{FMT_NACK, FMT_PLI, FMT_TMMBN, FMT_TMMBR, SOURCES};
+use crate::packet::{FMT_NACK, FMT_PLI, FMT_TMMBN, FMT_TMMBR, SOURCES_BYTES};
 use crate::tmmb::TmmbEntries;
 use byteorder::{BigEndian, ByteOrder};
 use rtcp_compound::{PSFB, RTPFB};
@@ -53,12 +53,12 @@ pub fn read_feedback(fmt: u8, kind: u8, body: &[u8]) -> Result<Feedback<'_>, FbF
     ensures short { IsErrOf result FbFault.Short ↔ (length body.now < 8) }
     ensures odd_fci { IsErrOf result FbFault.OddFci ↔ HasOddFci fmt kind body.now }
 {
-    if body.len() < SOURCES {
+    if body.len() < SOURCES_BYTES {
         return Err(FbFault::Short);
     }
     let sender = Ssrc(BigEndian::read_u32(body));
     let media = Ssrc(BigEndian::read_u32(&body[4..]));
-    read_fci(fmt, kind, sender, media, &body[SOURCES..])
+    read_fci(fmt, kind, sender, media, &body[SOURCES_BYTES..])
 }
 
 /// What a feedback packet of these sources says, by its FCI.

@@ -7,8 +7,8 @@ use crate::fault::FbFault;
 use arrayvec::ArrayVec;
 use byteorder::{BigEndian, ByteOrder};
 
-/// The length of an entry in bytes.
-const ENTRY: usize = 4;
+/// The length of an entry in bytes (RFC 4585, section 6.2.1).
+pub const NACK_BYTES: usize = 4;
 
 /// How many packets an entry may name after its first.
 const FOLLOWING: u16 = 16;
@@ -39,7 +39,7 @@ impl<'a> Nacks<'a> {
         ensures entries { IfOk result (λ found. nacks_left found ≡ nacks_in fci.now) }
         ensures fault { IsOkUnless result FbFault.OddFci }
     {
-        if fci.len() % ENTRY != 0 {
+        if fci.len() % NACK_BYTES != 0 {
             return Err(FbFault::OddFci);
         }
         Ok(Nacks { rest: fci })
@@ -58,7 +58,7 @@ impl<'a> Iterator for Nacks<'a> {
 
     #[tactic(auto, using(crate::proofs::EntryLemmas::nacks_next, crate::proofs::EntryLemmas::nacks_end))]
     fn next(&mut self) -> Option<Nack> {
-        let (entry, rest) = self.rest.split_at_checked(ENTRY)?;
+        let (entry, rest) = self.rest.split_at_checked(NACK_BYTES)?;
         self.rest = rest;
         Some(Nack {
             pid: BigEndian::read_u16(entry),

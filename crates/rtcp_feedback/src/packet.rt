@@ -5,6 +5,7 @@ ghost use Rattle.byteorder.specs.Endian.{big_bytes};
 ghost use Rattle.rtcp_feedback.specs.Writing.{front_bytes};
 
 use byteorder::{BigEndian, ByteOrder};
+use rtcp_compound::{SOURCE_BYTES, WORD_BYTES};
 use std::alloc::Allocator;
 use tmmbr_tuple::Ssrc;
 
@@ -18,9 +19,9 @@ pub const FMT_TMMBR: u8 = 3;
 pub const FMT_TMMBN: u8 = 4;
 
 /// The length in bytes of the two sources that a body begins with.
-pub const SOURCES: usize = 8;
+pub const SOURCES_BYTES: usize = 2 * SOURCE_BYTES;
 /// The length in bytes of a packet's front, a header and these sources.
-pub const FRONT: usize = 12;
+pub const FRONT_BYTES: usize = WORD_BYTES + SOURCES_BYTES;
 
 /// Appends the front of a packet without padding, which has so many words after its header.
 pub fn put_front<A: Allocator>(

@@ -3,7 +3,7 @@
 ghost use Rattle.std.specs.Prelude.{◌≡◌, ◌+◌, ◌≤◌, ◌++◌, vec_len, vec_capacity, OnOk, OnErr, IsOk};
 ghost use Rattle.rtcp_feedback.specs.Writing.{packet_bytes, pli_body};
 
-use crate::packet::{FMT_PLI, FRONT, put_front};
+use crate::packet::{FMT_PLI, FRONT_BYTES, put_front};
 use rtcp_compound::PSFB;
 use std::alloc::{AllocError, Allocator};
 use tmmbr_tuple::Ssrc;
@@ -20,7 +20,7 @@ pub fn write_pli<A: Allocator>(
     ensures unchanged { OnErr result (out.new.items ≡ out.old.items) }
     ensures succeeds { vec_len out.old + 12 ≤ vec_capacity out.old → IsOk result }
 {
-    out.reserve(FRONT)?;
+    out.reserve(FRONT_BYTES)?;
     put_front(out, FMT_PLI, PSFB, 2, sender, media);
     Ok(())
 }

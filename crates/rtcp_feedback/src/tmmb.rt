@@ -4,15 +4,15 @@ ghost use Rattle.std.specs.Prelude.{◌≡◌, ◌+◌, ◌*◌, ◌≤◌, ◌<
 ghost use Rattle.rtcp_feedback.specs.Writing.{entries_of, packet_bytes, tmmb_body};
 
 use crate::fault::FbFault;
-use crate::packet::{FMT_TMMBN, FMT_TMMBR, FRONT, put_front, put_u32};
+use crate::packet::{FMT_TMMBN, FMT_TMMBR, FRONT_BYTES, put_front, put_u32};
 use byteorder::{BigEndian, ByteOrder};
 use rate_cert::Request;
 use rtcp_compound::RTPFB;
 use std::alloc::{AllocError, Allocator, Global};
 use tmmbr_tuple::Ssrc;
 
-/// The length of an entry in bytes.
-const ENTRY: usize = 8;
+/// The length of an entry of a TMMBR or a TMMBN in bytes (RFC 5104, section 4.2.1.1).
+pub const ENTRY_BYTES: usize = 8;
 
 /// How many entries a packet may have: its length, in words, then is 65,534.
 pub const MAX_ENTRIES: usize = 32_766;
@@ -54,7 +54,7 @@ impl<'a> TmmbEntries<'a> {
         ensures entries { IfOk result (λ found. entries_left found ≡ entries_in fci.now) }
         ensures fault { IsOkUnless result FbFault.OddFci }
     {
-        if fci.len() % ENTRY != 0 {
+        if fci.len() % ENTRY_BYTES != 0 {
             return Err(FbFault::OddFci);
         }
         Ok(TmmbEntries { rest: fci })
@@ -73,7 +73,7 @@ impl<'a> Iterator for TmmbEntries<'a> {
 
     #[tactic(auto, using(crate::proofs::EntryLemmas::entries_next, crate::proofs::EntryLemmas::entries_end))]
     fn next(&mut self) -> Option<TmmbrEntry> {
-        let (entry, rest) = self.rest.split_at_checked(ENTRY)?;
+        let (entry, rest) = self.rest.split_at_checked(ENTRY_BYTES)?;
         self.rest = rest;
         Some(TmmbrEntry {
             ssrc: Ssrc(BigEndian::read_u32(entry)),
@@ -131,7 +131,7 @@ fn write_entries<A: Allocator>(
     ensures succeeds { vec_len out.old + (12 + 8 * length entries.now) ≤ vec_capacity out.old
         → IsOk result }
 {
-    out.reserve(FRONT + ENTRY * entries.len())?;
+    out.reserve(FRONT_BYTES + ENTRY_BYTES * entries.len())?;
     let words = 2 + 2 * entries.len() as u16;
     put_front(out, fmt, RTPFB, words, sender, Ssrc(0));
     for entry in entries {

@@ -1,38 +1,27 @@
 //! What of a NACK is given on: the packets that are let through.
 
-ghost use Rattle.std.specs.Prelude.{◌≡◌, ◌+◌, ◌*◌, ◌-◌, ◌^◌, ◌<◌, ◌≤◌, ◌++◌, ◌∷◌, ℕ, List, [], length, take, drop, slice_get, MatchOption, OnOk, Some, option_to_list, IfOk, IfSome};
+ghost use Rattle.std.specs.Prelude.{◌≡◌, ◌+◌, ◌*◌, ◌-◌, ◌^◌, ◌<◌, ◌≤◌, ◌++◌, ◌∷◌, [], length, MatchOption, OnOk, Some, option_to_list, IfSome};
 ghost use Rattle.std.specs.List.{flat_map};
 ghost use Rattle.byteorder.specs.Endian.{big_bytes};
 ghost use Rattle.rtcp_feedback.specs.Grammar.{nack_bytes};
 ghost use Rattle.rtcp_feedback.specs.Nack.{lost_numbers};
 ghost use Rattle.rtcp_feedback.specs.Reading.{nacks_in};
-ghost use Rattle.senders.specs.Naming.{heard_size};
-ghost use Rattle.screening.specs.Nacks.{asked_books, asked_given, bit_behind, book_through, books_given, entries_given, entry_of, fci_of, is_nack, joined, leg_asked, media_at, packet_given, packet_with, padding_at, padding_of};
+ghost use Rattle.screening.specs.Nacks.{bit_behind, book_through, entries_given, entry_of, fci_of, is_nack, joined, leg_asked, media_at, packet_with, padding_at};
 ghost use Rattle.screening.specs.Resends.{book_after, numbers_passed};
 
 use crate::resends::{Allowance, LegBook};
 use byteorder::{BigEndian, ByteOrder};
-use rtcp_compound::RTPFB;
-use rtcp_feedback::{Nack, lost};
+use rtcp_compound::{RTPFB, SOURCE_BYTES, WORD_BYTES};
+use rtcp_feedback::{FMT_NACK, FRONT_BYTES, NACK_BYTES, Nack, SOURCES_BYTES, lost};
 use settings::Links;
 use std::alloc::AllocError;
 use tmmbr_tuple::Ssrc;
 
-/// The FMT of a generic NACK (RFC 4585, section 6.2.1).
-const FMT_NACK: u8 = 1;
-
-/// The length in bytes of a header and the two sources after it (RFC 4585, section 6.1).
-const FRONT: usize = 12;
-
-/// Where the length stands in a header, the sources, and the second of them, that of the media.
+/// Where the length stands in a header, in words (RFC 3550, section 6.4.1).
 const WORDS: usize = 2;
 
-const SENDER: usize = 4;
-
-const MEDIA: usize = 8;
-
-/// The length of an entry in bytes.
-const ENTRY: usize = 4;
+/// Where the source of media stands in a packet (RFC 4585, section 6.1).
+const MEDIA: usize = WORD_BYTES + SOURCE_BYTES;
 
 /// How many packets an entry may name after its first.
 const FOLLOWING: u16 = 16;
@@ -63,10 +52,10 @@ pub(crate) fn leg_asked(links: &Links, who: Asking, packet: &[u8]) -> Option<u16
 fn is_nack(packet: &[u8]) -> bool
     ensures { result ≡ is_nack packet.now }
 {
-    packet.len() >= FRONT
+    packet.len() >= FRONT_BYTES
         && packet[1] == RTPFB
         && packet[0] % 32 == FMT_NACK
-        && packet.len() >= FRONT + padding_len(packet)
+        && packet.len() >= FRONT_BYTES + padding_len(packet)
 }
 
 /// How many bytes at the packet's end are padding.
@@ -108,7 +97,7 @@ pub(crate) fn give_nack(
 {
     let end = packet.len() - padding_len(packet);
     kept.clear();
-    keep_due(kept, book, allowance, &packet[FRONT..end])?;
+    keep_due(kept, book, allowance, &packet[FRONT_BYTES..end])?;
     push_packet(out, packet, kept)
 }
 
@@ -121,10 +110,10 @@ fn push_packet(out: &mut Vec<u8>, packet: &[u8], entries: &[Nack]) -> Result<(),
         (out.new.items ≡ out.old.items ++ packet_with packet.now entries.now) }
 {
     let padding = padding_len(packet);
-    let words = (FRONT - SENDER + ENTRY * entries.len() + padding) / 4;
+    let words = (SOURCES_BYTES + NACK_BYTES * entries.len() + padding) / WORD_BYTES;
     push(out, &packet[..WORDS])?;
     push_u16(out, words as u16)?;
-    push(out, &packet[SENDER..FRONT])?;
+    push(out, &packet[WORD_BYTES..FRONT_BYTES])?;
     push_entries(out, entries)?;
     let (_, tail) = packet.split_at(packet.len() - padding);
     push(out, tail)
@@ -188,7 +177,7 @@ fn first_entry(bytes: &[u8]) -> Option<(Nack, &[u8])>
     ensures shorter { MatchOption result (length bytes.now < 4)
         (λ r. length r.1.now + 4 ≡ length bytes.now) }
 {
-    let (entry, behind) = bytes.split_at_checked(ENTRY)?;
+    let (entry, behind) = bytes.split_at_checked(NACK_BYTES)?;
     let nack = Nack {
         pid: BigEndian::read_u16(entry),
         blp: BigEndian::read_u16(&entry[2..]),

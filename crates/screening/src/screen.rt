@@ -14,18 +14,13 @@ use crate::resends::ResendBounds;
 use crate::run::{Placement, Stamp};
 use crate::starts::Starts;
 use outside::{MAX_DATAGRAM, ReceiveFault, Received, Source};
-use rtcp_compound::write_bye;
+use rtcp_compound::{is_rtcp, write_bye};
 use rtp_packet::RtpView;
 use settings::Settings;
 use std::alloc::{AllocError, Global};
 use std::cell::Cell;
 use tmmbr_tuple::Ssrc;
 use traffic::Traffic;
-
-/// The first packet type of RTCP (RFC 5761, section 4).
-const FIRST_RTCP: u8 = 192;
-/// The last packet type of RTCP (RFC 5761, section 4).
-const LAST_RTCP: u8 = 223;
 
 /// What is given next, of the endpoint with this number.
 #[derive(Clone, Copy, Debug)]
@@ -392,11 +387,6 @@ fn place_of(
     } else {
         Placement::Near
     }
-}
-
-/// Whether the second byte is a packet type of RTCP.
-fn is_rtcp(datagram: &[u8]) -> bool {
-    matches!(datagram.get(1), Some(FIRST_RTCP..=LAST_RTCP))
 }
 
 impl<S: Source + Drop> Source for Screen<'_, S> {

@@ -9,7 +9,8 @@ use Rattle.settings.specs.Settings.{Configuration}
 use Rattle.events.specs.declared.output.Out.{Out}
 use Rattle.script_text.specs.Printing.{PrintsGiven}
 use Rattle.script_text.specs.Shown.{Cause, Given, Told, an_out, given_at, heading, is_named, is_shown, lines_behind, names_source, said_behind, shown_of, told_line}
-use Rattle.senders.specs.Naming.{heard_size, is_control, source_named}
+use Rattle.rtcp_compound.specs.Mux.{is_rtcp}
+use Rattle.senders.specs.Naming.{heard_size, source_named}
 use Rattle.script_text.specs.declared.shown.Shown.{Shown}
 
 lines_joined : (s : Shown) (said : ℕ) (xs ys : List Given)
@@ -79,9 +80,9 @@ out_printed c s cause a b outs i d old mid new below p e q =
 -- ---- sources
 
 pub named_behind : (left k source : ℕ) (datagram : List ℕ) → left ≡ suc k → is_named source (source_named datagram) ≡ false
-    → is_control datagram ≡ true → names_source left source datagram ≡ names_source k source (drop (heard_size datagram) datagram)
+    → is_rtcp datagram ≡ true → names_source left source datagram ≡ names_source k source (drop (heard_size datagram) datagram)
 named_behind left k source datagram is unnamed control =
     ap (λ (n : ℕ). names_source n source datagram) is
     ∙ (cond-false (is_named source (source_named datagram)) true
-    (cond (is_control datagram) (names_source k source (drop (heard_size datagram) datagram)) false) unnamed
-    ∙ cond-true (is_control datagram) (names_source k source (drop (heard_size datagram) datagram)) false control)
+    (cond (is_rtcp datagram) (names_source k source (drop (heard_size datagram) datagram)) false) unnamed
+    ∙ cond-true (is_rtcp datagram) (names_source k source (drop (heard_size datagram) datagram)) false control)

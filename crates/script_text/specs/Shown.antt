@@ -6,7 +6,8 @@ use Rattle.events.specs.declared.event.Event.{Event}
 use Rattle.events.specs.declared.event.Event.TheVariants.{Hear, Tick, Select, Ingress, Work}
 use Rattle.events.specs.declared.output.Out.{Out}
 use Rattle.events.specs.declared.output.Out.TheVariants.{Send, Refused, Busy, Lost, Skip, Miss, Idle}
-use Rattle.senders.specs.Naming.{heard_size, is_control, source_named}
+use Rattle.rtcp_compound.specs.Mux.{is_rtcp}
+use Rattle.senders.specs.Naming.{heard_size, source_named}
 use Rattle.script_text.specs.declared.latest.Latest.{Latest}
 use Rattle.script_text.specs.declared.script.Command.{Command}
 use Rattle.script_text.specs.declared.script.Command.TheVariants.{Do, Settle, Follow, Show}
@@ -88,7 +89,7 @@ abbrev pub names_source : ℕ → ℕ → List ℕ → Bool
 names_source zero source datagram = false
 names_source (suc left) source datagram =
     if is_named source (source_named datagram) then true
-    else if is_control datagram then names_source left source (drop (heard_size datagram) datagram)
+    else if is_rtcp datagram then names_source left source (drop (heard_size datagram) datagram)
     else false
 
 -- a datagram to this endpoint

@@ -4,7 +4,8 @@ ghost use Rattle.std.specs.Prelude.{◌≡◌, false, length};
 ghost use Rattle.script_text.specs.Shown.{an_out, is_chosen, is_missing, is_named, is_on_chosen, is_on_leg, is_to_chosen, names_source, unknown_in};
 
 use events::Out;
-use senders::{first_size, is_control, source_named};
+use rtcp_compound::is_rtcp;
+use senders::{first_size, source_named};
 use settings::{LegSettings, Settings};
 
 /// What is printed of what a script gives. The script is played to its end whatever this is.
@@ -142,7 +143,7 @@ fn names_source(left: usize, source: u32, datagram: &[u8]) -> bool
     if is_named(source, source_named(datagram)) {
         return true;
     }
-    if is_control(datagram) {
+    if is_rtcp(datagram) {
         return names_source(left - 1, source, &datagram[first_size(datagram)..]);
     }
     false

@@ -1,13 +1,8 @@
 -- Which source a datagram names.
-use Rattle.std.specs.Prelude.{◌&&◌, ℕ, ◌+◌, nat_lt, nat_le, Bool, List, Option, None, Some, length, drop, min, slice_index, if◌then◌else◌}
+use Rattle.std.specs.Prelude.{ℕ, ◌+◌, nat_lt, List, Option, None, Some, length, drop, min, slice_index, if◌then◌else◌}
 use Rattle.byteorder.specs.Endian.{big_number}
 use Rattle.rtcp_compound.specs.Fault.{size_of}
-
--- RTCP: the second byte is a packet type of it (RFC 5761, section 4)
-abbrev pub is_control : List ℕ → Bool
-is_control datagram =
-    nat_lt 1 (length datagram)
-    && (nat_le 192 (slice_index datagram 1) && nat_le (slice_index datagram 1) 223)
+use Rattle.rtcp_compound.specs.Mux.{is_rtcp}
 
 -- the number in the four bytes from here on, if they are there
 abbrev pub number_at : ℕ → List ℕ → Option ℕ
@@ -22,6 +17,6 @@ heard_size datagram =
 -- of RTP the SSRC (RFC 3550, section 5.1); of RTCP the word after the header of its first packet, if it has one
 abbrev pub source_named : List ℕ → Option ℕ
 source_named datagram =
-    if is_control datagram
+    if is_rtcp datagram
     then (if nat_lt (heard_size datagram) 8 then None else number_at 4 datagram)
     else number_at 8 datagram

@@ -4,7 +4,8 @@ use Rattle.std.specs.declared.net.socket_addr.SocketAddr.{SocketAddr}
 use Rattle.senders.specs.declared.occupancy.Occupants.{Occupants}
 use Rattle.senders.specs.declared.occupancy.Occupants.TheVariants.{Alone, Several}
 use Rattle.senders.specs.declared.senders.Origin.{Origin}
-use Rattle.senders.specs.Naming.{heard_size, is_control}
+use Rattle.rtcp_compound.specs.Mux.{is_rtcp}
+use Rattle.senders.specs.Naming.{heard_size}
 use Rattle.senders.specs.Occupancy.{occupants_of}
 
 abbrev pub addresses_of : List (Origin × ℕ) → List (SocketAddr × ℕ)
@@ -44,7 +45,7 @@ is_shared (Some Several) = true
 abbrev pub front_length : (SocketAddr → SocketAddr → Bool) → List (Origin × ℕ) → SocketAddr → List ℕ
     → ℕ
 front_length same entries address datagram =
-    if is_control datagram
+    if is_rtcp datagram
     then (if is_shared (occupants_of same (addresses_of entries) address)
     then heard_size datagram else length datagram)
     else length datagram

@@ -16,7 +16,7 @@ mod senders;
 
 pub use learners::{Arrived, Learner, Learners};
 pub use listeners::{Listeners, Standing};
-pub use naming::{first_size, is_control, source_named};
+pub use naming::{first_size, source_named};
 pub use network::{Network, read_network};
 pub use occupancy::{Occupancy, Occupants};
 pub use reports::{EMPTY_REPORT, empty_report, says_goodbye};

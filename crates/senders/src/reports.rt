@@ -9,11 +9,11 @@ ghost use Rattle.rtcp_compound.specs.Written.{rr_packet};
 ghost use Rattle.senders.specs.Reports.{SaysGoodbye, is_goodbye_of};
 
 use byteorder::{BigEndian, ByteOrder};
-use rtcp_compound::{Packets, RtcpView, Sources, split};
+use rtcp_compound::{Packets, RR, RtcpView, SOURCE_BYTES, Sources, WORD_BYTES, split};
 use tmmbr_tuple::Ssrc;
 
 /// The length in bytes of a report without blocks.
-pub const EMPTY_REPORT: usize = 8;
+pub const EMPTY_REPORT: usize = WORD_BYTES + SOURCE_BYTES;
 
 /// Whether a datagram says goodbye for this source (RFC 3550, section 6.6): it can be read, and one of its packets is a goodbye that
 /// names it.
@@ -68,7 +68,7 @@ fn is_among(sources: Sources<'_>, source: Ssrc) -> bool
 pub fn empty_report(source: Ssrc) -> [u8; EMPTY_REPORT]
     ensures { result ≡ packet_bytes (rr_packet source.0 []) }
 {
-    let mut report = [0x80, 201, 0, 1, 0, 0, 0, 0];
+    let mut report = [0x80, RR, 0, 1, 0, 0, 0, 0];
     BigEndian::write_u32(&mut report[4..], source.0);
     report
 }

@@ -5,8 +5,9 @@ ghost use Rattle.senders.specs.Senders.{addresses_of, alone_in, endpoint_named, 
 ghost use Rattle.senders.specs.Occupancy.{occupants_of};
 ghost use Rattle.senders.specs.Naming.{source_named};
 
-use crate::naming::{first_size, is_control, source_named};
+use crate::naming::{first_size, source_named};
 use crate::occupancy::{Occupancy, Occupants};
+use rtcp_compound::is_rtcp;
 use std::alloc::{AllocError, Global};
 use std::marker::Model;
 use std::net::SocketAddr;
@@ -96,7 +97,7 @@ impl Senders {
         ensures within { result ≤ length datagram.now }
         ensures goes_on { 0 < length datagram.now → 0 < result }
     {
-        if is_control(datagram) && self.is_shared(address) {
+        if is_rtcp(datagram) && self.is_shared(address) {
             first_size(datagram)
         } else {
             datagram.len()

@@ -17,7 +17,7 @@ use Rattle.settings.specs.Settings.{Check, check, checks, top_checks, endpoint_c
 use Rattle.settings.specs.declared.checks.Numbers.{Numbers}
 use Rattle.settings.specs.declared.fault.SettingsFault.TheVariants.{SameSsrc}
 use Rattle.rtcp_compound.specs.declared.writer.TheConstants.{CNAME_LIMIT}
-use Rattle.settings.specs.declared.settings.TheConstants.{SSRCS, MAX_WORKERS, MAX_RING, LEAST_HISTORY, MAX_HISTORY, MAX_PERIOD_MS, MAX_ENDPOINTS, MAX_LEGS}
+use Rattle.settings.specs.declared.limits.TheConstants.{SSRCS, MAX_WORKERS, MAX_RING, LEAST_HISTORY, MAX_HISTORY, MAX_PERIOD_MS, MAX_ENDPOINTS, MAX_LEGS}
 use Rattle.settings.specs.declared.parts.EndpointParts.{EndpointParts}
 use Rattle.settings.specs.declared.parts.LegParts.{LegParts}
 use Rattle.std.specs.Prelude.{ℤ, pos, negsuc, nat_le, nat_lt, ◌≢◌, is_some, take, String}

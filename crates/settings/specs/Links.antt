@@ -3,7 +3,7 @@ use Rattle.std.specs.Prelude.{◌==◌, ◌&&◌, ℕ, ◌%◌, ◌≤◌, List,
 use Rattle.std.specs.List.{enumerate_from}
 use Rattle.tmmbr_tuple.specs.declared.ssrc.Ssrc.{Ssrc}
 use Rattle.settings.specs.declared.settings.LegSettings.{LegSettings}
-use Rattle.settings.specs.declared.settings.TheConstants.{MAX_ENDPOINTS, MAX_LEGS, MAX_WORKERS}
+use Rattle.settings.specs.declared.limits.TheConstants.{MAX_ENDPOINTS, MAX_LEGS, MAX_WORKERS}
 use Rattle.settings.specs.Settings.{Configuration, IsLegAmong}
 
 -- how many workers there are, the source of each endpoint, the name that is said of what it publishes, and the legs, by their numbers

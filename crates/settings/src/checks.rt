@@ -5,11 +5,11 @@ ghost use Rattle.std.specs.List.{list_all, list_any, enumerate_from};
 ghost use Rattle.settings.specs.Settings.{number_within, number_below, or_zero, is_same, name_of, is_cname, is_cname_or_none, top_checks, endpoint_checks, leg_checks, has_pair, sources, number_or_zero, are_distinct, first_fault, AreNumbersOf, checks};
 
 use crate::fault::{Key, SettingsFault};
-use crate::parts::{EndpointParts, LegParts, Parts};
-use crate::settings::{
+use crate::limits::{
     LEAST_HISTORY, MAX_ENDPOINTS, MAX_HISTORY, MAX_LEGS, MAX_PERIOD_MS, MAX_RING, MAX_WORKERS,
     SSRCS,
 };
+use crate::parts::{EndpointParts, LegParts, Parts};
 use rtcp_compound::CNAME_LIMIT;
 use rtp_packet::SEQ_CYCLE;
 

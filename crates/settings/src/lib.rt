@@ -7,6 +7,7 @@
 mod checks;
 mod cname;
 mod fault;
+mod limits;
 mod links;
 mod parts;
 mod rules;
@@ -14,7 +15,8 @@ mod settings;
 
 pub use cname::Cname;
 pub use fault::{Key, RoomFault, SettingsFault};
+pub use limits::{MAX_ENDPOINTS, MAX_LEGS};
 pub use links::Links;
 pub use parts::{EndpointParts, LegParts, Parts};
 pub use rules::LegRules;
-pub use settings::{LegSettings, MAX_ENDPOINTS, MAX_LEGS, Settings};
+pub use settings::{LegSettings, Settings};

@@ -7,7 +7,8 @@ ghost use Rattle.settings.specs.Links.{leg_numbers_of, first_to};
 ghost use Rattle.settings.specs.Places.{ListsLegs, FindsLegs};
 
 use crate::cname::Cname;
-use crate::settings::{LegSettings, MAX_LEGS, Settings};
+use crate::limits::MAX_LEGS;
+use crate::settings::{LegSettings, Settings};
 use rtcp_compound::CNAME_LIMIT;
 use std::alloc::{AllocError, Global};
 use std::collections::HashMap;

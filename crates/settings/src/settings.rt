@@ -6,6 +6,7 @@ ghost use Rattle.settings.specs.Settings.{name_of, first_fault, rules_of, ssrc_o
 use crate::checks::{Numbers, checked, number_or_none};
 use crate::cname::Cname;
 use crate::fault::SettingsFault;
+use crate::limits::{MAX_ENDPOINTS, SSRCS};
 use crate::parts::{EndpointParts, LegParts, Parts};
 use crate::rules::LegRules;
 use rtcp_compound::CNAME_LIMIT;
@@ -13,30 +14,6 @@ use rtp_packet::SEQ_CYCLE;
 use std::alloc::{AllocError, Global};
 use std::marker::Model;
 use tmmbr_tuple::Ssrc;
-
-/// How many endpoints there may be.
-pub const MAX_ENDPOINTS: usize = 256;
-
-/// How many legs there may be.
-pub const MAX_LEGS: usize = 4096;
-
-/// How many threads may forward.
-pub const MAX_WORKERS: u64 = 8;
-
-/// How many packets a leg may keep for resending.
-pub const MAX_RING: u64 = 512;
-
-/// How few calls a desk may keep.
-pub const LEAST_HISTORY: u64 = 128;
-
-/// How many calls a desk may keep.
-pub const MAX_HISTORY: u64 = 65_536;
-
-/// The longest time that settings name, in milliseconds: a day.
-pub const MAX_PERIOD_MS: u64 = 86_400_000;
-
-/// How many sources there are (RFC 3550, section 5.1).
-pub const SSRCS: u64 = 1 << 32;
 
 /// A leg: what one endpoint publishes, sent on to another.
 #[derive(Clone, Copy, PartialEq, Eq)]

@@ -7,7 +7,7 @@ ghost use Rattle.settings_text.specs.SettingsFaults.{is_repeat, is_under};
 ghost use Rattle.toml.specs.Data.{get_member};
 ghost use Rattle.toml.specs.View.{table_view, view};
 
-use crate::settings_file::integer_at;
+use crate::values::integer_at;
 use toml::{Table, Value};
 
 /// One more than the greatest gap between two resends of a packet, in milliseconds.

@@ -8,6 +8,7 @@ ghost use Rattle.settings_text.specs.SettingsFaults.{TableGives, TextGives, earl
 
 use crate::bound_keys::{BoundKeys, bounds_at};
 use crate::settings_keys::{Place, first_misfit, items_at, items_in};
+use crate::values::{bool_at, bool_in, integer_at, integer_in, text_in, value_at};
 use settings::{EndpointParts, LegParts, Parts, Settings, SettingsFault};
 use std::alloc::{AllocError, Global};
 use toml::{Table, Value};
@@ -303,65 +304,5 @@ fn text_of(item: &Value) -> &str
     match item.as_str() {
         Some(text) => text,
         None => "",
-    }
-}
-
-/// The value at a key of the table.
-fn value_at<'a>(table: &'a Table, key: &str) -> Option<&'a Value>
-    ensures { option_map (λ v. view v.now) result ≡ get_member key.now (table_view table.now) }
-{
-    table.get(key)
-}
-
-pub(crate) fn integer_at(table: &Table, key: &str) -> Option<i64>
-    ensures { result ≡ integer_in (get_member key.now (table_view table.now)) }
-{
-    integer_in(value_at(table, key))
-}
-
-fn bool_at(table: &Table, key: &str) -> Option<bool>
-    ensures { result ≡ bool_in (get_member key.now (table_view table.now)) }
-{
-    bool_in(value_at(table, key))
-}
-
-/// The integer, if a value is one.
-fn integer_in(value: Option<&Value>) -> Option<i64>
-    ensures { result ≡ integer_in (option_map (λ v. view v.now) value.entry) }
-{
-    match value {
-        Some(value) => value.as_integer(),
-        None => None,
-    }
-}
-
-/// The truth value, if a value is one.
-fn bool_in(value: Option<&Value>) -> Option<bool>
-    ensures { result ≡ bool_in (option_map (λ v. view v.now) value.entry) }
-{
-    match value {
-        Some(value) => value.as_bool(),
-        None => None,
-    }
-}
-
-/// A copy of the text, if a value is one.
-fn text_in(alloc: Global, value: Option<&Value>) -> Result<Option<String>, AllocError>
-    ensures { IfOk result
-        (λ text. text_bytes text ≡ text_in (option_map (λ v. view v.now) value.entry)) }
-{
-    match value {
-        Some(value) => copied(alloc, value.as_str()),
-        None => Ok(None),
-    }
-}
-
-/// A copy of the text, if there is one.
-fn copied(alloc: Global, text: Option<&str>) -> Result<Option<String>, AllocError>
-    ensures { IfOk result (λ copy. text_bytes copy ≡ option_map (λ t. t.now) text.entry) }
-{
-    match text {
-        Some(text) => Ok(Some(String::from_str(alloc, text)?)),
-        None => Ok(None),
     }
 }

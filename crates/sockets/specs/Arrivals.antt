@@ -16,7 +16,8 @@ use Rattle.senders.specs.declared.seat.Seat.{Seat}
 use Rattle.senders.specs.declared.senders.Origin.{Origin}
 use Rattle.senders.specs.Learners.{LearnersState, after_word, claim_of, learner_at, with_seat}
 use Rattle.senders.specs.Listeners.{ListenersState, after_hearing, listeners_after, new_listeners, report_due}
-use Rattle.senders.specs.Naming.{is_control, source_named}
+use Rattle.rtcp_compound.specs.Mux.{is_rtcp}
+use Rattle.senders.specs.Naming.{source_named}
 use Rattle.senders.specs.Reports.{SaysGoodbye}
 use Rattle.senders.specs.Senders.{front_length, sender_of}
 use Rattle.sockets.specs.declared.arrivals.Arrivals.{Arrivals}
@@ -169,7 +170,7 @@ pub record IsPassedOver (same : Origin → Origin → Bool) (same_address : Sock
 -- RTCP is of a kind of its own if it has an address of its own (RFC 3550, section 11)
 abbrev pub kind_heard : Option SocketAddr → List ℕ → Kind
 kind_heard None datagram = Rtp
-kind_heard (Some rtcp) datagram = if is_control datagram then Rtcp else Rtp
+kind_heard (Some rtcp) datagram = if is_rtcp datagram then Rtcp else Rtp
 
 -- what a datagram that came from this address at this moment says of who sent it
 abbrev pub arrived_by : Option SocketAddr → SocketAddr → List ℕ → ℕ → Arrived
@@ -225,7 +226,7 @@ pub record IsNoted (sources : List Ssrc) (endpoint : ℕ) (bytes : List ℕ) (kn
   pub moment : ℕ
   pub is_goodbye : Bool
   pub says : (source : Ssrc) → slice_get sources endpoint ≡ Some source
-      → IsTrue is_goodbye ↔ IsTrue (is_control bytes) × SaysGoodbye bytes source.0
+      → IsTrue is_goodbye ↔ IsTrue (is_rtcp bytes) × SaysGoodbye bytes source.0
   pub after : later ≡ record {
     senders = known.senders;
     learners = after_word known.learners endpoint moment is_goodbye;

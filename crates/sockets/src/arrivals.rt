@@ -1,11 +1,11 @@
 //! What came to the unit's sockets: who sent it, and what of it is heard by itself.
 
-ghost use Rattle.std.specs.Prelude.{◌≡◌, ◌↔◌, ◌<◌, ◌≤◌, ◌⊎◌, ℕ, [], None, Some, true, false, length, drop, take, vec_capacity, IfNone, IfOk, IfSome, IsSome, IsTrue};
+ghost use Rattle.std.specs.Prelude.{◌≡◌, ◌↔◌, ◌<◌, ◌≤◌, ◌⊎◌, ℕ, [], None, Some, true, false, length, take, vec_capacity, IfNone, IfOk, IfSome, IsSome, IsTrue};
 ghost use Rattle.addressing.specs.Known.{senders_of};
 ghost use Rattle.senders.specs.Learners.{with_seat};
-ghost use Rattle.senders.specs.Naming.{is_control, source_named};
+ghost use Rattle.rtcp_compound.specs.Mux.{is_rtcp};
+ghost use Rattle.senders.specs.Naming.{source_named};
 ghost use Rattle.senders.specs.Reports.{SaysGoodbye};
-ghost use Rattle.senders.specs.Senders.{sender_of};
 ghost use Rattle.sockets.specs.Arrivals.{Admits, HasNoReport, HasNothingOfRest, IsHeardOf, IsHeardOfRest, IsNoted, IsNotedIfHeard, IsPassedOver, IsReportMade, KeepsBehind, KnowsAfter, MayLearn, first_floods, first_learners, first_listeners, first_senders, is_same_place, kind_heard, known_by, rest_of, setup_of};
 
 use addressing::{
@@ -13,10 +13,11 @@ use addressing::{
 };
 use operating::Gauges;
 use outside::MAX_DATAGRAM;
+use rtcp_compound::is_rtcp;
 use screening::Floods;
 use senders::{
-    Arrived, Kind, Learners, Listeners, Origin, Seat, Senders, empty_report, is_control,
-    says_goodbye, source_named,
+    Arrived, Kind, Learners, Listeners, Origin, Seat, Senders, empty_report, says_goodbye,
+    source_named,
 };
 use settings::Settings;
 use std::alloc::{AllocError, Global};
@@ -248,7 +249,7 @@ impl<'a> Arrivals<'a> {
     fn kind_of(&self, datagram: &[u8]) -> Kind
         ensures { result ≡ kind_heard self.now.listening.rtcp datagram.now }
     {
-        if self.listening.rtcp.is_some() && is_control(datagram) {
+        if self.listening.rtcp.is_some() && is_rtcp(datagram) {
             Kind::Rtcp
         } else {
             Kind::Rtp
@@ -368,10 +369,10 @@ fn is_same_place(seat: Seat, other: Seat) -> bool
 fn leaves(datagram: &[u8], source: Option<Ssrc>) -> bool
     ensures none { IfNone source (result ≡ false) }
     ensures says { IfSome source (λ named. IsTrue result
-        ↔ IsTrue (is_control datagram.now) × SaysGoodbye datagram.now named.0) }
+        ↔ IsTrue (is_rtcp datagram.now) × SaysGoodbye datagram.now named.0) }
 {
     match source {
-        Some(source) => is_control(datagram) && says_goodbye(datagram, source),
+        Some(source) => is_rtcp(datagram) && says_goodbye(datagram, source),
         None => false,
     }
 }

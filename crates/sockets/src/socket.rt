@@ -8,7 +8,8 @@ use addressing::{Directory, Listening};
 use events::Refusal;
 use operating::Gauges;
 use outside::{Clock, ReceiveFault, Received, SendFault, Sink, Source};
-use senders::{Kind, is_control};
+use rtcp_compound::is_rtcp;
+use senders::Kind;
 use std::alloc::{AllocError, Global};
 use std::cell::Cell;
 use std::io::{self, ErrorKind};
@@ -251,7 +252,7 @@ impl Sink for SocketSink<'_> {
 /// Sends these bytes to the endpoint's client, and says whether the system took them: RTCP from the socket for it to the address for
 /// it, anything else from the other one (RFC 5761, section 4).
 fn is_sent(sockets: Sockets<'_>, directory: &Directory, endpoint: u16, bytes: &[u8]) -> bool {
-    let (socket, kind) = if is_control(bytes) {
+    let (socket, kind) = if is_rtcp(bytes) {
         (sockets.control.unwrap_or(sockets.media), Kind::Rtcp)
     } else {
         (sockets.media, Kind::Rtp)

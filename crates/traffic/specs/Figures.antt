@@ -8,7 +8,7 @@ use Rattle.traffic.specs.declared.figures.Numbered.{Numbered}
 use Rattle.traffic.specs.declared.leg_count.LegCount.{LegCount}
 use Rattle.traffic.specs.declared.metrics.MetricType.TheVariants.{Counter}
 use Rattle.traffic.specs.declared.metrics.Sample.{Sample}
-use Rattle.traffic.specs.declared.traffic.EndpointCount.{EndpointCount}
+use Rattle.traffic.specs.declared.endpoint_count.EndpointCount.{EndpointCount}
 use Rattle.traffic.specs.Metrics.{metric_text}
 
 -- ---- of an endpoint

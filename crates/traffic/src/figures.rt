@@ -2,12 +2,12 @@
 
 ghost use Rattle.std.specs.Prelude.{◌≡◌, ◌++◌, flat_map, map, IfOk, OnOk};
 ghost use Rattle.std.specs.String.{string_bytes};
-ghost use Rattle.traffic.specs.Figures.{endpoint_figures, endpoint_help, endpoint_name, endpoint_sample, endpoint_text, endpoint_value, figures_text, leg_figures, leg_help, leg_name, leg_sample, leg_text, leg_value};
+ghost use Rattle.traffic.specs.Figures.{endpoint_help, endpoint_name, endpoint_sample, endpoint_text, endpoint_value, figures_text, leg_help, leg_name, leg_sample, leg_text, leg_value};
 ghost use Rattle.traffic.specs.declared.metrics.MetricType.TheVariants.{Counter};
 
+use crate::endpoint_count::EndpointCount;
 use crate::leg_count::LegCount;
 use crate::metrics::{Metric, MetricType, Sample, push_metric};
-use crate::traffic::EndpointCount;
 use std::alloc::{AllocError, Global};
 
 /// A figure of an endpoint.

@@ -10,15 +10,7 @@ ghost use Rattle.traffic.specs.Counts.{risen};
 ghost use Rattle.traffic.specs.Kinds.{feedback_count, is_feedback, kinds_in, no_kinds};
 
 use rtcp_compound::{PSFB, Packets, RTPFB, RtcpView, split};
-
-/// The FMT of a generic NACK among feedback of the transport layer (RFC 4585, section 6.2.1).
-const NACK: u8 = 1;
-/// The FMT of a picture loss indication among feedback about the payload (RFC 4585, section 6.3.1).
-const PLI: u8 = 1;
-/// The FMT of a request for a greatest rate among feedback of the transport layer (RFC 5104, section 4.2.1).
-const TMMBR: u8 = 3;
-/// The FMT of a notification of such requests (RFC 5104, section 4.2.2).
-const TMMBN: u8 = 4;
+use rtcp_feedback::{FMT_NACK, FMT_PLI, FMT_TMMBN, FMT_TMMBR};
 
 /// How many packets of each kind of feedback a datagram holds.
 #[derive(Clone, Copy, Debug, PartialEq, Eq)]
@@ -60,10 +52,10 @@ fn kinds_among(packets: Packets<'_>) -> Kinds
     ensures { result ≡ kinds_in (contents_left packets.entry) }
 {
     Kinds {
-        nacks: count_of(packets, NACK, RTPFB),
-        plis: count_of(packets, PLI, PSFB),
-        tmmbrs: count_of(packets, TMMBR, RTPFB),
-        tmmbns: count_of(packets, TMMBN, RTPFB),
+        nacks: count_of(packets, FMT_NACK, RTPFB),
+        plis: count_of(packets, FMT_PLI, PSFB),
+        tmmbrs: count_of(packets, FMT_TMMBR, RTPFB),
+        tmmbns: count_of(packets, FMT_TMMBN, RTPFB),
     }
 }
 

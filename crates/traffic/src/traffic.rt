@@ -2,6 +2,7 @@
 
 ghost use Rattle.std.specs.Prelude.{◌≡◌, length, vec_len, IfOk};
 
+use crate::endpoint_count::EndpointCount;
 use crate::figures::Numbered;
 use crate::kinds::{Kinds, kinds_of};
 use crate::leg_count::LegCount;
@@ -11,38 +12,12 @@ use crate::report_cells::{ReportCells, SentCell};
 use crate::report_figures::NumberedReport;
 use crate::reports::{ReceptionReport, SentReport, WORD_VALUES, blocks_of, lsr_of};
 use events::Refusal;
-use rtcp_compound::{Block, RtcpView, split};
+use rtcp_compound::{Block, RtcpView, is_rtcp, split};
 use rtp_packet::RtpView;
 use settings::{LegSettings, Settings};
 use std::alloc::{AllocError, Global};
 use std::sync::atomic::{AtomicU64, Ordering};
 use tmmbr_tuple::Ssrc;
-
-/// The first packet type of RTCP (RFC 5761, section 4).
-const FIRST_RTCP: u8 = 192;
-/// The last packet type of RTCP (RFC 5761, section 4).
-const LAST_RTCP: u8 = 223;
-
-/// What went in from an endpoint and out to it so far. Each count goes round at 2^64.
-#[derive(Clone, Copy, PartialEq, Eq)]
-pub struct EndpointCount {
-    /// RTP packets that came from it, RTCP datagrams, and the bytes of both.
-    pub heard_rtp: u64,
-    pub heard_rtcp: u64,
-    pub heard_octets: u64,
-    /// The moment at which the last came, in milliseconds; `None` before the first.
-    pub heard_ms: Option<u64>,
-    /// What it asked for.
-    pub asked: Kinds,
-    /// Datagrams that were sent to it, their bytes, and how many couldn't be sent.
-    pub sent: u64,
-    pub sent_octets: u64,
-    pub failed: u64,
-    /// What it was asked for, and told.
-    pub told: Kinds,
-    /// How often something was refused of what came from it.
-    pub refused: u64,
-}
 
 /// The counts of a unit, by endpoint and by leg, and what reports say. What comes is counted by one thread, which tells the moment of each
 /// turn, too; what is sent by any.
@@ -530,11 +505,6 @@ fn number_after(number: Option<u16>) -> u64 {
 /// How many bytes these are.
 fn octets_of(bytes: &[u8]) -> u64 {
     bytes.len() as u64
-}
-
-/// Whether the second byte is a packet type of RTCP.
-fn is_rtcp(datagram: &[u8]) -> bool {
-    matches!(datagram.get(1), Some(FIRST_RTCP..=LAST_RTCP))
 }
 
 /// The source that each leg's subscriber sees, rising, and the leg's number.

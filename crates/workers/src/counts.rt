@@ -4,7 +4,7 @@ ghost use Rattle.std.specs.Prelude.{◌≡◌, IfSome};
 ghost use Rattle.core_steps.specs.Happening.{capped_count};
 ghost use Rattle.workers.specs.Counted.{outcome_of};
 
-use crate::settling::Recess;
+use crate::recess::Recess;
 use crossbeam_utils::CachePadded;
 use forwarding::{ForwardFault, Forwarded};
 use outside::Status;

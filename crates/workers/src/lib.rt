@@ -10,9 +10,11 @@ mod counts;
 mod fault;
 mod faults;
 mod gear;
+mod given;
 mod ingress;
 mod item;
 mod lane;
+mod recess;
 mod scope;
 mod settling;
 mod turns;
@@ -21,8 +23,9 @@ mod worker;
 
 pub use fault::UnitFault;
 pub use forwarding::{ForwardFault, Forwarded, Forwarder, Notifier};
+pub use given::{Outside, Pace};
 pub use outside::{
     Clock, Datagram, Gate, Look, MAX_DATAGRAM, MAX_FAULTS, Open, ReceiveFault, Received, SendFault,
     Sink, Source, Status, Unwatched, Watch,
 };
-pub use unit::{Outside, Pace, Report, run_unit, run_watched};
+pub use unit::{Report, run_unit, run_watched};

@@ -9,8 +9,7 @@ use crate::lane::Crew;
 use rate_desk::SeatCalls;
 use routes::Naming;
 use std::sync::Wait;
-use std::sync::atomic::{AtomicBool, Ordering};
-use std::thread::Parker;
+use std::sync::atomic::Ordering;
 use std::time::Duration;
 
 /// How often the ingress looks, at most, whether its workers are done, before it publishes a row.
@@ -66,29 +65,6 @@ fn has_passed(since: u64, moment: u64) -> bool
     match moment.checked_sub(since) {
         Some(passed) => passed >= SECOND_MS,
         None => true,
-    }
-}
-
-/// Where the ingress sleeps until its workers are done.
-#[derive(Drop)]
-pub(crate) struct Recess {
-    parker: Parker,
-    is_awaited: AtomicBool,
-}
-
-impl Recess {
-    pub(crate) fn new() -> Recess {
-        Recess {
-            parker: Parker::new(),
-            is_awaited: AtomicBool::new(false),
-        }
-    }
-
-    /// A worker has done all that it was given: the ingress is woken, if it waits for that.
-    pub(crate) fn note_idle(&self) {
-        if self.is_awaited.load(Ordering::SeqCst) {
-            self.parker.unpark();
-        }
     }
 }
 

@@ -5,13 +5,14 @@ ghost use Rattle.rate_desk.specs.Gathered.{AreDesksOf};
 
 use crate::counts::Counts;
 use crate::fault::UnitFault;
+use crate::given::{Outside, Pace};
 use crate::scope::{Shared, run_scoped};
 use desk::Desk;
 use outside::{Clock, Gate, Sink, Source, Status, Unwatched, Watch};
 use rate_desk::{DeskCalls, House, SeatCalls};
 use routes::Naming;
 use settings::Settings;
-use std::alloc::{AllocError, Global};
+use std::alloc::Global;
 use std::marker::Brand;
 use std::sync::Wait;
 use std::sync::ledger::Blank;
@@ -32,24 +33,6 @@ pub struct Report {
     pub dropped: u64,
     /// The desk of each publisher, by its number.
     pub desks: Vec<Desk>,
-}
-
-/// What the unit needs from outside. There is a sink for each worker, by its number, and last one for the ingress.
-#[derive(Drop)]
-pub struct Outside<Src: Drop, Snk: Drop, Clk: Drop, W: Drop> {
-    pub source: Src,
-    pub sinks: Vec<Snk>,
-    pub clock: Clk,
-    pub watch: W,
-}
-
-/// How long the unit runs, and how often it ticks.
-#[derive(Clone, Copy, PartialEq, Eq)]
-pub struct Pace {
-    /// How many turns it makes, unless it is stopped: as good as no end at `u64::MAX`.
-    pub turns: u64,
-    /// How many milliseconds the moment rises at least between two ticks, and so between two pulses of a desk.
-    pub pulse_ms: u64,
 }
 
 /// How many milliseconds the moment rises at least between two ticks.

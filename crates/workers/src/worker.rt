@@ -3,7 +3,7 @@
 use crate::counts::{Station, outcome_of};
 use crate::gear::Gear;
 use crate::item::Item;
-use crate::settling::Recess;
+use crate::recess::Recess;
 use events::Job;
 use forwarding::{ForwardFault, Forwarded, Forwarder};
 use outside::{Gate, Sink};

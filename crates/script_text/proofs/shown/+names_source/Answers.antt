@@ -3,8 +3,8 @@ use Rattle.script_text.specs.Shown.{is_named, names_source}
 use Rattle.script_text.proofs.ShownLemmas.{named_behind}
 use Rattle.script_text.proofs.shown.+names_source.Goals as goal
 
-pub returns-then-is_control : goal.returns-then-is_control
-returns-then-is_control t c =
+pub returns-then-is_rtcp : goal.returns-then-is_rtcp
+returns-then-is_rtcp t c =
     let datagram = c.args.datagram.now in
     let size = c.first_size.result in
     let some : c.args.left ≡ suc (c.args.left - 1) = omega (arith, c.if-left-eq0.false) in
@@ -14,4 +14,4 @@ returns-then-is_control t c =
     ∙ (ap (names_source (c.args.left - 1) c.args.source) (whole ∙ ap (λ (n : ℕ). drop n datagram) c.first_size.ensures.size)
     ∙ sym (named_behind c.args.left (c.args.left - 1) c.args.source datagram some
     (ap (is_named c.args.source) (sym c.source_named.ensures) ∙ (sym c.is_named.ensures ∙ c.if-is_named.false))
-    (sym c.is_control.ensures ∙ c.if-is_control.true)))
+    (sym c.is_rtcp.ensures ∙ c.if-is_rtcp.true)))

@@ -1,6 +1,6 @@
 use Rattle.std.proofs.Common.{◌≡◌, ◌+◌, ◌-◌, ◌<◌, ◌≤◌, suc, length, arith, ◌∙◌, sym, ap, get_or}
 use Rattle.settings.specs.Settings.{number_or_zero}
-use Rattle.settings.specs.declared.settings.TheConstants.{SSRCS}
+use Rattle.settings.specs.declared.limits.TheConstants.{SSRCS}
 use Rattle.settings.specs.declared.parts.EndpointParts.{EndpointParts}
 use Rattle.settings.specs.declared.parts.LegParts.{LegParts}
 use Rattle.settings.proofs.SettingsLemmas.{source_unit, source_endpoint, source_leg}
