@@ -1,11 +1,10 @@
 -- Rows that come by rising owner: each goes after those before it.
-use Rattle.std.proofs.Common.{◌≡◌, ℕ, zero, ◌+◌, ◌-◌, ◌*◌, ◌<◌, ◌≤◌, List, [], ◌∷◌, ◌++◌, length, get_or, take, Option, Some, None, refl, sym, ap, ◌∙◌, subst, inl, inr, arith}
+use Rattle.std.proofs.Common.{◌≡◌, ℕ, zero, ◌+◌, ◌-◌, ◌<◌, List, [], ◌∷◌, ◌++◌, length, get_or, take, Option, Some, None, refl, sym, ap, ◌∙◌, subst, inl, inr, arith}
 use Rattle.std.specs.Prelude.{All}
 use Rattle.std.proofs.lemmas.Bool.{cases_lt, cases_eq}
 use Rattle.std.proofs.lemmas.Bool.Decides.{nat_tests}
-use Rattle.std.proofs.lemmas.List.{get_or_default, get_or-take, length-take, length-take-le}
+use Rattle.std.proofs.lemmas.List.{get_or_default, get_or-take, length-take-le}
 use Rattle.std.proofs.lemmas.List.Elements.{All-cons, All-tail}
-use Rattle.rate_cert.specs.declared.certificate.TheConstants.{MAX_REQUESTS}
 use Rattle.tmmbr_tuple.specs.declared.tuple.Tuple.{Tuple}
 use Rattle.rate_cert.specs.declared.request.Request.{Request}
 use Rattle.rate_cert.specs.Owners.{with_row}
@@ -108,23 +107,6 @@ rise_more requests count rise above i j d before below =
                 omega (arith, rise i k d (omega arith) (omega arith), above d k next)
           ])
     ]
-
-pub rising-take : (requests : List Request) (count : ℕ) → HasRisingOwners requests → HasRisingOwners (take count requests)
-rising-take requests count rising = λ i j d before below.
-    let long = length-take count requests in
-    let in_take : j < count = omega (arith, long, below) in
-    let in_list : j < length requests = omega (arith, long, below) in
-    let owner_at : ℕ → Request → ℕ = λ k r. r.owner.0 in
-    omega (
-      arith,
-      ap (owner_at i) (get_or-take count requests i d (omega arith)),
-      ap (owner_at j) (get_or-take count requests j d in_take),
-      rising i j d before in_list,
-    )
-
--- tests of so many rows stay as few as one call may count
-pub five_fit : (count : ℕ) → count < MAX_REQUESTS → 5 * count ≤ MAX_REQUESTS * (MAX_REQUESTS + 4)
-five_fit count below = omega (arith, below)
 
 -- the owners of those before one are below it
 pub take-below : (requests : List Request) (count : ℕ) (x : Request) → HasRisingOwners requests → count < length requests → x ≡ get_or requests count x

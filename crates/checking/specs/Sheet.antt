@@ -11,7 +11,6 @@ use Rattle.endings.specs.declared.status.Failure.{Failure}
 use Rattle.endings.specs.declared.status.Failure.TheVariants as failure
 use Rattle.request_text.specs.declared.entry.Claim.{Claim}
 use Rattle.request_text.specs.declared.entry.Entry.{Entry}
-use Rattle.request_text.specs.declared.fault.LineFault.{LineFault}
 use Rattle.request_text.specs.declared.fault.LineFault.TheVariants.{Text}
 use Rattle.request_text.specs.BoundText.{answer_text, refused_text}
 use Rattle.request_text.specs.CheckFile.{FileSpells, LineAdds, TextAnswers, claims_from, kept_from, requests_of}

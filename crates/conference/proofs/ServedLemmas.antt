@@ -54,12 +54,6 @@ leaves_of xs w next outs all taken Busy within stops = absurd stops
 leaves_of xs w next outs all taken NoMemory within stops = λ i. conference_state (stops.0 i) (stops.1 i) taken
 leaves_of xs w next outs all taken Unsettled within stops = serves_of xs w next outs all taken within stops
 
-pub stops_within : (xs : List Event) (w next : WorldState) (outs all : List Out) (taken : ℕ) (fault : EventFault) → taken ≤ length outs
-    → StopsAfter xs w outs next all fault → taken ≤ length all
-stops_within xs w next outs all taken Busy within stops = absurd stops
-stops_within xs w next outs all taken NoMemory within stops = subst (λ (l : List Out). taken ≤ length l) (sym stops.1) within
-stops_within xs w next outs all taken Unsettled within stops = still_within xs w next outs all taken within stops
-
 -- ---- since it was opened
 
 served : (c : Configuration) (outside : List Event) (taken : List Datagram) (start : WorldState) (s : ConferenceState) (outs : List Out)

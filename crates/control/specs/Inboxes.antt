@@ -1,5 +1,5 @@
 -- Lines among the bytes of a peer.
-use Rattle.std.specs.Prelude.{◌≡◌, ◌<◌, ◌==◌, ◌++◌, ℕ, true, List, [], ◌∷◌, length, slice_index}
+use Rattle.std.specs.Prelude.{◌≡◌, ◌<◌, ◌==◌, ◌++◌, ℕ, true, List, ◌∷◌, length, slice_index}
 
 -- no line has ended in these bytes: none of them is the end of a line, 10
 abbrev pub IsOpen : List ℕ → Type 0

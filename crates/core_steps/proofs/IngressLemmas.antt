@@ -19,18 +19,18 @@ use Rattle.desk.specs.State.{DeskState}
 use Rattle.members.specs.Rows.{changes_by, row_changed}
 use Rattle.events.specs.declared.job.Job.{Job}
 use Rattle.events.specs.declared.output.Out.{Out}
-use Rattle.events.specs.declared.output.Out.TheVariants.{Send, Idle, Lost}
+use Rattle.events.specs.declared.output.Out.TheVariants.{Send, Idle}
 use Rattle.core_steps.specs.declared.ring.TheConstants.{JOB_LIMIT}
 use Rattle.core_steps.specs.declared.machine.Worker.{Worker}
 use Rattle.core_steps.specs.Machine.{worker_state}
 use Rattle.core_steps.specs.Asking.{desks_after, pending_after, refusals_after, Asked}
 use Rattle.core_steps.specs.Duties.{Reports}
 use Rattle.notices.specs.Head.{upstream_report}
-use Rattle.core_steps.specs.World.{WorldState, WorkerState, Task, order, push, report}
+use Rattle.core_steps.specs.World.{WorldState, WorkerState, Task, order, report}
 use Rattle.notices.specs.Notification.{Pending}
 use Rattle.core_steps.specs.Happening.{RecordedCall, no_worker, giving, capped_count, world_after, workers_by}
 use Rattle.core_steps.specs.Pushing.{Pushed}
-use Rattle.core_steps.specs.Rule.{Replies, IngressAsks, AsksDesk, OrderAsks, DoesTask, DoesNext, IsReporting, done_task, ingress_asked, pushing, putting, pending_datagrams}
+use Rattle.core_steps.specs.Rule.{Replies, IngressAsks, AsksDesk, OrderAsks, DoesTask, DoesNext, IsReporting, done_task, ingress_asked, putting, pending_datagrams}
 use Rattle.core_steps.specs.Run.{Leaves}
 use Rattle.core_steps.proofs.AskingLemmas.{asking_of}
 
@@ -208,76 +208,6 @@ routed w leg stay turn on tasks rows outs lost tmmbns is put =
     }
 
 -- ---- a job
-
--- what is left if the job was given up, or not
-abbrev pub lost_after : Bool → ℕ → ℕ
-lost_after lost n = if lost then capped_count n 1 else n
-
-abbrev pub lost_outs : Bool → ℕ → List Out
-lost_outs lost k = if lost then Lost k ∷ [] else []
-
-abbrev pub with_job : WorldState → List Task → List WorkerState → ℕ → WorldState
-with_job w tasks workers lost = with_parts w w.room tasks w.pending w.desks w.rows workers lost w.tmmbns
-
--- whether as many wait as may
-pushed_some : (w : WorldState) (k : ℕ) (job : Job) (s : WorkerState) (full : Bool) (tasks : List Task) (outs : List Out)
-    → w.lost < 2 ^ 64 → w.tmmbns < 2 ^ 64 → tasks ≡ drop 1 w.tasks
-    → Leaves (λ h. h ≡ (if full
-    then record (done_task w (push k job) (Lost k ∷ [])) { given_up = record { worker = k; job = job } ∷ [] }
-    else record (done_task w (push k job) []) { worked = putting k s job ∷ [] }))
-    w outs (with_job w tasks (if full then w.workers else workers_by w.workers (putting k s job)) (lost_after full w.lost)) (outs ++ lost_outs full k)
-pushed_some w k job s true tasks outs lost tmmbns is = record {
-  happening = record (done_task w (push k job) (Lost k ∷ [])) { given_up = record { worker = k; job = job } ∷ [] };
-  allowed = refl;
-  leads = settled w w.room tasks w.pending w.desks w.rows w.workers (capped_count w.lost 1) 1 is refl tmmbns;
-  given = refl;
-}
-pushed_some w k job s false tasks outs lost tmmbns is = record {
-  happening = record (done_task w (push k job) []) { worked = putting k s job ∷ [] };
-  allowed = refl;
-  leads = settled w w.room tasks w.pending w.desks w.rows (workers_by w.workers (putting k s job)) w.lost 0 is (counted-none w.lost lost) tmmbns;
-  given = refl;
-}
-
-pushed_to : (w : WorldState) (k : ℕ) (job : Job) (o : Option WorkerState) (full : Bool) (tasks : List Task) (workers : List WorkerState) (outs : List Out)
-    → w.lost < 2 ^ 64 → w.tmmbns < 2 ^ 64 → tasks ≡ drop 1 w.tasks
-    → Pushed k job w.workers o full workers
-    → Leaves (λ h. h ≡ pushing w k job o) w outs (with_job w tasks workers (lost_after full w.lost)) (outs ++ lost_outs full k)
-pushed_to w k job None full tasks workers outs lost tmmbns is pushed =
-    let B : Bool → Type 0 = λ b. Leaves (λ h. h ≡ pushing w k job None) w outs (with_job w tasks w.workers (lost_after b w.lost)) (outs ++ lost_outs b k) in
-    let W : List WorkerState → Type 0 = λ ws. Leaves (λ h. h ≡ pushing w k job None) w outs (with_job w tasks ws (lost_after full w.lost)) (outs ++ lost_outs full k) in
-    let nobody : B false = record {
-      happening = done_task w (push k job) [];
-      allowed = refl;
-      leads = settled w w.room tasks w.pending w.desks w.rows w.workers w.lost 0 is (counted-none w.lost lost) tmmbns;
-      given = refl;
-    } in
-    subst W (sym pushed.1) (subst B (sym pushed.0) nobody)
-pushed_to w k job (Some s) full tasks workers outs lost tmmbns is pushed =
-    let may = nat_le JOB_LIMIT (length s.jobs) in
-    let B : Bool → Type 0 = λ b. Leaves (λ h. h ≡ pushing w k job (Some s)) w outs
-    (with_job w tasks (if b then w.workers else workers_by w.workers (putting k s job)) (lost_after b w.lost)) (outs ++ lost_outs b k) in
-    let W : List WorkerState → Type 0 = λ ws. Leaves (λ h. h ≡ pushing w k job (Some s)) w outs (with_job w tasks ws (lost_after full w.lost)) (outs ++ lost_outs full k) in
-    subst W (sym pushed.1) (subst B (sym pushed.0) (pushed_some w k job s may tasks outs lost tmmbns is))
-
--- a job that was given up
-pub job_lost : (w : WorldState) (k : ℕ) (job : Job) (tasks : List Task) (workers : List WorkerState) (lost : ℕ) (outs all : List Out)
-    → w.lost < 2 ^ 64 → w.tmmbns < 2 ^ 64 → tasks ≡ drop 1 w.tasks
-    → Pushed k job w.workers (slice_get w.workers k) true workers → lost ≡ capped_count w.lost 1 → all ≡ outs ++ Lost k ∷ []
-    → Leaves (λ h. h ≡ pushing w k job (slice_get w.workers k)) w outs (with_job w tasks workers lost) all
-job_lost w k job tasks workers lost outs all fits tmmbns is pushed count given =
-    let N : ℕ → Type 0 = λ n. Leaves (λ h. h ≡ pushing w k job (slice_get w.workers k)) w outs (with_job w tasks workers n) all in
-    let O : List Out → Type 0 = λ x. Leaves (λ h. h ≡ pushing w k job (slice_get w.workers k)) w outs (with_job w tasks workers (capped_count w.lost 1)) x in
-    subst N (sym count) (subst O (sym given) (pushed_to w k job (slice_get w.workers k) true tasks workers outs fits tmmbns is pushed))
-
--- a job that wasn't
-pub job_put : (w : WorldState) (k : ℕ) (job : Job) (tasks : List Task) (workers : List WorkerState) (outs : List Out)
-    → w.lost < 2 ^ 64 → w.tmmbns < 2 ^ 64 → tasks ≡ drop 1 w.tasks
-    → Pushed k job w.workers (slice_get w.workers k) false workers
-    → Leaves (λ h. h ≡ pushing w k job (slice_get w.workers k)) w outs (with_job w tasks workers w.lost) outs
-job_put w k job tasks workers outs fits tmmbns is pushed =
-    let O : List Out → Type 0 = λ x. Leaves (λ h. h ≡ pushing w k job (slice_get w.workers k)) w outs (with_job w tasks workers w.lost) x in
-    subst O (append-nil outs) (pushed_to w k job (slice_get w.workers k) false tasks workers outs fits tmmbns is pushed)
 
 -- the states of the workers, with this as that of one from then on
 ring_put : (workers : List Worker) (k : ℕ) (d : Worker) (job : Job) (jobs : List Job) (full : Bool) → k < length workers

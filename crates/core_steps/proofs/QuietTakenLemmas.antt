@@ -145,9 +145,6 @@ silent-moment c w r =
 
 -- ---- an entry becomes a request, if a stay stands
 
-abbrev one_task : LinkTable → RoomState → Ask → Option ℕ → List Task → List Task
-one_task t r a leg rest = cons_option (task_on t r a leg) rest
-
 more_asks : (c : Configuration) (r : RoomState) (low : (n : ℕ) → leg_stay r n < r.next) (a : Ask) (endpoint : ℕ) (rest : List Task) (more : List HeardRate)
     → IsFollowUp c r rest more
     → IsFollowUp c r (cons_option (task_for (table_of c) r endpoint a) rest) (rate_of (table_of c) r endpoint a ++ more)

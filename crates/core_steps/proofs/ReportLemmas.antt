@@ -41,8 +41,3 @@ from_one : (room : RoomState) (endpoint : ℕ) (x : ℕ × ℕ) (reports : List 
 from_one room endpoint x [] = refl
 from_one room endpoint x (y ∷ reports) =
     ap (λ (r : RoomState). after_reports r endpoint reports) (again room endpoint x y) ∙ from_one room endpoint y reports
-
-pub last_stands : (room : RoomState) (endpoint : ℕ) (reports : List (ℕ × ℕ))
-    → after_reports room endpoint reports ≡ after_last room endpoint (last_or None reports)
-last_stands room endpoint [] = refl
-last_stands room endpoint (x ∷ reports) = from_one room endpoint x reports

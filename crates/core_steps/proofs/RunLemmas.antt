@@ -43,16 +43,6 @@ pub HasRun-one : (e : Event) (old : WorldState) (outs : List Out) (new : WorldSt
     → Leaves (Does old e) old outs new all → HasRun (e ∷ []) old outs new all
 HasRun-one e old outs new all did = HasRun-more [] e old outs old outs new all (HasRun-none old outs) did
 
--- nothing was done
-pub HasRun-same : (events : List Event) (old : WorldState) (outs : List Out) (mid : WorldState) (some : List Out) (new : WorldState)
-    (all : List Out) → HasRun events old outs mid some → new ≡ mid → all ≡ some → HasRun events old outs new all
-HasRun-same events old outs mid some new all run is same = record {
-  history = run.history;
-  runs = run.runs;
-  leads = is ∙ run.leads;
-  given = same ∙ run.given;
-}
-
 -- ---- what is not taken in
 
 pub counted-none : (count : ℕ) → count < 2 ^ 64 → capped_count count 0 ≡ count

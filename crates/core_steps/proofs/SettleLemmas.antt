@@ -48,12 +48,6 @@ fold_desks : (desks : List DeskState) (asked : List RecordedCall) → length (fo
 fold_desks desks [] = refl
 fold_desks desks (a ∷ asked) = fold_desks (desks_by desks a) asked ∙ length-set desks a.publisher a.desk
 
-pub same_desks : (w : WorldState) (event : Event) (next : WorldState) (before outs : List Out) → HasRun (event ∷ []) w before next outs
-    → length next.desks ≡ length w.desks
-same_desks w event next before outs r =
-    let s = step_of w event next before outs r in
-    ap (λ (x : WorldState). length x.desks) s.leads ∙ fold_desks w.desks s.happening.asked
-
 -- ---- the ingress
 
 -- this task was done, and none made

@@ -27,34 +27,6 @@ use Rattle.desk.proofs.TraceLemmas.{base_after-push, base_after-append, calls-af
 
 -- ---- the list
 
--- a list that is no longer than this is kept whole
-keep_last-whole : {X : Type 0} (n : ℕ) (xs : List X) → length xs ≤ n → keep_last n xs ≡ xs
-keep_last-whole n xs few = ap (λ k. drop k xs) {y = 0} (omega (arith, few))
-
-nothing_first : (xs : List Entry) → slice_get xs 0 ≡ None → length xs ≡ 0
-nothing_first [] none = refl
-nothing_first (x ∷ xs) none = absurd (let no : Some x ≡ None = none in cc)
-
--- an entry after fewer than are listed pushes none out
-pub stands-listed : (request_ms : ℕ) (base : Base) (items : List Entry) (e : Entry) (capacity : ℕ) → capacity ≡ HISTORY_LIMIT
-    → cond (nat_lt (length items) capacity) None (slice_get (items ++ e ∷ []) 0) ≡ None
-    → StandsForEntries request_ms base (items ++ e ∷ []) base (keep_last capacity (items ++ e ∷ []))
-stands-listed request_ms base items e capacity is none = step (nat_lt (length items) capacity) refl none
-  where
-    step : (b : Bool) → nat_lt (length items) capacity ≡ b → cond b None (slice_get (items ++ e ∷ []) 0) ≡ None
-        → StandsForEntries request_ms base (items ++ e ∷ []) base (keep_last capacity (items ++ e ∷ []))
-    step true less from =
-        let few : length items < capacity = grind (arith, nat_tests, less) in
-        let whole : keep_last capacity (items ++ e ∷ []) ≡ items ++ e ∷ [] =
-        keep_last-whole capacity (items ++ e ∷ []) (omega (arith, few, length_push items e)) in
-        record {
-          folded = [];
-          in_turn = sym whole;
-          listed = omega (arith, few, is, length_push items e, ap length whole);
-          stands = refl;
-        }
-    step false more from = absurd (omega (arith, nothing_first (items ++ e ∷ []) from, length_push items e))
-
 first_out : (request_ms : ℕ) (base : Base) (entries : List Entry) (oldest : Entry) (capacity : ℕ) → capacity ≡ HISTORY_LIMIT
     → length entries ≡ capacity + 1 → slice_get entries 0 ≡ Some oldest
     → StandsForEntries request_ms base entries (base_with request_ms base oldest) (keep_last capacity entries)

@@ -13,24 +13,20 @@ use Rattle.std.proofs.lemmas.List.Kept.{AllPairs-cons, AllPairs-filter}
 use Rattle.std.proofs.lemmas.List.Sorted.{IsPermutation-map, IsPermutation-sym, Contains-permutation}
 use Rattle.std.proofs.lemmas.List.Sums.{length-filter, count_by-le-length}
 use Rattle.std.proofs.lemmas.Map.Keys.{IsDistinct-IsPermutation}
-use Rattle.std.proofs.lemmas.Map.Steps.{length-le_from_distinct_below}
-use Rattle.std.proofs.lemmas.Map.Views.{Contains-from_any}
 use Rattle.std.proofs.lemmas.Map.Made.{AllPairs-from_IsDistinct, IsDistinct-from_AllPairs}
-use borrow.Author.Tests.{eq-eqb, eqb-true, ne_eqb}
+use borrow.Author.Tests.{eq-eqb, ne_eqb}
 use Rattle.tmmbr_tuple.specs.declared.ssrc.Ssrc.{Ssrc}
 use Rattle.rate_cert.specs.declared.request.Request.{Request}
 use Rattle.rate_cert.specs.declared.certificate.Kept.{Kept}
-use Rattle.rate_cert.specs.declared.certificate.TheConstants.{MAX_REQUESTS as REQUESTS}
 use Rattle.rate_cert.specs.Choice.{IsChoice, chosen_requests}
-use Rattle.rate_cert.specs.Certificate.{places_of, kept_places}
-use Rattle.rate_cert.proofs.ChoiceLemmas.{length-chosen, kept_below}
+use Rattle.rate_cert.specs.Certificate.{places_of}
+use Rattle.rate_cert.proofs.ChoiceLemmas.{kept_below}
 use Rattle.rate_cert.proofs.CheckerLemmas.{Contains-map, entry_at}
 use Rattle.rate_cert.proofs.OwnerLemmas.{same_place}
 use Rattle.rate_cert.proofs.Pigeonhole.{pairs_with_first, pairs_of_others}
 use Rattle.bounding_set.specs.Rows.{HasRisingOwners}
 use Rattle.bounding_set.specs.Kept.{KeepsRequests}
 use Rattle.bounding_set.specs.State.{State, AnnouncesSmallest, announced_of}
-use Rattle.bounding_set.specs.declared.rows.TheConstants.{LIVE_LIMIT}
 use Rattle.bounding_set.proofs.KeptLemmas.{requests_by_place}
 use Rattle.desk.specs.declared.effect.Effect.{Effect}
 use Rattle.desk.specs.Effect.{IsEffect, IsLifted, owners_of, ssrcs_of, is_same, is_member}
@@ -188,20 +184,8 @@ chosen_once rows kept rising choice i j d before below =
     Differ : Request → Request → Type 0
     Differ x y = x.owner.0 ≢ y.owner.0
 
--- there are no more places than rows
-pub places_within : (rows : List Request) (places : List ℕ) → IsChoice rows places → length places ≤ length rows
-places_within rows places choice =
-    length-le_from_distinct_below places (length rows) (IsDistinct-from_AllPairs Decides-eqb places choice.distinct)
-    (λ place named. All-contains (λ p. p < length rows) places place choice.in_range (Contains-from_any eqb-true place places named))
-
 pub announced_once : (s : State) → HasRisingOwners s.rows → AnnouncesSmallest s → AllPairs (λ x y. x.owner.0 ≢ y.owner.0) (announced_of s)
 announced_once s rising is = chosen_once s.rows s.cert.kept.items rising is.canonical.choice
-
-pub announced_few : (s : State) → length s.rows ≤ LIVE_LIMIT → AnnouncesSmallest s → length (announced_of s) ≤ REQUESTS
-announced_few s few is =
-    let chosen = length-chosen s.rows (kept_places s.cert) in
-    let within = places_within s.rows (kept_places s.cert) is.canonical.choice in
-    omega arith
 
 -- ---- nothing changed
 

@@ -18,7 +18,7 @@ use Rattle.desk.specs.declared.call.Change.TheVariants.{Arrive, Request as Ask, 
 use Rattle.desk.specs.declared.call.Signal.TheVariants.{Pli, Tick, Expire}
 use Rattle.desk.specs.Call.{HasStay}
 use Rattle.desk.specs.Presence.{HasRisingOwners, HasStays, IsOwnerPlace, IsGapFor, presence_of, present_by, refusal_of, stay_in, with_presence, without_owner, without_old, unless_old, is_old, unless_absent_with_room, unless_present_with}
-use Rattle.desk.specs.Standing.{count_by, IsDepart}
+use Rattle.desk.specs.Standing.{count_by}
 
 -- what of one present the lemmas on rows by owner ask for
 abbrev pub present_owner : Present → ℕ
@@ -313,15 +313,6 @@ length-by request_ms now present (Stay owner stay Depart) rising stays from acce
 length-by request_ms now present (Time moment Pli) rising stays from accepted = refl
 length-by request_ms now present (Time moment Tick) rising stays from accepted = refl
 length-by request_ms now present (Time moment Expire) rising stays from accepted = length-map present (without_old request_ms now)
-
--- who departs unrefused is present
-pub some_present : (present : List Present) (call : Call) → HasRisingOwners present → HasStay call
-    → refusal_of present call ≡ None → IsDepart call → 1 ≤ length present
-some_present present (Stay owner stay Arrive) rising from accepted is = absurd (cc)
-some_present present (Stay owner stay (Ask tuple)) rising from accepted is = absurd (cc)
-some_present present (Stay owner stay Depart) rising from accepted is =
-    omega (arith, length-without present owner.0 rising (present-named present owner.0 stay from accepted))
-some_present present (Time moment signal) rising from accepted is = absurd is
 
 pub few-by : (request_ms now : ℕ) (present : List Present) (call : Call) → HasRisingOwners present → HasStays present → HasStay call
     → refusal_of present call ≡ None → length present ≤ PRESENT_LIMIT → length (present_by request_ms now present call) ≤ PRESENT_LIMIT

@@ -9,7 +9,7 @@ use Rattle.desk.specs.declared.base.Base.{Base}
 use Rattle.desk.specs.Presence.{live_requests, stay_in, unless_present_with}
 use Rattle.desk.specs.Standing.{IsStand}
 use Rattle.desk.proofs.PresenceLemmas.{stay_in-named}
-use Rattle.desk.proofs.LiveLemmas.{few_live, room_for_request}
+use Rattle.desk.proofs.LiveLemmas.{room_for_request}
 
 none_is : {X : Type 0} (o : Option X) → IsNone o → o ≡ None
 none_is None is = refl
@@ -32,6 +32,3 @@ never_full base bounds owner stay (Err e) stand from accepted full =
     ap (λ rs. tuple_of rs owner) (sym stand.live) ∙ none_is (tuple_of bounds.rows owner) why.0 in
     let room = room_for_request present owner (omega (arith, is, from)) none in
     absurd (omega (arith, room, stand.base.few, why.1, ap length stand.live))
-
-pub few_rows : (base : Base) (bounds : State) → IsStand base bounds → length bounds.rows ≤ LIVE_LIMIT
-few_rows base bounds stand = omega (arith, stand.base.few, ap length stand.live, few_live base.present.items)

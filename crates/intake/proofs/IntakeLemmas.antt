@@ -1,5 +1,5 @@
 -- What packets say one after the other, and what is kept of it.
-use Rattle.std.proofs.Common.{◌≡◌, ◌∙◌, ℕ, ◌+◌, ◌≤◌, inr, Bool, true, false, List, [], ◌∷◌, ◌++◌, length, map, Option, None, Some, Result, Ok, Err, refl, sym, ap, ap₂, arith, append_assoc, add_assoc, add-zero, zero-add, eqb}
+use Rattle.std.proofs.Common.{◌≡◌, ◌∙◌, ℕ, ◌+◌, ◌≤◌, inr, Bool, true, false, List, [], ◌∷◌, ◌++◌, length, map, Option, None, Some, Result, Ok, Err, refl, sym, ap, ap₂, arith, append_assoc, add_assoc, add-zero, eqb}
 use Rattle.std.specs.Prelude.{◌==◌, ◌||◌, not, cond}
 use Rattle.std.specs.List.{flat_map, last_or}
 use Rattle.std.specs.Option.{option_or}
@@ -25,15 +25,6 @@ joined_nothing a = λ i. record {
   reports = append-nil a.reports i;
   tmmbns = add-zero a.tmmbns i;
   asks = append-nil a.asks i;
-}
-
-pub nothing_joined : (a : Gist) → joint_gist empty_gist a ≡ a
-nothing_joined a = λ i. record {
-  senders = a.senders;
-  goodbyes = a.goodbyes;
-  reports = a.reports;
-  tmmbns = zero-add a.tmmbns i;
-  asks = a.asks;
 }
 
 pub joined_assoc : (a b c : Gist) → joint_gist a (joint_gist b c) ≡ joint_gist (joint_gist a b) c

@@ -1,8 +1,6 @@
 -- A datagram says one thing.
-use Rattle.std.proofs.Common.{◌≡◌, ◌∙◌, ℕ, inl, inr, List, [], ◌∷◌, ◌++◌, length, map, Result, Ok, Err, refl, sym, ap, ap₂, subst, arith}
+use Rattle.std.proofs.Common.{◌≡◌, ◌∙◌, ℕ, inl, inr, List, [], ◌∷◌, length, map, Result, Ok, Err, refl, sym, ap, ap₂, subst, arith}
 use Rattle.std.proofs.lemmas.Bool.{cases_Bool}
-use Rattle.rtp_packet.specs.declared.fault.RtpFault.{RtpFault}
-use Rattle.rtp_packet.specs.Fault.{HasRtpFault}
 use Rattle.rtp_packet.specs.Grammar.{RtpPacket}
 use Rattle.rtp_packet.proofs.PacketLemmas.{exact_fault, no_fault, one_packet}
 use Rattle.rtcp_compound.specs.Content.{Content, packet_content, sender_report, receiver_report, description, goodbye, feedback, other}
@@ -11,9 +9,8 @@ use Rattle.rtcp_compound.specs.Mux.{is_rtcp}
 use Rattle.rtcp_compound.proofs.DatagramLemmas.{reads_only, refuses_none, refuses_one}
 use Rattle.rtcp_feedback.specs.declared.fault.FbFault.{FbFault}
 use Rattle.rtcp_feedback.specs.declared.fault.FbFault.TheVariants.{Short, OddFci}
-use Rattle.std.specs.List.{flat_map}
 use Rattle.rtcp_feedback.specs.Fault.{HasOddFci}
-use Rattle.rtcp_feedback.specs.Grammar.{Message, ReadsFeedback, entry_bytes, nack, nack_bytes, pli, tmmbr, tmmbn, unknown}
+use Rattle.rtcp_feedback.specs.Grammar.{Message, ReadsFeedback, nack, pli, tmmbr, tmmbn, unknown}
 use Rattle.rtcp_feedback.proofs.EntryLemmas.{length-entries, length-nacks}
 use Rattle.rtcp_feedback.proofs.MessageLemmas.{again, reads_long}
 use Rattle.events.specs.declared.output.Refusal.{Refusal}

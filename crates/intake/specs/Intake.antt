@@ -1,6 +1,6 @@
 -- What a datagram of an endpoint says (RFC 3550, sections 5.1, 6.1 and 6.6; RFC 4585, sections 6.1 to 6.3; RFC 5104,
 -- section 4.2), by the grammars of RTP packets, of RTCP datagrams and of feedback.
-use Rattle.std.specs.Prelude.{◌≡◌, ◌==◌, ◌⊎◌, ◌<◌, ℕ, ◌+◌, not, true, false, unwrap_or, List, take, [], ◌∷◌, ◌++◌, length, map, slice_index, fold, Result, Ok, Err, if◌then◌else◌}
+use Rattle.std.specs.Prelude.{◌≡◌, ◌==◌, ◌⊎◌, ◌<◌, ℕ, ◌+◌, not, true, false, unwrap_or, List, take, [], ◌∷◌, ◌++◌, length, map, fold, Result, Ok, Err, if◌then◌else◌}
 use Rattle.std.specs.List.{find, list_any}
 use Rattle.members.specs.Room.{RoomState, after_report}
 use Rattle.rtp_packet.specs.Fault.{HasRtpFault}

@@ -44,11 +44,6 @@ pub at_behind : (whole front : List LegState) (n : ℕ) (s : LegState) (rest : L
 at_behind whole front n s rest e is =
     ap (λ (l : List LegState). slice_get l n) is ∙ slice_get-append_right front (s ∷ rest) n 0 (omega arith)
 
--- one more leg stands before the place
-one_before : (whole front : List LegState) (s : LegState) (rest : List LegState) → whole ≡ front ++ s ∷ rest
-    → whole ≡ (front ++ s ∷ []) ++ rest
-one_before whole front s rest is = is ∙ sym (append_assoc front (s ∷ []) rest)
-
 count_before : (front : List LegState) (s : LegState) (n : ℕ) → n ≡ length front → n + 1 ≡ length (front ++ s ∷ [])
 count_before front s n e = omega (arith, length-append front (s ∷ []))
 

@@ -1,5 +1,5 @@
 -- The rows of a route table, and what changes make of them.
-use Rattle.std.specs.Prelude.{ℕ, nat_lt, List, [], ◌∷◌, replicate, fold, slice_set, false, if◌then◌else◌}
+use Rattle.std.specs.Prelude.{ℕ, nat_lt, List, [], ◌∷◌, replicate, fold, slice_set, if◌then◌else◌}
 use Rattle.members.specs.declared.order.Order.{Order}
 use Rattle.members.specs.declared.order.Order.TheVariants.{Arrive, Depart, Route}
 use Rattle.members.specs.declared.order.Row.{Row}

@@ -196,9 +196,6 @@ some_none xs w next outs all stays = record {
       (subst (λ (l : List Out). Drives [] w outs w l) (sym stays.1) (drives_nothing w outs));
 }
 
-pub some_nothing : (xs : List Event) (w : WorldState) (outs : List Out) → DrivesSome xs w outs w outs
-some_nothing xs w outs = record { done = []; left = xs; both = refl; drives = drives_nothing w outs }
-
 pub some_all : (xs : List Event) (w next : WorldState) (outs all : List Out) → Drives xs w outs next all → DrivesSome xs w outs next all
 some_all xs w next outs all drives = record { done = xs; left = []; both = append-nil xs; drives = drives }
 

@@ -1,5 +1,5 @@
 -- Numbers that decimal digits spell, below a limit.
-use Rattle.std.proofs.Common.{◌≡◌, ◌∙◌, ◌<◌, ◌^◌, ◌==◌, ◌&&◌, ℕ, suc, zero, Bool, true, false, cond, drop, length, get_or, refl, sym, ap, subst, arith, List, [], ◌∷◌, Option, Some, None, Result, Ok, Err, nat_lt, IsUtf8}
+use Rattle.std.proofs.Common.{◌≡◌, ◌∙◌, ◌<◌, ◌^◌, ◌==◌, ◌&&◌, ℕ, suc, zero, Bool, true, false, cond, drop, get_or, refl, sym, ap, subst, arith, List, [], ◌∷◌, Some, None, Result, Ok, Err, nat_lt, IsUtf8}
 use Rattle.std.specs.List.{list_all}
 use Rattle.std.specs.Result.{result_ok}
 use Rattle.std.specs.Char.{digit_value}

@@ -33,7 +33,3 @@ changes_more log e = flat_map-append (λ q. q) log (e ∷ []) ∙ ap (λ z. chan
 
 pub rows_more : (legs : ℕ) (log : List Publication) (e : Publication) → rows_after legs (changes_of (log ++ e ∷ [])) ≡ fold row_changed (rows_after legs (changes_of log)) e
 rows_more legs log e = ap (rows_after legs) (changes_more log e) ∙ fold-append row_changed (opening_rows legs) (changes_of log) e
-
--- one change more of a list of changes
-pub changed_more : (rows : List Row) (changes : List Change) (c : Change) → fold row_changed rows (changes ++ c ∷ []) ≡ slice_set (fold row_changed rows changes) c.leg c.row
-changed_more rows changes c = fold-append row_changed rows changes (c ∷ [])

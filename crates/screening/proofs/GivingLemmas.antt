@@ -1,46 +1,9 @@
 -- What is given on of a NACK's numbers and entries, and of a datagram's packets, one after the other.
-use Rattle.std.proofs.Common.{◌≡◌, ◌∙◌, ℕ, ◌+◌, ◌<◌, Bool, true, false, List, [], ◌∷◌, ◌++◌, length, get_or, take, drop, refl, sym, ap, subst, arith, append_assoc, append-nil, add-one, drop-cons}
-use Rattle.std.specs.Prelude.{Option, Some, if◌then◌else◌}
-use Rattle.rtcp_feedback.specs.declared.nack.Nack.{Nack}
+use Rattle.std.proofs.Common.{◌≡◌, ◌∙◌, ℕ, ◌+◌, ◌<◌, List, [], ◌∷◌, ◌++◌, length, take, drop, refl, sym, ap, subst, arith, append_assoc, append-nil}
 use Rattle.senders.specs.Naming.{heard_size}
-use Rattle.screening.specs.Nacks.{GivesOn, Terms, books_given, ended, entry_from, joined, packet, packet_given}
-use Rattle.screening.specs.Resends.{Book, book_after, book_noted, is_let_through, numbers_passed}
+use Rattle.screening.specs.Nacks.{GivesOn, Terms, books_given, ended, packet, packet_given}
+use Rattle.screening.specs.Resends.{Book}
 use Rattle.screening.specs.declared.nacks.Asking.{Asking}
-use Rattle.screening.specs.declared.resends.Allowance.{Allowance}
-
--- ---- numbers
-
-pub drop_one : (xs : List ℕ) (i n : ℕ) → i < length xs → n ≡ get_or xs i 0 → drop i xs ≡ n ∷ drop (i + 1) xs
-drop_one xs i n within is = rw (add-one, is) (drop-cons xs i 0 within)
-
-pub passed_one : (b : Book) (a : Allowance) (n : ℕ) (ns : List ℕ) (r : Bool) → r ≡ is_let_through b a n
-    → numbers_passed b a (n ∷ ns)
-    ≡ (if r then n ∷ numbers_passed (book_noted r b a n) a ns else numbers_passed (book_noted r b a n) a ns)
-passed_one b a n ns r is =
-    ap (λ (t : Bool). if t then n ∷ numbers_passed (book_noted t b a n) a ns else numbers_passed (book_noted t b a n) a ns) (sym is)
-
-pub after_one : (b : Book) (a : Allowance) (n : ℕ) (ns : List ℕ) (r : Bool) → r ≡ is_let_through b a n
-    → book_after b a (n ∷ ns) ≡ book_after (book_noted r b a n) a ns
-after_one b a n ns r is = ap (λ (t : Bool). book_after (book_noted t b a n) a ns) (sym is)
-
--- a number that is let through
-pub entry_more : (b : Book) (a : Allowance) (part : Option Nack) (xs : List ℕ) (i n : ℕ) → i < length xs → n ≡ get_or xs i 0 → true ≡ is_let_through b a n
-    → entry_from part (numbers_passed b a (drop i xs)) ≡ entry_from (Some (joined part n)) (numbers_passed (book_noted true b a n) a (drop (i + 1) xs))
-entry_more b a part xs i n within is through =
-    ap (λ (ns : List ℕ). entry_from part (numbers_passed b a ns)) (drop_one xs i n within is)
-    ∙ ap (entry_from part) (passed_one b a n (drop (i + 1) xs) true through)
-
--- one that isn't
-pub entry_same : (b : Book) (a : Allowance) (part : Option Nack) (xs : List ℕ) (i n : ℕ) → i < length xs → n ≡ get_or xs i 0 → false ≡ is_let_through b a n
-    → entry_from part (numbers_passed b a (drop i xs)) ≡ entry_from part (numbers_passed (book_noted false b a n) a (drop (i + 1) xs))
-entry_same b a part xs i n within is held =
-    ap (λ (ns : List ℕ). entry_from part (numbers_passed b a ns)) (drop_one xs i n within is)
-    ∙ ap (entry_from part) (passed_one b a n (drop (i + 1) xs) false held)
-
-pub after_more : (b : Book) (a : Allowance) (xs : List ℕ) (i n : ℕ) (r : Bool) → i < length xs → n ≡ get_or xs i 0 → r ≡ is_let_through b a n
-    → book_after b a (drop i xs) ≡ book_after (book_noted r b a n) a (drop (i + 1) xs)
-after_more b a xs i n r within is through =
-    ap (book_after b a) (drop_one xs i n within is) ∙ after_one b a n (drop (i + 1) xs) r through
 
 -- ---- packets
 

@@ -1,6 +1,6 @@
 -- Lines, steps and what they print, one after the other.
 use Rattle.std.proofs.Common.{◌≡◌, ◌∙◌, ℕ, ◌+◌, ◌<◌, ◌≤◌, zero, suc, Bool, true, false, List, [], ◌∷◌, ◌++◌, map, Bor, length, drop, get_or, Option, None, Some, Result, Ok, Err, refl, sym, ap, subst, inl, inr, arith, append_assoc}
-use Rattle.std.specs.Prelude.{IfSome, OnOk}
+use Rattle.std.specs.Prelude.{OnOk}
 use Rattle.std.specs.Io.KnownBytes.{Appends}
 use Rattle.std.proofs.KnownBytes.{Appends-kept}
 use Rattle.std.proofs.lemmas.List.{append-nil, drop_all, length-map}
@@ -19,7 +19,7 @@ use Rattle.endings.specs.declared.status.Failure.{Failure}
 use Rattle.endings.specs.declared.status.Failure.TheVariants.{NoMemory, Refused as RefusedLine, Io}
 use Rattle.script_text.specs.declared.script.Reading.TheVariants.{Unreadable}
 use Rattle.request_text.specs.Lines.{lines_of}
-use Rattle.scripts.specs.Replay.{Drains, FailsLine, FailsReplay, Follows, GivesOut, IngressDrains, IsOutside, LinePlays, LinesPlay, PrintsLine, PrintsReplay, Rounds, Settles, StopsReplay, WorkerDrains, WorkersDrain, again, cause_behind, numbers_of, over, quiet, round}
+use Rattle.scripts.specs.Replay.{Drains, FailsLine, FailsReplay, Follows, GivesOut, IngressDrains, LinePlays, LinesPlay, PrintsLine, PrintsReplay, Rounds, Settles, WorkerDrains, WorkersDrain, again, cause_behind, numbers_of, over, quiet, round}
 use Rattle.script_text.specs.Shown.{Cause, Given, Told, cause_of, given_at, no_cause, shown_text}
 use Rattle.scripts.specs.declared.replay.Progress.{Progress}
 use Rattle.script_text.specs.declared.shown.Shown.{Shown}
@@ -146,26 +146,6 @@ fails c s script i number lines d w here old mid new (RefusedLine n fault) below
       },
     )
 
-pub outside_line : (c : Configuration) (number : ℕ) (line : List ℕ) (old new : Option (List ℕ)) (failure : Failure) → IsOutside failure
-    → FailsLine c number line old new failure
-outside_line c number line old new NoMemory o = tt
-outside_line c number line old new Io o = tt
-outside_line c number line old new (RefusedLine n fault) o = absurd o
-
--- of a script that is read whole
-pub of_whole : (c : Configuration) (s : Shown) (script : Option (List ℕ)) (text : List ℕ) (old new : Option (List ℕ)) (failure : Failure)
-    → IfSome script (λ xs. text ≡ xs) → FailsReplay c s (Some text) old new failure → FailsReplay c s script old new failure
-of_whole c s script text old new NoMemory is f = tt
-of_whole c s script text old new Io is f = tt
-of_whole c s None text old new (RefusedLine n fault) is f = (f.0, tt)
-of_whole c s (Some xs) text old new (RefusedLine n fault) is f =
-    (f.0, subst (λ (t : List ℕ). StopsReplay c s t n old new) is f.1)
-
-pub whole_printed : (c : Configuration) (s : Shown) (script : Option (List ℕ)) (text : List ℕ) (old new : Option (List ℕ))
-    → IfSome script (λ xs. text ≡ xs) → PrintsReplay c s text old new → IfSome script (λ t. PrintsReplay c s t old new)
-whole_printed c s None text old new is p = tt
-whole_printed c s (Some xs) text old new is p = subst (λ (t : List ℕ). PrintsReplay c s t old new) is p
-
 -- ---- settling
 
 -- What was done so far, and was given out; whatever is done from here on comes after it.
@@ -173,9 +153,6 @@ pub record Drained (waits : WorldState → Bool) (event : Event) (first w : Worl
   pub outs : List Out
   pub given : new ≡ old ++ outs
   pub rest : (others : List Out) (final : WorldState) → Drains waits event w others final → Drains waits event first (outs ++ others) final
-
-pub drains_from : (waits : WorldState → Bool) (event : Event) (w : WorldState) (old : List Out) → Drained waits event w w old old
-drains_from waits event w old = record { outs = []; given = sym (append-nil old); rest = λ others final d. d }
 
 pub drains_on : (waits : WorldState → Bool) (event : Event) (first w next : WorldState) (old mid new : List Out) (outs : List Out)
     → waits w ≡ true → Drained waits event first w old mid → HasRun (event ∷ []) w [] next outs → new ≡ mid ++ outs
@@ -200,15 +177,6 @@ pub record WorkersDrained (count k : ℕ) (first w : WorldState) (old new : List
   pub given : new ≡ old ++ outs
   pub rest : (left : ℕ) (others : List Out) (final : WorldState) → left + k ≡ count → WorkersDrain left k w others final
       → WorkersDrain count 0 first (outs ++ others) final
-
-pub workers_from : (count : ℕ) (w : WorldState) (old : List Out) → WorkersDrained count 0 w w old old
-workers_from count w old = record {
-  outs = [];
-  given = sym (append-nil old);
-  rest = λ left others final is d.
-      let same : left ≡ count = omega (arith, is) in
-      subst (λ (n : ℕ). WorkersDrain n 0 w others final) same d;
-}
 
 pub workers_on : (count k : ℕ) (first w next : WorldState) (old mid new : List Out) (outs : List Out)
     → WorkersDrained count k first w old mid → WorkerDrains k w outs next → new ≡ mid ++ outs
@@ -261,9 +229,6 @@ pub record RoundsMade (workers : ℕ) (first w : WorldState) (old new : List Out
   pub outs : List Out
   pub given : new ≡ old ++ outs
   pub rest : (others : List Out) (final : WorldState) → Rounds workers w others final → Rounds workers first (outs ++ others) final
-
-pub rounds_from : (workers : ℕ) (w : WorldState) (old : List Out) → RoundsMade workers w w old old
-rounds_from workers w old = record { outs = []; given = sym (append-nil old); rest = λ others final d. d }
 
 pub rounds_on : (workers : ℕ) (first w next behind : WorldState) (old mid late new : List Out) (outs more : List Out)
     → is_busy w ≡ true → RoundsMade workers first w old mid → HasRun (Ingress ∷ []) w [] next outs → late ≡ mid ++ outs

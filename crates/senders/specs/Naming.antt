@@ -1,5 +1,5 @@
 -- Which source a datagram names.
-use Rattle.std.specs.Prelude.{ℕ, ◌+◌, nat_lt, List, Option, None, Some, length, drop, min, slice_index, if◌then◌else◌}
+use Rattle.std.specs.Prelude.{ℕ, ◌+◌, nat_lt, List, Option, None, Some, length, drop, min, if◌then◌else◌}
 use Rattle.byteorder.specs.Endian.{big_number}
 use Rattle.rtcp_compound.specs.Fault.{size_of}
 use Rattle.rtcp_compound.specs.Mux.{is_rtcp}

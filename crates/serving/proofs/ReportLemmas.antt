@@ -1,5 +1,5 @@
 -- The lines of a report, one after the other.
-use Rattle.std.proofs.Common.{◌≡◌, ◌∙◌, ℕ, suc, ◌+◌, ◌<◌, List, ◌∷◌, ◌++◌, length, drop, get_or, drop-cons, add-one, append_assoc, sym, ap, ap₂}
+use Rattle.std.proofs.Common.{◌≡◌, ◌∙◌, ℕ, ◌+◌, ◌<◌, List, ◌∷◌, ◌++◌, length, drop, get_or, drop-cons, add-one, append_assoc, sym, ap, ap₂}
 use Rattle.tmmbr_tuple.specs.declared.ssrc.Ssrc.{Ssrc}
 use Rattle.bounding_set.specs.State.{announced_of}
 use Rattle.desk.specs.State.{DeskState}

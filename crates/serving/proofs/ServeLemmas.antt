@@ -1,5 +1,5 @@
 -- How a unit that was to be served ends, and what is said of it.
-use Rattle.std.proofs.Common.{◌≡◌, ◌≢◌, ◌⊎◌, ◌++◌, ℕ, List, [], Option, None, Some, Result, Ok, Err, OnOk, IfErr, MatchResult, codes, refl, subst, sym, inl, inr}
+use Rattle.std.proofs.Common.{◌≡◌, ◌≢◌, ℕ, List, [], Option, None, Some, Result, Ok, Err, OnOk, IfErr, MatchResult, codes, refl, subst, sym, inl, inr}
 use Rattle.std.proofs.lemmas.List.{append-nil}
 use Rattle.std.specs.Io.KnownBytes.{Appends, Keeps, append_known}
 use Rattle.std.specs.declared.net.socket_addr.SocketAddr.{SocketAddr}
@@ -55,9 +55,6 @@ unsaid_why old new status.Io is = absurd is
 unsaid_why old new status.Socket is = absurd is
 unsaid_why old new status.Control is = absurd is
 unsaid_why old new status.Record is = absurd is
-
-pub not_written : (old new : Option (List ℕ)) (s : Status) → IsUnsaid s → FailsToStart old new s
-not_written = unsaid_why
 
 no_memory_said : (old new : Option (List ℕ)) (s : Status) → s ≡ status.NoMemory → Appends old new (codes "no memory\n") → FailsToStart old new s
 no_memory_said old new status.NoMemory is there = record {

@@ -11,9 +11,8 @@ use Rattle.std.specs.List.{enumerate_from}
 use Rattle.std.specs.HashMap.{get}
 use Rattle.settings.specs.declared.settings.LegSettings.{LegSettings}
 use Rattle.settings.specs.Settings.{IsLegAmong}
-use Rattle.std.specs.Global.{Vec}
 use Rattle.settings.specs.Links.{leg_numbers_of, first_to}
-use Rattle.settings.specs.Places.{Sources, ListsLegs, FindsLegs}
+use Rattle.settings.specs.Places.{Sources, FindsLegs}
 
 -- a list after which one element is put has at each place what it had, or that element
 pub at_push : {X : Type 0} (xs : List X) (x : X) (P : ℕ → X → Type 0)
@@ -51,30 +50,12 @@ first_past n subscriber source first (l ∷ ls) h past =
     let rest = first_past n subscriber source (first + 1) ls (All-tail (IsLegAmong n) l ls h) past in
     grind (arith, nat_tests)
 
--- the numbers from one leg on
-pub numbers_step : (publisher i : ℕ) (legs : List LegSettings) (d : LegSettings) → i < length legs
-    → leg_numbers_of publisher (enumerate_from i (drop i legs))
-    ≡ (if (get_or legs i d).publisher == publisher
-    then i ∷ leg_numbers_of publisher (enumerate_from (i + 1) (drop (i + 1) legs))
-    else leg_numbers_of publisher (enumerate_from (i + 1) (drop (i + 1) legs)))
-numbers_step publisher i legs d h = at_drop_more (λ (ls : List LegSettings). leg_numbers_of publisher (enumerate_from i ls)) legs i d h
-
 -- the first leg from one leg on
 pub first_step : (subscriber source i : ℕ) (legs : List LegSettings) (d : LegSettings) → i < length legs
     → first_to subscriber source (enumerate_from i (drop i legs))
     ≡ (if ((get_or legs i d).subscriber == subscriber && (get_or legs i d).out_ssrc.0 == source) then Some i
     else first_to subscriber source (enumerate_from (i + 1) (drop (i + 1) legs)))
 first_step subscriber source i legs d h = at_drop_more (λ (ls : List LegSettings). first_to subscriber source (enumerate_from i ls)) legs i d h
-
-pub lists_one_more : (lists : List (Vec ℕ)) (v : Vec ℕ) (n : ℕ) (legs : List LegSettings) → ListsLegs lists n legs
-    → v.items ≡ leg_numbers_of n (enumerate_from 0 legs) → ListsLegs (lists ++ v ∷ []) (n + 1) legs
-lists_one_more lists v n legs before here =
-    let size = before.size in
-    let P : ℕ → Vec ℕ → Type 0 = λ k w. w.items ≡ leg_numbers_of k (enumerate_from 0 legs) in
-    record {
-      size = omega (arith, length-append lists (v ∷ []));
-      each = at_push lists v P before.each (rw size here);
-    }
 
 pub finds_one_more : (maps : List Sources) (m : Sources) (n : ℕ) (legs : List LegSettings) → FindsLegs maps n legs
     → ((source : ℕ) → get nat_eq m source ≡ first_to n source (enumerate_from 0 legs)) → FindsLegs (maps ++ m ∷ []) (n + 1) legs

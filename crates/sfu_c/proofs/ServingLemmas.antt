@@ -1,5 +1,5 @@
 -- What is answered for an event.
-use Rattle.std.proofs.Common.{◌≡◌, ◌∙◌, ℕ, List, inl, inr, refl, sym, ap, subst, arith, Result, Ok, Err}
+use Rattle.std.proofs.Common.{◌≡◌, ℕ, List, inl, inr, refl, sym, ap, subst, arith, Result, Ok, Err}
 use Rattle.std.specs.Prelude.{OnOk, IfErr}
 use Rattle.events.specs.declared.event.Event.{Event}
 use Rattle.one_thread.specs.Driving.{IsIdle}
@@ -7,8 +7,7 @@ use Rattle.conference.specs.declared.fault.EventFault.{EventFault}
 use Rattle.conference.specs.declared.fault.EventFault.TheVariants.{Busy, NoMemory, Unsettled}
 use Rattle.conference.specs.Conference.{ConferenceState, LeavesEvents, Serves}
 use Rattle.conference.proofs.ServedLemmas.{serves_on}
-use Rattle.sfu_c.specs.declared.faults.TheConstants.{DONE, BUSY, NO_MEMORY, UNSETTLED}
-use Rattle.sfu_c.specs.Serving.{AnswersEvents, AnswersSettle, event_answer}
+use Rattle.sfu_c.specs.Serving.{AnswersEvents, event_answer}
 
 answers_as : (outside : List Event) (old new : ConferenceState) (r : Result (Unit {0}) EventFault)
     → OnOk r (Serves outside old new) → OnOk r (IsIdle new.world) → (¬ IsIdle old.world → r ≡ Err Busy)

@@ -1,5 +1,5 @@
 -- The requests that are told to C.
-use Rattle.std.specs.Prelude.{◌≡◌, ◌↔◌, ◌⊎◌, ◌≤◌, ℕ, List, length, map, Option, Some, slice_get}
+use Rattle.std.specs.Prelude.{◌≡◌, ◌↔◌, ◌⊎◌, ◌≤◌, List, length, map}
 use Rattle.rate_cert.specs.declared.request.Request.{Request}
 use Rattle.sfu_c.specs.declared.faults.TheConstants.{DONE, NO_ROOM}
 use Rattle.sfu_c.specs.declared.numbers.SfuRequest.{SfuRequest}

@@ -8,6 +8,3 @@ pub counted_more : (counts : List RefusedCount) (c : RefusedCount) → AreCounte
 counted_more counts c are one =
     let P : RefusedCount → Type 0 = λ x. 1 ≤ x.count in
     All-append P counts (c ∷ []) are (All-cons P c [] one (All-nil P))
-
-pub none_counted : AreCounted []
-none_counted = let P : RefusedCount → Type 0 = λ x. 1 ≤ x.count in All-nil P

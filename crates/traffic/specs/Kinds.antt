@@ -1,7 +1,6 @@
 -- What feedback a compound of RTCP packets holds, by its type and FMT (RFC 4585, section 6.1; RFC 5104, section 4.2).
-use Rattle.std.specs.Prelude.{ℕ, ◌+◌, ◌==◌, ◌&&◌, Bool, false, List, [], ◌∷◌, map, if◌then◌else◌}
-use Rattle.rtcp_compound.specs.Content.{Content, sender_report, receiver_report, description, goodbye, feedback, other, packet_content}
-use Rattle.rtcp_compound.specs.Grammar.{RtcpPacket}
+use Rattle.std.specs.Prelude.{ℕ, ◌+◌, ◌==◌, ◌&&◌, Bool, false, List, [], ◌∷◌, if◌then◌else◌}
+use Rattle.rtcp_compound.specs.Content.{Content, sender_report, receiver_report, description, goodbye, feedback, other}
 use Rattle.rtcp_compound.specs.declared.packet.TheConstants.{RTPFB, PSFB}
 use Rattle.traffic.specs.declared.kinds.Kinds.{Kinds}
 use Rattle.traffic.specs.Counts.{risen}

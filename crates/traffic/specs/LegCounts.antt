@@ -1,5 +1,5 @@
 -- What went out on a leg.
-use Rattle.std.specs.Prelude.{◌≡◌, ℕ, ◌+◌, ◌-◌, ◌%◌, nat_lt, Bool, true, Option, None, Some, if◌then◌else◌}
+use Rattle.std.specs.Prelude.{ℕ, ◌+◌, ◌-◌, ◌%◌, nat_lt, Bool, true, Option, None, Some, if◌then◌else◌}
 use Rattle.traffic.specs.Counts.{risen}
 use Rattle.traffic.specs.declared.leg_count.LegCount.{LegCount}
 

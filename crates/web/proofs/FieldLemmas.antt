@@ -1,5 +1,5 @@
 -- Header fields, one after another, and what is told by them.
-use Rattle.std.proofs.Common.{◌≡◌, ◌∙◌, ◌++◌, List, [], ◌∷◌, Option, Result, Ok, Err, ap, subst, append_assoc}
+use Rattle.std.proofs.Common.{◌≡◌, ◌∙◌, ◌++◌, List, Option, Result, Ok, Err, ap, subst, append_assoc}
 use Rattle.std.specs.Prelude.{OnOk}
 use Rattle.http1.specs.Fields.{Header}
 use Rattle.http_server.specs.declared.response.Response.{Response}

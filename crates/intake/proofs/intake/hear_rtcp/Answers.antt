@@ -1,4 +1,4 @@
-use Rattle.std.proofs.Common.{◌≤◌, arith}
+use Rattle.std.proofs.Common.{arith}
 use Rattle.rtcp_compound.specs.Left.{packets_left}
 use Rattle.intake.proofs.IntakeLemmas.{count_fits}
 use Rattle.intake.proofs.intake.hear_rtcp.Goals as goal

@@ -1,8 +1,7 @@
-use Rattle.std.proofs.Common.{◌≡◌, ◌≤◌, [], ◌∷◌, map, sym, subst, arith}
+use Rattle.std.proofs.Common.{[], ◌∷◌, map, sym, subst, arith}
 use Rattle.rtcp_feedback.specs.declared.feedback.Feedback.{Feedback}
 use Rattle.rtcp_feedback.specs.Reading.{entries_left, message_of, nacks_left}
 use Rattle.intake.specs.declared.intake.Ask.TheVariants.{Rate, Resend, Picture}
-use Rattle.intake.specs.declared.intake.Survey.{Survey}
 use Rattle.intake.specs.Heard.{IsSurveyOf}
 use Rattle.intake.specs.Intake.{gist_of}
 use Rattle.intake.proofs.intake.survey_feedback.Goals as goal

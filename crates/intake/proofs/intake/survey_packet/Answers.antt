@@ -1,4 +1,4 @@
-use Rattle.std.proofs.Common.{◌≡◌, [], ◌∷◌, Ok, refl, sym, subst}
+use Rattle.std.proofs.Common.{[], ◌∷◌, Ok, refl, sym, subst}
 use Rattle.rtcp_compound.specs.declared.view.RtcpView.{RtcpView}
 use Rattle.rtcp_compound.specs.Content.{content_of, sources_left}
 use Rattle.intake.specs.Intake.{Gist, PacketSays, empty_gist, sent_by}

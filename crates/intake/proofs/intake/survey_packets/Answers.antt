@@ -1,4 +1,4 @@
-use Rattle.std.proofs.Common.{◌≡◌, ◌+◌, ◌<◌, ◌≤◌, List, length, Result, Ok, Err, inl, refl, sym, ap, subst, arith}
+use Rattle.std.proofs.Common.{List, length, Result, Ok, Err, inl, refl, sym, ap, subst, arith}
 use Rattle.std.proofs.lemmas.Result.{err_from_is_err_and}
 use Rattle.rtcp_compound.specs.Content.{Content}
 use Rattle.rtcp_compound.specs.Left.{contents_left}

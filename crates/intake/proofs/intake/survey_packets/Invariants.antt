@@ -1,4 +1,4 @@
-use Rattle.std.proofs.Common.{◌≡◌, ◌+◌, ◌≤◌, ◌<◌, ◌^◌, length, Result}
+use Rattle.std.proofs.Common.{◌+◌, ◌<◌, ◌^◌, length, Result}
 use Rattle.rtcp_compound.specs.Left.{contents_left}
 use Rattle.rtcp_feedback.specs.declared.fault.FbFault.{FbFault}
 use Rattle.intake.specs.Heard.{IsSurveyOf}

@@ -1,4 +1,4 @@
-use Rattle.std.proofs.Common.{◌≡◌, ap, subst, sym, ◌∙◌}
+use Rattle.std.proofs.Common.{ap, subst, sym, ◌∙◌}
 use Rattle.std.specs.Prelude.{ℕ, Option, Some}
 use Rattle.desk.specs.declared.call.Call.{Call as DeskCall}
 use Rattle.events.specs.declared.job.Job.{Job}

@@ -1,4 +1,4 @@
-use Rattle.std.proofs.Common.{◌≡◌, ◌∙◌, ◌<◌, ◌^◌, ℕ, List, sym, ap, arith}
+use Rattle.std.proofs.Common.{◌∙◌, List, sym, ap}
 use Rattle.rtcp_compound.specs.Content.{Content}
 use Rattle.traffic.specs.Counts.{risen}
 use Rattle.traffic.specs.Kinds.{feedback_count}
