@@ -98,6 +98,8 @@ enum Cue {
     OfAnother,
     /// A receiver report of that source alone.
     ReportOfAnother,
+    /// The same after feedback that is a header alone, with no sender.
+    ReportAfterHeader,
 }
 
 /// A source of these datagrams.
@@ -138,6 +140,7 @@ impl Source for Listed<'_> {
             Cue::Packet(seq) => give(out, &packet(seq)),
             Cue::OfAnother => give(out, &OF_ANOTHER),
             Cue::ReportOfAnother => give(out, &[0x80, 0xc9, 0, 1, 0, 0, 0, 0x99]),
+            Cue::ReportAfterHeader => give(out, &AFTER_HEADER),
         })
     }
 }
@@ -234,6 +237,9 @@ const OF_ANOTHER: [u8; 48] = [
     0x80, 0xc9, 0, 1, 0, 0, 0, 0x99, 0x81, 0xce, 0, 2, 0, 0, 0, 0x99, 0, 0, 1, 1,
 ];
 
+/// A header of feedback with no words after it, and a receiver report of the source 0x99.
+const AFTER_HEADER: [u8; 12] = [0x81, 0xce, 0, 0, 0x80, 0xc9, 0, 1, 0, 0, 0, 0x99];
+
 /// Feedback of another source is given so, with rules about sources that are strict or not.
 fn gives_feedback(
     rt: &impl Abort,
@@ -241,7 +247,7 @@ fn gives_feedback(
     strict_ssrc: bool,
     wanted: &[&str],
 ) -> Result<(), Fail> {
-    let cues = [Cue::OfAnother, Cue::ReportOfAnother];
+    let cues = [Cue::OfAnother, Cue::ReportOfAnother, Cue::ReportAfterHeader];
     let far = Cell::new(0);
     let rules = Rules {
         strict_ssrc,
@@ -252,19 +258,21 @@ fn gives_feedback(
 }
 
 /// As they came.
-const AS_THEY_CAME: [&str; 2] = [
+const AS_THEY_CAME: [&str; 3] = [
     "80c8000600000099000000010000000200000003000000040000000580c900010000009981ce00020000009900000101",
     "80c9000100000099",
+    "81ce000080c9000100000099",
 ];
 
 /// The receiver reports and the PLI under source 16.
-const UNDER_16: [&str; 2] = [
+const UNDER_16: [&str; 3] = [
     "80c8000600000099000000010000000200000003000000040000000580c900010000001081ce00020000001000000101",
     "80c9000100000010",
+    "81ce000080c9000100000010",
 ];
 
 /// Feedback under a source that a client made up is the endpoint's, unless the rules are strict; what a sender report says is its own.
-/// So is a report of eight bytes that comes alone.
+/// So is a report of eight bytes that comes alone, or after a header that names no sender.
 #[test]
 fn feedback_under_another_source(rt: HostRuntime) -> Result<(), Fail> {
     gives_feedback(&rt, rt.alloc(), true, &AS_THEY_CAME)?;

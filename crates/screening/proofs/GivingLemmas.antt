@@ -1,5 +1,5 @@
 -- What is given on of a NACK's numbers and entries, and of a datagram's packets, one after the other.
-use Rattle.std.proofs.Common.{◌≡◌, ◌∙◌, ℕ, ◌+◌, ◌<◌, List, [], ◌∷◌, ◌++◌, length, take, drop, refl, sym, ap, subst, arith, append_assoc, append-nil}
+use Rattle.std.proofs.Common.{◌≡◌, ◌∙◌, ℕ, ◌<◌, List, [], ◌∷◌, ◌++◌, length, take, drop, refl, sym, ap, subst, arith, append_assoc, append-nil}
 use Rattle.senders.specs.Naming.{heard_size}
 use Rattle.screening.specs.Nacks.{GivesOn, Terms, books_given, ended, packet, packet_given}
 use Rattle.screening.specs.Resends.{Book}

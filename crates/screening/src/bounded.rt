@@ -101,6 +101,9 @@ impl Resends {
         ensures faulty { (fault : RtcpFault) → Refuses datagram.now fault
             → OnOk result ((out.new.items ≡ out.old.items ++ datagram.now)
             × (self.new.books.items ≡ self.old.books.items)) }
+        ensures others { (self.new.flows.items ≡ self.old.flows.items)
+            × (self.new.trips.items ≡ self.old.trips.items)
+            × (self.new.links ≡ self.old.links) × (self.new.bounds ≡ self.old.bounds) }
     {
         let known = Known {
             links: &self.links,

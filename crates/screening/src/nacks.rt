@@ -59,7 +59,7 @@ fn is_nack(packet: &[u8]) -> bool
 }
 
 /// How many bytes at the packet's end are padding.
-fn padding_len(packet: &[u8]) -> usize
+pub(crate) fn padding_len(packet: &[u8]) -> usize
     requires { 0 < length packet.now }
     ensures value { result ≡ padding_at packet.now }
     ensures byte { result < 256 }

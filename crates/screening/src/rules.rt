@@ -1,0 +1,45 @@
+//! What is looked at, and how resends are bounded.
+
+ghost use Rattle.std.specs.Prelude.{◌≡◌, false, true};
+
+use crate::resends::ResendBounds;
+
+/// What of a source is screened, and what is asked for again.
+#[derive(Clone, Copy, PartialEq, Eq)]
+pub struct Rules {
+    /// Whether a source that begins anew is noticed (RFC 3550, appendix A.1).
+    pub new_starts: bool,
+    /// Whether receiver reports and feedback of an endpoint are heard only under the endpoint's own source. If not, they are the
+    /// endpoint's whatever sender they name: some clients make one up.
+    pub strict_ssrc: bool,
+    /// How often and how many packets are sent again on a leg.
+    pub resends: ResendBounds,
+    /// How many datagrams of one endpoint are heard in a millisecond; 0 for any number.
+    pub flood_limit: u32,
+    /// How many milliseconds there are between two repeats of what a publisher is asked for; 0 for none. A screen repeats nothing.
+    pub repeat_ms: u64,
+}
+
+impl Rules {
+    /// All is given as it comes.
+    pub fn none() -> Rules
+        ensures { result ≡ record {
+          new_starts = false;
+          strict_ssrc = true;
+          resends = record { gap_ms = 0; share = 0 };
+          flood_limit = 0;
+          repeat_ms = 0;
+        } }
+    {
+        Rules {
+            new_starts: false,
+            strict_ssrc: true,
+            resends: ResendBounds {
+                gap_ms: 0,
+                share: 0,
+            },
+            flood_limit: 0,
+            repeat_ms: 0,
+        }
+    }
+}
