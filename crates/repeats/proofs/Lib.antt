@@ -1,4 +1,5 @@
 pub mod HeldLemmas
 pub mod HoldingLemmas
+pub mod KeeperLemmas
 pub mod RequestLemmas
 pub mod SetLemmas

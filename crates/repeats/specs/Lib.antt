@@ -2,6 +2,7 @@ pub mod Again
 pub mod Comings
 pub mod Held
 pub mod Holding
+pub mod Keeper
 pub mod Presence
 pub mod Requests
 pub mod Sets

@@ -56,7 +56,7 @@ impl Coming {
 }
 
 impl Comings {
-    ghost use Rattle.std.specs.Prelude.{◌≡◌, [], None, map, IfOk, OnOk};
+    ghost use Rattle.std.specs.Prelude.{◌≡◌, [], None, map, IfOk, OnOk, OnErr};
     ghost use Rattle.repeats.specs.Comings.{first_due, looked_from, noted_in, with_comer, without};
 
     /// None of so many endpoints came.
@@ -73,6 +73,7 @@ impl Comings {
     /// A publisher comes in the turn that begins.
     pub(crate) fn add(&mut self, publisher: u16) -> Result<(), AllocError>
         ensures ok { OnOk result (self.new.list.items ≡ with_comer publisher self.old.list.items) }
+        ensures err { OnErr result (self.new.list.items ≡ without publisher self.old.list.items) }
         ensures wait { self.new.wait_ms ≡ self.old.wait_ms }
     {
         self.end(publisher);

@@ -1,10 +1,12 @@
-//! What is so of every list of happenings. These functions do nothing: their contracts are the laws.
+//! What is so of every list of happenings, and while nobody comes. These functions do nothing: their contracts are the laws.
 
-ghost use Rattle.std.specs.Prelude.{◌≡◌, ℕ, List, Some, true, slice_get};
+ghost use Rattle.std.specs.Prelude.{◌≡◌, ℕ, List, [], Option, None, Some, true, slice_get};
 ghost use Rattle.rtcp_feedback.specs.declared.tmmb.TmmbrEntry.{TmmbrEntry};
 ghost use Rattle.settings.specs.declared.settings.LegSettings.{LegSettings};
+ghost use Rattle.repeats.specs.Keeper.{HearsAgain};
 ghost use Rattle.repeats.specs.Requests.{Happening, HoldsLast};
 ghost use Rattle.repeats.specs.Sets.{IsUntold, SetHappening, asks_again, set_after};
+ghost use Rattle.repeats.specs.declared.keeper.Keeper.{Keeper};
 
 /// What is held for a leg is what its subscriber asked for last on it since it left last, whatever else was asked for and whoever else left.
 #[tactic(auto, using(crate::proofs::RequestLemmas::holds_last))]
@@ -18,4 +20,11 @@ pub fn holds_what_was_asked_last()
 pub fn asks_for_what_was_not_told()
     ensures { (happenings : List SetHappening) (set : List TmmbrEntry)
         → asks_again (set_after happenings) set ≡ true → IsUntold happenings set }
+{}
+
+/// While nobody who came waits, nothing is heard once more: the source is asked.
+#[tactic(auto, using(crate::proofs::KeeperLemmas::hears_of_nobody))]
+pub fn nothing_is_heard_of_nobody()
+    ensures { (h k : Keeper) (again : Option (ℕ × List ℕ))
+        → h.comings.list.items ≡ [] → HearsAgain h k again → again ≡ None }
 {}

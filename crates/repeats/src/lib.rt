@@ -2,7 +2,7 @@
 //! (RFC 5104, section 4.2.1), and announced sets that it doesn't notify of (RFC 5104, section 4.2.2).
 //!
 //! Read `presence` first, when each endpoint was heard last, then `requests`, what is held for each leg. `held` is what of a datagram is given
-//! on; `again` is what is heard once more as a publisher comes, `comings` when; `holding` joins these round a source. `sets` is by itself: which announced
+//! on; `again` is what is heard once more as a publisher comes, `comings` when; `keeper` joins these for a datagram, and `holding` round a source. `sets` is by itself: which announced
 //! set is asked for again, and `told` what a publisher notified of. What is so of every list of happenings stands in `laws`.
 #![tactic(auto)]
 
@@ -11,6 +11,7 @@ mod comings;
 mod entries;
 mod held;
 mod holding;
+mod keeper;
 pub mod laws;
 mod presence;
 mod requests;

@@ -1,7 +1,7 @@
 use Rattle.std.proofs.Common.{◌≡◌, drop}
 use Rattle.std.specs.Prelude.{fold}
 use Rattle.repeats.specs.Requests.{ask_in}
-use Rattle.repeats.proofs.holding.hold_all.Given as goal
+use Rattle.repeats.proofs.keeper.hold_all.Given as goal
 
 abbrev pub invariant-loop-ask : goal.invariant-loop-ask
 invariant-loop-ask l =
