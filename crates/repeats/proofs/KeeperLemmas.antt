@@ -1,5 +1,5 @@
 -- What a datagram says of who sent it, and what is known then.
-use Rattle.std.proofs.Common.{◌≡◌, ◌∙◌, ℕ, ◌+◌, inl, inr, List, [], Option, None, Some, IfSome, Ok, Err, Result, map, take, refl, sym, ap, subst}
+use Rattle.std.proofs.Common.{◌≡◌, ◌∙◌, ℕ, ◌+◌, inl, inr, List, [], Option, None, Some, Ok, Err, Result, map, refl, sym, ap, subst}
 use Rattle.std.specs.Prelude.{slice_get}
 use Rattle.settings.specs.Links.{legs_of}
 use Rattle.intake.specs.Heard.{Hears}
@@ -9,9 +9,8 @@ use Rattle.intake.specs.declared.intake.Unheard.{Unheard}
 use Rattle.intake.specs.declared.intake.Unheard.TheVariants.{NoMemory, Refused}
 use Rattle.repeats.specs.Again.{next_held}
 use Rattle.repeats.specs.Comings.{first_due, looked_from, noted_in}
-use Rattle.repeats.specs.Keeper.{HearsAgain, HearsComing, HearsNext, IsHeardOf, IsHeldAgain, SaysWord, Stays, again_in, hold_terms, noted_by, word_in}
+use Rattle.repeats.specs.Keeper.{HearsAgain, HearsComing, HearsNext, SaysWord, Stays, asked_again, hold_terms, next_heard, noted_by, with_room, word_in}
 use Rattle.repeats.specs.declared.comings.Coming.{Coming}
-use Rattle.repeats.specs.declared.comings.Comings.{Comings}
 use Rattle.repeats.specs.declared.keeper.Keeper.{Keeper}
 use Rattle.repeats.specs.declared.keeper.Word.{Word}
 use Rattle.repeats.specs.declared.keeper.Word.TheVariants.{Nothing}
@@ -35,49 +34,29 @@ unheard_word own datagram before asks u none h = unheard_alone own datagram asks
 
 -- ---- what is heard once more
 
--- it doesn't matter who came
-held_beside : (h : Keeper) (comings : Comings) (moment number : ℕ) (heard : ℕ × List ℕ) → IsHeldAgain (record h { comings = comings }) moment number heard
-    → IsHeldAgain h moment number heard
-held_beside h comings moment number heard x = record {
-  request = x.request;
-  held = x.held;
-  leg = x.leg;
-  known = x.known;
-  own = x.own;
-  source = x.source;
-  from = x.from;
-  bytes = x.bytes;
-}
-
-pub heard_of : (h : Keeper) (comings : Comings) (moment number : ℕ) (out : List ℕ) (found : Option (ℕ × ℕ))
-    → IfSome found (λ heard. IsHeldAgain (record h { comings = comings }) moment number (heard.0, take heard.1 out))
-    → IsHeardOf h moment (Some number) (again_in out found)
-heard_of h comings moment number out None is = tt
-heard_of h comings moment number out (Some heard) is = held_beside h comings moment number (heard.0, take heard.1 out) is
-
-pub heard_next : (h k : Keeper) (moment : ℕ) (c : Coming) (place number : ℕ) (again : Option (ℕ × List ℕ))
+pub heard_next : (h k : Keeper) (moment room : ℕ) (c : Coming) (place number : ℕ) (again : Option (ℕ × List ℕ))
     → first_due h.comings.wait_ms moment (noted_by h moment) ≡ Some c
     → next_held (hold_terms h moment) c.from 0 (legs_of h.links c.publisher) ≡ Some place
-    → slice_get (legs_of h.links c.publisher) place ≡ Some number → IsHeardOf h moment (Some number) again
+    → slice_get (legs_of h.links c.publisher) place ≡ Some number → again ≡ with_room room (asked_again h moment number)
     → k.comings.list.items ≡ map (looked_from c.publisher (place + 1)) (noted_by h moment)
-    → Stays h k → k.presence ≡ h.presence → k.requests ≡ h.requests → HearsAgain h k again
-heard_next h k moment c place number again due next leg heard list stays presence requests =
+    → Stays h k → k.presence ≡ h.presence → k.requests ≡ h.requests → HearsAgain h k room again
+heard_next h k moment room c place number again due next leg heard list stays presence requests =
     let noted = noted_by h moment in
-    let of_leg : IsHeardOf h moment (slice_get (legs_of h.links c.publisher) place) again =
-    subst (λ (o : Option ℕ). IsHeardOf h moment o again) (sym leg) heard in
-    let of_place : HearsNext (next_held (hold_terms h moment) c.from 0 (legs_of h.links c.publisher)) h k moment c noted again =
-    subst (λ (o : Option ℕ). HearsNext o h k moment c noted again) (sym next) (of_leg, list) in
+    let of_leg : again ≡ next_heard h moment room (slice_get (legs_of h.links c.publisher) place) =
+    heard ∙ ap (next_heard h moment room) (sym leg) in
+    let of_place : HearsNext (next_held (hold_terms h moment) c.from 0 (legs_of h.links c.publisher)) h k moment room c noted again =
+    subst (λ (o : Option ℕ). HearsNext o h k moment room c noted again) (sym next) (of_leg, list) in
     record {
       stays = stays;
       presence = presence;
       requests = requests;
       moment = moment;
-      hears = subst (λ (o : Option Coming). HearsComing o h k moment noted again) (sym due) of_place;
+      hears = subst (λ (o : Option Coming). HearsComing o h k moment room noted again) (sym due) of_place;
     }
 
 -- nobody who came waits
-pub hears_of_nobody : (h k : Keeper) (again : Option (ℕ × List ℕ)) → h.comings.list.items ≡ [] → HearsAgain h k again → again ≡ None
-hears_of_nobody h k again nobody hears =
+pub hears_of_nobody : (h k : Keeper) (room : ℕ) (again : Option (ℕ × List ℕ)) → h.comings.list.items ≡ [] → HearsAgain h k room again → again ≡ None
+hears_of_nobody h k room again nobody hears =
     let P : List Coming → Type 0 =
-    λ cs. HearsComing (first_due h.comings.wait_ms hears.moment (map (noted_in hears.moment) cs)) h k hears.moment (map (noted_in hears.moment) cs) again in
+    λ cs. HearsComing (first_due h.comings.wait_ms hears.moment (map (noted_in hears.moment) cs)) h k hears.moment room (map (noted_in hears.moment) cs) again in
     (subst P nobody hears.hears).0

@@ -20,10 +20,10 @@ pub record HoldsNothing (c : Configuration) (tick_ms : ℕ) (h : Keeper) : Type 
 -- ---- if anything is held
 
 -- what is to be heard once more
-abbrev pub LooksAgain : Option Keeper → Option Keeper → Option (ℕ × List ℕ) → Type 0
-LooksAgain None after again = (after ≡ None) × (again ≡ None)
-LooksAgain (Some h) None again = ⊥
-LooksAgain (Some h) (Some k) again = HearsAgain h k again
+abbrev pub LooksAgain : Option Keeper → Option Keeper → ℕ → Option (ℕ × List ℕ) → Type 0
+LooksAgain None after room again = (after ≡ None) × (again ≡ None)
+LooksAgain (Some h) None room again = ⊥
+LooksAgain (Some h) (Some k) room again = HearsAgain h k room again
 
 -- what of a datagram of an endpoint is given on; if nothing is held, all
 abbrev pub HearsIf : Option Keeper → Option Keeper → ℕ → List ℕ → List ℕ → Type 0
@@ -63,8 +63,8 @@ GivesFirst (Some again) old new before after given =
     (given ≡ came again.0 again.1) × (after ≡ before) × (new ≡ old)
 
 -- What is to be heard once more is looked for, and given.
-pub record GivesHeld (old new : Option (List Arrival)) (before after : Option Keeper) (given : Arrival) : Type 0 where
+pub record GivesHeld (old new : Option (List Arrival)) (before after : Option Keeper) (room : ℕ) (given : Arrival) : Type 0 where
   pub mid : Option Keeper
   pub again : Option (ℕ × List ℕ)
-  pub looked : LooksAgain before mid again
+  pub looked : LooksAgain before mid room again
   pub gives : GivesFirst again old new mid after given

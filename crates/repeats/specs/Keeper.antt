@@ -1,5 +1,5 @@
 -- What is known after a datagram, what of it is given on, and what is heard once more (RFC 5104, section 4.2.1).
-use Rattle.std.specs.Prelude.{◌≡◌, ◌⊎◌, ◌==◌, ◌&&◌, ◌<◌, not, nat_lt, ℕ, ◌+◌, Bool, true, false, List, [], ◌∷◌, length, map, fold, take, Option, None, Some, Result, Ok, Err, slice_get, if◌then◌else◌}
+use Rattle.std.specs.Prelude.{nat_le, ◌≡◌, ◌⊎◌, ◌==◌, ◌&&◌, ◌<◌, not, nat_lt, ℕ, ◌+◌, Bool, true, false, List, [], ◌∷◌, length, map, fold, take, Option, None, Some, Result, Ok, Err, slice_get, if◌then◌else◌}
 use Rattle.tmmbr_tuple.specs.declared.ssrc.Ssrc.{Ssrc}
 use Rattle.rtcp_feedback.specs.Writing.{packet_bytes, tmmb_body}
 use Rattle.settings.specs.Links.{legs_of}
@@ -149,48 +149,59 @@ hold_terms h moment = record {
   moment = moment;
 }
 
--- A TMMBR of the subscriber of this leg, for the word that is held for it.
-pub record IsHeldAgain (h : Keeper) (moment number : ℕ) (heard : ℕ × List ℕ) : Type 0 where
-  pub request : HeldRequest
-  pub held : still_held (hold_terms h moment) number ≡ Some request
-  pub leg : LegSettings
-  pub known : slice_get h.links.legs number ≡ Some leg
-  pub own : Ssrc
-  pub source : slice_get h.links.endpoints leg.subscriber ≡ Some own
-  pub from : heard.0 ≡ leg.subscriber
-  pub bytes : heard.1
-      ≡ packet_bytes 3 205 (tmmb_body own.0 (record { ssrc = leg.out_ssrc; word = request.word } ∷ []))
+abbrev pub asked_by_source : LegSettings → HeldRequest → Option Ssrc → Option (ℕ × List ℕ)
+asked_by_source leg request None = None
+asked_by_source leg request (Some own) = Some (
+  leg.subscriber,
+  packet_bytes 3 205 (tmmb_body own.0 (record { ssrc = leg.out_ssrc; word = request.word } ∷ [])),
+)
 
--- it is heard, unless memory or room was wanting
-abbrev pub IsHeardOf : Keeper → ℕ → Option ℕ → Option (ℕ × List ℕ) → Type 0
-IsHeardOf h moment number None = Unit {0}
-IsHeardOf h moment None (Some heard) = ⊥
-IsHeardOf h moment (Some number) (Some heard) = IsHeldAgain h moment number heard
+abbrev pub asked_on_leg : Keeper → HeldRequest → Option LegSettings → Option (ℕ × List ℕ)
+asked_on_leg h request None = None
+asked_on_leg h request (Some leg) =
+    asked_by_source leg request (slice_get h.links.endpoints leg.subscriber)
+
+abbrev pub asked_for : Keeper → ℕ → Option HeldRequest → Option (ℕ × List ℕ)
+asked_for h number None = None
+asked_for h number (Some request) = asked_on_leg h request (slice_get h.links.legs number)
+
+-- of the leg with this number a TMMBR of its subscriber, for the word that is held for it
+abbrev pub asked_again : Keeper → ℕ → ℕ → Option (ℕ × List ℕ)
+asked_again h moment number = asked_for h number (still_held (hold_terms h moment) number)
+
+-- it is heard if there is room
+abbrev pub with_room : ℕ → Option (ℕ × List ℕ) → Option (ℕ × List ℕ)
+with_room room None = None
+with_room room (Some heard) = if nat_le (length heard.1) room then Some heard else None
+
+abbrev pub next_heard : Keeper → ℕ → ℕ → Option ℕ → Option (ℕ × List ℕ)
+next_heard h moment room None = None
+next_heard h moment room (Some number) = with_room room (asked_again h moment number)
 
 -- Of these legs that at the place found is next, and the publisher's are looked at from the one after it on; if none is found, it is done with.
-abbrev pub HearsNext : Option ℕ → Keeper → Keeper → ℕ → Coming → List Coming → Option (ℕ × List ℕ) → Type 0
-HearsNext None h k moment c noted again =
+abbrev pub HearsNext : Option ℕ → Keeper → Keeper → ℕ → ℕ → Coming → List Coming → Option (ℕ × List ℕ) → Type 0
+HearsNext None h k moment room c noted again =
     (again ≡ None) × (k.comings.list.items ≡ without c.publisher noted)
-HearsNext (Some place) h k moment c noted again =
-    IsHeardOf h moment (slice_get (legs_of h.links c.publisher) place) again
+HearsNext (Some place) h k moment room c noted again =
+    (again ≡ next_heard h moment room (slice_get (legs_of h.links c.publisher) place))
     × (k.comings.list.items ≡ map (looked_from c.publisher (place + 1)) noted)
 
 -- of the first publisher who came and has waited long enough
-abbrev pub HearsComing : Option Coming → Keeper → Keeper → ℕ → List Coming → Option (ℕ × List ℕ) → Type 0
-HearsComing None h k moment noted again = (again ≡ None) × (k.comings.list.items ≡ noted)
-HearsComing (Some c) h k moment noted again =
-    HearsNext (next_held (hold_terms h moment) c.from 0 (legs_of h.links c.publisher)) h k moment c noted again
+abbrev pub HearsComing : Option Coming → Keeper → Keeper → ℕ → ℕ → List Coming → Option (ℕ × List ℕ) → Type 0
+HearsComing None h k moment room noted again = (again ≡ None) × (k.comings.list.items ≡ noted)
+HearsComing (Some c) h k moment room noted again =
+    HearsNext (next_held (hold_terms h moment) c.from 0 (legs_of h.links c.publisher)) h k moment room c noted again
 
 abbrev pub noted_by : Keeper → ℕ → List Coming
 noted_by h moment = map (noted_in moment) h.comings.list.items
 
--- What is heard once more, at some moment, if anything is.
-pub record HearsAgain (h k : Keeper) (again : Option (ℕ × List ℕ)) : Type 0 where
+-- What is heard once more, at some moment and into so many bytes, if anything is.
+pub record HearsAgain (h k : Keeper) (room : ℕ) (again : Option (ℕ × List ℕ)) : Type 0 where
   pub stays : Stays h k
   pub presence : k.presence ≡ h.presence
   pub requests : k.requests ≡ h.requests
   pub moment : ℕ
-  pub hears : HearsComing (first_due h.comings.wait_ms moment (noted_by h moment)) h k moment
+  pub hears : HearsComing (first_due h.comings.wait_ms moment (noted_by h moment)) h k moment room
       (noted_by h moment) again
 
 -- what stands at the front of the buffer, and of whom

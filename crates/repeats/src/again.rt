@@ -1,14 +1,18 @@
 //! What is heard once more as a publisher comes.
 
-ghost use Rattle.std.specs.Prelude.{◌≡◌, ◌&&◌, ◌∷◌, [], OnOk, IfSome, ◌<◌, length, is_some, nat_le};
+ghost use Rattle.std.specs.Prelude.{◌≡◌, ◌&&◌, ◌∷◌, [], IfSome, ◌<◌, length, is_some, nat_le};
 ghost use Rattle.rtcp_feedback.specs.Writing.{packet_bytes, tmmb_body};
 ghost use Rattle.repeats.specs.Again.{held_in, is_young, next_held, still_held, terms};
 
 use crate::presence::Presence;
 use crate::requests::{HeldRequest, LegRequest, Requests};
-use rtcp_feedback::{TmmbrEntry, write_tmmbr};
-use std::alloc::AllocError;
+use byteorder::{BigEndian, ByteOrder};
+use rtcp_compound::{RTPFB, SOURCE_BYTES, WORD_BYTES};
+use rtcp_feedback::{ENTRY_BYTES, FRONT_BYTES};
 use tmmbr_tuple::Ssrc;
+
+/// How many bytes a TMMBR with one entry has (RFC 5104, section 4.2.1.1).
+pub(crate) const REQUEST_BYTES: usize = FRONT_BYTES + ENTRY_BYTES;
 
 /// What is held by now, and who is there.
 #[derive(Clone, Copy)]
@@ -74,17 +78,17 @@ fn has_turn(holdings: Holdings<'_>, leg: u16, place: usize, from: usize) -> bool
     from <= place && held_on(holdings, leg).is_some()
 }
 
-/// Writes the TMMBR by which the subscriber with this source asks the publisher of the leg with that source for this word
+/// The TMMBR by which the subscriber with this source asks the publisher of the leg with that source for this word
 /// (RFC 5104, section 4.2.1).
-pub(crate) fn write_again(
-    out: &mut Vec<u8>,
-    subscriber: Ssrc,
-    leg: Ssrc,
-    word: u32,
-) -> Result<(), AllocError>
-    ensures { OnOk result (out.new.items
-        ≡ packet_bytes 3 205 (tmmb_body subscriber.0 (record { ssrc = leg; word = word } ∷ []))) }
+pub(crate) fn request_again(subscriber: Ssrc, leg: Ssrc, word: u32) -> [u8; REQUEST_BYTES]
+    ensures { result
+        ≡ packet_bytes 3 205 (tmmb_body subscriber.0 (record { ssrc = leg; word = word } ∷ [])) }
 {
-    out.clear();
-    write_tmmbr(out, subscriber, &[TmmbrEntry { ssrc: leg, word }])
+    let mut request = [
+        0x83, RTPFB, 0, 4, 0, 0, 0, 0, 0, 0, 0, 0, 0, 0, 0, 0, 0, 0, 0, 0,
+    ];
+    BigEndian::write_u32(&mut request[WORD_BYTES..], subscriber.0);
+    BigEndian::write_u32(&mut request[FRONT_BYTES..], leg.0);
+    BigEndian::write_u32(&mut request[FRONT_BYTES + SOURCE_BYTES..], word);
+    request
 }

@@ -64,7 +64,7 @@ impl<S: Source + Drop> Source for Holding<'_, S> {
         ensures ok { OnOk result (S.failures self.new.source ≡ S.failures self.old.source) }
         ensures err { OnErr result (S.failures self.new.source ≡ S.failures self.old.source + 1) }
         ensures gives { GivesHeld (S.given self.old.source) (S.given self.new.source) self.old.held
-            self.new.held (arrival_of out.new result) }
+            self.new.held (length out.old) (arrival_of out.new result) }
         ensures off { self.old.held ≡ None → Grows (S.given self.old.source)
             (arrival_of out.new result ∷ []) (S.given self.new.source) }
     {
@@ -85,7 +85,7 @@ impl<S: Source + Drop> Source for Holding<'_, S> {
 
 /// What is to be heard once more, if anything is held.
 fn heard_again(held: &mut Option<Keeper<'_>>, out: &mut [u8]) -> Option<(u16, usize)>
-    ensures looks { LooksAgain held.old held.new (again_in out.new result) }
+    ensures looks { LooksAgain held.old held.new (length out.old) (again_in out.new result) }
     ensures within { IfSome result (λ heard. heard.1 ≤ length out.new) }
 {
     match held {

@@ -5,11 +5,11 @@ ghost use Rattle.settings.specs.Links.{legs_of};
 ghost use Rattle.repeats.specs.Again.{next_held, terms};
 ghost use Rattle.repeats.specs.Held.{GivesDatagram};
 ghost use Rattle.repeats.specs.Holding.{HoldsNothing};
-ghost use Rattle.repeats.specs.Keeper.{ComesIf, HasLeft, HearsAgain, HearsDatagram, IsAsItWas, IsHeldAgain, NotesWord, SaysWord, Stays, again_in, hold_terms, knows, requests_as_comes, word_in};
+ghost use Rattle.repeats.specs.Keeper.{ComesIf, HasLeft, HearsAgain, HearsDatagram, IsAsItWas, NotesWord, SaysWord, Stays, again_in, asked_again, hold_terms, knows, requests_as_comes, with_room, word_in};
 ghost use Rattle.repeats.specs.Presence.{comes, with_heard};
 ghost use Rattle.repeats.specs.Requests.{ask_in, asked_by};
 
-use crate::again::{Holdings, held_on, next_held, write_again};
+use crate::again::{Holdings, REQUEST_BYTES, held_on, next_held, request_again};
 use crate::comings::{Coming, Comings, wait_by};
 use crate::held::{Known, give_on};
 use crate::presence::Presence;
@@ -38,7 +38,7 @@ pub(crate) struct Keeper<'a> {
     comings: Comings,
     /// What the datagram asks for that is looked at.
     asks: Vec<Ask>,
-    /// What is given on of it, and what is heard once more.
+    /// What is given on of it.
     given: Vec<u8>,
 }
 
@@ -232,7 +232,7 @@ impl<'a> Keeper<'a> {
 
     /// What is to be heard once more before anything that comes: its endpoint, and how many bytes of `out` it has.
     pub(crate) fn heard_again(&mut self, out: &mut [u8]) -> Option<(u16, usize)>
-        ensures again { HearsAgain self.old self.new (again_in out.new result) }
+        ensures again { HearsAgain self.old self.new (length out.old) (again_in out.new result) }
         ensures within { IfSome result (λ heard. heard.1 ≤ length out.new) }
         ensures nobody { self.old.comings.list.items ≡ [] → result ≡ None }
     {
@@ -276,24 +276,28 @@ impl<'a> Keeper<'a> {
         }
     }
 
-    /// Writes what is held for the leg with this number to the front of `out`: of whom it is heard, and how many bytes it has. `None` if memory
-    /// or room is wanting.
-    fn write_held(&mut self, number: u16, moment: u64, out: &mut [u8]) -> Option<(u16, usize)>
-        ensures held { IfSome result
-            (λ heard. IsHeldAgain self.old moment number (heard.0, take heard.1 out.new)) }
+    /// Writes what is held for the leg with this number to the front of `out`: of whom it is heard, and how many bytes it has. `None` if there is
+    /// no room.
+    fn write_held(&self, number: u16, moment: u64, out: &mut [u8]) -> Option<(u16, usize)>
+        ensures held { again_in out.new result
+            ≡ with_room (length out.old) (asked_again self.now moment number) }
         ensures within { IfSome result (λ heard. heard.1 ≤ length out.new) }
-        ensures same { IsAsItWas self.old self.new }
-        ensures stays { Stays self.old self.new }
+    {
+        let (subscriber, request) = self.asked_again(number, moment)?;
+        let size = written(&request, out)?;
+        tell_asked(self.sets, &self.links, number);
+        Some((subscriber, size))
+    }
+
+    /// What is held for the leg with this number, as its subscriber asks for it, and who that is.
+    fn asked_again(&self, number: u16, moment: u64) -> Option<(u16, [u8; REQUEST_BYTES])>
+        ensures { result ≡ asked_again self.now moment number }
     {
         let request = held_on(self.holdings(moment), number)?;
         let leg = self.links.leg(number).copied()?;
         let subscriber = self.links.ssrc_of(leg.subscriber)?;
-        let Ok(_) = write_again(&mut self.given, subscriber, leg.out_ssrc, request.word) else {
-            return None;
-        };
-        tell_asked(self.sets, &self.links, number);
-        let size = written(self.given.as_slice(), out)?;
-        Some((leg.subscriber, size))
+        let bytes = request_again(subscriber, leg.out_ssrc, request.word);
+        Some((leg.subscriber, bytes))
     }
 }
 
@@ -387,7 +391,7 @@ fn tell_asked(sets: &RefCell<Sets>, links: &Links, leg: u16) {
 fn written(bytes: &[u8], out: &mut [u8]) -> Option<usize>
     ensures written { IfSome result
         (λ size. (size ≡ length bytes.now) × (take size out.new ≡ bytes.now)) }
-    ensures none { result ≡ None → out.new ≡ out.old }
+    ensures none { result ≡ None → (out.new ≡ out.old) × (length out.old < length bytes.now) }
     ensures within { IfSome result (λ size. size ≤ length out.new) }
 {
     if out.len() < bytes.len() {

@@ -25,6 +25,6 @@ pub fn asks_for_what_was_not_told()
 /// While nobody who came waits, nothing is heard once more: the source is asked.
 #[tactic(auto, using(crate::proofs::KeeperLemmas::hears_of_nobody))]
 pub fn nothing_is_heard_of_nobody()
-    ensures { (h k : Keeper) (again : Option (ℕ × List ℕ))
-        → h.comings.list.items ≡ [] → HearsAgain h k again → again ≡ None }
+    ensures { (h k : Keeper) (room : ℕ) (again : Option (ℕ × List ℕ))
+        → h.comings.list.items ≡ [] → HearsAgain h k room again → again ≡ None }
 {}
