@@ -4,15 +4,13 @@ ghost use Rattle.std.specs.Prelude.{◌≡◌, ◌&&◌, ◌∷◌, [], IfSome, 
 ghost use Rattle.rtcp_feedback.specs.Writing.{packet_bytes, tmmb_body};
 ghost use Rattle.repeats.specs.Again.{held_in, is_young, next_held, still_held, terms};
 
+use crate::entries::{REQUEST_BYTES, TMMBR};
 use crate::presence::Presence;
 use crate::requests::{HeldRequest, LegRequest, Requests};
 use byteorder::{BigEndian, ByteOrder};
 use rtcp_compound::{RTPFB, SOURCE_BYTES, WORD_BYTES};
-use rtcp_feedback::{ENTRY_BYTES, FRONT_BYTES};
+use rtcp_feedback::FRONT_BYTES;
 use tmmbr_tuple::Ssrc;
-
-/// How many bytes a TMMBR with one entry has (RFC 5104, section 4.2.1.1).
-pub(crate) const REQUEST_BYTES: usize = FRONT_BYTES + ENTRY_BYTES;
 
 /// What is held by now, and who is there.
 #[derive(Clone, Copy)]
@@ -85,7 +83,7 @@ pub(crate) fn request_again(subscriber: Ssrc, leg: Ssrc, word: u32) -> [u8; REQU
         ≡ packet_bytes 3 205 (tmmb_body subscriber.0 (record { ssrc = leg; word = word } ∷ [])) }
 {
     let mut request = [
-        0x83, RTPFB, 0, 4, 0, 0, 0, 0, 0, 0, 0, 0, 0, 0, 0, 0, 0, 0, 0, 0,
+        TMMBR, RTPFB, 0, 4, 0, 0, 0, 0, 0, 0, 0, 0, 0, 0, 0, 0, 0, 0, 0, 0,
     ];
     BigEndian::write_u32(&mut request[WORD_BYTES..], subscriber.0);
     BigEndian::write_u32(&mut request[FRONT_BYTES..], leg.0);

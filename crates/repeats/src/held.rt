@@ -5,17 +5,14 @@ ghost use Rattle.std.specs.List.{list_all};
 ghost use Rattle.rtcp_feedback.specs.Reading.{entries_in};
 ghost use Rattle.repeats.specs.Held.{GivesDatagram, GivesRest, is_left_out, is_moot, is_moot_leg, is_request, knowing, packet_given};
 
-use crate::entries::first_entry;
+use crate::entries::{REQUEST_BYTES, TMMBR, first_entry};
 use crate::presence::Presence;
 use rtcp_compound::RTPFB;
-use rtcp_feedback::{ENTRY_BYTES, FRONT_BYTES, TmmbrEntry};
+use rtcp_feedback::{FRONT_BYTES, TmmbrEntry};
 use senders::{empty_report, first_size};
 use settings::{LegSettings, Links};
 use std::alloc::AllocError;
 use tmmbr_tuple::Ssrc;
-
-/// The first byte of a TMMBR without padding: the version 2 and the FMT 3 (RFC 5104, section 4.2.1.1).
-const TMMBR: u8 = 0x83;
 
 /// Who sent a datagram, and what is known as it comes.
 #[derive(Clone, Copy)]
@@ -83,7 +80,7 @@ fn is_left_out(known: Known<'_>, packet: &[u8]) -> bool
 fn is_request(packet: &[u8]) -> bool
     ensures value { result ≡ is_request packet.now }
 {
-    packet.len() >= FRONT_BYTES + ENTRY_BYTES && packet[0] == TMMBR && packet[1] == RTPFB
+    packet.len() >= REQUEST_BYTES && packet[0] == TMMBR && packet[1] == RTPFB
 }
 
 /// Whether each of the entries that these bytes are asks a publisher that surely isn't there.

@@ -9,8 +9,9 @@ ghost use Rattle.repeats.specs.Keeper.{ComesIf, HasLeft, HearsAgain, HearsDatagr
 ghost use Rattle.repeats.specs.Presence.{comes, with_heard};
 ghost use Rattle.repeats.specs.Requests.{ask_in, asked_by};
 
-use crate::again::{Holdings, REQUEST_BYTES, held_on, next_held, request_again};
+use crate::again::{Holdings, held_on, next_held, request_again};
 use crate::comings::{Coming, Comings, wait_by};
+use crate::entries::REQUEST_BYTES;
 use crate::held::{Known, give_on};
 use crate::presence::Presence;
 use crate::requests::{HeldRequest, Requests};
