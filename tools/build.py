@@ -230,12 +230,16 @@ class Crate:
         self.lock = None
 
 
-def crates_for(name):
-    """Returns the libraries to prove for a crate, each after those that it stands on, and the program, if the crate is one."""
+def every_crate():
+    """Returns all crates of crates.txt, by name."""
     with open(f"{TOP}/crates.txt", encoding="utf-8") as it:
         lines = [line.partition("#")[0].strip() for line in it]
-    found = {crate.name: crate for crate in map(Crate, filter(None, lines))}
-    order = []
+    return {crate.name: crate for crate in map(Crate, filter(None, lines))}
+
+
+def crates_for(name):
+    """Returns the libraries to prove for a crate, each after those that it stands on, and the program, if the crate is one."""
+    found, order = every_crate(), []
 
     def visit(crate):
         if crate in order:
