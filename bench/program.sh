@@ -11,15 +11,19 @@
 here=$(cd "$(dirname "$0")" && pwd)
 top=$(cd "$here/../.." && pwd)
 
-# The crates of this repository that DEP.. are or use, lowest first, as crates.txt has them.
+# The crates of this repository that DEP.. are or use, in the order of crates.txt.
 needed() {
     awk -F': *' -v deps="$*" '
         /^[a-z_]+:/ { crate[++n] = $1; uses[n] = $2 }
         END {
             for (i = split(deps, dep, " "); i > 0; i--) want[dep[i]]
-            for (k = n; k > 0; k--)
-                if (crate[k] in want)
-                    for (i = split(uses[k], dep, " "); i > 0; i--) want[dep[i]]
+            do {
+                more = 0
+                for (k = n; k > 0; k--)
+                    if (crate[k] in want)
+                        for (i = split(uses[k], dep, " "); i > 0; i--)
+                            if (!(dep[i] in want)) { want[dep[i]]; more = 1 }
+            } while (more)
             for (k = 1; k <= n; k++) if (crate[k] in want) print crate[k]
         }' "$top/crates.txt"
 }
