@@ -3,7 +3,7 @@ use Rattle.std.proofs.Common.{◌≡◌, ◌∙◌, ℕ, Bool, Option, None, Som
 use Rattle.std.proofs.lemmas.List.{drop_all}
 use Rattle.std.specs.declared.net.socket_addr.SocketAddr.{SocketAddr}
 use Rattle.std.specs.declared.string.String.{String}
-use Rattle.settings_text.specs.declared.settings_file.ClientText.{ClientText}
+use Rattle.settings_toml.specs.declared.settings_file.ClientText.{ClientText}
 use Rattle.addressing.specs.declared.clients.Client.{Client}
 use Rattle.addressing.specs.declared.clients.Listening.{Listening}
 use Rattle.addressing.specs.declared.clients.AddressKey.{AddressKey}

@@ -2,11 +2,11 @@
 use Rattle.std.proofs.Common.{◌≡◌, ◌⊎◌, ℕ, Bool, List, Some, Result, Ok, Err, IfErr, IfOk, inl, inr, sym, subst}
 use Rattle.std.specs.declared.net.socket_addr.SocketAddr.{SocketAddr}
 use Rattle.addressing.specs.ServedFile.{GivesPlaces, IsPlacedFault, IsPlacedOr, IsServedFault, PlacesFile}
-use Rattle.settings_text.specs.SettingsFaults.{Spot, TextGives, problem_spot}
+use Rattle.settings_toml.specs.SettingsFaults.{Spot, TextGives, problem_spot}
 use Rattle.addressing.specs.declared.served_file.ServedSettings.{ServedSettings}
-use Rattle.settings_text.specs.declared.settings_file.FileSettings.{FileSettings}
-use Rattle.settings_text.specs.declared.settings_file.SettingsProblem.{SettingsProblem}
-use Rattle.settings_text.specs.declared.settings_file.SettingsProblem.TheVariants.{NoMemory, File, Toml, Top, Endpoint, Leg, SameSsrc}
+use Rattle.settings_toml.specs.declared.settings_file.FileSettings.{FileSettings}
+use Rattle.settings_toml.specs.declared.settings_file.SettingsProblem.{SettingsProblem}
+use Rattle.settings_toml.specs.declared.settings_file.SettingsProblem.TheVariants.{NoMemory, File, Toml, Top, Endpoint, Leg, SameSsrc}
 
 -- what places a file that a text gives is given by the text
 pub gives_places : (same : SocketAddr → SocketAddr → Bool) (text : List ℕ) (file : FileSettings) (r : Result ServedSettings SettingsProblem) → TextGives text (Ok file)

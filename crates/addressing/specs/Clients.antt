@@ -6,7 +6,7 @@ use Rattle.std.specs.Net.Grammar.{IsSocketText}
 use Rattle.std.specs.Net.Socket.{socket_ip, socket_port}
 use Rattle.std.specs.declared.string.String.{String}
 use Rattle.std.specs.declared.net.socket_addr.SocketAddr.{SocketAddr}
-use Rattle.settings_text.specs.declared.settings_file.ClientText.{ClientText}
+use Rattle.settings_toml.specs.declared.settings_file.ClientText.{ClientText}
 use Rattle.addressing.specs.declared.clients.Client.{Client}
 use Rattle.addressing.specs.declared.clients.Listening.{Listening}
 use Rattle.addressing.specs.declared.clients.Location.{Location}

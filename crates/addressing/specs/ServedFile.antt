@@ -7,14 +7,14 @@ use Rattle.std.specs.Net.Socket.{socket_ip}
 use Rattle.std.specs.String.{string_bytes}
 use Rattle.std.specs.declared.string.String.{String}
 use Rattle.screening.specs.declared.rules.Rules.{Rules}
-use Rattle.settings_text.specs.declared.bound_keys.BoundKeys.{BoundKeys}
+use Rattle.settings_toml.specs.declared.bound_keys.BoundKeys.{BoundKeys}
 use Rattle.std.specs.declared.net.socket_addr.SocketAddr.{SocketAddr}
 use Rattle.addressing.specs.Clients.{AreSpelled, Spells}
-use Rattle.settings_text.specs.SettingsFaults.{TextGives}
+use Rattle.settings_toml.specs.SettingsFaults.{TextGives}
 use Rattle.addressing.specs.declared.served_file.ServedSettings.{ServedSettings}
-use Rattle.settings_text.specs.declared.settings_file.FileSettings.{FileSettings}
-use Rattle.settings_text.specs.declared.settings_file.SettingsProblem.{SettingsProblem}
-use Rattle.settings_text.specs.declared.settings_file.SettingsProblem.TheVariants.{NoMemory, File, Toml, Top, Endpoint, Leg, SameSsrc}
+use Rattle.settings_toml.specs.declared.settings_file.FileSettings.{FileSettings}
+use Rattle.settings_toml.specs.declared.settings_file.SettingsProblem.{SettingsProblem}
+use Rattle.settings_toml.specs.declared.settings_file.SettingsProblem.TheVariants.{NoMemory, File, Toml, Top, Endpoint, Leg, SameSsrc}
 
 -- what is looked at, if a file says so: sources that begin anew go unnoticed unless it says otherwise, and feedback has to name
 -- the endpoint's own source; what one client may cost the others; and how often a publisher is asked again

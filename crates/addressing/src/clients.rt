@@ -4,7 +4,7 @@ ghost use Rattle.std.specs.Prelude.{◌≡◌, ◌↔◌, ◌∷◌, ◌++◌, �
 ghost use Rattle.addressing.specs.Clients.{AreSpelled, ClientFaults, FaultOfClient, IsApart, IsLearned, IsReachable, Spells, SpellsBound, SpellsClient, SpellsNoBound, SpellsNone, SpellsNoRtcp, SpellsNowhere, SpellsReachable, SpellsRtcp, client_at};
 
 use senders::{Network, read_network};
-use settings_text::ClientText;
+use settings_toml::ClientText;
 use std::alloc::Global;
 use std::net::SocketAddr;
 

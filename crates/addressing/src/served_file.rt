@@ -8,7 +8,7 @@ use crate::clients::{
 };
 use screening::{ResendBounds, Rules};
 use settings::Settings;
-use settings_text::{
+use settings_toml::{
     BoundKeys, ClientText, FileSettings, Place, SettingsProblem, items_at, problem_at,
     read_settings,
 };

@@ -5,7 +5,7 @@ ghost use Rattle.std.specs.Io.KnownBytes.{Appends, Keeps};
 ghost use Rattle.command_line.specs.CommandLine.{AsksToServe, Request, Types, asked_for};
 ghost use Rattle.commands.specs.Commands.{Ends, EndsUnit};
 ghost use Rattle.endings.specs.Endings.{SaysWhy};
-ghost use Rattle.settings_text.specs.SettingsText.{SaysProblem};
+ghost use Rattle.settings_toml.specs.SettingsText.{SaysProblem};
 
 use command_line::{Action, Noted, Record, read_words};
 use endings::{Status, refuse_words, report, report_settings, say, say_no_memory};
@@ -17,7 +17,7 @@ use serving::{
     ControlFault, ErrorOutput, Gauges, RECORD_LIMIT, RecordFault, ServedSettings, Term,
     close_control, close_record, open_control, open_record, read_served, serve_file,
 };
-use settings_text::SettingsProblem;
+use settings_toml::SettingsProblem;
 use sha2::{Digest, Sha256};
 use std::alloc::Global;
 use std::convert::AsStr;

@@ -8,7 +8,7 @@ use addressing::{Location, ServedSettings};
 use endings::{Status, report_settings, say, say_no_memory};
 use sdp::{Session, Stream, session_text};
 use settings::LegSettings;
-use settings_text::{Place, SettingsProblem, problem_at};
+use settings_toml::{Place, SettingsProblem, problem_at};
 use std::alloc::{AllocError, Global};
 use std::convert::AsStr;
 use std::io::Write;

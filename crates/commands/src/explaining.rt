@@ -1,10 +1,9 @@
 //! What is said to people beside the line that scripts read, if a command had no settings or no socket.
 
 use addressing::{ServedSettings, read_served};
-use advice::bind_advice;
 use endings::Status;
 use offline::{bytes_in, replay_advice, settings_line};
-use settings_text::SettingsProblem;
+use settings_toml::{SettingsProblem, bind_advice};
 use std::alloc::{AllocError, Global};
 use std::convert::AsStr;
 use std::io::{ErrorKind, Write};

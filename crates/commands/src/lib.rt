@@ -27,4 +27,4 @@ pub use serving::{
     ServeFault, ServedSettings, Sockets, read_clients, read_served, run_on, serve_socket,
     serve_watched,
 };
-pub use settings_text::{ClientText, FileSettings, SettingsProblem, problem_line, read_settings};
+pub use settings_toml::{ClientText, FileSettings, SettingsProblem, problem_line, read_settings};

@@ -1,9 +1,9 @@
 -- What a settings text opens.
 use Rattle.std.proofs.Common.{◌≡◌, ◌∙◌, ℕ, List, sym, subst}
 use Rattle.std.specs.Prelude.{◌≢◌, Result, Ok}
-use Rattle.settings_text.specs.declared.settings_file.FileSettings.{FileSettings}
-use Rattle.settings_text.specs.declared.settings_file.SettingsProblem.{SettingsProblem}
-use Rattle.settings_text.specs.SettingsFaults.{TextGives}
+use Rattle.settings_toml.specs.declared.settings_file.FileSettings.{FileSettings}
+use Rattle.settings_toml.specs.declared.settings_file.SettingsProblem.{SettingsProblem}
+use Rattle.settings_toml.specs.SettingsFaults.{TextGives}
 use Rattle.conference.specs.Conference.{ConferenceState, HasWorkers, IsNewConference, OpensBy}
 
 pub has_workers : (text : List ℕ) (file : FileSettings) (r : Result FileSettings SettingsProblem) (count : ℕ) → TextGives text r → r ≡ Ok file

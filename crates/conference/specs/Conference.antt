@@ -1,8 +1,8 @@
 -- What a conference has served: events from outside, each with all that follows from it, and the datagrams that it gave out.
 use Rattle.std.specs.Prelude.{◌≡◌, ◌≢◌, ℕ, Bool, true, false, List, [], ◌∷◌, ◌++◌, drop, Ok, Err}
 use Rattle.settings.specs.Settings.{Configuration, IsInRange}
-use Rattle.settings_text.specs.declared.settings_file.FileSettings.{FileSettings}
-use Rattle.settings_text.specs.SettingsFaults.{TextGives}
+use Rattle.settings_toml.specs.declared.settings_file.FileSettings.{FileSettings}
+use Rattle.settings_toml.specs.SettingsFaults.{TextGives}
 use Rattle.events.specs.declared.event.Event.{Event}
 use Rattle.events.specs.declared.output.Out.{Out}
 use Rattle.events.specs.declared.output.Out.TheVariants.{Send, Refused, Lost, Skip, Miss, Idle}

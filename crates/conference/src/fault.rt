@@ -1,6 +1,6 @@
 //! Why a conference isn't opened, and why an event isn't done.
 
-use settings_text::SettingsProblem;
+use settings_toml::SettingsProblem;
 use thiserror::Error;
 
 /// Why a conference isn't opened.

@@ -5,7 +5,7 @@ ghost use Rattle.conference.specs.Conference.{OpensBy, RefusesToOpen};
 
 use crate::conference::Conference;
 use crate::fault::OpenFault;
-use settings_text::{SettingsProblem, read_settings};
+use settings_toml::{SettingsProblem, read_settings};
 use std::alloc::Global;
 
 impl Conference {

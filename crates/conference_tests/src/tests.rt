@@ -1,7 +1,7 @@
 //! A conference, from its opening on.
 
 use conference::{Conference, OpenFault};
-use settings_text::SettingsProblem;
+use settings_toml::SettingsProblem;
 use std::alloc::Global;
 use std::test::Fail;
 

@@ -1,7 +1,7 @@
 //! What is said of a file that can't be read, and of an address at which somebody else listens.
 
 use crate::expected::is_text;
-use advice::{bind_advice, file_advice};
+use settings_toml::{bind_advice, file_advice};
 use std::io::ErrorKind;
 use std::net::SocketAddr;
 use std::test::Fail;

@@ -5,7 +5,7 @@ use outside::{ReceiveFault, Received, Source};
 use repeats::{Holding, Sets};
 use rtcp_feedback::TmmbrEntry;
 use settings::Settings;
-use settings_text::read_settings;
+use settings_toml::read_settings;
 use std::alloc::Global;
 use std::cell::{Cell, RefCell};
 use std::fmt::Write;

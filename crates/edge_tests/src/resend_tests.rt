@@ -4,7 +4,7 @@ use outside::{ReceiveFault, Received, Source};
 use rtcp_compound::{Block, write_rr, write_sr};
 use screening::{Floods, ResendBounds, Rules, Screen};
 use settings::Settings;
-use settings_text::read_settings;
+use settings_toml::read_settings;
 use std::alloc::{AllocError, Global};
 use std::cell::Cell;
 use std::process::Abort;

@@ -5,7 +5,7 @@ use events::{DeskRefusal, Refusal};
 use rtcp_compound::{Block, RtcpFault, write_rr, write_sr};
 use rtp_packet::RtpFault;
 use settings::{RoomFault, Settings};
-use settings_text::read_settings;
+use settings_toml::read_settings;
 use std::alloc::Global;
 use std::test::Fail;
 use tmmbr_tuple::Ssrc;

@@ -5,12 +5,12 @@ ghost use Rattle.std.specs.Io.KnownBytes.{Appends};
 ghost use Rattle.std.specs.IoError.{error_kind};
 ghost use Rattle.clap.specs.Words.{kind_of};
 ghost use Rattle.endings.specs.Endings.{EndsSaying, EndsWanting, IsOutOfMemory, IsUnsaid, SaysWhy, ShowsFailure, unsaid_at};
-ghost use Rattle.settings_text.specs.SettingsText.{problem_line};
+ghost use Rattle.settings_toml.specs.SettingsText.{problem_line};
 
 use crate::status::{Failure, Status};
 use clap::error::ErrorKind;
 use request_text::refused_text;
-use settings_text::{SettingsProblem, problem_line};
+use settings_toml::{SettingsProblem, problem_line};
 use std::alloc::Global;
 use std::io::{self, Write};
 

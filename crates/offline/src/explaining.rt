@@ -1,7 +1,6 @@
 //! What is said to people beside the line that scripts read, if a replay had no settings.
 
-use advice::{file_advice, settings_advice};
-use settings_text::{SettingsProblem, read_settings};
+use settings_toml::{SettingsProblem, file_advice, read_settings, settings_advice};
 use std::alloc::{AllocError, Global};
 use std::fs;
 use std::io::{ErrorKind, Read};

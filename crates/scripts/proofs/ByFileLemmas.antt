@@ -3,8 +3,8 @@ use Rattle.std.specs.Prelude.{ℕ, List, Option, None, Some, Ok, IfSome}
 use Rattle.script_text.specs.declared.shown.Shown.{Shown}
 use Rattle.scripts.specs.ByFile.{PrintsByFile, RefusesByFile}
 use Rattle.scripts.specs.Replay.{PrintsReplay, RefusesReplay}
-use Rattle.settings_text.specs.SettingsFaults.{TextGives}
-use Rattle.settings_text.specs.declared.settings_file.FileSettings.{FileSettings}
+use Rattle.settings_toml.specs.SettingsFaults.{TextGives}
+use Rattle.settings_toml.specs.declared.settings_file.FileSettings.{FileSettings}
 
 pub printed_by_file : (f : FileSettings) (s : Shown) (input old new : Option (List ℕ)) → (text : List ℕ) × TextGives text (Ok f)
     → IfSome input (λ script. PrintsReplay f.settings s script old new) → IfSome input (λ script. PrintsByFile s script old new)

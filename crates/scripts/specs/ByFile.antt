@@ -10,10 +10,10 @@ use Rattle.script_text.specs.declared.shown.Shown.{Shown}
 use Rattle.script_text.specs.declared.shown.Unknown.{Unknown}
 use Rattle.script_text.specs.declared.shown.Unknown.TheVariants as unknown
 use Rattle.scripts.specs.Replay.{PrintsReplay, RefusesReplay}
-use Rattle.settings_text.specs.SettingsFaults.{TextGives}
-use Rattle.settings_text.specs.declared.settings_file.FileSettings.{FileSettings}
-use Rattle.settings_text.specs.declared.settings_file.SettingsProblem.{SettingsProblem}
-use Rattle.settings_text.specs.declared.settings_file.SettingsProblem.TheVariants.{NoMemory, File}
+use Rattle.settings_toml.specs.SettingsFaults.{TextGives}
+use Rattle.settings_toml.specs.declared.settings_file.FileSettings.{FileSettings}
+use Rattle.settings_toml.specs.declared.settings_file.SettingsProblem.{SettingsProblem}
+use Rattle.settings_toml.specs.declared.settings_file.SettingsProblem.TheVariants.{NoMemory, File}
 
 -- what is to be shown by `--only-leg`, `--only-endpoint`, `--from` and `--events`
 abbrev pub shown_by : Option ℕ → Option ℕ → Option ℕ → Bool → Shown

@@ -5,14 +5,14 @@ ghost use Rattle.std.specs.Io.KnownBytes.{Appends, Keeps};
 ghost use Rattle.std.specs.IoError.{error_kind};
 ghost use Rattle.endings.specs.Endings.{SaysWhy};
 ghost use Rattle.scripts.specs.ByFile.{EndsReplay, problem_by, unknown_text};
-ghost use Rattle.settings_text.specs.SettingsFaults.{TextGives};
-ghost use Rattle.settings_text.specs.SettingsText.{SaysProblem};
+ghost use Rattle.settings_toml.specs.SettingsFaults.{TextGives};
+ghost use Rattle.settings_toml.specs.SettingsText.{SaysProblem};
 
 use crate::replay::replay_lines;
 use endings::{Status, report_settings, say};
 use request_text::Meter;
 use script_text::{Shown, Unknown};
-use settings_text::{FileSettings, SettingsProblem, read_settings};
+use settings_toml::{FileSettings, SettingsProblem, read_settings};
 use std::alloc::Global;
 use std::fs;
 use std::io::{self, Read, Write};

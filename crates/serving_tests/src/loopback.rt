@@ -1,7 +1,7 @@
 //! Settings, clients and runs of a unit on sockets of the loopback interface, for tests.
 use serving::{Client, Gauges, Rules, Sockets, run_on};
 use settings::Settings;
-use settings_text::read_settings;
+use settings_toml::read_settings;
 use std::alloc::Global;
 use std::net::UdpSocket;
 use std::sync::Wait;

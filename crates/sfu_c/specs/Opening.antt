@@ -1,8 +1,8 @@
 -- What is answered if a conference isn't opened.
 use Rattle.std.specs.Prelude.{◌≡◌, ℕ, List, Option, Some}
-use Rattle.settings_text.specs.declared.settings_file.SettingsProblem.{SettingsProblem}
-use Rattle.settings_text.specs.declared.settings_file.SettingsProblem.TheVariants.{Toml, Top, Endpoint, Leg, SameSsrc}
-use Rattle.settings_text.specs.declared.settings_file.SettingsProblem.TheVariants as problem
+use Rattle.settings_toml.specs.declared.settings_file.SettingsProblem.{SettingsProblem}
+use Rattle.settings_toml.specs.declared.settings_file.SettingsProblem.TheVariants.{Toml, Top, Endpoint, Leg, SameSsrc}
+use Rattle.settings_toml.specs.declared.settings_file.SettingsProblem.TheVariants as problem
 use Rattle.conference.specs.declared.fault.OpenFault.{OpenFault}
 use Rattle.conference.specs.declared.fault.OpenFault.TheVariants.{NoMemory, Settings, Workers}
 use Rattle.conference.specs.Conference.{ConferenceState, OpensBy, RefusesToOpen}

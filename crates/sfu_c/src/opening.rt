@@ -9,7 +9,7 @@ use crate::faults::{
 use crate::numbers::SfuOpened;
 use crate::slot::SfuConference;
 use conference::{Conference, OpenFault};
-use settings_text::SettingsProblem;
+use settings_toml::SettingsProblem;
 use std::alloc::Global;
 
 /// The answer that tells this number, or 0.

@@ -1,9 +1,0 @@
-use Rattle.std.proofs.Common.{codes, ◌++◌, ◌∙◌, ap}
-use Rattle.advice.specs.Wanted.{wanted_words}
-use Rattle.advice.proofs.SayingLemmas.{of_line}
-use Rattle.advice.proofs.advice.missing_line.Goals as goal
-
-pub returns : goal.returns
-returns c =
-    of_line c.spotted_line.result _ _ _ (codes " is missing: there is no " ++ wanted_words c.args.wanted)
-    (c.as_str.ensures.value ∙ c.in_ok-said.ensures.ok ∙ ap (λ w. codes " is missing: there is no " ++ w) c.in_ok-wanted.ensures) c.spotted_line.ensures

@@ -1,6 +1,0 @@
-use Rattle.std.proofs.Common.{codes, ◌++◌, ◌∙◌}
-use Rattle.advice.proofs.SayingLemmas.{of_line}
-use Rattle.advice.proofs.advice.unsendable_line.Goals as goal
-
-pub returns : goal.returns
-returns c = of_line c.spotted_line.result _ _ _ (codes " is no address to send to: " ++ c.args.why.now) (c.as_str.ensures.value ∙ c.in_ok-said.ensures.ok) c.spotted_line.ensures

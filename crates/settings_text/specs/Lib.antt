@@ -1,3 +1,0 @@
-pub mod SettingsText
-pub mod SettingsFile
-pub mod SettingsFaults

@@ -1,0 +1,3 @@
+pub mod KeyLemmas
+pub mod SayingLemmas
+pub mod SettingsLemmas

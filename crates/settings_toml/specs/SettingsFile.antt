@@ -1,0 +1,148 @@
+-- What a settings file says: a TOML table, as the parts of a room's settings.
+use Rattle.std.specs.Prelude.{◌≡◌, ◌==◌, ◌||◌, ℕ, ℤ, nat_le, Bool, false, List, [], ◌∷◌, map, Option, None, Some, option_map, option_and_then, unwrap_or, codes, string_bytes, String, if◌then◌else◌}
+use Rattle.std.specs.Global.{Global}
+use Rattle.toml.specs.Data.{Data, Items, Members, array, as_bool, as_integer, as_str, get, get_member, item, no_items}
+use Rattle.settings.specs.declared.parts.EndpointParts.{EndpointParts}
+use Rattle.settings.specs.declared.parts.LegParts.{LegParts}
+use Rattle.settings.specs.declared.parts.Parts.{Parts}
+use Rattle.settings.specs.Settings.{checks, configuration_of, first_fault, number_below, number_or_zero}
+use Rattle.settings_toml.specs.declared.bound_keys.BoundKeys.{BoundKeys}
+use Rattle.settings_toml.specs.declared.bound_keys.TheConstants.{FLOODS, GAPS_MS, LEAST_REPEAT_MS, REPEATS_MS, SHARES}
+use Rattle.settings_toml.specs.declared.settings_file.ClientText.{ClientText}
+use Rattle.settings_toml.specs.declared.settings_file.FileSettings.{FileSettings}
+
+-- ---- what is found
+
+abbrev pub integer_in : Option Data → Option ℤ
+integer_in value = option_and_then as_integer value
+
+abbrev pub bool_in : Option Data → Option Bool
+bool_in value = option_and_then as_bool value
+
+abbrev pub text_in : Option Data → Option (List ℕ)
+text_in value = option_and_then as_str value
+
+abbrev pub list_of : Items → List Data
+list_of no_items = []
+list_of (item d ds) = d ∷ list_of ds
+
+-- the items of a list; none if there is no list
+abbrev pub items_in : Option Data → List Data
+items_in (Some (array ds)) = list_of ds
+items_in value = []
+
+-- the text that an item is; nothing if it is none
+abbrev pub text_of : Data → List ℕ
+text_of value = unwrap_or (as_str value) []
+
+abbrev pub texts_of : List Data → List (List ℕ)
+texts_of items = map text_of items
+
+-- the texts of a list; none if there is no list
+abbrev pub texts_in : Option Data → List (List ℕ)
+texts_in value = texts_of (items_in value)
+
+-- what an endpoint's table says of its client: the texts of its addresses and of the network that they are learned from, whether it
+-- only listens, and what it publishes
+pub record ClientSays : Type 0 where
+  pub address : Option (List ℕ)
+  pub learn_from : Option (List ℕ)
+  pub rtcp_address : Option (List ℕ)
+  pub receive_only : Bool
+  pub rtpmap : List (List ℕ)
+  pub fmtp : List (List ℕ)
+
+abbrev pub client_in : Data → ClientSays
+client_in endpoint = record {
+  address = text_in (get (codes "address") endpoint);
+  learn_from = text_in (get (codes "learn_from") endpoint);
+  rtcp_address = text_in (get (codes "rtcp_address") endpoint);
+  receive_only = unwrap_or (bool_in (get (codes "receive_only") endpoint)) false;
+  rtpmap = texts_in (get (codes "rtpmap") endpoint);
+  fmtp = texts_in (get (codes "fmtp") endpoint);
+}
+
+abbrev pub leg_in : Data → LegParts
+leg_in leg = record {
+  subscriber = integer_in (get (codes "subscriber") leg);
+  publisher = integer_in (get (codes "publisher") leg);
+  out_ssrc = integer_in (get (codes "out_ssrc") leg);
+  first_seq = integer_in (get (codes "first_seq") leg);
+  on = bool_in (get (codes "on") leg);
+}
+
+abbrev pub text_bytes : Option (String Global) → Option (List ℕ)
+text_bytes text = option_map string_bytes text
+
+-- what an endpoint's table says of the room's settings: its source, and the name of who publishes it
+pub record EndpointSays : Type 0 where
+  pub ssrc : Option ℤ
+  pub cname : Option (List ℕ)
+
+abbrev pub endpoint_in : Data → EndpointSays
+endpoint_in endpoint = record {
+  ssrc = integer_in (get (codes "ssrc") endpoint);
+  cname = text_in (get (codes "cname") endpoint);
+}
+
+abbrev pub endpoint_says : EndpointParts → EndpointSays
+endpoint_says parts = record { ssrc = parts.ssrc; cname = text_bytes parts.cname }
+
+abbrev pub client_says : ClientText → ClientSays
+client_says client = record {
+  address = text_bytes client.address;
+  learn_from = text_bytes client.learn_from;
+  rtcp_address = text_bytes client.rtcp_address;
+  receive_only = client.receive_only;
+  rtpmap = map string_bytes client.rtpmap.items;
+  fmtp = map string_bytes client.fmtp.items;
+}
+
+abbrev pub repeat_if : Option ℕ → Option ℕ
+repeat_if None = None
+repeat_if (Some n) = if (n == 0) || nat_le LEAST_REPEAT_MS n then Some n else None
+
+-- the time between two repeats that a number is, if it is there: 0, or from the least to the greatest
+abbrev pub repeat_of : Option ℤ → Option ℕ
+repeat_of value = repeat_if (number_below value REPEATS_MS)
+
+-- what one client may cost the others, and how often a publisher is asked again: the numbers at their keys; 0, which bounds and repeats
+-- nothing, if there is none
+abbrev pub bounds_in : Members → BoundKeys
+bounds_in t = record {
+  flood_limit = number_or_zero (integer_in (get_member (codes "flood_limit") t)) FLOODS;
+  repeat_ms = unwrap_or (repeat_of (integer_in (get_member (codes "repeat_ms") t))) 0;
+  resend_gap_ms = number_or_zero (integer_in (get_member (codes "resend_gap_ms") t)) GAPS_MS;
+  resend_share = number_or_zero (integer_in (get_member (codes "resend_share") t)) SHARES;
+}
+
+-- The parts are what the table has under their keys.
+pub record ArePartsOf (t : Members) (p : Parts) : Type 0 where
+  pub workers : p.workers ≡ integer_in (get_member (codes "workers") t)
+  pub ring : p.ring ≡ integer_in (get_member (codes "ring") t)
+  pub history : p.history ≡ integer_in (get_member (codes "history") t)
+  pub timeout_ms : p.timeout_ms ≡ integer_in (get_member (codes "timeout_ms") t)
+  pub report_ms : p.report_ms ≡ integer_in (get_member (codes "report_ms") t)
+  pub request_ms : p.request_ms ≡ integer_in (get_member (codes "request_ms") t)
+  pub pli_gap_ms : p.pli_gap_ms ≡ integer_in (get_member (codes "pli_gap_ms") t)
+  pub unit_ssrc : p.unit_ssrc ≡ integer_in (get_member (codes "unit_ssrc") t)
+  pub cname : text_bytes p.cname ≡ text_in (get_member (codes "cname") t)
+  pub early_pictures : p.early_pictures ≡ bool_in (get_member (codes "early_pictures") t)
+  pub leg_goodbyes : p.leg_goodbyes ≡ bool_in (get_member (codes "leg_goodbyes") t)
+  pub endpoints : map endpoint_says p.endpoints.items
+      ≡ map endpoint_in (items_in (get_member (codes "endpoint") t))
+  pub legs : p.legs.items ≡ map leg_in (items_in (get_member (codes "leg") t))
+
+-- The table's parts pass every check, and these are their settings; what is said of addresses is as the table spells it.
+pub record HoldsSettings (t : Members) (f : FileSettings) : Type 0 where
+  pub parts : Parts
+  pub found : ArePartsOf t parts
+  pub passes : first_fault (checks parts) ≡ None
+  pub settings : f.settings ≡ configuration_of parts
+  pub listen : text_bytes f.listen ≡ text_in (get_member (codes "listen") t)
+  pub new_starts : f.new_starts ≡ bool_in (get_member (codes "new_starts") t)
+  pub strict_ssrc : f.strict_ssrc ≡ bool_in (get_member (codes "strict_ssrc") t)
+  pub bounds : f.bounds ≡ bounds_in t
+  pub listen_rtcp : text_bytes f.listen_rtcp ≡ text_in (get_member (codes "listen_rtcp") t)
+  pub clients : map client_says f.clients.items
+      ≡ map client_in (items_in (get_member (codes "endpoint") t))
