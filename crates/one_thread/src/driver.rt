@@ -15,20 +15,10 @@ use crate::tally::Tally;
 use crate::turn::{Engine, turn};
 use core_steps::World;
 use desk::Desk;
-use outside::{Clock, MAX_DATAGRAM, MAX_FAULTS, Sink, Source, Ticks, Watch};
+use outside::{Clock, MAX_DATAGRAM, MAX_FAULTS, Pace, Sink, Source, Ticks, Watch};
 use settings::Settings;
 use std::alloc::{AllocError, Global};
 use thiserror::Error;
-
-/// How long the unit runs, and how often it ticks.
-#[derive(Clone, Copy, PartialEq, Eq)]
-pub struct Pace {
-    /// How many turns it makes, unless it is stopped: as good as no end at `u64::MAX`.
-    pub turns: u64,
-    /// How many milliseconds the moment rises at least between two ticks. Whatever comes with time (an endpoint's timeout, a
-    /// report, a PLI that waits for its gap, a request that grows too old) may come so much later.
-    pub tick_ms: u64,
-}
 
 /// What a run came to.
 #[derive(Drop)]

@@ -10,5 +10,6 @@ pub mod settle;
 mod tally;
 mod turn;
 
-pub use driver::{DriveFault, Pace, Report, run_one_thread};
+pub use driver::{DriveFault, Report, run_one_thread};
+pub use outside::Pace;
 pub use tally::Tally;

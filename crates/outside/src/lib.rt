@@ -1,12 +1,13 @@
 //! What a unit needs from outside: what comes to it, where datagrams go, what time it is, and who looks at it while it runs.
 //!
-//! Read `source` and `sink` first, then `clock`. `ticks` says when a tick is due, `watch` who looks at the totals, `gate` who stands
-//! before and after the jobs of workers.
+//! Read `source` and `sink` first, then `clock`. `pace` says how long a run lasts, `ticks` when a tick is due, `watch` who looks at the
+//! totals, `gate` who stands before and after the jobs of workers.
 #![tactic(auto)]
 
 mod clock;
 mod datagram;
 mod gate;
+mod pace;
 mod sink;
 mod source;
 mod ticks;
@@ -15,6 +16,7 @@ mod watch;
 pub use clock::Clock;
 pub use datagram::Datagram;
 pub use gate::{Gate, Open};
+pub use pace::Pace;
 pub use sink::{SendFault, Sink};
 pub use source::{MAX_DATAGRAM, MAX_FAULTS, ReceiveFault, Received, Source};
 pub use ticks::Ticks;

@@ -150,7 +150,7 @@ fn drive<R: AllocGlobal + time::Clock, Src: Source + Drop, W: Watch + Drop>(
         control,
         traffic,
     };
-    let pace = one_thread::Pace {
+    let pace = Pace {
         turns,
         tick_ms: TICK_MS,
     };
@@ -289,7 +289,7 @@ fn spread<
     };
     let pace = Pace {
         turns,
-        pulse_ms: TICK_MS,
+        tick_ms: TICK_MS,
     };
     match run_watched(rt, rt.alloc(), settings, outside, &Open, pace) {
         Ok(report) => Ok(report),

@@ -23,9 +23,9 @@ mod worker;
 
 pub use fault::UnitFault;
 pub use forwarding::{ForwardFault, Forwarded, Forwarder, Notifier};
-pub use given::{Outside, Pace};
+pub use given::Outside;
 pub use outside::{
-    Clock, Datagram, Gate, Look, MAX_DATAGRAM, MAX_FAULTS, Open, ReceiveFault, Received, SendFault,
-    Sink, Source, Status, Unwatched, Watch,
+    Clock, Datagram, Gate, Look, MAX_DATAGRAM, MAX_FAULTS, Open, Pace, ReceiveFault, Received,
+    SendFault, Sink, Source, Status, Unwatched, Watch,
 };
 pub use unit::{Report, run_unit, run_watched};

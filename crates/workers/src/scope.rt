@@ -5,7 +5,7 @@ ghost use Rattle.std.specs.Prelude.{◌≡◌, IfErr, OnOk, MatchResult};
 use crate::counts::{Counts, Station};
 use crate::fault::UnitFault;
 use crate::gear::{Gear, gears_of};
-use crate::given::{Outside, Pace};
+use crate::given::Outside;
 use crate::ingress::{Ingress, core_and_notifier};
 use crate::lane::{Crew, Lane, RingEnds, new_ring};
 use crate::settling::Patience;
@@ -13,7 +13,7 @@ use crate::turns::Inlet;
 use crate::worker::WorkerThread;
 use core_steps::IngressCore;
 use forwarding::{Forwarder, Notifier};
-use outside::{Clock, Gate, Sink, Source, Ticks, Watch};
+use outside::{Clock, Gate, Pace, Sink, Source, Ticks, Watch};
 use rate_desk::{DeskCalls, DeskSeat, House, SeatCalls};
 use routes::{Blank, Naming, RouteReader, RouteWriter, routes};
 use settings::Settings;
@@ -219,7 +219,7 @@ fn run_manned<
         writer,
         gear: own,
         crew,
-        ticks: Ticks::new(pace.pulse_ms),
+        ticks: Ticks::new(pace.tick_ms),
         present: 0,
         is_unsettled: false,
         patience: Patience::new(0),

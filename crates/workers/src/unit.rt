@@ -5,10 +5,10 @@ ghost use Rattle.rate_desk.specs.Gathered.{AreDesksOf};
 
 use crate::counts::Counts;
 use crate::fault::UnitFault;
-use crate::given::{Outside, Pace};
+use crate::given::Outside;
 use crate::scope::{Shared, run_scoped};
 use desk::Desk;
-use outside::{Clock, Gate, Sink, Source, Status, Unwatched, Watch};
+use outside::{Clock, Gate, Pace, Sink, Source, Status, Unwatched, Watch};
 use rate_desk::{DeskCalls, House, SeatCalls};
 use routes::Naming;
 use settings::Settings;
@@ -74,7 +74,7 @@ pub fn run_unit<
     };
     let pace = Pace {
         turns,
-        pulse_ms: TICK_MS,
+        tick_ms: TICK_MS,
     };
     run_watched(rt, alloc, settings, outside, gate, pace)
 }

@@ -151,7 +151,7 @@ fn run_looked_at<R: Threads + Wait + Sync>(
     };
     let pace = Pace {
         turns: 9,
-        pulse_ms: 1,
+        tick_ms: 1,
     };
     let ran = run_watched(rt, alloc, &settings, outside, &OpenGate, pace);
     Ok(ran.is_ok())
