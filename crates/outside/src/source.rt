@@ -26,6 +26,21 @@ pub enum Received {
     Stop,
 }
 
+impl Received {
+    ghost use Rattle.std.specs.Prelude.{◌≡◌, List, ℕ};
+    ghost use Rattle.outside.specs.Outside.{arrival_in, is_stop};
+
+    /// Whether the run is to end with this turn.
+    pub fn is_stop(self) -> bool
+        ensures { (buffer : List ℕ) → result ≡ is_stop (arrival_in buffer self) }
+    {
+        match self {
+            Received::Stop => true,
+            Received::Nothing | Received::Datagram { .. } | Received::Select { .. } => false,
+        }
+    }
+}
+
 /// Where datagrams come from, and what else is wished of a unit while it runs.
 pub trait Source {
     ghost use Rattle.std.specs.Prelude.{◌≡◌, ◌+◌, ◌∷◌, [], List, Option, ℕ, length, IfOk, OnOk, OnErr};

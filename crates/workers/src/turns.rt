@@ -1,12 +1,11 @@
 //! The turns of the ingress: one receive and one tick each.
 
-ghost use Rattle.std.specs.Prelude.{◌≡◌, ◌<◌, List, ℕ, length, vec_len, IfOk};
-ghost use Rattle.outside.specs.Outside.{arrival_of, is_stop};
+ghost use Rattle.std.specs.Prelude.{◌≡◌, vec_len, IfOk};
 
 use crate::fault::UnitFault;
 use crate::faults::Faults;
 use crate::ingress::Ingress;
-use outside::{Clock, MAX_DATAGRAM, ReceiveFault, Received, Sink, Source, Watch};
+use outside::{Clock, MAX_DATAGRAM, Received, Sink, Source, Watch};
 use rate_desk::{DeskCalls, SeatCalls};
 use routes::Naming;
 use std::alloc::{AllocError, Global};
@@ -96,18 +95,6 @@ impl<Src: Source + Drop, Clk: Clock + Drop, W: Watch + Drop> Inlet<Src, Clk, W> 
         if self.faults.are_too_many() {
             return Err(UnitFault::Receive);
         }
-        Ok(is_stop(received))
-    }
-}
-
-/// Whether the run ends with this turn.
-fn is_stop(received: Result<Received, ReceiveFault>) -> bool
-    ensures { (buffer : List ℕ) → result ≡ is_stop (arrival_of buffer received) }
-{
-    match received {
-        Ok(Received::Stop) => true,
-        Ok(Received::Nothing | Received::Datagram { .. } | Received::Select { .. }) | Err(_) => {
-            false
-        }
+        Ok(received.is_ok_and(Received::is_stop))
     }
 }
