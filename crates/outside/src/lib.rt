@@ -18,6 +18,6 @@ pub use datagram::Datagram;
 pub use gate::{Gate, Open};
 pub use pace::Pace;
 pub use sink::{SendFault, Sink};
-pub use source::{MAX_DATAGRAM, MAX_FAULTS, ReceiveFault, Received, Source};
+pub use source::{MAX_DATAGRAM, MAX_FAULTS, ReceiveFault, Received, Source, written};
 pub use ticks::Ticks;
 pub use watch::{Look, Status, Unwatched, Watch};

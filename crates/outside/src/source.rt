@@ -1,5 +1,7 @@
 //! What comes from outside.
 
+ghost use Rattle.std.specs.Prelude.{◌≡◌, ◌<◌, ◌≤◌, length, take, IfNone, IfSome};
+
 use thiserror::Error;
 
 /// The longest datagram in bytes.
@@ -58,4 +60,18 @@ pub trait Source {
         ensures given { Grows (given self.old) (arrival_of out.new result ∷ []) (given self.new) }
         ensures ok { OnOk result (failures self.new ≡ failures self.old) }
         ensures err { OnErr result (failures self.new ≡ failures self.old + 1) };
+}
+
+/// Writes the bytes of a datagram to the beginning of `out`, and says how many; `None` if there is no room, and then nothing is written.
+pub fn written(bytes: &[u8], out: &mut [u8]) -> Option<usize>
+    ensures none { IfNone result ((out.new ≡ out.old) × (length out.old < length bytes.now)) }
+    ensures within { IfSome result (λ written. written ≤ length out.new) }
+    ensures size { IfSome result (λ written. written ≡ length bytes.now) }
+    ensures bytes { IfSome result (λ written. take written out.new ≡ bytes.now) }
+{
+    if out.len() < bytes.len() {
+        return None;
+    }
+    out[..bytes.len()].copy_from_slice(bytes);
+    Some(bytes.len())
 }

@@ -18,7 +18,7 @@ use crate::requests::{HeldRequest, Requests};
 use crate::sets::Sets;
 use crate::told::last_notice;
 use intake::{Ask, Heard, hear_datagram};
-use outside::MAX_DATAGRAM;
+use outside::{MAX_DATAGRAM, written};
 use rtcp_compound::split;
 use settings::{Links, Settings};
 use std::alloc::{AllocError, Global};
@@ -386,18 +386,4 @@ fn tell_asked(sets: &RefCell<Sets>, links: &Links, leg: u16) {
     if let Ok(mut sets) = sets.try_borrow_mut() {
         sets.ask(leg.publisher);
     }
-}
-
-/// Writes bytes to the beginning of `out`, and says how many; nothing if there is no room.
-fn written(bytes: &[u8], out: &mut [u8]) -> Option<usize>
-    ensures written { IfSome result
-        (λ size. (size ≡ length bytes.now) × (take size out.new ≡ bytes.now)) }
-    ensures none { result ≡ None → (out.new ≡ out.old) × (length out.old < length bytes.now) }
-    ensures within { IfSome result (λ size. size ≤ length out.new) }
-{
-    if out.len() < bytes.len() {
-        return None;
-    }
-    out[..bytes.len()].copy_from_slice(bytes);
-    Some(bytes.len())
 }

@@ -12,7 +12,7 @@ use addressing::{
     Client, Directory, Listening, is_reachable, learners_of, listeners_of, senders_of,
 };
 use operating::Gauges;
-use outside::MAX_DATAGRAM;
+use outside::{MAX_DATAGRAM, written};
 use rtcp_compound::is_rtcp;
 use screening::Floods;
 use senders::{
@@ -413,18 +413,4 @@ fn looks_of(
     let floods = Floods::new(alloc, settings.endpoints().len(), flood_limit)?;
     let listeners = listeners_of(alloc, clients, settings.timeout_ms())?;
     Ok((listeners, floods, rest))
-}
-
-/// Writes bytes to the beginning of `out`, and says how many; nothing if there is no room.
-fn written(bytes: &[u8], out: &mut [u8]) -> Option<usize>
-    ensures none { IfNone result (length out.old < length bytes.now) }
-    ensures within { IfSome result (λ written. written ≤ length out.new) }
-    ensures size { IfSome result (λ written. written ≡ length bytes.now) }
-    ensures bytes { IfSome result (λ written. take written out.new ≡ bytes.now) }
-{
-    if out.len() < bytes.len() {
-        return None;
-    }
-    out[..bytes.len()].copy_from_slice(bytes);
-    Some(bytes.len())
 }
