@@ -1,6 +1,6 @@
 //! The words of a line, and the numbers that they spell.
 
-ghost use Rattle.std.specs.Prelude.{◌≡◌, ◌<◌, ◌^◌, IfOk, map, nat_lt};
+ghost use Rattle.std.specs.Prelude.{◌≡◌, ◌<◌, ◌^◌, [], IfOk, get_or, map, nat_lt};
 ghost use Rattle.std.specs.Char.{digit_value};
 ghost use Rattle.std.specs.List.{list_all};
 ghost use Rattle.std.specs.Str.{bytes_eq};
@@ -13,6 +13,16 @@ pub fn words_of(alloc: Global, line: &[u8]) -> Result<Vec<&[u8]>, AllocError>
     ensures { IfOk result (λ words. map (λ x. x.now) words.items ≡ words_in line.now) }
 {
     line.split(|b| *b == b' ').collect(alloc)
+}
+
+/// The word at a place from 0 on; an empty one if there is none.
+pub fn word_at<'a>(words: &[&'a [u8]], place: usize) -> &'a [u8]
+    ensures { result.now ≡ get_or (map (λ x. x.now) words.now) place [] }
+{
+    match words.get(place) {
+        Some(word) => word,
+        None => b"",
+    }
 }
 
 /// Whether a word is this name.

@@ -1,10 +1,9 @@
 //! The rows of the system's table.
 
-ghost use Rattle.std.specs.Prelude.{◌≡◌, ◌-◌, ◌^◌, [], IfOk, map, flat_map, get_or, min, sum_by};
-ghost use Rattle.request_text.specs.Lines.{lines_of};
+ghost use Rattle.std.specs.Prelude.{◌≡◌, ◌-◌, ◌^◌, IfOk, map, flat_map, min, sum_by};
 ghost use Rattle.udp_table.specs.Rows.{drops_of_row, drops_of_words, dropped_in, full_word};
 
-use request_text::{is_word, number_u64, words_of};
+use request_text::{is_word, lines, number_u64, word_at, words_of};
 use std::alloc::{AllocError, Global};
 
 /// The place of the socket's own address among the words of its row.
@@ -17,15 +16,8 @@ const DROPS: usize = 12;
 pub fn dropped_at(alloc: Global, table: &[u8], address: &[u8]) -> Result<u64, AllocError>
     ensures { IfOk result (λ n. n ≡ dropped_in address.now table.now) }
 {
-    let lines = lines_of(alloc, table)?;
+    let lines = lines(alloc, table)?;
     sum_of_rows(alloc, lines.as_slice(), address)
-}
-
-/// What stands between the ends of lines.
-fn lines_of(alloc: Global, text: &[u8]) -> Result<Vec<&[u8]>, AllocError>
-    ensures { IfOk result (λ lines. map (λ x. x.now) lines.items ≡ lines_of text.now) }
-{
-    text.split(|b| *b == b'\n').collect(alloc)
 }
 
 /// The sum of what rows say.
@@ -72,15 +64,5 @@ fn drops_of_words(words: &[&[u8]], address: &[u8]) -> u64
         number_u64(word_at(words, DROPS)).unwrap_or(0)
     } else {
         0
-    }
-}
-
-/// The word at a place; an empty one if there is none.
-fn word_at<'a>(words: &[&'a [u8]], place: usize) -> &'a [u8]
-    ensures { result.now ≡ get_or (map (λ x. x.now) words.now) place [] }
-{
-    match words.get(place) {
-        Some(word) => word,
-        None => b"",
     }
 }
