@@ -25,8 +25,6 @@ pub struct Meter {
     latest: Cell<Option<Instant>>,
     /// Whether what it said stands there.
     is_shown: Cell<bool>,
-    line: Cell<u64>,
-    of: Cell<u64>,
 }
 
 impl Meter {
@@ -37,8 +35,6 @@ impl Meter {
             terminal: if is_terminal { Some(rt) } else { None },
             latest: Cell::new(Instant::now(&rt).ok()),
             is_shown: Cell::new(false),
-            line: Cell::new(0),
-            of: Cell::new(0),
         }
     }
 
@@ -48,23 +44,14 @@ impl Meter {
             terminal: None,
             latest: Cell::new(None),
             is_shown: Cell::new(false),
-            line: Cell::new(0),
-            of: Cell::new(0),
         }
     }
 
     /// The line of this number, from 1, is taken up, of so many. What comes after the last newline is one more.
     pub fn show(&self, line: u64, of: u64) {
-        self.line.set(line);
-        self.of.set(of);
         if line % LINES_A_LOOK == 0 {
             self.say(line.min(of), of);
         }
-    }
-
-    /// The line that was taken up last, and of how many; 0 of 0 before the first.
-    pub fn reached(&self) -> (u64, u64) {
-        (self.line.get(), self.of.get())
     }
 
     /// Takes away what is said, if anything is. Whoever writes to a terminal calls this before.
