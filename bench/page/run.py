@@ -3,21 +3,30 @@
 
     bench/page/run.py SFU FOLDER [PAGE_PORT]
 
-SFU is the built program. Pictures of the page go to FOLDER, where chromium is installed: light and dark, 360 and 1600 pixels wide. With
-PAGE_PORT a page that runs already is looked at, and the unit's control is at FOLDER/control for it. What is seen: the paths, methods and
-statuses; that `/metrics` is what `sfu ask PATH metrics` says; that the page's counts grow, and its rates are those at which is sent; that half requests, visitors who read nothing, a
-thousand connections, `..` in paths and a head of a megabyte neither stop the page nor cost the unit a datagram; and that the page says
-503 once the unit is gone. Ends with status 1 at the first thing that isn't so. By hand: nothing of it is proved.
+SFU is the built program. With PAGE_PORT a page that runs already is looked at, and the unit's control is at FOLDER/control for it. What is
+seen: the paths, methods and statuses; that the page's policy has the digests of its style and script; that `/metrics` is what `sfu ask PATH
+metrics` says; that the counts of octets grow as is sent; that half requests, visitors who read nothing, a thousand connections, `..` in paths
+and a head of a megabyte neither stop the page nor cost the unit a datagram; and that `/state.json` has 503 once the unit is gone.
+
+Where chromium is installed, it has the page open all the while: what it shows is compared with what is sent, pictures of it go to FOLDER,
+light and dark, 400 and 1600 pixels wide, and its policy may forbid nothing of it. A state that has markup in place of each word and number
+is shown as text. Ends with status 1 at the first thing that isn't so. By hand: nothing of it is proved.
 """
 
+import base64
+import hashlib
 import http.client
+import http.server
 import json
 import os
+import re
+import select
 import shutil
 import socket
 import struct
 import subprocess
 import sys
+import tempfile
 import threading
 import time
 
@@ -60,6 +69,8 @@ out_ssrc = 259
 on = false
 """
 PACKETS_A_SECOND = 50
+# A packet has 212 bytes.
+BITS_A_SECOND = 8 * 212 * PACKETS_A_SECOND
 
 
 def fail(text):
@@ -181,15 +192,32 @@ def packets(port):
 
 
 def moved(port):
-    """Whether what comes from both senders and goes to them is told, in bits a second: 50 packets of 212 bytes a second each way."""
-    state = json.loads(expect(port, "/state.json", 200))
-    told = [(it["heard_bps"], it["sent_bps"]) for it in state["endpoints"]]
-    if None in told[0] + told[1] + (state["counts"]["heard_bps"], state["counts"]["sent_bps"]):
-        return False
-    all_heard = sum(heard for heard, _ in told if heard)
-    return (all(40_000 < rate < 170_000 for it in told[:2] for rate in it)
-            and abs(state["counts"]["heard_bps"] - all_heard) <= len(told)
-            and b'<polyline class="out"' in expect(port, "/", 200))
+    """Whether what comes from both senders, and goes to them, is counted, between two questions, by what is sent."""
+    first = json.loads(expect(port, "/state.json", 200))
+    wait_for(lambda: json.loads(expect(port, "/state.json", 200))["moment_ms"] > first["moment_ms"])
+    then = json.loads(expect(port, "/state.json", 200))
+    elapsed = then["moment_ms"] - first["moment_ms"]
+    rates = [8000 * (now[way] - before[way]) / elapsed
+             for before, now in list(zip(first["endpoints"], then["endpoints"]))[:2] for way in ("heard_octets", "sent_octets")]
+    return all(BITS_A_SECOND / 2 < rate < 2 * BITS_A_SECOND for rate in rates)
+
+
+def digest(page, part):
+    """The digest of what stands between a tag and its end, as a policy has it."""
+    text = re.search(rb"<%s>(.*?)</%s>" % (part, part), page, re.DOTALL)[1]
+    return f"'sha256-{base64.b64encode(hashlib.sha256(text).digest()).decode()}'"
+
+
+def policy(port):
+    """The page is the same whatever the unit says, and its policy lets its own style and script alone do something."""
+    status, fields, page = get(port, "/")
+    wanted = ("default-src 'none'; style-src {}; script-src {}; connect-src 'self'; img-src 'self'; base-uri 'none'; form-action 'none'; "
+              "frame-ancestors 'none'").format(digest(page, b"style"), digest(page, b"script"))
+    if status != 200 or dict(fields)["content-security-policy"] != wanted:
+        fail(f"the policy is {fields}, not {wanted}")
+    if b"style=" in page or re.search(rb"\son[a-z]+=", page) or b"innerHTML" in page:
+        fail("the page has styles or scripts in its tags, or reads texts as markup")
+    return page
 
 
 def ask(program, path, word):
@@ -208,8 +236,7 @@ def look(port, program, control):
     told = {line.split(b" ")[0] for line in expect(port, "/metrics", 200).splitlines()}
     if told != {line.split(b" ")[0] for line in ask(program, control, "metrics").splitlines()}:
         fail("the metrics are others")
-    for within in (b'<span class="on">on</span>', b'<span class="off">off</span>', b"127.0.0.1", b"<h2>Who sees whom</h2>"):
-        expect(port, "/", 200, within=within)
+    policy(port)
     for path in ("/index.html", "/../etc/passwd", "/..", "//", "/%2e%2e/state.json", "/state.json/", "/publishers", "/metrics%00"):
         expect(port, path, 404)
     for method in ("POST", "PUT", "DELETE", "OPTIONS", "PATCH"):
@@ -219,9 +246,6 @@ def look(port, program, control):
         fail("HEAD isn't as GET without its body")
     for number in (0, 1):
         expect(port, f"/publishers/{number}.svg", 200, within=f"Asked of media sender {16 + number}<".encode())
-        expect(port, "/", 200, within=f'src="/publishers/{number}.svg"'.encode())
-    if b'src="/publishers/2.svg"' in expect(port, "/", 200):
-        fail("one who sends nothing has an image")
     for number in ("3", "65536", "x", ""):
         expect(port, f"/publishers/{number}.svg", 404)
     hosts(port)
@@ -231,23 +255,139 @@ def look(port, program, control):
     wait_for(lambda: packets(port) > before)
 
 
-def pictures(port, folder):
-    browser = shutil.which("chromium")
-    if browser is None:
-        print("no chromium: no pictures")
-        return
-    for name, size, more in (
-        ("light-wide", "1600,900", []),
-        ("light-narrow", "360,1400", []),
-        ("dark-wide", "1600,900", ["--blink-settings=preferredColorScheme=0", "--force-dark-mode"]),
-        ("dark-narrow", "360,1400", ["--blink-settings=preferredColorScheme=0", "--force-dark-mode"]),
-    ):
-        subprocess.run(
-            [browser, "--headless", "--no-sandbox", "--hide-scrollbars", "--disable-gpu", "--virtual-time-budget=6000",
-             f"--window-size={size}", f"--screenshot={folder}/{name}.png", *more, f"http://127.0.0.1:{port}/"],
-            capture_output=True, timeout=120)
-        if not os.path.exists(f"{folder}/{name}.png"):
-            fail(f"no picture {name}")
+class Browser:
+    """Chromium without a window, steered over pipes by the DevTools protocol: a page that is open."""
+
+    def __init__(self, program, url):
+        (theirs, self.to), (self.back, ours) = os.pipe(), os.pipe()
+        self.folder = tempfile.mkdtemp(prefix="sfu-page-")
+        words = [program, "--headless", "--no-sandbox", "--disable-gpu", "--hide-scrollbars", "--remote-debugging-pipe",
+                 f"--user-data-dir={self.folder}"]
+        # (it reads from 3 and writes to 4)
+        self.process = subprocess.Popen(["bash", "-c", f'exec "$@" 3<&{theirs} 4>&{ours}', "bash", *words], pass_fds=(theirs, ours),
+                                        stdout=subprocess.DEVNULL, stderr=subprocess.DEVNULL)
+        os.close(theirs)
+        os.close(ours)
+        self.number, self.rest, self.session, self.complaints = 0, b"", {}, []
+        target = self.call("Target.createTarget", url="about:blank")["targetId"]
+        self.session = {"sessionId": self.call("Target.attachToTarget", targetId=target, flatten=True)["sessionId"]}
+        for domain in ("Page", "Runtime", "Log"):
+            self.call(f"{domain}.enable")
+        self.call("Page.navigate", url=url)
+
+    def read(self, end):
+        """The next message; `None` if none comes by then."""
+        while b"\0" not in self.rest:
+            if not select.select([self.back], [], [], max(0, end - time.monotonic()))[0]:
+                return None
+            self.rest += os.read(self.back, 1 << 20)
+        text, self.rest = self.rest.split(b"\0", 1)
+        it = json.loads(text)
+        said = str(it.get("params"))
+        if it.get("method") == "Runtime.exceptionThrown" or "Content Security Policy" in said:
+            self.complaints.append(said)
+        return it
+
+    def call(self, method, **params):
+        self.number += 1
+        os.write(self.to, json.dumps({"id": self.number, "method": method, "params": params, **self.session}).encode() + b"\0")
+        end = time.monotonic() + 60
+        while True:
+            it = self.read(end)
+            if it is None or "error" in it:
+                fail(f"the browser says {it} to {method}")
+            if it.get("id") == self.number:
+                return it["result"]
+
+    def value(self, script):
+        return self.call("Runtime.evaluate", expression=script, returnByValue=True)["result"].get("value")
+
+    def says(self, script, wanted):
+        """The script comes to this within some seconds."""
+        end = time.monotonic() + 20
+        while (given := self.value(script)) != wanted:
+            if time.monotonic() > end:
+                fail(f"{script} is {given!r}, not {wanted!r}")
+            self.read(time.monotonic() + 0.2)
+
+    def picture(self, path, width, scheme):
+        """A picture of all of the page, which fits into the width."""
+        self.call("Emulation.setDeviceMetricsOverride", width=width, height=900, deviceScaleFactor=1, mobile=False)
+        self.call("Emulation.setEmulatedMedia", features=[{"name": "prefers-color-scheme", "value": scheme}])
+        if self.value("document.documentElement.scrollWidth") != width:
+            fail(f"the page is wider than {width} pixels")
+        with open(path, "wb") as it:
+            it.write(base64.b64decode(self.call("Page.captureScreenshot", format="png", captureBeyondViewport=True)["data"]))
+
+    def close(self):
+        self.process.kill()
+        self.process.wait()
+        shutil.rmtree(self.folder, ignore_errors=True)
+
+
+def cells(table, column):
+    return f"[...document.querySelectorAll('#{table} tbody tr > :nth-child({column})')].map(it => it.textContent).join('|')"
+
+
+def shown(browser, folder):
+    """What people see of what is sent, and pictures of it."""
+    browser.says("document.getElementById('news').textContent", "The unit answers")
+    browser.says(cells("endpoints", 2), "present|present|absent")
+    browser.says(cells("endpoints", 8).replace("it.textContent", "it.textContent.replace(/^[0-9.]+ s ago$/, 'seconds ago')"),
+                 "seconds ago|seconds ago|never")
+    browser.says(cells("endpoints", 10), "16|17|18")
+    browser.says(cells("legs", 2), "on|on|off")
+    browser.says("[...document.querySelectorAll('#matrix tbody tr')].map(it => [...it.children].map(cell => cell.textContent || "
+                 "(cell.firstElementChild ? cell.firstElementChild.getAttribute('aria-label') : '-')).join(' ')).join('|')",
+                 "0 - on|1 on -|2 off -")
+    browser.says("[...document.querySelectorAll('#gallery img')].map(it => it.naturalWidth > 0 && new URL(it.src).pathname).join('|')",
+                 "/publishers/0.svg|/publishers/1.svg")
+    # Of each endpoint a curve of at least three dots, the rate of both that send.
+    browser.says("[...document.querySelectorAll('#endpoints .in polyline, #endpoints polyline.in')].map(it => "
+                 "it.getAttribute('points').split(' ').length > 2).join('|')", "true|true|true")
+    for column in (3, 4):
+        browser.says(f"[...document.querySelectorAll('#endpoints tbody tr > :nth-child({column})')].slice(0, 2).map(it => "
+                     f"/^[0-9.]+\\u00a0kbit\\/s$/.test(it.textContent) && parseFloat(it.textContent) > {BITS_A_SECOND / 2000} "
+                     f"&& parseFloat(it.textContent) < {BITS_A_SECOND / 500}).join('|')", "true|true")
+    for scheme in ("light", "dark"):
+        for width in (400, 1600):
+            browser.picture(f"{folder}/{scheme}-{width}.png", width, scheme)
+
+
+MARKUP = "<img src=x onerror=hit()><script>hit()</script>"
+
+
+def hostile(program, page, fields):
+    """The page, under its own policy, of a state that has markup in place of all: each is shown as text, or the state isn't read."""
+    leg = dict.fromkeys(("leg", "subscriber", "on", "stay", "packets", "octets", "resent", "missed", "next", "fraction_lost", "jitter",
+                         "round_trip_ms"), MARKUP)
+    endpoint = dict.fromkeys(("number", "ssrc", "address", "present", "heard_ago_ms", "refused", "heard_octets", "sent_octets",
+                              "fraction_lost", "jitter"), MARKUP)
+    counts = dict.fromkeys(("present", "heard", "sent", "failed", "lost", "dropped", "strangers", "unread"), MARKUP)
+    state = {"moment_ms": MARKUP, "endpoints": [endpoint], "legs": [{**leg, "publisher": MARKUP}], "counts": counts}
+
+    class Answers(http.server.BaseHTTPRequestHandler):
+        def do_GET(self):
+            body = page if self.path == "/" else json.dumps(state).encode() if self.path == "/state.json" else b"<svg/>"
+            self.send_response(200)
+            for name in ("content-type", "content-security-policy", "x-content-type-options"):
+                self.send_header(name, fields[name] if self.path == "/" else "application/json" if name == "content-type" else fields[name])
+            self.end_headers()
+            self.wfile.write(body)
+
+        def log_message(self, *_):
+            pass
+
+    server = http.server.ThreadingHTTPServer(("127.0.0.1", 0), Answers)
+    threading.Thread(target=server.serve_forever, daemon=True).start()
+    browser = Browser(program, f"http://127.0.0.1:{server.server_port}/")
+    browser.says("document.getElementById('news').textContent", "The unit answers")
+    browser.says(cells("endpoints", 11), MARKUP)
+    browser.says("document.querySelectorAll('img[src=x], main script, [onerror]').length", 0)
+    if browser.complaints:
+        fail(f"of a hostile state the browser says {browser.complaints}")
+    browser.close()
+    server.shutdown()
 
 
 def raw(port, text, reads):
@@ -328,7 +468,7 @@ def main():
     control, settings = f"{folder}/control", f"{folder}/room.toml"
     with open(settings, "w", encoding="ascii") as it:
         it.write(SETTINGS.format(**ports))
-    page = None
+    page, browser = None, None
     if len(sys.argv) > 3:
         port = int(sys.argv[3])
     else:
@@ -339,7 +479,8 @@ def main():
         page = subprocess.Popen([program, "page", control, f"127.0.0.1:{port}"], stderr=subprocess.PIPE)
         if page.stderr.readline() != f"page 127.0.0.1:{port}\n".encode():
             fail("the page doesn't say where it is")
-    wait_for(lambda: get(port, "/")[0] == 503)
+    wait_for(lambda: get(port, "/state.json")[0] == 503)
+    policy(port)
     for path in ("/metrics", "/state.json", "/publishers/0.svg"):
         expect(port, path, 503)
     unit = subprocess.Popen([program, "serve", settings, "--control", control],
@@ -350,7 +491,13 @@ def main():
         clients.start()
         wait_for(lambda: get(port, "/state.json")[0] == 200 and packets(port) > 50)
         look(port, program, control)
-        pictures(port, folder)
+        chromium = shutil.which("chromium")
+        browser = chromium and Browser(chromium, f"http://127.0.0.1:{port}/")
+        if browser:
+            shown(browser, folder)
+            hostile(chromium, policy(port), dict(get(port, "/")[1]))
+        else:
+            print("no chromium: what people see isn't looked at")
         start = time.monotonic()
         attack(port)
         print(f"attacked for {time.monotonic() - start:.1f} s" + (f"; the page has {memory(page.pid)} KB" if page else ""))
@@ -364,9 +511,19 @@ def main():
         subprocess.run([program, "ask", control, "stop"], check=True, timeout=20)
         unit.wait(20)
         wait_for(lambda: get(port, "/state.json")[0] == 503)
+        policy(port)
+        if browser:
+            browser.says("document.getElementById('news').textContent", "The unit does not answer. What is below is old")
+            if page:
+                page.kill()
+                browser.says("document.getElementById('news').textContent", "The program sfu page does not answer. What is below is old")
+            if browser.complaints:
+                fail(f"the browser says {browser.complaints}")
         print("all so")
     finally:
         unit.kill()
+        if browser:
+            browser.close()
         if page:
             page.kill()
 

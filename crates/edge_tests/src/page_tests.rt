@@ -1,12 +1,13 @@
 //! What is asked for, and what is answered, as docs/FORMATS.md has it.
 
-use page::{
-    AnnouncedSet, Flow, FlowRate, History, Kind, Said, Verdict, Way, Whose, answer_to, asked_for,
-    is_known_host,
-};
+use page::{AnnouncedSet, Kind, Said, Verdict, answer_to, asked_for, is_known_host};
 use std::alloc::{AllocError, Global};
 use std::process::Abort;
 use std::test::Fail;
+
+const METRICS: &[u8] = b"# TYPE sfu_received_bytes_total counter\n\
+    sfu_received_bytes_total{endpoint=\"0\"} 1000\nsfu_sent_bytes_total{endpoint=\"0\"} 0\n\
+    sfu_received_bytes_total{endpoint=\"1\"} 20\n";
 
 const PRESENT: &[u8] = b"0 ssrc 16 at 127.0.0.1:5004 present heard 340 ms ago refused 17\n\
     1 ssrc 4294967295 at [2001:db8::7]:6000 absent never heard refused 4\n\
@@ -40,45 +41,9 @@ fn push_set(
     Ok(())
 }
 
-/// What moved: of endpoint 0 half a minute ago and now, and of all endpoints together.
-const RATES: [FlowRate; 4] = [
-    FlowRate {
-        flow: Flow {
-            whose: Whose::Endpoint(0),
-            way: Way::Heard,
-        },
-        age_ms: 30_000,
-        rate: 500_000,
-    },
-    FlowRate {
-        flow: Flow {
-            whose: Whose::Endpoint(0),
-            way: Way::Heard,
-        },
-        age_ms: 0,
-        rate: 1_250_000,
-    },
-    FlowRate {
-        flow: Flow {
-            whose: Whose::Endpoint(0),
-            way: Way::Sent,
-        },
-        age_ms: 0,
-        rate: 999,
-    },
-    FlowRate {
-        flow: Flow {
-            whose: Whose::Unit,
-            way: Way::Heard,
-        },
-        age_ms: 0,
-        rate: 12_399,
-    },
-];
-
 /// Says all this. The sets are of a publisher whom nobody asks, of one who is asked, and of one for whom an owner is named twice.
 fn say(alloc: Global, said: &mut Said) -> Result<(), AllocError> {
-    said.metrics.extend_from_slice(b"# HELP x y\nx 1\n")?;
+    said.metrics.extend_from_slice(METRICS)?;
     said.present.extend_from_slice(PRESENT)?;
     said.legs.extend_from_slice(LEGS)?;
     said.counts.extend_from_slice(COUNTS)?;
@@ -91,22 +56,19 @@ fn say(alloc: Global, said: &mut Said) -> Result<(), AllocError> {
         2,
         b"live 5 030d4014\nlive 5 030d4014\n",
     )?;
-    for rate in RATES {
-        said.rates.push(rate)?;
-    }
     Ok(())
 }
 
 /// A unit that said nothing.
 fn nothing_said(alloc: Global) -> Said {
     Said {
+        moment_ms: 4_000,
         metrics: Vec::new(alloc),
         present: Vec::new(alloc),
         legs: Vec::new(alloc),
         counts: Vec::new(alloc),
         reports: Vec::new(alloc),
         sets: Vec::new(alloc),
-        rates: Vec::new(alloc),
     }
 }
 
@@ -186,8 +148,8 @@ fn tells(
 
 /// A method, a path, and what is told.
 const PATHS: [(&[u8], &[u8], (u16, &str)); 7] = [
-    (b"GET", b"/metrics", (200, "metrics # HELP x y\nx 1\n")),
-    (b"HEAD", b"/metrics", (200, "metrics # HELP x y\nx 1\n")),
+    (b"GET", b"/metrics", (200, COUNTED)),
+    (b"HEAD", b"/metrics", (200, COUNTED)),
     (b"POST", b"/metrics", (405, "plain method not allowed\n")),
     (b"get", b"/metrics", (405, "plain method not allowed\n")),
     (b"GET", b"/metrics/", (404, "plain not found\n")),
@@ -195,28 +157,26 @@ const PATHS: [(&[u8], &[u8], (u16, &str)); 7] = [
     (b"GET", b"/state.json", (200, STATE)),
 ];
 
-const STATE: &str = "json {\"endpoints\":[\
-    {\"number\":0,\"ssrc\":16,\"address\":\"127.0.0.1:5004\",\"present\":true,\"heard_ago_ms\":340,\"refused\":17,\"heard_bps\":1250000,\"sent_bps\":999,\"fraction_lost\":null,\"jitter\":null},\
-    {\"number\":1,\"ssrc\":4294967295,\"address\":\"[2001:db8::7]:6000\",\"present\":false,\"heard_ago_ms\":null,\"refused\":4,\"heard_bps\":null,\"sent_bps\":null,\"fraction_lost\":1,\"jitter\":7},\
-    {\"number\":2,\"ssrc\":18,\"address\":\"127.0.0.1:5006\",\"present\":false,\"heard_ago_ms\":null,\"refused\":null,\"heard_bps\":null,\"sent_bps\":null,\"fraction_lost\":null,\"jitter\":null},\
-    {\"number\":3,\"ssrc\":19,\"address\":\"127.0.0.1:5008\",\"present\":false,\"heard_ago_ms\":null,\"refused\":null,\"heard_bps\":null,\"sent_bps\":null,\"fraction_lost\":null,\"jitter\":null}],\
+/// What the unit said for `metrics`, as it is.
+const COUNTED: &str = "metrics # TYPE sfu_received_bytes_total counter\n\
+    sfu_received_bytes_total{endpoint=\"0\"} 1000\nsfu_sent_bytes_total{endpoint=\"0\"} 0\n\
+    sfu_received_bytes_total{endpoint=\"1\"} 20\n";
+
+const STATE: &str = "json {\"moment_ms\":4000,\"endpoints\":[\
+    {\"number\":0,\"ssrc\":16,\"address\":\"127.0.0.1:5004\",\"present\":true,\"heard_ago_ms\":340,\"refused\":17,\"heard_octets\":1000,\"sent_octets\":0,\"fraction_lost\":null,\"jitter\":null},\
+    {\"number\":1,\"ssrc\":4294967295,\"address\":\"[2001:db8::7]:6000\",\"present\":false,\"heard_ago_ms\":null,\"refused\":4,\"heard_octets\":20,\"sent_octets\":null,\"fraction_lost\":1,\"jitter\":7},\
+    {\"number\":2,\"ssrc\":18,\"address\":\"127.0.0.1:5006\",\"present\":false,\"heard_ago_ms\":null,\"refused\":null,\"heard_octets\":null,\"sent_octets\":null,\"fraction_lost\":null,\"jitter\":null},\
+    {\"number\":3,\"ssrc\":19,\"address\":\"127.0.0.1:5008\",\"present\":false,\"heard_ago_ms\":null,\"refused\":null,\"heard_octets\":null,\"sent_octets\":null,\"fraction_lost\":null,\"jitter\":null}],\
     \"legs\":[\
     {\"leg\":0,\"publisher\":0,\"subscriber\":1,\"on\":true,\"stay\":9,\"packets\":7,\"octets\":700,\"resent\":2,\"missed\":3,\"next\":4,\"fraction_lost\":64,\"jitter\":90,\"round_trip_ms\":45},\
     {\"leg\":1,\"publisher\":1,\"subscriber\":0,\"on\":false,\"stay\":null,\"packets\":0,\"octets\":0,\"resent\":0,\"missed\":0,\"next\":null,\"fraction_lost\":null,\"jitter\":null,\"round_trip_ms\":null}],\
-    \"counts\":{\"present\":1,\"heard\":2,\"sent\":3,\"failed\":4,\"lost\":5,\"dropped\":6,\"strangers\":7,\"unread\":8,\"heard_bps\":12399,\"sent_bps\":null}}";
+    \"counts\":{\"present\":1,\"heard\":2,\"sent\":3,\"failed\":4,\"lost\":5,\"dropped\":6,\"strangers\":7,\"unread\":8}}";
 
 fn tells_all(rt: &(impl AllocGlobal + Abort), said: &Option<Said>) -> Result<(), Fail> {
     for (method, path, wanted) in &PATHS {
         tells(rt, method, path, said, *wanted)?;
     }
     Ok(())
-}
-
-/// Which path gives what, by which method.
-#[test]
-fn answers_by_path(rt: HostRuntime) -> Result<(), Fail> {
-    let said = unit_said(rt.alloc())?;
-    tells_all(&rt, &said)
 }
 
 /// A path, and the status and the parts of what is told.
@@ -230,37 +190,26 @@ fn expect_all(rt: &impl AllocGlobal, said: &Option<Said>, shown: &[Shown]) -> Re
     Ok(())
 }
 
-const PEOPLE: &[&str] = &[
-    "html <!doctype html>",
-    "<dt>strangers</dt><dd>7</dd>",
-    "<dt>unread</dt><dd>8</dd>",
-    "<dt>in, bit/s</dt><dd class=\"in\">12.3k</dd>",
-    "<tr><td>0</td><td class=\"word present\">present</td><td>340</td><td class=\"in\">1.2M</td><td class=\"out\">999</td><td><svg",
-    "<polyline class=\"in\" points=\"300,60 600,0 \"/><polyline class=\"out\" points=\"600,100 \"/></svg></td><td></td><td></td><td>17</td><td>16</td>\
-    <td class=\"word\">127.0.0.1:5004</td></tr>",
-    "<td>never</td><td class=\"in\"></td><td class=\"out\"></td><td><svg",
-    "</td><td>0.3%</td><td>7</td><td>4</td><td>4294967295</td><td class=\"word\">[2001:db8::7]:6000</td></tr>",
-    "<tr><th scope=\"row\">0</th><td></td><td><span class=\"off\">off</span></td><td></td><td></td></tr>",
-    "<tr><th scope=\"row\">1</th><td><span class=\"on\">on</span></td><td></td><td></td><td></td></tr>",
-    "<td class=\"word on\">on</td><td>7</td><td>700</td><td>2</td><td>3</td><td>4</td><td>25.0%</td><td>90</td><td>45</td></tr>",
-    "src=\"/publishers/1.svg\"",
-];
-
 const SILENT: &[&str] = &["plain the unit does not answer\n"];
 
 const NOT_FOUND: &[&str] = &["plain not found\n"];
 
-/// The page shows who is there, who sees whom, and an image for each publisher; a unit that says nothing has a page that says so.
+/// The page is there whatever the unit says.
+const PAGE: Shown = (b"/", 200, &["html <!doctype html>", "</html>\n"]);
+
+/// Which path gives what, by which method; and if the unit says nothing.
 #[test]
-fn shows_people(rt: HostRuntime) -> Result<(), Fail> {
+fn answers_by_path(rt: HostRuntime) -> Result<(), Fail> {
     let said = unit_said(rt.alloc())?;
-    expect_all(&rt, &said, &[(b"/", 200, PEOPLE)])?;
+    tells_all(&rt, &said)?;
+    expect_all(&rt, &said, &[PAGE])?;
     expect_all(
         &rt,
         &None,
         &[
-            (b"/", 503, &["<p>The unit does not answer.</p>"]),
+            PAGE,
             (b"/metrics", 503, SILENT),
+            (b"/state.json", 503, SILENT),
             (b"/publishers/0.svg", 503, SILENT),
         ],
     )
@@ -317,74 +266,6 @@ fn knows_hosts(rt: HostRuntime) -> Result<(), Fail> {
         "sfu.example.org",
     ] {
         assert!(rt; !is_known_host(b"sfu.example", host.as_bytes()));
-    }
-    Ok(())
-}
-
-/// What a history has, a line for each rate.
-fn rates_told(alloc: Global, history: &History) -> Result<String, Fail> {
-    let mut text = String::new(alloc);
-    for rate in &history.rates {
-        let way = match rate.flow.way {
-            Way::Heard => "in",
-            Way::Sent => "out",
-        };
-        match rate.flow.whose {
-            Whose::Unit => write!(text, "{way}")?,
-            Whose::Endpoint(number) => write!(text, "{way} {number}")?,
-        }
-        write!(text, " {} {}\n", rate.age_ms, rate.rate)?;
-    }
-    Ok(text)
-}
-
-/// Endpoint 3 sends a thousand octets in a second, and endpoint 4 ten in the next 300 milliseconds; then nothing moves.
-const ANSWERS: [&[u8]; 4] = [
-    b"# TYPE sfu_received_bytes_total counter\n\
-    sfu_received_bytes_total{endpoint=\"3\"} 1000\nsfu_sent_bytes_total{endpoint=\"3\"} 0\n",
-    b"sfu_received_bytes_total{endpoint=\"3\"} 2000\nsfu_sent_bytes_total{endpoint=\"3\"} 1\n",
-    b"sfu_received_bytes_total{endpoint=\"3\"} 2000\nsfu_received_bytes_total{endpoint=\"4\"} 10\n\
-    sfu_sent_bytes_total{endpoint=\"3\"} 1\n",
-    b"sfu_received_bytes_total{endpoint=\"3\"} 1999\nsfu_received_bytes_total{endpoint=\"4\"} 10\n\
-    sfu_sent_bytes_total{endpoint=\"3\"} 1\n",
-];
-
-/// Rates are of the octets that were added, in bits a second, of each endpoint and of all together; they are kept for a minute, the oldest
-/// first. If a count falls, all of them are gone.
-#[test]
-fn keeps_rates_for_a_minute(rt: HostRuntime) -> Result<(), Fail> {
-    let alloc = rt.alloc();
-    let mut history = History::new(alloc);
-    let asked: [(u64, &[u8], &str); 6] = [
-        (1_000, ANSWERS[0], ""),
-        (
-            2_000,
-            ANSWERS[1],
-            "in 3 0 8000\nout 3 0 8\nin 0 8000\nout 0 8\n",
-        ),
-        (
-            2_300,
-            ANSWERS[2],
-            "in 3 300 8000\nout 3 300 8\nin 300 8000\nout 300 8\nin 3 0 0\nout 3 0 0\nin 0 266\nout 0 0\n",
-        ),
-        (
-            62_000,
-            ANSWERS[2],
-            "in 3 60000 8000\nout 3 60000 8\nin 60000 8000\nout 60000 8\n\
-            in 3 59700 0\nout 3 59700 0\nin 59700 266\nout 59700 0\n\
-            in 3 0 0\nin 4 0 0\nout 3 0 0\nin 0 0\nout 0 0\n",
-        ),
-        (
-            62_301,
-            ANSWERS[2],
-            "in 3 301 0\nin 4 301 0\nout 3 301 0\nin 301 0\nout 301 0\n\
-            in 3 0 0\nin 4 0 0\nout 3 0 0\nin 0 0\nout 0 0\n",
-        ),
-        (63_000, ANSWERS[3], ""),
-    ];
-    for (moment, metrics, told) in asked {
-        history.take_in(alloc, moment, metrics)?;
-        assert_eq!(rt; rates_told(alloc, &history)?.as_str(), told);
     }
     Ok(())
 }

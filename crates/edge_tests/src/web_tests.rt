@@ -77,15 +77,16 @@ const ALL_BUT_REPORTS: &[&[u8]] = &[
 
 /// What a unit with these answers has said by a moment, if all was asked.
 fn answered(alloc: Global, answers: &'static [&'static [u8]]) -> Option<Said> {
-    let mut inquiry = Inquiry::new(alloc, fake_unit(answers, false), 0);
+    let mut inquiry = Inquiry::new(alloc, fake_unit(answers, false), 7);
     match inquiry.step(10) {
         Step::Answered => Some(inquiry.into_said()),
         _ => None,
     }
 }
 
-/// The answers, with a line between them, and the publishers of the sets.
+/// The moment and the answers, with a line between them, and the publishers of the sets.
 fn write_said(text: &mut String, said: &Said) -> Result<(), Fail> {
+    write!(text, "{}\n", said.moment_ms)?;
     for part in [
         &said.metrics,
         &said.present,
@@ -125,12 +126,12 @@ fn asks_question_by_question(rt: HostRuntime) -> Result<(), Fail> {
     same(
         &rt,
         &said_text(alloc, ALL)?.as_str(),
-        &"x 1\n-\n0 ssrc 16\n-\n-\npresent 1\n-\nleg 0 from 0 to 1\n-\nset 0\n",
+        &"7\nx 1\n-\n0 ssrc 16\n-\n-\npresent 1\n-\nleg 0 from 0 to 1\n-\nset 0\n",
     );
     same(
         &rt,
         &said_text(alloc, ALL_BUT_REPORTS)?.as_str(),
-        &"x 1\n-\n0 ssrc 16\n-\n-\npresent 1\n-\n-\nset 0\n",
+        &"7\nx 1\n-\n0 ssrc 16\n-\n-\npresent 1\n-\n-\nset 0\n",
     );
     assert!(rt; fails_at(alloc, &ALL[..2], false, 5_000));
     assert!(rt; fails_at(alloc, &[b"refused full\n"], false, 1));

@@ -7,13 +7,12 @@ use Rattle.page.specs.declared.answer.Asked.{Asked}
 use Rattle.page.specs.declared.answer.Asked.TheVariants as asked
 use Rattle.page.specs.declared.answer.Kind.{Kind}
 use Rattle.page.specs.declared.answer.Kind.TheVariants as kind
-use Rattle.page.specs.declared.answer.Said.{Said}
 use Rattle.page.specs.declared.answer.Verdict.{Verdict}
 use Rattle.page.specs.declared.answer.Verdict.TheVariants as verdict
 use Rattle.page.specs.declared.answer.View.{View}
 use Rattle.page.specs.declared.answer.View.TheVariants.{Page, Metrics, State, Picture}
-use Rattle.page.specs.Html.{page_text, silent_text}
-use Rattle.page.specs.Reports.{reports_in}
+use Rattle.page.specs.declared.page.TheConstants.{PAGE_TEXT}
+use Rattle.page.specs.declared.said.Said.{Said}
 use Rattle.page.specs.State.{state_tokens}
 use Rattle.page.specs.Sets.{IsDrawn, media_in, set_in}
 use Rattle.page.specs.Words.{without_end, without_start}
@@ -56,12 +55,9 @@ answer_seen a = record { verdict = a.verdict; kind = a.kind; body = a.body.items
 abbrev pub plain_answer : Verdict → List ℕ → Seen
 plain_answer v text = record { verdict = v; kind = kind.Plain; body = text }
 
-abbrev pub page_answer : Said → Seen
-page_answer said = record {
-  verdict = verdict.Fine;
-  kind = kind.Html;
-  body = page_text said.present.items said.legs.items said.counts.items said.rates.items (reports_in said.reports.items);
-}
+-- the page is the same whatever the unit said
+abbrev pub page_answer : Seen
+page_answer = record { verdict = verdict.Fine; kind = kind.Html; body = PAGE_TEXT.now }
 
 -- the picture of the set that is said; 502 if what is said is no set
 abbrev pub IsSetSeen : Seen → Option (List ℕ) → Type 0
@@ -86,20 +82,19 @@ IsPictureAnswer publisher said seen =
 
 -- metrics are what the unit said, byte by byte
 abbrev pub IsShown : View → Said → Seen → Type 0
-IsShown Page said seen = seen ≡ page_answer said
+IsShown Page said seen = seen ≡ page_answer
 IsShown Metrics said seen =
     seen ≡ record { verdict = verdict.Fine; kind = kind.Metrics; body = said.metrics.items }
 IsShown State said seen = seen ≡ record {
   verdict = verdict.Fine;
   kind = kind.Json;
-  body = print
-      (state_tokens said.present.items said.legs.items said.counts.items said.rates.items (reports_in said.reports.items));
+  body = print (state_tokens said);
 }
 IsShown (Picture publisher) said seen = IsPictureAnswer publisher said seen
 
--- of a unit that says nothing nothing is shown
+-- of a unit that says nothing nothing is shown but the page
 abbrev pub silent_answer : View → Seen
-silent_answer Page = record { verdict = verdict.Silent; kind = kind.Html; body = silent_text }
+silent_answer Page = page_answer
 silent_answer Metrics = plain_answer verdict.Silent (codes "the unit does not answer\n")
 silent_answer State = plain_answer verdict.Silent (codes "the unit does not answer\n")
 silent_answer (Picture publisher) = plain_answer verdict.Silent (codes "the unit does not answer\n")

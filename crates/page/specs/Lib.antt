@@ -1,11 +1,8 @@
 pub mod Words
-pub mod State
-pub mod Ends
-pub mod History
-pub mod Curves
+pub mod Endpoints
+pub mod Octets
 pub mod Reports
-pub mod Receptions
+pub mod State
 pub mod Sets
-pub mod Html
 pub mod Hosts
 pub mod Answers

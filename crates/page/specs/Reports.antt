@@ -6,7 +6,7 @@ use Rattle.request_text.specs.Words.{number_under, words_in}
 use Rattle.page.specs.declared.reports.About.{About}
 use Rattle.page.specs.declared.reports.About.TheVariants.{Leg, Publisher}
 use Rattle.page.specs.declared.reports.Report.{Report}
-use Rattle.page.specs.Ends.{as_list}
+use Rattle.page.specs.Endpoints.{as_list}
 use Rattle.page.specs.Words.{word_at}
 
 abbrev pub number_at : List (List ℕ) → ℕ → Option ℕ

@@ -11,7 +11,7 @@ use Rattle.request_text.specs.Lines.{Asked, lines_of}
 use Rattle.request_text.specs.Words.{number_under, words_in}
 use Rattle.request_text.specs.CheckFile.{Line, skipped, unreadable, live, kept, implied, asked_of, line_of}
 use Rattle.page.specs.declared.sets.AnnouncedSet.{AnnouncedSet}
-use Rattle.page.specs.Ends.{as_list}
+use Rattle.page.specs.Endpoints.{as_list}
 use Rattle.page.specs.Words.{word_at}
 
 -- what was said of a publisher's set

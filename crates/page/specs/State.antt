@@ -1,19 +1,19 @@
--- What a unit is like, as JSON: the words of its answers to `present`, `legs` and `counts`, by their places.
+-- What a unit is like, as JSON: the words of its answers to `present`, `legs` and `counts`, by their places, with the octets that `metrics` and
+-- the receptions that `reports` tell of.
 use Rattle.std.specs.Prelude.{◌≡◌, ℕ, ◌^◌, Option, None, Some, Result, OnOk, List, [], ◌∷◌, ◌++◌, codes, decimal, flat_map, if◌then◌else◌}
 use Rattle.std.specs.Str.{bytes_eq}
 use Rattle.json.specs.Token.{Token, begin_object, end_object, begin_array, end_array, key, string, number, boolean, null}
 use Rattle.json.specs.Written.{Written}
 use Rattle.request_text.specs.Lines.{lines_of}
 use Rattle.request_text.specs.Words.{number_under, words_in}
-use Rattle.page.specs.declared.history.FlowRate.{FlowRate}
-use Rattle.page.specs.declared.history.Way.TheVariants.{Heard, Sent}
-use Rattle.page.specs.declared.history.Whose.{Whose}
-use Rattle.page.specs.declared.history.Whose.TheVariants as whose
+use Rattle.page.specs.declared.octets.FlowCount.{FlowCount}
+use Rattle.page.specs.declared.octets.Way.TheVariants.{Heard, Sent}
+use Rattle.page.specs.declared.said.Said.{Said}
 use Rattle.page.specs.declared.state.Rows.{Rows}
 use Rattle.page.specs.declared.state.Rows.TheVariants.{Endpoints, Legs, Totals}
 use Rattle.page.specs.declared.reports.Report.{Report}
-use Rattle.page.specs.History.{rate_now}
-use Rattle.page.specs.Reports.{fraction_of, jitter_of, leg_reported, publisher_reported, trip_of}
+use Rattle.page.specs.Octets.{flows_in, octets_of}
+use Rattle.page.specs.Reports.{fraction_of, jitter_of, leg_reported, publisher_reported, reports_in, trip_of}
 use Rattle.page.specs.Words.{plain_word, refused_word, word_at}
 
 -- these tokens come after those that were written
@@ -38,13 +38,13 @@ text_member name word = key name ∷ (string (plain_word word) ∷ [])
 unfoldable pub switch_member : List ℕ → List ℕ → List ℕ → List Token
 switch_member name word wanted = key name ∷ (boolean (bytes_eq word wanted) ∷ [])
 
--- ---- rates
+-- ---- octets
 
--- over the time before the last question, in bits a second
-unfoldable pub moved_members : List FlowRate → Whose → List Token
-moved_members rates w =
-    known_member (codes "heard_bps") (rate_now rates (record { whose = w; way = Heard }))
-    ++ known_member (codes "sent_bps") (rate_now rates (record { whose = w; way = Sent }))
+-- those that came from the endpoint, and those that went to it
+unfoldable pub octets_members : List FlowCount → ℕ → List Token
+octets_members flows n =
+    known_member (codes "heard_octets") (octets_of flows (record { endpoint = n; way = Heard }))
+    ++ known_member (codes "sent_octets") (octets_of flows (record { endpoint = n; way = Sent }))
 
 -- ---- reports
 
@@ -74,24 +74,24 @@ endpoint_members words =
     ++ (switch_member (codes "present") (word_at words 5) (codes "present")
     ++ number_member (codes "heard_ago_ms") (word_at words 7))))
 
-abbrev pub endpoint_moved : List FlowRate → Option ℕ → List Token
-endpoint_moved rates (Some n) = moved_members rates (whose.Endpoint n)
-endpoint_moved rates None = []
+abbrev pub endpoint_octets : List FlowCount → Option ℕ → List Token
+endpoint_octets flows (Some n) = octets_members flows n
+endpoint_octets flows None = []
 
 -- how often something was refused of it
 unfoldable pub refused_member : List ℕ → List Token
 refused_member word = number_member (codes "refused") word
 
-unfoldable pub measured_members : List FlowRate → List Report → Option ℕ → List ℕ → List Token
-measured_members rates reports n refused =
+unfoldable pub measured_members : List FlowCount → List Report → Option ℕ → List ℕ → List Token
+measured_members flows reports n refused =
     refused_member refused
-    ++ (endpoint_moved rates n ++ reception_members (publisher_reported reports n))
+    ++ (endpoint_octets flows n ++ reception_members (publisher_reported reports n))
 
-abbrev pub endpoint_words : List FlowRate → List Report → List (List ℕ) → List Token
-endpoint_words rates reports words = if bytes_eq (word_at words 1) (codes "ssrc")
+abbrev pub endpoint_words : List FlowCount → List Report → List (List ℕ) → List Token
+endpoint_words flows reports words = if bytes_eq (word_at words 1) (codes "ssrc")
     then begin_object
     ∷ (endpoint_members words
-    ++ (measured_members rates reports (number_under (2 ^ 16) (word_at words 0)) (refused_word words)
+    ++ (measured_members flows reports (number_under (2 ^ 16) (word_at words 0)) (refused_word words)
     ++ end_object ∷ []))
     else []
 
@@ -137,43 +137,48 @@ losses_members words =
     ++ (number_member (codes "strangers") (word_at words 13)
     ++ number_member (codes "unread") (word_at words 15)))
 
-abbrev pub totals_words : List FlowRate → List (List ℕ) → List Token
-totals_words rates words = if bytes_eq (word_at words 0) (codes "present")
-    then totals_members words ++ (losses_members words ++ moved_members rates whose.Unit) else []
+abbrev pub totals_words : List (List ℕ) → List Token
+totals_words words = if bytes_eq (word_at words 0) (codes "present")
+    then totals_members words ++ losses_members words else []
 
 -- ---- lines
 
-abbrev pub words_tokens : Rows → List FlowRate → List Report → List (List ℕ) → List Token
-words_tokens Endpoints rates reports words = endpoint_words rates reports words
-words_tokens Legs rates reports words = leg_words reports words
-words_tokens Totals rates reports words = totals_words rates words
+abbrev pub words_tokens : Rows → List FlowCount → List Report → List (List ℕ) → List Token
+words_tokens Endpoints flows reports words = endpoint_words flows reports words
+words_tokens Legs flows reports words = leg_words reports words
+words_tokens Totals flows reports words = totals_words words
 
-abbrev pub line_tokens : Rows → List FlowRate → List Report → List ℕ → List Token
-line_tokens rows rates reports line = words_tokens rows rates reports (words_in line)
+abbrev pub line_tokens : Rows → List FlowCount → List Report → List ℕ → List Token
+line_tokens rows flows reports line = words_tokens rows flows reports (words_in line)
 
 unfoldable pub array_begun : List ℕ → List Token
 array_begun name = key name ∷ (begin_array ∷ [])
 
-unfoldable pub array_member : List ℕ → Rows → List FlowRate → List Report → List ℕ → List Token
-array_member name rows rates reports text =
+unfoldable pub array_member : List ℕ → Rows → List FlowCount → List Report → List ℕ → List Token
+array_member name rows flows reports text =
     array_begun name
-    ++ (flat_map (line_tokens rows rates reports) (lines_of text) ++ end_array ∷ [])
+    ++ (flat_map (line_tokens rows flows reports) (lines_of text) ++ end_array ∷ [])
 
 unfoldable pub counts_begun : List Token
 counts_begun = key (codes "counts") ∷ (begin_object ∷ [])
 
-unfoldable pub counts_member : List FlowRate → List Report → List ℕ → List Token
-counts_member rates reports text =
+unfoldable pub counts_member : List FlowCount → List Report → List ℕ → List Token
+counts_member flows reports text =
     counts_begun
-    ++ (flat_map (line_tokens Totals rates reports) (lines_of text) ++ end_object ∷ [])
+    ++ (flat_map (line_tokens Totals flows reports) (lines_of text) ++ end_object ∷ [])
 
 -- ---- the whole
 
-unfoldable pub state_parts : List ℕ → List ℕ → List ℕ → List FlowRate → List Report → List Token
-state_parts present legs counts rates reports =
-    array_member (codes "endpoints") Endpoints rates reports present
-    ++ (array_member (codes "legs") Legs rates reports legs ++ counts_member rates reports counts)
+unfoldable pub state_parts : Said → List FlowCount → List Report → List Token
+state_parts said flows reports =
+    known_member (codes "moment_ms") (Some said.moment_ms)
+    ++ (array_member (codes "endpoints") Endpoints flows reports said.present.items
+    ++ (array_member (codes "legs") Legs flows reports said.legs.items
+    ++ counts_member flows reports said.counts.items))
 
-abbrev pub state_tokens : List ℕ → List ℕ → List ℕ → List FlowRate → List Report → List Token
-state_tokens present legs counts rates reports =
-    begin_object ∷ (state_parts present legs counts rates reports ++ end_object ∷ [])
+-- by the octets and the reports that are known
+abbrev pub known_tokens : Said → List FlowCount → List Report → List Token
+known_tokens said flows reports = begin_object ∷ (state_parts said flows reports ++ end_object ∷ [])
+
+abbrev pub state_tokens : Said → List Token
+state_tokens said = known_tokens said (flows_in said.metrics.items) (reports_in said.reports.items)

@@ -3,9 +3,9 @@
 ghost use Rattle.std.specs.Prelude.{◌≡◌, IfOk};
 ghost use Rattle.page.specs.Answers.{IsAnswer, IsPictureAnswer, IsSetAnswer, IsShown, answer_seen, asked_by, page_answer, picture_number, picture_place, place_of, plain_answer, silent_answer};
 
-use crate::history::FlowRate;
-use crate::html::{page_text, silent_text};
-use crate::sets::{AnnouncedSet, media_of, picture_in, set_for};
+use crate::page::PAGE_TEXT;
+use crate::said::Said;
+use crate::sets::{media_of, picture_in, set_for};
 use crate::state::state_text;
 use crate::words::{without_end, without_start};
 use request_text::{is_word, number_u16};
@@ -14,29 +14,10 @@ use std::alloc::{AllocError, Global};
 /// What is said instead of a unit that doesn't answer.
 const UNANSWERED: &[u8] = b"the unit does not answer\n";
 
-/// What a unit said last.
-#[derive(Drop)]
-pub struct Said {
-    /// Its lines for `metrics`.
-    pub metrics: Vec<u8>,
-    /// Its lines for `present`.
-    pub present: Vec<u8>,
-    /// Its lines for `legs`.
-    pub legs: Vec<u8>,
-    /// Its line for `counts`.
-    pub counts: Vec<u8>,
-    /// Its lines for `reports`; none if it knows no such request.
-    pub reports: Vec<u8>,
-    /// The sets that it announces.
-    pub sets: Vec<AnnouncedSet>,
-    /// What moved in the minute before that.
-    pub rates: Vec<FlowRate>,
-}
-
 /// What is shown of a unit.
 #[derive(Clone, Copy)]
 pub enum View {
-    /// `/`: the page for people.
+    /// `/`: the page for people, which asks for the state itself.
     Page,
     /// `/metrics`: the counts in the text format of Prometheus.
     Metrics,
@@ -154,16 +135,12 @@ pub fn answer_to(alloc: Global, asked: Asked, said: &Option<Said>) -> Result<Ans
     }
 }
 
-/// What is shown of a unit that says nothing.
+/// What is shown if the unit says nothing.
 fn silent(alloc: Global, view: View) -> Result<Answer, AllocError>
     ensures { IfOk result (λ a. answer_seen a ≡ silent_answer view) }
 {
     match view {
-        View::Page => Ok(Answer {
-            verdict: Verdict::Silent,
-            kind: Kind::Html,
-            body: silent_text(alloc)?.into_bytes(),
-        }),
+        View::Page => page(alloc),
         View::Metrics => plain(alloc, Verdict::Silent, UNANSWERED),
         View::State => plain(alloc, Verdict::Silent, UNANSWERED),
         View::Picture(_) => plain(alloc, Verdict::Silent, UNANSWERED),
@@ -175,7 +152,7 @@ fn shown(alloc: Global, view: View, said: &Said) -> Result<Answer, AllocError>
     ensures { IfOk result (λ a. IsShown view said.now (answer_seen a)) }
 {
     match view {
-        View::Page => page(alloc, said),
+        View::Page => page(alloc),
         View::Metrics => Ok(Answer {
             verdict: Verdict::Fine,
             kind: Kind::Metrics,
@@ -184,14 +161,7 @@ fn shown(alloc: Global, view: View, said: &Said) -> Result<Answer, AllocError>
         View::State => Ok(Answer {
             verdict: Verdict::Fine,
             kind: Kind::Json,
-            body: state_text(
-                alloc,
-                said.present.as_slice(),
-                said.legs.as_slice(),
-                said.counts.as_slice(),
-                said.rates.as_slice(),
-                said.reports.as_slice(),
-            )?,
+            body: state_text(alloc, said)?,
         }),
         View::Picture(publisher) => picture(alloc, publisher, said),
     }
@@ -224,22 +194,14 @@ fn set_answer(alloc: Global, media: u32, text: &[u8]) -> Result<Answer, AllocErr
     }
 }
 
-/// The page of a unit that said this.
-fn page(alloc: Global, said: &Said) -> Result<Answer, AllocError>
-    ensures { IfOk result (λ a. answer_seen a ≡ page_answer said.now) }
+/// The page for people, which is the same whatever the unit said.
+fn page(alloc: Global) -> Result<Answer, AllocError>
+    ensures { IfOk result (λ a. answer_seen a ≡ page_answer) }
 {
-    let text = page_text(
-        alloc,
-        said.present.as_slice(),
-        said.legs.as_slice(),
-        said.counts.as_slice(),
-        said.rates.as_slice(),
-        said.reports.as_slice(),
-    )?;
     Ok(Answer {
         verdict: Verdict::Fine,
         kind: Kind::Html,
-        body: text.into_bytes(),
+        body: copy_of(alloc, PAGE_TEXT.as_bytes())?,
     })
 }
 

@@ -3,8 +3,7 @@
 ghost use Rattle.std.specs.Prelude.{◌≡◌, ◌++◌, IfOk, OnOk, flat_map, map};
 ghost use Rattle.page.specs.Reports.{fraction_in, fraction_of, is_about, jitter_of, leg_report, leg_reported, line_reports, publisher_report, publisher_reported, report_of, reports_in, trip_of, words_report};
 
-use crate::words::word_at;
-use request_text::{is_word, lines, number_u16, number_u64, words_of};
+use request_text::{is_word, lines, number_u16, number_u64, word_at, words_of};
 use std::alloc::{AllocError, Global};
 
 /// What a report is about.

@@ -4,11 +4,12 @@ ghost use Rattle.std.specs.Prelude.{◌≡◌, ◌++◌, IfOk, OnOk, flat_map, m
 ghost use Rattle.request_text.specs.CheckFile.{asked_of, line_of, said_by};
 ghost use Rattle.page.specs.Sets.{AreRequestsOf, IsDrawn, IsPicture, ask_of, asked_in, line_asks, line_media, media_in, media_lines, set_in, ssrc_of, words_media};
 
-use crate::words::word_at;
 use bounding_set::{Bounds, RowsFault};
 use drawing::set_picture;
 use rate_cert::Request;
-use request_text::{Entry, Reading, is_word, lines, number_u16, number_u64, read_line, words_of};
+use request_text::{
+    Entry, Reading, is_word, lines, number_u16, number_u64, read_line, word_at, words_of,
+};
 use std::alloc::{AllocError, Global};
 use tmmbr_tuple::Ssrc;
 

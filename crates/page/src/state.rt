@@ -3,49 +3,40 @@
 ghost use Rattle.std.specs.Prelude.{◌≡◌, IfOk, flat_map, map};
 ghost use Rattle.json.specs.Print.{print};
 ghost use Rattle.request_text.specs.Lines.{lines_of};
-ghost use Rattle.page.specs.Reports.{reports_in};
-ghost use Rattle.page.specs.State.{Tells, array_begun, array_member, counts_begun, counts_member, endpoint_members, endpoint_moved, endpoint_words, flow_members, heard_members, known_member, leg_members, leg_words, line_tokens, losses_members, measured_members, moved_members, number_member, reception_members, refused_member, report_members, reported_members, state_parts, state_tokens, switch_member, text_member, totals_members, totals_words, words_tokens};
+ghost use Rattle.page.specs.State.{Tells, array_begun, array_member, counts_begun, counts_member, endpoint_members, endpoint_octets, endpoint_words, flow_members, heard_members, known_member, known_tokens, leg_members, leg_words, line_tokens, losses_members, measured_members, number_member, octets_members, reception_members, refused_member, report_members, reported_members, state_parts, state_tokens, switch_member, text_member, totals_members, totals_words, words_tokens};
 
-use crate::history::{Flow, FlowRate, Way, Whose, rate_now};
+use crate::octets::{Flow, FlowCount, Way, flows_in, octets_of};
 use crate::reports::{
     Report, fraction_of, jitter_of, leg_reported, publisher_reported, reports_in, trip_of,
 };
-use crate::words::{plain_word, refused_word, word_at};
+use crate::said::Said;
+use crate::words::{plain_word, refused_word};
 use json::Writer;
-use request_text::{is_word, lines, number_u16, number_u64, words_of};
+use request_text::{is_word, lines, number_u16, number_u64, word_at, words_of};
 use std::alloc::{AllocError, Global};
 
-/// What a unit is like, by its answers to `present`, `legs`, `counts` and `reports` and by what moved in the last minute, as a JSON object:
-/// `endpoints` and `legs` are arrays of objects, `counts` is an object, each number is one, and what is no number where one should stand
-/// is null. A line that tells of none of these is passed over. Refused for want of memory alone.
-pub fn state_text(
-    alloc: Global,
-    present: &[u8],
-    legs: &[u8],
-    counts: &[u8],
-    rates: &[FlowRate],
-    reports: &[u8],
-) -> Result<Vec<u8>, AllocError>
-    ensures { IfOk result (λ text. text.items ≡ print
-        (state_tokens present.now legs.now counts.now rates.now (reports_in reports.now))) }
+/// What a unit is like, by what it said, as a JSON object: `moment_ms` is a number, `endpoints` and `legs` are arrays of objects, `counts` is an
+/// object, each number is one, and what is no number where one should stand is null. A line that tells of none of these is passed over.
+/// Refused for want of memory alone.
+pub fn state_text(alloc: Global, said: &Said) -> Result<Vec<u8>, AllocError>
+    ensures { IfOk result (λ text. text.items ≡ print (state_tokens said.now)) }
 {
-    let reports = reports_in(alloc, reports)?;
-    state_with(alloc, present, legs, counts, rates, reports.as_slice())
+    let flows = flows_in(alloc, said.metrics.as_slice())?;
+    let reports = reports_in(alloc, said.reports.as_slice())?;
+    state_with(alloc, said, flows.as_slice(), reports.as_slice())
 }
 
 fn state_with(
     alloc: Global,
-    present: &[u8],
-    legs: &[u8],
-    counts: &[u8],
-    rates: &[FlowRate],
+    said: &Said,
+    flows: &[FlowCount],
     reports: &[Report],
 ) -> Result<Vec<u8>, AllocError>
     ensures { IfOk result (λ text. text.items
-        ≡ print (state_tokens present.now legs.now counts.now rates.now reports.now)) }
+        ≡ print (known_tokens said.now flows.now reports.now)) }
 {
     let mut writer = Writer::new(Vec::new(alloc));
-    push_state(alloc, &mut writer, present, legs, counts, rates, reports)?;
+    push_state(alloc, &mut writer, said, flows, reports)?;
     Ok(writer.into_inner())
 }
 
@@ -60,17 +51,14 @@ enum Rows {
 fn push_state(
     alloc: Global,
     writer: &mut Writer,
-    present: &[u8],
-    legs: &[u8],
-    counts: &[u8],
-    rates: &[FlowRate],
+    said: &Said,
+    flows: &[FlowCount],
     reports: &[Report],
 ) -> Result<(), AllocError>
-    ensures { Tells result writer.old writer.new
-        (state_tokens present.now legs.now counts.now rates.now reports.now) }
+    ensures { Tells result writer.old writer.new (known_tokens said.now flows.now reports.now) }
 {
     writer.begin_object()?;
-    push_parts(alloc, writer, present, legs, counts, rates, reports)?;
+    push_parts(alloc, writer, said, flows, reports)?;
     writer.end_object()
 }
 
@@ -78,26 +66,26 @@ fn push_state(
 fn push_parts(
     alloc: Global,
     writer: &mut Writer,
-    present: &[u8],
-    legs: &[u8],
-    counts: &[u8],
-    rates: &[FlowRate],
+    said: &Said,
+    flows: &[FlowCount],
     reports: &[Report],
 ) -> Result<(), AllocError>
-    ensures { Tells result writer.old writer.new
-        (state_parts present.now legs.now counts.now rates.now reports.now) }
+    ensures { Tells result writer.old writer.new (state_parts said.now flows.now reports.now) }
 {
+    push_known(writer, "moment_ms", Some(said.moment_ms))?;
+    let present = said.present.as_slice();
+    let legs = said.legs.as_slice();
     push_array(
         alloc,
         writer,
         "endpoints",
         Rows::Endpoints,
         present,
-        rates,
+        flows,
         reports,
     )?;
-    push_array(alloc, writer, "legs", Rows::Legs, legs, rates, reports)?;
-    push_counts(alloc, writer, counts, rates, reports)
+    push_array(alloc, writer, "legs", Rows::Legs, legs, flows, reports)?;
+    push_counts(alloc, writer, said.counts.as_slice(), flows, reports)
 }
 
 /// A member that is an array, with an object for each line that tells of one.
@@ -108,14 +96,14 @@ fn push_array(
     name: &str,
     rows: Rows,
     text: &[u8],
-    rates: &[FlowRate],
+    flows: &[FlowCount],
     reports: &[Report],
 ) -> Result<(), AllocError>
     ensures { Tells result writer.old writer.new
-        (array_member name.now rows rates.now reports.now text.now) }
+        (array_member name.now rows flows.now reports.now text.now) }
 {
     begin_array(writer, name)?;
-    push_rows(alloc, writer, rows, text, rates, reports)?;
+    push_rows(alloc, writer, rows, text, flows, reports)?;
     writer.end_array()
 }
 
@@ -133,14 +121,14 @@ fn push_counts(
     alloc: Global,
     writer: &mut Writer,
     text: &[u8],
-    rates: &[FlowRate],
+    flows: &[FlowCount],
     reports: &[Report],
 ) -> Result<(), AllocError>
     ensures { Tells result writer.old writer.new
-        (counts_member rates.now reports.now text.now) }
+        (counts_member flows.now reports.now text.now) }
 {
     begin_counts(writer)?;
-    push_rows(alloc, writer, Rows::Totals, text, rates, reports)?;
+    push_rows(alloc, writer, Rows::Totals, text, flows, reports)?;
     writer.end_object()
 }
 
@@ -158,14 +146,14 @@ fn push_rows(
     writer: &mut Writer,
     rows: Rows,
     text: &[u8],
-    rates: &[FlowRate],
+    flows: &[FlowCount],
     reports: &[Report],
 ) -> Result<(), AllocError>
     ensures { Tells result writer.old writer.new
-        (flat_map (line_tokens rows rates.now reports.now) (lines_of text.now)) }
+        (flat_map (line_tokens rows flows.now reports.now) (lines_of text.now)) }
 {
     let lines = lines(alloc, text)?;
-    push_lines(alloc, writer, rows, lines.as_slice(), rates, reports)
+    push_lines(alloc, writer, rows, lines.as_slice(), flows, reports)
 }
 
 fn push_lines(
@@ -173,14 +161,14 @@ fn push_lines(
     writer: &mut Writer,
     rows: Rows,
     lines: &[&[u8]],
-    rates: &[FlowRate],
+    flows: &[FlowCount],
     reports: &[Report],
 ) -> Result<(), AllocError>
     ensures { Tells result writer.old writer.new
-        (flat_map (λ x. line_tokens rows rates.now reports.now x.now) lines.now) }
+        (flat_map (λ x. line_tokens rows flows.now reports.now x.now) lines.now) }
 {
     for line in lines {
-        push_line(alloc, writer, rows, line, rates, reports)?;
+        push_line(alloc, writer, rows, line, flows, reports)?;
     }
     Ok(())
 }
@@ -191,14 +179,14 @@ fn push_line(
     writer: &mut Writer,
     rows: Rows,
     line: &[u8],
-    rates: &[FlowRate],
+    flows: &[FlowCount],
     reports: &[Report],
 ) -> Result<(), AllocError>
     ensures { Tells result writer.old writer.new
-        (line_tokens rows rates.now reports.now line.now) }
+        (line_tokens rows flows.now reports.now line.now) }
 {
     let words = words_of(alloc, line)?;
-    push_words(writer, rows, words.as_slice(), rates, reports)
+    push_words(writer, rows, words.as_slice(), flows, reports)
 }
 
 /// What these words tell of.
@@ -206,16 +194,16 @@ fn push_words(
     writer: &mut Writer,
     rows: Rows,
     words: &[&[u8]],
-    rates: &[FlowRate],
+    flows: &[FlowCount],
     reports: &[Report],
 ) -> Result<(), AllocError>
     ensures { Tells result writer.old writer.new
-        (words_tokens rows rates.now reports.now (map (λ x. x.now) words.now)) }
+        (words_tokens rows flows.now reports.now (map (λ x. x.now) words.now)) }
 {
     match rows {
-        Rows::Endpoints => push_endpoint(writer, words, rates, reports),
+        Rows::Endpoints => push_endpoint(writer, words, flows, reports),
         Rows::Legs => push_leg(writer, words, reports),
-        Rows::Totals => push_total(writer, words, rates),
+        Rows::Totals => push_total(writer, words),
     }
 }
 
@@ -223,11 +211,11 @@ fn push_words(
 fn push_endpoint(
     writer: &mut Writer,
     words: &[&[u8]],
-    rates: &[FlowRate],
+    flows: &[FlowCount],
     reports: &[Report],
 ) -> Result<(), AllocError>
     ensures { Tells result writer.old writer.new
-        (endpoint_words rates.now reports.now (map (λ x. x.now) words.now)) }
+        (endpoint_words flows.now reports.now (map (λ x. x.now) words.now)) }
 {
     if !is_word(word_at(words, 1), b"ssrc") {
         return Ok(());
@@ -235,24 +223,24 @@ fn push_endpoint(
     writer.begin_object()?;
     push_endpoint_members(writer, words)?;
     let number = number_u16(word_at(words, 0));
-    push_measured(writer, rates, reports, number, refused_word(words))?;
+    push_measured(writer, flows, reports, number, refused_word(words))?;
     writer.end_object()
 }
 
-/// How often something was refused of the endpoint with this number, what moved of it, and what reports say of it.
+/// How often something was refused of the endpoint with this number, how many octets went, and what reports say of it.
 #[tactic(auto, unfolding(crate::specs::State::measured_members))]
 fn push_measured(
     writer: &mut Writer,
-    rates: &[FlowRate],
+    flows: &[FlowCount],
     reports: &[Report],
     number: Option<u16>,
     refused: &[u8],
 ) -> Result<(), AllocError>
     ensures { Tells result writer.old writer.new
-        (measured_members rates.now reports.now number refused.now) }
+        (measured_members flows.now reports.now number refused.now) }
 {
     push_refused(writer, refused)?;
-    push_endpoint_moved(writer, rates, number)?;
+    push_endpoint_octets(writer, flows, number)?;
     push_reception(writer, publisher_reported(reports, number))
 }
 
@@ -276,35 +264,34 @@ fn push_reported(
     push_known(writer, "jitter", jitter)
 }
 
-/// The rates of the endpoint with this number.
-fn push_endpoint_moved(
+/// The octets that came from the endpoint with this number, and went to it.
+fn push_endpoint_octets(
     writer: &mut Writer,
-    rates: &[FlowRate],
+    flows: &[FlowCount],
     number: Option<u16>,
 ) -> Result<(), AllocError>
-    ensures { Tells result writer.old writer.new (endpoint_moved rates.now number) }
+    ensures { Tells result writer.old writer.new (endpoint_octets flows.now number) }
 {
     match number {
-        Some(number) => push_moved(writer, rates, Whose::Endpoint(number)),
+        Some(endpoint) => push_octets(writer, flows, endpoint),
         None => Ok(()),
     }
 }
 
-/// The rates over the time before the last question, in bits a second.
-#[tactic(auto, unfolding(crate::specs::State::moved_members))]
-fn push_moved(writer: &mut Writer, rates: &[FlowRate], whose: Whose) -> Result<(), AllocError>
-    ensures { Tells result writer.old writer.new (moved_members rates.now whose) }
+#[tactic(auto, unfolding(crate::specs::State::octets_members))]
+fn push_octets(writer: &mut Writer, flows: &[FlowCount], endpoint: u16) -> Result<(), AllocError>
+    ensures { Tells result writer.old writer.new (octets_members flows.now endpoint) }
 {
     let heard = Flow {
-        whose,
+        endpoint,
         way: Way::Heard,
     };
     let sent = Flow {
-        whose,
+        endpoint,
         way: Way::Sent,
     };
-    push_known(writer, "heard_bps", rate_now(rates, heard))?;
-    push_known(writer, "sent_bps", rate_now(rates, sent))
+    push_known(writer, "heard_octets", octets_of(flows, heard))?;
+    push_known(writer, "sent_octets", octets_of(flows, sent))
 }
 
 #[tactic(auto, unfolding(crate::specs::State::endpoint_members))]
@@ -385,16 +372,14 @@ fn push_flow_members(writer: &mut Writer, words: &[&[u8]]) -> Result<(), AllocEr
 }
 
 /// The members of the totals that these words tell of.
-fn push_total(writer: &mut Writer, words: &[&[u8]], rates: &[FlowRate]) -> Result<(), AllocError>
-    ensures { Tells result writer.old writer.new
-        (totals_words rates.now (map (λ x. x.now) words.now)) }
+fn push_total(writer: &mut Writer, words: &[&[u8]]) -> Result<(), AllocError>
+    ensures { Tells result writer.old writer.new (totals_words (map (λ x. x.now) words.now)) }
 {
     if !is_word(word_at(words, 0), b"present") {
         return Ok(());
     }
     push_totals_members(writer, words)?;
-    push_losses_members(writer, words)?;
-    push_moved(writer, rates, Whose::Unit)
+    push_losses_members(writer, words)
 }
 
 #[tactic(auto, unfolding(crate::specs::State::totals_members))]

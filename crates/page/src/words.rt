@@ -1,19 +1,9 @@
 //! The words of the unit's lines, by their places.
 
 ghost use Rattle.std.specs.Prelude.{◌≡◌, ◌<◌, map, option_map};
-ghost use Rattle.page.specs.Words.{is_plain, is_plain_byte, plain_word, refused_word, without_end, without_start, word_at};
+ghost use Rattle.page.specs.Words.{is_plain, is_plain_byte, plain_word, refused_word, without_end, without_start};
 
-use request_text::is_word;
-
-/// The word at a place from 0 on; an empty one if there is none.
-pub(crate) fn word_at<'a>(words: &[&'a [u8]], place: usize) -> &'a [u8]
-    ensures { result.now ≡ word_at (map (λ x. x.now) words.now) place }
-{
-    match words.get(place) {
-        Some(word) => word,
-        None => b"",
-    }
-}
+use request_text::{is_word, word_at};
 
 /// How often something was refused of an endpoint, by the words of its line.
 pub(crate) fn refused_word<'a>(words: &[&'a [u8]]) -> &'a [u8]

@@ -4,7 +4,7 @@ use Rattle.std.specs.Prelude.{OnOk}
 use Rattle.http1.specs.Fields.{Header}
 use Rattle.http_server.specs.declared.response.Response.{Response}
 use Rattle.page.specs.declared.answer.Asked.{Asked}
-use Rattle.page.specs.declared.answer.Said.{Said}
+use Rattle.page.specs.declared.said.Said.{Said}
 use Rattle.page.specs.Answers.{Seen, IsAnswer}
 use Rattle.web.specs.Told.{IsSent, Tells}
 

@@ -11,14 +11,14 @@ use Rattle.http_server.specs.Response.{IsResponse}
 use Rattle.http_uri.specs.Uri.{uri_path}
 use Rattle.page.specs.declared.answer.Kind.{Kind}
 use Rattle.page.specs.declared.answer.Kind.TheVariants as kind
-use Rattle.page.specs.declared.answer.Said.{Said}
+use Rattle.page.specs.declared.said.Said.{Said}
 use Rattle.page.specs.declared.answer.Verdict.{Verdict}
 use Rattle.page.specs.declared.answer.Verdict.TheVariants.{Fine, Absent, Unallowed, Misdirected, Unreadable, Silent}
 use Rattle.page.specs.declared.answer.Asked.{Asked}
 use Rattle.page.specs.declared.answer.Asked.TheVariants as asked
 use Rattle.page.specs.Answers.{Seen, IsAnswer, asked_by}
 use Rattle.page.specs.Hosts.{is_known_host}
-use Rattle.web.specs.declared.teller.TheConstants.{POLICY}
+use Rattle.web.specs.declared.teller.TheConstants.{OTHER_POLICY, PAGE_POLICY}
 
 -- RFC 9110, section 15
 abbrev pub status_number : Verdict → ℕ
@@ -44,13 +44,21 @@ kind_fields text = (codes "content-type", text) ∷ ((codes "connection", codes 
 abbrev pub handling_fields : List Header
 handling_fields = (codes "allow", codes "GET, HEAD") ∷ ((codes "cache-control", codes "no-store") ∷ [])
 
-abbrev pub guard_fields : List Header
-guard_fields =
-    (codes "content-security-policy", POLICY.now)
+-- Content Security Policy Level 3
+abbrev pub policy_for : Kind → List ℕ
+policy_for kind.Html = PAGE_POLICY.now
+policy_for kind.Metrics = OTHER_POLICY.now
+policy_for kind.Json = OTHER_POLICY.now
+policy_for kind.Svg = OTHER_POLICY.now
+policy_for kind.Plain = OTHER_POLICY.now
+
+abbrev pub guard_fields : List ℕ → List Header
+guard_fields policy =
+    (codes "content-security-policy", policy)
     ∷ ((codes "x-content-type-options", codes "nosniff") ∷ [])
 
 abbrev pub fields_for : Kind → List Header
-fields_for k = kind_fields (kind_text k) ++ (handling_fields ++ guard_fields)
+fields_for k = kind_fields (kind_text k) ++ (handling_fields ++ guard_fields (policy_for k))
 
 -- the response has the status, the kind and the body of the answer
 abbrev pub IsSent : Seen → Response → Type 0

@@ -79,7 +79,7 @@ impl<S: Read + Write + Drop> Inquiry<S> {
 
     /// Asks the first question of the unit at the stream, at this moment. Of a stream that doesn't take it nothing is heard.
     pub fn new(alloc: Global, stream: S, moment: u64) -> Inquiry<S>
-        ensures since { result.since_ms ≡ moment }
+        ensures since { (result.since_ms ≡ moment) × (result.said.moment_ms ≡ moment) }
         ensures nothing { (result.said.sets.items ≡ []) × (result.text.items ≡ [])
             × (result.publishers.items ≡ []) }
     {
@@ -90,13 +90,13 @@ impl<S: Read + Write + Drop> Inquiry<S> {
             question: Question::Metrics,
             text: Vec::new(alloc),
             said: Said {
+                moment_ms: moment,
                 metrics: Vec::new(alloc),
                 present: Vec::new(alloc),
                 legs: Vec::new(alloc),
                 counts: Vec::new(alloc),
                 reports: Vec::new(alloc),
                 sets: Vec::new(alloc),
-                rates: Vec::new(alloc),
             },
             publishers: Vec::new(alloc),
         };
@@ -128,7 +128,7 @@ impl<S: Read + Write + Drop> Inquiry<S> {
         Step::Asking
     }
 
-    /// What the unit said. What moved meanwhile isn't in it.
+    /// What the unit said.
     pub fn into_said(self) -> Said
         ensures { result ≡ self.said }
     {

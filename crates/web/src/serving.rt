@@ -6,7 +6,7 @@ use crate::inquiry::{Inquiry, Step};
 use crate::teller::Teller;
 use crate::visitors::Visitors;
 use endings::{Status, say, say_no_memory, unsaid};
-use page::{History, Said};
+use page::Said;
 use std::alloc::Global;
 use std::convert::AsStr;
 use std::hash::RandomState;
@@ -168,7 +168,6 @@ struct Page {
     begun_ms: u64,
     /// The moment from which on the unit is asked again.
     due_ms: u64,
-    history: History,
     teller: Teller,
     visitors: Visitors<TcpStream>,
 }
@@ -186,7 +185,6 @@ fn begin<R: AllocGlobal + Clock + RandomSource>(rt: &R, name: &str) -> Option<Pa
         inquiry: None,
         begun_ms: 0,
         due_ms: 0,
-        history: History::new(alloc),
         teller: Teller::new(alloc, called),
         visitors: Visitors::new(alloc, keys),
     })
@@ -288,19 +286,7 @@ impl Page {
         let questions = u64::try_from(inquiry.asked()).unwrap_or(0);
         let least = questions.saturating_mul(QUESTION_EACH_MS);
         self.due_ms = self.due_ms.max(self.begun_ms.saturating_add(least));
-        self.with_rates(inquiry.into_said())
-    }
-
-    /// What the unit said, with what moved in the minute before it was asked; `None` if there is no memory.
-    fn with_rates(&mut self, said: Said) -> Option<Said> {
-        let mut said = said;
-        self.history
-            .take_in(self.alloc, self.begun_ms, said.metrics.as_slice())
-            .ok()?;
-        said.rates
-            .extend_from_slice(self.history.rates.as_slice())
-            .ok()?;
-        Some(said)
+        Some(inquiry.into_said())
     }
 }
 

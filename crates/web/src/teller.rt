@@ -6,7 +6,7 @@ ghost use Rattle.http_header.specs.FieldName.{is_header_name};
 ghost use Rattle.http.specs.Request.{head_of};
 ghost use Rattle.http_server.specs.Response.{IsBlank, fields_of};
 ghost use Rattle.page.specs.Answers.{answer_seen};
-ghost use Rattle.web.specs.Told.{IsSent, Tells, asked_in, host_in, fields_for, guard_fields, handling_fields, kind_fields, kind_text, status_number};
+ghost use Rattle.web.specs.Told.{IsSent, Tells, asked_in, host_in, fields_for, guard_fields, handling_fields, kind_fields, kind_text, policy_for, status_number};
 
 use bytes::{BufMut, Bytes};
 use http::{HeaderName, HeaderValue, Request, StatusCode};
@@ -14,9 +14,16 @@ use http_server::{Response, Service};
 use page::{Answer, Asked, Kind, Said, Verdict, answer_to, asked_for, is_known_host};
 use std::alloc::{AllocError, Global};
 
-/// What a browser may do with the page: it runs the page's own script, by its SHA-256, and loads nothing from elsewhere.
-const POLICY: &str = "default-src 'none'; style-src 'unsafe-inline'; \
-    script-src 'sha256-AuUnc6I/5UtD1RDNg0TTwqB0V8sQzC03brW8yj97orM='; connect-src 'self'; img-src 'self'";
+/// What a browser may do with the page: it uses the page's own style and script, by their SHA-256, and loads from here alone
+/// (Content Security Policy Level 3).
+const PAGE_POLICY: &str = "default-src 'none'; \
+    style-src 'sha256-5+1xxvbejoe1cwiknSq7pAOjUSEAXCYsCsc+OvvOssU='; \
+    script-src 'sha256-hiqcTfv7y7V53t+lKQtMFwJ59ZUxN2a5g6D6G3l9tp4='; \
+    connect-src 'self'; img-src 'self'; base-uri 'none'; form-action 'none'; frame-ancestors 'none'";
+
+/// What it may do with all else: a picture has a style of its own, and nothing runs or is loaded.
+const OTHER_POLICY: &str = "default-src 'none'; style-src 'unsafe-inline'; \
+    base-uri 'none'; form-action 'none'; frame-ancestors 'none'";
 
 /// Answers requests by what a unit said last.
 #[derive(Drop)]
@@ -123,7 +130,7 @@ fn push_fields(response: &mut Response, kind: Kind) -> Result<(), AllocError>
 {
     push_kind(response, kind_text(kind))?;
     push_handling(response)?;
-    push_guards(response)
+    push_guards(response, policy_for(kind))
 }
 
 /// What it is, and that no other comes after it.
@@ -148,12 +155,14 @@ fn push_handling(response: &mut Response) -> Result<(), AllocError>
 }
 
 /// That it loads nothing from elsewhere, and is of the kind that it says.
-fn push_guards(response: &mut Response) -> Result<(), AllocError>
-    ensures fields { OnOk result (fields_of response.new ≡ fields_of response.old ++ guard_fields) }
+fn push_guards(response: &mut Response, policy: &'static str) -> Result<(), AllocError>
+    requires { IsTrue (is_visible_text policy.now) }
+    ensures fields { OnOk result
+        (fields_of response.new ≡ fields_of response.old ++ guard_fields policy.now) }
     ensures status { response.new.status ≡ response.old.status }
     ensures body { response.new.body ≡ response.old.body }
 {
-    add(response, "content-security-policy", POLICY)?;
+    add(response, "content-security-policy", policy)?;
     add(response, "x-content-type-options", "nosniff")
 }
 
@@ -182,6 +191,20 @@ fn status_of(verdict: Verdict) -> StatusCode
         Verdict::Misdirected => StatusCode::MISDIRECTED_REQUEST,
         Verdict::Unreadable => StatusCode::BAD_GATEWAY,
         Verdict::Silent => StatusCode::SERVICE_UNAVAILABLE,
+    }
+}
+
+/// What a browser may do with an answer of this kind.
+fn policy_for(kind: Kind) -> &'static str
+    ensures text { result.now ≡ policy_for kind }
+    ensures visible { IsTrue (is_visible_text result.now) }
+{
+    match kind {
+        Kind::Html => PAGE_POLICY,
+        Kind::Metrics => OTHER_POLICY,
+        Kind::Json => OTHER_POLICY,
+        Kind::Svg => OTHER_POLICY,
+        Kind::Plain => OTHER_POLICY,
     }
 }
 

@@ -6,4 +6,4 @@ use Rattle.page.proofs.state.push_lines.Given as goal
 abbrev pub invariant-loop-line : goal.invariant-loop-line
 invariant-loop-line l =
     (l.writer.before ≡ l.fn.writer.before)
-    × (l.writer.tokens ≡ l.fn.writer.tokens ++ flat_map (λ (x : Bor (List ℕ)). line_tokens l.rows l.rates l.reports x.now) (take l.line-index l.lines))
+    × (l.writer.tokens ≡ l.fn.writer.tokens ++ flat_map (λ (x : Bor (List ℕ)). line_tokens l.rows l.flows l.reports x.now) (take l.line-index l.lines))

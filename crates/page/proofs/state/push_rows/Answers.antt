@@ -7,6 +7,6 @@ use Rattle.page.proofs.state.push_rows.Goals as goal
 
 pub returns : goal.returns
 returns c =
-    let e = ap (λ xs. flat_map (λ (x : Bor (List ℕ)). line_tokens c.args.rows c.args.rates.now c.args.reports.now x.now) xs) c.as_slice.ensures.value ∙ flat_map_now (line_tokens c.args.rows c.args.rates.now c.args.reports.now) c.in_ok-lines.lines.items ∙ ap (flat_map (line_tokens c.args.rows c.args.rates.now c.args.reports.now)) c.in_ok-lines.ensures in
+    let e = ap (λ xs. flat_map (λ (x : Bor (List ℕ)). line_tokens c.args.rows c.args.flows.now c.args.reports.now x.now) xs) c.as_slice.ensures.value ∙ flat_map_now (line_tokens c.args.rows c.args.flows.now c.args.reports.now) c.in_ok-lines.lines.items ∙ ap (flat_map (line_tokens c.args.rows c.args.flows.now c.args.reports.now)) c.in_ok-lines.ensures in
     subst (λ (ts : List Token). OnOk c.push_lines.result ((c.push_lines.new.writer.before ≡ c.args.writer.now.before)
     × (c.push_lines.new.writer.tokens ≡ c.args.writer.now.tokens ++ ts))) e c.push_lines.ensures

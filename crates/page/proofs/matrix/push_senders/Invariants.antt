@@ -1,9 +1,0 @@
-use Rattle.std.proofs.Common.{◌≡◌, ◌++◌, take}
-use Rattle.std.specs.Prelude.{flat_map}
-use Rattle.std.specs.String.{string_bytes}
-use Rattle.page.specs.Html.{column_text}
-use Rattle.page.proofs.matrix.push_senders.Given as goal
-
-abbrev pub invariant-loop-number : goal.invariant-loop-number
-invariant-loop-number l =
-    string_bytes l.text ≡ string_bytes l.fn.text ++ flat_map column_text (take l.number-index l.numbers)
