@@ -103,26 +103,6 @@ pub const EXAMPLES: [Example; 11] = [
     },
 ];
 
-/// Example 12: what is left of example 4 once 18 is gone.
-pub const LEFT_OF_EXAMPLE_4: Example = Example {
-    requests: &[(17, 0x01f4_0028), (19, 0x01e4_601e)],
-    announced: &[19, 17],
-    printed: &[
-        "kept 19 01e4601e pair 2000 4542001 81",
-        "kept 17 01f40028 pair 66000 4480001 400",
-    ],
-};
-
-/// Two live requests of one line.
-pub const SAME_LINE_TWICE: Example = Example {
-    requests: &[(17, 0x0007_d028), (18, 0x0007_d028)],
-    announced: &[17],
-    printed: &[
-        "kept 17 0007d028 pair 1000 1001 321",
-        "implied 18 0007d028 by 17 17 times 1 0 1",
-    ],
-};
-
 /// With a rate of 0.
 pub const STOPS: [Example; 5] = [
     // However the 0 is spelled, the media is stopped.

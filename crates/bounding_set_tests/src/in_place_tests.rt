@@ -85,25 +85,6 @@ fn change(bounds: &mut Bounds, asked: &Request, goes: bool) -> Result<(), Fail> 
     Ok(())
 }
 
-#[test]
-fn in_place_equals_definition(rt: HostRuntime) -> Result<(), Fail> {
-    let mut generator = Generator::new();
-    let mut bounds = Bounds::new();
-    for number in 0..1000_usize {
-        // A hundred calls of one kind, then a hundred of all kinds by turns.
-        let kind = match number / 100 % 2 {
-            0 => KINDS[number / 200 % 5],
-            _ => KINDS[number % 5],
-        };
-        let asked = generator.request(kind);
-        let goes = generator.once_in(4);
-        change(&mut bounds, &asked, goes)?;
-        assert_as_defined(&rt, rt.alloc(), &bounds)?;
-        assert_as_walked(&rt, rt.alloc(), &bounds)?;
-    }
-    Ok(())
-}
-
 /// The call of this number: first each of 256 owners comes, then they change and go. In each second
 /// hundred one of eight owners asks now and then for something that hides most of the others; then
 /// these eight go.

@@ -10,8 +10,6 @@ mod checker_tests;
 #[cfg(test)]
 mod examples;
 #[cfg(test)]
-mod implies_tests;
-#[cfg(test)]
 mod in_place_tests;
 #[cfg(test)]
 mod lists;
@@ -23,5 +21,3 @@ mod slow;
 mod slow_certificate;
 #[cfg(test)]
 mod tuple_tests;
-#[cfg(test)]
-mod unsplice_tests;

@@ -1,11 +1,9 @@
 //! The worked examples, the greatest number of live requests, and the definition on many lists.
-use crate::examples::{
-    EXAMPLE_4, EXAMPLES, Example, LEFT_OF_EXAMPLE_4, NO_REQUEST, SAME_LINE_TWICE, STOPS,
-};
+use crate::examples::{EXAMPLES, Example, NO_REQUEST, STOPS};
 use crate::lists::{Generator, KINDS, Kind};
 use crate::slow::canonical_places;
 use crate::slow_certificate::certificate;
-use bounding_set::{Bounds, Full, LIVE_LIMIT, RowsFault};
+use bounding_set::{Bounds, Full};
 use rate_cert::{Implied, Kept, Request, check};
 use std::alloc::{AllocError, Global};
 use std::fmt::Write;
@@ -30,18 +28,6 @@ fn announces_owners(bounds: &Bounds, owners: &[u32]) -> bool {
         }
     }
     announced.len() == owners.len()
-}
-
-/// Whether the announced requests are those of so many owners, 1, 2, 3 and so on.
-fn announces_all(bounds: &Bounds, count: usize) -> bool {
-    let announced = bounds.announced();
-    let announced = announced.as_slice();
-    for (place, request) in announced.iter().enumerate() {
-        if request.owner.0 as usize != place.wrapping_add(1) {
-            return false;
-        }
-    }
-    announced.len() == count
 }
 
 /// Writes the owner and the word of the row at this place.
@@ -104,14 +90,6 @@ fn has_lines(text: &str, lines: &[&str]) -> bool {
         }
     }
     found.next().is_none()
-}
-
-/// Whether a text has so many lines, of which these are the first and the last.
-fn has_ends(text: &str, count: usize, first: &str, last: &str) -> bool {
-    let lines = text.lines().count();
-    lines == count
-        && text.lines().next() == Some(first)
-        && text.trim_end().as_bytes().ends_with(last.as_bytes())
 }
 
 /// A call with what it answers, or what is then seen.
@@ -214,59 +192,6 @@ fn assert_shows(
     assert_as_defined(rt, alloc, bounds)
 }
 
-/// The requests of an example, one after the other.
-fn shows_example(rt: &impl Abort, alloc: Global, example: &Example) -> Result<(), Fail> {
-    assert_shows(rt, alloc, &set_in_order(example)?, example)
-}
-
-#[test]
-fn examples_as_printed(rt: HostRuntime) -> Result<(), Fail> {
-    for example in EXAMPLES.iter().chain(&STOPS) {
-        shows_example(&rt, rt.alloc(), example)?;
-    }
-    shows_example(&rt, rt.alloc(), &SAME_LINE_TWICE)
-}
-
-#[test]
-fn removed_as_in_example_12(rt: HostRuntime) -> Result<(), Fail> {
-    let mut bounds = set_in_order(&EXAMPLE_4)?;
-    // Who asks for nothing has nothing removed.
-    let steps = [
-        Step::Remove(18, Some(Tuple::from_word(0x01d4_c014))),
-        Step::Remove(18, None),
-    ];
-    play(&rt, &mut bounds, &steps);
-    assert_shows(&rt, rt.alloc(), &bounds, &LEFT_OF_EXAMPLE_4)?;
-    let steps = [
-        Step::Remove(17, Some(Tuple::from_word(0x01f4_0028))),
-        Step::Remove(19, Some(Tuple::from_word(0x01e4_601e))),
-        Step::Live(0),
-    ];
-    play(&rt, &mut bounds, &steps);
-    assert_shows(&rt, rt.alloc(), &bounds, &NO_REQUEST)
-}
-
-#[test]
-fn one_live_request(rt: HostRuntime) {
-    let word = Tuple::from_word(0x0007_d028);
-    let mut bounds = Bounds::new();
-    let steps = [
-        Step::Announced(&[]),
-        Step::Set(17, word, Ok(true)),
-        Step::Live(1),
-        Step::Announced(&[request(17, 0x0007_d028)]),
-        // The same again changes nothing, nor does another owner who asks for the same; another word does,
-        // also one that spells the same rate: 500 * 2^1.
-        Step::Set(17, word, Ok(false)),
-        Step::Set(18, word, Ok(false)),
-        Step::Remove(18, Some(word)),
-        Step::Set(17, Tuple::from_word(0x0403_e828), Ok(true)),
-        Step::Set(17, Tuple::from_word(0), Ok(true)),
-        Step::Announced(&[request(17, 0)]),
-    ];
-    play(&rt, &mut bounds, &steps);
-}
-
 /// What owner i of 64 asks for: 5,000 + i * i bits per second, with i bytes per packet.
 pub fn tuple_of_64(i: u16) -> Tuple {
     let number = u32::from(i % 128);
@@ -284,33 +209,6 @@ pub fn sixty_four() -> Result<Bounds, Fail> {
     Ok(bounds)
 }
 
-/// Whether all are kept in the order of their numbers, so many, and the certificate begins and ends so.
-fn keeps_all(
-    alloc: Global,
-    bounds: &Bounds,
-    count: usize,
-    first: &str,
-    last: &str,
-) -> Result<bool, AllocError> {
-    let text = printed(alloc, bounds)?;
-    Ok(announces_all(bounds, count) && has_ends(text.as_str(), count, first, last))
-}
-
-/// One more is taken in, and kept like the others.
-#[test]
-fn sixty_four_owners(rt: HostRuntime) -> Result<(), Fail> {
-    let mut bounds = sixty_four()?;
-    let (first, last) = (
-        "kept 1 00271201 pair 3 44986 9",
-        "\nkept 64 00471040 pair 9223 7745 520",
-    );
-    let keeps = keeps_all(rt.alloc(), &bounds, 64, first, last)?;
-    assert_as_defined(&rt, rt.alloc(), &bounds)?;
-    let changes = bounds.set(Ssrc(65), tuple_of_64(65)) == Ok(true);
-    assert!(rt; keeps && changes && bounds.announced().len() == 65);
-    Ok(())
-}
-
 /// What owner i of 256 asks for: 65,500 + i * i bits per second, with i bytes per packet.
 fn tuple_of_256(i: u16) -> Tuple {
     let number = u32::from(i);
@@ -324,23 +222,6 @@ fn all_live() -> Result<Bounds, Full> {
         let _changed = bounds.set(Ssrc(u32::from(i)), tuple_of_256(i))?;
     }
     Ok(bounds)
-}
-
-/// Whether all 256 are kept in the order of their numbers, with a certificate that begins and ends so, and is accepted.
-fn keeps_all_live(alloc: Global, bounds: &Bounds) -> Result<bool, AllocError> {
-    let (first, last) = (
-        "kept 1 01ffba01 pair 3 589486 9",
-        "\nkept 256 03ffb900 pair 131547 1761 2056",
-    );
-    let keeps = keeps_all(alloc, bounds, 256, first, last)?;
-    Ok(keeps && check(bounds.rows(), bounds.cert()) == Ok(()))
-}
-
-#[test]
-fn as_many_as_may_be_live(rt: HostRuntime) -> Result<(), Fail> {
-    let keeps = keeps_all_live(rt.alloc(), &all_live()?)?;
-    assert!(rt; keeps);
-    Ok(())
 }
 
 /// Whether one more is refused, whatever it asks for, and changes nothing.
@@ -402,54 +283,6 @@ fn examples_at_once(rt: HostRuntime) -> Result<(), Fail> {
     let steps = [Step::Set(17, Tuple::from_word(0x0007_d028), Ok(true))];
     play(&rt, &mut at_once, &steps);
     assert_shows(&rt, rt.alloc(), &at_once, &EXAMPLES[0])
-}
-
-/// Of each but the first it is asked whether the last line implies it, and whether it makes that line needless.
-#[test]
-fn all_live_at_once(rt: HostRuntime) -> Result<(), Fail> {
-    let mut at_once = Bounds::new();
-    let takes = takes_all(&mut at_once, &all_live()?);
-    let keeps = keeps_all_live(rt.alloc(), &at_once)?;
-    assert!(rt; takes && keeps && at_once.steps() == 2 * 255);
-    Ok(())
-}
-
-/// Whether requests of these owners, for the same, are refused since they don't rise.
-fn dont_rise(at_once: &mut Bounds, owners: [u32; 3]) -> bool {
-    let [first, second, third] = owners;
-    let asked = [
-        request(first, 0x0007_d028),
-        request(second, 0x0007_d028),
-        request(third, 0x0007_d028),
-    ];
-    at_once.set_all(&asked) == Err(RowsFault::NotRising)
-}
-
-/// One request more than may be live.
-fn one_too_many(alloc: Global) -> Result<Vec<Request>, AllocError> {
-    let mut many = Vec::new(alloc);
-    for owner in 0..=LIVE_LIMIT as u32 {
-        many.push(request(owner, 0x0007_d028))?;
-    }
-    Ok(many)
-}
-
-/// Whether these are refused.
-fn are_too_many(alloc: Global, at_once: &mut Bounds) -> Result<bool, AllocError> {
-    let many = one_too_many(alloc)?;
-    Ok(at_once.set_all(many.as_slice()) == Err(RowsFault::TooMany))
-}
-
-/// Too many requests, or two of one owner, or owners that fall: refused, and nothing changes.
-#[test]
-fn refused_at_once(rt: HostRuntime) -> Result<(), Fail> {
-    let mut at_once = set_in_order(&EXAMPLE_4)?;
-    let many = are_too_many(rt.alloc(), &mut at_once)?;
-    let first = dont_rise(&mut at_once, [17, 17, 18]);
-    let last = dont_rise(&mut at_once, [17, 19, 19]);
-    let fall = dont_rise(&mut at_once, [18, 17, 19]);
-    assert!(rt; [many, first, last, fall] == [true; 4]);
-    assert_shows(&rt, rt.alloc(), &at_once, &EXAMPLE_4)
 }
 
 /// Puts a request by chance, and says whether it is truly said if the announced set changed.

@@ -163,43 +163,6 @@ fn all_say(rt: &(impl Abort + AllocGlobal), cases: &[Case]) -> Result<(), Fail> 
     Ok(())
 }
 
-/// The source of another is told all the same. Of two sender reports the last one counts, the second one with RTP timestamp 3,001.
-/// Neither a description nor an unknown packet has a sender; nor has a goodbye of another.
-const MEDIA_AND_REPORTS: [Case; 8] = [
-    (16, "RTP", "media 16 7 3000 2"),
-    (17, "RTP", "media 16 7 3000 2"),
-    (16, "PADDED", "media 16 7 3000 2"),
-    (17, "RR", "control 17"),
-    (16, "RR", "control 17"),
-    (16, "SR", "control 16 report 0000000a80000000 3000"),
-    (
-        16,
-        "SR 80c80006000000100000000a8000000000000bb90000000100000002",
-        "control 16 report 0000000a80000000 3001",
-    ),
-    (
-        17,
-        "80ca0000 80cf000100000063 81cb000100000063",
-        "control 17",
-    ),
-];
-
-#[test]
-fn media_and_reports(rt: HostRuntime) -> Result<(), Fail> {
-    all_say(&rt, &MEDIA_AND_REPORTS)
-}
-
-/// Receiver reports of 18 and 19 beside one's own.
-const STRANGERS: [Case; 2] = [
-    (17, "RR 80c9000100000012 80c9000100000013 RR", "control 18"),
-    (18, "80c9000100000012 PLI", "control 17\npicture 257"),
-];
-
-#[test]
-fn the_first_stranger_speaks(rt: HostRuntime) -> Result<(), Fail> {
-    all_say(&rt, &STRANGERS)
-}
-
 /// At the end two entries for one source; all in the order of packets; and a NACK and a TMMBR without entries.
 const ASKED: [Case; 9] = [
     (17, "TMMBR", "control 17\nrate 257 0007d028"),
@@ -232,39 +195,6 @@ const ASKED: [Case; 9] = [
 #[test]
 fn what_is_asked_for(rt: HostRuntime) -> Result<(), Fail> {
     all_say(&rt, &ASKED)
-}
-
-/// Nothing else of a datagram with a goodbye is looked at. Then the goodbye of another; and one of two sources, the second of them the
-/// endpoint's own.
-const GOODBYES: [Case; 4] = [
-    (17, "BYE", "goodbye"),
-    (17, "SR TMMBR TMMBN BYE PLI", "goodbye"),
-    (16, "BYE PLI", "control 17\npicture 257"),
-    (17, "82cb00020000001200000011", "goodbye"),
-];
-
-#[test]
-fn goodbyes(rt: HostRuntime) -> Result<(), Fail> {
-    all_say(&rt, &GOODBYES)
-}
-
-/// A fault comes before a goodbye, and nothing is asked for. Then the first of two faults; faults of RTCP come before those of feedback;
-/// packet types 191 and 224 are read as RTP, 192 and 223 as RTCP; and so is as RTP what has no bytes.
-const REFUSALS: [Case; 9] = [
-    (17, "RR ODD", "refused feedback OddFci"),
-    (17, "TMMBR BYE ODD", "refused feedback OddFci"),
-    (17, "TMMBR 81cd000100000011 ODD", "refused feedback Short"),
-    (17, "ODD 80c90001", "refused rtcp Length"),
-    (17, "80bf000100000011", "refused rtp Short"),
-    (17, "80c0000100000011", "control 17"),
-    (17, "80df000100000011", "control 17"),
-    (17, "80e0000100000011", "refused rtp Short"),
-    (17, "", "refused rtp Short"),
-];
-
-#[test]
-fn refusals(rt: HostRuntime) -> Result<(), Fail> {
-    all_say(&rt, &REFUSALS)
 }
 
 /// A NACK of 17 about source 257 that has so many entries, from packet 0 on.

@@ -5,18 +5,8 @@
 #![tactic(auto)]
 
 #[cfg(test)]
-mod cut_tests;
-#[cfg(test)]
 mod intake_tests;
 #[cfg(test)]
-mod job_tests;
-#[cfg(test)]
-mod listener;
-#[cfg(test)]
 mod memory_tests;
-#[cfg(test)]
-mod quiet_run_tests;
-#[cfg(test)]
-mod random_room;
 #[cfg(test)]
 mod steps;

@@ -67,30 +67,6 @@ fn after(alloc: Global, events: &[Event]) -> Option<String> {
     after_in(alloc, &mut world, events)
 }
 
-/// The same if each datagram is lent, and held by no event.
-fn after_lent(alloc: Global, events: &[Event]) -> Option<String> {
-    let mut world = new_world(alloc)?;
-    let mut outs = Vec::new(alloc);
-    for event in events.chunks(1) {
-        lend(&mut world, event, &mut outs)?;
-    }
-    text_of(alloc, &world, outs.as_slice())
-}
-
-/// Does one event. The bytes of a datagram are lent.
-fn lend(world: &mut World, event: &[Event], outs: &mut Vec<Out>) -> Option<()> {
-    match event {
-        [
-            Event::Hear {
-                moment,
-                endpoint,
-                bytes,
-            },
-        ] => hear(world, *moment, *endpoint, bytes.as_slice(), outs).ok(),
-        _ => do_events(world, event, outs).ok(),
-    }
-}
-
 /// The events of the examples, a world, and what it gave out.
 #[derive(Drop)]
 struct Trial {
@@ -178,14 +154,4 @@ fn ends_well(rt: &impl Abort, alloc: Global, trial: &mut Trial) -> Result<(), Fa
 fn each_growth_refused(rt: HostRuntime) -> Result<(), Fail> {
     let mut trial = begin(rt.alloc()).ok_or("no memory")?;
     ends_well(&rt, rt.alloc(), &mut trial)
-}
-
-/// Datagrams that are lent lead to what events that hold them lead to.
-#[test]
-fn hears_lent_datagrams(rt: HostRuntime) -> Result<(), Fail> {
-    let events = events(rt.alloc()).ok_or("no memory")?;
-    let wanted = after(rt.alloc(), events.as_slice()).ok_or("no memory")?;
-    let lent = after_lent(rt.alloc(), events.as_slice()).ok_or("no memory")?;
-    assert_eq!(rt; lent.as_str(), wanted.as_str());
-    Ok(())
 }

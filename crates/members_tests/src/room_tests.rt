@@ -42,14 +42,6 @@ fn small_plays(rt: &impl Abort, alloc: Global, script: &str) -> Result<(), Fail>
     plays(rt, alloc, &mut small_room(alloc)?, script)
 }
 
-/// A leg: its row and the end of its stay, the beginning of one and its row; and the row of one that is selected.
-#[test]
-fn most_orders_of_a_room(rt: HostRuntime) -> Result<(), Fail> {
-    let room = small_room(rt.alloc())?;
-    assert!(rt; room.most_orders() == 5);
-    Ok(())
-}
-
 /// A refusal leaves the moment as it was.
 #[test]
 fn stays_of_example_17(rt: HostRuntime) -> Result<(), Fail> {
@@ -76,33 +68,6 @@ fn stays_of_example_17(rt: HostRuntime) -> Result<(), Fail> {
         hear 1600 65535 16: refused 1\n\
         on 1600 65535: refused 3\n\
         moment: 1500\n";
-    small_plays(&rt, rt.alloc(), script)
-}
-
-/// What a packet is refused with is known before anything is done for it.
-#[test]
-fn unknown_endpoints_and_other_sources(rt: HostRuntime) -> Result<(), Fail> {
-    let script = "refuses 0 16: 0\n\
-        refuses 1 17: 0\n\
-        refuses 0 17: 2\n\
-        refuses 1 16: 2\n\
-        refuses 2 16: 1\n\
-        refuses 65535 0: 1\n";
-    small_plays(&rt, rt.alloc(), script)
-}
-
-/// A moment lower than the room's counts as the room's: endpoint 0 is heard at 1500.
-#[test]
-fn moments_never_fall(rt: HostRuntime) -> Result<(), Fail> {
-    let script = "moment: 0\n\
-        tick 1500:\n\
-        hear 3 0 16:\n\
-        tick 2499:\n\
-        present 0: 1\n\
-        present 1: 0\n\
-        tick 2500:\n\
-        present 0: 0\n\
-        moment: 2500\n";
     small_plays(&rt, rt.alloc(), script)
 }
 
@@ -189,14 +154,5 @@ fn reception_begins_anew(rt: HostRuntime) -> Result<(), Fail> {
         hear 2019 0 16:\n\
         last 0: none\n\
         block 0: none\n";
-    small_plays(&rt, rt.alloc(), script)
-}
-
-/// Nothing is kept of one that never came, and of two numbers that no endpoint has.
-#[test]
-fn nothing_of_the_absent(rt: HostRuntime) -> Result<(), Fail> {
-    let script = "packet 1 7 3000:\nreport 1 1 2:\nlast 1: none\nblock 1: none\n\
-        packet 2 7 3000:\nreport 2 1 2:\nlast 2: none\nblock 2: none\n\
-        packet 65535 7 3000:\nreport 65535 1 2:\nlast 65535: none\nblock 65535: none\n";
     small_plays(&rt, rt.alloc(), script)
 }

@@ -20,14 +20,6 @@ pub(crate) fn unnamed(ssrc: Option<i64>) -> EndpointParts {
     EndpointParts { ssrc, cname: None }
 }
 
-/// An endpoint with this source and this name.
-fn named(alloc: Global, ssrc: i64, cname: &str) -> Result<EndpointParts, AllocError> {
-    Ok(EndpointParts {
-        ssrc: Some(ssrc),
-        cname: Some(String::from_str(alloc, cname)?),
-    })
-}
-
 /// The settings of the examples.
 pub(crate) fn found_parts(alloc: Global) -> Result<Parts, AllocError> {
     let mut first = leg(1, 0, 257);
@@ -89,21 +81,6 @@ fn settings_of_the_examples(rt: HostRuntime) -> Result<(), Fail> {
     assert_eq!(rt;
         shown.as_str(),
         "2 8 128 1000 60000 0 500 9 sfu 16 sfu 17 sfu from 0 to 1 as 257 100 on"
-    );
-    Ok(())
-}
-
-/// An endpoint's own name is said of what it publishes, or else the unit's. Two endpoints of one participant share a name.
-#[test]
-fn names_that_are_said(rt: HostRuntime) -> Result<(), Fail> {
-    let mut parts = found_parts(rt.alloc())?;
-    parts.endpoints.push(named(rt.alloc(), 18, "ann")?)?;
-    parts.endpoints.push(named(rt.alloc(), 19, "ann")?)?;
-    let shown = shown(rt.alloc(), &parts)?;
-    assert!(rt;
-        shown
-            .as_str()
-            .contains(" sfu 16 sfu 17 sfu 18 ann 19 ann from 0 ")
     );
     Ok(())
 }

@@ -23,5 +23,3 @@ pub use ledger::{DeskCalls, SeatCalls};
 pub use receipt::{GatherFault, HouseFault, Receipt};
 pub use seat::DeskSeat;
 
-#[cfg(test)]
-mod fault_tests;

@@ -47,14 +47,6 @@ fn requests_age_as_in_example_29(rt: HostRuntime) -> Result<(), Fail> {
 }
 
 #[test]
-fn a_pulse_is_a_tick(rt: HostRuntime) -> Result<(), Fail> {
-    let script = "pli 0: sent 0\n\
-        pli 100: done 0\n\
-        pulse 500: 2 sent 0\n";
-    assert_plays(&rt, rt.alloc(), 0, script)
-}
-
-#[test]
 fn stays_of_example_27(rt: HostRuntime) -> Result<(), Fail> {
     let script = "depart 17 1: not present 0\n\
         arrive 17 1: done 0\n\
@@ -62,58 +54,6 @@ fn stays_of_example_27(rt: HostRuntime) -> Result<(), Fail> {
         ask 17 2 0007d028: not present 1\n\
         ask 17 1 0007d028: done 1 set 17 0007d028 fresh 17 0007d028\n\
         look: calls 0 words 0 greatest 0 wanted false listed 5 of 5 live 17 0007d028\n";
-    assert_plays(&rt, rt.alloc(), 0, script)
-}
-
-/// 19 is hidden by the two others, until 18 leaves.
-#[test]
-fn effects_of_example_12(rt: HostRuntime) -> Result<(), Fail> {
-    let script = "arrive 17 1: done 0\n\
-        arrive 18 1: done 0\n\
-        arrive 19 1: done 0\n\
-        ask 17 1 01f40028: done 1 set 17 01f40028 fresh 17 01f40028\n\
-        ask 18 1 01d4c014: done 11 set 18 01d4c014 17 01f40028 fresh 18 01d4c014\n\
-        ask 19 1 01e4601e: done 11 set 18 01d4c014 17 01f40028\n\
-        depart 18 1: done 11 set 19 01e4601e 17 01f40028 lifted 18 fresh 19 01e4601e\n\
-        depart 17 1: done 1 set 19 01e4601e lifted 17\n\
-        depart 19 1: done 0 lifted 19\n";
-    assert_plays(&rt, rt.alloc(), 0, script)
-}
-
-/// The row between the two is hidden at the end, and its bound is lifted.
-#[test]
-fn bits_count_by_rising_owner(rt: HostRuntime) -> Result<(), Fail> {
-    let script = "arrive 17 1: done 0\n\
-        arrive 18 1: done 0\n\
-        arrive 19 1: done 0\n\
-        ask 17 1 01f40028: done 1 set 17 01f40028 fresh 17 01f40028\n\
-        ask 18 1 01e4601e: done 11 set 18 01e4601e 17 01f40028 fresh 18 01e4601e\n\
-        ask 19 1 01d4c014: done 101 set 19 01d4c014 17 01f40028 lifted 18 fresh 19 01d4c014\n";
-    assert_plays(&rt, rt.alloc(), 0, script)
-}
-
-/// 500 * 2^1 bits per second, in the place of 1000.
-#[test]
-fn another_spelling_is_fresh(rt: HostRuntime) -> Result<(), Fail> {
-    let script = "arrive 17 1: done 0\n\
-        arrive 18 1: done 0\n\
-        arrive 19 1: done 0\n\
-        ask 17 1 0007d028: done 1 set 17 0007d028 fresh 17 0007d028\n\
-        ask 17 1 0403e828: done 1 set 17 0403e828 fresh 17 0403e828\n\
-        ask 17 1 0403e828: done 1 set 17 0403e828\n";
-    assert_plays(&rt, rt.alloc(), 0, script)
-}
-
-/// A rate of 0 with overhead stops everything: nothing else is announced. 18 was listed before 17. A refused call tells nothing new.
-#[test]
-fn owners_are_lifted_by_rising_ssrc(rt: HostRuntime) -> Result<(), Fail> {
-    let script = "arrive 17 1: done 0\n\
-        arrive 18 1: done 0\n\
-        arrive 19 1: done 0\n\
-        ask 17 1 01f40028: done 1 set 17 01f40028 fresh 17 01f40028\n\
-        ask 18 1 01d4c014: done 11 set 18 01d4c014 17 01f40028 fresh 18 01d4c014\n\
-        ask 19 1 00000028: done 100 set 19 00000028 lifted 17 18 fresh 19 00000028\n\
-        depart 19 2: not present 1 set 19 00000028\n";
     assert_plays(&rt, rt.alloc(), 0, script)
 }
 

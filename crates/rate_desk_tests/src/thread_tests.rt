@@ -47,24 +47,14 @@ impl<S: SeatCalls> Made<S> {
         receipts.push(receipt).ok()?;
         effects.push(effect).ok()
     }
-
-    /// Makes a pulse of each publisher.
-    fn pulse<D: DeskCalls, R: Wait>(&mut self, rt: &R, house: &House<D, S>) -> Option<()> {
-        let Made { seat, receipts, .. } = self;
-        for p in 0..house.publishers() {
-            receipts.push(house.pulse(rt, seat, p, 0).ok()?).ok()?;
-        }
-        Some(())
-    }
 }
 
-/// An owner arrives at each publisher, makes 50 requests of each, in turn, and so many pulses.
+/// An owner arrives at each publisher, and makes 50 requests of each, in turn.
 fn ask_all<D: DeskCalls, S: SeatCalls, R: Wait>(
     rt: &R,
     alloc: Global,
     house: &House<D, S>,
     owner: u32,
-    pulses: usize,
     seat: DeskSeat<S>,
 ) -> Option<Made<S>> {
     let mut made = Made {
@@ -81,9 +71,6 @@ fn ask_all<D: DeskCalls, S: SeatCalls, R: Wait>(
             made.call(rt, house, p, of(owner, 1, change))?;
         }
     }
-    for _ in 0..pulses {
-        made.pulse(rt, house)?;
-    }
     Some(made)
 }
 
@@ -92,7 +79,6 @@ fn ask_by_threads<D: DeskCalls + Send + Sync, S: SeatCalls + Send + Sync, R: Thr
     rt: &R,
     alloc: Global,
     house: &House<D, S>,
-    pulses: usize,
     seats: Vec<DeskSeat<S>>,
 ) -> Option<Vec<Option<Made<S>>>> {
     let mut jobs = Vec::new(alloc);
@@ -104,12 +90,12 @@ fn ask_by_threads<D: DeskCalls + Send + Sync, S: SeatCalls + Send + Sync, R: Thr
     thread::map_vec(
         rt,
         jobs,
-        &|job: (u32, DeskSeat<S>)| ask_all(rt, alloc, house, job.0, pulses, job.1),
+        &|job: (u32, DeskSeat<S>)| ask_all(rt, alloc, house, job.0, job.1),
     )
     .ok()
 }
 
-/// Receipts, each with its effect if it isn't of a pulse.
+/// Receipts, each with its effect.
 #[derive(Drop)]
 struct Told {
     receipts: Vec<Receipt>,
@@ -157,10 +143,9 @@ fn told_by_threads<
     rt: &R,
     alloc: Global,
     house: &House<D, S>,
-    pulses: usize,
     seats: Vec<DeskSeat<S>>,
 ) -> Option<(Vec<DeskSeat<S>>, Told)> {
-    put_together(alloc, ask_by_threads(rt, alloc, house, pulses, seats)?)
+    put_together(alloc, ask_by_threads(rt, alloc, house, seats)?)
 }
 
 /// The place among the receipts of the one with this publisher and number.
@@ -213,25 +198,10 @@ fn assert_counted<S: SeatCalls>(rt: &impl Abort, seats: &[DeskSeat<S>], calls: u
     }
 }
 
-/// Which receipts are handed in once four threads made their calls.
-#[derive(Clone, Copy, PartialEq, Eq)]
-enum End {
-    All,
-    /// All, one of them with another owner.
-    OtherOwner,
-    /// Those of numbers that are still listed.
-    Listed,
-}
-
-/// The receipts that are handed in.
-fn handed(alloc: Global, receipts: &[Receipt], end: End) -> Option<Vec<Receipt>> {
-    let mut handed = Vec::new(alloc);
-    for receipt in receipts {
-        if end != End::Listed || receipt.number >= 60 {
-            handed.push(*receipt).ok()?;
-        }
-    }
-    if end == End::OtherOwner {
+/// The receipts that are handed in: all, or all with another owner in the last one.
+fn handed(alloc: Global, receipts: &[Receipt], is_changed: bool) -> Option<Vec<Receipt>> {
+    let mut handed = receipts.to_vec(alloc).ok()?;
+    if is_changed {
         let last = handed.pop()?;
         let call = of(99, 1, ask(word_at(49)));
         handed.push(Receipt { call, ..last }).ok()?;
@@ -239,7 +209,7 @@ fn handed(alloc: Global, receipts: &[Receipt], end: End) -> Option<Vec<Receipt>>
     Some(handed)
 }
 
-/// Each of the two desks has so many calls; if none was folded, each was told what it changed.
+/// Each of the two desks has so many calls, and each call was told what it changed.
 fn assert_desks(
     rt: &impl Abort,
     alloc: Global,
@@ -250,9 +220,7 @@ fn assert_desks(
     assert!(rt; desks.len() == 2);
     for (p, desk) in desks.iter().enumerate() {
         assert!(rt; desk.calls() == calls && desk.words() == 4 * WORDS);
-        if calls < 1024 {
-            assert_told(rt, alloc, desk, p, told)?;
-        }
+        assert_told(rt, alloc, desk, p, told)?;
         assert_live(rt, desk);
     }
     Ok(())
@@ -267,8 +235,7 @@ fn four_threads<
     alloc: Global,
     recorded: Blank,
     made: Blank,
-    pulses: usize,
-    end: End,
+    is_changed: bool,
 ) -> Result<Option<GatherFault>, Fail>
     requires names { (recorded.name ≡ D.name) × (made.name ≡ S.name) }
     requires parts { (recorded.parts ≡ D.parts) × (made.parts ≡ S.parts) }
@@ -276,14 +243,13 @@ fn four_threads<
     requires numbers { (D.gap ≡ 500) × (D.request_ms ≡ 0) }
 {
     let (house, seats) = House::<D, S>::new(alloc, recorded, made, 2, 4, 500, 0)?;
-    let (seats, told) = told_by_threads(rt, alloc, &house, pulses, seats).ok_or("each call is Ok")?;
-    // Of each publisher: an arrival, 50 requests, and the pulses.
-    let calls = (pulses as u64).saturating_add(51);
-    assert_counted(rt, seats.as_slice(), calls);
-    let handed = handed(alloc, told.receipts.as_slice(), end).ok_or("the receipts")?;
+    let (seats, told) = told_by_threads(rt, alloc, &house, seats).ok_or("each call is Ok")?;
+    // Of each publisher: an arrival and 50 requests.
+    assert_counted(rt, seats.as_slice(), 51);
+    let handed = handed(alloc, told.receipts.as_slice(), is_changed).ok_or("the receipts")?;
     match house.gather(seats, handed.as_slice()) {
         Ok(desks) => {
-            assert_desks(rt, alloc, desks.as_slice(), calls.saturating_mul(4), &told)?;
+            assert_desks(rt, alloc, desks.as_slice(), 4 * 51, &told)?;
             Ok(None)
         },
         Err(fault) => Ok(Some(fault)),
@@ -293,25 +259,15 @@ fn four_threads<
 fn by_threads<R: Threads + Wait + Abort + Sync>(
     rt: &R,
     alloc: Global,
-    pulses: usize,
-    end: End,
+    is_changed: bool,
 ) -> Result<Option<GatherFault>, Fail> {
-    four_threads::<Brand, Brand, R>(rt, alloc, Blank::new(2), Blank::new(4), pulses, end)
+    four_threads::<Brand, Brand, R>(rt, alloc, Blank::new(2), Blank::new(4), is_changed)
 }
 
 #[test]
 fn gather_of_four_threads(rt: HostRuntime) -> Result<(), Fail> {
-    assert_eq!(rt; by_threads(&rt, rt.alloc(), 0, End::All)?, None);
-    let fault = by_threads(&rt, rt.alloc(), 0, End::OtherOwner)?;
+    assert_eq!(rt; by_threads(&rt, rt.alloc(), false)?, None);
+    let fault = by_threads(&rt, rt.alloc(), true)?;
     assert!(rt; matches!(fault, Some(GatherFault::Differs(_))));
-    Ok(())
-}
-
-/// Histories of 4 * (51 + 220) calls, of which the last 1,024 are listed.
-#[test]
-fn gather_of_four_threads_folded(rt: HostRuntime) -> Result<(), Fail> {
-    let fault = by_threads(&rt, rt.alloc(), 220, End::All)?;
-    assert_eq!(rt; fault, Some(GatherFault::Folded(60)));
-    assert_eq!(rt; by_threads(&rt, rt.alloc(), 220, End::Listed)?, None);
     Ok(())
 }

@@ -207,18 +207,13 @@ fn call_in_turn(
     call_often(rt, alloc, &mut desk, &mut past, plan, draws, seen)
 }
 
-/// Five of the desks, from this number on: 12,500 calls.
-fn call_five(rt: &impl Abort, alloc: Global, first: usize) -> Result<(), Fail> {
-    let mut draws = Draws((first as u64).wrapping_add(1));
+/// Five desks, as `plan_of` has them: 12,500 calls.
+#[test]
+fn whole_lists_from_0(rt: HostRuntime) -> Result<(), Fail> {
+    let mut draws = Draws(1);
     let mut seen = Seen::default();
-    for more in 0..5_usize {
-        call_in_turn(
-            rt,
-            alloc,
-            &plan_of(first.wrapping_add(more)),
-            &mut draws,
-            &mut seen,
-        )?;
+    for number in 0..5_usize {
+        call_in_turn(&rt, rt.alloc(), &plan_of(number), &mut draws, &mut seen)?;
     }
     assert!(rt; seen.full > 60, "Full {} times", seen.full);
     assert!(rt; seen.sent > 100, "{} PLIs", seen.sent);
@@ -230,46 +225,4 @@ fn call_five(rt: &impl Abort, alloc: Global, first: usize) -> Result<(), Fail> {
         seen.most_announced
     );
     Ok(())
-}
-
-// All in all 100,000 calls. They are parted so that each test ends in time under the interpreter, too.
-
-#[test]
-fn whole_lists_from_0(rt: HostRuntime) -> Result<(), Fail> {
-    call_five(&rt, rt.alloc(), 0)
-}
-
-#[test]
-fn whole_lists_from_5(rt: HostRuntime) -> Result<(), Fail> {
-    call_five(&rt, rt.alloc(), 5)
-}
-
-#[test]
-fn whole_lists_from_10(rt: HostRuntime) -> Result<(), Fail> {
-    call_five(&rt, rt.alloc(), 10)
-}
-
-#[test]
-fn whole_lists_from_15(rt: HostRuntime) -> Result<(), Fail> {
-    call_five(&rt, rt.alloc(), 15)
-}
-
-#[test]
-fn whole_lists_from_20(rt: HostRuntime) -> Result<(), Fail> {
-    call_five(&rt, rt.alloc(), 20)
-}
-
-#[test]
-fn whole_lists_from_25(rt: HostRuntime) -> Result<(), Fail> {
-    call_five(&rt, rt.alloc(), 25)
-}
-
-#[test]
-fn whole_lists_from_30(rt: HostRuntime) -> Result<(), Fail> {
-    call_five(&rt, rt.alloc(), 30)
-}
-
-#[test]
-fn whole_lists_from_35(rt: HostRuntime) -> Result<(), Fail> {
-    call_five(&rt, rt.alloc(), 35)
 }

@@ -1,13 +1,11 @@
 //! Jobs on a worker's legs.
 
-ghost use Rattle.std.specs.Prelude.{◌≡◌, ◌++◌, IsTrue, IfOk};
-ghost use Rattle.forwarding.specs.Forwarding.{given_by};
-ghost use Rattle.outside.specs.Outside.{datagrams_of};
+ghost use Rattle.std.specs.Prelude.{◌≡◌};
 
-use crate::doubles::{ListSink, MemorySink, MemorySource, OpenGate, StoppedClock};
+use crate::doubles::MemorySink;
 use crate::rooms::{examples, is, on, packet, rtp, two_subscribers};
-use events::{Bytes, Job, SharedPacket};
-use routes::{Blank, Naming, RouteNote, RouteReader, RouteWriter, routes};
+use events::{Job, SharedPacket};
+use routes::{Blank, Naming, RouteReader, RouteWriter, routes};
 use rtcp_feedback::Nack;
 use std::alloc::Global;
 use std::marker::Brand;
@@ -28,36 +26,6 @@ const REPORT: [u8; 44] = [
     0x80, 0xc8, 0, 6, 0, 0, 1, 1, 0, 0, 0, 0x0a, 0x80, 0, 0, 0, 0, 0, 0x0b, 0xb8, 0, 0, 0, 1, 0, 0,
     0, 2, 0x81, 0xca, 0, 3, 0, 0, 1, 1, 1, 3, 0x73, 0x66, 0x75, 0, 0, 0,
 ];
-
-#[test]
-fn doubles_are_what_they_stand_for(rt: HostRuntime) -> Result<(), Fail> {
-    let alloc = rt.alloc();
-    let mut sink = MemorySink::failing(alloc, 1);
-    assert!(rt; sink.send(3, b"ab").is_err() && sink.send(4, b"c").is_ok());
-    assert!(rt; sink.failures == 1 && sink.handed.len() == 2);
-    let mut source = MemorySource {
-        waiting: Vec::new(alloc),
-        failures: 0,
-    };
-    source.waiting.push(Datagram {
-        endpoint: 5,
-        bytes: Bytes::copy_of(alloc, b"xyz")?,
-    })?;
-    let mut out = [0; 4];
-    assert_eq!(rt;
-        source.receive(&mut out),
-        Ok(Received::Datagram {
-            endpoint: 5,
-            length: 3
-        })
-    );
-    assert_eq!(rt; out, *b"xyz\0");
-    assert_eq!(rt; source.receive(&mut out), Ok(Received::Nothing));
-    OpenGate.hold(0);
-    OpenGate.done(0);
-    assert_eq!(rt; StoppedClock.moment(), 0);
-    Ok(())
-}
 
 /// One worker, with a reader of a table and a sink in memory.
 #[derive(Drop)]
@@ -139,14 +107,14 @@ fn does_jobs<J: Naming>(rt: &impl Abort, bench: &mut Bench<'_, J>, first: &Job, 
     assert!(rt; bench.sent_last(1, &REPORT));
     let again = Forwarded { missed: 1, ..sent };
     assert_eq!(rt; bench.forward(&resend(0, 1, 100, 1)), Ok(again));
-    assert_eq!(rt; bench.sink.missed_on, Some(0));
+    assert_eq!(rt; bench.sink.missed.as_slice(), [0].as_slice());
     assert!(rt; bench.sent_last(1, &rtp(100, [1, 1])));
     let old = Forwarded {
         skipped: 1,
         ..NOTHING
     };
     assert_eq!(rt; bench.forward(older), Ok(old));
-    assert_eq!(rt; bench.sink.skipped_on, Some(0));
+    assert_eq!(rt; bench.sink.skipped.as_slice(), [0].as_slice());
     assert_eq!(rt; bench.sink.handed.len(), 3);
 }
 
@@ -189,52 +157,6 @@ fn does_in_vain<J: Naming>(rt: &impl Abort, bench: &mut Bench<'_, J>, jobs: &[Jo
     assert!(rt; bench.sink.handed.is_empty());
 }
 
-/// Does a job. What it gives out stands after what the sink was handed before.
-fn lists<J: Naming>(
-    worker: &mut Forwarder,
-    reader: &mut RouteReader<J>,
-    note: RouteNote<J>,
-    job: &Job,
-    sink: &mut ListSink,
-) -> Result<Forwarded, ForwardFault>
-    ensures { IfOk result (λ _. IsTrue sink.new.is_whole → sink.new.handed.items
-        ≡ sink.old.handed.items ++ datagrams_of (given_by worker.old reader.new.rows job.now)) }
-{
-    worker.forward(reader, note, job, sink)
-}
-
-/// A packet, and once it is wanted again: both stand in the list.
-fn lists_both<J: Naming>(
-    rt: &impl Abort,
-    alloc: Global,
-    writer: &RouteWriter<J>,
-    reader: &mut RouteReader<J>,
-) -> Result<(), Fail> {
-    let jobs = [packet(alloc, 8)?, resend(0, 1, 100, 0)];
-    let mut worker = Forwarder::new(alloc, &examples(alloc).ok_or("settings")?, 1)?;
-    lists_jobs(rt, &mut worker, writer, reader, &jobs, ListSink::new(alloc));
-    Ok(())
-}
-
-/// Does both jobs, and looks at what the sink was handed.
-fn lists_jobs<J: Naming>(
-    rt: &impl Abort,
-    worker: &mut Forwarder,
-    writer: &RouteWriter<J>,
-    reader: &mut RouteReader<J>,
-    jobs: &[Job],
-    sink: ListSink,
-) {
-    let mut sink = sink;
-    for job in jobs {
-        let done = lists(worker, reader, writer.note(), job, &mut sink);
-        assert_eq!(rt; done, Ok(Forwarded { sent: 1, ..NOTHING }));
-    }
-    assert!(rt; sink.is_whole && sink.handed.len() == 2);
-    assert!(rt; is(&sink.handed[0], 1, &rtp(100, [1, 1])));
-    assert!(rt; is(&sink.handed[1], 1, &rtp(100, [1, 1])));
-}
-
 fn forwards_in<J: Naming, R: Wait + Abort>(rt: &R, alloc: Global, blank: Blank) -> Result<(), Fail>
     requires { (blank.book ≡ J.book) × (blank.legs ≡ J.legs) }
 {
@@ -252,26 +174,9 @@ fn forwards_in<J: Naming, R: Wait + Abort>(rt: &R, alloc: Global, blank: Blank) 
     done
 }
 
-fn lists_in<J: Naming, R: Wait + Abort>(rt: &R, alloc: Global, blank: Blank) -> Result<(), Fail>
-    requires { (blank.book ≡ J.book) × (blank.legs ≡ J.legs) }
-{
-    let (mut writer, mut readers) = routes::<J, R>(rt, alloc, blank, 1)?;
-    let noted = writer.change(&on(0)).is_ok();
-    writer.publish(rt);
-    let done = lists_both(rt, alloc, &writer, &mut readers[0]);
-    writer.end(rt);
-    assert!(rt; noted);
-    done
-}
-
 #[test]
 fn forwards_as_in_the_examples(rt: HostRuntime) -> Result<(), Fail> {
     forwards_in::<Brand, _>(&rt, rt.alloc(), Blank::new(1))
-}
-
-#[test]
-fn lists_as_in_the_examples(rt: HostRuntime) -> Result<(), Fail> {
-    lists_in::<Brand, _>(&rt, rt.alloc(), Blank::new(1))
 }
 
 /// A packet goes to two subscribers, and the first send fails.

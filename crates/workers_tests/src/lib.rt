@@ -1,11 +1,13 @@
-//! The tests of `workers`, in a crate of their own so that the unit isn't proved a second time with them.
+//! The tests of `workers`, `one_thread`, `routes` and `conference`, in a crate of their own so that none of them is proved a second time.
 //!
-//! `doubles`, `unit_doubles` and `turn_doubles` stand for what is outside the unit; `rooms` has settings; `random_turns` draws
+//! `doubles` and `turn_doubles` stand for what is outside the unit; `rooms` has settings; `random_turns` draws
 //! what endpoints send, and `machine_turns` is the one-thread machine on the same; `told` is what sinks are told.
 #![tactic(auto)]
 
 #[cfg(test)]
 mod beside_tests;
+#[cfg(test)]
+mod conference_tests;
 #[cfg(test)]
 mod doubles;
 #[cfg(test)]
@@ -17,17 +19,19 @@ mod machine_turns;
 #[cfg(test)]
 mod memory_tests;
 #[cfg(test)]
-mod order_tests;
+mod one_thread_tests;
 #[cfg(test)]
 mod random_turns;
 #[cfg(test)]
 mod rooms;
 #[cfg(test)]
+mod route_tests;
+#[cfg(test)]
+mod route_thread_tests;
+#[cfg(test)]
 mod told;
 #[cfg(test)]
 mod turn_doubles;
-#[cfg(test)]
-mod unit_doubles;
 #[cfg(test)]
 mod unit_tests;
 #[cfg(test)]

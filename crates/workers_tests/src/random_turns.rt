@@ -2,7 +2,7 @@
 
 ghost use Rattle.std.specs.Prelude.{◌+◌, ◌<◌, ◌≤◌};
 
-use crate::unit_doubles::{Link, Times, settings_with};
+use crate::rooms::{Link, Times, settings_with};
 use settings::Settings;
 use std::alloc::{AllocError, Global};
 use std::test::Fail;

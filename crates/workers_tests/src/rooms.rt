@@ -1,9 +1,10 @@
-//! Rooms for tests: the settings of the worked examples, and one with two subscribers.
+//! Rooms for tests: the settings of the worked examples, one with two subscribers, and rooms with any legs; and what endpoints send.
 
 use events::{Job, SharedPacket};
 use members::Order;
 use settings::{EndpointParts, LegParts, Parts, Settings};
 use std::alloc::{AllocError, Global};
+use std::test::Fail;
 use workers::*;
 
 /// The head of each compound of the unit: a receiver report of the source 9, and its CNAME `sfu`.
@@ -21,7 +22,7 @@ fn leg(subscriber: i64, out_ssrc: i64, first_seq: i64) -> LegParts {
     }
 }
 
-fn settings_of(
+fn room_of(
     alloc: Global,
     workers: i64,
     endpoints: &[Option<i64>],
@@ -36,13 +37,13 @@ fn settings_of(
 
 /// The settings of the worked examples: two workers, the endpoints 16 and 17, and one leg from the first to the second.
 pub(super) fn examples(alloc: Global) -> Option<Settings> {
-    settings_of(alloc, 2, &[Some(16), Some(17)], &[leg(1, 257, 100)])
+    room_of(alloc, 2, &[Some(16), Some(17)], &[leg(1, 257, 100)])
 }
 
 /// One worker, and a leg from the first of three endpoints to each other one.
 pub(super) fn two_subscribers(alloc: Global) -> Option<Settings> {
     let endpoints = [Some(16), Some(17), Some(18)];
-    settings_of(alloc, 1, &endpoints, &[leg(1, 257, 100), leg(2, 258, 200)])
+    room_of(alloc, 1, &endpoints, &[leg(1, 257, 100), leg(2, 258, 200)])
 }
 
 /// In this leg the stay 1 stands, and packets are sent on.
@@ -73,4 +74,84 @@ pub(super) fn packet(alloc: Global, seq: u8) -> Result<Job, AllocError> {
 /// Whether this datagram went to this endpoint.
 pub(super) fn is(datagram: &Datagram, endpoint: u16, bytes: &[u8]) -> bool {
     datagram.endpoint == endpoint && datagram.bytes.as_slice() == bytes
+}
+
+/// A leg between these endpoints, on which this source is sent on.
+#[derive(Clone, Copy)]
+pub(super) struct Link {
+    pub(super) subscriber: i64,
+    pub(super) publisher: i64,
+    pub(super) out_ssrc: i64,
+}
+
+/// The times of the settings, in milliseconds.
+#[derive(Clone, Copy)]
+pub(super) struct Times {
+    pub(super) timeout: i64,
+    pub(super) report: i64,
+    pub(super) request: i64,
+    pub(super) gap: i64,
+}
+
+/// So many workers, endpoints with the sources 16, 17 and so on, and these legs, on; all else as in the examples.
+pub(super) fn settings_of(
+    alloc: Global,
+    workers: i64,
+    endpoints: u8,
+    links: &[Link],
+) -> Result<Settings, Fail> {
+    let times = Times {
+        timeout: 1_000,
+        report: 60_000,
+        request: 0,
+        gap: 500,
+    };
+    settings_with(alloc, workers, endpoints, links, times)
+}
+
+/// The same, with these times.
+pub(super) fn settings_with(
+    alloc: Global,
+    workers: i64,
+    endpoints: u8,
+    links: &[Link],
+    times: Times,
+) -> Result<Settings, Fail> {
+    let mut sources = Vec::new(alloc);
+    for number in 0..endpoints {
+        sources.push(Some(16 + i64::from(number)))?;
+    }
+    let mut legs = Vec::new(alloc);
+    for link in links {
+        legs.push(LegParts {
+            subscriber: Some(link.subscriber),
+            publisher: Some(link.publisher),
+            out_ssrc: Some(link.out_ssrc),
+            first_seq: Some(100),
+            on: None,
+        })?;
+    }
+    let mut parts = Parts::example(alloc)?;
+    parts.workers = Some(workers);
+    parts.timeout_ms = Some(times.timeout);
+    parts.report_ms = Some(times.report);
+    parts.request_ms = Some(times.request);
+    parts.pli_gap_ms = Some(times.gap);
+    parts.endpoints = EndpointParts::unnamed(alloc, sources.as_slice())?;
+    parts.legs = legs;
+    Ok(Settings::new(alloc, &parts)?)
+}
+
+/// A receiver report of this source, without blocks (RFC 3550, section 6.4.2).
+pub(super) fn receiver_report(alloc: Global, source: u8) -> Result<Vec<u8>, AllocError> {
+    [0x80, 0xc9, 0, 1, 0, 0, 0, source].to_vec(alloc)
+}
+
+/// An RTP packet of this source with two bytes of payload (RFC 3550, section 5.1).
+pub(super) fn media_packet(alloc: Global, source: u8, seq: u16) -> Result<Vec<u8>, AllocError> {
+    let [high, low] = seq.to_be_bytes();
+    [
+        0x80, 0x60, high, low, 0, 0, 0x0b, 0xb8, 0, 0, 0, source, 0xaa, 0xbb,
+    ]
+    .to_vec(alloc)
 }

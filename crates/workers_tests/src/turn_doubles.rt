@@ -24,7 +24,7 @@ pub(super) struct Stage {
     /// The number of the turn that is played.
     turn: AtomicU64,
     /// The moment of it.
-    moment: AtomicU64,
+    pub(super) moment: AtomicU64,
     /// How many jobs workers have done.
     done: AtomicU64,
 }
@@ -103,22 +103,6 @@ impl<'a> Source for Turned<'a> {
                 })
             }
         }
-    }
-}
-
-/// The clock that the source moves.
-#[derive(Drop)]
-pub(super) struct Moved<'a> {
-    pub(super) stage: &'a Stage,
-}
-
-impl<'a> Clock for Moved<'a> {
-    ghost use Rattle.std.specs.Prelude.{None};
-
-    ghost told = { λ _. None };
-
-    fn moment(&mut self) -> u64 {
-        self.stage.moment.load(Ordering::SeqCst)
     }
 }
 

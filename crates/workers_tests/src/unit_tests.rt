@@ -2,15 +2,14 @@
 
 ghost use Rattle.std.specs.Prelude.{◌+◌};
 
-use crate::doubles::{MemorySink, OpenGate, RisingClock, StoppedClock};
-use crate::unit_doubles::{
-    Arrival, Link, Pairing, Quiet, Script, Times, Until, media_packet, receiver_report,
-    settings_of, settings_with, sinks_of,
+use crate::doubles::{
+    Arrival, MemorySink, OpenGate, Pairing, RisingClock, Script, StoppedClock, Until, sinks_of,
 };
+use crate::rooms::{Link, Times, media_packet, receiver_report, settings_of, settings_with};
 use settings::Settings;
 use std::alloc::Global;
 use std::sync::Wait;
-use std::sync::atomic::{AtomicBool, AtomicU64, Ordering};
+use std::sync::atomic::{AtomicBool, Ordering};
 use std::test::Fail;
 use std::thread::Threads;
 use workers::*;
@@ -206,26 +205,6 @@ fn each_count_by_its_name(rt: HostRuntime) -> Result<(), Fail> {
     Ok(())
 }
 
-/// Receives fail for longer than a subscriber may be silent: it is gone when a packet comes.
-#[test]
-fn ticks_while_receives_fail(rt: HostRuntime) -> Result<(), Fail> {
-    let alloc = rt.alloc();
-    let settings = settings_of(alloc, 1, 2, &ONE_LINK)?;
-    let mut arrivals = Vec::new(alloc);
-    arrivals.push(Arrival::Datagram(1, receiver_report(alloc, 17)?))?;
-    for _fault in 0..60 {
-        arrivals.push(Arrival::Fault)?;
-    }
-    arrivals.push(Arrival::Datagram(0, media_packet(alloc, 16, 7)?))?;
-    let is_played = AtomicBool::new(false);
-    let source = Script::of(arrivals, &is_played);
-    let sinks = sinks_of(alloc, settings.workers() + 1)?;
-    let clock = RisingClock { moment: 0 };
-    let report = run_unit(&rt, alloc, &settings, source, sinks, clock, &OpenGate, 62)?;
-    assert_eq!(rt; (report.heard, report.sent, report.failed), (2, 0, 0));
-    Ok(())
-}
-
 /// How many datagrams the unit sends if a publisher comes, and so many receives fail after that. A report is due each second.
 fn sent_beside_faults<R: Threads + Wait + Sync>(
     rt: &R,
@@ -259,28 +238,5 @@ fn reports_while_receives_fail(rt: HostRuntime) -> Result<(), Fail> {
     let before = sent_beside_faults(&rt, rt.alloc(), 0)?;
     let after = sent_beside_faults(&rt, rt.alloc(), 60)?;
     assert_eq!(rt; (before, after), (0, 1));
-    Ok(())
-}
-
-#[test]
-fn as_many_receives_as_turns(rt: HostRuntime) -> Result<(), Fail> {
-    let alloc = rt.alloc();
-    let settings = settings_of(alloc, 1, 2, &ONE_LINK)?;
-    let receives = AtomicU64::new(0);
-    let source = Quiet {
-        receives: &receives,
-    };
-    let sinks = sinks_of(alloc, settings.workers() + 1)?;
-    run_unit(
-        &rt,
-        alloc,
-        &settings,
-        source,
-        sinks,
-        StoppedClock,
-        &OpenGate,
-        7,
-    )?;
-    assert_eq!(rt; receives.load(Ordering::SeqCst), 7);
     Ok(())
 }

@@ -2,10 +2,9 @@
 
 ghost use Rattle.std.specs.Prelude.{◌≡◌, ◌+◌, vec_len, IfOk};
 
-use crate::doubles::{OpenGate, RisingClock};
-use crate::unit_doubles::{Arrival, Script, receiver_report, settings_of};
+use crate::doubles::{Arrival, Looker, OpenGate, RisingClock, Script, Shown};
+use crate::rooms::{receiver_report, settings_of};
 use crate::unit_tests::TWO_LINKS;
-use desk::Desk;
 use events::Refusal;
 use rtp_packet::RtpFault;
 use std::alloc::{AllocError, Global};
@@ -14,60 +13,6 @@ use std::sync::atomic::{AtomicBool, AtomicU64, Ordering};
 use std::test::Fail;
 use std::thread::Threads;
 use workers::*;
-
-/// What was shown, and how many looks ended.
-#[derive(Drop)]
-struct Shown {
-    present: Vec<(u16, bool)>,
-    stays: Vec<(u16, Option<u64>)>,
-    desks: Vec<u16>,
-    /// The moment of each turn, how many are present then, and how many datagrams came by then.
-    totals: Vec<(u64, u64, u64)>,
-    ended: usize,
-}
-
-/// A watch that is due after each turn, and looks at one thing after the other.
-#[derive(Drop)]
-struct Looker<'a> {
-    wanted: [Look; 4],
-    shown: &'a mut Shown,
-}
-
-impl Watch for Looker<'_> {
-    fn is_due(&self, _moment: u64) -> bool {
-        true
-    }
-
-    fn show(&mut self, moment: u64, status: &Status) {
-        let _ = self
-            .shown
-            .totals
-            .push((moment, status.present, status.heard));
-    }
-
-    fn look(&self) -> Look {
-        self.wanted
-            .get(self.shown.ended)
-            .copied()
-            .unwrap_or(Look::Nothing)
-    }
-
-    fn show_endpoint(&mut self, endpoint: u16, is_present: bool) {
-        let _ = self.shown.present.push((endpoint, is_present));
-    }
-
-    fn show_stay(&mut self, leg: u16, stay: Option<u64>) {
-        let _ = self.shown.stays.push((leg, stay));
-    }
-
-    fn show_desk(&mut self, publisher: u16, _desk: &Desk) {
-        let _ = self.shown.desks.push(publisher);
-    }
-
-    fn end_look(&mut self) {
-        self.shown.ended = self.shown.ended.saturating_add(1);
-    }
-}
 
 /// How often something was refused: packets of the endpoint 1 for their version, and all else.
 #[derive(Drop)]
@@ -157,25 +102,29 @@ fn run_looked_at<R: Threads + Wait + Sync>(
     Ok(ran.is_ok())
 }
 
+/// Whether these moments were shown, with so many endpoints that are present, and so many datagrams that came by then.
+fn has_totals(shown: &[(u64, Status)], wanted: &[(u64, u64, u64)]) -> bool {
+    for ((moment, status), total) in shown.iter().zip(wanted) {
+        if (*moment, status.present, status.heard) != *total {
+            return false;
+        }
+    }
+    shown.len() == wanted.len()
+}
+
 /// After each turn the totals are shown, after that of the stop, too; of each endpoint whether it is present, of each leg its stay, a
 /// desk if it is there; and each look ends. What is refused is told once, of whose datagram it is.
 #[test]
 fn watch_sees_each_turn(rt: HostRuntime) -> Result<(), Fail> {
     let alloc = rt.alloc();
-    let mut shown = Shown {
-        present: Vec::new(alloc),
-        stays: Vec::new(alloc),
-        desks: Vec::new(alloc),
-        totals: Vec::new(alloc),
-        ended: 0,
-    };
+    let mut shown = Shown::nothing(alloc);
     let refused = Refused {
         versions: AtomicU64::new(0),
         others: AtomicU64::new(0),
     };
     assert!(rt; run_looked_at(&rt, alloc, &mut shown, &refused)?);
     let totals = [(20, 1, 1), (40, 2, 2), (60, 3, 3), (80, 3, 4), (100, 3, 4)];
-    assert!(rt; shown.totals.as_slice() == totals.as_slice());
+    assert!(rt; has_totals(shown.totals.as_slice(), &totals));
     let present = [(0, false), (1, true), (2, false)];
     assert!(rt; shown.present.as_slice() == present.as_slice());
     assert!(rt; shown.stays.as_slice() == [(0, None), (1, Some(1))].as_slice());

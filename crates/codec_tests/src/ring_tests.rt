@@ -1,0 +1,253 @@
+//! Packets in, packets found and pushed out.
+ghost use Rattle.std.specs.Prelude.{◌≤◌};
+
+use bumpalo::Bump;
+use resend_ring::*;
+use rewrite::{Readdressed, SharedPacket};
+use std::alloc::{AllocError, Global};
+use std::process::Abort;
+use std::test::Fail;
+use tmmbr_tuple::Ssrc;
+
+/// A packet with this number as its payload.
+fn packet(alloc: Global, payload: u64) -> Result<Readdressed, AllocError> {
+    let mut bytes = [0; 20];
+    bytes[12..].copy_from_slice(payload.to_be_bytes().as_slice());
+    let packet = SharedPacket::copy_of(alloc, bytes.as_slice())?;
+    Ok(Readdressed::new(packet, Ssrc(0), 0))
+}
+
+/// Whether the packet's payload is this number.
+fn has(packet: &Readdressed, payload: u64) -> bool {
+    let mut bytes = [0; 20];
+    if packet.len() != bytes.len() {
+        return false;
+    }
+    packet.copy_to(bytes.as_mut_slice());
+    &bytes[12..] == payload.to_be_bytes().as_slice()
+}
+
+/// Keeps a packet with its number as its payload.
+fn keep(ring: &mut Ring, alloc: Global, number: u64) -> Result<(), AllocError> {
+    let _left = ring.keep(number, packet(alloc, number)?);
+    Ok(())
+}
+
+/// Whether the packet with this sequence number is found, and its payload is this number.
+fn finds(ring: &Ring, seq: u16, number: u64) -> bool {
+    match ring.find(seq) {
+        Some(packet) => has(packet, number),
+        None => false,
+    }
+}
+
+/// Numbers that a ring of this capacity keeps in turn, each with its number as its payload; those that it pushes out; those that it
+/// has then; and sequence numbers that it finds nothing for.
+#[derive(Drop)]
+struct Case<'a> {
+    capacity: usize,
+    numbers: &'a [u64],
+    left: &'a [u64],
+    kept: &'a [u64],
+    missing: &'a [u16],
+}
+
+/// The numbers that the ring pushes out while it keeps these.
+fn pushed_out(alloc: Global, ring: &mut Ring, numbers: &[u64]) -> Result<Vec<u64>, AllocError> {
+    let mut left = Vec::new(alloc);
+    for number in numbers {
+        if let Some((number, _)) = ring.keep(*number, packet(alloc, *number)?) {
+            left.push(number)?;
+        }
+    }
+    Ok(left)
+}
+
+/// Finds these numbers, and nothing for those.
+fn finds_all(rt: &impl Abort, ring: &Ring, kept: &[u64], missing: &[u16]) {
+    for number in kept {
+        assert!(rt; finds(ring, (number % 65536) as u16, *number), "{number}");
+    }
+    for seq in missing {
+        assert!(rt; ring.find(*seq).is_none(), "{seq}");
+    }
+}
+
+/// The ring does so.
+fn keeps(
+    rt: &impl Abort,
+    alloc: Global,
+    ring: &mut Ring,
+    case: &Case<'_>,
+) -> Result<(), AllocError> {
+    let left = pushed_out(alloc, ring, case.numbers)?;
+    assert_eq!(rt; left.as_slice(), case.left);
+    finds_all(rt, ring, case.kept, case.missing);
+    Ok(())
+}
+
+/// A new ring does so.
+fn assert_keeps(rt: &impl Abort, alloc: Global, case: &Case<'_>) -> Result<(), Fail> {
+    if case.capacity == 0 || case.capacity > MAX_CAPACITY {
+        return Err(Fail::from("capacity"));
+    }
+    let mut ring = Ring::new(alloc, case.capacity)?;
+    Ok(keeps(rt, alloc, &mut ring, case)?)
+}
+
+#[test]
+fn finds_of_example_15(rt: HostRuntime) -> Result<(), Fail> {
+    let case = Case {
+        capacity: 2,
+        numbers: &[65534, 65535, 65536],
+        left: &[65534],
+        kept: &[65535, 65536],
+        missing: &[65534],
+    };
+    assert_keeps(&rt, rt.alloc(), &case)
+}
+
+#[test]
+fn finds_the_latest_of_two(rt: HostRuntime) -> Result<(), Fail> {
+    let case = Case {
+        capacity: 2,
+        numbers: &[100, 101],
+        left: &[],
+        kept: &[],
+        missing: &[102],
+    };
+    assert_keeps(&rt, rt.alloc(), &case)?;
+    // 65638 is 102 after a wrap.
+    let case = Case {
+        numbers: &[100, 101, 102, 65638],
+        left: &[100, 101],
+        kept: &[65638],
+        missing: &[],
+        ..case
+    };
+    assert_keeps(&rt, rt.alloc(), &case)
+}
+
+#[test]
+fn greatest_ring(rt: HostRuntime) -> Result<(), Fail> {
+    assert_eq!(rt; MAX_CAPACITY, 512);
+    let ring = Ring::new(rt.alloc(), MAX_CAPACITY)?;
+    assert!(rt; ring.find(0).is_none());
+    Ok(())
+}
+
+/// Of the numbers from the place `from` on, the place of the last that has these low 16 bits.
+fn last_with(numbers: &[u64], from: usize, seq: u16) -> Option<usize> {
+    let mut last = None;
+    for (place, number) in numbers.iter().enumerate() {
+        if place >= from && number % 65536 == u64::from(seq) {
+            last = Some(place);
+        }
+    }
+    last
+}
+
+/// Whether a ring that kept these numbers in turn, each with its place as its payload, finds each of the sequence numbers as a look
+/// through them from the place `from` on does.
+fn finds_last(ring: &Ring, numbers: &[u64], from: usize, asked: &[u16]) -> bool {
+    for seq in asked {
+        let is_right = match (ring.find(*seq), last_with(numbers, from, *seq)) {
+            (None, None) => true,
+            (Some(packet), Some(last)) => has(packet, last as u64),
+            (None, Some(_)) | (Some(_), None) => false,
+        };
+        if !is_right {
+            return false;
+        }
+    }
+    true
+}
+
+/// Whether a ring that kept these numbers in turn, each with its place as its payload, finds each of the sequence
+/// numbers as a look through the list of the last ones does: after each packet, from the place `from` on.
+fn agrees(
+    alloc: Global,
+    capacity: usize,
+    numbers: &[u64],
+    from: usize,
+    asked: &[u16],
+) -> Result<bool, Fail>
+    requires { 1 ≤ capacity × capacity ≤ MAX_CAPACITY }
+{
+    let mut ring = Ring::new(alloc, capacity)?;
+    for (place, number) in numbers.iter().enumerate() {
+        let _left = ring.keep(*number, packet(alloc, place as u64)?);
+        if place < from {
+            continue;
+        }
+        let oldest = (place + 1).saturating_sub(capacity);
+        if !finds_last(&ring, &numbers[..=place], oldest, asked) {
+            return Ok(false);
+        }
+    }
+    Ok(true)
+}
+
+/// Numbers by chance, of few chains, in rings on both sides of the capacity from which there are more chains.
+#[test]
+fn agrees_with_a_list(rt: HostRuntime) -> Result<(), Fail> {
+    let mut numbers = Vec::new(rt.alloc());
+    let mut asked = Vec::new(rt.alloc());
+    let mut chance = 1u64;
+    for _ in 0..3000 {
+        chance = chance
+            .wrapping_mul(6364136223846793005)
+            .wrapping_add(1442695040888963407);
+        let drawn = chance >> 33;
+        numbers.push((drawn % 80) * 1024 + drawn / 80 % 5)?;
+    }
+    for row in 0u16..64 {
+        for column in 0u16..5 {
+            asked.push(row * 1024 + column)?;
+        }
+    }
+    for capacity in [1, 7, 64, 65, 512] {
+        let holds = agrees(
+            rt.alloc(),
+            capacity,
+            numbers.as_slice(),
+            2900,
+            asked.as_slice(),
+        )?;
+        assert!(rt; holds, "in a ring of {capacity}");
+    }
+    Ok(())
+}
+
+/// Whether a ring of this capacity is made in an arena of so many bytes, and how many of them are taken.
+fn made_in(alloc: Global, capacity: usize, limit: usize) -> (bool, usize)
+    requires { 1 ≤ capacity × capacity ≤ MAX_CAPACITY }
+{
+    let bump = Bump::new(alloc);
+    bump.set_allocation_limit(Some(limit));
+    let made = Ring::new(&bump, capacity).is_ok();
+    (made, bump.allocated_bytes())
+}
+
+/// A ring of 100 packets wants 4,000 bytes for them, then 200 for their links, then 2,048 for the heads. The
+/// memory comes in chunks, of which the first is full of the packets. A ring of 512 wants 20 KiB and 3 KiB, one
+/// of 8 wants 592 bytes in all.
+#[test]
+fn refused_without_memory(rt: HostRuntime) {
+    for (capacity, limit, taken, is_made) in [
+        (100, 0, 0, false),
+        (100, 3_900, 0, false),
+        (100, 4_100, 4_000, false),
+        (100, 5_000, 4_000 + 200, false),
+        (100, 10_000, 4_000 + 200 + 2_048, true),
+        (8, 1_000, 592, true),
+        (512, 24_576, 20_480 + 3_072, true),
+    ] {
+        let (made, bytes) = made_in(rt.alloc(), capacity, limit);
+        assert_eq!(rt; made, is_made, "{capacity} packets in {limit} bytes");
+        assert!(rt;
+            taken <= bytes && bytes <= limit,
+            "{bytes} of {limit} bytes"
+        );
+    }
+}
