@@ -16,5 +16,3 @@ mod sending;
 mod serving;
 mod slot;
 mod standing;
-#[cfg(test)]
-mod tests;

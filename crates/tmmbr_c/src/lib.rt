@@ -18,8 +18,4 @@ mod parts;
 mod reading;
 mod showing;
 mod slot;
-#[cfg(test)]
-mod state_tests;
-#[cfg(test)]
-mod tests;
 mod writing;
