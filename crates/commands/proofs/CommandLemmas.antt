@@ -6,7 +6,7 @@ use Rattle.commands.specs.Commands.{Ends, EndsUnit}
 use Rattle.endings.specs.Endings.{SaysWhy}
 use Rattle.endings.specs.declared.status.Status.{Status}
 use Rattle.endings.specs.declared.status.Status.TheVariants as status
-use Rattle.scripts.specs.ByFile.{EndsReplay, shown_by}
+use Rattle.replay.specs.ByFile.{EndsReplay, shown_by}
 use Rattle.serving.proofs.ServeLemmas.{says_alone}
 use Rattle.serving.specs.Serving.{EndsServe, SaysWhyServing}
 use Rattle.settings.specs.Settings.{Configuration}

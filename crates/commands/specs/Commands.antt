@@ -6,7 +6,7 @@ use Rattle.command_line.specs.CommandLine.{Request, bound, check, draw, replay, 
 use Rattle.endings.specs.declared.status.Status.{Status}
 use Rattle.endings.specs.declared.status.Status.TheVariants as status
 use Rattle.offline.specs.Ends.{EndsBound, EndsCheck, EndsDraw}
-use Rattle.scripts.specs.ByFile.{EndsReplay, shown_by}
+use Rattle.replay.specs.ByFile.{EndsReplay, shown_by}
 use Rattle.serving.specs.ReportText.{PrintsReport}
 use Rattle.serving.specs.Serving.{SaysWhyServing}
 use Rattle.settings.specs.Settings.{Configuration}

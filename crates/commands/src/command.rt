@@ -10,9 +10,8 @@ ghost use Rattle.settings_toml.specs.SettingsText.{SaysProblem};
 use command_line::{Action, Noted, Record, read_words};
 use endings::{Status, refuse_words, report, report_settings, say, say_no_memory};
 use offline::{run_bound, run_check, run_draw};
+use replay::{Shown, run_replay, unreadable_settings};
 use request_text::Meter;
-use script_text::Shown;
-use scripts::{run_replay, unreadable_settings};
 use serving::{
     ControlFault, ErrorOutput, Gauges, RECORD_LIMIT, RecordFault, ServedSettings, Term,
     close_control, close_record, open_control, open_record, read_served, serve_file,

@@ -2,7 +2,7 @@
 //!
 //! Read `command` first, `run_command` and `run_noted`, which the program calls, `ask` and `ask_record`, which are `sfu ask` (over a `connection`), and
 //! `description`, `sfu sdp`; `explaining` says to people what was wrong. The words are `command_line`; the commands that need no socket are
-//! `offline`, `sfu replay` is `scripts`, `sfu serve` is `serving`, and how a command ends is `endings`. What callers need of these is handed on.
+//! `offline`, `sfu replay` is `replay`, `sfu serve` is `serving`, and how a command ends is `endings`. What callers need of these is handed on.
 #![tactic(auto)]
 
 mod ask;
@@ -19,9 +19,8 @@ pub use description::run_sdp;
 pub use endings::{Failure, Status, report, report_settings, report_words};
 pub use explaining::explain;
 pub use offline::{Cleared, run_version};
+pub use replay::{Shown, replay_lines};
 pub use request_text::{LineFault, Meter};
-pub use script_text::Shown;
-pub use scripts::replay_lines;
 pub use serving::{
     AddressKey, Addresses, Client, ClientFault, ErrorOutput, Gauges, Listening, Location, Rules,
     ServeFault, ServedSettings, Sockets, read_clients, read_served, run_on, serve_socket,

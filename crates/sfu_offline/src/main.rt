@@ -4,9 +4,8 @@
 use command_line::{Action, read_words};
 use endings::{Status, refuse_words, report, report_words, say};
 use offline::{Cleared, replay_advice, run_bound, run_check, run_draw, run_version};
+use replay::{Shown, run_replay};
 use request_text::Meter;
-use script_text::Shown;
-use scripts::run_replay;
 use std::io::{Read, Write};
 use std::process::ExitCode;
 use std::rt::{Env, Files};

@@ -1,0 +1,4 @@
+pub mod ByFileLemmas
+pub mod ReplayLemmas
+pub mod ScriptLemmas
+pub mod ShownLemmas

@@ -1,0 +1,267 @@
+-- Lines, steps and what they print, one after the other.
+use Rattle.std.proofs.Common.{◌≡◌, ◌∙◌, ℕ, ◌+◌, ◌<◌, ◌≤◌, zero, suc, Bool, true, false, List, [], ◌∷◌, ◌++◌, map, Bor, length, drop, get_or, Option, None, Some, Result, Ok, Err, refl, sym, ap, subst, inl, inr, arith, append_assoc}
+use Rattle.std.specs.Prelude.{OnOk}
+use Rattle.std.specs.Io.KnownBytes.{Appends}
+use Rattle.std.proofs.KnownBytes.{Appends-kept}
+use Rattle.std.proofs.lemmas.List.{append-nil, drop_all, length-map}
+use Rattle.settings.specs.Settings.{Configuration}
+use Rattle.events.specs.declared.event.Event.{Event}
+use Rattle.events.specs.declared.event.Event.TheVariants.{Ingress, Work}
+use Rattle.events.specs.declared.output.Out.{Out}
+use Rattle.core_steps.specs.Opening.{IsNewWorld}
+use Rattle.core_steps.specs.Run.{HasRun}
+use Rattle.core_steps.specs.World.{WorldState}
+use Rattle.core_steps.specs.Rule.{is_busy}
+use Rattle.core_steps.specs.Settling.{ingress_left}
+use Rattle.core_steps.proofs.SettleLemmas.{step_of}
+use Rattle.core_steps.proofs.AsideLemmas.{ingress_same, work_aside}
+use Rattle.endings.specs.declared.status.Failure.{Failure}
+use Rattle.endings.specs.declared.status.Failure.TheVariants.{NoMemory, Refused as RefusedLine, Io}
+use Rattle.replay.specs.declared.script.Reading.TheVariants.{Unreadable}
+use Rattle.request_text.specs.Lines.{lines_of}
+use Rattle.replay.specs.Replay.{Drains, FailsLine, FailsReplay, Follows, GivesOut, IngressDrains, LinePlays, LinesPlay, PrintsLine, PrintsReplay, Rounds, Settles, WorkerDrains, WorkersDrain, again, cause_behind, numbers_of, over, quiet, round}
+use Rattle.replay.specs.Shown.{Cause, Given, Told, cause_of, given_at, no_cause, shown_text}
+use Rattle.replay.specs.declared.replay.Progress.{Progress}
+use Rattle.replay.specs.declared.shown.Shown.{Shown}
+use Rattle.replay.specs.Printing.{PrintsGiven}
+use Rattle.replay.proofs.ShownLemmas.{more_printed, none_printed}
+use Rattle.replay.specs.Script.{reading_of}
+use Rattle.request_text.proofs.LineLemmas.{at_line}
+
+-- ---- what is given out
+
+-- outs after outs
+pub joined : (old mid new first second : List Out) → mid ≡ old ++ first → new ≡ mid ++ second → new ≡ old ++ (first ++ second)
+joined old mid new first second p q = q ∙ (ap (λ (xs : List Out). xs ++ second) p ∙ append_assoc old first second)
+
+-- ---- lines
+
+abbrev texts : List (Bor (List ℕ)) → List (List ℕ)
+texts lines = map (λ (x : Bor (List ℕ)). x.now) lines
+
+-- after the last line nothing is given
+pub played_out : (c : Configuration) (i : ℕ) (cause : Cause) (lines : List (Bor (List ℕ))) (w : WorldState) → length lines ≤ i
+    → LinesPlay c (i + 1) cause (drop i (texts lines)) w [] None
+played_out c i cause lines w past =
+    let all : length (texts lines) ≤ i = rw length-map past in
+    subst (λ (ls : List (List ℕ)). LinesPlay c (i + 1) cause ls w [] None) (sym (drop_all i (texts lines) all)) (refl, refl)
+
+pub plays_on : (c : Configuration) (i : ℕ) (here there : Cause) (lines : List (Bor (List ℕ))) (d : Bor (List ℕ)) (w next : WorldState)
+    (told : List Told) (others : List Given) (stopped : Option ℕ) → i < length lines → there ≡ cause_behind c (i + 1) (get_or lines i d).now here
+    → LinePlays c (get_or lines i d).now w next told → LinesPlay c (i + 1 + 1) there (drop (i + 1) (texts lines)) next others stopped
+    → LinesPlay c (i + 1) here (drop i (texts lines)) w (given_at there told ++ others) stopped
+plays_on c i here there lines d w next told others stopped below is line rest =
+    subst (λ (ls : List (List ℕ)). LinesPlay c (i + 1) here ls w (given_at there told ++ others) stopped) (sym (at_line i lines d below))
+    (inl (
+      next,
+      told,
+      others,
+      line,
+      subst (λ (k : Cause). LinesPlay c (i + 1 + 1) k (drop (i + 1) (texts lines)) next others stopped) is rest,
+      ap (λ (k : Cause). given_at k told ++ others) is,
+    ))
+
+pub stops_at : (c : Configuration) (i : ℕ) (cause : Cause) (lines : List (Bor (List ℕ))) (d : Bor (List ℕ)) (w : WorldState) → i < length lines
+    → reading_of (numbers_of c) (get_or lines i d).now ≡ Unreadable → LinesPlay c (i + 1) cause (drop i (texts lines)) w [] (Some (i + 1))
+stops_at c i cause lines d w below unreadable =
+    subst (λ (ls : List (List ℕ)). LinesPlay c (i + 1) cause ls w [] (Some (i + 1))) (sym (at_line i lines d below))
+    (inr (unreadable, refl, refl))
+
+-- What was played so far: from a new world, and what is shown of what it gave was printed; whatever the lines from here on give comes
+-- after it.
+pub record Played (c : Configuration) (s : Shown) (script : List ℕ) (i : ℕ) (lines : List (List ℕ)) (w : WorldState) (here : Progress)
+    (old new : Option (List ℕ)) : Type 0 where
+  pub first : WorldState
+  pub opened : IsNewWorld c first
+  pub given : List Given
+  pub printed : PrintsGiven c s 0 given here.said old new
+  pub rest : (others : List Given) (stopped : Option ℕ) → LinesPlay c (i + 1) (cause_of here.latest) (drop i lines) w others stopped
+      → LinesPlay c 1 no_cause (lines_of script) first (given ++ others) stopped
+
+pub opens : (c : Configuration) (s : Shown) (script : List ℕ) (lines : List (List ℕ)) (w : WorldState) (here : Progress) (old : Option (List ℕ))
+    → IsNewWorld c w → lines ≡ lines_of script → cause_of here.latest ≡ no_cause → here.said ≡ 0 → Played c s script 0 lines w here old old
+opens c s script lines w here old new is none unsaid = record {
+  first = w;
+  opened = new;
+  given = [];
+  printed = subst (λ (n : ℕ). PrintsGiven c s 0 [] n old old) (sym unsaid) (none_printed c s 0 old);
+  rest = λ others stopped play.
+      subst (λ (ls : List (List ℕ)). LinesPlay c 1 no_cause ls w others stopped) is
+      (subst (λ (k : Cause). LinesPlay c 1 k lines w others stopped) none play);
+}
+
+pub goes_on : (c : Configuration) (s : Shown) (script : List ℕ) (i number : ℕ) (lines : List (Bor (List ℕ))) (d : Bor (List ℕ)) (w next : WorldState)
+    (here there : Progress) (old mid new : Option (List ℕ)) → i < length lines → number ≡ i → Played c s script i (texts lines) w here old mid
+    → PrintsLine c s (number + 1) (get_or lines i d).now w next here there mid new
+    → Played c s script (i + 1) (texts lines) next there old new
+goes_on c s script i number lines d w next here there old mid new below counted played told =
+    let k = cause_of there.latest in
+    let line = subst (λ (n : ℕ). PrintsLine c s (n + 1) (get_or lines i d).now w next here there mid new) counted told in record {
+      first = played.first;
+      opened = played.opened;
+      given = played.given ++ given_at k line.told;
+      printed = more_printed c s 0 here.said there.said played.given (given_at k line.told) old mid new played.printed line.printed;
+      rest = λ others stopped play.
+          subst (λ (t : List Given). LinesPlay c 1 no_cause (lines_of script) played.first t stopped)
+          (sym (append_assoc played.given (given_at k line.told) others))
+          (played.rest (given_at k line.told ++ others) stopped
+          (plays_on c i (cause_of here.latest) k lines d w next line.told others stopped below line.latest line.plays play));
+    }
+
+-- the text of what was given so far
+whole : (c : Configuration) (s : Shown) (given : List Given) (said : ℕ) (old new : Option (List ℕ)) → PrintsGiven c s 0 given said old new
+    → Appends old new (shown_text c s (given ++ []))
+whole c s given said old new printed = subst (λ (gs : List Given). Appends old new (shown_text c s gs)) (sym (append-nil given)) printed.printed
+
+pub ends : (c : Configuration) (s : Shown) (script : List ℕ) (i : ℕ) (lines : List (Bor (List ℕ))) (w : WorldState) (here : Progress)
+    (old new : Option (List ℕ)) → length lines ≤ i → Played c s script i (texts lines) w here old new → PrintsReplay c s script old new
+ends c s script i lines w here old new past played = record {
+  given = played.given ++ [];
+  plays = record {
+    world = played.first;
+    opened = played.opened;
+    lines = played.rest [] None (played_out c i (cause_of here.latest) lines w past);
+  };
+  printed = whole c s played.given here.said old new played.printed;
+}
+
+pub fails : (c : Configuration) (s : Shown) (script : List ℕ) (i number : ℕ) (lines : List (Bor (List ℕ))) (d : Bor (List ℕ)) (w : WorldState)
+    (here : Progress) (old mid new : Option (List ℕ)) (failure : Failure) → i < length lines → number ≡ i
+    → Played c s script i (texts lines) w here old mid → FailsLine c (number + 1) (get_or lines i d).now mid new failure
+    → FailsReplay c s (Some script) old new failure
+fails c s script i number lines d w here old mid new NoMemory below counted played f = tt
+fails c s script i number lines d w here old mid new Io below counted played f = tt
+fails c s script i number lines d w here old mid new (RefusedLine n fault) below counted played f =
+    let place : n ≡ i + 1 = f.0 ∙ ap (λ (k : ℕ). k + 1) counted in
+    let stop = played.rest [] (Some (i + 1)) (stops_at c i (cause_of here.latest) lines d w below f.2) in (
+      f.1,
+      record {
+        given = played.given ++ [];
+        plays = record {
+          world = played.first;
+          opened = played.opened;
+          lines = subst (λ (k : ℕ). LinesPlay c 1 no_cause (lines_of script) played.first (played.given ++ []) (Some k)) (sym place) stop;
+        };
+        printed = Appends-kept old mid new (shown_text c s (played.given ++ [])) (whole c s played.given here.said old mid played.printed) f.3;
+      },
+    )
+
+-- ---- settling
+
+-- What was done so far, and was given out; whatever is done from here on comes after it.
+pub record Drained (waits : WorldState → Bool) (event : Event) (first w : WorldState) (old new : List Out) : Type 0 where
+  pub outs : List Out
+  pub given : new ≡ old ++ outs
+  pub rest : (others : List Out) (final : WorldState) → Drains waits event w others final → Drains waits event first (outs ++ others) final
+
+pub drains_on : (waits : WorldState → Bool) (event : Event) (first w next : WorldState) (old mid new : List Out) (outs : List Out)
+    → waits w ≡ true → Drained waits event first w old mid → HasRun (event ∷ []) w [] next outs → new ≡ mid ++ outs
+    → Drained waits event first next old new
+drains_on waits event first w next old mid new outs busy d run given = record {
+  outs = d.outs ++ outs;
+  given = joined old mid new d.outs outs d.given given;
+  rest = λ others final more.
+      subst (λ (xs : List Out). Drains waits event first xs final) (sym (append_assoc d.outs outs others))
+      (d.rest (outs ++ others) final (again busy run more));
+}
+
+pub is_drained : (waits : WorldState → Bool) (event : Event) (first w : WorldState) (old new : List Out) → waits w ≡ false
+    → Drained waits event first w old new
+    → (outs : List Out) × Drains waits event first outs w × (new ≡ old ++ outs)
+is_drained waits event first w old new idle d =
+    (d.outs, subst (λ (xs : List Out). Drains waits event first xs w) (append-nil d.outs) (d.rest [] w (over idle)), d.given)
+
+-- the same of workers, of which so many are to come
+pub record WorkersDrained (count k : ℕ) (first w : WorldState) (old new : List Out) : Type 0 where
+  pub outs : List Out
+  pub given : new ≡ old ++ outs
+  pub rest : (left : ℕ) (others : List Out) (final : WorldState) → left + k ≡ count → WorkersDrain left k w others final
+      → WorkersDrain count 0 first (outs ++ others) final
+
+pub workers_on : (count k : ℕ) (first w next : WorldState) (old mid new : List Out) (outs : List Out)
+    → WorkersDrained count k first w old mid → WorkerDrains k w outs next → new ≡ mid ++ outs
+    → WorkersDrained count (k + 1) first next old new
+workers_on count k first w next old mid new outs d drains given = record {
+  outs = d.outs ++ outs;
+  given = joined old mid new d.outs outs d.given given;
+  rest = λ left others final is more.
+      let total : suc left + k ≡ count = omega (arith, is) in
+      subst (λ (xs : List Out). WorkersDrain count 0 first xs final) (sym (append_assoc d.outs outs others))
+      (d.rest (suc left) (outs ++ others) final total (next, outs, others, drains, more, refl));
+}
+
+pub workers_over : (count k : ℕ) (first w : WorldState) (old new : List Out) → count ≡ k → WorkersDrained count k first w old new
+    → (outs : List Out) × WorkersDrain count 0 first outs w × (new ≡ old ++ outs)
+workers_over count k first w old new all d =
+    let none : zero + k ≡ count = omega (arith, all) in
+    (d.outs, subst (λ (xs : List Out). WorkersDrain count 0 first xs w) (append-nil d.outs) (d.rest zero [] w none (refl, refl)), d.given)
+
+-- the ingress first, then the workers
+pub settled : {T E : Type 0} (count workers : ℕ) (w mid final : WorldState) (old m new : List Out) (r : Result T E)
+    → count ≡ workers → GivesOut (λ outs. IngressDrains w outs mid) old m
+    → OnOk r (GivesOut (λ outs. WorkersDrain count 0 mid outs final) m new)
+    → OnOk r (GivesOut (λ outs. Settles workers w outs final) old new)
+settled count workers w mid final old m new (Err e) same first others = tt
+settled count workers w mid final old m new (Ok done) same first others = (
+  first.0 ++ others.0,
+  record {
+    next = mid;
+    first = first.0;
+    others = others.0;
+    ingress = first.1;
+    each = subst (λ (n : ℕ). WorkersDrain n 0 mid others.0 final) same others.1;
+    given = refl;
+  },
+  joined old m new first.0 others.0 first.2 others.2,
+)
+
+-- ---- rounds
+
+-- a step of a worker leaves as much to the ingress as there was
+pub work_keeps_ingress : (k : ℕ) (w next : WorldState) (outs all : List Out) → HasRun (Work k ∷ []) w outs next all
+    → ingress_left next ≡ ingress_left w
+work_keeps_ingress k w next outs all r =
+    let s = step_of w (Work k) next outs all r in
+    ap ingress_left s.leads ∙ ingress_same w s.happening (work_aside w k s.happening s.does)
+
+-- Rounds that were made so far, and what they gave; whatever is done from here on comes after it.
+pub record RoundsMade (workers : ℕ) (first w : WorldState) (old new : List Out) : Type 0 where
+  pub outs : List Out
+  pub given : new ≡ old ++ outs
+  pub rest : (others : List Out) (final : WorldState) → Rounds workers w others final → Rounds workers first (outs ++ others) final
+
+pub rounds_on : (workers : ℕ) (first w next behind : WorldState) (old mid late new : List Out) (outs more : List Out)
+    → is_busy w ≡ true → RoundsMade workers first w old mid → HasRun (Ingress ∷ []) w [] next outs → late ≡ mid ++ outs
+    → WorkersDrain workers 0 next more behind → new ≡ late ++ more → RoundsMade workers first behind old new
+rounds_on workers first w next behind old mid late new outs more busy d run given drains told = record {
+  outs = d.outs ++ (outs ++ more);
+  given = joined old mid new d.outs (outs ++ more) d.given (joined mid late new outs more given told);
+  rest = λ others final last.
+      subst (λ (xs : List Out). Rounds workers first xs final) (sym (append_assoc d.outs (outs ++ more) others))
+      (d.rest ((outs ++ more) ++ others) final
+      (subst (λ (xs : List Out). Rounds workers w xs final) (sym (append_assoc outs more others)) (round more behind busy run drains last)));
+}
+
+pub rounds_over : (workers : ℕ) (first w : WorldState) (old new : List Out) → is_busy w ≡ false → RoundsMade workers first w old new
+    → (outs : List Out) × Rounds workers first outs w × (new ≡ old ++ outs)
+rounds_over workers first w old new idle d =
+    (d.outs, subst (λ (xs : List Out). Rounds workers first xs w) (append-nil d.outs) (d.rest [] w (quiet idle)), d.given)
+
+-- the workers first, then the rounds
+pub followed : {T E : Type 0} (count workers : ℕ) (w mid final : WorldState) (old m new : List Out) (r : Result T E)
+    → count ≡ workers → GivesOut (λ outs. WorkersDrain count 0 w outs mid) old m
+    → OnOk r (GivesOut (λ outs. Rounds count mid outs final) m new)
+    → OnOk r (GivesOut (λ outs. Follows workers w outs final) old new)
+followed count workers w mid final old m new (Err e) same first others = tt
+followed count workers w mid final old m new (Ok done) same first others = (
+  first.0 ++ others.0,
+  record {
+    next = mid;
+    first = first.0;
+    others = others.0;
+    each = subst (λ (n : ℕ). WorkersDrain n 0 w first.0 mid) same first.1;
+    rounds = subst (λ (n : ℕ). Rounds n mid others.0 final) same others.1;
+    given = refl;
+  },
+  joined old m new first.0 others.0 first.2 others.2,
+)

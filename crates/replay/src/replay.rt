@@ -1,0 +1,317 @@
+//! `sfu replay`: plays a script through the machine.
+
+ghost use Rattle.std.specs.Prelude.{◌≡◌, ◌≢◌, ◌∷◌, ◌<◌, [], Some, length, string_bytes, IfErr, IfOk, IfSome, OnOk};
+ghost use Rattle.core_steps.specs.Run.{HasRun};
+ghost use Rattle.core_steps.specs.Settling.{ingress_left};
+ghost use Rattle.endings.specs.Endings.{SaysWhy};
+ghost use Rattle.replay.specs.Printing.{PrintsGiven};
+ghost use Rattle.replay.specs.Script.{IsAmong};
+ghost use Rattle.replay.specs.Shown.{cause_of, given_at};
+ghost use Rattle.replay.specs.Replay.{CommandPlays, FailsLine, FailsReplay, Follows, GivesOut, IngressDrains, IsOutside, IsShown, PrintsLine, PrintsReplay, RefusesReplay, Rounds, Settles, WorkerDrains, WorkersDrain, numbers_of, told_in};
+
+use crate::latest::Latest;
+use crate::printing::{Choice, print_outs, print_set};
+use crate::script::{Command, Numbers, Reading, read_line};
+use crate::shown::Shown;
+use core_steps::{World, run};
+use endings::{Failure, Status, report};
+use events::{Event, Out};
+use request_text::{LineFault, Meter, announced_line, line_count, lines};
+use settings::Settings;
+use std::alloc::{AllocError, Global};
+use std::io::{Read, Write};
+
+/// What a command gives: what the machine gave out, or the line of a set.
+#[derive(Drop)]
+pub(crate) enum Gives {
+    Outs(Vec<Out>),
+    Set(String),
+}
+
+/// How far a replay is: what came from outside last, and the number of the event from which the last printed line follows.
+#[derive(Clone, Copy)]
+pub(crate) struct Progress<'t> {
+    latest: Latest<'t>,
+    said: u64,
+}
+
+/// Plays the script's lines from a new world of these settings, and prints what is shown of what they give: a line for each thing
+/// that the machine gives out, and for each `show`.
+///
+/// A line that can't be read stops it, and is said on the error output; what came before stays printed. The meter is shown each line.
+pub fn replay_lines<I: Read, O: Write, E: Write>(
+    alloc: Global,
+    settings: &Settings,
+    shown: Shown,
+    meter: &Meter,
+    script: &mut I,
+    writer: &mut O,
+    errors: &mut E,
+) -> Status
+    ensures done { result ≡ Status.Done → IfSome (I.remaining script.old)
+        (λ text. PrintsReplay settings.now shown text (O.contents writer.old)
+        (O.contents writer.new)) }
+    ensures refused { result ≡ Status.Refused → IfSome (I.remaining script.old)
+        (λ text. RefusesReplay settings.now shown text (O.contents writer.old)
+        (O.contents writer.new) (E.contents errors.old) (E.contents errors.new)) }
+    ensures understood { (result ≢ Status.CommandLine) × (result ≢ Status.Settings) }
+    ensures said { SaysWhy (E.contents errors.old) (E.contents errors.new) result }
+{
+    match play(alloc, Choice { settings, shown }, meter, script, writer) {
+        Ok(()) => Status::Done,
+        Err(failure) => report(alloc, errors, failure),
+    }
+}
+
+/// Plays the whole script.
+fn play<I: Read, O: Write>(
+    alloc: Global,
+    choice: Choice<'_>,
+    meter: &Meter,
+    script: &mut I,
+    writer: &mut O,
+) -> Result<(), Failure>
+    ensures done { OnOk result (IfSome (I.remaining script.old)
+        (λ text. PrintsReplay choice.entry.settings.now choice.entry.shown text (O.contents writer.old)
+        (O.contents writer.new))) }
+    ensures refused { IfErr result
+        (FailsReplay choice.entry.settings.now choice.entry.shown (I.remaining script.old)
+        (O.contents writer.old) (O.contents writer.new)) }
+{
+    let mut text = Vec::new(alloc);
+    script.read_to_end(&mut text)?;
+    play_lines(alloc, choice, meter, text.as_slice(), writer)
+}
+
+/// Plays the lines of a text.
+fn play_lines<O: Write>(
+    alloc: Global,
+    choice: Choice<'_>,
+    meter: &Meter,
+    text: &[u8],
+    writer: &mut O,
+) -> Result<(), Failure>
+    ensures done { OnOk result (PrintsReplay choice.entry.settings.now choice.entry.shown text.now
+        (O.contents writer.old) (O.contents writer.new)) }
+    ensures refused { IfErr result
+        (FailsReplay choice.entry.settings.now choice.entry.shown (Some text.now) (O.contents writer.old)
+        (O.contents writer.new)) }
+{
+    let lines = lines(alloc, text)?;
+    let count = line_count(lines.as_slice());
+    let mut world = World::new(alloc, choice.settings)?;
+    let mut progress = Progress {
+        latest: Latest::none(),
+        said: 0,
+    };
+    let mut number = 0;
+    for line in lines.iter() {
+        number += 1;
+        meter.show(number, count);
+        progress = play_line(alloc, choice, &mut world, line, number, progress, writer)?;
+    }
+    Ok(())
+}
+
+/// Plays the line with this number, and answers how far the replay is then.
+fn play_line<'t, O: Write>(
+    alloc: Global,
+    choice: Choice<'_>,
+    world: &mut World,
+    line: &'t [u8],
+    number: u64,
+    progress: Progress<'t>,
+    writer: &mut O,
+) -> Result<Progress<'t>, Failure>
+    requires { length world.old.desks ≡ length choice.settings.now.endpoints }
+    ensures played { IfOk result (λ next.
+        PrintsLine choice.entry.settings.now choice.entry.shown number line.now world.old world.new
+        progress.entry next (O.contents writer.old) (O.contents writer.new)) }
+    ensures stopped { IfErr result
+        (FailsLine choice.entry.settings.now number line.now (O.contents writer.old)
+        (O.contents writer.new)) }
+    ensures desks { OnOk result (length world.new.desks ≡ length world.old.desks) }
+{
+    let reading = read_line(alloc, numbers_of(choice.settings), line)?;
+    let latest = progress.latest.after(number, line, &reading);
+    match reading {
+        Reading::Skipped => Ok(Progress {
+            latest,
+            said: progress.said,
+        }),
+        Reading::Command(command) => {
+            let gives = play_command(alloc, choice.settings, world, command)?;
+            let said = print_all(alloc, choice, latest, progress.said, &gives, writer)?;
+            Ok(Progress { latest, said })
+        }
+        Reading::Unreadable => Err(Failure::Refused {
+            line: number,
+            fault: LineFault::Text,
+        }),
+    }
+}
+
+/// Prints what is shown of what a command gave, as `print_outs` does.
+fn print_all<O: Write>(
+    alloc: Global,
+    choice: Choice<'_>,
+    latest: Latest<'_>,
+    said: u64,
+    gives: &Gives,
+    writer: &mut O,
+) -> Result<u64, Failure>
+    ensures printed { IfOk result (λ behind. PrintsGiven choice.entry.settings.now choice.entry.shown said
+        (given_at (cause_of latest.entry) (told_in gives.now)) behind (O.contents writer.old)
+        (O.contents writer.new)) }
+    ensures outside { IfErr result IsOutside }
+{
+    let behind = match gives {
+        Gives::Outs(outs) => print_outs(alloc, choice, latest, said, outs.as_slice(), writer)?,
+        Gives::Set(text) => print_set(choice, latest, said, text.as_str(), writer)?,
+    };
+    Ok(behind)
+}
+
+/// How many endpoints and workers the settings have.
+fn numbers_of(settings: &Settings) -> Numbers
+    ensures { result ≡ numbers_of settings.now }
+{
+    Numbers {
+        endpoints: settings.endpoints().len() as u16,
+        workers: settings.workers() as u16,
+    }
+}
+
+/// Does what a line asks for, and answers what comes of it. Refused for want of memory alone.
+fn play_command(
+    alloc: Global,
+    settings: &Settings,
+    world: &mut World,
+    command: Command,
+) -> Result<Gives, AllocError>
+    requires desks { length world.old.desks ≡ length settings.now.endpoints }
+    requires among { IsAmong (numbers_of settings.now) command }
+    ensures played { IfOk result (λ gives.
+        CommandPlays settings.now world.old command world.new (told_in gives)) }
+    ensures desks { OnOk result (length world.new.desks ≡ length world.old.desks) }
+{
+    let mut outs = Vec::new(alloc);
+    match command {
+        Command::Do(event) => step(world, event, &mut outs)?,
+        Command::Settle => settle(settings, world, &mut outs)?,
+        Command::Follow => follow(settings, world, &mut outs)?,
+        Command::Show(publisher) => {
+            let text = shown_set(alloc, settings, world, publisher)?;
+            return Ok(Gives::Set(text));
+        }
+    }
+    Ok(Gives::Outs(outs))
+}
+
+/// The ingress until nothing waits for it, then each worker, by rising number, until it has nothing to do.
+fn settle(settings: &Settings, world: &mut World, outs: &mut Vec<Out>) -> Result<(), AllocError>
+    ensures settled { OnOk result (GivesOut
+        (λ given. Settles settings.now.workers world.old given world.new)
+        outs.old.items outs.new.items) }
+    ensures desks { OnOk result (length world.new.desks ≡ length world.old.desks) }
+{
+    drain_ingress(world, outs)?;
+    let numbers = numbers_of(settings);
+    drain_workers(numbers.workers, world, outs)
+}
+
+/// Each worker, by rising number, until it has nothing to do; then, as long as anything waits for the ingress, one step of it, and each
+/// worker again.
+fn follow(settings: &Settings, world: &mut World, outs: &mut Vec<Out>) -> Result<(), AllocError>
+    ensures followed { OnOk result (GivesOut
+        (λ given. Follows settings.now.workers world.old given world.new)
+        outs.old.items outs.new.items) }
+    ensures desks { OnOk result (length world.new.desks ≡ length world.old.desks) }
+{
+    let workers = numbers_of(settings).workers;
+    drain_workers(workers, world, outs)?;
+    make_rounds(workers, world, outs)
+}
+
+/// As long as anything waits for the ingress: one step of it, and then so many workers, one after the other.
+fn make_rounds(workers: u16, world: &mut World, outs: &mut Vec<Out>) -> Result<(), AllocError>
+    ensures made { OnOk result (GivesOut (λ given. Rounds workers world.old given world.new)
+        outs.old.items outs.new.items) }
+    ensures desks { OnOk result (length world.new.desks ≡ length world.old.desks) }
+{
+    while world.is_busy() {
+        step(world, Event::Ingress, outs)?;
+        drain_workers(workers, world, outs)?;
+    }
+    Ok(())
+}
+
+/// The ingress until nothing waits for it.
+fn drain_ingress(world: &mut World, outs: &mut Vec<Out>) -> Result<(), AllocError>
+    ensures drained { OnOk result (GivesOut (λ given. IngressDrains world.old given world.new)
+        outs.old.items outs.new.items) }
+    ensures desks { OnOk result (length world.new.desks ≡ length world.old.desks) }
+{
+    while world.is_busy() {
+        step(world, Event::Ingress, outs)?;
+    }
+    Ok(())
+}
+
+/// So many workers, one after the other.
+fn drain_workers(workers: u16, world: &mut World, outs: &mut Vec<Out>) -> Result<(), AllocError>
+    ensures drained { OnOk result (GivesOut
+        (λ given. WorkersDrain workers 0 world.old given world.new)
+        outs.old.items outs.new.items) }
+    ensures ingress { OnOk result (ingress_left world.new ≡ ingress_left world.old) }
+    ensures desks { OnOk result (length world.new.desks ≡ length world.old.desks) }
+{
+    for worker in 0..workers {
+        drain_worker(worker, world, outs)?;
+    }
+    Ok(())
+}
+
+/// A worker until it has nothing to do.
+fn drain_worker(worker: u16, world: &mut World, outs: &mut Vec<Out>) -> Result<(), AllocError>
+    ensures drained { OnOk result (GivesOut (λ given. WorkerDrains worker world.old given world.new)
+        outs.old.items outs.new.items) }
+    ensures ingress { OnOk result (ingress_left world.new ≡ ingress_left world.old) }
+    ensures desks { OnOk result (length world.new.desks ≡ length world.old.desks) }
+{
+    while world.has_work(worker) {
+        step(world, Event::Work(worker), outs)?;
+    }
+    Ok(())
+}
+
+/// Does one event, and puts what it gives out after the rest. Refused for want of memory alone.
+fn step(world: &mut World, event: Event, outs: &mut Vec<Out>) -> Result<(), AllocError>
+    ensures done { OnOk result (GivesOut
+        (λ given. HasRun (event ∷ []) world.old [] world.new given)
+        outs.old.items outs.new.items) }
+    ensures desks { OnOk result (length world.new.desks ≡ length world.old.desks) }
+{
+    match run(world, [event].as_slice(), outs) {
+        Ok(()) => Ok(()),
+        Err(_) => Err(AllocError),
+    }
+}
+
+/// The TMMBN of what is announced to a publisher.
+fn shown_set(
+    alloc: Global,
+    settings: &Settings,
+    world: &World,
+    publisher: u16,
+) -> Result<String, AllocError>
+    requires desks { length world.now.desks ≡ length settings.now.endpoints }
+    requires among { publisher < length settings.now.endpoints }
+    ensures { IfOk result (λ text.
+        IsShown settings.now world.now publisher (string_bytes text)) }
+{
+    let sender = settings.endpoints()[usize::from(publisher)];
+    let announced = world.desk(publisher).announced();
+    let text = announced_line(alloc, sender, announced.as_slice())?;
+    Ok(text)
+}

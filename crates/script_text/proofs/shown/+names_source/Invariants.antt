@@ -1,4 +1,0 @@
-use Rattle.script_text.proofs.shown.+names_source.Given as goal
-
-abbrev pub decreases-names_source : goal.decreases-names_source
-decreases-names_source l = l.left

@@ -1,4 +1,0 @@
-pub mod OutText
-pub mod Printing
-pub mod Script
-pub mod Shown

@@ -1,2 +1,0 @@
-pub mod ByFileLemmas
-pub mod ReplayLemmas
