@@ -1,9 +1,9 @@
 //! What is asked for, and what is answered, as docs/FORMATS.md has it.
 
-use page::{AnnouncedSet, Kind, Said, Verdict, answer_to, asked_for, is_known_host};
 use std::alloc::{AllocError, Global};
 use std::process::Abort;
 use std::test::Fail;
+use web::{AnnouncedSet, Kind, Said, Verdict, answer_to, asked_for, is_known_host};
 
 const METRICS: &[u8] = b"# TYPE sfu_received_bytes_total counter\n\
     sfu_received_bytes_total{endpoint=\"0\"} 1000\nsfu_sent_bytes_total{endpoint=\"0\"} 0\n\

@@ -1,13 +1,12 @@
 //! Units that answer, and visitors of each kind.
 
 use crate::expected::same;
-use page::Said;
 use std::alloc::Global;
 use std::hash::RandomState;
 use std::io::{self, ErrorKind, Read, Write};
 use std::process::Abort;
 use std::test::Fail;
-use web::{Inquiry, MAX_VISITORS, Step, Teller, Visitors};
+use web::{Inquiry, MAX_VISITORS, Said, Step, Teller, Visitors};
 
 /// A unit that gives an answer for each line that it is asked, a few bytes at a time; then nothing comes, or the end.
 #[derive(Drop)]

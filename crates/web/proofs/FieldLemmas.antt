@@ -3,9 +3,9 @@ use Rattle.std.proofs.Common.{◌≡◌, ◌∙◌, ◌++◌, List, Option, Resu
 use Rattle.std.specs.Prelude.{OnOk}
 use Rattle.http1.specs.Fields.{Header}
 use Rattle.http_server.specs.declared.response.Response.{Response}
-use Rattle.page.specs.declared.answer.Asked.{Asked}
-use Rattle.page.specs.declared.said.Said.{Said}
-use Rattle.page.specs.Answers.{Seen, IsAnswer}
+use Rattle.web.specs.declared.answer.Asked.{Asked}
+use Rattle.web.specs.declared.said.Said.{Said}
+use Rattle.web.specs.Answers.{Seen, IsAnswer}
 use Rattle.web.specs.Told.{IsSent, Tells}
 
 pub two_more : {E : Type 0} (r : Result (Unit {0}) E) (a b c : List Header) (x y : List Header) → b ≡ a ++ x → OnOk r (c ≡ b ++ y)

@@ -9,15 +9,15 @@ use Rattle.http1.specs.Fields.{Header}
 use Rattle.http_server.specs.declared.response.Response.{Response}
 use Rattle.http_server.specs.Response.{IsResponse}
 use Rattle.http_uri.specs.Uri.{uri_path}
-use Rattle.page.specs.declared.answer.Kind.{Kind}
-use Rattle.page.specs.declared.answer.Kind.TheVariants as kind
-use Rattle.page.specs.declared.said.Said.{Said}
-use Rattle.page.specs.declared.answer.Verdict.{Verdict}
-use Rattle.page.specs.declared.answer.Verdict.TheVariants.{Fine, Absent, Unallowed, Misdirected, Unreadable, Silent}
-use Rattle.page.specs.declared.answer.Asked.{Asked}
-use Rattle.page.specs.declared.answer.Asked.TheVariants as asked
-use Rattle.page.specs.Answers.{Seen, IsAnswer, asked_by}
-use Rattle.page.specs.Hosts.{is_known_host}
+use Rattle.web.specs.declared.answer.Kind.{Kind}
+use Rattle.web.specs.declared.answer.Kind.TheVariants as kind
+use Rattle.web.specs.declared.said.Said.{Said}
+use Rattle.web.specs.declared.answer.Verdict.{Verdict}
+use Rattle.web.specs.declared.answer.Verdict.TheVariants.{Fine, Absent, Unallowed, Misdirected, Unreadable, Silent}
+use Rattle.web.specs.declared.answer.Asked.{Asked}
+use Rattle.web.specs.declared.answer.Asked.TheVariants as asked
+use Rattle.web.specs.Answers.{Seen, IsAnswer, asked_by}
+use Rattle.web.specs.Hosts.{is_known_host}
 use Rattle.web.specs.declared.teller.TheConstants.{OTHER_POLICY, PAGE_POLICY}
 
 -- RFC 9110, section 15

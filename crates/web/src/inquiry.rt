@@ -2,8 +2,10 @@
 
 ghost use Rattle.std.specs.Prelude.{◌≡◌, ◌≤◌, ◌+◌, ◌-◌, ◌^◌, [], min, vec_len};
 
+use crate::endpoints::numbers_in;
+use crate::said::Said;
+use crate::sets::AnnouncedSet;
 use control::{Answered, read_answer};
-use page::{AnnouncedSet, Said, numbers_in};
 use std::alloc::Global;
 use std::io::{ErrorKind, Read, Write};
 use std::mem;

@@ -3,10 +3,10 @@
 ghost use Rattle.std.specs.Prelude.{◌≡◌, ◌≢◌, None, IfErr};
 
 use crate::inquiry::{Inquiry, Step};
+use crate::said::Said;
 use crate::teller::Teller;
 use crate::visitors::Visitors;
 use endings::{Status, say, say_no_memory, unsaid};
-use page::Said;
 use std::alloc::Global;
 use std::convert::AsStr;
 use std::hash::RandomState;

@@ -5,13 +5,15 @@ ghost use Rattle.http_header.specs.FieldValue.{is_visible_text};
 ghost use Rattle.http_header.specs.FieldName.{is_header_name};
 ghost use Rattle.http.specs.Request.{head_of};
 ghost use Rattle.http_server.specs.Response.{IsBlank, fields_of};
-ghost use Rattle.page.specs.Answers.{answer_seen};
+ghost use Rattle.web.specs.Answers.{answer_seen};
 ghost use Rattle.web.specs.Told.{IsSent, Tells, asked_in, host_in, fields_for, guard_fields, handling_fields, kind_fields, kind_text, policy_for, status_number};
 
+use crate::answer::{Answer, Asked, Kind, Verdict, answer_to, asked_for};
+use crate::hosts::is_known_host;
+use crate::said::Said;
 use bytes::{BufMut, Bytes};
 use http::{HeaderName, HeaderValue, Request, StatusCode};
 use http_server::{Response, Service};
-use page::{Answer, Asked, Kind, Said, Verdict, answer_to, asked_for, is_known_host};
 use std::alloc::{AllocError, Global};
 
 /// What a browser may do with the page: it uses the page's own style and script, by their SHA-256, and loads from here alone

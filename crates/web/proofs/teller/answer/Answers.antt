@@ -1,4 +1,4 @@
-use Rattle.page.specs.Answers.{answer_seen}
+use Rattle.web.specs.Answers.{answer_seen}
 use Rattle.web.proofs.FieldLemmas.{told}
 use Rattle.web.proofs.teller.answer.Goals as goal
 

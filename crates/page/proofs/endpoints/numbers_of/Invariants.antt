@@ -1,8 +1,0 @@
-use Rattle.std.proofs.Common.{◌≡◌, List, ℕ, Bor, take}
-use Rattle.std.specs.Prelude.{flat_map}
-use Rattle.page.specs.Endpoints.{line_numbers}
-use Rattle.page.proofs.endpoints.numbers_of.Given as goal
-
-abbrev pub invariant-loop-line : goal.invariant-loop-line
-invariant-loop-line l =
-    l.numbers.items ≡ flat_map (λ (x : Bor (List ℕ)). line_numbers x.now) (take l.line-index l.lines)
