@@ -1,11 +1,11 @@
 -- How commands end.
 use Rattle.std.proofs.Common.{◌≡◌, ◌≢◌, ◌∙◌, ℕ, Bool, List, Option, Some, subst, sym, unwrap_or}
 use Rattle.std.proofs.KnownBytes.{Keeps-refl}
-use Rattle.command_line.specs.CommandLine.{Request, bound, check, draw, replay, serve}
+use Rattle.cli.specs.CommandLine.{Request, bound, check, draw, replay, serve}
 use Rattle.commands.specs.Commands.{Ends, EndsUnit}
-use Rattle.endings.specs.Endings.{SaysWhy}
-use Rattle.endings.specs.declared.status.Status.{Status}
-use Rattle.endings.specs.declared.status.Status.TheVariants as status
+use Rattle.cli.specs.Endings.{SaysWhy}
+use Rattle.cli.specs.declared.status.Status.{Status}
+use Rattle.cli.specs.declared.status.Status.TheVariants as status
 use Rattle.replay.specs.ByFile.{EndsReplay, shown_by}
 use Rattle.serving.proofs.ServeLemmas.{says_alone}
 use Rattle.serving.specs.Serving.{EndsServe, SaysWhyServing}

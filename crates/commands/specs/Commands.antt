@@ -2,10 +2,10 @@
 -- is after it, `errors_old` and `errors_new` what was said on the error output.
 use Rattle.std.specs.Prelude.{◌≡◌, ℕ, List, Option}
 use Rattle.std.specs.Io.KnownBytes.{Keeps}
-use Rattle.command_line.specs.CommandLine.{Request, bound, check, draw, replay, serve}
-use Rattle.endings.specs.declared.status.Status.{Status}
-use Rattle.endings.specs.declared.status.Status.TheVariants as status
-use Rattle.offline.specs.Ends.{EndsBound, EndsCheck, EndsDraw}
+use Rattle.cli.specs.CommandLine.{Request, bound, check, draw, replay, serve}
+use Rattle.cli.specs.declared.status.Status.{Status}
+use Rattle.cli.specs.declared.status.Status.TheVariants as status
+use Rattle.cli.specs.Ends.{EndsBound, EndsCheck, EndsDraw}
 use Rattle.replay.specs.ByFile.{EndsReplay, shown_by}
 use Rattle.serving.specs.ReportText.{PrintsReport}
 use Rattle.serving.specs.Serving.{SaysWhyServing}

@@ -4,8 +4,8 @@ ghost use Rattle.std.specs.Prelude.{◌≡◌, ◌≢◌, codes};
 ghost use Rattle.std.specs.Io.KnownBytes.{Appends, Keeps};
 
 use crate::connection::{AskFault, connect, print_answer, say_fault};
+use cli::{Status, say};
 use control::{Answered, read_answer};
-use endings::{Status, say};
 use std::alloc::Global;
 use std::fs::{self, File, OpenOptions};
 use std::io::{self, ErrorKind, Read, Write};

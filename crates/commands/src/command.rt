@@ -2,14 +2,15 @@
 
 ghost use Rattle.std.specs.Prelude.{◌≡◌, ◌≢◌, map, Some, codes};
 ghost use Rattle.std.specs.Io.KnownBytes.{Appends, Keeps};
-ghost use Rattle.command_line.specs.CommandLine.{AsksToServe, Request, Types, asked_for};
+ghost use Rattle.cli.specs.CommandLine.{AsksToServe, Request, Types, asked_for};
 ghost use Rattle.commands.specs.Commands.{Ends, EndsUnit};
-ghost use Rattle.endings.specs.Endings.{SaysWhy};
+ghost use Rattle.cli.specs.Endings.{SaysWhy};
 ghost use Rattle.settings_toml.specs.SettingsText.{SaysProblem};
 
-use command_line::{Action, Noted, Record, read_words};
-use endings::{Status, refuse_words, report, report_settings, say, say_no_memory};
-use offline::{run_bound, run_check, run_draw};
+use cli::{
+    Action, Noted, Record, Status, read_words, refuse_words, report, report_settings, run_bound,
+    run_check, run_draw, say, say_no_memory,
+};
 use replay::{Shown, run_replay, unreadable_settings};
 use request_text::Meter;
 use serving::{

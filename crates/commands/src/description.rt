@@ -5,8 +5,7 @@ ghost use Rattle.std.specs.Io.KnownBytes.{Keeps};
 
 use crate::command::served_in;
 use addressing::{Location, ServedSettings};
-use endings::{Status, report_settings, say, say_no_memory};
-use sdp::{Session, Stream, session_text};
+use cli::{Session, Status, Stream, report_settings, say, say_no_memory, session_text};
 use settings::LegSettings;
 use settings_toml::{Place, SettingsProblem, problem_at};
 use std::alloc::{AllocError, Global};

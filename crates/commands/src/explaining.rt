@@ -1,8 +1,7 @@
 //! What is said to people beside the line that scripts read, if a command had no settings or no socket.
 
 use addressing::{ServedSettings, read_served};
-use endings::Status;
-use offline::{bytes_in, replay_advice, settings_line};
+use cli::{Status, bytes_in, replay_advice, settings_line};
 use settings_toml::{SettingsProblem, bind_advice};
 use std::alloc::{AllocError, Global};
 use std::convert::AsStr;

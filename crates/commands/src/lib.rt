@@ -1,8 +1,8 @@
 //! The commands of `sfu`: the words that ask for them, and what each does with which file.
 //!
 //! Read `command` first, `run_command` and `run_noted`, which the program calls, `ask` and `ask_record`, which are `sfu ask` (over a `connection`), and
-//! `description`, `sfu sdp`; `explaining` says to people what was wrong. The words are `command_line`; the commands that need no socket are
-//! `offline`, `sfu replay` is `replay`, `sfu serve` is `serving`, and how a command ends is `endings`. What callers need of these is handed on.
+//! `description`, `sfu sdp`; `explaining` says to people what was wrong. The words, the commands that need no socket, and how a command ends are
+//! `cli`, `sfu replay` is `replay`, and `sfu serve` is `serving`. What callers need of these is handed on.
 #![tactic(auto)]
 
 mod ask;
@@ -13,12 +13,13 @@ mod description;
 mod explaining;
 
 pub use ask::run_ask;
+pub use cli::{
+    Cleared, Failure, Noted, Record, Status, noted_in, report, report_settings, report_words,
+    run_version,
+};
 pub use command::{run_command, run_noted};
-pub use command_line::{Noted, Record, noted_in};
 pub use description::run_sdp;
-pub use endings::{Failure, Status, report, report_settings, report_words};
 pub use explaining::explain;
-pub use offline::{Cleared, run_version};
 pub use replay::{Shown, replay_lines};
 pub use request_text::{LineFault, Meter};
 pub use serving::{

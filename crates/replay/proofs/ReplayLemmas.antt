@@ -15,8 +15,8 @@ use Rattle.core_steps.specs.Rule.{is_busy}
 use Rattle.core_steps.specs.Settling.{ingress_left}
 use Rattle.core_steps.proofs.SettleLemmas.{step_of}
 use Rattle.core_steps.proofs.AsideLemmas.{ingress_same, work_aside}
-use Rattle.endings.specs.declared.status.Failure.{Failure}
-use Rattle.endings.specs.declared.status.Failure.TheVariants.{NoMemory, Refused as RefusedLine, Io}
+use Rattle.cli.specs.declared.status.Failure.{Failure}
+use Rattle.cli.specs.declared.status.Failure.TheVariants.{NoMemory, Refused as RefusedLine, Io}
 use Rattle.replay.specs.declared.script.Reading.TheVariants.{Unreadable}
 use Rattle.request_text.specs.Lines.{lines_of}
 use Rattle.replay.specs.Replay.{Drains, FailsLine, FailsReplay, Follows, GivesOut, IngressDrains, LinePlays, LinesPlay, PrintsLine, PrintsReplay, Rounds, Settles, WorkerDrains, WorkersDrain, again, cause_behind, numbers_of, over, quiet, round}

@@ -13,8 +13,8 @@ use Rattle.core_steps.specs.Opening.{IsNewWorld}
 use Rattle.core_steps.specs.Rule.{is_busy}
 use Rattle.core_steps.specs.Run.{HasRun}
 use Rattle.core_steps.specs.Waits.{has_work}
-use Rattle.endings.specs.declared.status.Failure.{Failure}
-use Rattle.endings.specs.declared.status.Failure.TheVariants.{NoMemory, Refused as RefusedLine, Io}
+use Rattle.cli.specs.declared.status.Failure.{Failure}
+use Rattle.cli.specs.declared.status.Failure.TheVariants.{NoMemory, Refused as RefusedLine, Io}
 use Rattle.request_text.specs.declared.fault.LineFault.TheVariants.{Text}
 use Rattle.replay.specs.declared.replay.Gives.{Gives}
 use Rattle.replay.specs.declared.replay.Gives.TheVariants.{Outs, Set}

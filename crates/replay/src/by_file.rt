@@ -3,14 +3,14 @@
 ghost use Rattle.std.specs.Prelude.{◌≡◌, ◌≢◌, ℕ, List, Ok, IfOk, IfSome};
 ghost use Rattle.std.specs.Io.KnownBytes.{Appends, Keeps};
 ghost use Rattle.std.specs.IoError.{error_kind};
-ghost use Rattle.endings.specs.Endings.{SaysWhy};
+ghost use Rattle.cli.specs.Endings.{SaysWhy};
 ghost use Rattle.replay.specs.ByFile.{EndsReplay, problem_by, unknown_text};
 ghost use Rattle.settings_toml.specs.SettingsFaults.{TextGives};
 ghost use Rattle.settings_toml.specs.SettingsText.{SaysProblem};
 
 use crate::replay::replay_lines;
 use crate::shown::{Shown, Unknown};
-use endings::{Status, report_settings, say};
+use cli::{Status, report_settings, say};
 use request_text::Meter;
 use settings_toml::{FileSettings, SettingsProblem, read_settings};
 use std::alloc::Global;

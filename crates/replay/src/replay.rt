@@ -3,7 +3,7 @@
 ghost use Rattle.std.specs.Prelude.{◌≡◌, ◌≢◌, ◌∷◌, ◌<◌, [], Some, length, string_bytes, IfErr, IfOk, IfSome, OnOk};
 ghost use Rattle.core_steps.specs.Run.{HasRun};
 ghost use Rattle.core_steps.specs.Settling.{ingress_left};
-ghost use Rattle.endings.specs.Endings.{SaysWhy};
+ghost use Rattle.cli.specs.Endings.{SaysWhy};
 ghost use Rattle.replay.specs.Printing.{PrintsGiven};
 ghost use Rattle.replay.specs.Script.{IsAmong};
 ghost use Rattle.replay.specs.Shown.{cause_of, given_at};
@@ -13,8 +13,8 @@ use crate::latest::Latest;
 use crate::printing::{Choice, print_outs, print_set};
 use crate::script::{Command, Numbers, Reading, read_line};
 use crate::shown::Shown;
+use cli::{Failure, Status, report};
 use core_steps::{World, run};
-use endings::{Failure, Status, report};
 use events::{Event, Out};
 use request_text::{LineFault, Meter, announced_line, line_count, lines};
 use settings::Settings;

@@ -4,12 +4,12 @@ use Rattle.std.proofs.lemmas.List.{append-nil}
 use Rattle.std.specs.Io.KnownBytes.{Appends, Keeps, append_known}
 use Rattle.std.specs.declared.net.socket_addr.SocketAddr.{SocketAddr}
 use Rattle.settings.specs.Settings.{Configuration}
-use Rattle.endings.specs.Endings.{EndsSaying, IsUnsaid, SaysWhy}
+use Rattle.cli.specs.Endings.{EndsSaying, IsUnsaid, SaysWhy}
 use Rattle.serving.specs.ReportText.{PrintsReport}
 use Rattle.serving.specs.Serving.{EndsServe, FailsServe, FailsToStart, SaysFault, SaysWhyServing, serving_line}
 use Rattle.serving.specs.declared.serve_fault.ServeFault.{ServeFault}
-use Rattle.endings.specs.declared.status.Status.{Status}
-use Rattle.endings.specs.declared.status.Status.TheVariants as status
+use Rattle.cli.specs.declared.status.Status.{Status}
+use Rattle.cli.specs.declared.status.Status.TheVariants as status
 
 pub keeps_itself : (known : Option (List ℕ)) → Keeps known known
 keeps_itself None = tt

@@ -4,7 +4,7 @@ use Rattle.std.specs.Io.KnownBytes.{Keeps, append_known}
 use Rattle.std.specs.Net.Text.{socket_text}
 use Rattle.std.specs.declared.net.socket_addr.SocketAddr.{SocketAddr}
 use Rattle.settings.specs.Settings.{Configuration}
-use Rattle.endings.specs.Endings.{SaysWhy}
+use Rattle.cli.specs.Endings.{SaysWhy}
 use Rattle.serving.specs.ReportText.{PrintsReport}
 use Rattle.serving.specs.declared.serve_fault.ServeFault.{ServeFault}
 use Rattle.serving.specs.declared.serve_fault.ServeFault.TheVariants.{NoMemory, Socket}
@@ -14,8 +14,8 @@ use Rattle.recording.specs.declared.faults.CourierFault.{CourierFault}
 use Rattle.recording.specs.declared.faults.CourierFault.TheVariants as courier_fault
 use Rattle.workers.specs.declared.fault.UnitFault.{UnitFault}
 use Rattle.workers.specs.declared.fault.UnitFault.TheVariants as unit_fault
-use Rattle.endings.specs.declared.status.Status.{Status}
-use Rattle.endings.specs.declared.status.Status.TheVariants as status
+use Rattle.cli.specs.declared.status.Status.{Status}
+use Rattle.cli.specs.declared.status.Status.TheVariants as status
 
 -- a fault of the run as one of serving: want of memory, or else its socket or its threads
 abbrev pub serve_fault_of : UnitFault → ServeFault

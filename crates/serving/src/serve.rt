@@ -3,14 +3,14 @@
 ghost use Rattle.std.specs.Prelude.{◌≡◌, Option, None, MatchResult, length, string_bytes, IfErr, IfOk, OnOk};
 ghost use Rattle.std.specs.Io.KnownBytes.{Appends};
 ghost use Rattle.serving.specs.ReportText.{PrintsReport, report_text};
-ghost use Rattle.endings.specs.Endings.{SaysWhy};
+ghost use Rattle.cli.specs.Endings.{SaysWhy};
 ghost use Rattle.serving.specs.Serving.{EndsServe, FailsServe, FailsToStart, SaysFault, SaysWhyServing, serving_line};
 
 use crate::report_text::report_text;
 use crate::running::run_on;
 use crate::serve_fault::ServeFault;
 use addressing::{Client, ServedSettings};
-use endings::{Status, say, say_no_memory, unsaid};
+use cli::{Status, say, say_no_memory, unsaid};
 use operating::{ErrorOutput, Gauges, Lines, StatusLines, TimedLines};
 use screening::Rules;
 use settings::Settings;

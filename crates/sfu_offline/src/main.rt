@@ -1,9 +1,10 @@
 //! `sfu`, the program, without what needs a socket or a unit that runs: it is proved in half the time.
 #![tactic(auto)]
 
-use command_line::{Action, read_words};
-use endings::{Status, refuse_words, report, report_words, say};
-use offline::{Cleared, replay_advice, run_bound, run_check, run_draw, run_version};
+use cli::{
+    Action, Cleared, Status, read_words, refuse_words, replay_advice, report, report_words,
+    run_bound, run_check, run_draw, run_version, say,
+};
 use replay::{Shown, run_replay};
 use request_text::Meter;
 use std::io::{Read, Write};

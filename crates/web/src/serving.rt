@@ -6,7 +6,7 @@ use crate::inquiry::{Inquiry, Step};
 use crate::said::Said;
 use crate::teller::Teller;
 use crate::visitors::Visitors;
-use endings::{Status, say, say_no_memory, unsaid};
+use cli::{Status, say, say_no_memory, unsaid};
 use std::alloc::Global;
 use std::convert::AsStr;
 use std::hash::RandomState;

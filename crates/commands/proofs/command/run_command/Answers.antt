@@ -1,4 +1,4 @@
-use Rattle.offline.proofs.OfflineLemmas.{shown_refusal}
+use Rattle.cli.proofs.OfflineLemmas.{shown_refusal}
 use Rattle.commands.proofs.CommandLemmas.{ends_asked, replay_ends, unread}
 use Rattle.commands.proofs.command.run_command.Goals as goal
 

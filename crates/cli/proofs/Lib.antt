@@ -1,0 +1,4 @@
+pub mod CommandLineLemmas
+pub mod NotingLemmas
+pub mod OfflineLemmas
+pub mod SheetLemmas

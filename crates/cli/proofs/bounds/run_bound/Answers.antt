@@ -1,0 +1,6 @@
+-- Searched for here, so that a wrong body is refused at once: a goal without an answer is tried in other ways, too, and printed.
+use Rattle.std.proofs.Common.{rules}
+use Rattle.cli.proofs.bounds.run_bound.Goals as goal
+
+pub returns-clause-done : goal.returns-clause-done
+returns-clause-done g c = search rules

@@ -1,0 +1,7 @@
+use Rattle.std.proofs.Common.{◌≡◌, ◌++◌, flat_map, take}
+use Rattle.std.specs.String.{string_bytes}
+use Rattle.cli.specs.Session.{payload_word}
+use Rattle.cli.proofs.sdp.stream.push_payload_types.Given as goal
+
+abbrev pub invariant-loop-encoding : goal.invariant-loop-encoding
+invariant-loop-encoding l = string_bytes l.text ≡ string_bytes l.fn.text ++ flat_map payload_word (take l.encoding-index l.rtpmap)

@@ -1,0 +1,34 @@
+-- How the commands end that need no machine: what each printed, and what it said on the error output, by the status that it ends with.
+-- `input` is what there was to read, `old` and `new` what was printed before the command and is after it, `errors_old` and `errors_new` what
+-- was said.
+use Rattle.std.specs.Prelude.{◌≡◌, ℕ, List, Option, IfSome, codes}
+use Rattle.std.specs.Io.KnownBytes.{Appends, Keeps}
+use Rattle.cli.specs.Sheet.{SaysNo}
+use Rattle.cli.specs.declared.status.Status.{Status}
+use Rattle.cli.specs.declared.status.Status.TheVariants as status
+use Rattle.cli.specs.Printed.{PrintsBound, PrintsPicture, RefusesBound}
+
+-- How `sfu bound` ends.
+pub record EndsBound (media : ℕ) (input old new errors_old errors_new : Option (List ℕ))
+    (s : Status) : Type 0 where
+  -- if it is done, the text of the set that is announced for what the input leaves is printed
+  pub done : s ≡ status.Done → IfSome input (λ text. PrintsBound media text old new)
+  -- if it is refused, nothing is printed, and the line for the first fault of the input is said
+  pub refused : s ≡ status.Refused
+      → IfSome input (λ text. Keeps old new × RefusesBound media text errors_old errors_new)
+
+-- How `sfu draw` ends.
+pub record EndsDraw (media : ℕ) (input old new errors_old errors_new : Option (List ℕ))
+    (s : Status) : Type 0 where
+  -- if it is done, the picture of what the input leaves, and of the set that is announced for it, is printed
+  pub done : s ≡ status.Done → IfSome input (λ text. PrintsPicture media text old new)
+  -- if it is refused, nothing is printed, and the line for the first fault of the input is said
+  pub refused : s ≡ status.Refused
+      → IfSome input (λ text. Keeps old new × RefusesBound media text errors_old errors_new)
+
+-- How `sfu check` ends.
+pub record EndsCheck (old new errors_old errors_new : Option (List ℕ)) (s : Status) : Type 0 where
+  -- if it is done, yes is printed
+  pub done : s ≡ status.Done → Appends old new (codes "yes\n")
+  -- if it is refused, a no is printed; or nothing is, and the line that can't be read is said
+  pub refused : s ≡ status.Refused → SaysNo old new errors_old errors_new

@@ -1,0 +1,8 @@
+pub mod CommandLine
+pub mod Encoding
+pub mod Endings
+pub mod Ends
+pub mod Noting
+pub mod Printed
+pub mod Session
+pub mod Sheet

@@ -1,7 +1,0 @@
-use Rattle.std.proofs.Common.{◌≡◌, ◌++◌, flat_map, take}
-use Rattle.std.specs.String.{string_bytes}
-use Rattle.sdp.specs.Session.{stream_text}
-use Rattle.sdp.proofs.session.push_streams.Given as goal
-
-abbrev pub invariant-loop-stream : goal.invariant-loop-stream
-invariant-loop-stream l = string_bytes l.text ≡ string_bytes l.fn.text ++ flat_map stream_text (take l.stream-index l.streams)

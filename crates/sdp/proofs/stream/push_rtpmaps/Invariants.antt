@@ -1,7 +1,0 @@
-use Rattle.std.proofs.Common.{◌≡◌, ◌++◌, flat_map, take}
-use Rattle.std.specs.String.{string_bytes}
-use Rattle.sdp.specs.Session.{rtpmap_line}
-use Rattle.sdp.proofs.stream.push_rtpmaps.Given as goal
-
-abbrev pub invariant-loop-encoding : goal.invariant-loop-encoding
-invariant-loop-encoding l = string_bytes l.text ≡ string_bytes l.fn.text ++ flat_map rtpmap_line (take l.encoding-index l.rtpmap)
