@@ -1,4 +1,3 @@
 pub mod CommandLineLemmas
-pub mod NotingLemmas
 pub mod OfflineLemmas
 pub mod SheetLemmas

@@ -1,15 +1,20 @@
 -- What the words of a command line ask for. How words name subcommands and values is clap's own statement.
-use Rattle.std.specs.Prelude.{◌≡◌, ◌≢◌, Bool, false, [], ◌∷◌, ◌++◌, ◌≤◌, decimal, ℕ, ℤ, List, Option, Some, None, codes, pos, true, ◌<◌, ◌^◌, if◌then◌else◌, option_map, option_and_then}
+use Rattle.std.specs.Prelude.{◌≡◌, ◌≢◌, ◌||◌, Bool, false, [], ◌∷◌, decimal, ℕ, ℤ, List, Option, Some, None, codes, pos, true, ◌<◌, ◌^◌, if◌then◌else◌, map, option_map, option_and_then, unwrap_or}
 use Rattle.std.specs.Str.{bytes_eq}
 use Rattle.std.specs.Str.Parse.{without_leading_plus}
-use Rattle.clap.specs.Words.{App, Row, Rule, Text, new_app, first_of, new_rule, one_of, subcommand_of, with_rule, with_subcommand}
-use Rattle.clap.specs.declared.builder.ArgAction.TheVariants.{Set, SetTrue}
+use Rattle.clap.specs.Words.{App, Kinds, Row, Rule, Text, all_of, fault_of, first_of, new_app, new_rule, one_of, subcommand_of, with_rule, with_subcommand}
+use Rattle.clap.specs.declared.builder.ArgAction.TheVariants.{Append, Set, SetTrue}
 use Rattle.clap.specs.declared.builder.ValueParser.TheVariants.{Signed, Unsigned}
 use Rattle.clap.specs.declared.builder.command.Command.{Command}
 use Rattle.clap.specs.declared.builder.command.Command.TheViews.{out-Command}
+use Rattle.clap.specs.declared.error.kind.ErrorKind.{ErrorKind}
+use Rattle.clap.specs.declared.error.kind.ErrorKind.TheVariants as kind
 use Rattle.request_text.specs.Words.{number_under}
 use Rattle.cli.specs.declared.words.Action.{Action}
-use Rattle.cli.specs.declared.words.Action.TheVariants.{Bound, Check, Draw, Replay, Serve}
+use Rattle.cli.specs.declared.words.Action.TheVariants as action
+use Rattle.cli.specs.declared.words.Offline.{Offline}
+use Rattle.cli.specs.declared.words.Offline.TheVariants as offline
+use Rattle.cli.specs.declared.words.Record.{Record}
 
 -- a required option with a number below 2 ^ 32
 abbrev pub number_rule : Text → Rule
@@ -29,12 +34,16 @@ abbrev pub sender_app : Text → App
 sender_app name = with_rule (new_app name) (number_rule (codes "sender"))
 
 -- a required word
-abbrev pub file_rule : Rule
-file_rule = record (new_rule (codes "FILE")) { required = true; action = Some Set }
+abbrev pub required_rule : Text → Rule
+required_rule name = record (new_rule name) { required = true; action = Some Set }
+
+-- a word or several
+abbrev pub words_rule : Text → Rule
+words_rule name = record (new_rule name) { required = true; action = Some Append }
 
 -- a subcommand with a file
 abbrev pub file_app : Text → App
-file_app name = with_rule (new_app name) file_rule
+file_app name = with_rule (new_app name) (required_rule (codes "FILE"))
 
 -- an option with a number from 1 to the greatest
 abbrev pub optional_rule : Text → ℤ → Rule
@@ -52,11 +61,11 @@ number_to_rule name most = record (new_rule name) {
   action = Some Set;
 }
 
--- an option with a number below 2 ^ 64
-abbrev pub moment_rule : Text → Rule
-moment_rule name = record (new_rule name) {
+-- an option with a number below 2 ^ 64, from the least on
+abbrev pub moment_rule : Text → ℕ → Rule
+moment_rule name least = record (new_rule name) {
   long = Some name;
-  parser = Some (Unsigned 0 18446744073709551615);
+  parser = Some (Unsigned least 18446744073709551615);
   action = Some Set;
 }
 
@@ -75,7 +84,7 @@ choosing_app =
 
 abbrev pub replay_app : App
 replay_app =
-    with_rule (with_rule choosing_app (moment_rule (codes "from"))) (flag_rule (codes "events"))
+    with_rule (with_rule choosing_app (moment_rule (codes "from") 0)) (flag_rule (codes "events"))
 
 -- how many turns `--ticks` may name, and how many seconds `--status`: a day
 abbrev pub max_ticks : ℕ
@@ -89,12 +98,28 @@ counted_app =
     with_rule (with_rule (file_app (codes "serve")) (optional_rule (codes "ticks") (pos max_ticks)))
     (optional_rule (codes "status") (pos max_status))
 
+abbrev pub recorded_app : App
+recorded_app = with_rule
+    (with_rule (with_rule counted_app (word_rule (codes "control"))) (word_rule (codes "record")))
+    (moment_rule (codes "record-limit") 1)
+
 abbrev pub serve_app : App
-serve_app = with_rule counted_app (word_rule (codes "control"))
+serve_app = with_rule recorded_app (flag_rule (codes "log-time"))
+
+abbrev pub ask_app : App
+ask_app = with_rule (with_rule (new_app (codes "ask")) (required_rule (codes "PATH"))) (words_rule (codes "WORD"))
+
+abbrev pub page_app : App
+page_app = with_rule
+    (with_rule (with_rule (with_rule (new_app (codes "page")) (required_rule (codes "PATH"))) (required_rule (codes "ADDRESS")))
+    (flag_rule (codes "anyone"))) (word_rule (codes "host"))
+
+abbrev pub sdp_app : App
+sdp_app = with_rule (file_app (codes "sdp")) (words_rule (codes "ENDPOINT"))
 
 abbrev pub sfu_top : App
 sfu_top = record (new_app (codes "sfu")) {
-  top = record (new_app (codes "sfu")).top { subcommand_required = true };
+  top = record (new_app (codes "sfu")).top { subcommand_required = true; has_version = true };
 }
 
 -- with its first subcommands
@@ -103,25 +128,44 @@ sfu_first = with_subcommand
     (with_subcommand (with_subcommand sfu_top (sender_app (codes "bound")).top)
     (file_app (codes "check")).top) replay_app.top
 
+-- with two more
+abbrev pub sfu_second : App
+sfu_second = with_subcommand (with_subcommand sfu_first serve_app.top) (sender_app (codes "draw")).top
+
 -- the program's command line
 abbrev pub sfu : App
-sfu = with_subcommand (with_subcommand sfu_first serve_app.top) (sender_app (codes "draw")).top
+sfu = with_subcommand (with_subcommand (with_subcommand sfu_second sdp_app.top) page_app.top) ask_app.top
 
 -- what can be asked for
 pub data Request : Type 0 where
   bound : ℕ → Request
   check : Text → Request
   replay : Text → Option ℕ → Option ℕ → Option ℕ → Bool → Request
-  serve : Text → Option ℕ → Option ℕ → Option Text → Request
+  serve : Text → Option ℕ → Option ℕ → Option Text → Option (Text × Option ℕ) → Bool → Request
   draw : ℕ → Request
+  version : Request
+  ask : Text → List Text → Request
+  page : Text → Text → Bool → Option Text → Request
+  sdp : Text → List Text → Request
+
+abbrev pub record_of : Record → Text × Option ℕ
+record_of r = (r.path.now, r.limit)
+
+abbrev pub offline_request : Offline → Request
+offline_request (offline.Bound media) = bound media
+offline_request (offline.Check file) = check file.now
+offline_request (offline.Draw media) = draw media
+offline_request offline.Version = version
 
 abbrev pub action_request : Action → Request
-action_request (Bound media) = bound media
-action_request (Check file) = check file.now
-action_request (Replay file leg endpoint from events) = replay file.now leg endpoint from events
-action_request (Serve file ticks status control) =
-    serve file.now ticks status (option_map (λ path. path.now) control)
-action_request (Draw media) = draw media
+action_request (action.Offline what) = offline_request what
+action_request (action.Replay file leg endpoint from events) = replay file.now leg endpoint from events
+action_request (action.Serve file ticks status control recorded log_time) =
+    serve file.now ticks status (option_map (λ path. path.now) control) (option_map record_of recorded) log_time
+action_request (action.Ask path words) = ask path.now (map (λ word. word.now) words.items)
+action_request (action.Page path address anyone host) =
+    page path.now address.now anyone (option_map (λ name. name.now) host)
+action_request (action.Sdp file endpoints) = sdp file.now (map (λ word. word.now) endpoints.items)
 
 -- the number that a word spells
 abbrev pub number_of : Text → Option ℕ
@@ -145,9 +189,28 @@ is_yes (Some text) = bytes_eq text (codes "true")
 abbrev pub is_set : Text → List Row → Bool
 is_set id rows = is_yes (first_of id rows)
 
--- what the subcommand of this name asks for with these values
-abbrev pub asked_named : Text → List Row → Option Request
-asked_named name rows =
+-- the words of an argument that takes several
+abbrev pub words_in : Text → List Row → List Text
+words_in id rows = unwrap_or (all_of id rows) []
+
+-- a record's path with its limit; a limit alone says nothing
+abbrev pub record_with : Option Text → Option ℕ → Option (Option (Text × Option ℕ))
+record_with (Some path) limit = Some (Some (path, limit))
+record_with None None = Some None
+record_with None (Some limit) = None
+
+-- what `serve` asks for with these values
+abbrev pub serve_named : List Row → Option Request
+serve_named rows = option_and_then
+    (λ recorded. option_map
+    (λ file. serve file (number_in (codes "ticks") rows) (number_in (codes "status") rows)
+    (first_of (codes "control") rows) recorded (is_set (codes "log-time") rows))
+    (first_of (codes "FILE") rows))
+    (record_with (first_of (codes "record") rows) (moment_in (codes "record-limit") rows))
+
+-- what a subcommand of this name asks for that has no list of words
+abbrev pub plain_named : Text → List Row → Option Request
+plain_named name rows =
     if bytes_eq name (codes "bound") then option_map bound (number_in (codes "sender") rows)
     else if bytes_eq name (codes "check") then option_map check (first_of (codes "FILE") rows)
     else if bytes_eq name (codes "replay")
@@ -155,85 +218,61 @@ asked_named name rows =
     (λ file. replay file (number_in (codes "only-leg") rows) (number_in (codes "only-endpoint") rows)
     (moment_in (codes "from") rows) (is_set (codes "events") rows))
     (first_of (codes "FILE") rows)
-    else if bytes_eq name (codes "serve")
-    then option_map
-    (λ file. serve file (number_in (codes "ticks") rows) (number_in (codes "status") rows)
-    (first_of (codes "control") rows))
-    (first_of (codes "FILE") rows)
+    else if bytes_eq name (codes "serve") then serve_named rows
     else if bytes_eq name (codes "draw") then option_map draw (number_in (codes "sender") rows)
+    else if bytes_eq name (codes "page")
+    then option_and_then
+    (λ path. option_map
+    (λ address. page path address (is_set (codes "anyone") rows) (first_of (codes "host") rows))
+    (first_of (codes "ADDRESS") rows))
+    (first_of (codes "PATH") rows)
     else None
+
+-- what the subcommand of this name asks for with these values
+abbrev pub asked_named : Text → List Row → Option Request
+asked_named name rows =
+    if bytes_eq name (codes "ask")
+    then option_map (λ path. ask path (words_in (codes "WORD") rows)) (first_of (codes "PATH") rows)
+    else if bytes_eq name (codes "sdp")
+    then option_map (λ file. sdp file (words_in (codes "ENDPOINT") rows)) (first_of (codes "FILE") rows)
+    else plain_named name rows
 
 abbrev pub request_found : Option (Text × List Row) → Option Request
 request_found found = option_and_then (λ p. asked_named p.0 p.1) found
 
--- what the words ask for, by the subcommand and the values that clap finds in them
+abbrev pub is_version : ErrorKind → Bool
+is_version kind.DisplayVersion = true
+is_version _ = false
+
+-- whether the version is one of these kinds of fault
+abbrev pub has_version : Kinds → Bool
+has_version [] = false
+has_version (k ∷ ks) = is_version k || has_version ks
+
+-- what is asked for if the words have these faults
+abbrev pub asked_with : Kinds → Option (Text × List Row) → Option Request
+asked_with [] found = request_found found
+asked_with (k ∷ ks) found = if has_version (k ∷ ks) then Some version else None
+
+-- What the words ask for, by what clap says of them: nothing if they have a fault, but for the version, which clap tells as one; else by the
+-- subcommand and the values that it finds in them.
 abbrev pub asked_for : List Text → Option Request
-asked_for words = request_found (subcommand_of sfu words)
+asked_for words = asked_with (fault_of sfu words) (subcommand_of sfu words)
 
--- an option's words
-abbrev pub option_words : Text → Option ℕ → List Text
-option_words name None = []
-option_words name (Some n) = name ∷ decimal n ∷ []
+-- a unit is to be served, asked or shown
+abbrev pub AsksOfUnit : Option Request → Type 0
+AsksOfUnit None = ⊥
+AsksOfUnit (Some (bound media)) = ⊥
+AsksOfUnit (Some (check file)) = ⊥
+AsksOfUnit (Some (replay file leg endpoint from events)) = ⊥
+AsksOfUnit (Some (serve file ticks status control recorded log_time)) = Unit {0}
+AsksOfUnit (Some (draw media)) = ⊥
+AsksOfUnit (Some version) = ⊥
+AsksOfUnit (Some (ask path words)) = Unit {0}
+AsksOfUnit (Some (page path address anyone host)) = Unit {0}
+AsksOfUnit (Some (sdp file endpoints)) = ⊥
 
--- the same of a word
-abbrev pub word_words : Text → Option Text → List Text
-word_words name None = []
-word_words name (Some word) = name ∷ word ∷ []
-
--- of an option without a value
-abbrev pub flag_words : Text → Bool → List Text
-flag_words name false = []
-flag_words name true = name ∷ []
-
--- a unit is to be served
-abbrev pub AsksToServe : Option Request → Type 0
-AsksToServe None = ⊥
-AsksToServe (Some (bound media)) = ⊥
-AsksToServe (Some (check file)) = ⊥
-AsksToServe (Some (replay file leg endpoint from events)) = ⊥
-AsksToServe (Some (serve file ticks status control)) = Unit {0}
-AsksToServe (Some (draw media)) = ⊥
-
--- the words after the program's name that ask for it in the plainest way
-abbrev pub words_of : Request → List Text
-words_of (bound media) = codes "bound" ∷ codes "--sender" ∷ decimal media ∷ []
-words_of (check file) = codes "check" ∷ file ∷ []
-words_of (replay file leg endpoint from events) = codes "replay" ∷ file
-    ∷ (option_words (codes "--only-leg") leg
-    ++ (option_words (codes "--only-endpoint") endpoint
-    ++ (option_words (codes "--from") from ++ flag_words (codes "--events") events)))
-words_of (serve file ticks status control) = codes "serve" ∷ file
-    ∷ (option_words (codes "--ticks") ticks
-    ++ (option_words (codes "--status") status ++ word_words (codes "--control") control))
-words_of (draw media) = codes "draw" ∷ codes "--sender" ∷ decimal media ∷ []
-
--- a file's name that has a first byte, which is no hyphen
-abbrev pub IsFileName : Text → Type 0
-IsFileName [] = ⊥
-IsFileName (b ∷ bs) = b ≢ 45
-
--- an option's number, if there is one
-abbrev pub IsOption : Option ℕ → ℕ → Type 0
-IsOption None most = Unit {0}
-IsOption (Some n) most = (1 ≤ n) × (n ≤ most)
-
--- a number below 2 ^ 32; a file's name; of `serve` one option at most, with a number that it may have, or the name of a file, and of
--- `replay` none
-abbrev pub IsWritable : Request → Type 0
-IsWritable (bound media) = media < 2 ^ 32
-IsWritable (check file) = IsFileName file
-IsWritable (replay file None None None false) = IsFileName file
-IsWritable (replay file (Some leg) endpoint from events) = ⊥
-IsWritable (replay file None (Some endpoint) from events) = ⊥
-IsWritable (replay file None None (Some from) events) = ⊥
-IsWritable (replay file None None None true) = ⊥
-IsWritable (serve file ticks None None) = IsFileName file × IsOption ticks max_ticks
-IsWritable (serve file None (Some seconds) None) = IsFileName file × IsOption (Some seconds) max_status
-IsWritable (serve file (Some ticks) (Some seconds) None) = ⊥
-IsWritable (serve file None None (Some path)) = IsFileName file × IsFileName path
-IsWritable (serve file (Some ticks) None (Some path)) = ⊥
-IsWritable (serve file ticks (Some seconds) (Some path)) = ⊥
-IsWritable (draw media) = media < 2 ^ 32
-
-abbrev pub Types : List Text → Request → Type 0
-Types words asked = (name : Text) × (words ≡ name ∷ words_of asked) × IsWritable asked
+-- the words are `bound --sender N` after the program's name, with a number below 2 ^ 32
+abbrev pub Types : List Text → ℕ → Type 0
+Types words media =
+    (name : Text) × (words ≡ name ∷ codes "bound" ∷ codes "--sender" ∷ decimal media ∷ []) × (media < 2 ^ 32)

@@ -1,9 +1,11 @@
 -- How the commands end that need no machine: what each printed, and what it said on the error output, by the status that it ends with.
 -- `input` is what there was to read, `old` and `new` what was printed before the command and is after it, `errors_old` and `errors_new` what
 -- was said.
-use Rattle.std.specs.Prelude.{◌≡◌, ℕ, List, Option, IfSome, codes}
+use Rattle.std.specs.Prelude.{◌≡◌, ◌≢◌, ℕ, List, Option, IfSome, codes}
 use Rattle.std.specs.Io.KnownBytes.{Appends, Keeps}
 use Rattle.cli.specs.Sheet.{SaysNo}
+use Rattle.cli.specs.declared.words.Offline.{Offline}
+use Rattle.cli.specs.declared.words.Offline.TheVariants as offline
 use Rattle.cli.specs.declared.status.Status.{Status}
 use Rattle.cli.specs.declared.status.Status.TheVariants as status
 use Rattle.cli.specs.Printed.{PrintsBound, PrintsPicture, RefusesBound}
@@ -32,3 +34,21 @@ pub record EndsCheck (old new errors_old errors_new : Option (List ℕ)) (s : St
   pub done : s ≡ status.Done → Appends old new (codes "yes\n")
   -- if it is refused, a no is printed; or nothing is, and the line that can't be read is said
   pub refused : s ≡ status.Refused → SaysNo old new errors_old errors_new
+
+-- How `sfu --version` ends.
+pub record EndsVersion (old new : Option (List ℕ)) (s : Status) : Type 0 where
+  -- if it is done, the program's name and version are printed
+  pub done : s ≡ status.Done → Appends old new (codes "sfu 0.1.0\n")
+  -- it is never refused
+  pub read : s ≢ status.Refused
+
+-- how each of them ends
+abbrev pub EndsOffline : Offline → Option (List ℕ) → Option (List ℕ) → Option (List ℕ) → Option (List ℕ)
+    → Option (List ℕ) → Status → Type 0
+EndsOffline (offline.Bound media) input old new errors_old errors_new s =
+    EndsBound media input old new errors_old errors_new s
+EndsOffline (offline.Check file) input old new errors_old errors_new s =
+    EndsCheck old new errors_old errors_new s
+EndsOffline (offline.Draw media) input old new errors_old errors_new s =
+    EndsDraw media input old new errors_old errors_new s
+EndsOffline offline.Version input old new errors_old errors_new s = EndsVersion old new s

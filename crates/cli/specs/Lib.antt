@@ -2,7 +2,6 @@ pub mod CommandLine
 pub mod Encoding
 pub mod Endings
 pub mod Ends
-pub mod Noting
 pub mod Printed
 pub mod Session
 pub mod Sheet

@@ -1,17 +1,29 @@
 //! What is said to people beside the line that scripts read, if a replay had no settings.
 
+use crate::status::Status;
 use settings_toml::{SettingsProblem, file_advice, read_settings, settings_advice};
 use std::alloc::{AllocError, Global};
 use std::fs;
-use std::io::{ErrorKind, Read};
+use std::io::{ErrorKind, Read, Write};
 use std::rt::Files;
 
-/// Which line of a settings file is wrong, and what may stand there, for a replay; nothing if all is well by now. The file is read again.
-pub fn replay_advice<R: AllocGlobal + Files>(rt: &R, file: &str) -> Result<String, AllocError> {
-    settings_line(rt, file, read_problem)
+/// Says on the error output which line of the settings file is wrong, and what may stand there, if a replay ended for that; nothing if all is
+/// well by now. The file is read again.
+pub fn explain_replay<R: AllocGlobal + Files, E: Write>(
+    rt: &R,
+    file: &str,
+    status: Status,
+    errors: &mut E,
+) {
+    if status != Status::Settings {
+        return;
+    }
+    if let Ok(line) = settings_line(rt, file, read_problem) {
+        let _ = errors.write_all(line.as_bytes());
+    }
 }
 
-/// The same of what this finds wrong with the file's bytes.
+/// Which line of a settings file is wrong, by what this finds wrong with the file's bytes, and what may stand there.
 pub fn settings_line<R: AllocGlobal + Files, F: FnOnce(Global, &[u8]) -> Option<SettingsProblem>>(
     rt: &R,
     file: &str,

@@ -1,8 +1,9 @@
 //! The commands of `sfu`, as far as they need no machine, no socket and no unit that runs: the words that ask for them, what each does, how it ends, and what it then says.
 //!
-//! Read `words` first, what the words of a command line ask for, then `status` and `saying`, how a command ends; `bounds` is `sfu bound`, `drawn`
-//! `sfu draw`, `checked` `sfu check` (over `checking`, which checks the lines of a certificate), and `version` says which program this is. `sdp` is the
-//! text of `sfu sdp`. `explaining` says to people what was wrong with settings, and `cleared` is a stream that gives way to what a meter says.
+//! Read `words` first, what the words of a command line ask for, then `status` and `saying`, how a command ends, and `offline`, which runs what needs
+//! no unit: `bounds` is `sfu bound`, `drawn` `sfu draw`, `checked` `sfu check` (over `checking`, which checks the lines of a certificate), and `version` says which
+//! program this is. `sdp` is the text of `sfu sdp`. `explaining` says to people what was wrong with settings, and `cleared` is a stream that gives
+//! way to what a meter says.
 #![tactic(auto)]
 
 mod bounds;
@@ -11,7 +12,7 @@ mod checking;
 mod cleared;
 mod drawn;
 mod explaining;
-mod noting;
+mod offline;
 mod saying;
 mod sdp;
 mod status;
@@ -23,10 +24,10 @@ pub use checked::run_check;
 pub use checking::check_lines;
 pub use cleared::Cleared;
 pub use drawn::run_draw;
-pub use explaining::{bytes_in, replay_advice, settings_line};
-pub use noting::{Noted, Record, noted_in};
+pub use explaining::{bytes_in, explain_replay, settings_line};
+pub use offline::run_offline;
 pub use saying::{refuse_words, report, report_settings, report_words, say, say_no_memory, unsaid};
 pub use sdp::{Session, Stream, is_video, payload_type, session_text};
 pub use status::{Failure, Status, unreadable};
 pub use version::run_version;
-pub use words::{Action, read_words};
+pub use words::{Action, Offline, Record, read_words};

@@ -70,6 +70,7 @@ pub fn refuse_words<E: Write>(alloc: Global, errors: &mut E, error: &clap::Error
     ensures refused { result ≢ Status.Refused }
     ensures done { result ≢ Status.Done }
     ensures settings { result ≢ Status.Settings }
+    ensures control { result ≢ Status.Control }
     ensures memory { kind_of error.now ≡ ErrorKind.OutOfMemory → result ≢ Status.CommandLine }
     ensures wanting { kind_of error.now ≡ ErrorKind.OutOfMemory
         → EndsWanting (E.contents errors.old) (E.contents errors.new) result }

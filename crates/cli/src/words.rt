@@ -1,9 +1,11 @@
 //! What the words of a command line ask for.
 
-ghost use Rattle.std.specs.Prelude.{◌≡◌, ◌<◌, IfErr, IfOk, MatchResult, Some, map, true, option_map, false};
-ghost use Rattle.clap.specs.Words.{app_of, found_of, kind_of, rows_of, rule_of, subcommand_rows_of, takes};
-ghost use Rattle.cli.specs.CommandLine.{HasNoGlobals, Request, Types, action_request, asked_for, asked_named, choosing_app, counted_app, file_app, file_rule, flag_rule, is_set, moment_in, moment_rule, number_in, number_rule, number_to_rule, optional_rule, replay_app, request_found, sender_app, serve_app, sfu, sfu_first, sfu_top, word_rule};
+ghost use Rattle.std.specs.Prelude.{◌≡◌, ◌≢◌, ◌<◌, IfErr, IfOk, MatchResult, Some, codes, false, map, option_map, true};
+ghost use Rattle.clap.specs.Words.{app_of, found_of, kind_of, rows_of, rule_of, subcommand_rows_of};
+ghost use Rattle.cli.specs.CommandLine.{HasNoGlobals, Request, Types, action_request, ask_app, asked_for, asked_named, bound, choosing_app, counted_app, file_app, flag_rule, is_set, moment_in, moment_rule, number_in, number_rule, number_to_rule, optional_rule, page_app, plain_named, recorded_app, replay_app, request_found, required_rule, sdp_app, sender_app, serve_app, serve_named, sfu, sfu_first, sfu_second, sfu_top, version, word_rule, words_in, words_rule};
+ghost use Rattle.cli.specs.CommandLine.{record_of};
 
+use crate::version::VERSION;
 use clap::builder::ValueParser;
 use clap::error::ErrorKind;
 use clap::{Arg, ArgAction, ArgMatches, Command, Error, value_parser};
@@ -11,16 +13,10 @@ use std::alloc::{AllocError, Global};
 use std::convert::AsStr;
 
 /// What the words ask for.
-#[derive(Clone, Copy, PartialEq, Eq)]
+#[derive(Drop)]
 pub enum Action<'a> {
-    /// `sfu bound --sender N`: the set that is announced for the requests of the lines.
-    Bound {
-        media: u32,
-    },
-    /// `sfu check FILE`: whether the file's lines certify a smallest choice.
-    Check {
-        file: &'a str,
-    },
+    /// What needs neither a machine nor a unit.
+    Offline(Offline<'a>),
     /// `sfu replay FILE`: what the machine gives out for a script, by the file's settings; of it only what goes out on a leg, or to an
     /// endpoint, by their numbers; only from a moment on, in milliseconds; with the lines of the events, or without.
     Replay {
@@ -31,17 +27,53 @@ pub enum Action<'a> {
         events: bool,
     },
     /// `sfu serve FILE`: the unit on a socket, by the file's settings; for so many turns, or until it is stopped; with a line
-    /// of counts each so many seconds, or without; steered at a path, or not.
+    /// of counts each so many seconds, which begins with the time, or without; steered at a path, or not; recorded, or not.
     Serve {
         file: &'a str,
         ticks: Option<u32>,
         status: Option<u32>,
         control: Option<&'a str>,
+        record: Option<Record<'a>>,
+        log_time: bool,
     },
+    /// `sfu ask PATH WORD..`: what the unit answers that is steered at the path.
+    Ask {
+        path: &'a str,
+        words: Vec<&'a str>,
+    },
+    /// `sfu page PATH ADDRESS`: a page of that unit at an address, which whoever reaches it may look at, or this machine alone; it may
+    /// be called by a name.
+    Page {
+        path: &'a str,
+        address: &'a str,
+        anyone: bool,
+        host: Option<&'a str>,
+    },
+    /// `sfu sdp FILE ENDPOINT..`: what these endpoints receive, by the file's settings.
+    Sdp {
+        file: &'a str,
+        endpoints: Vec<&'a str>,
+    },
+}
+
+/// What needs neither a machine nor a unit.
+#[derive(Clone, Copy)]
+pub enum Offline<'a> {
+    /// `sfu bound --sender N`: the set that is announced for the requests of the lines.
+    Bound { media: u32 },
+    /// `sfu check FILE`: whether the file's lines certify a smallest choice.
+    Check { file: &'a str },
     /// `sfu draw --sender N`: a picture of the requests of the lines and of the set.
-    Draw {
-        media: u32,
-    },
+    Draw { media: u32 },
+    /// `sfu --version`: which program this is.
+    Version,
+}
+
+/// Where a unit is recorded, and how many bytes the record has at most, if the words say so.
+#[derive(Clone, Copy)]
+pub struct Record<'a> {
+    pub path: &'a str,
+    pub limit: Option<u64>,
 }
 
 /// The greatest number that a leg or an endpoint may have.
@@ -66,7 +98,13 @@ const SERVE_HELP: &str = "Runs the unit on a UDP socket";
 const DRAW_HELP: &str =
     "Draws the requests in a list of datagrams and the set that is announced for them, as an SVG";
 
-// What it says of each file and option.
+const ASK_HELP: &str = "Asks a unit that runs, and prints what it answers";
+
+const PAGE_HELP: &str = "Shows by HTTP what a unit that runs says of itself";
+
+const SDP_HELP: &str = "Prints what endpoints receive as a session description";
+
+// What it says of each word and option.
 const CERTIFICATE_HELP: &str = "The certificate: lines as `sfu bound` prints them";
 
 const ROOM_HELP: &str = "The room's settings, in TOML";
@@ -90,38 +128,75 @@ const STATUS_HELP: &str =
 
 const CONTROL_HELP: &str = "Lets it be steered by `sfu ask PATH WORD..` at this path";
 
+const RECORD_HELP: &str =
+    "Writes what the unit takes in to this new file, as a script that `sfu replay` plays";
+
+const RECORD_LIMIT_HELP: &str = "Ends the record before it has more bytes: from 1 on";
+
+const LOG_TIME_HELP: &str = "Begins each line of counts with the time (UTC)";
+
+const PATH_HELP: &str = "The path at which the unit is steered (`sfu serve --control PATH`)";
+
+const WORD_HELP: &str = "What the unit is asked, as `present` or `select 0 off`";
+
+const ADDRESS_HELP: &str = "The IP address and port of the page, as 127.0.0.1:9190";
+
+const ANYONE_HELP: &str = "Lets whoever reaches the address look, be it no loopback address";
+
+const HOST_HELP: &str = "A name by which the page may be called, beside addresses and `localhost`";
+
+const RECEIVER_HELP: &str = "The number of an endpoint";
+
 /// The action that the words ask for, of which the first is the program's name.
 pub fn read_words<'a, S: AsStr>(alloc: Global, words: &'a [S]) -> Result<Action<'a>, Error>
     ensures asked { IfOk result (λ action. asked_for (map S.text words.entry.now)
         ≡ Some (action_request action)) }
-    ensures typed { (asked : Request) → Types (map S.text words.entry.now) asked
-        → MatchResult result (λ action. action_request action ≡ asked)
-        (λ e. kind_of e ≡ ErrorKind.OutOfMemory) }
-    ensures asks { (asked : Request) → Types (map S.text words.entry.now) asked
-        → asked_for (map S.text words.entry.now) ≡ Some asked }
-{
-    action_of(alloc, words)
-}
-
-/// The action that a parse finds in the words.
-fn action_of<'a, S: AsStr>(alloc: Global, words: &'a [S]) -> Result<Action<'a>, Error>
-    ensures asked { IfOk result (λ action. asked_for (map S.text words.entry.now)
-        ≡ Some (action_request action)) }
     ensures refused { (asked : Request) → asked_for (map S.text words.entry.now) ≡ Some asked
-        → takes sfu (map S.text words.entry.now) ≡ true
-        → IfErr result (λ e. kind_of e ≡ ErrorKind.OutOfMemory) }
+        → asked ≢ version → IfErr result (λ e. kind_of e ≡ ErrorKind.OutOfMemory) }
+    ensures asks { (media : _) → Types (map S.text words.entry.now) media
+        → asked_for (map S.text words.entry.now) ≡ Some (bound media) }
 {
     let mut command = command(alloc)?;
-    let matches = command.try_get_matches_from_mut(words)?;
-    match action_in(&matches) {
-        Some(action) => Ok(action),
-        None => Err(command.error(ErrorKind::MissingSubcommand, "no subcommand was given")?),
+    match command.try_get_matches_from_mut(words) {
+        Ok(matches) => match action_in(alloc, &matches)? {
+            Some(action) => Ok(action),
+            // (all else that an action needs is required by the command line itself)
+            None => Err(command.error(
+                ErrorKind::MissingRequiredArgument,
+                "--record-limit is of no use without --record",
+            )?),
+        },
+        Err(error) => version_or(error),
+    }
+}
+
+/// The version, if that is what stands in place of matches.
+fn version_or<'a>(error: Error) -> Result<Action<'a>, Error>
+    ensures asked { IfOk result (λ action. (action_request action ≡ version)
+        × (kind_of error ≡ ErrorKind.DisplayVersion)) }
+    ensures refused { IfErr result (λ e. (e ≡ error)
+        × (kind_of error ≢ ErrorKind.DisplayVersion)) }
+{
+    if error.kind() == ErrorKind::DisplayVersion {
+        Ok(Action::Offline(Offline::Version))
+    } else {
+        Err(error)
     }
 }
 
 /// The program's command line.
 fn command<'a>(alloc: Global) -> Result<Command<'a>, AllocError>
     ensures { IfOk result (λ c. app_of c ≡ sfu) }
+{
+    second_commands(alloc)?
+        .subcommand(sdp_command(alloc)?)?
+        .subcommand(page_command(alloc)?)?
+        .subcommand(ask_command(alloc)?)
+}
+
+/// The program with its commands, up to `draw`.
+fn second_commands<'a>(alloc: Global) -> Result<Command<'a>, AllocError>
+    ensures { IfOk result (λ c. app_of c ≡ sfu_second) }
 {
     first_commands(alloc)?
         .subcommand(serve_command(alloc)?)?
@@ -143,6 +218,7 @@ fn top_command<'a>(alloc: Global) -> Command<'a>
     ensures { app_of result ≡ sfu_top }
 {
     Command::new(alloc, "sfu")
+        .version(VERSION)
         .about("A selective forwarding unit for RTP")
         .subcommand_required(true)
 }
@@ -173,7 +249,7 @@ fn file_command<'a>(
 {
     Command::new(alloc, name)
         .about(about)
-        .arg(file(alloc, file_help))
+        .arg(required(alloc, "FILE", file_help))
 }
 
 /// `replay FILE`, with what is printed.
@@ -182,7 +258,7 @@ fn replay_command<'a>(alloc: Global) -> Result<Command<'a>, AllocError>
     ensures local { IfOk result HasNoGlobals }
 {
     choosing_command(alloc)?
-        .arg(moment(alloc, "from", FROM_HELP))?
+        .arg(moment(alloc, "from", FROM_HELP, 0))?
         .arg(flag(alloc, "events", EVENTS_HELP))
 }
 
@@ -196,12 +272,23 @@ fn choosing_command<'a>(alloc: Global) -> Result<Command<'a>, AllocError>
         .arg(number_to(alloc, "only-endpoint", ENDPOINT_HELP, MAX_NUMBER))
 }
 
-/// `serve FILE`, with how many turns, how many seconds between lines of counts, and where it is steered.
+/// `serve FILE`, with how many turns, what its lines of counts are, where it is steered, and how it is recorded.
 fn serve_command<'a>(alloc: Global) -> Result<Command<'a>, AllocError>
     ensures app { IfOk result (λ c. app_of c ≡ serve_app) }
     ensures local { IfOk result HasNoGlobals }
 {
-    counted_command(alloc)?.arg(optional_word(alloc, "control", CONTROL_HELP))
+    recorded_command(alloc)?.arg(flag(alloc, "log-time", LOG_TIME_HELP))
+}
+
+/// `serve FILE`, with how many turns, how many seconds between lines of counts, where it is steered, and how it is recorded.
+fn recorded_command<'a>(alloc: Global) -> Result<Command<'a>, AllocError>
+    ensures app { IfOk result (λ c. app_of c ≡ recorded_app) }
+    ensures local { IfOk result HasNoGlobals }
+{
+    counted_command(alloc)?
+        .arg(optional_word(alloc, "control", "PATH", CONTROL_HELP))?
+        .arg(optional_word(alloc, "record", "PATH", RECORD_HELP))?
+        .arg(moment(alloc, "record-limit", RECORD_LIMIT_HELP, 1).value_name("BYTES"))
 }
 
 /// `serve FILE`, with how many turns, and how many seconds between lines of counts.
@@ -214,15 +301,62 @@ fn counted_command<'a>(alloc: Global) -> Result<Command<'a>, AllocError>
         .arg(optional_number(alloc, "status", STATUS_HELP, MAX_STATUS))
 }
 
-/// A required word that names a file; the help says this about it.
-fn file<'a>(alloc: Global, help: &'a str) -> Arg<'a>
-    ensures rule { rule_of result ≡ file_rule }
+/// `ask PATH WORD..`.
+fn ask_command<'a>(alloc: Global) -> Result<Command<'a>, AllocError>
+    ensures app { IfOk result (λ c. app_of c ≡ ask_app) }
+    ensures local { IfOk result HasNoGlobals }
+{
+    Command::new(alloc, "ask")
+        .about(ASK_HELP)
+        .arg(required(alloc, "PATH", PATH_HELP))?
+        .arg(several(alloc, "WORD", WORD_HELP))
+}
+
+/// `page PATH ADDRESS`, with who may look, and by which name.
+fn page_command<'a>(alloc: Global) -> Result<Command<'a>, AllocError>
+    ensures app { IfOk result (λ c. app_of c ≡ page_app) }
+    ensures local { IfOk result HasNoGlobals }
+{
+    Command::new(alloc, "page")
+        .about(PAGE_HELP)
+        .arg(required(alloc, "PATH", PATH_HELP))?
+        .arg(required(alloc, "ADDRESS", ADDRESS_HELP))?
+        .arg(flag(alloc, "anyone", ANYONE_HELP))?
+        .arg(optional_word(alloc, "host", "NAME", HOST_HELP))
+}
+
+/// `sdp FILE ENDPOINT..`.
+fn sdp_command<'a>(alloc: Global) -> Result<Command<'a>, AllocError>
+    ensures app { IfOk result (λ c. app_of c ≡ sdp_app) }
+    ensures local { IfOk result HasNoGlobals }
+{
+    file_command(alloc, "sdp", SDP_HELP, SERVED_HELP)?.arg(several(
+        alloc,
+        "ENDPOINT",
+        RECEIVER_HELP,
+    ))
+}
+
+/// A required word; the help says this about it.
+fn required<'a>(alloc: Global, name: &'a str, help: &'a str) -> Arg<'a>
+    ensures rule { rule_of result ≡ required_rule name.entry.now }
     ensures local { result.global ≡ false }
 {
-    Arg::new(alloc, "FILE")
+    Arg::new(alloc, name)
         .help(help)
         .required(true)
         .action(ArgAction::Set)
+}
+
+/// A word or several, of which one is required; the help says this about them.
+fn several<'a>(alloc: Global, name: &'a str, help: &'a str) -> Arg<'a>
+    ensures rule { rule_of result ≡ words_rule name.entry.now }
+    ensures local { result.global ≡ false }
+{
+    Arg::new(alloc, name)
+        .help(help)
+        .required(true)
+        .action(ArgAction::Append)
 }
 
 /// A required option with a number; the help says this about it.
@@ -262,15 +396,15 @@ fn number_to<'a>(alloc: Global, name: &'a str, help: &'a str, most: i64) -> Arg<
         .action(ArgAction::Set)
 }
 
-/// An option with a moment; the help says this about it.
-fn moment<'a>(alloc: Global, name: &'a str, help: &'a str) -> Arg<'a>
-    ensures rule { rule_of result ≡ moment_rule name.entry.now }
+/// An option with a number of 64 bits, from `least` on; the help says this about it.
+fn moment<'a>(alloc: Global, name: &'a str, help: &'a str, least: u64) -> Arg<'a>
+    ensures rule { rule_of result ≡ moment_rule name.entry.now least }
     ensures local { result.global ≡ false }
 {
     Arg::new(alloc, name)
         .long(name)
         .help(help)
-        .value_parser(ValueParser::Unsigned(0, u64::MAX))
+        .value_parser(ValueParser::Unsigned(least, u64::MAX))
         .action(ArgAction::Set)
 }
 
@@ -285,35 +419,67 @@ fn flag<'a>(alloc: Global, name: &'a str, help: &'a str) -> Arg<'a>
         .action(ArgAction::SetTrue)
 }
 
-/// An option with a word; the help says this about it.
-fn optional_word<'a>(alloc: Global, name: &'a str, help: &'a str) -> Arg<'a>
+/// An option with a word, which the help calls so; it says this about it.
+fn optional_word<'a>(alloc: Global, name: &'a str, word: &'a str, help: &'a str) -> Arg<'a>
     ensures rule { rule_of result ≡ word_rule name.entry.now }
     ensures local { result.global ≡ false }
 {
     Arg::new(alloc, name)
         .long(name)
+        .value_name(word)
         .help(help)
         .action(ArgAction::Set)
 }
 
-fn action_in<'a>(matches: &ArgMatches<'a>) -> Option<Action<'a>>
-    ensures { option_map action_request result ≡ request_found (subcommand_rows_of matches.now) }
+fn action_in<'a>(alloc: Global, matches: &ArgMatches<'a>) -> Result<Option<Action<'a>>, AllocError>
+    ensures { IfOk result (λ action. option_map action_request action
+        ≡ request_found (subcommand_rows_of matches.now)) }
 {
-    let (name, inner) = matches.subcommand()?;
-    action_named(name, inner)
+    match matches.subcommand() {
+        Some((name, inner)) => action_named(alloc, name, inner),
+        None => Ok(None),
+    }
 }
 
-fn action_named<'a>(name: &str, matches: &ArgMatches<'a>) -> Option<Action<'a>>
-    ensures { option_map action_request result
-        ≡ asked_named name.now (rows_of (found_of matches.now)) }
+fn action_named<'a>(
+    alloc: Global,
+    name: &str,
+    matches: &ArgMatches<'a>,
+) -> Result<Option<Action<'a>>, AllocError>
+    ensures { IfOk result (λ action. option_map action_request action
+        ≡ asked_named name.now (rows_of (found_of matches.now))) }
 {
     match name {
-        "bound" => Some(Action::Bound {
+        "ask" => match matches.get_str("PATH") {
+            Some(path) => Ok(Some(Action::Ask {
+                path,
+                words: words_in(alloc, matches, "WORD")?,
+            })),
+            None => Ok(None),
+        },
+        "sdp" => match matches.get_str("FILE") {
+            Some(file) => Ok(Some(Action::Sdp {
+                file,
+                endpoints: words_in(alloc, matches, "ENDPOINT")?,
+            })),
+            None => Ok(None),
+        },
+        name => Ok(plain_named(name, matches)),
+    }
+}
+
+/// The action of a command that has no list of words.
+fn plain_named<'a>(name: &str, matches: &ArgMatches<'a>) -> Option<Action<'a>>
+    ensures { option_map action_request result
+        ≡ plain_named name.now (rows_of (found_of matches.now)) }
+{
+    match name {
+        "bound" => Some(Action::Offline(Offline::Bound {
             media: number_in(matches, "sender")?,
-        }),
-        "check" => Some(Action::Check {
+        })),
+        "check" => Some(Action::Offline(Offline::Check {
             file: matches.get_str("FILE")?,
-        }),
+        })),
         "replay" => Some(Action::Replay {
             file: matches.get_str("FILE")?,
             only_leg: number_in(matches, "only-leg"),
@@ -321,16 +487,60 @@ fn action_named<'a>(name: &str, matches: &ArgMatches<'a>) -> Option<Action<'a>>
             from: moment_in(matches, "from"),
             events: is_set(matches, "events"),
         }),
-        "serve" => Some(Action::Serve {
-            file: matches.get_str("FILE")?,
-            ticks: number_in(matches, "ticks"),
-            status: number_in(matches, "status"),
-            control: matches.get_str("control"),
-        }),
-        "draw" => Some(Action::Draw {
+        "serve" => serve_named(matches),
+        "draw" => Some(Action::Offline(Offline::Draw {
             media: number_in(matches, "sender")?,
+        })),
+        "page" => Some(Action::Page {
+            path: matches.get_str("PATH")?,
+            address: matches.get_str("ADDRESS")?,
+            anyone: is_set(matches, "anyone"),
+            host: matches.get_str("host"),
         }),
         _ => None,
+    }
+}
+
+/// A unit that is to be served; `None` if a record has a limit and no path.
+fn serve_named<'a>(matches: &ArgMatches<'a>) -> Option<Action<'a>>
+    ensures { option_map action_request result ≡ serve_named (rows_of (found_of matches.now)) }
+{
+    let path = matches.get_str("record");
+    let limit = moment_in(matches, "record-limit");
+    if path.is_none() && limit.is_some() {
+        return None;
+    }
+    Some(Action::Serve {
+        file: matches.get_str("FILE")?,
+        ticks: number_in(matches, "ticks"),
+        status: number_in(matches, "status"),
+        control: matches.get_str("control"),
+        record: record_at(path, limit),
+        log_time: is_set(matches, "log-time"),
+    })
+}
+
+/// The record at a path, if there is one.
+fn record_at(path: Option<&str>, limit: Option<u64>) -> Option<Record<'_>>
+    ensures { option_map record_of result
+        ≡ option_map (λ path. (path.now, limit)) path.entry }
+{
+    let path = path?;
+    Some(Record { path, limit })
+}
+
+/// The words that there are for this.
+fn words_in<'a>(
+    alloc: Global,
+    matches: &ArgMatches<'a>,
+    id: &str,
+) -> Result<Vec<&'a str>, AllocError>
+    ensures { IfOk result (λ words. map (λ word. word.now) words.items
+        ≡ words_in id.now (rows_of (found_of matches.now))) }
+{
+    match matches.get_strs(id) {
+        Some(words) => Vec::from_slice(alloc, words),
+        None => Ok(Vec::new(alloc)),
     }
 }
 

@@ -1,7 +1,10 @@
 -- How commands end.
 use Rattle.std.proofs.Common.{◌≡◌, ◌≢◌, ◌∙◌, ℕ, Bool, List, Option, Some, subst, sym, unwrap_or}
 use Rattle.std.proofs.KnownBytes.{Keeps-refl}
-use Rattle.cli.specs.CommandLine.{Request, bound, check, draw, replay, serve}
+use Rattle.cli.specs.CommandLine.{Request, ask, bound, check, draw, offline_request, page, replay, sdp, serve, version}
+use Rattle.cli.specs.Ends.{EndsOffline}
+use Rattle.cli.specs.declared.words.Offline.{Offline}
+use Rattle.cli.specs.declared.words.Offline.TheVariants as offline
 use Rattle.commands.specs.Commands.{Ends, EndsUnit}
 use Rattle.cli.specs.Endings.{SaysWhy}
 use Rattle.cli.specs.declared.status.Status.{Status}
@@ -38,17 +41,36 @@ unit_undone printed errors_old errors_new s fails says = record {
 }
 
 -- the words couldn't be read, whatever they ask for
-pub unread : (asked : Request) (input printed errors_old errors_new : Option (List ℕ)) (s : Status) → s ≢ status.Done → s ≢ status.Refused
-    → SaysWhy errors_old errors_new s → Ends asked input printed printed errors_old errors_new s
-unread (bound media) input printed errors_old errors_new s fails read says =
+pub unread : (asked : Request) (input printed errors_old errors_new : Option (List ℕ)) (s : Status) → s ≢ status.Done → s ≢ status.Refused → s ≢ status.Settings
+    → s ≢ status.Control → SaysWhy errors_old errors_new s → Ends asked input printed printed errors_old errors_new s
+unread (bound media) input printed errors_old errors_new s fails read set_up heard says =
     record { done = λ is. absurd (fails is); refused = λ is. absurd (read is) }
-unread (check file) input printed errors_old errors_new s fails read says =
+unread (check file) input printed errors_old errors_new s fails read set_up heard says =
     record { done = λ is. absurd (fails is); refused = λ is. absurd (read is) }
-unread (replay file leg endpoint from events) input printed errors_old errors_new s fails read says =
+unread (replay file leg endpoint from events) input printed errors_old errors_new s fails read set_up heard says =
     record { done = λ is. absurd (fails is); refused = λ is. absurd (read is) }
-unread (serve file ticks seconds control) input printed errors_old errors_new s fails read says = unit_undone printed errors_old errors_new s fails says
-unread (draw media) input printed errors_old errors_new s fails read says =
+unread (serve file ticks seconds control recorded log_time) input printed errors_old errors_new s fails read set_up heard says = unit_undone printed errors_old errors_new s fails says
+unread (draw media) input printed errors_old errors_new s fails read set_up heard says =
     record { done = λ is. absurd (fails is); refused = λ is. absurd (read is) }
+unread version input printed errors_old errors_new s fails read set_up heard says = record { done = λ is. absurd (fails is); read = read }
+unread (ask path words) input printed errors_old errors_new s fails read set_up heard says =
+    record { refused = λ is. absurd (read is); control = λ is. absurd (heard is) }
+unread (page path address anyone host) input printed errors_old errors_new s fails read set_up heard says = record { never = fails; read = read }
+unread (sdp file endpoints) input printed errors_old errors_new s fails read set_up heard says =
+    record { refused = λ is. absurd (read is); settings = λ is. absurd (set_up is) }
+
+-- what needs no unit
+pub offline_ends : (what : Offline) (input old new errors_old errors_new : Option (List ℕ)) (s : Status)
+    → EndsOffline what input old new errors_old errors_new s → Ends (offline_request what) input old new errors_old errors_new s
+offline_ends (offline.Bound media) input old new errors_old errors_new s ends = ends
+offline_ends (offline.Check file) input old new errors_old errors_new s ends = ends
+offline_ends (offline.Draw media) input old new errors_old errors_new s ends = ends
+offline_ends offline.Version input old new errors_old errors_new s ends = ends
+
+-- words that ask for a page don't ask for a set
+pub no_set : (words : Option Request) (path address : List ℕ) (anyone : Bool) (host : Option (List ℕ)) (media : ℕ)
+    → words ≡ Some (page path address anyone host) → words ≡ Some (bound media) → ⊥
+no_set words path address anyone host media here there = cc
 
 -- what is shown begins at the moment that the words have, or at 0
 pub replay_ends : (leg endpoint from : Option ℕ) (events : Bool) (from_ms : ℕ) (input old new errors_old errors_new : Option (List ℕ)) (s : Status)

@@ -1,11 +1,11 @@
 -- What a command comes to that the words ask for: `input` is what there was to read, `old` and `new` what was printed before the command and
 -- is after it, `errors_old` and `errors_new` what was said on the error output.
-use Rattle.std.specs.Prelude.{◌≡◌, ℕ, List, Option}
-use Rattle.std.specs.Io.KnownBytes.{Keeps}
-use Rattle.cli.specs.CommandLine.{Request, bound, check, draw, replay, serve}
+use Rattle.std.specs.Prelude.{◌≡◌, ◌≢◌, ℕ, List, Option, codes}
+use Rattle.std.specs.Io.KnownBytes.{Appends, Keeps}
+use Rattle.cli.specs.CommandLine.{Request, ask, bound, check, draw, page, replay, sdp, serve, version}
 use Rattle.cli.specs.declared.status.Status.{Status}
 use Rattle.cli.specs.declared.status.Status.TheVariants as status
-use Rattle.cli.specs.Ends.{EndsBound, EndsCheck, EndsDraw}
+use Rattle.cli.specs.Ends.{EndsBound, EndsCheck, EndsDraw, EndsVersion}
 use Rattle.replay.specs.ByFile.{EndsReplay, shown_by}
 use Rattle.serving.specs.ReportText.{PrintsReport}
 use Rattle.serving.specs.Serving.{SaysWhyServing}
@@ -20,6 +20,26 @@ pub record EndsUnit (old new errors_old errors_new : Option (List ℕ)) (s : Sta
   -- however it ends, where it listened is said, if it came so far, and after that what any other command says
   pub said : SaysWhyServing errors_old errors_new s
 
+-- How `sfu ask` ends.
+pub record EndsAsk (old new errors_old errors_new : Option (List ℕ)) (s : Status) : Type 0 where
+  -- if the unit refused it, nothing is printed
+  pub refused : s ≡ status.Refused → Keeps old new
+  -- if nobody listens at the path, nothing is printed, and that is said
+  pub control : s ≡ status.Control
+      → Keeps old new × Appends errors_old errors_new (codes "nobody listens\n")
+
+-- How `sfu page` ends.
+pub record EndsPage (s : Status) : Type 0 where
+  -- it is never done, nor refused
+  pub never : s ≢ status.Done
+  pub read : s ≢ status.Refused
+
+-- How `sfu sdp` ends.
+pub record EndsSdp (old new : Option (List ℕ)) (s : Status) : Type 0 where
+  -- if a word is no endpoint's number, or there are no settings for what is asked, nothing is printed
+  pub refused : s ≡ status.Refused → Keeps old new
+  pub settings : s ≡ status.Settings → Keeps old new
+
 -- how each command ends
 abbrev pub Ends : Request → Option (List ℕ) → Option (List ℕ) → Option (List ℕ) → Option (List ℕ)
     → Option (List ℕ) → Status → Type 0
@@ -28,7 +48,11 @@ Ends (bound media) input old new errors_old errors_new s =
 Ends (check file) input old new errors_old errors_new s = EndsCheck old new errors_old errors_new s
 Ends (replay file leg endpoint from events) input old new errors_old errors_new s =
     EndsReplay (shown_by leg endpoint from events) input old new errors_old errors_new s
-Ends (serve file ticks status control) input old new errors_old errors_new s =
+Ends (serve file ticks status control recorded log_time) input old new errors_old errors_new s =
     EndsUnit old new errors_old errors_new s
 Ends (draw media) input old new errors_old errors_new s =
     EndsDraw media input old new errors_old errors_new s
+Ends version input old new errors_old errors_new s = EndsVersion old new s
+Ends (ask path words) input old new errors_old errors_new s = EndsAsk old new errors_old errors_new s
+Ends (page path address anyone host) input old new errors_old errors_new s = EndsPage s
+Ends (sdp file endpoints) input old new errors_old errors_new s = EndsSdp old new s

@@ -1,6 +1,6 @@
 //! `sfu ask PATH WORD..`: a unit that runs is asked, and what it answers is printed.
 
-ghost use Rattle.std.specs.Prelude.{◌≡◌, ◌++◌, codes, flat_map, map, IfOk, OnOk};
+ghost use Rattle.std.specs.Prelude.{◌≡◌, ◌≢◌, ◌++◌, codes, flat_map, map, IfOk, OnOk};
 ghost use Rattle.std.specs.Io.KnownBytes.{Appends, Keeps};
 ghost use Rattle.std.specs.String.{string_bytes};
 ghost use Rattle.commands.specs.Asking.{asking_line, spaced};
@@ -40,6 +40,7 @@ pub fn run_ask<R: AllocGlobal + Files<File = File> + Net, S: AsStr, O: Write, E:
     ensures control { result ≡ Status.Control
         → Keeps (O.contents writer.old) (O.contents writer.new)
         × Appends (E.contents errors.old) (E.contents errors.new) (codes "nobody listens\n") }
+    ensures understood { (result ≢ Status.CommandLine) × (result ≢ Status.Settings) }
 {
     match words {
         [record] if record.as_str() == "record" => print_record(rt, path, writer, errors),

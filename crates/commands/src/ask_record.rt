@@ -44,6 +44,7 @@ pub(crate) fn print_record<R: AllocGlobal + Net, O: Write, E: Write>(
     ensures control { result ≡ Status.Control
         → Keeps (O.contents writer.old) (O.contents writer.new)
         × Appends (E.contents errors.old) (E.contents errors.new) (codes "nobody listens\n") }
+    ensures understood { (result ≢ Status.CommandLine) × (result ≢ Status.Settings) }
 {
     match begin_at(rt, path) {
         Ok(Begun::Record(mut stream)) => copy(&mut stream, writer, errors),
@@ -62,6 +63,7 @@ pub(crate) fn write_record<R: AllocGlobal + Files<File = File> + Net, E: Write>(
 ) -> Status
     ensures control { result ≡ Status.Control
         → Appends (E.contents errors.old) (E.contents errors.new) (codes "nobody listens\n") }
+    ensures understood { (result ≢ Status.CommandLine) × (result ≢ Status.Settings) }
 {
     match create(rt, file) {
         Ok(mut record) => match begin_at(rt, path) {
@@ -128,7 +130,8 @@ fn read_line<I: Read>(alloc: Global, stream: &mut I) -> Result<Vec<u8>, AskFault
 
 /// Writes what comes from there until it ends, piece by piece.
 fn copy<I: Read, O: Write, E: Write>(stream: &mut I, writer: &mut O, errors: &mut E) -> Status
-    ensures { (result ≢ Status.Refused) × (result ≢ Status.Control) }
+    ensures { (result ≢ Status.Refused) × (result ≢ Status.Control)
+        × (result ≢ Status.CommandLine) × (result ≢ Status.Settings) }
 {
     let mut piece = [0; PIECE];
     for _piece in 0..u64::MAX {

@@ -1,34 +1,35 @@
 //! The commands of the program, over a reader and writers.
 
-ghost use Rattle.std.specs.Prelude.{◌≡◌, ◌≢◌, map, Some, codes};
+ghost use Rattle.std.specs.Prelude.{◌≡◌, ◌≢◌, ℕ, map, Some, codes};
 ghost use Rattle.std.specs.Io.KnownBytes.{Appends, Keeps};
-ghost use Rattle.cli.specs.CommandLine.{AsksToServe, Request, Types, asked_for};
+ghost use Rattle.cli.specs.CommandLine.{AsksOfUnit, Request, Types, asked_for, bound};
 ghost use Rattle.commands.specs.Commands.{Ends, EndsUnit};
 ghost use Rattle.cli.specs.Endings.{SaysWhy};
 ghost use Rattle.settings_toml.specs.SettingsText.{SaysProblem};
 
+use crate::ask::run_ask;
+use crate::description::run_sdp;
+use crate::served::{ServedFile, served_in};
 use cli::{
-    Action, Noted, Record, Status, read_words, refuse_words, report, report_settings, run_bound,
-    run_check, run_draw, say, say_no_memory,
+    Action, Record, Status, read_words, refuse_words, report_settings, run_offline, say,
+    say_no_memory,
 };
-use replay::{Shown, run_replay, unreadable_settings};
+use replay::{Shown, run_replay};
 use request_text::Meter;
 use serving::{
-    ControlFault, ErrorOutput, Gauges, RECORD_LIMIT, RecordFault, ServedSettings, Term,
-    close_control, close_record, open_control, open_record, read_served, serve_file,
+    ControlFault, ErrorOutput, Gauges, RECORD_LIMIT, RecordFault, Term, close_control,
+    close_record, open_control, open_record, serve_file,
 };
-use settings_toml::SettingsProblem;
-use sha2::{Digest, Sha256};
-use std::alloc::Global;
 use std::convert::AsStr;
 use std::fs::File;
 use std::io::{Read, Write};
-use std::net::Net;
+use std::net::{Net, TcpListener, TcpStream};
+use std::random::RandomSource;
 use std::rt::Files;
 use std::sync::Wait;
 use std::thread::Threads;
-use std::{fs, time};
-use tmmbr_tuple::Ssrc;
+use std::time;
+use web::run_page;
 
 /// Where a unit is steered and recorded, and whether its lines of counts begin with the time.
 #[derive(Clone, Copy)]
@@ -43,7 +44,15 @@ struct Paths<'a> {
 /// Nothing is done before the input was read to its end. What is printed goes to the writer, and why
 /// a command isn't done to the error output. The meter is shown each line of what `bound`, `draw`, `check` and `replay` read.
 pub fn run_command<
-    R: AllocGlobal + ErrorOutput + Files<File = File> + Net + Threads + Wait + Sync + time::Clock,
+    R: AllocGlobal
+        + ErrorOutput
+        + Files<File = File>
+        + Net<Listener = TcpListener, Stream = TcpStream>
+        + RandomSource
+        + Threads
+        + Wait
+        + Sync
+        + time::Clock,
     S: AsStr,
     I: Read,
     O: Write,
@@ -55,20 +64,15 @@ pub fn run_command<
     ensures settings { result ≡ Status.Settings
         → Keeps (O.contents writer.old) (O.contents writer.new)
         × SaysProblem (E.contents errors.old) (E.contents errors.new) }
-    ensures asks { (asked : Request) → Types (map S.text words.now) asked
-        → asked_for (map S.text words.now) ≡ Some asked }
-    ensures understood { (asked : Request) → Types (map S.text words.now) asked
+    ensures asks { (media : ℕ) → Types (map S.text words.now) media
+        → asked_for (map S.text words.now) ≡ Some (bound media) }
+    ensures understood { (media : ℕ) → Types (map S.text words.now) media
         → result ≢ Status.CommandLine }
-    ensures said { ¬ (AsksToServe (asked_for (map S.text words.now)))
+    ensures said { ¬ (AsksOfUnit (asked_for (map S.text words.now)))
         → SaysWhy (E.contents errors.old) (E.contents errors.new) result }
 {
-    let alloc = rt.alloc();
-    match read_words(alloc, words) {
-        Ok(Action::Bound { media }) => match run_bound(alloc, Ssrc(media), meter, reader, writer) {
-            Ok(()) => Status::Done,
-            Err(failure) => report(alloc, errors, failure),
-        },
-        Ok(Action::Check { file }) => run_check(rt, file, meter, writer, errors),
+    match read_words(rt.alloc(), words) {
+        Ok(Action::Offline(what)) => run_offline(rt, what, meter, reader, writer, errors),
         Ok(
             Action::Replay {
                 file,
@@ -92,77 +96,30 @@ pub fn run_command<
                 ticks,
                 status,
                 control,
+                record,
+                log_time,
             },
         ) => {
             let paths = Paths {
                 control,
-                record: None,
-                log_time: false,
+                record,
+                log_time,
             };
             run_serve(rt, file, Term { ticks, status }, paths, writer, errors)
         }
-        Ok(Action::Draw { media }) => run_draw(alloc, Ssrc(media), meter, reader, writer, errors),
-        Err(error) => refuse_words(alloc, errors, &error),
-    }
-}
-
-/// Runs the unit that the words ask for, of which the first is the program's name, and writes down of it what they say. Words that ask for
-/// another command are refused: nothing else is recorded, or has lines of counts.
-pub fn run_noted<
-    R: AllocGlobal + ErrorOutput + Files<File = File> + Net + Threads + Wait + Sync + time::Clock,
-    O: Write,
-    E: Write,
->(rt: &R, noted: &Noted<'_>, writer: &mut O, errors: &mut E) -> Status
-    ensures ends { EndsUnit (O.contents writer.old) (O.contents writer.new) (E.contents errors.old)
-        (E.contents errors.new) result }
-    ensures settings { result ≡ Status.Settings
-        → Keeps (O.contents writer.old) (O.contents writer.new)
-        × SaysProblem (E.contents errors.old) (E.contents errors.new) }
-    ensures refused { result ≢ Status.Refused }
-    ensures others { ¬ (AsksToServe (asked_for (map (λ word. word.now) noted.now.words.items)))
-        → (result ≢ Status.Done) × Keeps (O.contents writer.old) (O.contents writer.new) }
-{
-    match read_words(rt.alloc(), noted.words.as_slice()) {
+        Ok(Action::Ask { path, words }) => run_ask(rt, path, words.as_slice(), writer, errors),
         Ok(
-            Action::Serve {
-                file,
-                ticks,
-                status,
-                control,
+            Action::Page {
+                path,
+                address,
+                anyone,
+                host,
             },
-        ) => {
-            let paths = Paths {
-                control,
-                record: noted.record_at,
-                log_time: noted.log_time,
-            };
-            run_serve(rt, file, Term { ticks, status }, paths, writer, errors)
+        ) => run_page(rt, path, address, anyone, host, errors),
+        Ok(Action::Sdp { file, endpoints }) => {
+            run_sdp(rt, file, endpoints.as_slice(), writer, errors)
         }
-        Ok(
-            Action::Bound { .. }
-            | Action::Check { .. }
-            | Action::Replay { .. }
-            | Action::Draw { .. },
-        ) => refuse_other(errors, noted.log_time),
         Err(error) => refuse_words(rt.alloc(), errors, &error),
-    }
-}
-
-/// Says of words that ask for another command that nothing is done: that it has no lines of counts, if these were to begin with the time, or
-/// else that it isn't recorded.
-fn refuse_other<E: Write>(errors: &mut E, log_time: bool) -> Status
-    ensures failed { (result ≢ Status.Done) × (result ≢ Status.Socket) × (result ≢ Status.Settings)
-        × (result ≢ Status.Refused) }
-    ensures said { SaysWhy (E.contents errors.old) (E.contents errors.new) result }
-{
-    if log_time {
-        say(
-            errors,
-            b"only serve has lines of counts\n",
-            Status::CommandLine,
-        )
-    } else {
-        say(errors, b"only serve is recorded\n", Status::CommandLine)
     }
 }
 
@@ -293,35 +250,5 @@ fn say_control<E: Write>(errors: &mut E, fault: ControlFault) -> Status
         ControlFault::InUse => say(errors, b"control: in use\n", Status::Control),
         ControlFault::Failed => say(errors, b"control: failed\n", Status::Control),
         ControlFault::NoMemory => say_no_memory(errors),
-    }
-}
-
-/// The settings of a file, and the SHA-256 of its bytes.
-#[derive(Drop)]
-pub(crate) struct ServedFile {
-    pub(crate) settings: ServedSettings,
-    digest: [u8; 32],
-}
-
-/// The settings that a file holds, with all addresses.
-pub(crate) fn served_in<R: AllocGlobal + Files>(
-    rt: &R,
-    file: &str,
-) -> Result<ServedFile, SettingsProblem> {
-    match fs::open(rt, file) {
-        Ok(mut file) => served_from(rt.alloc(), &mut file),
-        Err(error) => Err(unreadable_settings(&error)),
-    }
-}
-
-/// The settings that a reader holds, with all addresses.
-fn served_from<I: Read>(alloc: Global, file: &mut I) -> Result<ServedFile, SettingsProblem> {
-    let mut text = Vec::new(alloc);
-    match file.read_to_end(&mut text) {
-        Ok(_) => Ok(ServedFile {
-            settings: read_served(alloc, text.as_slice())?,
-            digest: Sha256::digest(text.as_slice()),
-        }),
-        Err(error) => Err(unreadable_settings(&error)),
     }
 }

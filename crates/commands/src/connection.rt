@@ -54,7 +54,8 @@ pub(crate) fn print_answer<O: Write, E: Write>(
         × Appends (O.contents writer.old) (O.contents writer.new) lines }
     ensures refused { result ≡ Status.Refused
         → Keeps (O.contents writer.old) (O.contents writer.new) }
-    ensures understood { result ≢ Status.Control }
+    ensures understood { (result ≢ Status.Control) × (result ≢ Status.CommandLine)
+        × (result ≢ Status.Settings) }
 {
     match read_answer(text) {
         Some(Answered::Done(lines)) => match writer.write_all(lines) {
@@ -74,6 +75,7 @@ pub(crate) fn say_fault<E: Write>(errors: &mut E, fault: AskFault) -> Status
     ensures refused { result ≢ Status.Refused }
     ensures control { result ≡ Status.Control
         → Appends (E.contents errors.old) (E.contents errors.new) (codes "nobody listens\n") }
+    ensures understood { (result ≢ Status.CommandLine) × (result ≢ Status.Settings) }
 {
     match fault {
         AskFault::NoMemory => say_no_memory(errors),

@@ -2,8 +2,10 @@
 
 ghost use Rattle.std.specs.Prelude.{◌≢◌, ◌≡◌};
 ghost use Rattle.std.specs.Io.KnownBytes.{Keeps};
+ghost use Rattle.cli.specs.Endings.{SaysWhy};
+ghost use Rattle.settings_toml.specs.SettingsText.{SaysProblem};
 
-use crate::command::served_in;
+use crate::served::served_in;
 use addressing::{Location, ServedSettings};
 use cli::{Session, Status, Stream, report_settings, say, say_no_memory, session_text};
 use settings::LegSettings;
@@ -43,8 +45,10 @@ pub fn run_sdp<R: AllocGlobal + Files, S: AsStr, O: Write, E: Write>(
     ensures refused { result ≡ Status.Refused
         → Keeps (O.contents writer.old) (O.contents writer.new) }
     ensures settings { result ≡ Status.Settings
-        → Keeps (O.contents writer.old) (O.contents writer.new) }
+        → Keeps (O.contents writer.old) (O.contents writer.new)
+        × SaysProblem (E.contents errors.old) (E.contents errors.new) }
     ensures understood { result ≢ Status.CommandLine }
+    ensures said { SaysWhy (E.contents errors.old) (E.contents errors.new) result }
 {
     let alloc = rt.alloc();
     match served_in(rt, file) {

@@ -1,7 +1,7 @@
 //! What is said to people beside the line that scripts read, if a command had no settings or no socket.
 
 use addressing::{ServedSettings, read_served};
-use cli::{Status, bytes_in, replay_advice, settings_line};
+use cli::{Action, Status, bytes_in, explain_replay, read_words, settings_line};
 use settings_toml::{SettingsProblem, bind_advice};
 use std::alloc::{AllocError, Global};
 use std::convert::AsStr;
@@ -9,7 +9,7 @@ use std::io::{ErrorKind, Write};
 use std::net::{Net, SocketAddr, UdpSocket};
 use std::rt::Files;
 
-/// Says on the error output which line of the settings file is wrong and what may stand there, or which socket can't be had and why,
+/// Says on the error output which line of the settings file is wrong, and what may stand there, or which socket can't be had and why,
 /// after a command with these words ended so. The file is read again, and the sockets are tried again: if all is well by now,
 /// nothing is said.
 pub fn explain<R: AllocGlobal + Files + Net, S: AsStr, E: Write>(
@@ -18,29 +18,32 @@ pub fn explain<R: AllocGlobal + Files + Net, S: AsStr, E: Write>(
     status: Status,
     errors: &mut E,
 ) {
-    let [_, command, file, ..] = words else {
+    if status != Status::Settings && status != Status::Socket {
         return;
-    };
-    let line = match status {
-        Status::Settings => explain_settings(rt, command.as_str(), file.as_str()),
-        Status::Socket => explain_sockets(rt, file.as_str()),
-        _ => return,
-    };
-    if let Ok(line) = line {
-        let _ = errors.write_all(line.as_bytes());
+    }
+    match read_words(rt.alloc(), words) {
+        Ok(Action::Replay { file, .. }) => explain_replay(rt, file, status, errors),
+        Ok(Action::Serve { file, .. } | Action::Sdp { file, .. }) => {
+            explain_unit(rt, file, status, errors);
+        }
+        _ => {}
     }
 }
 
-/// What is wrong with the settings of a file.
-fn explain_settings<R: AllocGlobal + Files>(
+/// The same of a unit with the settings of this file.
+fn explain_unit<R: AllocGlobal + Files + Net, E: Write>(
     rt: &R,
-    command: &str,
     file: &str,
-) -> Result<String, AllocError> {
-    if command == "replay" {
-        replay_advice(rt, file)
-    } else {
+    status: Status,
+    errors: &mut E,
+) {
+    let line = if status == Status::Settings {
         settings_line(rt, file, served_problem)
+    } else {
+        explain_sockets(rt, file)
+    };
+    if let Ok(line) = line {
+        let _ = errors.write_all(line.as_bytes());
     }
 }
 

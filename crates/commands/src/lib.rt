@@ -1,8 +1,8 @@
 //! The commands of `sfu`: the words that ask for them, and what each does with which file.
 //!
-//! Read `command` first, `run_command` and `run_noted`, which the program calls, `ask` and `ask_record`, which are `sfu ask` (over a `connection`), and
-//! `description`, `sfu sdp`; `explaining` says to people what was wrong. The words, the commands that need no socket, and how a command ends are
-//! `cli`, `sfu replay` is `replay`, and `sfu serve` is `serving`. What callers need of these is handed on.
+//! Read `command` first, `run_command`, which the program calls, then `ask` and `ask_record`, which are `sfu ask` (over a `connection`), and
+//! `description`, `sfu sdp`, by the settings that `served` reads; `explaining` says to people what was wrong. The words, the commands that need no unit, and how a
+//! command ends are `cli`; `sfu replay` is `replay`, `sfu serve` `serving`, `sfu page` `web`. What callers need of these is handed on.
 #![tactic(auto)]
 
 mod ask;
@@ -11,13 +11,11 @@ mod command;
 mod connection;
 mod description;
 mod explaining;
+mod served;
 
 pub use ask::run_ask;
-pub use cli::{
-    Cleared, Failure, Noted, Record, Status, noted_in, report, report_settings, report_words,
-    run_version,
-};
-pub use command::{run_command, run_noted};
+pub use cli::{Cleared, Failure, Status, report, report_settings, report_words, run_version};
+pub use command::run_command;
 pub use description::run_sdp;
 pub use explaining::explain;
 pub use replay::{Shown, replay_lines};

@@ -8,7 +8,6 @@ use crate::teller::Teller;
 use crate::visitors::Visitors;
 use cli::{Status, say, say_no_memory, unsaid};
 use std::alloc::Global;
-use std::convert::AsStr;
 use std::hash::RandomState;
 use std::io::Write;
 use std::net::{Net, SocketAddr, TcpListener, TcpStream};
@@ -33,8 +32,8 @@ const ADMITTED: u32 = 16;
 /// Why there is no page.
 #[derive(Clone, Copy)]
 enum PageFault {
-    /// The words aren't `PATH ADDRESS` with `--anyone` or `--host NAME` after them, or neither.
-    Words,
+    /// The address is none.
+    Address,
     /// The address is no loopback address, and `--anyone` isn't there.
     Anyone,
     /// The address can't be had.
@@ -51,54 +50,40 @@ struct Place<'a> {
     name: &'a str,
 }
 
-/// Serves a page of the unit that is steered at a path: the words are `PATH ADDRESS`, and `--anyone` if the address is no loopback
-/// address, or `--host NAME` if it may be called by a name. Says `page ADDRESS` on the error output once it listens, and returns then only if the clock or the random source fails. It is
-/// never done: `CommandLine` if the words are others, `Socket` if the address can't be had.
+/// Serves a page of the unit that is steered at a path: at a loopback address, or at any if whoever reaches it may look; `host` is a name by which it
+/// may be called. Says `page ADDRESS` on the error output once it listens, and returns then only if the clock or the random source fails. It is
+/// never done: `CommandLine` if the address is none, or none for this machine alone, `Socket` if it can't be had.
 pub fn run_page<
     R: AllocGlobal + Net<Listener = TcpListener, Stream = TcpStream> + Wait + Clock + RandomSource,
-    S: AsStr,
     E: Write,
->(rt: &R, words: &[S], errors: &mut E) -> Status
+>(rt: &R, path: &str, address: &str, anyone: bool, host: Option<&str>, errors: &mut E) -> Status
     ensures never { result ≢ Status.Done }
     ensures read { (result ≢ Status.Settings) × (result ≢ Status.Refused) }
 {
-    match place_in(words) {
+    match place_at(path, address, anyone, host) {
         Ok(place) => serve(rt, place, errors),
         Err(fault) => say_fault(errors, fault),
     }
 }
 
-/// What the words ask for.
-fn place_in<S: AsStr>(words: &[S]) -> Result<Place<'_>, PageFault> {
-    let (path, address, rest) = match words {
-        [path, address, rest @ ..] => (path, address, rest),
-        _ => return Err(PageFault::Words),
+/// What is asked for.
+fn place_at<'a>(
+    path: &'a str,
+    address: &str,
+    anyone: bool,
+    host: Option<&'a str>,
+) -> Result<Place<'a>, PageFault> {
+    let Ok(address) = address.parse::<SocketAddr>() else {
+        return Err(PageFault::Address);
     };
-    let Ok(address) = address.as_str().parse::<SocketAddr>() else {
-        return Err(PageFault::Words);
-    };
-    let (anyone, name) = allowed_by(rest)?;
     if !anyone && !address.ip().is_loopback() {
         return Err(PageFault::Anyone);
     }
     Ok(Place {
-        path: path.as_str(),
+        path,
         address,
-        name,
+        name: host.unwrap_or("localhost"),
     })
-}
-
-/// Whether anyone may look, and the name by which the page may be called.
-fn allowed_by<S: AsStr>(words: &[S]) -> Result<(bool, &str), PageFault> {
-    match words {
-        [] => Ok((false, "localhost")),
-        [word] if word.as_str() == "--anyone" => Ok((true, "localhost")),
-        [word, name] if word.as_str() == "--host" => Ok((false, name.as_str())),
-        [first, word, name] if first.as_str() == "--anyone" && word.as_str() == "--host" => {
-            Ok((true, name.as_str()))
-        }
-        _ => Err(PageFault::Words),
-    }
 }
 
 /// Why there is no page, on the error output.
@@ -107,9 +92,9 @@ fn say_fault<E: Write>(errors: &mut E, fault: PageFault) -> Status
     ensures read { (result ≢ Status.Settings) × (result ≢ Status.Refused) }
 {
     match fault {
-        PageFault::Words => say(
+        PageFault::Address => say(
             errors,
-            b"usage: sfu page PATH ADDRESS [--anyone] [--host NAME]\n",
+            b"page: not an IP address and port, as 127.0.0.1:9190\n",
             Status::CommandLine,
         ),
         PageFault::Anyone => say(
