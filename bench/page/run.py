@@ -316,6 +316,8 @@ class Browser:
         self.call("Emulation.setEmulatedMedia", features=[{"name": "prefers-color-scheme", "value": scheme}])
         if self.value("document.documentElement.scrollWidth") != width:
             fail(f"the page is wider than {width} pixels")
+        if cut := self.value("[...document.querySelectorAll('td, dd')].filter(it => it.scrollWidth > it.clientWidth).map(it => it.textContent).join()"):
+            fail(f"at {width} pixels {cut} is cut off")
         with open(path, "wb") as it:
             it.write(base64.b64decode(self.call("Page.captureScreenshot", format="png", captureBeyondViewport=True)["data"]))
 

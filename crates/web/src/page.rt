@@ -46,9 +46,9 @@ main, .pair { display: grid; gap: 1rem; }
 main > *, .pair > * { min-width: 0; }
 main[hidden], section[hidden] { display: none; }
 section { background: var(--card); border: 1px solid var(--line); border-radius: .6rem; padding: .8rem 1rem 1rem; }
-dl { display: grid; grid-template-columns: repeat(auto-fit, minmax(6.8rem, 1fr)); gap: .7rem 1rem; align-items: end; }
+dl { display: grid; grid-template-columns: repeat(auto-fit, minmax(6.8rem, 1fr)); gap: .7rem .9rem; align-items: end; }
 dt { font-size: .85rem; }
-dd { font-size: 1.2rem; white-space: nowrap; }
+dd { font-size: 1.1rem; white-space: nowrap; }
 dl .minute { grid-column: span 2; }
 .in { color: var(--in); }
 .out { color: var(--out); }
@@ -56,6 +56,7 @@ dl .minute { grid-column: span 2; }
 .off { color: var(--off); }
 .curve { display: block; width: 10rem; height: 1.5rem; overflow: visible; border-bottom: 1px solid var(--line); }
 .curve polyline { fill: none; stroke: currentcolor; stroke-width: 1.5; stroke-linejoin: round; vector-effect: non-scaling-stroke; }
+.curve .in { stroke-width: 4; stroke-opacity: .5; }
 .minute .curve { width: 100%; height: 1.75rem; }
 .wide { overflow-x: auto; }
 table { border-collapse: collapse; min-width: 100%; }
@@ -150,6 +151,7 @@ const plain = it => known(it, String);
 const scaled = n => n < 1e3 ? [Math.floor(n), ''] : n < 1e6 ? [(n / 1e3).toFixed(1), 'k']
   : n < 1e9 ? [(n / 1e6).toFixed(1), 'M'] : [(n / 1e9).toFixed(1), 'G'];
 const rate = it => known(it, n => scaled(n).join('\u00a0') + 'bit/s');
+const bytes = it => known(it, n => scaled(n).join('\u00a0') + 'B');
 const share = it => known(it, n => (100 * n / 256).toFixed(1) + '\u00a0%');
 const trip = it => known(it, n => n.toLocaleString('en') + '\u00a0ms');
 const ago = ms => ms < 10e3 ? (ms / 1e3).toFixed(1) + ' s ago' : ms < 60e3 ? Math.floor(ms / 1e3) + ' s ago'
@@ -253,7 +255,7 @@ const showLegs = table(at('legs'), [
   ['from', '', it => plain(it.publisher)],
   ['to', '', it => plain(it.subscriber)],
   ['packets', '', it => count(it.packets)],
-  ['payload bytes', '', it => count(it.octets)],
+  ['payload', '', it => bytes(it.octets)],
   ['resent', '', it => count(it.resent)],
   ['missed', '', it => count(it.missed)],
   ['next number', '', it => plain(it.next)],

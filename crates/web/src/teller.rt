@@ -19,8 +19,8 @@ use std::alloc::{AllocError, Global};
 /// What a browser may do with the page: it uses the page's own style and script, by their SHA-256, and loads from here alone
 /// (Content Security Policy Level 3).
 const PAGE_POLICY: &str = "default-src 'none'; \
-    style-src 'sha256-5+1xxvbejoe1cwiknSq7pAOjUSEAXCYsCsc+OvvOssU='; \
-    script-src 'sha256-hiqcTfv7y7V53t+lKQtMFwJ59ZUxN2a5g6D6G3l9tp4='; \
+    style-src 'sha256-ZcBuJoUW3muoEoC+yZ8V3qHsmMthRxIu59DtqKiU2r0='; \
+    script-src 'sha256-mgYVgP4fvd9OgZoI8Nc9fGMv3+yT7cbNweu9QpUrqtM='; \
     connect-src 'self'; img-src 'self'; base-uri 'none'; form-action 'none'; frame-ancestors 'none'";
 
 /// What it may do with all else: a picture has a style of its own, and nothing runs or is loaded.
