@@ -1,5 +1,6 @@
 #!/usr/bin/env python3
-"""Tries the edits that no gate tries: edits.py [CRATE ..]; those of every crate in edits/, if none is named.
+"""Tries the edits that no gate tries: edits.py [CRATE ..]; those of every crate in edits/, if none is named. edits.py --look, which .ci/names
+calls, only lists those that don't fit the sources any more.
 
 Each is edits/CRATE/NAME.edit, written as those of crates/CRATE/must-fail are. They are tried in a copy of the tree that this file is in,
 which has links to what is built there, in the place of the gate's own: `rt must-fail CRATE ..` says of each what refused it, and proves
@@ -27,7 +28,33 @@ def put_in(crate, top):
     return {f"{crate}/{it}" for it in os.listdir(theirs)}
 
 
+def misfits():
+    """Yields each edit whose old lines don't stand once in the file that it names, after those before them gave way."""
+    for crate in sorted(os.listdir(f"{HERE}/edits")):
+        for name in sorted(os.listdir(f"{HERE}/edits/{crate}")):
+            texts, path, old = {}, "", ""
+            with open(f"{HERE}/edits/{crate}/{name}", encoding="utf-8") as it:
+                lines = it.read().splitlines()
+            for kind, _, text in (line.partition(": ") for line in lines):
+                if kind == "file":
+                    path = f"{TOP}/crates/{crate}/{text}"
+                    if path not in texts and os.path.isfile(path):
+                        with open(path, encoding="utf-8") as it:
+                            texts[path] = it.read()
+                elif kind == "old":
+                    old = text
+                elif kind == "new":
+                    if texts.get(path, "").count(old) != 1:
+                        yield f"bench/wrong_bodies/edits/{crate}/{name}: its old line doesn't stand once in crates/{crate}"
+                        break
+                    texts[path] = texts[path].replace(old, text)
+
+
 def main(*crates):
+    if crates == ("--look",):
+        found = list(misfits())
+        print("".join(f"{it}\n" for it in found), end="")
+        return 1 if found else 0
     crates = crates or sorted(os.listdir(f"{HERE}/edits"))
     for crate in crates:
         if not os.path.isdir(f"{HERE}/edits/{crate}") or not os.path.isdir(f"{TOP}/crates/{crate}"):
