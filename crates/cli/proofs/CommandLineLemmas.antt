@@ -8,7 +8,7 @@ use Rattle.std.proofs.lemmas.Int.{ints}
 use Rattle.std.proofs.lemmas.Str.Parse.{digit_from_value}
 use Rattle.clap.specs.Lexer.{strip_byte}
 use Rattle.clap.specs.Matches.{ReadsOne}
-use Rattle.clap.specs.Words.{App, HasKind, HasMatchesOf, IsAmong, Kinds, Row, Text, fault_of, first_value, is_simple_and_free, kind_of, rows_of, subcommand_of, subcommand_rows_of}
+use Rattle.clap.specs.Words.{App, HasKind, HasMatchesOf, IsAmong, Kinds, Row, Text, fault_of, first_value, is_simple_and_free, kind_of, matched_of, raw_values, rows_of, subcommand_of, subcommand_rows_of}
 use Rattle.clap.specs.declared.error.Error.{Error}
 use Rattle.clap.specs.declared.error.kind.ErrorKind.{ErrorKind}
 use Rattle.clap.specs.declared.error.kind.ErrorKind.TheVariants as kind
@@ -20,13 +20,13 @@ use Rattle.clap.specs.declared.builder.value_parser.Reading.TheVariants.{Without
 use Rattle.clap.specs.ValueTests.{accepts, is_numeral}
 use Rattle.clap.proofs.ValueTestLemmas.{Accepts-accepts}
 use Rattle.clap.proofs.OnLiterals.{clap_on_literals}
-use Rattle.clap.proofs.WalkLemmas.{both, first_value-rows}
+use Rattle.clap.proofs.WalkLemmas.{both, first_value-rows, raw_values-rows}
 use Rattle.clap.specs.declared.builder.ValueParser.{ValueParser}
 use Rattle.clap.specs.declared.builder.ValueParser.TheVariants as vp
 use Rattle.std.proofs.lemmas.Fmt.{decimal_is_IsNumeral}
 use Rattle.request_text.specs.Words.{number_under}
 use Rattle.request_text.proofs.DigitLemmas.{digits_back, digits_from}
-use Rattle.cli.specs.CommandLine.{Request, Types, asked_for, asked_with, bound, has_version, is_set, is_version, is_yes, number_of, request_found, sfu, version}
+use Rattle.cli.specs.CommandLine.{Request, Types, ask, asked_for, asked_named, asked_with, bound, check, has_version, is_set, is_version, is_yes, moment_in, number_in, number_of, page, plain_named, record_with, replay, request_found, sdp, serve, serve_named, sfu, version, words_in}
 
 -- ---- reading a number
 
@@ -101,6 +101,58 @@ bound_free name d ds e p = rw (e, no_hyphen d ds e, p) refl
 pub set_read : (f : Found) (id : Text) (text : Option Text) → text ≡ first_value f id → is_yes text ≡ is_set id (rows_of f)
 set_read f id text is = ap is_yes (is ∙ first_value-rows f id)
 
+-- what the typed getters find
+pub asked_check : (f : Found) (file : Option Text) → file ≡ first_value f (codes "FILE")
+    → option_map check file ≡ plain_named (codes "check") (rows_of f)
+asked_check f file is = ap (option_map check) (is ∙ first_value-rows f (codes "FILE"))
+
+pub asked_replay : (f : Found) (file : Option Text) (leg endpoint from : Option ℕ) (events : Bool) → file ≡ first_value f (codes "FILE")
+    → leg ≡ number_in (codes "only-leg") (rows_of f) → endpoint ≡ number_in (codes "only-endpoint") (rows_of f)
+    → from ≡ moment_in (codes "from") (rows_of f) → events ≡ is_set (codes "events") (rows_of f)
+    → option_map (λ t. replay t leg endpoint from events) file ≡ plain_named (codes "replay") (rows_of f)
+asked_replay f file leg endpoint from events is at_leg at_endpoint at_from at_events =
+    rw (at_leg, at_endpoint, at_from, at_events)
+    (ap (option_map (λ t. replay t (number_in (codes "only-leg") (rows_of f)) (number_in (codes "only-endpoint") (rows_of f))
+    (moment_in (codes "from") (rows_of f)) (is_set (codes "events") (rows_of f))))
+    (is ∙ first_value-rows f (codes "FILE")))
+
+pub asked_page : (f : Found) (path address : Option Text) (anyone : Bool) (host : Option Text) → path ≡ first_value f (codes "PATH")
+    → address ≡ first_value f (codes "ADDRESS") → anyone ≡ is_set (codes "anyone") (rows_of f) → host ≡ first_value f (codes "host")
+    → option_and_then (λ p. option_map (λ a. page p a anyone host) address) path ≡ plain_named (codes "page") (rows_of f)
+asked_page f path address anyone host at_path at_address at_anyone at_host =
+    let path_is = at_path ∙ first_value-rows f (codes "PATH") in
+    let address_is = at_address ∙ first_value-rows f (codes "ADDRESS") in
+    let host_is = at_host ∙ first_value-rows f (codes "host") in
+    rw (path_is, address_is, at_anyone, host_is) refl
+
+pub asked_serve : (f : Found) (recorded : Option (Option (Text × Option ℕ))) (path : Option Text) (limit : Option ℕ) (file : Option Text)
+    (ticks status : Option ℕ) (control : Option Text) (log_time : Bool) → recorded ≡ record_with path limit → path ≡ first_value f (codes "record")
+    → limit ≡ moment_in (codes "record-limit") (rows_of f) → file ≡ first_value f (codes "FILE")
+    → ticks ≡ number_in (codes "ticks") (rows_of f) → status ≡ number_in (codes "status") (rows_of f)
+    → control ≡ first_value f (codes "control") → log_time ≡ is_set (codes "log-time") (rows_of f)
+    → option_and_then (λ r. option_map (λ t. serve t ticks status control r log_time) file) recorded ≡ serve_named (rows_of f)
+asked_serve f recorded path limit file ticks status control log_time at_record at_path at_limit at_file at_ticks at_status at_control at_time =
+    let path_is = at_path ∙ first_value-rows f (codes "record") in
+    let file_is = at_file ∙ first_value-rows f (codes "FILE") in
+    let control_is = at_control ∙ first_value-rows f (codes "control") in
+    rw (at_record, path_is, at_limit, file_is, at_ticks, at_status, control_is, at_time) refl
+
+pub words_read : (f : Found) (id : Text) (words : Option (List Text)) → words ≡ option_map raw_values (matched_of f id)
+    → unwrap_or words [] ≡ words_in id (rows_of f)
+words_read f id words is = ap (λ (o : Option (List Text)). unwrap_or o []) (is ∙ raw_values-rows f id)
+
+pub asked_ask : (f : Found) (path : Option Text) (words : List Text) → path ≡ first_value f (codes "PATH")
+    → words ≡ words_in (codes "WORD") (rows_of f) → option_map (λ p. ask p words) path ≡ asked_named (codes "ask") (rows_of f)
+asked_ask f path words at_path at_words =
+    let path_is = at_path ∙ first_value-rows f (codes "PATH") in
+    rw (path_is, at_words) refl
+
+pub asked_sdp : (f : Found) (file : Option Text) (endpoints : List Text) → file ≡ first_value f (codes "FILE")
+    → endpoints ≡ words_in (codes "ENDPOINT") (rows_of f) → option_map (λ t. sdp t endpoints) file ≡ asked_named (codes "sdp") (rows_of f)
+asked_sdp f file endpoints at_file at_endpoints =
+    let file_is = at_file ∙ first_value-rows f (codes "FILE") in
+    rw (file_is, at_endpoints) refl
+
 -- ---- numerals
 
 record IsNumber (number : Text) (n : ℕ) : Type 0 where
@@ -156,14 +208,14 @@ asked_as_found a words m asked is free found read =
     let rows = subst (λ (b : App). HasMatchesOf b words m) is found refl in
     ap (λ (k : Kinds). asked_with k (subcommand_of sfu words)) none ∙ ap request_found (sym rows.1) ∙ sym read
 
+or_later : (a b : Bool) → b ≡ true → (a || b) ≡ true
+or_later true b e = refl
+or_later false b e = e
+
 among_version : (k : ErrorKind) (ks : Kinds) → IsAmong k ks → k ≡ kind.DisplayVersion → has_version ks ≡ true
 among_version k [] among is = absurd among
 among_version k (x ∷ xs) (inl here) is = rw (sym here ∙ is) refl
-among_version k (x ∷ xs) (inr later) is = go (is_version x)
-  where
-    go : (b : Bool) → (b || has_version xs) ≡ true
-    go true = refl
-    go false = among_version k xs later is
+among_version k (x ∷ xs) (inr later) is = or_later (is_version x) (has_version xs) (among_version k xs later is)
 
 with_version : (kinds : Kinds) (found : Option (Text × List Row)) → has_version kinds ≡ true → asked_with kinds found ≡ Some version
 with_version [] found has = cc

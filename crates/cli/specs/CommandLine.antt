@@ -65,6 +65,7 @@ number_to_rule name most = record (new_rule name) {
 abbrev pub moment_rule : Text → ℕ → Rule
 moment_rule name least = record (new_rule name) {
   long = Some name;
+  value_names = 1;
   parser = Some (Unsigned least 18446744073709551615);
   action = Some Set;
 }
@@ -75,7 +76,7 @@ flag_rule name = record (new_rule name) { long = Some name; action = Some SetTru
 
 -- an option with a word
 abbrev pub word_rule : Text → Rule
-word_rule name = record (new_rule name) { long = Some name; action = Some Set }
+word_rule name = record (new_rule name) { long = Some name; value_names = 1; action = Some Set }
 
 abbrev pub choosing_app : App
 choosing_app =

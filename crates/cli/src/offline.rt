@@ -25,7 +25,7 @@ pub fn run_offline<R: AllocGlobal + Files, I: Read, O: Write, E: Write>(
     writer: &mut O,
     errors: &mut E,
 ) -> Status
-    ensures ends { EndsOffline what (I.remaining reader.old) (O.contents writer.old)
+    ensures ends { EndsOffline what.entry (I.remaining reader.old) (O.contents writer.old)
         (O.contents writer.new) (E.contents errors.old) (E.contents errors.new) result }
     ensures understood { (result ≢ Status.CommandLine) × (result ≢ Status.Settings) }
     ensures said { SaysWhy (E.contents errors.old) (E.contents errors.new) result }

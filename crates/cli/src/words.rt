@@ -3,7 +3,7 @@
 ghost use Rattle.std.specs.Prelude.{◌≡◌, ◌≢◌, ◌<◌, IfErr, IfOk, MatchResult, Some, codes, false, map, option_map, true};
 ghost use Rattle.clap.specs.Words.{app_of, found_of, kind_of, rows_of, rule_of, subcommand_rows_of};
 ghost use Rattle.cli.specs.CommandLine.{HasNoGlobals, Request, Types, action_request, ask_app, asked_for, asked_named, bound, choosing_app, counted_app, file_app, flag_rule, is_set, moment_in, moment_rule, number_in, number_rule, number_to_rule, optional_rule, page_app, plain_named, recorded_app, replay_app, request_found, required_rule, sdp_app, sender_app, serve_app, serve_named, sfu, sfu_first, sfu_second, sfu_top, version, word_rule, words_in, words_rule};
-ghost use Rattle.cli.specs.CommandLine.{record_of};
+ghost use Rattle.cli.specs.CommandLine.{record_of, record_with};
 
 use crate::version::VERSION;
 use clap::builder::ValueParser;
@@ -158,15 +158,29 @@ pub fn read_words<'a, S: AsStr>(alloc: Global, words: &'a [S]) -> Result<Action<
 {
     let mut command = command(alloc)?;
     match command.try_get_matches_from_mut(words) {
-        Ok(matches) => match action_in(alloc, &matches)? {
-            Some(action) => Ok(action),
-            // (all else that an action needs is required by the command line itself)
-            None => Err(command.error(
-                ErrorKind::MissingRequiredArgument,
-                "--record-limit is of no use without --record",
-            )?),
-        },
+        Ok(matches) => found_in(alloc, &mut command, &matches),
         Err(error) => version_or(error),
+    }
+}
+
+/// The action that there is in the matches, or why there is none.
+fn found_in<'a>(
+    alloc: Global,
+    command: &mut Command<'a>,
+    matches: &ArgMatches<'a>,
+) -> Result<Action<'a>, Error>
+    ensures asked { IfOk result (λ action. request_found (subcommand_rows_of matches.now)
+        ≡ Some (action_request action)) }
+    ensures refused { (asked : Request) → request_found (subcommand_rows_of matches.now) ≡ Some asked
+        → IfErr result (λ e. kind_of e ≡ ErrorKind.OutOfMemory) }
+{
+    match action_in(alloc, matches)? {
+        Some(action) => Ok(action),
+        // (all else that an action needs is required by the command line itself)
+        None => Err(command.error(
+            ErrorKind::MissingRequiredArgument,
+            "--record-limit is of no use without --record",
+        )?),
     }
 }
 
@@ -258,7 +272,7 @@ fn replay_command<'a>(alloc: Global) -> Result<Command<'a>, AllocError>
     ensures local { IfOk result HasNoGlobals }
 {
     choosing_command(alloc)?
-        .arg(moment(alloc, "from", FROM_HELP, 0))?
+        .arg(moment(alloc, "from", "MS", FROM_HELP, 0))?
         .arg(flag(alloc, "events", EVENTS_HELP))
 }
 
@@ -288,7 +302,7 @@ fn recorded_command<'a>(alloc: Global) -> Result<Command<'a>, AllocError>
     counted_command(alloc)?
         .arg(optional_word(alloc, "control", "PATH", CONTROL_HELP))?
         .arg(optional_word(alloc, "record", "PATH", RECORD_HELP))?
-        .arg(moment(alloc, "record-limit", RECORD_LIMIT_HELP, 1).value_name("BYTES"))
+        .arg(moment(alloc, "record-limit", "BYTES", RECORD_LIMIT_HELP, 1))
 }
 
 /// `serve FILE`, with how many turns, and how many seconds between lines of counts.
@@ -396,13 +410,14 @@ fn number_to<'a>(alloc: Global, name: &'a str, help: &'a str, most: i64) -> Arg<
         .action(ArgAction::Set)
 }
 
-/// An option with a number of 64 bits, from `least` on; the help says this about it.
-fn moment<'a>(alloc: Global, name: &'a str, help: &'a str, least: u64) -> Arg<'a>
+/// An option with a number of 64 bits, from `least` on, which the help calls so; it says this about it.
+fn moment<'a>(alloc: Global, name: &'a str, word: &'a str, help: &'a str, least: u64) -> Arg<'a>
     ensures rule { rule_of result ≡ moment_rule name.entry.now least }
     ensures local { result.global ≡ false }
 {
     Arg::new(alloc, name)
         .long(name)
+        .value_name(word)
         .help(help)
         .value_parser(ValueParser::Unsigned(least, u64::MAX))
         .action(ArgAction::Set)
@@ -507,26 +522,27 @@ fn serve_named<'a>(matches: &ArgMatches<'a>) -> Option<Action<'a>>
 {
     let path = matches.get_str("record");
     let limit = moment_in(matches, "record-limit");
-    if path.is_none() && limit.is_some() {
-        return None;
-    }
+    let record = record_with(path, limit)?;
     Some(Action::Serve {
         file: matches.get_str("FILE")?,
         ticks: number_in(matches, "ticks"),
         status: number_in(matches, "status"),
         control: matches.get_str("control"),
-        record: record_at(path, limit),
+        record,
         log_time: is_set(matches, "log-time"),
     })
 }
 
-/// The record at a path, if there is one.
-fn record_at(path: Option<&str>, limit: Option<u64>) -> Option<Record<'_>>
-    ensures { option_map record_of result
-        ≡ option_map (λ path. (path.now, limit)) path.entry }
+/// The record at a path, if there is one; `None` if there is a limit alone.
+fn record_with(path: Option<&str>, limit: Option<u64>) -> Option<Option<Record<'_>>>
+    ensures { option_map (option_map record_of) result
+        ≡ record_with (option_map (λ path. path.now) path.entry) limit }
 {
-    let path = path?;
-    Some(Record { path, limit })
+    match (path, limit) {
+        (Some(path), limit) => Some(Some(Record { path, limit })),
+        (None, None) => Some(None),
+        (None, Some(_)) => None,
+    }
 }
 
 /// The words that there are for this.
