@@ -2,14 +2,12 @@
 use Rattle.std.proofs.Common.{◌≡◌, ◌∙◌, ℕ, ◌+◌, ◌<◌, ◌≤◌, Bool, true, false, inl, inr, List, [], ◌∷◌, ◌++◌, get_or, length, map, take, refl, sym, ap, subst, arith, append_assoc, append-nil, length-append, Option}
 use Rattle.std.proofs.lemmas.Grind.{flat_map-append}
 use Rattle.std.proofs.lemmas.List.{map-append, take_more}
-use Rattle.std.specs.Prelude.{MatchResult, Result, Ok, Err, OnErr}
+use Rattle.std.specs.Prelude.{Result, Ok, Err, OnErr}
 use Rattle.events.specs.declared.event.Event.{Event}
 use Rattle.events.specs.declared.output.Out.{Out}
 use Rattle.outside.specs.declared.datagram.Datagram.{Datagram}
-use Rattle.outside.specs.declared.source.ReceiveFault.{ReceiveFault}
-use Rattle.outside.specs.declared.source.Received.{Received}
 use Rattle.outside.specs.declared.source.TheConstants.{MAX_FAULTS}
-use Rattle.outside.specs.Outside.{Arrival, came, chosen, stop, silence, failure, arrival_in, arrival_of, is_stop, Grows, SinkView, datagram_in, datagrams_of}
+use Rattle.outside.specs.Outside.{Arrival, came, chosen, stop, silence, failure, is_stop, Grows, SinkView, datagram_in, datagrams_of}
 use Rattle.outside.specs.Ticks.{TicksState, ticks_after}
 use Rattle.outside.proofs.GrowsLemmas.{grows_more, grows_nothing}
 use Rattle.core_steps.specs.Waits.{as_counted}
@@ -205,13 +203,6 @@ given_more outs i o a b c d e f within before is one =
     subst (λ (l : List Out). SendsCounted l a c d f) (sym all) (counted_more (take i outs) (o ∷ []) a b c d e f before one)
 
 -- ---- a turn
-
--- a receive that failed gave no stop
-pub stops_by : (received : Result Received ReceiveFault) (stops : Bool)
-    → MatchResult received (λ r. (buffer : List ℕ) → stops ≡ is_stop (arrival_in buffer r)) (λ _. stops ≡ false)
-    → (buffer : List ℕ) → stops ≡ is_stop (arrival_of buffer received)
-stops_by (Ok r) stops is buffer = is buffer
-stops_by (Err fault) stops is buffer = is
 
 pub turn_made : (ticks next : TicksState) (faults next_faults : ℕ) (stopped : Bool) (old new : WorldState) (g h : Option (List Arrival))
     (t u : Option (List ℕ)) (s v : SinkView) (former mid tally : Tally) (arrival : Arrival) (moment : ℕ) (before outs : List Out)

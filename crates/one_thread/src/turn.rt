@@ -3,7 +3,7 @@
 ghost use Rattle.std.specs.Prelude.{◌≡◌, ◌<◌, ◌∷◌, ◌++◌, [], List, ℕ, length, slice_get, None, Some, MatchOption, IfOk, OnOk, OnErr};
 ghost use Rattle.events.specs.declared.event.Event.TheVariants.{Select};
 ghost use Rattle.events.specs.declared.output.Out.TheVariants.{Send};
-ghost use Rattle.outside.specs.Outside.{FitsIn, arrival_of};
+ghost use Rattle.outside.specs.Outside.{FitsIn, arrival_of, is_stop};
 ghost use Rattle.outside.specs.Ticks.{ticks_after};
 ghost use Rattle.outside.specs.declared.source.TheConstants.{MAX_FAULTS};
 ghost use Rattle.one_thread.specs.Driving.{Drives, DrivesSome, DrivesBoth, IsIdle};
@@ -108,6 +108,18 @@ fn heard_with(heard: u64, received: Receipt) -> u64
     match received {
         Ok(Received::Datagram { .. }) => heard.saturating_add(1),
         Ok(Received::Nothing | Received::Select { .. } | Received::Stop) | Err(_) => heard,
+    }
+}
+
+/// Whether the run ends with this turn.
+fn is_stop(received: Receipt) -> bool
+    ensures { (buffer : List ℕ) → result ≡ is_stop (arrival_of buffer received) }
+{
+    match received {
+        Ok(Received::Stop) => true,
+        Ok(Received::Nothing | Received::Datagram { .. } | Received::Select { .. }) | Err(_) => {
+            false
+        }
     }
 }
 
@@ -308,7 +320,7 @@ pub(crate) fn turn<Src: Source, Snk: Sink, Clk: Clock, W: Watch>(
     let endpoint = who_came(received);
     let origin = Origin { endpoint, before };
     engine.faults = faults_with(engine.faults, received);
-    engine.is_stopped = received.is_ok_and(Received::is_stop);
+    engine.is_stopped = is_stop(received);
     engine.tally.heard = heard_with(engine.tally.heard, received);
     give_all(engine.outs.as_slice(), origin, sink, &mut engine.tally);
     engine.world.take_back(&mut engine.outs);

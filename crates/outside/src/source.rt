@@ -64,7 +64,8 @@ pub trait Source {
 
 /// Writes the bytes of a datagram to the beginning of `out`, and says how many; `None` if there is no room, and then nothing is written.
 pub fn written(bytes: &[u8], out: &mut [u8]) -> Option<usize>
-    ensures none { IfNone result ((out.new ≡ out.old) × (length out.old < length bytes.now)) }
+    ensures none { IfNone result (length out.old < length bytes.now) }
+    ensures unchanged { IfNone result (out.new ≡ out.old) }
     ensures within { IfSome result (λ written. written ≤ length out.new) }
     ensures size { IfSome result (λ written. written ≡ length bytes.now) }
     ensures bytes { IfSome result (λ written. take written out.new ≡ bytes.now) }

@@ -7,7 +7,7 @@ use Rattle.outside.specs.Outside.{Grows, arrival_of}
 use Rattle.one_thread.specs.declared.tally.Tally.{Tally}
 use Rattle.one_thread.specs.Driving.{Drives}
 use Rattle.one_thread.specs.Turns.{SendsCounted, brought_at, tick_at}
-use Rattle.one_thread.proofs.TurnLemmas.{on_err_of, stops_by, turn_broken, turn_made}
+use Rattle.one_thread.proofs.TurnLemmas.{on_err_of, turn_broken, turn_made}
 use Rattle.one_thread.proofs.turn.turn.Goals as goal
 
 pub returns-in_err-before-clause-err : goal.returns-in_err-before-clause-err
@@ -42,12 +42,12 @@ returns-clause-ok g c =
     ++ tick_at c.args.engine.now.ticks c.moment-moment.result in
     let driven = subst (λ (w : WorldState). Drives events c.args.engine.now.world c.args.engine.now.outs.items w c.take_turn.new.outs.items)
     (sym c.take_back.ensures.world) c.in_ok-before.ensures.ok in
-    turn_made c.args.engine.now.ticks c.take_turn.new.ticks c.args.engine.now.faults c.faults_with-engine.result c.is_ok_and-engine.result c.args.engine.now.world
+    turn_made c.args.engine.now.ticks c.take_turn.new.ticks c.args.engine.now.faults c.faults_with-engine.result c.is_stop-engine.result c.args.engine.now.world
     c.take_back.new.self (g.Src.Source.given c.args.source.now) (g.Src.Source.given c.receive-received.new.self)
     (g.Clk.Clock.told c.args.clock.now) (g.Clk.Clock.told c.moment-moment.new.self) (g.Snk.Sink.shown c.args.sink.now)
     (g.Snk.Sink.shown c.give_all.new.sink) c.args.engine.now.tally mid c.give_all.new.tally (arrival_of buffer c.receive-received.result)
     c.moment-moment.result c.args.engine.now.outs.items c.take_turn.new.outs.items c.requires.empty
     (subst P (sym kept) c.receive-received.ensures.given) c.moment-moment.ensures.told driven
-    c.in_ok-before.ensures.noted (c.faults_with-engine.ensures buffer) (stops_by c.receive-received.result c.is_ok_and-engine.result c.is_ok_and-engine.ensures buffer) (c.heard_with-engine.ensures buffer) refl refl
+    c.in_ok-before.ensures.noted (c.faults_with-engine.ensures buffer) (c.is_stop-engine.ensures buffer) (c.heard_with-engine.ensures buffer) refl refl
     (subst (λ (l : List Out). SendsCounted l (g.Snk.Sink.shown c.args.sink.now) (g.Snk.Sink.shown c.give_all.new.sink) mid c.give_all.new.tally)
     c.as_slice-2.ensures.value c.give_all.ensures)
