@@ -22,4 +22,3 @@ pub use house::House;
 pub use ledger::{DeskCalls, SeatCalls};
 pub use receipt::{GatherFault, HouseFault, Receipt};
 pub use seat::DeskSeat;
-
