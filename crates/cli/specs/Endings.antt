@@ -7,7 +7,6 @@ use Rattle.std.specs.declared.io.ErrorKind.{ErrorKind}
 use Rattle.std.specs.declared.io.ErrorKind.TheVariants.{OutOfMemory}
 use Rattle.request_text.specs.declared.fault.LineFault.TheVariants.{Text}
 use Rattle.request_text.specs.BoundText.{refused_text}
-use Rattle.request_text.specs.Lines.{Refused}
 use Rattle.request_text.specs.declared.bound.Refusal.{Refusal}
 use Rattle.request_text.specs.declared.bound.Refusal.TheVariants.{NoMemory as NoMemoryAtAll, Line}
 use Rattle.cli.specs.declared.status.Status.{Status}

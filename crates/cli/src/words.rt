@@ -1,9 +1,8 @@
 //! What the words of a command line ask for.
 
-ghost use Rattle.std.specs.Prelude.{◌≡◌, ◌≢◌, ◌<◌, IfErr, IfOk, MatchResult, Some, codes, false, map, option_map, true};
+ghost use Rattle.std.specs.Prelude.{◌≡◌, ◌≢◌, IfErr, IfOk, Some, false, map, option_map};
 ghost use Rattle.clap.specs.Words.{app_of, found_of, kind_of, rows_of, rule_of, subcommand_rows_of};
-ghost use Rattle.cli.specs.CommandLine.{HasNoGlobals, Request, Types, action_request, ask_app, asked_for, asked_named, bound, choosing_app, counted_app, file_app, flag_rule, is_set, moment_in, moment_rule, number_in, number_rule, number_to_rule, optional_rule, page_app, plain_named, recorded_app, replay_app, request_found, required_rule, sdp_app, sender_app, serve_app, serve_named, sfu, sfu_first, sfu_second, sfu_top, version, word_rule, words_in, words_rule};
-ghost use Rattle.cli.specs.CommandLine.{record_of, record_with};
+ghost use Rattle.cli.specs.CommandLine.{HasNoGlobals, Request, Types, action_request, ask_app, asked_for, asked_named, bound, choosing_app, counted_app, file_app, flag_rule, is_set, moment_in, moment_rule, number_in, number_rule, number_to_rule, optional_rule, page_app, plain_named, record_of, record_with, recorded_app, replay_app, request_found, required_rule, sdp_app, sender_app, serve_app, serve_named, sfu, sfu_first, sfu_second, sfu_top, version, word_rule, words_in, words_rule};
 
 use crate::version::VERSION;
 use clap::builder::ValueParser;
