@@ -1,5 +1,5 @@
 //! Packets whose bytes are shared, under other sources and sequence numbers.
-use rewrite::{Readdressed, SharedPacket};
+use shared_packet::{Readdressed, SharedPacket};
 use std::process::Abort;
 use std::test::Fail;
 use tmmbr_tuple::Ssrc;

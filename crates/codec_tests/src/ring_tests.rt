@@ -3,7 +3,7 @@ ghost use Rattle.std.specs.Prelude.{◌≤◌};
 
 use bumpalo::Bump;
 use resend_ring::*;
-use rewrite::{Readdressed, SharedPacket};
+use shared_packet::{Readdressed, SharedPacket};
 use std::alloc::{AllocError, Global};
 use std::process::Abort;
 use std::test::Fail;

@@ -205,7 +205,7 @@ impl Conference {
         if !is_idle(&self.world) {
             return Err(EventFault::Busy);
         }
-        self.take(Event::Tick { moment })
+        self.take(Event::Tick(moment))
     }
 
     /// The leg of this number is selected from this moment on, in milliseconds, or not, with all that follows. Refused as `hear` is.
@@ -218,7 +218,7 @@ impl Conference {
         if !is_idle(&self.world) {
             return Err(EventFault::Busy);
         }
-        self.take(Event::Select { moment, leg, on })
+        self.take(Event::Select(moment, leg, on))
     }
 
     /// What waits is done. Refused for want of memory alone: then the first of it was done, and the rest waits.

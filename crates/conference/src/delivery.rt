@@ -20,12 +20,8 @@ fn is_datagram(out: &Out) -> bool
 {
     match out {
         Out::Send { .. } => true,
-        Out::Refused(_)
-        | Out::Busy
-        | Out::Lost(_)
-        | Out::Skip { .. }
-        | Out::Miss { .. }
-        | Out::Idle => false,
+        Out::Refused(_) | Out::Busy | Out::Lost(_) | Out::Skip(..) | Out::Miss(..) | Out::Idle =>
+            false,
     }
 }
 
@@ -38,12 +34,8 @@ fn delivery_in(out: &Out) -> Option<Delivery<'_>>
             endpoint: *endpoint,
             bytes: bytes.as_slice(),
         }),
-        Out::Refused(_)
-        | Out::Busy
-        | Out::Lost(_)
-        | Out::Skip { .. }
-        | Out::Miss { .. }
-        | Out::Idle => None,
+        Out::Refused(_) | Out::Busy | Out::Lost(_) | Out::Skip(..) | Out::Miss(..) | Out::Idle =>
+            None,
     }
 }
 

@@ -29,8 +29,8 @@ use Rattle.intake.specs.Heard.{HearsBy, heard_of, asks_of}
 use Rattle.core_steps.specs.Hearing.{IsHearing, hearing, hearing_by, selecting, selecting_by, ticking, numbers_below, is_served_by, leg_report, refusal_for, task_after, task_for, tasks_after, reports, expires, present_endpoints, is_report_due, refusals_of, jobs_of, receptions}
 use Rattle.intake.specs.Intake.{Said, media, leaves, control, Says, SaysRtp, speaker_of, heeded}
 use Rattle.rtcp_compound.specs.Mux.{is_rtcp}
-use Rattle.rewrite.specs.Rtp.{IsReadAs}
-use Rattle.rewrite.proofs.RtpLemmas.{reads_rtp, number_read, payload_read}
+use Rattle.shared_packet.specs.Rtp.{IsReadAs}
+use Rattle.shared_packet.proofs.RtpLemmas.{reads_rtp, number_read, payload_read}
 use Rattle.core_steps.specs.Machine.{task_of}
 use Rattle.core_steps.specs.Rule.{is_busy}
 use Rattle.core_steps.specs.Run.{Leaves}

@@ -26,7 +26,7 @@ use Rattle.legs.specs.Legs.{new_leg_of, owned_by, new_legs, takes, row_of, stand
 use Rattle.settings.specs.Links.{LinkTable, cname_of, table_of, numbered_legs, worker_of}
 use Rattle.core_steps.specs.Numbered.{Finished, finished_by, jobs_of_worker, finished_at, finished_over, Taken, packets_taken_by, taken_on, incoming_packet, sent_as, sent_on, AtLeg, HasTaken, HasTakenAll, legs_at}
 use Rattle.core_steps.specs.Opening.{IsNewWorld}
-use Rattle.rewrite.specs.Rtp.{sequence_number}
+use Rattle.shared_packet.specs.Rtp.{sequence_number}
 use Rattle.core_steps.specs.Run.{Runs, worlds_after}
 use Rattle.core_steps.specs.World.{WorldState, WorkerState}
 use Rattle.core_steps.proofs.KindLemmas.{IsAt, IsAtOne, kind_of}
@@ -103,10 +103,10 @@ goes_none s now n l m h k = record {
   number = n;
   link = l;
   cname = m;
-  capacity = ap (λ (x : Kept). x.capacity) k;
+  capacity = ap (λ (x : Kept (List ℕ)). x.capacity) k;
   numbers = λ rest. ap (λ (x : Held). held_after x (map incoming_packet rest)) (sym h);
   kept = λ rest. ap (λ (x : Held). kept_in_turn s.kept.capacity s.kept.items (sent_on s.link x rest)) (sym h)
-      ∙ ap (λ (x : Kept). kept_in_turn s.kept.capacity x.items (sent_on s.link now.numbers rest)) (sym k);
+      ∙ ap (λ (x : Kept (List ℕ)). kept_in_turn s.kept.capacity x.items (sent_on s.link now.numbers rest)) (sym k);
 }
 
 -- a packet was
@@ -240,7 +240,7 @@ taken_from_new t ring taken s now new h = record {
   numbers = h.numbers ∙ ap (λ (x : Held). held_after x (map incoming_packet taken)) new.numbers;
   kept = h.kept
       ∙ ap (λ (c : ℕ). kept_in_turn c s.kept.items (sent_on s.link s.numbers taken)) new.capacity
-      ∙ ap (λ (items : List Sent). kept_in_turn ring items (sent_on s.link s.numbers taken)) new.kept
+      ∙ ap (λ (items : List (Sent (List ℕ))). kept_in_turn ring items (sent_on s.link s.numbers taken)) new.kept
       ∙ kept_from_none ring (sent_on s.link s.numbers taken)
       ∙ ap (λ (x : Held). keep_last ring (sent_on s.link x taken)) new.numbers;
 }

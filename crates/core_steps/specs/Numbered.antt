@@ -13,10 +13,10 @@ use Rattle.events.specs.declared.job.Job.{Job}
 use Rattle.events.specs.declared.job.Job.TheVariants.{Packet, Request, Resend, Pli, Report, Goodbye}
 use Rattle.legs.specs.declared.leg.LegState.{LegState}
 use Rattle.core_steps.specs.Happening.{Happening, Worked, no_worker, world_after}
-use Rattle.rewrite.specs.Rtp.{is_rtp, sequence_number}
-use Rattle.rewrite.specs.Readdressed.{readdressed_bytes}
+use Rattle.shared_packet.specs.Rtp.{is_rtp, sequence_number}
+use Rattle.shared_packet.specs.Readdressed.{readdressed_bytes}
 use Rattle.core_steps.specs.World.{WorldState}
-use Rattle.rtp_packet.specs.declared.header.TheConstants.{SEQ_CYCLE}
+use Rattle.rewrite.specs.declared.sequence.TheConstants.{SEQ_CYCLE}
 
 -- ---- the jobs that a worker finished, in order, with the rows by which it did
 
@@ -74,19 +74,19 @@ abbrev pub answers_to : Held → List Taken → List Numbered
 answers_to held taken = history_of held (map incoming_packet taken)
 
 -- a packet that got a number as it goes out: under the leg's source, with the number's low 16 bits
-abbrev pub sent_as : LegSettings → Taken → Result ℕ Cause → List Sent
+abbrev pub sent_as : LegSettings → Taken → Result ℕ Cause → List (Sent (List ℕ))
 sent_as l t (Ok number) =
-    record { number = number; bytes = readdressed_bytes l.out_ssrc.0 (number % SEQ_CYCLE) t.bytes }
+    record { number = number; packet = readdressed_bytes l.out_ssrc.0 (number % SEQ_CYCLE) t.bytes }
     ∷ []
 sent_as l t (Err cause) = []
 
-abbrev pub sent_with : LegSettings → List Taken → List Numbered → List Sent
+abbrev pub sent_with : LegSettings → List Taken → List Numbered → List (Sent (List ℕ))
 sent_with l [] answers = []
 sent_with l (t ∷ taken) [] = []
 sent_with l (t ∷ taken) (a ∷ answers) = sent_as l t a.answer ++ sent_with l taken answers
 
 -- those that got a number, in turn
-abbrev pub sent_on : LegSettings → Held → List Taken → List Sent
+abbrev pub sent_on : LegSettings → Held → List Taken → List (Sent (List ℕ))
 sent_on l held taken = sent_with l taken (answers_to held taken)
 
 -- this holds of the leg at this place, which is there

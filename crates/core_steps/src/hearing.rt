@@ -9,7 +9,7 @@ ghost use Rattle.core_steps.specs.Machine.{alone};
 ghost use Rattle.notices.specs.DeskCalls.{source_of};
 ghost use Rattle.core_steps.specs.FollowUps.{room_with_report};
 ghost use Rattle.core_steps.specs.Hearing.{IsHearing, hearing, selecting};
-ghost use Rattle.rewrite.specs.Rtp.{IsReadAs};
+ghost use Rattle.shared_packet.specs.Rtp.{IsReadAs};
 ghost use Rattle.intake.specs.Intake.{media as Packet, leaves as Leaving, control as Controls};
 ghost use Rattle.core_steps.specs.Rule.{is_busy};
 ghost use Rattle.core_steps.specs.Run.{Stays};
@@ -21,8 +21,8 @@ use crate::order_follow_ups::push_after;
 use events::{Out, Refusal};
 use intake::{Control, Heard, Unheard, hear_datagram};
 use members::Room;
-use rewrite::Reading;
 use settings::{Links, RoomFault};
+use shared_packet::Reading;
 use std::alloc::AllocError;
 use tmmbr_tuple::Ssrc;
 

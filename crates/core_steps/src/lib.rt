@@ -33,9 +33,9 @@ pub use notices::{
     Asks, Head, Notification, Question, asked_by, notification_of, notify, picture_call, stay_call,
     tells_each_change, waiting,
 };
-pub use rewrite::rtp_laws;
 pub use ring::JOB_LIMIT;
 pub use rtcp_feedback::entries_of;
 pub use runner::{hear, run};
 pub use settings::Links;
+pub use shared_packet::laws as rtp_laws;
 pub use world::{Waiting, World};

@@ -90,18 +90,16 @@ fn step(m: &mut Machine, event: &Event, outs: &mut Vec<Out>) -> Result<(), Alloc
     match event {
         Event::Ingress => do_next(m, outs),
         Event::Work(worker) => work(m, *worker, outs),
-        Event::Hear {
-            moment,
-            endpoint,
-            bytes,
-        } => { hear_or_busy(m, *moment, *endpoint, bytes.as_slice(), outs) }
-        Event::Tick { moment } => {
+        Event::Hear(moment, endpoint, bytes) => {
+            hear_or_busy(m, *moment, *endpoint, bytes.as_slice(), outs)
+        }
+        Event::Tick(moment) => {
             if m.is_busy() {
                 return busy(&m.front, outs);
             }
             tick(&mut m.front, *moment)
         }
-        Event::Select { moment, leg, on } => {
+        Event::Select(moment, leg, on) => {
             if m.is_busy() {
                 return busy(&m.front, outs);
             }

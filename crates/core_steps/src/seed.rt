@@ -44,7 +44,7 @@ pub(crate) fn job_of(datagram: &SharedPacket, seed: Seed) -> Result<Job, AllocEr
     Ok(match seed {
         Seed::Packet { publisher } => Job::Packet {
             publisher,
-            packet: datagram.share()?,
+            bytes: datagram.share()?,
         },
         Seed::Request { leg, stay, word } => Job::Request { leg, stay, word },
         Seed::Resend { leg, stay, nack } => Job::Resend { leg, stay, nack },

@@ -4,7 +4,7 @@ use crate::seed::Seed;
 use events::SharedPacket;
 use legs::Plan;
 use members::Order;
-use rewrite::Reading;
+use shared_packet::Reading;
 use std::alloc::{AllocError, Global};
 use std::mem;
 
@@ -47,7 +47,7 @@ impl Tasks {
     ghost use Rattle.std.specs.Prelude.{◌≡◌, ◌+◌, ◌^◌, ◌<◌, ◌≤◌, [], ◌∷◌, length, drop, MatchOption, OnOk, vec_len, vec_capacity};
     ghost use Rattle.core_steps.specs.Machine.{tasks_of, task_in};
     ghost use Rattle.core_steps.specs.Rule.{is_empty};
-    ghost use Rattle.rewrite.specs.Rtp.{IsReadAs};
+    ghost use Rattle.shared_packet.specs.Rtp.{IsReadAs};
 
     /// Nothing waits.
     pub(crate) fn new(alloc: Global) -> Tasks

@@ -32,7 +32,9 @@ pub(crate) fn tick(front: &mut Front, moment: u64) -> Result<(), AllocError>
     let legs = front.setup.links.legs().len();
     let most = front.room.most_orders() + 3 * usize::from(endpoints) + legs;
     front.tasks.prepare(most)?;
-    front.room.tick(moment, &mut front.tasks.orders)?;
+    front
+        .room
+        .tick_or_no_memory(moment, &mut front.tasks.orders)?;
     push_after(
         &front.setup,
         &front.room,

@@ -1,7 +1,7 @@
 //! What a worker is given to do.
 
-use rewrite::SharedPacket;
 use rtcp_feedback::Nack;
+use shared_packet::SharedPacket;
 
 /// A job of a worker. Stays are numbered from 1; a job that names a leg, a publisher or a stay that isn't there does
 /// nothing.
@@ -10,7 +10,7 @@ pub enum Job {
     /// An RTP datagram of this publisher: it goes to each leg of it that the worker owns and whose row is on.
     Packet {
         publisher: u16,
-        packet: SharedPacket,
+        bytes: SharedPacket,
     },
     /// The subscriber of the leg asks for this word in this stay (RFC 5104, section 4.2.1).
     Request {

@@ -13,5 +13,5 @@ pub use bytes::Bytes;
 pub use event::Event;
 pub use job::Job;
 pub use output::{DeskRefusal, Out, Refusal};
-pub use rewrite::SharedPacket;
 pub use run_fault::RunFault;
+pub use shared_packet::SharedPacket;

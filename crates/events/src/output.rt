@@ -18,10 +18,10 @@ pub enum Out {
     Busy,
     /// The ring of this worker was full: its job is given up.
     Lost(u16),
-    /// A packet isn't sent on this leg.
-    Skip { leg: u16, skip: Skip },
-    /// A packet that is wanted again on this leg isn't kept any more.
-    Miss { leg: u16, seq: u16 },
+    /// A packet isn't sent on this leg, and why.
+    Skip(u16, Skip),
+    /// The packet with this sequence number is wanted again on this leg, and isn't kept any more.
+    Miss(u16, u16),
     /// There was nothing to do.
     Idle,
 }

@@ -30,11 +30,11 @@ fn give<S: Sink>(out: &Out, sink: &mut S, done: &mut Forwarded)
 {
     match out {
         Out::Send { endpoint, bytes } => hand_over(sink, *endpoint, bytes.as_slice(), done),
-        Out::Skip { leg, .. } => {
+        Out::Skip(leg, _) => {
             sink.skipped(*leg);
             done.skipped += 1;
         }
-        Out::Miss { leg, .. } => {
+        Out::Miss(leg, _) => {
             sink.missed(*leg);
             done.missed += 1;
         }

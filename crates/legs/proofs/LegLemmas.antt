@@ -25,7 +25,7 @@ use Rattle.settings.specs.Links.{LinkTable, IsLinkTable, worker_of}
 use Rattle.settings.specs.Places.{Sources}
 use Rattle.legs.specs.Plan.{changed_at, changed_by, applied_one, legs_after_plan}
 use Rattle.legs.specs.Planning.{packet_planned, resends, sent_alone, leg_plan, job_plan, plan_by, plan_of, publisher_places, leg_place, ListsPlaces, FindsPlaces, IsRising, AreFound, HasNoNumber, IsNowhere, IsNumbered, IsStandingAt}
-use Rattle.rewrite.specs.Rtp.{is_rtp, sequence_number}
+use Rattle.shared_packet.specs.Rtp.{is_rtp, sequence_number}
 use Rattle.legs.proofs.PlanLemmas.{at_behind}
 
 -- ---- tests

@@ -131,7 +131,7 @@ resends_applied front n s t rest (seq ∷ numbers) e same =
     let r = last_kept_with s.kept.items seq in
     let here : applied_one (front ++ t ∷ rest) (resend_planned n s seq r) ≡ front ++ resent t r ∷ rest =
     again_applied front n seq s t rest r e in
-    let found : r ≡ last_kept_with t.kept.items seq = ap (λ (k : Kept). last_kept_with k.items seq) (sym same) in
+    let found : r ≡ last_kept_with t.kept.items seq = ap (λ (k : Kept (List ℕ)). last_kept_with k.items seq) (sym same) in
     let more = resends_applied front n s (resent t r) rest numbers e (kept_same t r ∙ same) in
     ap (λ (l : List LegState). legs_after_plan l (resends n s numbers)) here ∙ more
     ∙ ap (λ (o : Option (List ℕ)). front ++ fold (λ u q. resent u (last_kept_with u.kept.items q)) (resent t o) numbers ∷ rest) found

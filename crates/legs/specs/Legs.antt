@@ -17,9 +17,9 @@ use Rattle.legs.specs.declared.leg.LegState.{LegState}
 use Rattle.events.specs.declared.output.Out.{Out}
 use Rattle.events.specs.declared.output.Out.TheVariants.{Send, Skip, Miss}
 use Rattle.settings.specs.Links.{LinkTable, cname_of, numbered_legs, worker_of}
-use Rattle.rewrite.specs.Rtp.{is_rtp, sequence_number, payload_octets}
-use Rattle.rewrite.specs.Readdressed.{readdressed_bytes}
-use Rattle.rtp_packet.specs.declared.header.TheConstants.{SEQ_CYCLE}
+use Rattle.shared_packet.specs.Rtp.{is_rtp, sequence_number, payload_octets}
+use Rattle.shared_packet.specs.Readdressed.{readdressed_bytes}
+use Rattle.rewrite.specs.declared.sequence.TheConstants.{SEQ_CYCLE}
 
 -- ---- new legs
 
@@ -59,11 +59,11 @@ abbrev pub handed_out : LegState → ℕ → LegState
 handed_out s more =
     record s { packets = (s.packets + 1) % 2 ^ 32; octets = (s.octets + more) % 2 ^ 32 }
 
-abbrev pub kept_with : Kept → ℕ → List ℕ → Kept
+abbrev pub kept_with : Kept (List ℕ) → ℕ → List ℕ → Kept (List ℕ)
 kept_with k number bytes =
     record k {
       items = keep_last k.capacity
-          (k.items ++ record { number = number; bytes = bytes } ∷ []);
+          (k.items ++ record { number = number; packet = bytes } ∷ []);
     }
 
 -- a packet went out under a number, was kept, and counts

@@ -16,7 +16,7 @@ use Rattle.legs.specs.declared.plan.Change.TheVariants.{Nothing, Keep, Count}
 use Rattle.events.specs.declared.output.Out.TheVariants.{Send, Skip, Miss}
 use Rattle.legs.specs.Legs.{takes, stands, row_of, answer_on, outgoing_bytes, leg_report_bytes, leg_goodbye_bytes}
 use Rattle.settings.specs.Places.{Sources}
-use Rattle.rewrite.specs.Rtp.{sequence_number, payload_octets}
+use Rattle.shared_packet.specs.Rtp.{sequence_number, payload_octets}
 
 -- ---- what a leg does
 

@@ -3,9 +3,10 @@
 ghost use Rattle.std.specs.Prelude.{◌≡◌, ◌≤◌, ◌+◌, ◌%◌, ◌^◌, ◌<◌, length, IfOk};
 
 use resend_ring::{MAX_CAPACITY, Ring};
-use rewrite::{Leg, Readdressed};
+use rewrite::Leg;
 use rtcp_compound::CNAME_LIMIT;
 use settings::{Cname, LegSettings};
+use shared_packet::Readdressed;
 use std::alloc::{AllocError, Global};
 
 /// The counts of what was handed out go round at this number (RFC 3550, section 6.4.1).
@@ -23,7 +24,7 @@ pub struct LegState {
     /// Its outgoing sequence numbers.
     pub numbers: Leg,
     /// The last packets that went out on it.
-    pub kept: Ring,
+    pub kept: Ring<Readdressed>,
     /// How many packets were handed out on it, repeated ones too, modulo 2^32.
     pub packets: u32,
     /// How many octets their payloads have, modulo 2^32.
@@ -58,7 +59,7 @@ impl LegState {
             link: *link,
             cname: Cname::new(alloc, cname)?,
             numbers: Leg::new(link.first_seq),
-            kept: Ring::new(alloc, ring)?,
+            kept: Ring::with_capacity(alloc, ring)?,
             packets: 0,
             octets: 0,
         })

@@ -6,7 +6,7 @@ ghost use Rattle.std.specs.Prelude.{List};
 ghost use Rattle.std.specs.List.{enumerate_from, flat_map};
 ghost use Rattle.legs.specs.Legs.{new_legs, row_of};
 ghost use Rattle.legs.specs.Planning.{publisher_places, plan_of, ListsPlaces, FindsPlaces};
-ghost use Rattle.rewrite.specs.Rtp.{IsReadAs};
+ghost use Rattle.shared_packet.specs.Rtp.{IsReadAs};
 
 use crate::leg::LegState;
 use crate::plan::Plan;
@@ -14,9 +14,9 @@ use crate::planning::{plan_goodbye, plan_packet, plan_report, plan_resends};
 use events::{Job, Out};
 use members::Row;
 use resend_ring::MAX_CAPACITY;
-use rewrite::{Reading, SharedPacket};
 use rtcp_feedback::{Nack, lost};
 use settings::{Links, MAX_LEGS};
+use shared_packet::{Reading, SharedPacket};
 use std::alloc::{AllocError, Global};
 use std::collections::HashMap;
 use std::marker::Model;
@@ -261,8 +261,8 @@ impl Legs {
             ≡ plan.old ++ job_plan rows.now self.now job.now) }
     {
         match job {
-            Job::Packet { publisher, packet } => {
-                self.plan_packets(alloc, rows, *publisher, packet, plan)
+            Job::Packet { publisher, bytes } => {
+                self.plan_packets(alloc, rows, *publisher, bytes, plan)
             }
             Job::Resend { leg, stay, nack } => {
                 self.plan_wanted(alloc, rows, *leg, *stay, *nack, plan)

@@ -7,7 +7,8 @@ ghost use Rattle.legs.specs.Plan.{changed_at, changed_by, legs_after_plan, plan_
 
 use crate::leg::LegState;
 use events::Out;
-use rewrite::{Leg, Readdressed, SharedBytes};
+use rewrite::Leg;
+use shared_packet::{Readdressed, SharedBytes};
 use std::alloc::{AllocError, Global};
 use std::marker::Model;
 

@@ -5,14 +5,14 @@ ghost use Rattle.rewrite.specs.Leg.{answer_to};
 ghost use Rattle.resend_ring.specs.Kept.{last_kept_with};
 ghost use Rattle.legs.specs.Legs.{leg_goodbye_bytes, leg_report_bytes};
 ghost use Rattle.legs.specs.Planning.{packet_planned, resend_planned, resends, sent_alone};
-ghost use Rattle.rewrite.specs.Rtp.{IsReadAs, sequence_number};
+ghost use Rattle.shared_packet.specs.Rtp.{IsReadAs, sequence_number};
 
 use crate::leg::LegState;
 use crate::plan::{Change, Plan, Planned};
 use events::{Bytes, Out};
-use rewrite::{Readdressed, Reading, SharedPacket};
+use rewrite::SEQ_CYCLE;
 use rtcp_compound::{write_bye, write_rr, write_sdes_cname, write_sr};
-use rtp_packet::SEQ_CYCLE;
+use shared_packet::{Readdressed, Reading, SharedPacket};
 use std::alloc::{AllocError, Global};
 
 /// The bytes of a packet that goes out.
@@ -62,10 +62,7 @@ pub fn plan_packet(
             })
         }
         Err(skip) => Ok(Planned {
-            out: Out::Skip {
-                leg: leg.number,
-                skip,
-            },
+            out: Out::Skip(leg.number, skip),
             change: Change::Nothing,
         }),
     }
@@ -83,7 +80,7 @@ fn plan_again(
         ≡ resend_planned place leg.now seq (last_kept_with leg.now.kept.items seq)) }
     ensures plan { plan.new ≡ plan.old }
 {
-    match leg.kept.find(seq) {
+    match leg.kept.latest(seq) {
         Some(packet) => {
             let bytes = bytes_of(packet, alloc, plan)?;
             Ok(Planned {
@@ -98,10 +95,7 @@ fn plan_again(
             })
         }
         None => Ok(Planned {
-            out: Out::Miss {
-                leg: leg.number,
-                seq,
-            },
+            out: Out::Miss(leg.number, seq),
             change: Change::Nothing,
         }),
     }

@@ -11,9 +11,9 @@ use Rattle.tmmbr_tuple.specs.declared.ssrc.Ssrc.{Ssrc}
 use Rattle.members.specs.declared.reception.SenderReport.{SenderReport}
 use Rattle.members.specs.declared.stream.Stream.{Stream}
 use Rattle.members.specs.declared.stream.TheConstants.{COUNTED_PACKETS}
-use Rattle.rtp_packet.proofs.SequenceLemmas.{extended_number-is}
-use Rattle.rtp_packet.specs.Sequence.{extended_number}
-use Rattle.rtp_packet.specs.declared.header.TheConstants.{SEQ_CYCLE}
+use Rattle.rewrite.proofs.SequenceLemmas.{extended_number-is}
+use Rattle.rewrite.specs.Sequence.{extended_number}
+use Rattle.rewrite.specs.declared.sequence.TheConstants.{SEQ_CYCLE}
 use Rattle.members.specs.Reception.{Block, Arrival, ReceptionCall, Received, SenderReported, BlockMade, packet_in, report_in, is_block, counted_packets, last_report, first_number, greatest_number, expected_of, transit_of, apart, differences, jitter_after, jitter_of, last_of, Heard, stream_of, packets_before_block, reception_of, AnswersBlock, IsBlockAfter, IsGreatest, AllStandFor, IsHighest}
 use Rattle.members.specs.Stream.{counted_with, with_packet, stream_with, stream_after_block, heard_call, heard_after, IsBlockAnswer, IsAnswerBy}
 

@@ -7,8 +7,8 @@ pub use Rattle.rtcp_compound.specs.declared.report.Block.{Block}
 use Rattle.members.specs.declared.reception.SenderReport.{SenderReport}
 use Rattle.members.specs.declared.stream.Stream.{Stream}
 use Rattle.members.specs.declared.stream.TheConstants.{COUNTED_PACKETS, WORD_VALUES}
-use Rattle.rtp_packet.specs.Sequence.{IsExtendedNumber, extended_number}
-use Rattle.rtp_packet.specs.declared.header.TheConstants.{SEQ_CYCLE}
+use Rattle.rewrite.specs.Sequence.{IsExtendedNumber, extended_number}
+use Rattle.rewrite.specs.declared.sequence.TheConstants.{SEQ_CYCLE}
 
 -- a packet: when it came, in milliseconds, its sequence number and its timestamp
 pub record Arrival : Type 0 where

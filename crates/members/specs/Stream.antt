@@ -4,9 +4,9 @@ use Rattle.tmmbr_tuple.specs.declared.ssrc.Ssrc.{Ssrc}
 use Rattle.members.specs.declared.reception.SenderReport.{SenderReport}
 use Rattle.members.specs.declared.stream.Stream.{Stream}
 use Rattle.members.specs.declared.stream.TheConstants.{COUNTED_PACKETS, WORD_VALUES}
-use Rattle.rtp_packet.specs.Sequence.{extended_number}
-use Rattle.rtp_packet.specs.declared.header.TheConstants.{SEQ_CYCLE}
-use Rattle.rtp_packet.specs.declared.sequence.TheConstants.{SEQ_REACH}
+use Rattle.rewrite.specs.Sequence.{extended_number}
+use Rattle.rewrite.specs.declared.sequence.TheConstants.{SEQ_CYCLE}
+use Rattle.rewrite.specs.declared.sequence.TheConstants.{SEQ_REACH}
 use Rattle.members.specs.Reception.{Block, Heard, ReceptionCall, Received, SenderReported, BlockMade, middle_in, delay_in, expected_in, lost_of, fraction_of, apart, jitter_after, transit_at}
 
 -- what always holds of a stream

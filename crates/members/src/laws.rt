@@ -12,7 +12,7 @@ ghost use Rattle.tmmbr_tuple.specs.declared.ssrc.Ssrc.{Ssrc};
 ghost use Rattle.members.specs.Reception.{Block, ReceptionCall, Arrival, reception_of, IsBlockAfter, IsHighest, greatest_number};
 ghost use Rattle.members.specs.Stream.{heard_after, IsBlockAnswer};
 
-use rtp_packet::SEQ_CYCLE;
+use rewrite::SEQ_CYCLE;
 
 /// Who is present after any calls of a new room is what the whole list of its accepted calls says: the
 /// last hear of each endpoint, a goodbye after it, and the greatest moment. The room's moment is that

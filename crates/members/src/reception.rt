@@ -3,8 +3,8 @@
 ghost use Rattle.std.specs.Prelude.{◌≡◌, ◌↔◌, IfNone, IsNone};
 
 use crate::stream::{self, Stream, WORD_VALUES};
+use rewrite::SEQ_CYCLE;
 use rtcp_compound::Block;
-use rtp_packet::SEQ_CYCLE;
 use std::marker::Model;
 use tmmbr_tuple::Ssrc;
 

@@ -69,7 +69,7 @@ impl Model for Room {
 }
 
 impl Room {
-    ghost use Rattle.std.specs.Prelude.{◌≡◌, ◌<◌, ◌≤◌, ◌+◌, ◌*◌, ◌↔◌, ℕ, max, true, Err, IsTrue, IsOk, IsNone, IfNone, IfSome, IfOk, OnOk, OnErr, length};
+    ghost use Rattle.std.specs.Prelude.{◌≡◌, ◌<◌, ◌≤◌, ◌+◌, ◌*◌, ◌↔◌, ℕ, max, true, Err, IsTrue, IsOk, IsNone, IfNone, IfSome, IfOk, IfErr, OnOk, OnErr, length};
     ghost use Rattle.members.specs.Presence.{NobodyOverdue, is_present_at, source_at};
     ghost use Rattle.members.specs.Room.{new_room, tick_step, bye_step, hear_step, heard_step, select_step, after_leaving, leg_at, Answers, ChangesNothing, IsCalm, TakesStep};
     ghost use Rattle.members.specs.Room.{reception_at, after_packet, after_report, after_block};
@@ -152,10 +152,27 @@ impl Room {
         moment < self.quiet_until
     }
 
-    /// Lets every endpoint leave that is overdue at this moment. Refused only for want of memory; then
+    /// Lets every endpoint leave that is overdue at this moment. Refused as `NoMemory` alone; then
     /// nothing changed, the orders and the moment included. If nobody is overdue it takes none and isn't
     /// refused, unless the moment is the last of all.
-    pub fn tick(&mut self, moment: u64, orders: &mut Vec<Order>) -> Result<(), AllocError>
+    pub fn tick(&mut self, moment: u64, orders: &mut Vec<Order>) -> Result<(), RoomFault>
+        ensures ok { OnOk result
+            (TakesStep (tick_step self.old moment) orders.old.items self.new orders.new.items) }
+        ensures unchanged { OnErr result
+            (ChangesNothing self.old orders.old.items self.new orders.new.items) }
+        ensures no_memory { IfErr result (λ fault. fault ≡ RoomFault.NoMemory) }
+        ensures calm { IsCalm self.old moment → IsOk result }
+    {
+        self.tick_or_no_memory(moment, orders)?;
+        Ok(())
+    }
+
+    /// The same, for who can be refused for want of memory alone.
+    pub fn tick_or_no_memory(
+        &mut self,
+        moment: u64,
+        orders: &mut Vec<Order>,
+    ) -> Result<(), AllocError>
         ensures ok { OnOk result
             (TakesStep (tick_step self.old moment) orders.old.items self.new orders.new.items) }
         ensures unchanged { OnErr result

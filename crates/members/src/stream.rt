@@ -4,7 +4,7 @@ ghost use Rattle.std.specs.Prelude.{◌≡◌, ◌+◌, ◌-◌, ◌^◌, ◌<�
 ghost use Rattle.members.specs.Reception.{transit_at, expected_in, lost_of, fraction_of};
 ghost use Rattle.members.specs.Stream.{IsCounted, new_stream, counted_with, stream_after_block};
 
-use rtp_packet::{SEQ_CYCLE, extended_number};
+use rewrite::{SEQ_CYCLE, extended_number};
 
 /// How many packets of a stream count. Each raises the highest number by less than 2^15, so that numbers
 /// stay below 2^63.

@@ -59,9 +59,7 @@ fn take_received(
         Ok(Received::Datagram { endpoint, length }) => {
             hear_in(world, moment, endpoint, &buffer[..length], outs)
         }
-        Ok(Received::Select { leg, on }) => {
-            take_in(world, Event::Select { moment, leg, on }, outs)
-        }
+        Ok(Received::Select { leg, on }) => { take_in(world, Event::Select(moment, leg, on), outs) }
         Ok(Received::Nothing | Received::Stop) | Err(_) => Ok(()),
     }
 }
@@ -87,7 +85,7 @@ fn tick(
     if !ticks.take(moment) {
         return Ok(());
     }
-    take_in(world, Event::Tick { moment }, outs)
+    take_in(world, Event::Tick(moment), outs)
 }
 
 /// How many receives in a row failed, with this one.
@@ -204,8 +202,8 @@ fn give<S: Sink>(out: &Out, endpoint: Option<u16>, sink: &mut S, tally: &mut Tal
 {
     match out {
         Out::Send { endpoint, bytes } => hand_over(sink, *endpoint, bytes.as_slice(), tally),
-        Out::Miss { leg, .. } => sink.missed(*leg),
-        Out::Skip { leg, .. } => sink.skipped(*leg),
+        Out::Miss(leg, _) => sink.missed(*leg),
+        Out::Skip(leg, _) => sink.skipped(*leg),
         Out::Refused(refusal) => sink.refused(endpoint, *refusal),
         Out::Busy | Out::Lost(_) | Out::Idle => {}
     }

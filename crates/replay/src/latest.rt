@@ -64,9 +64,7 @@ fn event_moment(event: &Event) -> Option<u64>
     ensures { result ≡ event_moment event.now }
 {
     match event {
-        Event::Hear { moment, .. } | Event::Tick { moment } | Event::Select { moment, .. } => {
-            Some(*moment)
-        }
+        Event::Hear(moment, ..) | Event::Tick(moment) | Event::Select(moment, ..) => Some(*moment),
         Event::Ingress | Event::Work(_) => None,
     }
 }

@@ -18,8 +18,8 @@ pub fn out_line(alloc: Global, out: &Out) -> Result<String, AllocError>
         Out::Refused(refusal) => refusal_line(alloc, *refusal),
         Out::Busy => String::from_str(alloc, "busy\n"),
         Out::Lost(worker) => format!(in alloc; "lost {worker}\n"),
-        Out::Skip { leg, skip } => format!(in alloc; "skip {leg} {}\n", skip.number()),
-        Out::Miss { leg, seq } => format!(in alloc; "miss {leg} {seq}\n"),
+        Out::Skip(leg, skip) => format!(in alloc; "skip {leg} {}\n", skip.number()),
+        Out::Miss(leg, seq) => format!(in alloc; "miss {leg} {seq}\n"),
         Out::Idle => String::from_str(alloc, "idle\n"),
     }
 }

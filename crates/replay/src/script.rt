@@ -117,11 +117,11 @@ fn heard_by(numbers: Numbers, moment: &[u8], endpoint: &[u8], bytes: Bytes) -> O
         (number_under numbers.endpoints endpoint.now))
         (number_under (2 ^ 64) moment.now) }
 {
-    Some(Command::Do(Event::Hear {
-        moment: number_u64(moment)?,
-        endpoint: number_below(endpoint, numbers.endpoints)?,
+    Some(Command::Do(Event::Hear(
+        number_u64(moment)?,
+        number_below(endpoint, numbers.endpoints)?,
         bytes,
-    }))
+    )))
 }
 
 /// `MOMENT`.
@@ -129,9 +129,7 @@ fn ticked(words: &[&[u8]]) -> Option<Command>
     ensures { result ≡ tick_words (map (λ x. x.now) words.now) }
 {
     match words {
-        [moment] => Some(Command::Do(Event::Tick {
-            moment: number_u64(moment)?,
-        })),
+        [moment] => Some(Command::Do(Event::Tick(number_u64(moment)?))),
         _ => None,
     }
 }
@@ -141,11 +139,11 @@ fn selected(words: &[&[u8]]) -> Option<Command>
     ensures { result ≡ select_words (map (λ x. x.now) words.now) }
 {
     match words {
-        [moment, leg, on] => Some(Command::Do(Event::Select {
-            moment: number_u64(moment)?,
-            leg: number_u16(leg)?,
-            on: switch(on)?,
-        })),
+        [moment, leg, on] => Some(Command::Do(Event::Select(
+            number_u64(moment)?,
+            number_u16(leg)?,
+            switch(on)?,
+        ))),
         _ => None,
     }
 }

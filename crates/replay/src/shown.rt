@@ -89,8 +89,8 @@ fn is_to_chosen(endpoint: Option<u32>, out: &Out) -> bool
         Out::Refused(_) => false,
         Out::Busy => false,
         Out::Lost(_) => false,
-        Out::Skip { .. } => false,
-        Out::Miss { .. } => false,
+        Out::Skip(..) => false,
+        Out::Miss(..) => false,
         Out::Idle => false,
     }
 }
@@ -119,8 +119,8 @@ fn is_on_leg(leg: &LegSettings, out: &Out) -> bool
         Out::Refused(_) => false,
         Out::Busy => false,
         Out::Lost(_) => false,
-        Out::Skip { .. } => false,
-        Out::Miss { .. } => false,
+        Out::Skip(..) => false,
+        Out::Miss(..) => false,
         Out::Idle => false,
     }
 }

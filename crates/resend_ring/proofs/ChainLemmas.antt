@@ -7,7 +7,7 @@ use Rattle.std.proofs.lemmas.Bool.Decides.{nat_tests}
 use Rattle.std.proofs.lemmas.Option.{slice_get_past, slice_get_cases, get_or_from_slice_get}
 use Rattle.std.proofs.lemmas.List.{length-map, get_or-map, get_or_default}
 use Rattle.std.proofs.lemmas.List.Sums.{position_or_len_is, fails_before_first, passes_at_first}
-use Rattle.rtp_packet.specs.declared.header.TheConstants.{SEQ_CYCLE}
+use Rattle.resend_ring.specs.declared.packets.TheConstants.{SEQ_CYCLE}
 use Rattle.resend_ring.specs.declared.chains.TheConstants.{MAX_CHAIN, MANY_CHAINS}
 use Rattle.resend_ring.specs.Chains.{sequence_numbers, IsChainCount, IsLatest, IsHead, AreHeads}
 
@@ -41,12 +41,12 @@ first_with f n seqs =
     apart : (a b : ℕ) → (a == b) ≡ false → a ≢ b
     apart a b is = grind (arith, nat_tests)
 
-pub number_at : (packets : List (ℕ × List ℕ)) (k : ℕ) (x : ℕ × List ℕ) → Some x ≡ slice_get packets k
+pub number_at : {T : Type 0} (packets : List (ℕ × T)) (k : ℕ) (x : ℕ × T) → Some x ≡ slice_get packets k
     → (k < length (sequence_numbers packets)) × (get_or (sequence_numbers packets) k 0 ≡ x.0 % SEQ_CYCLE)
-number_at packets k x is = elim (cases_lt k (length packets)) [
+number_at {T} packets k x is = elim (cases_lt k (length packets)) [
   | inl less ↦ (
     rw length-map less,
-    get_or-map (λ (p : ℕ × List ℕ). p.0 % SEQ_CYCLE) packets k x 0 less ∙ ap (λ (p : ℕ × List ℕ). p.0 % SEQ_CYCLE) (get_or_from_slice_get packets k x x (sym is)),
+    get_or-map (λ (p : ℕ × T). p.0 % SEQ_CYCLE) packets k x 0 less ∙ ap (λ (p : ℕ × T). p.0 % SEQ_CYCLE) (get_or_from_slice_get packets k x x (sym is)),
   )
   | inr more ↦ let e : Some x ≡ None = is ∙ slice_get_past packets k more in absurd cc
 ]
@@ -57,13 +57,13 @@ past_end xs k none = elim (slice_get_cases xs k).1 [
   | inr past ↦ past.0
 ]
 
-pub number_past : (packets : List (ℕ × List ℕ)) (k : ℕ) → None ≡ slice_get packets k → length (sequence_numbers packets) ≤ k
+pub number_past : {T : Type 0} (packets : List (ℕ × T)) (k : ℕ) → None ≡ slice_get packets k → length (sequence_numbers packets) ≤ k
 number_past packets k none = rw length-map (past_end packets k none)
 
 pub link_at : (links : List ℕ) (k link : ℕ) → Some link ≡ slice_get links k → link ≡ get_or links k 0
 link_at links k link is = sym (get_or_from_slice_get links k link 0 (sym is))
 
-pub number_fits : (packets : List (ℕ × List ℕ)) (k : ℕ) → get_or (sequence_numbers packets) k 0 < SEQ_CYCLE
+pub number_fits : {T : Type 0} (packets : List (ℕ × T)) (k : ℕ) → get_or (sequence_numbers packets) k 0 < SEQ_CYCLE
 number_fits [] k = omega arith
 number_fits (p ∷ packets) zero = omega arith
 number_fits (p ∷ packets) (suc k) = number_fits packets k

@@ -3,7 +3,7 @@ use Rattle.std.proofs.Common.{◌≡◌, ℕ, zero, suc, ◌+◌, ◌-◌, ◌<�
 use Rattle.std.specs.Prelude.{◌%◌}
 use Rattle.std.proofs.lemmas.List.{get_or-take}
 use Rattle.circular_buffer.specs.Buffer.{buffer}
-use Rattle.rtp_packet.specs.declared.header.TheConstants.{SEQ_CYCLE}
+use Rattle.resend_ring.specs.declared.packets.TheConstants.{SEQ_CYCLE}
 use Rattle.resend_ring.specs.declared.chains.Chains.{Chains}
 use Rattle.resend_ring.specs.Chains.{IsChainCount, IsLatest, IsHead, AreHeads, AreLinks, AreChains}
 use Rattle.resend_ring.proofs.ChainLemmas.{below_count}

@@ -2,7 +2,7 @@
 use Rattle.std.proofs.Common.{◌≡◌, ◌≢◌, ℕ, ◌+◌, ◌<◌, ◌≤◌, List, length, get_or, refl, sym, ap, ◌∙◌, inl, inr, arith}
 use Rattle.std.specs.Prelude.{◌%◌, Option, None, Some, MatchOption}
 use Rattle.std.proofs.lemmas.Bool.{cases_lt}
-use Rattle.rtp_packet.specs.declared.header.TheConstants.{SEQ_CYCLE}
+use Rattle.resend_ring.specs.declared.packets.TheConstants.{SEQ_CYCLE}
 use Rattle.resend_ring.specs.declared.chains.TheConstants.{MAX_CHAIN, MANY_CHAINS, FEW_CHAINS}
 use Rattle.resend_ring.specs.Chains.{IsChainCount, IsLatest, IsHead, AreLinks}
 use Rattle.resend_ring.proofs.ChainLemmas.{first_with, head_latest, passed, passed_more, passed_few}

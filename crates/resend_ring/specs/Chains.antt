@@ -1,14 +1,14 @@
 -- How the packets of a ring are chained, to be found by their sequence numbers. Of so many chains a packet with the number n
 -- belongs to the chain n % chains. Places are counted from the newest packet back.
 use Rattle.std.specs.Prelude.{◌≡◌, ◌≢◌, ◌<◌, ◌≤◌, ◌+◌, ◌-◌, ◌%◌, ℕ, List, ◌⊎◌, length, map, slice_index, MatchOption}
-use Rattle.rtp_packet.specs.declared.header.TheConstants.{SEQ_CYCLE}
+use Rattle.resend_ring.specs.declared.packets.TheConstants.{SEQ_CYCLE}
 use Rattle.resend_ring.specs.declared.packets.TheConstants.{MAX_CAPACITY}
 use Rattle.resend_ring.specs.declared.chains.TheConstants.{MAX_CHAIN, MANY_CHAINS, FEW_CHAINS}
 use Rattle.resend_ring.specs.declared.chains.Chains.{Chains}
 use Rattle.resend_ring.specs.declared.chains.Found.{Found}
 
 -- the sequence numbers of these packets
-abbrev pub sequence_numbers : List (ℕ × List ℕ) → List ℕ
+abbrev pub sequence_numbers : {T : Type 0} → List (ℕ × T) → List ℕ
 sequence_numbers packets = map (λ p. p.0 % SEQ_CYCLE) packets
 
 -- how many chains a ring may have

@@ -3,9 +3,8 @@
 ghost use Rattle.std.specs.Prelude.{◌≡◌, ◌≢◌, ◌<◌, ◌≤◌, ◌%◌, ℕ, [], ◌∷◌, length, take, slice_index, IfOk, MatchOption};
 ghost use Rattle.resend_ring.specs.Chains.{AreChains, AreLinks, IsChainCount, IsHead, IsFound, IsLatest, IsLatestWith, sequence_numbers};
 
-use crate::packets::{MAX_CAPACITY, Packets};
+use crate::packets::{MAX_CAPACITY, Packets, SEQ_CYCLE};
 use circular_buffer::HeapCircularBuffer;
-use rtp_packet::SEQ_CYCLE;
 use std::alloc::{AllocError, Allocator};
 
 /// The most packets that one chain has.
@@ -64,7 +63,7 @@ impl<A: Allocator> Chains<A> {
     }
 
     /// Where the latest packet with this sequence number stands.
-    pub fn find(&self, packets: &Packets<A>, seq: u16) -> Option<usize>
+    pub fn find<T>(&self, packets: &Packets<T, A>, seq: u16) -> Option<usize>
         requires { AreChains self.now packets.now.capacity (sequence_numbers packets.now.items) }
         ensures { let seqs = sequence_numbers packets.now.items in
             MatchOption result ((k : ℕ) → k < length seqs → slice_index seqs k ≢ seq) (IsLatestWith seq seqs) }
@@ -76,7 +75,7 @@ impl<A: Allocator> Chains<A> {
 
     /// Takes in a packet with this sequence number, which becomes the newest. As many packets stay as
     /// there is room for.
-    pub fn push(&mut self, packets: &Packets<A>, seq: u16)
+    pub fn push<T>(&mut self, packets: &Packets<T, A>, seq: u16)
         requires { AreChains self.old packets.now.capacity (sequence_numbers packets.now.items) }
         ensures { AreChains self.new packets.now.capacity
             (take packets.now.capacity (seq ∷ sequence_numbers packets.now.items)) }
@@ -97,7 +96,7 @@ impl<A: Allocator> Chains<A> {
     }
 
     /// Where the newest packet of this sequence number's chain stands.
-    fn head(&self, packets: &Packets<A>, seq: u16) -> Option<usize>
+    fn head<T>(&self, packets: &Packets<T, A>, seq: u16) -> Option<usize>
         requires { AreChains self.now packets.now.capacity (sequence_numbers packets.now.items) }
         ensures { let chains = length self.now.heads.items in let seqs = sequence_numbers packets.now.items in
             MatchOption result ((k : ℕ) → k < length seqs → slice_index seqs k % chains ≢ seq % chains)
@@ -114,7 +113,7 @@ impl<A: Allocator> Chains<A> {
     }
 
     /// Finds the latest packet with this sequence number, from the head of its chain on.
-    fn along(&self, packets: &Packets<A>, head: usize, seq: u16) -> Option<Found>
+    fn along<T>(&self, packets: &Packets<T, A>, head: usize, seq: u16) -> Option<Found>
         requires chains { AreChains self.now packets.now.capacity (sequence_numbers packets.now.items) }
         requires head { IsHead (length self.now.heads.items) seq (sequence_numbers packets.now.items) head }
         ensures { let seqs = sequence_numbers packets.now.items in
@@ -137,7 +136,7 @@ impl<A: Allocator> Chains<A> {
 
     /// Takes the packet with this sequence number out of its chain, if there is one. Answers the link of
     /// the next packet that comes with it.
-    fn link_past(&mut self, packets: &Packets<A>, seq: u16) -> u16
+    fn link_past<T>(&mut self, packets: &Packets<T, A>, seq: u16) -> u16
         requires { AreChains self.old packets.now.capacity (sequence_numbers packets.now.items) }
         ensures same_heads { self.new.heads ≡ self.old.heads }
         ensures same_clock { self.new.clock ≡ self.old.clock }

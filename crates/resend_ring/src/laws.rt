@@ -7,10 +7,10 @@ ghost use Rattle.resend_ring.specs.Kept.{SentPacket, kept_in_turn, last_kept_wit
 
 /// Of all packets that a new ring was given, it keeps the last ones, as many as its capacity; and what
 /// it finds is the latest of these.
-pub fn keeps_the_last()
-    ensures kept { (capacity : ℕ) (packets : List SentPacket)
+pub fn keeps_the_last<T>()
+    ensures kept { (capacity : ℕ) (packets : List (SentPacket T))
         → kept_in_turn capacity [] packets ≡ keep_last capacity packets }
-    ensures found { (capacity seq : ℕ) (packets : List SentPacket)
+    ensures found { (capacity seq : ℕ) (packets : List (SentPacket T))
         → last_kept_with (kept_in_turn capacity [] packets) seq
         ≡ last_kept_with (keep_last capacity packets) seq }
 {}

@@ -5,27 +5,25 @@ ghost use Rattle.std.specs.Option.{option_to_list};
 ghost use Rattle.circular_buffer.specs.Buffer.{keep_last};
 
 use crate::chains::Chains;
-use crate::packets::{MAX_CAPACITY, Packets};
+use crate::packets::{MAX_CAPACITY, Packets, SEQ_CYCLE};
 use circular_buffer::HeapCircularBuffer;
-use rewrite::Readdressed;
-use rtp_packet::SEQ_CYCLE;
 use std::alloc::{AllocError, Allocator, Global};
 use std::marker::Model;
 
-/// The last packets of a leg, each with its outgoing number. Of packets that many legs keep the bytes are shared.
+/// The last packets of a leg, each with its outgoing number: their bytes, or whatever stands for them.
 #[derive(Drop)]
-pub struct Ring<A: Allocator = Global> {
-    packets: Packets<A>,
+pub struct Ring<T = Vec<u8>, A: Allocator = Global> {
+    packets: Packets<T, A>,
     /// The same packets by their sequence numbers.
     chains: Chains<A>,
 }
 
-impl<A: Allocator> Model for Ring<A> {
+impl<T, A: Allocator> Model for Ring<T, A> {
     ghost use Rattle.std.specs.Prelude.{◌≤◌, map, reverse};
     ghost use Rattle.resend_ring.specs.Kept.{Kept, sent_packet};
     ghost use Rattle.resend_ring.specs.Chains.{AreChains, sequence_numbers};
 
-    ghost Value = { Kept };
+    ghost Value = { Kept T };
 
     ghost view = { λ r. record {
       capacity = r.packets.capacity;
@@ -36,11 +34,11 @@ impl<A: Allocator> Model for Ring<A> {
         × AreChains r.chains r.packets.capacity (sequence_numbers r.packets.items) };
 }
 
-impl<A: Allocator> Ring<A> {
+impl<T: Drop, A: Allocator> Ring<T, A> {
     ghost use Rattle.resend_ring.specs.Kept.{sent_packet, last_kept_with};
 
-    /// An empty ring that keeps this many packets, from 1 to `MAX_CAPACITY`.
-    pub fn new(alloc: A, capacity: usize) -> Result<Ring<A>, AllocError>
+    /// An empty ring that keeps this many packets, from 1 to `MAX_CAPACITY`, as whatever the caller has.
+    pub fn with_capacity(alloc: A, capacity: usize) -> Result<Ring<T, A>, AllocError>
     where
         A: Clone,
         requires least { 1 ≤ capacity }
@@ -53,12 +51,12 @@ impl<A: Allocator> Ring<A> {
     }
 
     /// Keeps a packet as the newest. Answers the packet that it pushed out, the oldest of a full ring.
-    pub fn keep(&mut self, number: u64, packet: Readdressed) -> Option<(u64, Readdressed)>
+    pub fn keep(&mut self, number: u64, packet: T) -> Option<(u64, T)>
         ensures kept { self.new ≡ record self.old {
           items = keep_last self.old.capacity
-              (self.old.items ++ record { number = number; bytes = packet } ∷ []);
+              (self.old.items ++ record { number = number; packet = packet } ∷ []);
         } }
-        ensures left { self.old.items ++ record { number = number; bytes = packet } ∷ []
+        ensures left { self.old.items ++ record { number = number; packet = packet } ∷ []
             ≡ option_to_list (option_map sent_packet result) ++ self.new.items }
     {
         self.chains.push(&self.packets, (number % SEQ_CYCLE) as u16);
@@ -66,11 +64,37 @@ impl<A: Allocator> Ring<A> {
     }
 
     /// The latest packet kept whose number has these low 16 bits.
-    pub fn find(&self, seq: u16) -> Option<&Readdressed>
+    pub fn latest(&self, seq: u16) -> Option<&T>
         ensures { option_copied result ≡ last_kept_with self.now.items seq }
     {
         let back = self.chains.find(&self.packets, seq)?;
         let (_, packet) = self.packets.get(back)?;
         Some(packet)
+    }
+}
+
+impl<A: Allocator> Ring<Vec<u8>, A> {
+    ghost use Rattle.std.specs.Prelude.{◌≡◌, ◌≤◌, [], IfOk, option_map, option_copied};
+    ghost use Rattle.resend_ring.specs.Kept.{last_kept_with};
+
+    /// An empty ring that keeps the bytes of this many packets, from 1 to `MAX_CAPACITY`.
+    pub fn new(alloc: A, capacity: usize) -> Result<Ring<Vec<u8>, A>, AllocError>
+    where
+        A: Clone,
+        requires least { 1 ≤ capacity }
+        requires most { capacity ≤ MAX_CAPACITY }
+        ensures { IfOk result (λ ring. ring ≡ record { capacity = capacity; items = [] }) }
+    {
+        Ring::with_capacity(alloc, capacity)
+    }
+
+    /// The bytes of the latest packet kept whose number has these low 16 bits.
+    pub fn find(&self, seq: u16) -> Option<&[u8]>
+        ensures { option_copied result ≡ option_map (λ bytes. bytes.items) (last_kept_with self.now.items seq) }
+    {
+        match self.latest(seq) {
+            Some(bytes) => Some(bytes.as_slice()),
+            None => None,
+        }
     }
 }

@@ -1,3 +1,2 @@
 pub mod NumberingLemmas
-pub mod ReaddressedLemmas
-pub mod RtpLemmas
+pub mod SequenceLemmas

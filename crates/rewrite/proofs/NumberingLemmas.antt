@@ -9,9 +9,9 @@ use Rattle.std.proofs.lemmas.List.{get_or_append_left, append-nil, append_assoc}
 use Rattle.std.proofs.lemmas.List.Folds.{find-append}
 use Rattle.rewrite.specs.declared.segment.Segment.{Segment}
 use Rattle.rewrite.specs.declared.segment.TheConstants.{NUMBER_LIMIT}
-use Rattle.rtp_packet.proofs.SequenceLemmas.{extended_number-is}
-use Rattle.rtp_packet.specs.Sequence.{extended_number}
-use Rattle.rtp_packet.specs.declared.header.TheConstants.{SEQ_CYCLE}
+use Rattle.rewrite.proofs.SequenceLemmas.{extended_number-is}
+use Rattle.rewrite.specs.Sequence.{extended_number}
+use Rattle.rewrite.specs.declared.sequence.TheConstants.{SEQ_CYCLE}
 use Rattle.rewrite.specs.declared.skip.Skip.{Skip}
 use Rattle.rewrite.specs.declared.skip.Skip.TheVariants.{Old, Spent}
 use Rattle.rewrite.specs.Leg.{Held, IsWithinLimit, first_segment, last_number, answer_at, answer_in, with_number, answer_to, answer_by, held_with, segment_with, history_of, held_after, LeavesOpen, IsHeldBy}

@@ -4,8 +4,8 @@ use Rattle.rewrite.specs.declared.skip.Skip.{Skip}
 use Rattle.rewrite.specs.declared.skip.Skip.TheVariants.{Old}
 use Rattle.rewrite.specs.declared.segment.Segment.{Segment}
 use Rattle.rewrite.specs.declared.segment.TheConstants.{NUMBER_LIMIT}
-use Rattle.rtp_packet.specs.Sequence.{extended_number}
-use Rattle.rtp_packet.specs.declared.header.TheConstants.{SEQ_CYCLE}
+use Rattle.rewrite.specs.Sequence.{extended_number}
+use Rattle.rewrite.specs.declared.sequence.TheConstants.{SEQ_CYCLE}
 use Rattle.rewrite.specs.Numbering.{IncomingPacket, Entry, Numbered, IsBase, IsHighest, base_place, within_limit}
 
 -- the first number, and the packets of the latest turn

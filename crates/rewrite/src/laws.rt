@@ -5,7 +5,7 @@ ghost use Rattle.std.specs.Prelude.{ℕ, ◌<◌, List, All, flat_map};
 ghost use Rattle.rewrite.specs.Numbering.{IncomingPacket, Renumbers, AreApart, entry_numbers};
 ghost use Rattle.rewrite.specs.Leg.{new_leg, history_of, held_after, IsHeldBy};
 
-use rtp_packet::SEQ_CYCLE;
+use crate::sequence::SEQ_CYCLE;
 
 /// What a new leg answers to packets one after another is what the whole list before each says. The
 /// numbers of two segments never meet: those of the later one are greater.

@@ -3,8 +3,8 @@
 ghost use Rattle.std.specs.Prelude.{◌≡◌, ◌<◌, MatchResult};
 ghost use Rattle.rewrite.specs.Leg.{IsWithinLimit, first_segment, last_number, answer_in, with_number};
 
+use crate::sequence::{SEQ_CYCLE, extended_number};
 use crate::skip::Skip;
-use rtp_packet::{SEQ_CYCLE, extended_number};
 
 /// Outgoing numbers are below this.
 pub const NUMBER_LIMIT: u64 = 1 << 62;

@@ -2,7 +2,6 @@
 use Rattle.std.specs.Prelude.{◌==◌, ℕ, ◌+◌, ◌-◌, ◌/◌, ◌%◌, ◌^◌, Bool, List, ◌∷◌, map, filter}
 use Rattle.std.specs.List.{range_with_len}
 use Rattle.rtcp_feedback.specs.declared.nack.Nack.{Nack}
-use Rattle.rtp_packet.specs.declared.header.TheConstants.{SEQ_CYCLE}
 
 -- bit i of BLP, counted from 1 for the least significant, is set
 abbrev pub is_set : ℕ → ℕ → Bool
@@ -11,4 +10,4 @@ is_set blp i = blp / 2 ^ (i - 1) % 2 == 1
 -- the packet PID itself, and of the 16 after it those whose bit is set; sequence numbers wrap at 65,536
 unfoldable pub lost_numbers : Nack → List ℕ
 lost_numbers n =
-    n.pid ∷ map (λ i. (n.pid + i) % SEQ_CYCLE) (filter (is_set n.blp) (range_with_len 1 16))
+    n.pid ∷ map (λ i. (n.pid + i) % 2 ^ 16) (filter (is_set n.blp) (range_with_len 1 16))

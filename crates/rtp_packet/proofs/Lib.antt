@@ -3,4 +3,3 @@ pub mod FixedLemmas
 pub mod PartLemmas
 pub mod PacketLemmas
 pub mod WriteLemmas
-pub mod SequenceLemmas

@@ -1,16 +1,16 @@
 -- Packets and the datagrams that they are.
-use Rattle.std.proofs.Common.{◌≡◌, ℕ, ◌+◌, ◌-◌, ◌*◌, ◌/◌, ◌%◌, ◌<◌, ◌≤◌, inl, inr, true, List, ◌++◌, length, drop, get_or, slice_index, Option, refl, sym, ap, subst, ◌∙◌, arith, length-append, length-drop}
+use Rattle.std.proofs.Common.{◌≡◌, ℕ, ◌+◌, ◌-◌, ◌*◌, ◌/◌, ◌%◌, ◌<◌, ◌≤◌, inl, inr, true, List, ◌++◌, length, drop, get_or, slice_index, refl, sym, ap, subst, ◌∙◌, arith, length-append, length-drop}
 use Rattle.std.proofs.lemmas.List.{drop-drop}
 use Rattle.std.specs.Prelude.{nat_lt, Result, Err, IsErrOf}
 use Rattle.byteorder.specs.Endian.{big_number}
 use Rattle.rtp_packet.specs.declared.header.Header.{Header}
 use Rattle.rtp_packet.specs.declared.fault.RtpFault.{RtpFault}
 use Rattle.rtp_packet.specs.declared.fault.RtpFault.TheVariants.{Short, Version, CsrcShort, ExtensionShort, Padding, Room}
-use Rattle.rtp_packet.specs.Grammar.{RtpPacket, ExtensionTree, ReadsRtp, IsExtension, IsPadding, bit_of, is_there, body_bytes, first_byte, second_byte, extension_bytes}
+use Rattle.rtp_packet.specs.Grammar.{RtpPacket, ReadsRtp, IsExtension, IsPadding, bit_of, is_there, body_bytes, first_byte, second_byte}
 use Rattle.rtp_packet.specs.Header.{IsHeaderOf}
 use Rattle.rtp_packet.specs.Fault.{HasRtpFault, IsNoCount, csrc_end, extension_end}
 use Rattle.rtp_packet.proofs.FixedLemmas.{length-packet_bytes, first_of_fixed, drop-fixed_bytes, fixed_bytes-read, fixed_bytes-injective}
-use Rattle.rtp_packet.proofs.PartLemmas.{first_parts, second_parts, bit_of-injective, append-parts, drop-part, extension_bytes-injective, padding-injective, count_of_padding, above-from_bit, extension_end-is}
+use Rattle.rtp_packet.proofs.PartLemmas.{first_parts, second_parts, bit_of-injective, append-parts, drop-part, extension-injective, padding-injective, count_of_padding, above-from_bit, extension_end-is}
 
 -- packets with the same parts are one
 same_packet : (p q : RtpPacket) → p.marker ≡ q.marker → p.payload_type ≡ q.payload_type → p.sequence_number ≡ q.sequence_number
@@ -37,16 +37,16 @@ one_packet datagram p q rp rq =
     let whole_p = vp.csrcs_whole in
     let whole_q = vq.csrcs_whole in
     let same_size : length p.csrcs ≡ length q.csrcs = omega arith in
-    let csrcs = append-parts p.csrcs q.csrcs (extension_bytes p.extension ++ (p.payload ++ p.padding)) (extension_bytes q.extension ++ (q.payload ++ q.padding)) same_size fixed.5 in
-    let extension = extension_bytes-injective p.extension q.extension (p.payload ++ p.padding) (q.payload ++ q.padding) vp.extension vq.extension extended csrcs.1 in
+    let csrcs = append-parts p.csrcs q.csrcs (p.extension ++ (p.payload ++ p.padding)) (q.extension ++ (q.payload ++ q.padding)) same_size fixed.5 in
+    let extension = extension-injective p.extension q.extension (p.payload ++ p.padding) (q.payload ++ q.padding) vp.extension vq.extension extended csrcs.1 in
     let parts = padding-injective p.payload q.payload p.padding q.padding vp.padding vq.padding padded extension.1 in
     same_packet p q second.0 second.1 fixed.2 fixed.3 fixed.4 csrcs.0 extension.0 parts.0 parts.1
 
 -- The parts that were cut one after the other are a packet.
-pub packet_of_parts : (d : List ℕ) (h : Header) (csrcs rest : List ℕ) (e : Option ExtensionTree) (more payload padding : List ℕ)
+pub packet_of_parts : (d : List ℕ) (h : Header) (csrcs rest : List ℕ) (e : List ℕ) (more payload padding : List ℕ)
     → IsHeaderOf d h → ((k : ℕ) → get_or d k 0 < 256)
     → drop 12 d ≡ csrcs ++ rest → length csrcs ≡ 4 * h.csrc_count
-    → rest ≡ extension_bytes e ++ more → IsExtension e → is_there e ≡ h.extension
+    → rest ≡ e ++ more → IsExtension e → is_there e ≡ h.extension
     → more ≡ payload ++ padding → IsPadding padding → nat_lt 0 (length padding) ≡ h.padding
     → ReadsRtp d (record {
       marker = h.marker;
@@ -65,8 +65,8 @@ packet_of_parts d h csrcs rest e more payload padding header bytes cut size cut_
     let first : slice_index d 0 ≡ 2 * 64 + 32 * bit_of (nat_lt 0 (length padding)) + 16 * bit_of (is_there e) + length csrcs / 4 =
     rw (padded, there, quarter) header.first in
     let read = fixed_bytes-read d header.whole bytes in
-    let body : drop 12 d ≡ csrcs ++ (extension_bytes e ++ (payload ++ padding)) =
-    cut ∙ ap (λ (r : List ℕ). csrcs ++ r) (cut_e ∙ ap (λ (r : List ℕ). extension_bytes e ++ r) cut_p) in
+    let body : drop 12 d ≡ csrcs ++ (e ++ (payload ++ padding)) =
+    cut ∙ ap (λ (r : List ℕ). csrcs ++ r) (cut_e ∙ ap (λ (r : List ℕ). e ++ r) cut_p) in
     let second = header.second in
     let sequence_number = header.sequence_number in
     let timestamp = header.timestamp in
@@ -105,9 +105,9 @@ extension_fault d h csrcs rest header cut size there short =
     let left : length d - 12 ≡ length csrcs + length rest = sym (length-drop 12 d) ∙ ap length cut ∙ length-append csrcs rest in
     ((whole, parts.0), omega arith, rw on (omega arith))
 
-pub padding_fault : (d : List ℕ) (h : Header) (csrcs rest : List ℕ) (e : Option ExtensionTree) (more : List ℕ)
+pub padding_fault : (d : List ℕ) (h : Header) (csrcs rest : List ℕ) (e : List ℕ) (more : List ℕ)
     → IsHeaderOf d h → drop 12 d ≡ csrcs ++ rest → length csrcs ≡ 4 * h.csrc_count
-    → rest ≡ extension_bytes e ++ more → IsExtension e → is_there e ≡ h.extension
+    → rest ≡ e ++ more → IsExtension e → is_there e ≡ h.extension
     → h.padding ≡ true → IsNoCount more → HasRtpFault d Padding
 padding_fault d h csrcs rest e more header cut size cut_e valid_e there padded none =
     let parts = first_parts (slice_index d 0) h.csrc_count h.padding h.extension header.first header.csrc_count in
@@ -115,9 +115,9 @@ padding_fault d h csrcs rest e more header cut size cut_e valid_e there padded n
     let place = csrc_end-is d h csrcs header size in
     let moved = drop-part d csrcs rest 12 (csrc_end d) cut place in
     let end = extension_end-is d rest more e (parts.2 ∙ ap bit_of (sym there)) valid_e moved cut_e in
-    let tail = drop-part d (extension_bytes e) more (csrc_end d) (extension_end d) (moved ∙ cut_e) end in
+    let tail = drop-part d e more (csrc_end d) (extension_end d) (moved ∙ cut_e) end in
     let left : length d - 12 ≡ length csrcs + length rest = sym (length-drop 12 d) ∙ ap length cut ∙ length-append csrcs rest in
-    let left_e : length rest ≡ length (extension_bytes e) + length more = ap length cut_e ∙ length-append (extension_bytes e) more in
+    let left_e : length rest ≡ length e + length more = ap length cut_e ∙ length-append e more in
     let P : List ℕ → Type 0 = λ l. IsNoCount l in
     ((whole, parts.0), omega arith, omega arith, parts.1 ∙ ap bit_of padded, subst P (sym tail) none)
 
@@ -142,9 +142,9 @@ laid_out d p reads =
     let size : length d ≡ 12 + length (body_bytes p) = ap length reads.bytes
     ∙ length-packet_bytes (first_byte p) (second_byte p) p.sequence_number p.timestamp p.ssrc (body_bytes p) in
     let last = p.payload ++ p.padding in
-    let rest = extension_bytes p.extension ++ last in
+    let rest = p.extension ++ last in
     let body = length-append p.csrcs rest in
-    let behind = length-append (extension_bytes p.extension) last in
+    let behind = length-append p.extension last in
     let count = parts.3 in
     let place : csrc_end d ≡ 12 + length p.csrcs = omega arith in
     let moved = drop-part d p.csrcs rest 12 (csrc_end d) cut place in
@@ -155,7 +155,7 @@ laid_out d p reads =
       padded = parts.1;
       csrcs = omega arith;
       end = omega arith;
-      tail = drop-part d (extension_bytes p.extension) last (csrc_end d) (extension_end d) moved end;
+      tail = drop-part d p.extension last (csrc_end d) (extension_end d) moved end;
     }
 
 -- what a packet ends in counts its padding

@@ -1,13 +1,6 @@
 -- RTP packets (RFC 3550, sections 5.1 and 5.3.1): a packet as a tree, its bytes, and which trees are packets.
-use Rattle.std.specs.Prelude.{◌≡◌, ℕ, ◌+◌, ◌-◌, ◌*◌, ◌/◌, ◌%◌, ◌^◌, ◌<◌, Bool, true, false, nat_lt, if◌then◌else◌, List, [], ◌∷◌, ◌++◌, length, slice_index, Option, None, Some}
-use Rattle.std.specs.Option.{ForSome}
-use Rattle.byteorder.specs.Endian.{big_bytes}
-use Rattle.rtp_packet.specs.declared.header.TheConstants.{SEQ_CYCLE}
-
--- a header extension: the sixteen bits that the profile defines, and the bytes of its words
-pub record ExtensionTree : Type 0 where
-  pub profile : ℕ
-  pub words : List ℕ
+use Rattle.std.specs.Prelude.{◌≡◌, ℕ, ◌+◌, ◌-◌, ◌*◌, ◌/◌, ◌%◌, ◌^◌, ◌<◌, ◌≤◌, Bool, nat_lt, if◌then◌else◌, List, ◌∷◌, ◌++◌, length, drop, slice_index}
+use Rattle.byteorder.specs.Endian.{big_bytes, big_number}
 
 -- a packet of version 2: its numbers, and the bytes of its parts
 pub record RtpPacket : Type 0 where
@@ -17,20 +10,20 @@ pub record RtpPacket : Type 0 where
   pub timestamp : ℕ
   pub ssrc : ℕ
   pub csrcs : List ℕ
-  pub extension : Option ExtensionTree
+  pub extension : List ℕ
   pub payload : List ℕ
   pub padding : List ℕ
 
 abbrev pub bit_of : Bool → ℕ
 bit_of b = if b then 1 else 0
 
-abbrev pub is_there : Option ExtensionTree → Bool
-is_there None = false
-is_there (Some e) = true
+-- a part that may be left out has bytes
+abbrev pub is_there : List ℕ → Bool
+is_there part = nat_lt 0 (length part)
 
 -- the first byte: the version 2 in two bits, a bit for padding, a bit for an extension, the count of CSRCs in four
 abbrev pub first_byte : RtpPacket → ℕ
-first_byte p = 2 * 64 + 32 * bit_of (nat_lt 0 (length p.padding)) + 16
+first_byte p = 2 * 64 + 32 * bit_of (is_there p.padding) + 16
     * bit_of (is_there p.extension) + length p.csrcs / 4
 
 -- the second byte: the marker bit, and the payload type in seven bits
@@ -42,23 +35,18 @@ unfoldable pub fixed_bytes : ℕ → ℕ → ℕ → ℕ → ℕ → List ℕ
 fixed_bytes first second sequence_number timestamp ssrc =
     first ∷ second ∷ (big_bytes 2 sequence_number ++ (big_bytes 4 timestamp ++ big_bytes 4 ssrc))
 
--- an extension: the profile's bits and the count of words in two bytes each, then the words
-abbrev pub extension_bytes : Option ExtensionTree → List ℕ
-extension_bytes None = []
-extension_bytes (Some e) = big_bytes 2 e.profile ++ (big_bytes 2 (length e.words / 4) ++ e.words)
-
 -- what follows the fixed header
 abbrev pub body_bytes : RtpPacket → List ℕ
-body_bytes p = p.csrcs ++ (extension_bytes p.extension ++ (p.payload ++ p.padding))
+body_bytes p = p.csrcs ++ (p.extension ++ (p.payload ++ p.padding))
 
 abbrev pub bytes_of : RtpPacket → List ℕ
 bytes_of p =
     fixed_bytes (first_byte p) (second_byte p) p.sequence_number p.timestamp p.ssrc ++ body_bytes p
 
--- whole words, as many as a count of two bytes can say
-abbrev pub IsExtension : Option ExtensionTree → Type 0
-IsExtension o =
-    ForSome o (λ e. (e.profile < 2 ^ 16) × (length e.words % 4 ≡ 0) × (length e.words / 4 < 2 ^ 16))
+-- if there is an extension, it is two bytes that the profile defines, a count of words in two, and so many words
+abbrev pub IsExtension : List ℕ → Type 0
+IsExtension e =
+    0 < length e → (4 ≤ length e) × (length e ≡ 4 + 4 * big_number 2 (drop 2 e))
 
 -- if there is padding, its last byte counts its bytes
 abbrev pub IsPadding : List ℕ → Type 0
@@ -67,7 +55,7 @@ IsPadding padding = slice_index padding (length padding - 1) ≡ length padding
 -- each number fits its bits, and the parts are whole words
 pub record IsPacket (p : RtpPacket) : Type 0 where
   pub payload_type : p.payload_type < 128
-  pub sequence_number : p.sequence_number < SEQ_CYCLE
+  pub sequence_number : p.sequence_number < 2 ^ 16
   pub timestamp : p.timestamp < 2 ^ 32
   pub ssrc : p.ssrc < 2 ^ 32
   pub csrcs_whole : length p.csrcs % 4 ≡ 0

@@ -1,7 +1,6 @@
 -- The packet that a view shows.
 use Rattle.rtp_packet.specs.declared.view.RtpView.{RtpView}
 use Rattle.rtp_packet.specs.Grammar.{RtpPacket}
-use Rattle.rtp_packet.specs.Trees.{tree_of}
 
 abbrev pub rtp_packet_of : RtpView → RtpPacket
 rtp_packet_of v = record {
@@ -11,7 +10,7 @@ rtp_packet_of v = record {
   timestamp = v.timestamp;
   ssrc = v.ssrc.0;
   csrcs = v.csrcs.now;
-  extension = tree_of v.extension;
+  extension = v.extension.now;
   payload = v.payload.now;
   padding = v.padding.now;
 }

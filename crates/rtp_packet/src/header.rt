@@ -2,21 +2,16 @@
 
 ghost use Rattle.std.specs.Prelude.{◌≡◌, ◌+◌, ◌*◌, ◌<◌, ◌++◌, true, nat_lt, length, drop, IfOk, IfErr};
 ghost use Rattle.byteorder.specs.Endian.{big_number};
-ghost use Rattle.rtp_packet.specs.Grammar.{IsExtension, IsPadding, extension_bytes, is_there};
-ghost use Rattle.rtp_packet.specs.Trees.{tree_of};
+ghost use Rattle.rtp_packet.specs.Grammar.{IsExtension, IsPadding, is_there};
 ghost use Rattle.rtp_packet.specs.Fault.{HasHeaderFault, IsNoCount};
 ghost use Rattle.rtp_packet.specs.Header.{IsHeaderOf};
 
-use crate::extension::Extension;
 use crate::fault::RtpFault;
 use byteorder::{BigEndian, ByteOrder};
 use tmmbr_tuple::Ssrc;
 
 /// The length of the fixed header in bytes (RFC 3550, section 5.1).
 pub const HEADER: usize = 12;
-
-/// How many sequence numbers there are (RFC 3550, section 5.1).
-pub const SEQ_CYCLE: u64 = 1 << 16;
 
 /// The length of a word, which CSRCs and extensions are made of, and of an extension's own header.
 const WORD_BYTES: usize = 4;
@@ -73,36 +68,33 @@ impl Header {
         Ok(rest.split_at(count))
     }
 
-    /// The extension at the front of what follows the CSRCs, if there is one, and what follows it.
-    pub fn split_extension(self, rest: &[u8]) -> Result<(Option<Extension<'_>>, &[u8]), RtpFault>
-        ensures parts { IfOk result (λ parts.
-            rest.now ≡ extension_bytes (tree_of parts.0) ++ parts.1.now) }
-        ensures valid { IfOk result (λ parts. IsExtension (tree_of parts.0)) }
-        ensures there { IfOk result (λ parts. is_there (tree_of parts.0) ≡ self.extension) }
+    /// The extension at the front of what follows the CSRCs, empty if there is none, and what follows it.
+    pub fn split_extension(self, rest: &[u8]) -> Result<(&[u8], &[u8]), RtpFault>
+        ensures parts { IfOk result (λ parts. rest.now ≡ parts.0.now ++ parts.1.now) }
+        ensures valid { IfOk result (λ parts. IsExtension parts.0.now) }
+        ensures there { IfOk result (λ parts. is_there parts.0.now ≡ self.extension) }
         ensures short { IfErr result (λ fault. (fault ≡ RtpFault.ExtensionShort)
             × (self.extension ≡ true) × (length rest.now < 4 + 4 * big_number 2 (drop 2 rest.now))) }
     {
         if !self.extension {
-            return Ok((None, rest));
+            return Ok((&[], rest));
         }
         if rest.len() < WORD_BYTES {
             return Err(RtpFault::ExtensionShort);
         }
-        let profile = BigEndian::read_u16(rest);
-        let count = WORD_BYTES * usize::from(BigEndian::read_u16(&rest[2..]));
-        let behind = &rest[WORD_BYTES..];
-        if behind.len() < count {
+        let words = usize::from(BigEndian::read_u16(&rest[2..]));
+        let count = WORD_BYTES + WORD_BYTES * words;
+        if rest.len() < count {
             return Err(RtpFault::ExtensionShort);
         }
-        let (words, rest) = behind.split_at(count);
-        Ok((Some(Extension { profile, words }), rest))
+        Ok(rest.split_at(count))
     }
 
     /// The payload and the padding, which what follows the extension consists of.
     pub fn split_padding(self, rest: &[u8]) -> Result<(&[u8], &[u8]), RtpFault>
         ensures parts { IfOk result (λ parts. rest.now ≡ parts.0.now ++ parts.1.now) }
         ensures valid { IfOk result (λ parts. IsPadding parts.1.now) }
-        ensures there { IfOk result (λ parts. nat_lt 0 (length parts.1.now) ≡ self.padding) }
+        ensures there { IfOk result (λ parts. is_there parts.1.now ≡ self.padding) }
         ensures no_count { IfErr result (λ fault. (fault ≡ RtpFault.Padding) × (self.padding ≡ true)
             × IsNoCount rest.now) }
     {

@@ -2,18 +2,12 @@
 //!
 //! Read `view` first. `RtpView::parse` reads exactly the datagrams that are packets, and its parts are
 //! slices of the input; `rewritten_into` writes the same packet with another SSRC and sequence number.
-//! Contents of header extensions and of payloads are not looked at. `sequence` has a packet's extended number. No call
-//! allocates.
+//! Contents of header extensions and of payloads are not looked at. No call allocates.
 #![tactic(auto)]
 
-mod extension;
 mod fault;
 mod header;
-mod sequence;
 mod view;
 
-pub use extension::Extension;
 pub use fault::RtpFault;
-pub use header::SEQ_CYCLE;
-pub use sequence::{SEQ_REACH, extended_number};
 pub use view::RtpView;

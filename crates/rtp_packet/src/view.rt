@@ -1,16 +1,14 @@
 //! Packets, seen in the datagram that they came in.
 
 ghost use Rattle.rtp_packet.specs.Grammar.{ReadsRtp};
-ghost use Rattle.rtp_packet.specs.Trees.{tree_of};
 
-use crate::extension::Extension;
 use crate::fault::RtpFault;
 use crate::header::{HEADER, Header};
 use byteorder::{BigEndian, ByteOrder};
 use tmmbr_tuple::Ssrc;
 
 /// An RTP packet of version 2 (RFC 3550, section 5.1). Its parts are slices of the datagram that it was
-/// read from: the twelve bytes of the header, `csrcs`, the extension, `payload` and `padding`, one
+/// read from: the twelve bytes of the header, `csrcs`, `extension`, `payload` and `padding`, one
 /// after the other, are that datagram.
 #[derive(Clone, Copy)]
 pub struct RtpView<'a> {
@@ -28,8 +26,9 @@ pub struct RtpView<'a> {
     pub ssrc: Ssrc,
     /// The contributing sources, four bytes each, 0 to 15 of them.
     pub csrcs: &'a [u8],
-    /// The header extension, if the packet has one.
-    pub extension: Option<Extension<'a>>,
+    /// The header extension: two bytes that the profile defines, a count of words in two, and so many words, of four bytes each; empty if
+    /// the packet has none (RFC 3550, section 5.3.1).
+    pub extension: &'a [u8],
     /// The payload, which may be empty.
     pub payload: &'a [u8],
     /// The padding, its count in the last byte; empty if the packet has none.
@@ -41,7 +40,7 @@ pub struct RtpView<'a> {
       timestamp = timestamp;
       ssrc = ssrc.0;
       csrcs = csrcs.now;
-      extension = tree_of extension;
+      extension = extension.now;
       payload = payload.now;
       padding = padding.now;
     }) },

@@ -1,7 +1,7 @@
 -- Whether a packet goes on where its source was, or the source began anew (RFC 3550, appendix A.1).
 use Rattle.std.specs.Prelude.{◌≡◌, ◌==◌, ℕ, ◌+◌, ◌-◌, ◌%◌, ◌^◌, nat_lt, Bool, false, ◌&&◌, ◌||◌, List, [], ◌∷◌, ◌++◌, Option, None, Some, slice_get, slice_set, if◌then◌else◌}
 use Rattle.std.specs.Option.{option_map_or}
-use Rattle.rtp_packet.specs.declared.header.TheConstants.{SEQ_CYCLE}
+use Rattle.rewrite.specs.declared.sequence.TheConstants.{SEQ_CYCLE}
 use Rattle.screening.specs.declared.run.Run.{Run}
 use Rattle.screening.specs.declared.run.Stamp.{Stamp}
 use Rattle.screening.specs.declared.run.Placement.{Placement}

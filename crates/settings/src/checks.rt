@@ -10,8 +10,8 @@ use crate::limits::{
     SSRCS,
 };
 use crate::parts::{EndpointParts, LegParts, Parts};
+use rewrite::SEQ_CYCLE;
 use rtcp_compound::CNAME_LIMIT;
-use rtp_packet::SEQ_CYCLE;
 
 /// The plain numbers of settings.
 #[derive(Clone, Copy)]

@@ -16,23 +16,23 @@ use Rattle.core_steps.proofs.ticking.tick.Goals as goal
 
 pub returns-clause-ok : goal.returns-clause-ok
 returns-clause-ok c =
-    λ outs rest idle. ticks_so (whole c.args.front.now rest) c.args.moment outs c.tick.new.self c.prepare.new.self.orders.items c.tick.new.orders.items
+    λ outs rest idle. ticks_so (whole c.args.front.now rest) c.args.moment outs c.tick_or_no_memory.new.self c.prepare.new.self.orders.items c.tick_or_no_memory.new.orders.items
     (length c.endpoints.result.now) c.is_report_due-is_due.result c.push_after.new.follow_ups.items c.push_due.new.follow_ups.items
     c.push_expiring.new.follow_ups.items c.push_reports.new.follow_ups.items c.prepare.new.self.datagram _ _ (not_busy c.args.front.now rest c.requires idle)
-    idle.1 c.knows_count.ensures c.in_ok-prepare.ensures.orders c.in_ok-tick.ensures.ok.0
-    c.in_ok-tick.ensures.ok.1
+    idle.1 c.knows_count.ensures c.in_ok-prepare.ensures.orders c.in_ok-tick_or_no_memory.ensures.ok.0
+    c.in_ok-tick_or_no_memory.ensures.ok.1
     (record {
       first = λ bits. c.push_after.ensures.items bits
-          ∙ ap (λ (l : List FollowUp). map (task_of bits) l ++ filter_map (task_after (setup_of c.args.front.now.setup) c.tick.new.self) c.as_slice.result.now)
+          ∙ ap (λ (l : List FollowUp). map (task_of bits) l ++ filter_map (task_after (setup_of c.args.front.now.setup) c.tick_or_no_memory.new.self) c.as_slice.result.now)
           c.in_ok-prepare.ensures.follow_ups
-          ∙ ap (λ (os : List Order). filter_map (task_after (setup_of c.args.front.now.setup) c.tick.new.self) os) c.as_slice.ensures.value;
+          ∙ ap (λ (os : List Order). filter_map (task_after (setup_of c.args.front.now.setup) c.tick_or_no_memory.new.self) os) c.as_slice.ensures.value;
       count = ap (λ (l : List Ssrc). length l) c.endpoints.ensures.value;
       says_due = c.is_report_due-is_due.ensures;
       pulses = c.push_due.ensures.items;
       expiring = c.push_expiring.ensures.items;
       reporting = c.push_reports.ensures;
     })
-    (tasks_from c.prepare.new.self.datagram c.tick.new.orders.items c.push_reports.new.follow_ups.items
+    (tasks_from c.prepare.new.self.datagram c.tick_or_no_memory.new.orders.items c.push_reports.new.follow_ups.items
     c.prepare.new.self.orders_done c.prepare.new.self.follow_ups_done c.in_ok-prepare.ensures.orders_done
     c.in_ok-prepare.ensures.follow_ups_done)
     (c.reported_after-front.ensures ∙ ap (λ (n : ℕ). if c.is_report_due-is_due.result then n else c.args.front.now.reported) c.moment.ensures)
@@ -41,8 +41,8 @@ pub push_after-requires : goal.push_after-requires
 push_after-requires c =
     let p = c.in_ok-prepare.ensures in
     let step = tick_step c.args.front.now.room c.args.moment in
-    let orders : c.tick.new.orders.items ≡ step.orders =
-    c.in_ok-tick.ensures.ok.1 ∙ ap (λ (l : List Order). l ++ step.orders) p.orders in
+    let orders : c.tick_or_no_memory.new.orders.items ≡ step.orders =
+    c.in_ok-tick_or_no_memory.ensures.ok.1 ∙ ap (λ (l : List Order). l ++ step.orders) p.orders in
     let few : length c.as_slice.result.now ≤ c.most_orders.result =
     subst (λ (l : List Order). length l ≤ c.most_orders.result) (sym (c.as_slice.ensures.value ∙ orders))
     (c.most_orders.ensures.most (Tick c.args.moment)) in
@@ -52,8 +52,8 @@ pub push_due-requires : goal.push_due-requires
 push_due-requires c =
     let p = c.in_ok-prepare.ensures in
     let step = tick_step c.args.front.now.room c.args.moment in
-    let orders : c.tick.new.orders.items ≡ step.orders =
-    c.in_ok-tick.ensures.ok.1 ∙ ap (λ (l : List Order). l ++ step.orders) p.orders in
+    let orders : c.tick_or_no_memory.new.orders.items ≡ step.orders =
+    c.in_ok-tick_or_no_memory.ensures.ok.1 ∙ ap (λ (l : List Order). l ++ step.orders) p.orders in
     let few : length c.as_slice.result.now ≤ c.most_orders.result =
     subst (λ (l : List Order). length l ≤ c.most_orders.result) (sym (c.as_slice.ensures.value ∙ orders))
     (c.most_orders.ensures.most (Tick c.args.moment)) in
@@ -64,8 +64,8 @@ pub push_expiring-requires : goal.push_expiring-requires
 push_expiring-requires c =
     let p = c.in_ok-prepare.ensures in
     let step = tick_step c.args.front.now.room c.args.moment in
-    let orders : c.tick.new.orders.items ≡ step.orders =
-    c.in_ok-tick.ensures.ok.1 ∙ ap (λ (l : List Order). l ++ step.orders) p.orders in
+    let orders : c.tick_or_no_memory.new.orders.items ≡ step.orders =
+    c.in_ok-tick_or_no_memory.ensures.ok.1 ∙ ap (λ (l : List Order). l ++ step.orders) p.orders in
     let few : length c.as_slice.result.now ≤ c.most_orders.result =
     subst (λ (l : List Order). length l ≤ c.most_orders.result) (sym (c.as_slice.ensures.value ∙ orders))
     (c.most_orders.ensures.most (Tick c.args.moment)) in
@@ -77,8 +77,8 @@ pub push_reports-requires : goal.push_reports-requires
 push_reports-requires c =
     let p = c.in_ok-prepare.ensures in
     let step = tick_step c.args.front.now.room c.args.moment in
-    let orders : c.tick.new.orders.items ≡ step.orders =
-    c.in_ok-tick.ensures.ok.1 ∙ ap (λ (l : List Order). l ++ step.orders) p.orders in
+    let orders : c.tick_or_no_memory.new.orders.items ≡ step.orders =
+    c.in_ok-tick_or_no_memory.ensures.ok.1 ∙ ap (λ (l : List Order). l ++ step.orders) p.orders in
     let few : length c.as_slice.result.now ≤ c.most_orders.result =
     subst (λ (l : List Order). length l ≤ c.most_orders.result) (sym (c.as_slice.ensures.value ∙ orders))
     (c.most_orders.ensures.most (Tick c.args.moment)) in

@@ -5,8 +5,8 @@ use Rattle.events.specs.declared.output.Out.TheVariants.{Send}
 use Rattle.legs.specs.declared.plan.Change.TheVariants.{Keep}
 use Rattle.legs.specs.Legs.{outgoing_bytes}
 use Rattle.legs.specs.Planning.{packet_planned}
-use Rattle.rewrite.specs.Rtp.{sequence_number, payload_octets}
-use Rattle.rewrite.proofs.RtpLemmas.{header_of}
+use Rattle.shared_packet.specs.Rtp.{sequence_number, payload_octets}
+use Rattle.shared_packet.proofs.RtpLemmas.{header_of}
 use Rattle.legs.proofs.planning.plan_packet.Goals as goal
 
 pub new-kept-requires : goal.new-kept-requires

@@ -1,6 +1,6 @@
 use Rattle.std.proofs.Common.{◌+◌, ap}
 use Rattle.std.specs.Prelude.{◌%◌}
-use Rattle.rtp_packet.specs.declared.header.TheConstants.{SEQ_CYCLE}
+use Rattle.resend_ring.specs.declared.packets.TheConstants.{SEQ_CYCLE}
 use Rattle.resend_ring.specs.Chains.{sequence_numbers}
 use Rattle.resend_ring.proofs.PushLemmas.{chains_pushed}
 use Rattle.resend_ring.proofs.chains.Chains.push.Goals as goal

@@ -2,7 +2,6 @@ use Rattle.std.proofs.Common.{Err, sym, ap, ◌∙◌, arith, inl, inr}
 use Rattle.std.proofs.lemmas.List.{take_rest}
 use Rattle.std.proofs.lemmas.Result.{err_from_is_err_and}
 use Rattle.rtp_packet.specs.declared.fault.RtpFault.TheVariants.{Short, Version, CsrcShort, ExtensionShort, Padding}
-use Rattle.rtp_packet.specs.Trees.{tree_of}
 use Rattle.rtp_packet.proofs.PacketLemmas.{one_packet, packet_of_parts, no_fault, exact_fault, csrc_fault, extension_fault, padding_fault}
 use Rattle.rtp_packet.proofs.view.RtpView.parse.Goals as goal
 
@@ -40,7 +39,7 @@ returns-in_err-payload-clause-every c = λ packet reads.
     let cut = sym (take_rest c.args.datagram.now 12) ∙ c.in_ok-csrcs.ensures.parts in
     absurd (no_fault c.args.datagram.now packet Padding reads
     (padding_fault c.args.datagram.now c.in_ok-header.header c.in_ok-csrcs.csrcs.now c.in_ok-csrcs.rest.now
-    (tree_of c.in_ok-extension.extension) c.in_ok-extension.rest.now c.in_ok-header.ensures.ok
+    c.in_ok-extension.extension.now c.in_ok-extension.rest.now c.in_ok-header.ensures.ok
     cut c.in_ok-csrcs.ensures.count c.in_ok-extension.ensures.parts c.in_ok-extension.ensures.valid c.in_ok-extension.ensures.there
     c.in_err-payload.ensures.no_count.1 c.in_err-payload.ensures.no_count.2))
 
@@ -48,7 +47,7 @@ pub returns-in_err-payload-clause-fault : goal.returns-in_err-payload-clause-fau
 returns-in_err-payload-clause-fault c =
     let cut = sym (take_rest c.args.datagram.now 12) ∙ c.in_ok-csrcs.ensures.parts in
     let fault = padding_fault c.args.datagram.now c.in_ok-header.header c.in_ok-csrcs.csrcs.now c.in_ok-csrcs.rest.now
-    (tree_of c.in_ok-extension.extension) c.in_ok-extension.rest.now c.in_ok-header.ensures.ok
+    c.in_ok-extension.extension.now c.in_ok-extension.rest.now c.in_ok-header.ensures.ok
     cut c.in_ok-csrcs.ensures.count c.in_ok-extension.ensures.parts c.in_ok-extension.ensures.valid c.in_ok-extension.ensures.there
     c.in_err-payload.ensures.no_count.1 c.in_err-payload.ensures.no_count.2 in
     let p = err_from_is_err_and c.from_residual-in_err-payload.result c.from_residual-in_err-payload.ensures.1 in
@@ -59,7 +58,7 @@ invariant_of-result c =
     let cut = sym (take_rest c.args.datagram.now 12) ∙ c.in_ok-csrcs.ensures.parts in
     record {
       is_read = packet_of_parts c.args.datagram.now c.in_ok-header.header c.in_ok-csrcs.csrcs.now c.in_ok-csrcs.rest.now
-          (tree_of c.in_ok-extension.extension) c.in_ok-extension.rest.now c.in_ok-payload.payload.now c.in_ok-payload.padding.now
+          c.in_ok-extension.extension.now c.in_ok-extension.rest.now c.in_ok-payload.payload.now c.in_ok-payload.padding.now
           c.in_ok-header.ensures.ok (λ k. omega (arith, c.type_inv.datagram k)) cut c.in_ok-csrcs.ensures.count
           c.in_ok-extension.ensures.parts c.in_ok-extension.ensures.valid c.in_ok-extension.ensures.there
           c.in_ok-payload.ensures.parts c.in_ok-payload.ensures.valid c.in_ok-payload.ensures.there;
@@ -69,7 +68,7 @@ pub returns-clause-every : goal.returns-clause-every
 returns-clause-every c = λ packet reads.
     let cut = sym (take_rest c.args.datagram.now 12) ∙ c.in_ok-csrcs.ensures.parts in
     let read = packet_of_parts c.args.datagram.now c.in_ok-header.header c.in_ok-csrcs.csrcs.now c.in_ok-csrcs.rest.now
-    (tree_of c.in_ok-extension.extension) c.in_ok-extension.rest.now c.in_ok-payload.payload.now c.in_ok-payload.padding.now
+    c.in_ok-extension.extension.now c.in_ok-extension.rest.now c.in_ok-payload.payload.now c.in_ok-payload.padding.now
     c.in_ok-header.ensures.ok (λ k. omega (arith, c.type_inv.datagram k)) cut c.in_ok-csrcs.ensures.count
     c.in_ok-extension.ensures.parts c.in_ok-extension.ensures.valid c.in_ok-extension.ensures.there
     c.in_ok-payload.ensures.parts c.in_ok-payload.ensures.valid c.in_ok-payload.ensures.there in
@@ -106,7 +105,7 @@ returns-in_err-payload-clause-exact c =
     let p = err_from_is_err_and c.from_residual-in_err-payload.result c.from_residual-in_err-payload.ensures.1 in
     exact_fault c.args.datagram.now _ Padding (p.1 ∙ ap Err (p.2 ∙ c.in_err-payload.ensures.no_count.0))
     (padding_fault c.args.datagram.now c.in_ok-header.header c.in_ok-csrcs.csrcs.now c.in_ok-csrcs.rest.now
-    (tree_of c.in_ok-extension.extension) c.in_ok-extension.rest.now c.in_ok-header.ensures.ok
+    c.in_ok-extension.extension.now c.in_ok-extension.rest.now c.in_ok-header.ensures.ok
     cut c.in_ok-csrcs.ensures.count c.in_ok-extension.ensures.parts c.in_ok-extension.ensures.valid c.in_ok-extension.ensures.there
     c.in_err-payload.ensures.no_count.1 c.in_err-payload.ensures.no_count.2)
 
@@ -114,7 +113,7 @@ pub returns-clause-exact : goal.returns-clause-exact
 returns-clause-exact c = λ fault has.
     let cut = sym (take_rest c.args.datagram.now 12) ∙ c.in_ok-csrcs.ensures.parts in
     let read = packet_of_parts c.args.datagram.now c.in_ok-header.header c.in_ok-csrcs.csrcs.now c.in_ok-csrcs.rest.now
-    (tree_of c.in_ok-extension.extension) c.in_ok-extension.rest.now c.in_ok-payload.payload.now c.in_ok-payload.padding.now
+    c.in_ok-extension.extension.now c.in_ok-extension.rest.now c.in_ok-payload.payload.now c.in_ok-payload.padding.now
     c.in_ok-header.ensures.ok (λ k. omega (arith, c.type_inv.datagram k)) cut c.in_ok-csrcs.ensures.count
     c.in_ok-extension.ensures.parts c.in_ok-extension.ensures.valid c.in_ok-extension.ensures.there
     c.in_ok-payload.ensures.parts c.in_ok-payload.ensures.valid c.in_ok-payload.ensures.there in

@@ -1,0 +1,2 @@
+pub mod ReaddressedLemmas
+pub mod RtpLemmas

@@ -1,0 +1,3 @@
+pub mod Readdressed
+pub mod Shared
+pub mod Rtp
