@@ -1,7 +1,7 @@
 #!/usr/bin/env python3
 """Tries the wrong bodies of docs/WRONG_BODIES.md again: run.py [--jobs N] [NAME..]
 
-Each stands in a file beside this one, NAME.body, named after its table and its row. Its first lines are comments; then
+Each stands in a file beside this one, NAME.body, named after its table and its row, or after what it does. Its first lines are comments; then
 
     crate: NAME                     the crate that it is in
     refused by: clause FUNCTION     the prover refuses it: `rt check --only FUNCTION` in that crate
@@ -20,6 +20,7 @@ be built (tools/build.py). It is refused if what it says refuses it, and nothing
 import os
 import re
 import shutil
+import signal
 import subprocess
 import sys
 import tempfile
@@ -141,8 +142,16 @@ def refused_by_clause(top, body):
 
 
 def end(ran):
-    """Ends a run: what it started first (a test ends with who runs it), then itself."""
-    subprocess.run(["pkill", "-KILL", "-P", str(ran.pid)], check=False)
+    """Ends a run: what it started first, with the group of each (a test that waits in vain would go on), then itself."""
+    started = subprocess.run(["pgrep", "-P", str(ran.pid)], stdout=subprocess.PIPE, text=True, check=False).stdout.split()
+    for pid in map(int, started):
+        try:
+            if os.getpgid(pid) == pid:
+                os.killpg(pid, signal.SIGKILL)
+            else:
+                os.kill(pid, signal.SIGKILL)
+        except ProcessLookupError:
+            continue
     ran.kill()
 
 
