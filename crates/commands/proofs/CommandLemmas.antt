@@ -11,7 +11,7 @@ use Rattle.cli.specs.declared.status.Status.{Status}
 use Rattle.cli.specs.declared.status.Status.TheVariants as status
 use Rattle.replay.specs.ByFile.{EndsReplay, shown_by}
 use Rattle.serving.proofs.ServeLemmas.{says_alone}
-use Rattle.serving.specs.Serving.{EndsServe, SaysWhyServing}
+use Rattle.serving.specs.Serving.{EndsServe, SaysWhyServing, turns_by}
 use Rattle.settings.specs.Settings.{Configuration}
 
 -- the words ask for one thing
@@ -23,18 +23,18 @@ ends_asked words known asked input old new errors_old errors_new s here ends is 
     subst (λ (r : Request). Ends r input old new errors_old errors_new s) same ends
 
 -- a unit was served by these settings
-pub unit_ends : (settings : Configuration) (old new errors_old errors_new : Option (List ℕ)) (s : Status) → EndsServe settings old new s
-    → SaysWhyServing errors_old errors_new s → EndsUnit old new errors_old errors_new s
-unit_ends settings old new errors_old errors_new s ends says = record {
-  done = λ is. (settings, ends.done is);
+pub unit_ends : (settings : Configuration) (tick_ms : ℕ) (ticks : Option ℕ) (old new errors_old errors_new : Option (List ℕ)) (s : Status)
+    → EndsServe settings tick_ms (turns_by ticks) old new s → SaysWhyServing errors_old errors_new s → EndsUnit ticks old new errors_old errors_new s
+unit_ends settings tick_ms ticks old new errors_old errors_new s ends says = record {
+  done = λ is. (settings, tick_ms, ends.done is);
   failed = ends.socket;
   said = says;
 }
 
 -- none was, nothing was printed, and what any other command says was said
-pub unit_undone : (printed errors_old errors_new : Option (List ℕ)) (s : Status) → s ≢ status.Done → SaysWhy errors_old errors_new s
-    → EndsUnit printed printed errors_old errors_new s
-unit_undone printed errors_old errors_new s fails says = record {
+pub unit_undone : (ticks : Option ℕ) (printed errors_old errors_new : Option (List ℕ)) (s : Status) → s ≢ status.Done → SaysWhy errors_old errors_new s
+    → EndsUnit ticks printed printed errors_old errors_new s
+unit_undone ticks printed errors_old errors_new s fails says = record {
   done = λ is. absurd (fails is);
   failed = λ is. Keeps-refl printed;
   said = says_alone errors_old errors_new s fails says;
@@ -49,7 +49,7 @@ unread (check file) input printed errors_old errors_new s fails read set_up hear
     record { done = λ is. absurd (fails is); refused = λ is. absurd (read is) }
 unread (replay file leg endpoint from events) input printed errors_old errors_new s fails read set_up heard says =
     record { done = λ is. absurd (fails is); refused = λ is. absurd (read is) }
-unread (serve file ticks seconds control recorded log_time) input printed errors_old errors_new s fails read set_up heard says = unit_undone printed errors_old errors_new s fails says
+unread (serve file ticks seconds control recorded log_time) input printed errors_old errors_new s fails read set_up heard says = unit_undone ticks printed errors_old errors_new s fails says
 unread (draw media) input printed errors_old errors_new s fails read set_up heard says =
     record { done = λ is. absurd (fails is); refused = λ is. absurd (read is) }
 unread version input printed errors_old errors_new s fails read set_up heard says = record { done = λ is. absurd (fails is); read = read }

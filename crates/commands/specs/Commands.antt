@@ -8,13 +8,15 @@ use Rattle.cli.specs.declared.status.Status.TheVariants as status
 use Rattle.cli.specs.Ends.{EndsBound, EndsCheck, EndsDraw, EndsVersion}
 use Rattle.replay.specs.ByFile.{EndsReplay, shown_by}
 use Rattle.serving.specs.ReportText.{PrintsReport}
-use Rattle.serving.specs.Serving.{SaysWhyServing}
+use Rattle.serving.specs.Serving.{SaysWhyServing, turns_by}
 use Rattle.settings.specs.Settings.{Configuration}
 
--- How `sfu serve` ends.
-pub record EndsUnit (old new errors_old errors_new : Option (List ℕ)) (s : Status) : Type 0 where
-  -- if it is done, the report of a unit with some settings is printed
-  pub done : s ≡ status.Done → (c : Configuration) × PrintsReport c old new
+-- How `sfu serve` ends, with `--ticks N` or without.
+pub record EndsUnit (ticks : Option ℕ) (old new errors_old errors_new : Option (List ℕ)) (s : Status)
+    : Type 0 where
+  -- if it is done, the report of so many turns of a unit with some settings, at some pace, is printed
+  pub done : s ≡ status.Done
+      → (c : Configuration) × (tick_ms : ℕ) × PrintsReport c tick_ms (turns_by ticks) old new
   -- if its socket or its threads failed, nothing is printed
   pub failed : s ≡ status.Socket → Keeps old new
   -- however it ends, where it listened is said, if it came so far, and after that what any other command says
@@ -49,7 +51,7 @@ Ends (check file) input old new errors_old errors_new s = EndsCheck old new erro
 Ends (replay file leg endpoint from events) input old new errors_old errors_new s =
     EndsReplay (shown_by leg endpoint from events) input old new errors_old errors_new s
 Ends (serve file ticks status control recorded log_time) input old new errors_old errors_new s =
-    EndsUnit old new errors_old errors_new s
+    EndsUnit ticks old new errors_old errors_new s
 Ends (draw media) input old new errors_old errors_new s =
     EndsDraw media input old new errors_old errors_new s
 Ends version input old new errors_old errors_new s = EndsVersion old new s

@@ -129,8 +129,8 @@ fn run_serve<
     O: Write,
     E: Write,
 >(rt: &R, file: &str, term: Term, paths: Paths<'_>, writer: &mut O, errors: &mut E) -> Status
-    ensures ends { EndsUnit (O.contents writer.old) (O.contents writer.new) (E.contents errors.old)
-        (E.contents errors.new) result }
+    ensures ends { EndsUnit term.ticks (O.contents writer.old) (O.contents writer.new)
+        (E.contents errors.old) (E.contents errors.new) result }
     ensures settings { result ≡ Status.Settings
         → Keeps (O.contents writer.old) (O.contents writer.new)
         × SaysProblem (E.contents errors.old) (E.contents errors.new) }
@@ -148,8 +148,8 @@ fn serve_steered<
     O: Write,
     E: Write,
 >(rt: &R, file: &ServedFile, term: Term, paths: Paths<'_>, writer: &mut O, errors: &mut E) -> Status
-    ensures ends { EndsUnit (O.contents writer.old) (O.contents writer.new) (E.contents errors.old)
-        (E.contents errors.new) result }
+    ensures ends { EndsUnit term.ticks (O.contents writer.old) (O.contents writer.new)
+        (E.contents errors.old) (E.contents errors.new) result }
     ensures understood { (result ≢ Status.CommandLine) × (result ≢ Status.Refused)
         × (result ≢ Status.Settings) }
 {
@@ -178,8 +178,8 @@ fn serve_recorded<
     writer: &mut O,
     errors: &mut E,
 ) -> Status
-    ensures ends { EndsUnit (O.contents writer.old) (O.contents writer.new) (E.contents errors.old)
-        (E.contents errors.new) result }
+    ensures ends { EndsUnit term.ticks (O.contents writer.old) (O.contents writer.new)
+        (E.contents errors.old) (E.contents errors.new) result }
     ensures understood { (result ≢ Status.CommandLine) × (result ≢ Status.Refused)
         × (result ≢ Status.Settings) }
 {

@@ -21,8 +21,8 @@ pub use explaining::explain;
 pub use replay::{Shown, replay_lines};
 pub use request_text::{LineFault, Meter};
 pub use serving::{
-    AddressKey, Addresses, Client, ClientFault, ErrorOutput, Gauges, Listening, Location, Rules,
-    ServeFault, ServedSettings, Sockets, read_clients, read_served, run_on, serve_socket,
-    serve_watched,
+    AddressKey, Addresses, Client, ClientFault, ErrorOutput, Gauges, Listening, Location, Pace,
+    Rules, ServeFault, ServedSettings, Sockets, read_clients, read_served, run_on, serve_on,
+    serve_socket, serve_watched,
 };
 pub use settings_toml::{ClientText, FileSettings, SettingsProblem, problem_line, read_settings};

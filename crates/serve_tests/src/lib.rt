@@ -9,6 +9,8 @@ mod expected;
 #[cfg(test)]
 mod loopback;
 #[cfg(test)]
+mod loopback_tests;
+#[cfg(test)]
 mod outside_tests;
 #[cfg(test)]
 mod page_tests;

@@ -1,5 +1,5 @@
 //! Settings, clients and runs of a unit on sockets of the loopback interface, for tests.
-use serving::{Client, Gauges, Rules, Sockets, run_on};
+use serving::{Client, Gauges, Pace, Rules, Sockets, run_on};
 use settings::Settings;
 use settings_toml::read_settings;
 use std::alloc::Global;
@@ -32,7 +32,7 @@ pub(crate) fn ran<W: Watch + Drop>(
     sockets: Sockets<'_>,
     settings: &Settings,
     clients: &[Client],
-    turns: u64,
+    pace: Pace,
     gauges: &Gauges,
     watch: W,
 ) -> Result<Report, Fail> {
@@ -42,7 +42,7 @@ pub(crate) fn ran<W: Watch + Drop>(
         settings,
         clients,
         Rules::none(),
-        turns,
+        pace,
         gauges,
         watch,
     ) {

@@ -1,6 +1,6 @@
 //! What is counted of who can't be sent anything.
 use crate::loopback::{ANY_PORT, client_at, ran, settings_in};
-use serving::{Client, Gauges, Location, Sockets};
+use serving::{Client, Gauges, Location, Pace, Sockets};
 use std::net::UdpSocket;
 use std::sync::Wait;
 use std::test::Fail;
@@ -30,7 +30,11 @@ fn sent_to_nobody(
     publisher.send_to(PACKET.as_slice(), unit.local_addr()?)?;
     let gauges = Gauges::new();
     let sockets = Sockets::one(unit);
-    let report = ran(rt, sockets, &settings, &clients, 20, &gauges, Unwatched)?;
+    let pace = Pace {
+        turns: 20,
+        tick_ms: 50,
+    };
+    let report = ran(rt, sockets, &settings, &clients, pace, &gauges, Unwatched)?;
     Ok([report.heard, report.sent, report.failed])
 }
 

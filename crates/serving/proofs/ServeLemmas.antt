@@ -78,8 +78,9 @@ pub no_memory : (old new : Option (List ℕ)) (s : Status) → EndsSaying status
 no_memory old new s (inl said) = no_memory_said old new s said.0 said.1
 no_memory old new s (inr is) = unsaid_why old new s is
 
-pub ends_early : (settings : Configuration) (printed old new : Option (List ℕ)) (s : Status) → FailsToStart old new s → EndsServe settings printed printed s
-ends_early settings printed old new s fails = record {
+pub ends_early : (settings : Configuration) (tick_ms turns : ℕ) (printed old new : Option (List ℕ)) (s : Status) → FailsToStart old new s
+    → EndsServe settings tick_ms turns printed printed s
+ends_early settings tick_ms turns printed old new s fails = record {
   done = λ is. absurd (fails.failed is);
   socket = λ is. keeps_itself printed;
   understood = fails.understood;
@@ -109,29 +110,30 @@ says_behind old mid new address rtcp s there said = record {
   said = said_behind old mid new (serving_line address rtcp) s there said;
 }
 
-pub ends_so : (settings : Configuration) (old new said_old said_new : Option (List ℕ)) (served : Result (Unit {0}) ServeFault) (s : Status)
-    → OnOk served (PrintsReport settings old new) → IfErr served (FailsServe old new)
-    → MatchResult served (λ _. s ≡ status.Done) (SaysFault said_old said_new s) → EndsServe settings old new s
-ends_so settings old new said_old said_new (Ok u) s prints fails ends =
-    subst (λ z. EndsServe settings old new z) (sym ends) (record {
-      done = λ is. prints;
-      socket = λ is. cc;
-      understood = λ is. cc;
-      read = (λ is. cc, λ is. cc);
+pub ends_so : (settings : Configuration) (tick_ms turns asked : ℕ) (old new said_old said_new : Option (List ℕ)) (served : Result (Unit {0}) ServeFault)
+    (s : Status) → turns ≡ asked → OnOk served (PrintsReport settings tick_ms turns old new) → IfErr served (FailsServe old new)
+    → MatchResult served (λ _. s ≡ status.Done) (SaysFault said_old said_new s) → EndsServe settings tick_ms asked old new s
+ends_so settings tick_ms turns asked old new said_old said_new (Ok u) s is prints fails ends =
+    subst (λ z. EndsServe settings tick_ms asked old new z) (sym ends) (record {
+      done = λ done. subst (λ n. PrintsReport settings tick_ms n old new) is prints;
+      socket = λ other. cc;
+      understood = λ other. cc;
+      read = (λ other. cc, λ other. cc);
     })
-ends_so settings old new said_old said_new (Err why) s prints fails ends = record {
-  done = λ is. absurd (ends.fails.failed is);
-  socket = λ is. fails (ends.socket is);
+ends_so settings tick_ms turns asked old new said_old said_new (Err why) s is prints fails ends = record {
+  done = λ done. absurd (ends.fails.failed done);
+  socket = λ socket. fails (ends.socket socket);
   understood = ends.fails.understood;
   read = ends.fails.read;
 }
 
 -- ---- a report that is printed
 
-pub prints : (settings : Configuration) (old new : Option (List ℕ)) (text : List ℕ) (r : Result (Unit {0}) ServeFault) → OnOk r (Appends old new text)
-    → (Appends old new text → PrintsReport settings old new) → OnOk r (PrintsReport settings old new)
-prints settings old new text (Ok u) there whole = whole there
-prints settings old new text (Err f) there whole = tt
+pub prints : (settings : Configuration) (tick_ms turns : ℕ) (old new : Option (List ℕ)) (text : List ℕ) (r : Result (Unit {0}) ServeFault)
+    → OnOk r (Appends old new text) → (Appends old new text → PrintsReport settings tick_ms turns old new)
+    → OnOk r (PrintsReport settings tick_ms turns old new)
+prints settings tick_ms turns old new text (Ok u) there whole = whole there
+prints settings tick_ms turns old new text (Err f) there whole = tt
 
 -- ---- a unit that wasn't to be served after all
 

@@ -1,3 +1,4 @@
+pub mod DrivenReport
 pub mod Repeated
 pub mod ReportText
 pub mod Serving

@@ -1,5 +1,5 @@
 -- What `sfu serve` says, and what it leaves if it isn't done.
-use Rattle.std.specs.Prelude.{◌≡◌, ◌≢◌, ◌⊎◌, ◌++◌, ℕ, List, [], Option, Some, None, codes}
+use Rattle.std.specs.Prelude.{◌≡◌, ◌≢◌, ◌⊎◌, ◌++◌, ◌-◌, ◌^◌, ℕ, List, [], Option, Some, None, codes}
 use Rattle.std.specs.Io.KnownBytes.{Keeps, append_known}
 use Rattle.std.specs.Net.Text.{socket_text}
 use Rattle.std.specs.declared.net.socket_addr.SocketAddr.{SocketAddr}
@@ -36,11 +36,16 @@ courier_fault_of courier_fault.System = Socket
 abbrev pub FailsServe : Option (List ℕ) → Option (List ℕ) → ServeFault → Type 0
 FailsServe old new fault = fault ≡ Socket → Keeps old new
 
--- How a unit that was to be served ends: its report is printed; or its socket or its threads failed, and nothing is; or
--- memory is wanting, or a write failed.
-pub record EndsServe (settings : Configuration) (old new : Option (List ℕ))
+-- the turns of `--ticks N`; without it, more than come to an end
+abbrev pub turns_by : Option ℕ → ℕ
+turns_by None = 2 ^ 64 - 1
+turns_by (Some count) = count
+
+-- How a unit that was to be served ends: the report of so many turns at this pace is printed; or its socket or its threads failed, and nothing
+-- is; or memory is wanting, or a write failed.
+pub record EndsServe (settings : Configuration) (tick_ms turns : ℕ) (old new : Option (List ℕ))
     (s : Status) : Type 0 where
-  pub done : s ≡ status.Done → PrintsReport settings old new
+  pub done : s ≡ status.Done → PrintsReport settings tick_ms turns old new
   pub socket : s ≡ status.Socket → Keeps old new
   pub understood : s ≢ status.CommandLine
   pub read : (s ≢ status.Settings) × (s ≢ status.Refused)

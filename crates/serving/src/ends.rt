@@ -3,7 +3,7 @@
 use crate::repeated::RepeatingWatch;
 use crate::serve_fault::ServeFault;
 use addressing::{Client, Directory};
-use operating::{ControlHeard, Gauges, SteeredWatch, TICK_MS};
+use operating::{ControlHeard, Gauges, SteeredWatch};
 use repeats::{Holding, Sets};
 use screening::{Rules, Screen};
 use settings::Settings;
@@ -53,11 +53,12 @@ pub(crate) struct Ends<'a> {
     pub(crate) common: &'a Common,
 }
 
-/// What comes to the sockets, screened and held.
+/// What comes to the sockets, screened and held, of a unit in which the moment rises by so much between two ticks.
 pub(crate) fn source_on<'a>(
     alloc: Global,
     ends: Ends<'a>,
     settings: &'a Settings,
+    tick_ms: u64,
     gauges: &'a Gauges,
 ) -> Result<RunSource<'a>, ServeFault> {
     let Ends {
@@ -95,7 +96,7 @@ pub(crate) fn source_on<'a>(
         screen,
         settings,
         rules.repeat_ms,
-        TICK_MS,
+        tick_ms,
         moment_ms,
         sets,
     )?;

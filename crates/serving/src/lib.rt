@@ -21,6 +21,7 @@ pub use operating::{
     close_control, close_record, open_control, open_record,
 };
 pub use running::run_on;
-pub use serve::{Term, serve_file, serve_socket, serve_watched};
+pub use serve::{Term, serve_file, serve_on, serve_socket, serve_watched};
 pub use serve_fault::ServeFault;
 pub use sockets::Sockets;
+pub use workers::Pace;

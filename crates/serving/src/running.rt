@@ -3,12 +3,13 @@
 ghost use Rattle.std.specs.Prelude.{◌≡◌, ◌+◌, length, vec_len, IfOk};
 ghost use Rattle.settings.specs.Settings.{IsInRange};
 ghost use Rattle.rate_desk.specs.Gathered.{AreDesksOf};
+ghost use Rattle.serving.specs.DrivenReport.{IsDrivenReport};
 
 use crate::ends::{Common, Ends, source_on, watch_on};
 use crate::serve_fault::ServeFault;
 use addressing::Client;
 use one_thread::run_one_thread;
-use operating::{ControlHeard, Gauges, RecordedClock, RecordedSource, SteeredSource, TICK_MS};
+use operating::{ControlHeard, Gauges, RecordedClock, RecordedSource, SteeredSource};
 use outside::{Sink, Source};
 use screening::Rules;
 use settings::Settings;
@@ -28,13 +29,15 @@ pub fn run_on<R: AllocGlobal + Threads + Wait + Sync + time::Clock, W: Watch + D
     settings: &Settings,
     clients: &[Client],
     rules: Rules,
-    turns: u64,
+    pace: Pace,
     gauges: &Gauges,
     watch: W,
 ) -> Result<Report, ServeFault>
     ensures report { IfOk result (λ r. AreDesksOf settings.now.pli_gap_ms settings.now.request_ms
         (length settings.now.endpoints) r.desks.items) }
     ensures range { IfOk result (λ _. IsInRange settings.now) }
+    ensures driven { settings.now.workers ≡ 1
+        → IfOk result (IsDrivenReport settings.now pace.tick_ms pace.turns) }
 {
     if !sockets.waits_a_little() {
         return Err(ServeFault::Socket);
@@ -47,7 +50,7 @@ pub fn run_on<R: AllocGlobal + Threads + Wait + Sync + time::Clock, W: Watch + D
         rules,
         common: &common,
     };
-    let report = run_by_workers(rt, ends, settings, turns, gauges, watch)?;
+    let report = run_by_workers(rt, ends, settings, pace, gauges, watch)?;
     leave(alloc, sockets, settings, gauges, &common);
     Ok(report)
 }
@@ -71,18 +74,20 @@ fn run_by_workers<R: AllocGlobal + Threads + Wait + Sync + time::Clock, W: Watch
     rt: &R,
     ends: Ends<'_>,
     settings: &Settings,
-    turns: u64,
+    pace: Pace,
     gauges: &Gauges,
     watch: W,
 ) -> Result<Report, ServeFault>
     ensures report { IfOk result (λ r. AreDesksOf settings.now.pli_gap_ms settings.now.request_ms
         (length settings.now.endpoints) r.desks.items) }
     ensures range { IfOk result (λ _. IsInRange settings.now) }
+    ensures driven { settings.now.workers ≡ 1
+        → IfOk result (IsDrivenReport settings.now pace.tick_ms pace.turns) }
 {
     if settings.workers() == 1 {
-        run_in_this_thread(rt, ends, settings, turns, gauges, watch)
+        run_in_this_thread(rt, ends, settings, pace, gauges, watch)
     } else {
-        run_on_threads(rt, ends, settings, turns, gauges, watch)
+        run_on_threads(rt, ends, settings, pace, gauges, watch)
     }
 }
 
@@ -91,16 +96,17 @@ fn run_in_this_thread<R: AllocGlobal + time::Clock, W: Watch + Drop>(
     rt: &R,
     ends: Ends<'_>,
     settings: &Settings,
-    turns: u64,
+    pace: Pace,
     gauges: &Gauges,
     watch: W,
 ) -> Result<Report, ServeFault>
     requires { settings.now.workers ≡ 1 }
-    ensures { IfOk result (λ r. AreDesksOf settings.now.pli_gap_ms settings.now.request_ms
+    ensures report { IfOk result (λ r. AreDesksOf settings.now.pli_gap_ms settings.now.request_ms
         (length settings.now.endpoints) r.desks.items) }
+    ensures driven { IfOk result (IsDrivenReport settings.now pace.tick_ms pace.turns) }
 {
     let watch = watch_on(rt.alloc(), ends, settings, gauges, watch)?;
-    run_watched_here(rt, ends, settings, turns, gauges, watch)
+    run_watched_here(rt, ends, settings, pace, gauges, watch)
 }
 
 /// The same, once there is who looks at it all.
@@ -108,16 +114,17 @@ fn run_watched_here<R: AllocGlobal + time::Clock, W: Watch + Drop>(
     rt: &R,
     ends: Ends<'_>,
     settings: &Settings,
-    turns: u64,
+    pace: Pace,
     gauges: &Gauges,
     watch: W,
 ) -> Result<Report, ServeFault>
     requires { settings.now.workers ≡ 1 }
-    ensures { IfOk result (λ r. AreDesksOf settings.now.pli_gap_ms settings.now.request_ms
+    ensures report { IfOk result (λ r. AreDesksOf settings.now.pli_gap_ms settings.now.request_ms
         (length settings.now.endpoints) r.desks.items) }
+    ensures driven { IfOk result (IsDrivenReport settings.now pace.tick_ms pace.turns) }
 {
-    let source = source_on(rt.alloc(), ends, settings, gauges)?;
-    drive(rt, ends, settings, turns, gauges, source, watch)
+    let source = source_on(rt.alloc(), ends, settings, pace.tick_ms, gauges)?;
+    drive(rt, ends, settings, pace, gauges, source, watch)
 }
 
 /// Drives the machine over this source and this watch.
@@ -125,14 +132,15 @@ fn drive<R: AllocGlobal + time::Clock, Src: Source + Drop, W: Watch + Drop>(
     rt: &R,
     ends: Ends<'_>,
     settings: &Settings,
-    turns: u64,
+    pace: Pace,
     gauges: &Gauges,
     source: Src,
     watch: W,
 ) -> Result<Report, ServeFault>
     requires { settings.now.workers ≡ 1 }
-    ensures { IfOk result (λ r. AreDesksOf settings.now.pli_gap_ms settings.now.request_ms
+    ensures report { IfOk result (λ r. AreDesksOf settings.now.pli_gap_ms settings.now.request_ms
         (length settings.now.endpoints) r.desks.items) }
+    ensures driven { IfOk result (IsDrivenReport settings.now pace.tick_ms pace.turns) }
 {
     let Common {
         directory,
@@ -149,10 +157,6 @@ fn drive<R: AllocGlobal + time::Clock, Src: Source + Drop, W: Watch + Drop>(
         gauges,
         control,
         traffic,
-    };
-    let pace = Pace {
-        turns,
-        tick_ms: TICK_MS,
     };
     match run_one_thread(
         rt.alloc(),
@@ -205,7 +209,7 @@ fn run_on_threads<R: AllocGlobal + Threads + Wait + Sync + time::Clock, W: Watch
     rt: &R,
     ends: Ends<'_>,
     settings: &Settings,
-    turns: u64,
+    pace: Pace,
     gauges: &Gauges,
     watch: W,
 ) -> Result<Report, ServeFault>
@@ -214,7 +218,7 @@ fn run_on_threads<R: AllocGlobal + Threads + Wait + Sync + time::Clock, W: Watch
     ensures range { IfOk result (λ _. IsInRange settings.now) }
 {
     let watch = watch_on(rt.alloc(), ends, settings, gauges, watch)?;
-    run_watched_on_threads(rt, ends, settings, turns, gauges, watch)
+    run_watched_on_threads(rt, ends, settings, pace, gauges, watch)
 }
 
 /// The same, once there is who looks at it all.
@@ -222,7 +226,7 @@ fn run_watched_on_threads<R: AllocGlobal + Threads + Wait + Sync + time::Clock, 
     rt: &R,
     ends: Ends<'_>,
     settings: &Settings,
-    turns: u64,
+    pace: Pace,
     gauges: &Gauges,
     watch: W,
 ) -> Result<Report, ServeFault>
@@ -238,12 +242,12 @@ fn run_watched_on_threads<R: AllocGlobal + Threads + Wait + Sync + time::Clock, 
         ..
     } = ends.common;
     let sinks = socket_sinks(alloc, ends.sockets, directory, traffic, count)?;
-    let source = source_on(alloc, ends, settings, gauges)?;
+    let source = source_on(alloc, ends, settings, pace.tick_ms, gauges)?;
     spread(
         rt,
         ends.common,
         settings,
-        turns,
+        pace,
         gauges,
         source,
         sinks,
@@ -261,7 +265,7 @@ fn spread<
     rt: &R,
     common: &Common,
     settings: &Settings,
-    turns: u64,
+    pace: Pace,
     gauges: &Gauges,
     source: Src,
     sinks: Vec<Snk>,
@@ -286,10 +290,6 @@ fn spread<
             traffic,
         },
         watch,
-    };
-    let pace = Pace {
-        turns,
-        tick_ms: TICK_MS,
     };
     match run_watched(rt, rt.alloc(), settings, outside, &Open, pace) {
         Ok(report) => Ok(report),

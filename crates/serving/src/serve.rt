@@ -1,17 +1,19 @@
 //! `sfu serve`: the unit on UDP sockets.
 
-ghost use Rattle.std.specs.Prelude.{◌≡◌, Option, None, MatchResult, length, string_bytes, IfErr, IfOk, OnOk};
+ghost use Rattle.std.specs.Prelude.{◌≡◌, Option, None, MatchResult, length, map, string_bytes, IfErr, IfOk, OnOk};
 ghost use Rattle.std.specs.Io.KnownBytes.{Appends};
+ghost use Rattle.addressing.specs.Clients.{client_at};
+ghost use Rattle.operating.specs.declared.gauges.TheConstants.{TICK_MS};
 ghost use Rattle.serving.specs.ReportText.{PrintsReport, report_text};
 ghost use Rattle.cli.specs.Endings.{SaysWhy};
-ghost use Rattle.serving.specs.Serving.{EndsServe, FailsServe, FailsToStart, SaysFault, SaysWhyServing, serving_line};
+ghost use Rattle.serving.specs.Serving.{EndsServe, FailsServe, FailsToStart, SaysFault, SaysWhyServing, serving_line, turns_by};
 
 use crate::report_text::report_text;
 use crate::running::run_on;
 use crate::serve_fault::ServeFault;
 use addressing::{Client, ServedSettings};
 use cli::{Status, say, say_no_memory, unsaid};
-use operating::{ErrorOutput, Gauges, Lines, StatusLines, TimedLines};
+use operating::{ErrorOutput, Gauges, Lines, StatusLines, TICK_MS, TimedLines};
 use screening::Rules;
 use settings::Settings;
 use sockets::{Sockets, watch_drops};
@@ -23,7 +25,7 @@ use std::rt::Files;
 use std::sync::Wait;
 use std::thread::Threads;
 use std::time;
-use workers::{Report, Unwatched};
+use workers::{Pace, Report, Unwatched};
 
 /// How long the unit is served, and how often it says how it goes.
 #[derive(Clone, Copy, PartialEq, Eq)]
@@ -36,7 +38,9 @@ pub struct Term {
 
 impl Term {
     /// The number of turns.
-    fn turns(self) -> u64 {
+    fn turns(self) -> u64
+        ensures { result ≡ turns_by self.ticks }
+    {
         match self.ticks {
             Some(ticks) => u64::from(ticks),
             None => u64::MAX,
@@ -96,8 +100,8 @@ pub fn serve_file<
     writer: &mut O,
     errors: &mut E,
 ) -> Status
-    ensures ends { EndsServe file.now.settings (O.contents writer.old)
-        (O.contents writer.new) result }
+    ensures ends { EndsServe file.now.settings TICK_MS (turns_by term.ticks)
+        (O.contents writer.old) (O.contents writer.new) result }
     ensures said { SaysWhyServing (E.contents errors.old) (E.contents errors.new) result }
 {
     match Bound::new(rt, file) {
@@ -170,8 +174,8 @@ fn serve_bound<
     writer: &mut O,
     errors: &mut E,
 ) -> Status
-    ensures ends { EndsServe file.now.settings (O.contents writer.old)
-        (O.contents writer.new) result }
+    ensures ends { EndsServe file.now.settings TICK_MS (turns_by term.ticks)
+        (O.contents writer.old) (O.contents writer.new) result }
     ensures said { SaysWhy (E.contents errors.old) (E.contents errors.new) result }
 {
     let drops = if term.status.is_some() || gauges.is_steered() {
@@ -200,8 +204,8 @@ fn serve_lined<
     writer: &mut O,
     errors: &mut E,
 ) -> Status
-    ensures ends { EndsServe file.now.settings (O.contents writer.old)
-        (O.contents writer.new) result }
+    ensures ends { EndsServe file.now.settings TICK_MS (turns_by term.ticks)
+        (O.contents writer.old) (O.contents writer.new) result }
     ensures said { SaysWhy (E.contents errors.old) (E.contents errors.new) result }
 {
     let ServedSettings {
@@ -211,7 +215,10 @@ fn serve_lined<
         ..
     } = file;
     let clients = clients.as_slice();
-    let turns = term.turns();
+    let pace = Pace {
+        turns: term.turns(),
+        tick_ms: TICK_MS,
+    };
     match term.status {
         Some(seconds) => match Lines::new(rt) {
             Ok(mut lines) => {
@@ -221,7 +228,7 @@ fn serve_lined<
                     lines: &mut lines,
                 };
                 let served = serve_watched(
-                    rt, sockets, settings, clients, *rules, turns, seconds, gauges, writer,
+                    rt, sockets, settings, clients, *rules, pace, seconds, gauges, writer,
                     &mut timed,
                 );
                 lines.finish(rt);
@@ -230,9 +237,7 @@ fn serve_lined<
             Err(fault) => say_fault(errors, ServeFault::from(fault)),
         },
         None => {
-            let served = serve_socket(
-                rt, sockets, settings, clients, *rules, turns, gauges, writer,
-            );
+            let served = serve_on(rt, sockets, settings, clients, *rules, pace, gauges, writer);
             ended(served, errors)
         }
     }
@@ -261,50 +266,93 @@ fn say_fault<E: Write>(errors: &mut E, fault: ServeFault) -> Status
     }
 }
 
-/// Serves the endpoints with these clients on the sockets for so many turns, screened by these rules, and prints the counts and what is announced to
-/// each publisher by then.
+/// Serves the endpoints, which are at these addresses, on the socket for so many turns, each one receive and one tick, and prints the counts and
+/// what is announced to each publisher by then. All that comes from there is heard as it comes; nobody steers the run or records it.
 ///
 /// Fails as `Socket` if 100 receives in a row fail, no timeout can be set, a thread can't be started or the desks don't
-/// agree with what was counted; then nothing is printed.
+/// agree with what was counted; then nothing is printed. As `NoMemory` if there is no memory, as `Io` if the writer fails.
 pub fn serve_socket<R: AllocGlobal + Threads + Wait + Sync + time::Clock, O: Write>(
+    rt: &R,
+    socket: &UdpSocket,
+    settings: &Settings,
+    addresses: &[SocketAddr],
+    ticks: u64,
+    writer: &mut O,
+) -> Result<(), ServeFault>
+    ensures done { OnOk result (PrintsReport settings.now 0 ticks
+        (O.contents writer.old) (O.contents writer.new)) }
+    ensures refused { IfErr result (FailsServe (O.contents writer.old) (O.contents writer.new)) }
+{
+    let clients = clients_at(rt.alloc(), addresses)?;
+    let gauges = Gauges::new();
+    let pace = Pace {
+        turns: ticks,
+        tick_ms: 0,
+    };
+    serve_on(
+        rt,
+        Sockets::one(socket),
+        settings,
+        clients.as_slice(),
+        Rules::none(),
+        pace,
+        &gauges,
+        writer,
+    )
+}
+
+/// Clients that have one address each, and speak for themselves.
+fn clients_at(alloc: Global, addresses: &[SocketAddr]) -> Result<Vec<Client>, AllocError>
+    ensures { IfOk result (λ clients. clients.items ≡ map client_at addresses.now) }
+{
+    let mut clients = Vec::new(alloc);
+    for address in addresses {
+        clients.push(Client::at(*address))?;
+    }
+    Ok(clients)
+}
+
+/// Serves the endpoints with these clients on the sockets at this pace, screened by these rules, and prints the counts and what is announced to
+/// each publisher by then. Fails as `serve_socket` does.
+pub fn serve_on<R: AllocGlobal + Threads + Wait + Sync + time::Clock, O: Write>(
     rt: &R,
     sockets: Sockets<'_>,
     settings: &Settings,
     clients: &[Client],
     rules: Rules,
-    ticks: u64,
+    pace: Pace,
     gauges: &Gauges,
     writer: &mut O,
 ) -> Result<(), ServeFault>
-    ensures done { OnOk result (PrintsReport settings.now
+    ensures done { OnOk result (PrintsReport settings.now pace.tick_ms pace.turns
         (O.contents writer.old) (O.contents writer.new)) }
     ensures refused { IfErr result (FailsServe (O.contents writer.old) (O.contents writer.new)) }
 {
     let report = run_on(
-        rt, sockets, settings, clients, rules, ticks, gauges, Unwatched,
+        rt, sockets, settings, clients, rules, pace, gauges, Unwatched,
     )?;
     print_report(rt.alloc(), settings, &report, writer)
 }
 
-/// `serve_socket`, with a line of counts on the error output each so many seconds.
+/// `serve_on`, with a line of counts on the error output each so many seconds.
 pub fn serve_watched<R: AllocGlobal + Threads + Wait + Sync + time::Clock, O: Write, E: Write>(
     rt: &R,
     sockets: Sockets<'_>,
     settings: &Settings,
     clients: &[Client],
     rules: Rules,
-    ticks: u64,
+    pace: Pace,
     seconds: u32,
     gauges: &Gauges,
     writer: &mut O,
     errors: &mut E,
 ) -> Result<(), ServeFault>
-    ensures done { OnOk result (PrintsReport settings.now
+    ensures done { OnOk result (PrintsReport settings.now pace.tick_ms pace.turns
         (O.contents writer.old) (O.contents writer.new)) }
     ensures refused { IfErr result (FailsServe (O.contents writer.old) (O.contents writer.new)) }
 {
     let lines = StatusLines::new(rt.alloc(), errors, u64::from(seconds) * 1000, gauges);
-    let report = run_on(rt, sockets, settings, clients, rules, ticks, gauges, lines)?;
+    let report = run_on(rt, sockets, settings, clients, rules, pace, gauges, lines)?;
     print_report(rt.alloc(), settings, &report, writer)
 }
 
