@@ -35,8 +35,8 @@ pub struct Report {
     pub desks: Vec<Desk>,
 }
 
-/// How many milliseconds the moment rises at least between two ticks.
-const TICK_MS: u64 = 1;
+/// Each turn makes a tick, unless the moment fell.
+const TICK_MS: u64 = 0;
 
 /// Runs the unit for so many turns, each one receive and one tick, with all that follows; a turn in which a stop came is the last.
 /// Each worker sends on its legs in
