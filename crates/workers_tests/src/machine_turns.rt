@@ -9,8 +9,8 @@ use settings::Settings;
 use std::alloc::{AllocError, Global};
 use std::test::Fail;
 
-/// The moment rises so many milliseconds at least between two ticks, as in `run_unit`.
-pub(super) const TICK_MS: u64 = 1;
+/// Each turn makes a tick, as in `run_unit`.
+pub(super) const TICK_MS: u64 = 0;
 
 /// What sinks are told: that of each worker, and last that of the ingress.
 pub(super) type Tellings = Vec<Vec<Told>>;
