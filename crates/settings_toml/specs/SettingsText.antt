@@ -7,7 +7,7 @@ use Rattle.settings_toml.specs.declared.settings_file.SettingsProblem.TheVariant
 
 abbrev pub problem_line : SettingsProblem → List ℕ
 problem_line NoMemory = codes "no memory\n"
-problem_line File = codes "settings: file\n"
+problem_line File = codes "settings: toml\n"
 problem_line Toml = codes "settings: toml\n"
 problem_line (Top key) = codes "settings: " ++ (string_bytes key ++ codes "\n")
 problem_line (Endpoint number key) = codes "settings: endpoint "

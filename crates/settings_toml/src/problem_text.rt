@@ -12,7 +12,7 @@ pub fn problem_line(alloc: Global, problem: &SettingsProblem) -> Result<String, 
 {
     match problem {
         SettingsProblem::NoMemory => String::from_str(alloc, "no memory\n"),
-        SettingsProblem::File => String::from_str(alloc, "settings: file\n"),
+        SettingsProblem::File => String::from_str(alloc, "settings: toml\n"),
         SettingsProblem::Toml => String::from_str(alloc, "settings: toml\n"),
         SettingsProblem::Top(key) => format!(in alloc; "settings: {key}\n"),
         SettingsProblem::Endpoint(number, key) => format!(in alloc;
