@@ -1,8 +1,9 @@
 -- What the words of a command line ask for. How words name subcommands and values is clap's own statement.
-use Rattle.std.specs.Prelude.{◌≡◌, ◌||◌, Bool, false, [], ◌∷◌, decimal, ℕ, ℤ, List, Option, Some, None, codes, pos, true, ◌<◌, ◌^◌, if◌then◌else◌, map, option_map, option_and_then, unwrap_or}
+use Rattle.std.specs.Prelude.{◌≡◌, ◌||◌, Bool, IfOk, Result, false, [], ◌∷◌, decimal, ℕ, ℤ, List, Option, Some, None, codes, pos, true, ◌<◌, ◌^◌, if◌then◌else◌, map, option_map, option_and_then, unwrap_or}
+use Rattle.std.specs.declared.alloc.AllocError.{AllocError}
 use Rattle.std.specs.Str.{bytes_eq}
 use Rattle.std.specs.Str.Parse.{without_leading_plus}
-use Rattle.clap.specs.Words.{App, Kinds, Row, Rule, Text, all_of, fault_of, first_of, new_app, new_rule, one_of, subcommand_of, with_rule, with_subcommand}
+use Rattle.clap.specs.Words.{App, Kinds, Row, Rule, Text, all_of, app_of, fault_of, first_of, new_app, new_rule, one_of, subcommand_of, with_rule, with_subcommand}
 use Rattle.clap.specs.declared.builder.ArgAction.TheVariants.{Append, Set, SetTrue}
 use Rattle.clap.specs.declared.builder.ValueParser.TheVariants.{Signed, Unsigned}
 use Rattle.clap.specs.declared.builder.command.Command.{Command}
@@ -123,19 +124,23 @@ sfu_top = record (new_app (codes "sfu")) {
   top = record (new_app (codes "sfu")).top { subcommand_required = true; has_version = true };
 }
 
--- with its first subcommands
-abbrev pub sfu_first : App
-sfu_first = with_subcommand
-    (with_subcommand (with_subcommand sfu_top (sender_app (codes "bound")).top)
-    (file_app (codes "check")).top) replay_app.top
-
--- with two more
-abbrev pub sfu_second : App
-sfu_second = with_subcommand (with_subcommand sfu_first serve_app.top) (sender_app (codes "draw")).top
+-- with these subcommands
+abbrev pub with_subcommands : App → List App → App
+with_subcommands app [] = app
+with_subcommands app (first ∷ others) = with_subcommands (with_subcommand app first.top) others
 
 -- the program's command line
 abbrev pub sfu : App
-sfu = with_subcommand (with_subcommand (with_subcommand sfu_second sdp_app.top) page_app.top) ask_app.top
+sfu = with_subcommands sfu_top
+    (sender_app (codes "bound") ∷ file_app (codes "check") ∷ replay_app ∷ serve_app
+    ∷ sender_app (codes "draw") ∷ sdp_app ∷ page_app ∷ ask_app ∷ [])
+
+-- if a command and one without globals are made, the first is made with the other as a subcommand, or it isn't made
+abbrev pub TakesSubcommand : Result Command AllocError → Result Command AllocError
+    → Result Command AllocError → Type 0
+TakesSubcommand command subcommand made =
+    (app below : App) → IfOk command (λ c. app_of c ≡ app) → IfOk subcommand (λ c. app_of c ≡ below)
+    → IfOk subcommand HasNoGlobals → IfOk made (λ c. app_of c ≡ with_subcommand app below.top)
 
 -- what can be asked for
 pub data Request : Type 0 where

@@ -1,6 +1,6 @@
 //! The commands of `sfu`, as far as they need no machine, no socket and no unit that runs: the words that ask for them, what each does, how it ends, and what it then says.
 //!
-//! Read `words` first, what the words of a command line ask for, then `status` and `saying`, how a command ends, and `offline`, which runs what needs
+//! Read `words` first, what the words of a command line ask for (`command_line` is the line that `clap` reads), then `status` and `saying`, how a command ends, and `offline`, which runs what needs
 //! no unit: `bounds` is `sfu bound`, `drawn` `sfu draw`, `checked` `sfu check` (over `checking`, which checks the lines of a certificate), and `version` says which
 //! program this is. `sdp` is the text of `sfu sdp`. `explaining` says to people what was wrong with settings, and `cleared` is a stream that gives
 //! way to what a meter says.
@@ -10,6 +10,7 @@ mod bounds;
 mod checked;
 mod checking;
 mod cleared;
+mod command_line;
 mod drawn;
 mod explaining;
 mod offline;
