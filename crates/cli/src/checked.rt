@@ -4,7 +4,7 @@ ghost use Rattle.std.specs.Prelude.{◌≢◌};
 ghost use Rattle.cli.specs.Endings.{SaysWhy};
 ghost use Rattle.cli.specs.Ends.{EndsCheck};
 
-use crate::checking::check_lines;
+use crate::checking::check_metered;
 use crate::saying::report;
 use crate::status::{Status, unreadable};
 use request_text::Meter;
@@ -26,7 +26,7 @@ pub fn run_check<R: AllocGlobal + Files, O: Write, E: Write>(
     ensures said { SaysWhy (E.contents errors.old) (E.contents errors.new) result }
 {
     match fs::open(rt, file) {
-        Ok(mut file) => check_lines(rt.alloc(), meter, &mut file, writer, errors),
+        Ok(mut file) => check_metered(rt.alloc(), meter, &mut file, writer, errors),
         Err(error) => report(rt.alloc(), errors, unreadable(&error)),
     }
 }

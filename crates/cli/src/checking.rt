@@ -34,8 +34,32 @@ struct Sheet {
 /// Checks the certificate that the file's lines spell, and prints the answer: `yes`, or `no` with the
 /// number of the first condition that fails and its least place, if it has one.
 ///
-/// A line that can't be read is said on the error output, and so is a file that can't, as line 0. The meter is shown each line.
+/// A line that can't be read is said on the error output, and so is a file that can't, as line 0.
 pub fn check_lines<I: Read, O: Write, E: Write>(
+    alloc: Global,
+    file: &mut I,
+    writer: &mut O,
+    errors: &mut E,
+) -> Status
+    ensures yes { result ≡ Status.Done
+        → Appends (O.contents writer.old) (O.contents writer.new) (codes "yes\n") }
+    ensures certified { result ≡ Status.Done
+        → IfSome (I.remaining file.old)
+        (λ text. AnswersFile text (O.contents writer.old) (O.contents writer.new) (Ok tt)) }
+    ensures no { result ≡ Status.Refused
+        → SaysNo (O.contents writer.old) (O.contents writer.new) (E.contents errors.old)
+        (E.contents errors.new) }
+    ensures refused { result ≡ Status.Refused
+        → RefusesFile (I.remaining file.old) (O.contents writer.old) (O.contents writer.new)
+        (E.contents errors.old) (E.contents errors.new) }
+    ensures understood { (result ≢ Status.CommandLine) × (result ≢ Status.Settings) }
+    ensures said { SaysWhy (E.contents errors.old) (E.contents errors.new) result }
+{
+    check_metered(alloc, &Meter::hidden(), file, writer, errors)
+}
+
+/// The same; the meter is shown each line.
+pub(crate) fn check_metered<I: Read, O: Write, E: Write>(
     alloc: Global,
     meter: &Meter,
     file: &mut I,

@@ -42,8 +42,40 @@ struct Paths<'a> {
 /// Runs the command that the words ask for, of which the first is the program's name.
 ///
 /// Nothing is done before the input was read to its end. What is printed goes to the writer, and why
-/// a command isn't done to the error output. The meter is shown each line of what `bound`, `draw`, `check` and `replay` read.
+/// a command isn't done to the error output.
 pub fn run_command<
+    R: AllocGlobal
+        + ErrorOutput
+        + Files<File = File>
+        + Net<Listener = TcpListener, Stream = TcpStream>
+        + RandomSource
+        + Threads
+        + Wait
+        + Sync
+        + time::Clock,
+    S: AsStr,
+    I: Read,
+    O: Write,
+    E: Write,
+>(rt: &R, words: &[S], reader: &mut I, writer: &mut O, errors: &mut E) -> Status
+    ensures ends { (asked : Request) → asked_for (map S.text words.now) ≡ Some asked
+        → Ends asked (I.remaining reader.old) (O.contents writer.old) (O.contents writer.new)
+        (E.contents errors.old) (E.contents errors.new) result }
+    ensures settings { result ≡ Status.Settings
+        → Keeps (O.contents writer.old) (O.contents writer.new)
+        × SaysProblem (E.contents errors.old) (E.contents errors.new) }
+    ensures asks { (media : ℕ) → Types (map S.text words.now) media
+        → asked_for (map S.text words.now) ≡ Some (bound media) }
+    ensures understood { (media : ℕ) → Types (map S.text words.now) media
+        → result ≢ Status.CommandLine }
+    ensures said { ¬ (AsksOfUnit (asked_for (map S.text words.now)))
+        → SaysWhy (E.contents errors.old) (E.contents errors.new) result }
+{
+    run_metered(rt, words, &Meter::hidden(), reader, writer, errors)
+}
+
+/// The same; the meter is shown each line of what `bound`, `draw`, `check` and `replay` read.
+pub fn run_metered<
     R: AllocGlobal
         + ErrorOutput
         + Files<File = File>

@@ -1,6 +1,6 @@
 //! The commands of `sfu`: the words that ask for them, and what each does with which file.
 //!
-//! Read `command` first, `run_command`, which the program calls, then `ask` and `ask_record`, which are `sfu ask` (over a `connection`), and
+//! Read `command` first, `run_command`, which the program calls as `run_metered`, then `ask` and `ask_record`, which are `sfu ask` (over a `connection`), and
 //! `description`, `sfu sdp`, by the settings that `served` reads; `explaining` says to people what was wrong. The words, the commands that need no unit, and how a
 //! command ends are `cli`; `sfu replay` is `replay`, `sfu serve` `serving`, `sfu page` `web`. What callers need of these is handed on.
 #![tactic(auto)]
@@ -14,11 +14,13 @@ mod explaining;
 mod served;
 
 pub use ask::run_ask;
-pub use cli::{Cleared, Failure, Status, report, report_settings, report_words, run_version};
-pub use command::run_command;
+pub use cli::{
+    Cleared, Failure, Status, check_lines, report, report_settings, report_words, run_version,
+};
+pub use command::{run_command, run_metered};
 pub use description::run_sdp;
 pub use explaining::explain;
-pub use replay::{Shown, replay_lines};
+pub use replay::replay_lines;
 pub use request_text::{LineFault, Meter};
 pub use serving::{
     AddressKey, Addresses, Client, ClientFault, ErrorOutput, Gauges, Listening, Location, Pace,

@@ -79,6 +79,10 @@ given_at cause told = map (λ t. record { cause = cause; told = t }) told
 
 -- ---- what is shown of it
 
+-- all of it, and nothing besides
+abbrev pub all_shown : Shown
+all_shown = record { only_leg = None; only_endpoint = None; from_ms = 0; events = false }
+
 abbrev pub is_named : ℕ → Option ℕ → Bool
 is_named source None = false
 is_named source (Some other) = source == other

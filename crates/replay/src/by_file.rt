@@ -8,7 +8,7 @@ ghost use Rattle.replay.specs.ByFile.{EndsReplay, problem_by, unknown_text};
 ghost use Rattle.settings_toml.specs.SettingsFaults.{TextGives};
 ghost use Rattle.settings_toml.specs.SettingsText.{SaysProblem};
 
-use crate::replay::replay_lines;
+use crate::replay::replay_metered;
 use crate::shown::{Shown, Unknown};
 use cli::{Status, report_settings, say};
 use request_text::Meter;
@@ -40,7 +40,7 @@ pub fn run_replay<R: AllocGlobal + Files, I: Read, O: Write, E: Write>(
     match settings_in(rt, file) {
         Ok(file) => match shown.unknown_in(&file.settings) {
             Some(unknown) => say_unknown(errors, unknown),
-            None => replay_lines(
+            None => replay_metered(
                 rt.alloc(),
                 &file.settings,
                 shown,

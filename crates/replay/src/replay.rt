@@ -6,7 +6,7 @@ ghost use Rattle.core_steps.specs.Settling.{ingress_left};
 ghost use Rattle.cli.specs.Endings.{SaysWhy};
 ghost use Rattle.replay.specs.Printing.{PrintsGiven};
 ghost use Rattle.replay.specs.Script.{IsAmong};
-ghost use Rattle.replay.specs.Shown.{cause_of, given_at};
+ghost use Rattle.replay.specs.Shown.{all_shown, cause_of, given_at};
 ghost use Rattle.replay.specs.Replay.{CommandPlays, FailsLine, FailsReplay, Follows, GivesOut, IngressDrains, IsOutside, IsShown, PrintsLine, PrintsReplay, RefusesReplay, Rounds, Settles, WorkerDrains, WorkersDrain, numbers_of, told_in};
 
 use crate::latest::Latest;
@@ -35,11 +35,39 @@ pub(crate) struct Progress<'t> {
     said: u64,
 }
 
-/// Plays the script's lines from a new world of these settings, and prints what is shown of what they give: a line for each thing
-/// that the machine gives out, and for each `show`.
+/// Plays the script's lines from a new world of these settings, and prints what they give: a line for each thing that the machine gives
+/// out, and for each `show`.
 ///
-/// A line that can't be read stops it, and is said on the error output; what came before stays printed. The meter is shown each line.
+/// A line that can't be read stops it, and is said on the error output; what came before stays printed.
 pub fn replay_lines<I: Read, O: Write, E: Write>(
+    alloc: Global,
+    settings: &Settings,
+    script: &mut I,
+    writer: &mut O,
+    errors: &mut E,
+) -> Status
+    ensures done { result ≡ Status.Done → IfSome (I.remaining script.old)
+        (λ text. PrintsReplay settings.now all_shown text (O.contents writer.old)
+        (O.contents writer.new)) }
+    ensures refused { result ≡ Status.Refused → IfSome (I.remaining script.old)
+        (λ text. RefusesReplay settings.now all_shown text (O.contents writer.old)
+        (O.contents writer.new) (E.contents errors.old) (E.contents errors.new)) }
+    ensures understood { (result ≢ Status.CommandLine) × (result ≢ Status.Settings) }
+    ensures said { SaysWhy (E.contents errors.old) (E.contents errors.new) result }
+{
+    replay_metered(
+        alloc,
+        settings,
+        Shown::all(),
+        &Meter::hidden(),
+        script,
+        writer,
+        errors,
+    )
+}
+
+/// The same, but of what they give only what is to be shown is printed; and the meter is shown each line.
+pub(crate) fn replay_metered<I: Read, O: Write, E: Write>(
     alloc: Global,
     settings: &Settings,
     shown: Shown,

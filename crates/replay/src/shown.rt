@@ -1,7 +1,7 @@
 //! What is printed of what a script gives.
 
 ghost use Rattle.std.specs.Prelude.{◌≡◌, false, length};
-ghost use Rattle.replay.specs.Shown.{an_out, is_chosen, is_missing, is_named, is_on_chosen, is_on_leg, is_to_chosen, names_source, unknown_in};
+ghost use Rattle.replay.specs.Shown.{all_shown, an_out, is_chosen, is_missing, is_named, is_on_chosen, is_on_leg, is_to_chosen, names_source, unknown_in};
 
 use events::Out;
 use rtcp_compound::is_rtcp;
@@ -31,12 +31,7 @@ pub enum Unknown {
 impl Shown {
     /// All of it, and nothing besides.
     pub fn all() -> Shown
-        ensures { result ≡ record {
-          only_leg = None;
-          only_endpoint = None;
-          from_ms = 0;
-          events = false;
-        } }
+        ensures { result ≡ all_shown }
     {
         Shown {
             only_leg: None,

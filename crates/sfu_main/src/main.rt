@@ -1,7 +1,7 @@
 //! `sfu`, the program of the unit.
 #![tactic(auto)]
 
-use commands::{Cleared, Meter, explain, report_words, run_command};
+use commands::{Cleared, Meter, explain, report_words, run_metered};
 use std::process::ExitCode;
 use std::rt::Env;
 use std::{env, io};
@@ -13,7 +13,7 @@ fn main(rt: HostRuntime) -> ExitCode {
         Ok(words) => {
             let mut reader = rt.reader();
             let mut writer = Cleared::new(&meter, io::writer(&rt));
-            let status = run_command(
+            let status = run_metered(
                 &rt,
                 words.as_slice(),
                 &meter,

@@ -19,6 +19,6 @@ returns-in-Some-clause-ends g c = record {
 
 pub returns-in-Ok-clause-ends : goal.returns-in-Ok-clause-ends
 returns-in-Ok-clause-ends g c = record {
-  done = λ is. printed_by_file c.in-Ok.file c.args.shown _ _ _ c.in-Ok.ensures (c.replay_lines.ensures.done is);
-  refused = λ is. inr (refused_by_file c.in-Ok.file c.args.shown _ _ _ _ _ c.in-Ok.ensures (c.replay_lines.ensures.refused is));
+  done = λ is. printed_by_file c.in-Ok.file c.args.shown _ _ _ c.in-Ok.ensures (c.replay_metered.ensures.done is);
+  refused = λ is. inr (refused_by_file c.in-Ok.file c.args.shown _ _ _ _ _ c.in-Ok.ensures (c.replay_metered.ensures.refused is));
 }

@@ -1,6 +1,6 @@
 use Rattle.cli.specs.CommandLine.{bound}
 use Rattle.commands.proofs.CommandLemmas.{ends_asked, no_set, offline_ends, replay_ends, unread}
-use Rattle.commands.proofs.command.run_command.Goals as goal
+use Rattle.commands.proofs.command.run_metered.Goals as goal
 
 pub returns-in-Err-clause-ends : goal.returns-in-Err-clause-ends
 returns-in-Err-clause-ends g c = λ asked is.
