@@ -3,9 +3,10 @@ use Rattle.std.specs.Prelude.{◌≡◌, ◌||◌, Bool, IfOk, Result, false, []
 use Rattle.std.specs.declared.alloc.AllocError.{AllocError}
 use Rattle.std.specs.Str.{bytes_eq}
 use Rattle.std.specs.Str.Parse.{without_leading_plus}
-use Rattle.clap.specs.Words.{App, Kinds, Row, Rule, Text, all_of, app_of, fault_of, first_of, new_app, new_rule, one_of, subcommand_of, with_rule, with_subcommand}
+use Rattle.clap.specs.Words.{App, Kinds, Row, Rule, Text, all_of, app_of, fault_of, first_of, new_app, new_rule, one_of, rule_of, subcommand_of, with_rule, with_subcommand}
 use Rattle.clap.specs.declared.builder.ArgAction.TheVariants.{Append, Set, SetTrue}
 use Rattle.clap.specs.declared.builder.ValueParser.TheVariants.{Signed, Unsigned}
+use Rattle.clap.specs.declared.builder.arg.Arg.{Arg}
 use Rattle.clap.specs.declared.builder.command.Command.{Command}
 use Rattle.clap.specs.declared.builder.command.Command.TheViews.{out-Command}
 use Rattle.clap.specs.declared.error.kind.ErrorKind.{ErrorKind}
@@ -141,6 +142,13 @@ abbrev pub TakesSubcommand : Result Command AllocError → Result Command AllocE
 TakesSubcommand command subcommand made =
     (app below : App) → IfOk command (λ c. app_of c ≡ app) → IfOk subcommand (λ c. app_of c ≡ below)
     → IfOk subcommand HasNoGlobals → IfOk made (λ c. app_of c ≡ with_subcommand app below.top)
+
+-- if a command is made, it is made with an argument that has this rule and isn't global, or it isn't made
+pub record TakesArg (command : Result Command AllocError) (arg : Arg) (made : Result Command AllocError)
+    : Type 0 where
+  pub shape : (app : App) (rule : Rule) → IfOk command (λ c. app_of c ≡ app) → rule_of arg ≡ rule
+      → arg.global ≡ false → IfOk made (λ c. app_of c ≡ with_rule app rule)
+  pub local : IfOk command HasNoGlobals → arg.global ≡ false → IfOk made HasNoGlobals
 
 -- what can be asked for
 pub data Request : Type 0 where

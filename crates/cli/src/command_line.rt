@@ -2,7 +2,7 @@
 
 ghost use Rattle.std.specs.Prelude.{◌≡◌, IfOk, false};
 ghost use Rattle.clap.specs.Words.{app_of, rule_of};
-ghost use Rattle.cli.specs.CommandLine.{HasNoGlobals, TakesSubcommand, ask_app, choosing_app, counted_app, file_app, flag_rule, moment_rule, number_rule, number_to_rule, optional_rule, page_app, recorded_app, replay_app, required_rule, sdp_app, sender_app, serve_app, sfu, sfu_top, word_rule, words_rule};
+ghost use Rattle.cli.specs.CommandLine.{HasNoGlobals, TakesArg, TakesSubcommand, ask_app, file_app, flag_rule, moment_rule, number_rule, number_to_rule, optional_rule, page_app, replay_app, required_rule, sdp_app, sender_app, serve_app, sfu, sfu_top, word_rule, words_rule};
 
 use crate::version::VERSION;
 use clap::builder::ValueParser;
@@ -108,6 +108,16 @@ fn with<'a>(
     command?.subcommand(subcommand?)
 }
 
+/// The command with this word or option, if there was memory for it.
+fn asking<'a>(
+    command: Result<Command<'a>, AllocError>,
+    arg: Arg<'a>,
+) -> Result<Command<'a>, AllocError>
+    ensures { TakesArg command.entry arg.entry result }
+{
+    command?.arg(arg)
+}
+
 /// The program, before its subcommands, of which one is required.
 fn top_command<'a>(alloc: Global) -> Command<'a>
     ensures { app_of result ≡ sfu_top }
@@ -152,19 +162,14 @@ fn replay_command<'a>(alloc: Global) -> Result<Command<'a>, AllocError>
     ensures app { IfOk result (λ c. app_of c ≡ replay_app) }
     ensures local { IfOk result HasNoGlobals }
 {
-    choosing_command(alloc)?
-        .arg(moment(alloc, "from", "MS", FROM_HELP, 0))?
-        .arg(flag(alloc, "events", EVENTS_HELP))
-}
-
-/// `replay FILE`, with the leg and the endpoint of which something is printed.
-fn choosing_command<'a>(alloc: Global) -> Result<Command<'a>, AllocError>
-    ensures app { IfOk result (λ c. app_of c ≡ choosing_app) }
-    ensures local { IfOk result HasNoGlobals }
-{
-    file_command(alloc, "replay", REPLAY_HELP, ROOM_HELP)?
-        .arg(number_to(alloc, "only-leg", LEG_HELP, MAX_NUMBER))?
-        .arg(number_to(alloc, "only-endpoint", ENDPOINT_HELP, MAX_NUMBER))
+    let replay = file_command(alloc, "replay", REPLAY_HELP, ROOM_HELP);
+    let replay = asking(replay, number_to(alloc, "only-leg", LEG_HELP, MAX_NUMBER));
+    let replay = asking(
+        replay,
+        number_to(alloc, "only-endpoint", ENDPOINT_HELP, MAX_NUMBER),
+    );
+    let replay = asking(replay, moment(alloc, "from", "MS", FROM_HELP, 0));
+    asking(replay, flag(alloc, "events", EVENTS_HELP))
 }
 
 /// `serve FILE`, with how many turns, what its lines of counts are, where it is steered, and how it is recorded.
@@ -172,28 +177,22 @@ fn serve_command<'a>(alloc: Global) -> Result<Command<'a>, AllocError>
     ensures app { IfOk result (λ c. app_of c ≡ serve_app) }
     ensures local { IfOk result HasNoGlobals }
 {
-    recorded_command(alloc)?.arg(flag(alloc, "log-time", LOG_TIME_HELP))
-}
-
-/// `serve FILE`, with how many turns, how many seconds between lines of counts, where it is steered, and how it is recorded.
-fn recorded_command<'a>(alloc: Global) -> Result<Command<'a>, AllocError>
-    ensures app { IfOk result (λ c. app_of c ≡ recorded_app) }
-    ensures local { IfOk result HasNoGlobals }
-{
-    counted_command(alloc)?
-        .arg(optional_word(alloc, "control", "PATH", CONTROL_HELP))?
-        .arg(optional_word(alloc, "record", "PATH", RECORD_HELP))?
-        .arg(moment(alloc, "record-limit", "BYTES", RECORD_LIMIT_HELP, 1))
-}
-
-/// `serve FILE`, with how many turns, and how many seconds between lines of counts.
-fn counted_command<'a>(alloc: Global) -> Result<Command<'a>, AllocError>
-    ensures app { IfOk result (λ c. app_of c ≡ counted_app) }
-    ensures local { IfOk result HasNoGlobals }
-{
-    file_command(alloc, "serve", SERVE_HELP, SERVED_HELP)?
-        .arg(optional_number(alloc, "ticks", TICKS_HELP, MAX_TICKS))?
-        .arg(optional_number(alloc, "status", STATUS_HELP, MAX_STATUS))
+    let serve = file_command(alloc, "serve", SERVE_HELP, SERVED_HELP);
+    let serve = asking(
+        serve,
+        optional_number(alloc, "ticks", TICKS_HELP, MAX_TICKS),
+    );
+    let serve = asking(
+        serve,
+        optional_number(alloc, "status", STATUS_HELP, MAX_STATUS),
+    );
+    let serve = asking(serve, optional_word(alloc, "control", "PATH", CONTROL_HELP));
+    let serve = asking(serve, optional_word(alloc, "record", "PATH", RECORD_HELP));
+    let serve = asking(
+        serve,
+        moment(alloc, "record-limit", "BYTES", RECORD_LIMIT_HELP, 1),
+    );
+    asking(serve, flag(alloc, "log-time", LOG_TIME_HELP))
 }
 
 /// `ask PATH WORD..`.

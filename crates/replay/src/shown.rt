@@ -1,6 +1,6 @@
 //! What is printed of what a script gives.
 
-ghost use Rattle.std.specs.Prelude.{◌≡◌, false, length};
+ghost use Rattle.std.specs.Prelude.{◌≡◌, length};
 ghost use Rattle.replay.specs.Shown.{all_shown, an_out, is_chosen, is_missing, is_named, is_on_chosen, is_on_leg, is_to_chosen, names_source, unknown_in};
 
 use events::Out;
