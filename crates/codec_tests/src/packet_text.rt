@@ -4,6 +4,8 @@
 //! numbers but NTP timestamps, are decimal, bytes hexadecimal. A report's blocks follow after semicolons. After a feedback packet's
 //! bytes stands what it says: `nack`, `pli`, `tmmbr`, `tmmbn` or `unknown`, its sources, and its entries.
 
+ghost use Rattle.std.specs.Prelude.{◌<◌};
+
 use rtcp_compound::*;
 use rtcp_feedback::*;
 use std::alloc::{AllocError, Global};
@@ -17,12 +19,31 @@ pub(crate) fn write_hex(text: &mut String, bytes: &[u8]) -> Result<(), AllocErro
     Ok(())
 }
 
+/// Writes a space and a number.
+fn write_number(text: &mut String, number: u32) -> Result<(), AllocError> {
+    write!(text, " {number}")
+}
+
+/// Writes a word and numbers.
+fn write_numbers(text: &mut String, word: &str, numbers: &[u32]) -> Result<(), AllocError> {
+    text.push_str(word)?;
+    for number in numbers {
+        write_number(text, *number)?;
+    }
+    Ok(())
+}
+
+fn write_lost(text: &mut String, lost: i32) -> Result<(), AllocError> {
+    write!(text, " {lost}")
+}
+
 /// Writes a block's fields in their order.
 fn write_block(text: &mut String, block: &Block) -> Result<(), AllocError> {
-    let source = block.source.0;
-    write!(text, "; {source} {} {}", block.fraction, block.lost)?;
-    write!(text, " {} {}", block.highest, block.jitter)?;
-    write!(text, " {} {}", block.last_sr, block.delay)
+    let fraction = u32::from(block.fraction);
+    write_numbers(text, ";", &[block.source.0, fraction])?;
+    write_lost(text, block.lost)?;
+    let rest = [block.highest, block.jitter, block.last_sr, block.delay];
+    write_numbers(text, "", &rest)
 }
 
 fn write_blocks(text: &mut String, blocks: Blocks<'_>) -> Result<(), AllocError> {
@@ -32,53 +53,89 @@ fn write_blocks(text: &mut String, blocks: Blocks<'_>) -> Result<(), AllocError>
     Ok(())
 }
 
-fn write_bye(text: &mut String, sources: Sources<'_>) -> Result<(), AllocError> {
-    text.push_str("bye")?;
+fn write_sources(text: &mut String, sources: Sources<'_>) -> Result<(), AllocError> {
     for source in sources {
-        write!(text, " {}", source.0)?;
+        write_number(text, source.0)?;
     }
     Ok(())
 }
 
 fn write_nacks(text: &mut String, entries: Nacks<'_>) -> Result<(), AllocError> {
     for entry in entries {
-        write!(text, " {} {}", entry.pid, entry.blp)?;
+        let numbers = [u32::from(entry.pid), u32::from(entry.blp)];
+        write_numbers(text, "", &numbers)?;
     }
     Ok(())
+}
+
+fn write_rate(text: &mut String, ssrc: u32, word: u32) -> Result<(), AllocError> {
+    write!(text, " {ssrc} {word:08x}")
 }
 
 fn write_rates(text: &mut String, entries: TmmbEntries<'_>) -> Result<(), AllocError> {
     for entry in entries {
-        write!(text, " {} {:08x}", entry.ssrc.0, entry.word)?;
+        write_rate(text, entry.ssrc.0, entry.word)?;
     }
     Ok(())
 }
 
-/// Writes what feedback of this FMT and type says, by its body.
-fn write_feedback(text: &mut String, fmt: u8, kind: u8, body: &[u8]) -> Result<(), AllocError> {
-    match read_feedback(fmt, kind, body) {
-        Ok(
-            Feedback::Nack {
-                sender,
-                media,
-                entries,
-            },
-        ) => {
-            write!(text, "nack {} {}", sender.0, media.0)?;
+/// Writes what feedback says.
+fn write_meaning(text: &mut String, feedback: Feedback<'_>) -> Result<(), AllocError> {
+    match feedback {
+        Feedback::Nack {
+            sender,
+            media,
+            entries,
+        } => {
+            write_numbers(text, "nack", &[sender.0, media.0])?;
             write_nacks(text, entries)
         }
-        Ok(Feedback::Pli { sender, media }) => write!(text, "pli {} {}", sender.0, media.0),
-        Ok(Feedback::Tmmbr { sender, entries }) => {
-            write!(text, "tmmbr {}", sender.0)?;
+        Feedback::Pli { sender, media } => write_numbers(text, "pli", &[sender.0, media.0]),
+        Feedback::Tmmbr { sender, entries } => {
+            write_numbers(text, "tmmbr", &[sender.0])?;
             write_rates(text, entries)
         }
-        Ok(Feedback::Tmmbn { sender, entries }) => {
-            write!(text, "tmmbn {}", sender.0)?;
+        Feedback::Tmmbn { sender, entries } => {
+            write_numbers(text, "tmmbn", &[sender.0])?;
             write_rates(text, entries)
         }
-        Ok(Feedback::Unknown { sender }) => write!(text, "unknown {}", sender.0),
-        Err(fault) => write!(text, "fault {}", fault.number()),
+        Feedback::Unknown { sender } => write_numbers(text, "unknown", &[sender.0]),
     }
+}
+
+/// Writes feedback of this FMT and type: its body, and what it says.
+fn write_feedback(text: &mut String, fmt: u8, kind: u8, body: &[u8]) -> Result<(), AllocError> {
+    write_body(text, "feedback", fmt, kind, body)?;
+    text.push(' ')?;
+    match read_feedback(fmt, kind, body) {
+        Ok(feedback) => write_meaning(text, feedback),
+        Err(fault) => write_numbers(text, "fault", &[u32::from(fault.number())]),
+    }
+}
+
+/// Writes a word, two numbers, and bytes.
+fn write_body(
+    text: &mut String,
+    word: &str,
+    first: u8,
+    second: u8,
+    body: &[u8],
+) -> Result<(), AllocError> {
+    write_numbers(text, word, &[u32::from(first), u32::from(second)])?;
+    text.push(' ')?;
+    write_hex(text, body)
+}
+
+/// Writes what a sender says of itself.
+fn write_sender(
+    text: &mut String,
+    sender: u32,
+    ntp: u64,
+    counts: &[u32],
+) -> Result<(), AllocError> {
+    write_numbers(text, "sr", &[sender])?;
+    write!(text, " {ntp:x}")?;
+    write_numbers(text, "", counts)
 }
 
 /// Writes a packet.
@@ -92,28 +149,24 @@ fn write_packet(text: &mut String, packet: RtcpView<'_>) -> Result<(), AllocErro
             octets,
             blocks,
         } => {
-            write!(text, "sr {} {ntp:x} {rtp} {packets} {octets}", sender.0)?;
+            write_sender(text, sender.0, ntp, &[rtp, packets, octets])?;
             write_blocks(text, blocks)
         }
         RtcpView::Rr { sender, blocks } => {
-            write!(text, "rr {}", sender.0)?;
+            write_numbers(text, "rr", &[sender.0])?;
             write_blocks(text, blocks)
         }
         RtcpView::Sdes { count, chunks } => {
-            write!(text, "sdes {count} ")?;
+            write_numbers(text, "sdes", &[u32::from(count)])?;
+            text.push(' ')?;
             write_hex(text, chunks)
         }
-        RtcpView::Bye { sources } => write_bye(text, sources),
-        RtcpView::Feedback { fmt, kind, body } => {
-            write!(text, "feedback {fmt} {kind} ")?;
-            write_hex(text, body)?;
-            text.push(' ')?;
-            write_feedback(text, fmt, kind, body)
+        RtcpView::Bye { sources } => {
+            text.push_str("bye")?;
+            write_sources(text, sources)
         }
-        RtcpView::Other { count, kind, body } => {
-            write!(text, "other {count} {kind} ")?;
-            write_hex(text, body)
-        }
+        RtcpView::Feedback { fmt, kind, body } => write_feedback(text, fmt, kind, body),
+        RtcpView::Other { count, kind, body } => write_body(text, "other", count, kind, body),
     }
 }
 
@@ -122,7 +175,7 @@ pub(crate) fn packets_text(alloc: Global, datagram: &[u8]) -> Result<String, All
     let mut text = String::new(alloc);
     match split(datagram) {
         Ok(packets) => write_packets(&mut text, packets)?,
-        Err(fault) => write!(text, "fault {}\n", fault.number())?,
+        Err(fault) => write_numbers(&mut text, "fault", &[u32::from(fault.number())])?,
     }
     Ok(text)
 }
@@ -140,4 +193,25 @@ pub(crate) fn hex_text(alloc: Global, bytes: &[u8]) -> Result<String, AllocError
     let mut text = String::new(alloc);
     write_hex(&mut text, bytes)?;
     Ok(text)
+}
+
+fn digit(byte: u8) -> u8
+    ensures { result < 16 }
+{
+    match byte {
+        b'0'..=b'9' => byte - b'0',
+        b'a'..=b'f' => byte - b'a' + 10,
+        _ => 0,
+    }
+}
+
+/// The bytes that these hexadecimal digits spell.
+pub(crate) fn bytes_of(alloc: Global, hex: &str) -> Result<Vec<u8>, AllocError> {
+    let mut bytes = Vec::new(alloc);
+    for pair in hex.as_bytes().chunks(2) {
+        if let [high, low] = pair {
+            bytes.push(digit(*high) * 16 + digit(*low))?;
+        }
+    }
+    Ok(bytes)
 }

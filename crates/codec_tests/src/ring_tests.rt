@@ -175,13 +175,22 @@ fn agrees(
     requires { 1 ≤ capacity × capacity ≤ MAX_CAPACITY }
 {
     let mut ring = Ring::new(alloc, capacity)?;
+    Ok(agrees_in(alloc, &mut ring, capacity, numbers, from, asked)?)
+}
+
+/// The same of this ring, which is new.
+fn agrees_in(
+    alloc: Global,
+    ring: &mut Ring,
+    capacity: usize,
+    numbers: &[u64],
+    from: usize,
+    asked: &[u16],
+) -> Result<bool, AllocError> {
     for (place, number) in numbers.iter().enumerate() {
         let _left = ring.keep(*number, packet(alloc, place as u64)?);
-        if place < from {
-            continue;
-        }
         let oldest = (place + 1).saturating_sub(capacity);
-        if !finds_last(&ring, &numbers[..=place], oldest, asked) {
+        if place >= from && !finds_last(ring, &numbers[..=place], oldest, asked) {
             return Ok(false);
         }
     }
@@ -250,4 +259,11 @@ fn refused_without_memory(rt: HostRuntime) {
             "{bytes} of {limit} bytes"
         );
     }
+}
+
+/// Whichever growth is refused, the ring is made at the first try or at the second.
+#[test]
+fn ring_with_each_growth_refused(rt: HostRuntime) {
+    let is_made = Ring::new(rt.alloc(), 100).is_ok() || Ring::new(rt.alloc(), 100).is_ok();
+    assert!(rt; is_made);
 }

@@ -1,6 +1,6 @@
 //! Each public call on its happy path, and datagrams built by hand from RFC 3550, sections 5.1 and 5.3.1.
 use crate::expected::same;
-use crate::packet_text::{hex_text, write_hex};
+use crate::packet_text::{bytes_of, hex_text, write_hex};
 use rtp_packet::*;
 use std::alloc::{AllocError, Global};
 use std::fmt::Write;
@@ -88,10 +88,35 @@ fn no_room_in_thirteen_bytes(rt: HostRuntime) -> Result<(), Fail> {
     Ok(())
 }
 
-/// A datagram of no bytes, which no script can have; what else is refused are cases of `cases/`.
+/// Datagrams that `parse` refuses, and the number of the fault.
+const REFUSED: [(&str, u8); 6] = [
+    // Short: no header, or one of eleven bytes.
+    ("", 1),
+    ("0060000700000bb8000000", 1),
+    // Version 0.
+    ("0060000700000bb800000011", 2),
+    // One contributing source is counted, and none there.
+    ("8160000700000bb800000011", 3),
+    // An extension of one word that isn't there.
+    ("9060000700000bb800000011bede0001", 4),
+    // A padding of no bytes.
+    ("a060000700000bb80000001100", 5),
+];
+
+/// The number of the fault of a datagram; 0 if it has none.
+fn fault(alloc: Global, digits: &str) -> Result<u8, AllocError> {
+    Ok(match RtpView::parse(bytes_of(alloc, digits)?.as_slice()) {
+        Ok(_) => 0,
+        Err(fault) => fault.number(),
+    })
+}
+
 #[test]
-fn no_bytes(rt: HostRuntime) {
-    same(&rt, &RtpView::parse(&[]).err(), &Some(RtpFault::Short));
+fn refused_as_in_the_examples(rt: HostRuntime) -> Result<(), Fail> {
+    for (digits, number) in &REFUSED {
+        same(&rt, &fault(rt.alloc(), digits)?, &*number);
+    }
+    Ok(())
 }
 
 /// The parts, joined again, are the datagram.

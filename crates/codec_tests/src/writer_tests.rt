@@ -6,10 +6,103 @@ use crate::expected::same;
 use crate::packet_text::{hex_text, packets_text};
 use bumpalo::Bump;
 use rtcp_compound::*;
+use rtcp_feedback::{TmmbrEntry, write_pli, write_tmmbn, write_tmmbr};
 use std::alloc::{AllocError, Allocator, Global};
+use std::fmt::Write;
 use std::process::Abort;
 use std::test::Fail;
 use tmmbr_tuple::Ssrc;
+
+/// A call of a writer.
+#[derive(Clone, Copy)]
+enum Writer {
+    /// A sender report of 257 without blocks.
+    Sr,
+    /// The same with `three_blocks`, at the ends of its other fields.
+    SrOfThree,
+    /// A receiver report of 9 with `quiet_block`.
+    Rr,
+    /// The same with `three_blocks`.
+    RrOfThree,
+    /// The CNAME of 9.
+    Name,
+    /// The BYE of 18.
+    Bye,
+    /// The BYE of three.
+    Byes,
+    /// A TMMBN of 1 with one entry, of owner 17.
+    Tmmbn,
+    /// A TMMBN of 1 without entries.
+    NoEntries,
+    /// A TMMBR of 17 that asks source 16.
+    Tmmbr,
+    /// A PLI of 9 about source 16.
+    Pli,
+}
+
+use Writer::{Bye, Byes, Name, NoEntries, Pli, Rr, RrOfThree, Sr, SrOfThree, Tmmbn, Tmmbr};
+
+/// What each appends, and what that says.
+const WRITTEN: [(Writer, &str, &str); 11] = [
+    (
+        Sr,
+        "80c80006000001010000000a8000000000000bb80000000100000002",
+        "sr 257 a80000000 3000 1 2",
+    ),
+    (
+        SrOfThree,
+        "83c8001800000101ffffffffffffffff00000bb800000001ffffffff000000100000000000000008\
+            000000a8000a80000000147affffffffff800000ffffffffffffffffffffffffffffffffffffffff\
+            ff7fffffffffffffffffffffffffffffffffffff",
+        "sr 257 ffffffffffffffff 3000 1 4294967295; 16 0 0 8 168 688128 5242; 4294967295 \
+            255 -8388608 4294967295 4294967295 4294967295 4294967295; 4294967295 255 \
+            8388607 4294967295 4294967295 4294967295 4294967295",
+    ),
+    (
+        Rr,
+        "81c9000700000009000000100000000000000008000000a8000a80000000147a",
+        "rr 9; 16 0 0 8 168 688128 5242",
+    ),
+    (
+        RrOfThree,
+        "83c9001300000009000000100000000000000008000000a8000a80000000147affffffffff800000\
+            ffffffffffffffffffffffffffffffffffffffffff7fffffffffffffffffffffffffffffffffffff",
+        "rr 9; 16 0 0 8 168 688128 5242; 4294967295 255 -8388608 4294967295 4294967295 \
+            4294967295 4294967295; 4294967295 255 8388607 4294967295 4294967295 4294967295 \
+            4294967295",
+    ),
+    (
+        Name,
+        "81ca0003000000090103736675000000",
+        "sdes 1 000000090103736675000000",
+    ),
+    (Bye, "81cb000100000012", "bye 18"),
+    (
+        Byes,
+        "83cb00030000001200000000ffffffff",
+        "bye 18 0 4294967295",
+    ),
+    (
+        Tmmbn,
+        "84cd00040000000100000000000000110007d028",
+        "feedback 4 205 0000000100000000000000110007d028 tmmbn 1 17 0007d028",
+    ),
+    (
+        NoEntries,
+        "84cd00020000000100000000",
+        "feedback 4 205 0000000100000000 tmmbn 1",
+    ),
+    (
+        Tmmbr,
+        "83cd00040000001100000000000000100007d028",
+        "feedback 3 205 0000001100000000000000100007d028 tmmbr 17 16 0007d028",
+    ),
+    (
+        Pli,
+        "81ce00020000000900000010",
+        "feedback 1 206 0000000900000010 pli 9 16",
+    ),
+];
 
 /// Feedback of FMT 1, to stand after what was written.
 const BEHIND: [u8; 12] = [0x81, 0xce, 0, 2, 0, 0, 0, 9, 0, 0, 0, 0x11];
@@ -46,84 +139,55 @@ fn full_block(lost: i32) -> Block
     }
 }
 
-fn goodbye(alloc: Global, sources: &[Ssrc]) -> Result<Vec<u8>, AllocError>
-    requires { length sources.now ≤ ENTRY_LIMIT }
-{
+fn three_blocks() -> [Block; 3] {
+    [quiet_block(), full_block(-8_388_608), full_block(8_388_607)]
+}
+
+/// 1,000 bit/s at an overhead of 40 bytes: exponent 0, mantissa 1000, overhead 40.
+fn entry(ssrc: u32) -> TmmbrEntry {
+    TmmbrEntry {
+        ssrc: Ssrc(ssrc),
+        word: 0x0007_d028,
+    }
+}
+
+/// Makes the call.
+fn write<A: Allocator>(writer: Writer, out: &mut Vec<u8, A>) -> Result<(), AllocError> {
+    match writer {
+        Sr => write_sr(out, Ssrc(257), 0xa_8000_0000, 3000, 1, 2, &[]),
+        SrOfThree => write_sr(out, Ssrc(257), u64::MAX, 3000, 1, u32::MAX, &three_blocks()),
+        Rr => write_rr(out, Ssrc(9), &[quiet_block()]),
+        RrOfThree => write_rr(out, Ssrc(9), &three_blocks()),
+        Name => write_sdes_cname(out, Ssrc(9), b"sfu"),
+        Bye => write_bye(out, &[Ssrc(18)]),
+        Byes => write_bye(out, &[Ssrc(18), Ssrc(0), Ssrc(u32::MAX)]),
+        _ => write_feedback(writer, out),
+    }
+}
+
+fn write_feedback<A: Allocator>(writer: Writer, out: &mut Vec<u8, A>) -> Result<(), AllocError> {
+    match writer {
+        Tmmbn => write_tmmbn(out, Ssrc(1), &[entry(17)]),
+        NoEntries => write_tmmbn(out, Ssrc(1), &[]),
+        Tmmbr => write_tmmbr(out, Ssrc(17), &[entry(16)]),
+        _ => write_pli(out, Ssrc(9), Ssrc(16)),
+    }
+}
+
+/// The bytes that it appends to none.
+fn written(alloc: Global, writer: Writer) -> Result<Vec<u8>, AllocError> {
     let mut out = Vec::new(alloc);
-    write_bye(&mut out, sources)?;
+    write(writer, &mut out)?;
     Ok(out)
-}
-
-/// An empty receiver report of 9 and its CNAME.
-fn head(alloc: Global) -> Result<Vec<u8>, AllocError> {
-    let mut out = Vec::new(alloc);
-    write_rr(&mut out, Ssrc(9), &[])?;
-    write_sdes_cname(&mut out, Ssrc(9), b"sfu")?;
-    Ok(out)
-}
-
-/// A sender report of 257, with this NTP timestamp and so many octets.
-fn sender_report(
-    alloc: Global,
-    ntp: u64,
-    octets: u32,
-    blocks: &[Block],
-) -> Result<Vec<u8>, AllocError>
-    requires { length blocks.now ≤ ENTRY_LIMIT }
-{
-    let mut out = Vec::new(alloc);
-    write_sr(&mut out, Ssrc(257), ntp, 3000, 1, octets, blocks)?;
-    Ok(out)
-}
-
-/// A receiver report of 9.
-fn receiver_report(alloc: Global, blocks: &[Block]) -> Result<Vec<u8>, AllocError>
-    requires { length blocks.now ≤ ENTRY_LIMIT }
-{
-    let mut out = Vec::new(alloc);
-    write_rr(&mut out, Ssrc(9), blocks)?;
-    Ok(out)
-}
-
-/// These bytes were written.
-fn are_written(
-    rt: &impl Abort,
-    alloc: Global,
-    written: Result<Vec<u8>, AllocError>,
-    digits: &str,
-) -> Result<(), AllocError> {
-    let out = written?;
-    assert_eq!(rt; hex_text(alloc, out.as_slice())?.as_str(), digits);
-    Ok(())
-}
-
-fn reports_are_written(rt: &impl Abort, alloc: Global) -> Result<(), AllocError> {
-    let written = sender_report(alloc, 0xa_8000_0000, 2, &[]);
-    let digits = "80c80006000001010000000a8000000000000bb80000000100000002";
-    are_written(rt, alloc, written, digits)?;
-    let written = receiver_report(alloc, &[quiet_block()]);
-    let digits = "81c9000700000009000000100000000000000008000000a8000a80000000147a";
-    are_written(rt, alloc, written, digits)
-}
-
-#[test]
-fn writers_give_the_examples(rt: HostRuntime) -> Result<(), Fail> {
-    assert_eq!(rt; (ENTRY_LIMIT, CNAME_LIMIT), (31, 255));
-    let alloc = rt.alloc();
-    are_written(&rt, alloc, goodbye(alloc, &[Ssrc(18)]), "81cb000100000012")?;
-    let digits = "80c900010000000981ca0003000000090103736675000000";
-    are_written(&rt, alloc, head(alloc), digits)?;
-    Ok(reports_are_written(&rt, alloc)?)
 }
 
 /// What was written says this, alone and in front of another packet.
 fn says_again(
     rt: &impl Abort,
     alloc: Global,
-    written: Result<Vec<u8>, AllocError>,
+    out: &mut Vec<u8>,
     wanted: &str,
 ) -> Result<(), AllocError> {
-    let mut out = written?;
     let text = packets_text(alloc, out.as_slice())?;
     same(rt, &text.as_str().strip_suffix('\n'), &Some(wanted));
     out.extend_from_slice(&BEHIND)?;
@@ -132,87 +196,66 @@ fn says_again(
     Ok(())
 }
 
-/// The blocks of `three_blocks` as text.
-const BLOCKS: &str = "; 16 0 0 8 168 688128 5242\
-    ; 4294967295 255 -8388608 4294967295 4294967295 4294967295 4294967295\
-    ; 4294967295 255 8388607 4294967295 4294967295 4294967295 4294967295";
-
-fn three_blocks() -> [Block; 3] {
-    [quiet_block(), full_block(-8_388_608), full_block(8_388_607)]
+/// A writer appends these bytes, which say this.
+fn writes(
+    rt: &impl Abort,
+    alloc: Global,
+    writer: Writer,
+    digits: &str,
+    wanted: &str,
+) -> Result<(), AllocError> {
+    let mut out = written(alloc, writer)?;
+    same(rt, &hex_text(alloc, out.as_slice())?.as_str(), &digits);
+    says_again(rt, alloc, &mut out, wanted)
 }
 
-fn reports_again(rt: &impl Abort, alloc: Global) -> Result<(), AllocError> {
-    let blocks = three_blocks();
-    let text = format!(in alloc; "sr 257 ffffffffffffffff 3000 1 4294967295{BLOCKS}")?;
-    let written = sender_report(alloc, u64::MAX, u32::MAX, &blocks);
-    says_again(rt, alloc, written, text.as_str())?;
-    let text = format!(in alloc; "rr 9{BLOCKS}")?;
-    says_again(rt, alloc, receiver_report(alloc, &blocks), text.as_str())
+/// What the description of 9 by a CNAME of so many letters says: source, type, length and text, and one to four zeros up to a word.
+fn description_text(alloc: Global, len: usize) -> Result<String, AllocError> {
+    let mut text = String::new(alloc);
+    write!(text, "sdes 1 0000000901{len:02x}")?;
+    for _letter in 0..len {
+        text.push_str("61")?;
+    }
+    for _zero in len.wrapping_add(2) % 4..4 {
+        text.push_str("00")?;
+    }
+    Ok(text)
 }
 
+/// A description by a CNAME of so many letters is read again.
+fn name_again(rt: &impl Abort, alloc: Global, len: usize) -> Result<(), AllocError> {
+    let letters = [b'a'; CNAME_LIMIT];
+    let mut out = Vec::new(alloc);
+    write_sdes_cname(&mut out, Ssrc(9), &letters[..len.min(CNAME_LIMIT)])?;
+    let wanted = description_text(alloc, len)?;
+    says_again(rt, alloc, &mut out, wanted.as_str())
+}
+
+/// Each writer, and CNAMEs of each length round a word, of none and the most bytes.
 #[test]
 fn writers_read_again(rt: HostRuntime) -> Result<(), Fail> {
-    reports_again(&rt, rt.alloc())?;
-    let sources = [Ssrc(18), Ssrc(0), Ssrc(u32::MAX)];
-    let written = goodbye(rt.alloc(), &sources);
-    Ok(says_again(&rt, rt.alloc(), written, "bye 18 0 4294967295")?)
-}
-
-/// CNAMEs of each length round a word, and of none and the most bytes.
-#[test]
-fn cnames_read_again(rt: HostRuntime) -> Result<(), Fail> {
-    let text = [b'a'; CNAME_LIMIT];
-    for len in [0usize, 1, 2, 3, 4, 5, 254, 255] {
-        let cname = &text[..len.min(CNAME_LIMIT)];
-        assert_eq!(rt; cname.len(), len);
-        cname_again(&rt, rt.alloc(), cname)?;
+    assert_eq!(rt; (ENTRY_LIMIT, CNAME_LIMIT), (31, 255));
+    for (writer, digits, wanted) in &WRITTEN {
+        writes(&rt, rt.alloc(), *writer, digits, wanted)?;
+    }
+    for len in [0, 1, 2, 3, 4, 5, 254, 255] {
+        name_again(&rt, rt.alloc(), len)?;
     }
     Ok(())
-}
-
-/// Source, type, length and text, and one to four zeros up to a word.
-fn chunk_of(alloc: Global, cname: &[u8]) -> Result<Vec<u8>, AllocError>
-    requires { length cname.now ≤ CNAME_LIMIT }
-{
-    let mut chunk = [0, 0, 0, 9, 1].to_vec(alloc)?;
-    chunk.push((cname.len() % 256) as u8)?;
-    chunk.extend_from_slice(cname)?;
-    for _ in (cname.len() + 2) % 4..4 {
-        chunk.push(0)?;
-    }
-    Ok(chunk)
-}
-
-/// The description with this CNAME of 9.
-fn description(alloc: Global, cname: &[u8]) -> Result<Vec<u8>, AllocError>
-    requires { length cname.now ≤ CNAME_LIMIT }
-{
-    let mut out = Vec::new(alloc);
-    write_sdes_cname(&mut out, Ssrc(9), cname)?;
-    Ok(out)
-}
-
-/// Reads a CNAME of 9 again.
-fn cname_again(rt: &impl Abort, alloc: Global, cname: &[u8]) -> Result<(), AllocError>
-    requires { length cname.now ≤ CNAME_LIMIT }
-{
-    let chunk = chunk_of(alloc, cname)?;
-    let text = format!(in alloc; "sdes 1 {}", hex_text(alloc, chunk.as_slice())?)?;
-    says_again(rt, alloc, description(alloc, cname), text.as_str())
 }
 
 /// Each writer, again and again into memory of 2,000 bytes, until it is refused more: then the bytes that
 /// it appended to are as they were.
 #[test]
 fn no_memory_leaves_the_vec(rt: HostRuntime) -> Result<(), Fail> {
-    for writer in 0..4u8 {
-        assert!(rt; leaves_in_arena(rt.alloc(), writer)?, "writer {writer}");
+    for (writer, digits, _) in &WRITTEN {
+        assert!(rt; leaves_in_arena(rt.alloc(), *writer)?, "{digits}");
     }
     Ok(())
 }
 
 /// Whether the writer is refused memory in an arena of 2,000 bytes, and leaves what was there.
-fn leaves_in_arena(alloc: Global, writer: u8) -> Result<bool, AllocError> {
+fn leaves_in_arena(alloc: Global, writer: Writer) -> Result<bool, AllocError> {
     let bump = Bump::new(alloc);
     bump.set_allocation_limit(Some(2000));
     leaves(alloc, writer, &mut Vec::new(&bump))
@@ -221,7 +264,7 @@ fn leaves_in_arena(alloc: Global, writer: u8) -> Result<bool, AllocError> {
 /// Whether the writer is refused memory in the end, and leaves what was there.
 fn leaves<A: Allocator>(
     alloc: Global,
-    writer: u8,
+    writer: Writer,
     out: &mut Vec<u8, A>,
 ) -> Result<bool, AllocError> {
     for _ in 0..1000 {
@@ -231,14 +274,4 @@ fn leaves<A: Allocator>(
         }
     }
     Ok(false)
-}
-
-/// What one of the four writers appends.
-fn write<A: Allocator>(writer: u8, out: &mut Vec<u8, A>) -> Result<(), AllocError> {
-    match writer {
-        0 => write_sr(out, Ssrc(9), 1, 2, 3, 4, &[quiet_block()]),
-        1 => write_rr(out, Ssrc(9), &[quiet_block()]),
-        2 => write_sdes_cname(out, Ssrc(9), b"sfu"),
-        _ => write_bye(out, &[Ssrc(9)]),
-    }
 }
