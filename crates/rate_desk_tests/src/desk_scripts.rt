@@ -4,8 +4,7 @@
 //! |---|---|
 //! | `arrive OWNER STAY`, `depart OWNER STAY`, `ask OWNER STAY WORD` | an owner's call; the word is hexadecimal |
 //! | `pli MOMENT`, `tick MOMENT`, `expire MOMENT` | a call at a moment |
-//! | `pulse MOMENT` | a tick without an effect, which gives its number and its answer |
-//! | `pulses COUNT` | so many pulses at the moment 0, of which nothing is said |
+//! | `ticks COUNT` | so many ticks at the moment 0, of which nothing is said |
 //! | `look` | none: it gives the base, how many calls are listed and how many there were, and what is live |
 //!
 //! A call that is done gives `done` or, with a PLI upstream, `sent`, and the bits of the rows that are announced; then the announced
@@ -139,19 +138,11 @@ fn write_desk(text: &mut String, desk: &Desk) -> Result<(), AllocError> {
     write_requests(text, "live", desk.live())
 }
 
-/// Makes a pulse, and writes its number and its answer.
-fn pulse(desk: &mut Desk, words: &str, text: &mut String) -> Result<(), Fail> {
-    let recorded = desk.pulse(words.parse()?)?;
-    write!(text, " {}", recorded.number)?;
-    write_answer(text, &recorded.answer)?;
-    Ok(())
-}
-
-/// Makes so many pulses.
-fn pulses(desk: &mut Desk, words: &str) -> Result<(), Fail> {
+/// Makes so many ticks.
+fn ticks(desk: &mut Desk, words: &str) -> Result<(), Fail> {
     let count: u32 = words.parse()?;
     for _ in 0..count {
-        let _recorded = desk.pulse(0)?;
+        let _reply = desk.tick(0)?;
     }
     Ok(())
 }
@@ -171,8 +162,7 @@ fn play_line(desk: &mut Desk, line: &str, text: &mut String) -> Result<(), Fail>
     write!(text, "{step}:")?;
     match name {
         "look" => write_desk(text, desk)?,
-        "pulse" => pulse(desk, words, text)?,
-        "pulses" => pulses(desk, words)?,
+        "ticks" => ticks(desk, words)?,
         _ => call(desk, name, words, text)?,
     }
     text.push('\n')?;

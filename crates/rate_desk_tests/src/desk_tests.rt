@@ -22,7 +22,7 @@ fn base_of_example_28(rt: HostRuntime) -> Result<(), Fail> {
     let script = "arrive 17 1: done 0\n\
         ask 17 1 0007d028: done 1 set 17 0007d028 fresh 17 0007d028\n\
         pli 0: sent 1 set 17 0007d028\n\
-        pulses 1030:\n\
+        ticks 1030:\n\
         look: calls 9 words 512040 greatest 0 wanted false last up 0 present 17 1 asks 0007d028 0 \
         listed 1024 of 1033 live 17 0007d028\n\
         pli 400: done 1 set 17 0007d028\n\

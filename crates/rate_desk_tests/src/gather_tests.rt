@@ -43,11 +43,11 @@ enum Want {
     Fault(GatherFault),
 }
 
-/// How a house is gathered: the pulses that were made, the seats and the receipts that are handed in, by
+/// How a house is gathered: the ticks that were made, the seats and the receipts that are handed in, by
 /// their numbers, and what is wanted.
 #[derive(Drop)]
 struct Gathering<'a> {
-    pulses: usize,
+    ticks: usize,
     seats: usize,
     receipts: &'a [(usize, Edit)],
     want: Want,
@@ -74,13 +74,13 @@ impl Gathering<'_> {
     }
 }
 
-/// The receipts of the calls to publisher 1: 17 arrives and asks, somebody wants a picture, and so many pulses.
+/// The receipts of the calls to publisher 1: 17 arrives and asks, somebody wants a picture, and so many ticks.
 fn call_in_turn<D: DeskCalls, S: SeatCalls, R: Wait>(
     rt: &R,
     alloc: Global,
     house: &House<D, S>,
     seat: &mut DeskSeat<S>,
-    pulses: usize,
+    ticks: usize,
 ) -> Option<Vec<Receipt>>
     requires { 1 < S.publishers }
 {
@@ -93,8 +93,10 @@ fn call_in_turn<D: DeskCalls, S: SeatCalls, R: Wait>(
     for call in calls {
         given.push(by_house(rt, house, seat, 1, call)?.0).ok()?;
     }
-    for _ in 0..pulses {
-        given.push(house.pulse(rt, seat, 1, 0).ok()?).ok()?;
+    for _ in 0..ticks {
+        given
+            .push(by_house(rt, house, seat, 1, at(0, Signal::Tick))?.0)
+            .ok()?;
     }
     Some(given)
 }
@@ -110,7 +112,7 @@ fn receipts_of<D: DeskCalls, S: SeatCalls, R: Wait>(
     requires { 1 < S.publishers }
 {
     let seat = seats.last_mut()?;
-    let given = call_in_turn(rt, alloc, house, seat, case.pulses)?;
+    let given = call_in_turn(rt, alloc, house, seat, case.ticks)?;
     case.handed(alloc, given.as_slice())
 }
 
@@ -143,13 +145,13 @@ fn assert_gathers<R: Wait + Abort>(rt: &R, alloc: Global, cases: &[Gathering]) -
 }
 
 fn case<'a>(
-    pulses: usize,
+    ticks: usize,
     seats: usize,
     receipts: &'a [(usize, Edit)],
     want: Want,
 ) -> Gathering<'a> {
     Gathering {
-        pulses,
+        ticks,
         seats,
         receipts,
         want,

@@ -193,3 +193,9 @@ fn refused_without_memory(rt: HostRuntime) {
         );
     }
 }
+
+/// Whichever growth is refused, the house is made at the first try or at the second. (`gather` asks for no memory.)
+#[test]
+fn house_with_each_growth_refused(rt: HostRuntime) {
+    assert!(rt; !refuses(rt.alloc(), 2, 2) || !refuses(rt.alloc(), 2, 2));
+}
