@@ -12,15 +12,33 @@ use std::test::Fail;
 #[derive(Clone, Copy)]
 pub(crate) enum Step<'a> {
     Hear(u64, u16, &'a str),
+    Tick(u64),
     Ingress,
     Work(u16),
 }
 
-pub(crate) use Step::{Hear, Ingress, Work};
+pub(crate) use Step::{Hear, Ingress, Tick, Work};
+
+/// A packet of the publisher, 16.
+pub(crate) const PACKET: &str = "8060000700000bb800000010aabb";
+
+/// A receiver report of the subscriber, 17.
+pub(crate) const REPORT: &str = "80c9000100000011";
+
+/// A TMMBR of the subscriber about its leg.
+pub(crate) const REQUEST: &str = "83cd00040000001100000000000001010007d028";
 
 /// The settings of the examples: endpoints 16 and 17, and a leg of what the first publishes to the second.
 pub(crate) fn settings(alloc: Global) -> Result<Settings, SettingsFault> {
     let parts = parts(alloc).map_err(|_| SettingsFault::NoMemory)?;
+    Settings::new(alloc, &parts)
+}
+
+/// The same, with requests that age in a second, and endpoints that leave after five.
+pub(crate) fn ageing_settings(alloc: Global) -> Result<Settings, SettingsFault> {
+    let mut parts = parts(alloc).map_err(|_| SettingsFault::NoMemory)?;
+    parts.timeout_ms = Some(5_000);
+    parts.request_ms = Some(1_000);
     Settings::new(alloc, &parts)
 }
 
@@ -97,9 +115,22 @@ pub(crate) fn event_of(alloc: Global, step: &Step<'_>) -> Result<Event, AllocErr
             endpoint,
             bytes: Bytes::new(bytes_of(alloc, hex)?),
         },
+        Tick(moment) => Event::Tick { moment },
         Ingress => Event::Ingress,
         Work(worker) => Event::Work(worker),
     })
+}
+
+/// Does a step.
+pub(crate) fn do_step(
+    alloc: Global,
+    world: &mut World,
+    step: &Step<'_>,
+    outs: &mut Vec<Out>,
+) -> Result<(), Fail> {
+    let event = event_of(alloc, step)?;
+    do_events(world, &[event], outs)?;
+    Ok(())
 }
 
 /// What was given out, a line each.
