@@ -15,7 +15,7 @@ use std::alloc::{AllocError, Global};
 use std::sync::Wait;
 use std::test::Fail;
 use std::thread::Threads;
-use workers::{Report, run_unit};
+use workers::{Report, UnitFault, run_unit};
 
 /// Turns that are never calm.
 const RESTLESS: Plan = Plan {
@@ -39,7 +39,7 @@ fn run_turns<R: Threads + Wait + Sync>(
     turns: &[Turn],
     stage: &Stage,
     sinks: Vec<RingSink<'_>>,
-) -> Result<Report, Fail> {
+) -> Result<Counts, Fail> {
     if sinks.len() as u64 != settings.workers() + 1 {
         return Err("sinks".into());
     }
@@ -49,7 +49,8 @@ fn run_turns<R: Threads + Wait + Sync>(
         moment: &stage.moment,
     };
     let count = turns.len() as u64;
-    Ok(run_unit(rt, alloc, settings, source, sinks, clock, &gate, count)?)
+    let ran = run_unit(rt, alloc, settings, source, sinks, clock, &gate, count);
+    Ok(counts_of(ran)?)
 }
 
 /// The same in one thread, which has one worker. Says how many datagrams were sent.
@@ -71,7 +72,7 @@ fn run_alone(
         turns: turns.len() as u64,
         tick_ms: TICK_MS,
     };
-    let report = run_one_thread(
+    let ran = run_one_thread(
         alloc,
         &settings,
         &mut source,
@@ -79,8 +80,11 @@ fn run_alone(
         &mut clock,
         &mut Unwatched,
         pace,
-    )?;
-    Ok(report.counts.sent)
+    );
+    match ran {
+        Ok(report) => Ok(report.counts.sent),
+        Err(_) => Err("a run".into()),
+    }
 }
 
 /// What a sink handed on is this, in order. Says how many datagrams are in it.
@@ -153,41 +157,97 @@ fn takes_next(told: &Tellings, counts: &mut [usize], one: &Told) -> bool {
     false
 }
 
-/// Plays the turns of a seed three times: with the machine, in threads and in one thread. Says how many datagrams came.
+/// So many sinks, and where what each is told comes out.
+type Ends<'a> = (Vec<RingSink<'a>>, Vec<Consumer<Told, Global>>);
+
+fn sinks_and_ends(alloc: Global, stage: &Stage) -> Result<Ends<'_>, AllocError> {
+    let (mut sinks, mut ends) = (Vec::new(alloc), Vec::new(alloc));
+    for _sink in 0..WORKERS + 1 {
+        let (sink, end) = sink_and_end(alloc, stage)?;
+        sinks.push(sink)?;
+        ends.push(end)?;
+    }
+    Ok((sinks, ends))
+}
+
+/// What was heard, sent, failed, lost and dropped.
+type Counts = [u64; 5];
+
+fn counts_of(ran: Result<Report, UnitFault>) -> Result<Counts, UnitFault> {
+    let report = ran?;
+    Ok([
+        report.heard,
+        report.sent,
+        report.failed,
+        report.lost,
+        report.dropped,
+    ])
+}
+
+/// Plays the turns in threads, where sinks are told the same. Says how many datagrams were sent.
+fn in_threads<R: Threads + Wait + Sync>(
+    rt: &R,
+    alloc: Global,
+    settings: &Settings,
+    turns: &[Turn],
+    told: &Tellings,
+    least_sent: u64,
+) -> Result<u64, Fail> {
+    let stage = Stage::new(0);
+    let (sinks, mut ends) = sinks_and_ends(alloc, &stage)?;
+    let [_heard, sent, failed, lost, dropped] = run_turns(
+        rt, alloc, settings, turns, &stage, sinks,
+    )?;
+    if count_all(told, &mut ends, least_sent) != Some(sent)
+        || (failed, lost, dropped) != (0, 0, 0)
+    {
+        return Err("sinks are told other things in threads, or other counts".into());
+    }
+    Ok(sent)
+}
+
+/// Plays the turns in one thread, where the sink is told the same, and so many datagrams are sent.
+fn in_one_thread(alloc: Global, turns: &[Turn], told: &Tellings, sent: u64) -> Result<(), Fail> {
+    let stage = Stage::new(u64::MAX);
+    let (mut sink, mut end) = sink_and_end(alloc, &stage)?;
+    let sent_alone = run_alone(alloc, turns, &stage, &mut sink)?;
+    if sent_alone != sent || !is_merged(alloc, told, &mut end)? {
+        return Err("the sink is told other things in one thread, or another count".into());
+    }
+    Ok(())
+}
+
+/// Both.
+fn in_both<R: Threads + Wait + Sync>(
+    rt: &R,
+    alloc: Global,
+    settings: &Settings,
+    turns: &[Turn],
+    told: &Tellings,
+    least_sent: u64,
+) -> Result<(), Fail> {
+    let sent = in_threads(rt, alloc, settings, turns, told, least_sent)?;
+    in_one_thread(alloc, turns, told, sent)
+}
+
+/// Plays the turns of a seed three times: with the machine, in threads and in one thread.
 fn play_beside<R: Threads + Wait + Sync>(
     rt: &R,
     alloc: Global,
     settings: &Settings,
     seed: u64,
     plan: Plan,
-) -> Result<u64, Fail> {
+) -> Result<(), Fail> {
     let mut turns = make_turns(alloc, seed, plan)?;
     let told = play(alloc, settings, &mut turns)?;
-
-    let stage = Stage::new(0);
-    let (mut sinks, mut ends) = (Vec::new(alloc), Vec::new(alloc));
-    for _sink in 0..WORKERS + 1 {
-        let (sink, end) = sink_and_end(alloc, &stage)?;
-        sinks.push(sink)?;
-        ends.push(end)?;
-    }
-    let report = run_turns(rt, alloc, settings, turns.as_slice(), &stage, sinks)?;
-    let sent = count_all(&told, &mut ends, plan.least_sent).ok_or(
-        "sinks are told other things in threads",
-    )?;
-    if (report.sent, report.failed, report.lost, report.dropped) != (sent, 0, 0, 0) {
-        return Err("other counts in threads".into());
-    }
-
-    let stage = Stage::new(u64::MAX);
-    let (mut sink, mut end) = sink_and_end(alloc, &stage)?;
-    if run_alone(alloc, turns.as_slice(), &stage, &mut sink)? != sent {
-        return Err("another count in one thread".into());
-    }
-    if !is_merged(alloc, &told, &mut end)? {
-        return Err("the sink is told other things in one thread".into());
-    }
-    Ok(report.heard)
+    in_both(
+        rt,
+        alloc,
+        settings,
+        turns.as_slice(),
+        &told,
+        plan.least_sent,
+    )
 }
 
 #[test]

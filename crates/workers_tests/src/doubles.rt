@@ -1,9 +1,12 @@
 //! What stands for the outside of a unit in tests: a script of arrivals, clocks, gates, sinks in memory, and a watch.
 
-ghost use Rattle.std.specs.Prelude.{◌≡◌, ◌<◌, vec_len, IfOk};
+ghost use Rattle.std.specs.Prelude.{◌≡◌, ◌<◌, length, vec_len, IfOk};
+ghost use Rattle.outside.specs.Outside.{FitsIn};
 
+use crate::rooms::{media_packet, receiver_report};
 use desk::Desk;
 use events::{Bytes, Refusal};
+use outside::written;
 use std::alloc::{AllocError, Global};
 use std::sync::atomic::{AtomicBool, AtomicU64, Ordering};
 use std::thread;
@@ -12,32 +15,89 @@ use workers::*;
 /// So often a gate looks before it gives up.
 const PATIENCE: u32 = 10_000_000;
 
-/// What a receive comes to.
-#[derive(Drop)]
-pub(super) enum Arrival {
-    Datagram(u16, Vec<u8>),
+/// What a receive comes to. The endpoint 0 has the source 16, and so on.
+#[derive(Clone, Copy)]
+pub(super) enum Cue {
+    /// A receiver report of this endpoint.
+    Report(u8),
+    /// A packet of this endpoint with this sequence number.
+    Media(u8, u16),
+    /// Other bytes from this endpoint.
+    Bytes(u16, &'static [u8]),
     Select(u16, bool),
     Stop,
     Fault,
 }
 
-/// A source that plays its arrivals one after the other; after them nothing comes, and it says so.
+/// A cue, with how often it is played. A packet comes with the next number each time.
+pub(super) type Timed = (u16, Cue);
+
+/// A source that plays its cues one after the other; after them nothing comes, and it says so.
 #[derive(Drop)]
 pub(super) struct Script<'a> {
-    arrivals: Vec<Arrival>,
-    next: usize,
+    cues: &'a [Timed],
+    /// The place of the next cue, and how often it was played.
+    place: usize,
+    played: u16,
     failures: u64,
     is_played: &'a AtomicBool,
 }
 
 impl<'a> Script<'a> {
-    pub(super) fn of(arrivals: Vec<Arrival>, is_played: &'a AtomicBool) -> Script<'a> {
+    ghost use Rattle.std.specs.Prelude.{◌≡◌};
+
+    pub(super) fn of(cues: &'a [Timed], is_played: &'a AtomicBool) -> Script<'a> {
         Script {
-            arrivals,
-            next: 0,
+            cues,
+            place: 0,
+            played: 0,
             failures: 0,
             is_played,
         }
+    }
+
+    /// The next cue, and how often it was played before.
+    fn next_cue(&mut self) -> Option<(Cue, u16)>
+        ensures failures { self.new.failures ≡ self.old.failures }
+    {
+        let (times, cue) = *self.cues.get(self.place)?;
+        let before = self.played;
+        self.played = before.wrapping_add(1);
+        if self.played >= times {
+            self.played = 0;
+            self.place = self.place.wrapping_add(1);
+        }
+        Some((cue, before))
+    }
+}
+
+/// The bytes come from this endpoint, if there is room for them.
+fn datagram(endpoint: u16, bytes: &[u8], out: &mut [u8]) -> Received
+    ensures { FitsIn (length out.new) result }
+{
+    match written(bytes, out) {
+        Some(length) => Received::Datagram { endpoint, length },
+        None => Received::Nothing,
+    }
+}
+
+/// What comes by a cue that was played so often before, and is no fault.
+fn received(cue: Cue, before: u16, out: &mut [u8]) -> Received
+    ensures { FitsIn (length out.new) result }
+{
+    match cue {
+        Cue::Report(endpoint) => {
+            let report = receiver_report(endpoint.wrapping_add(16));
+            datagram(u16::from(endpoint), report.as_slice(), out)
+        }
+        Cue::Media(endpoint, seq) => {
+            let packet = media_packet(endpoint.wrapping_add(16), seq.wrapping_add(before));
+            datagram(u16::from(endpoint), packet.as_slice(), out)
+        }
+        Cue::Bytes(endpoint, bytes) => datagram(endpoint, bytes, out),
+        Cue::Select(leg, on) => Received::Select { leg, on },
+        Cue::Stop => Received::Stop,
+        Cue::Fault => Received::Nothing,
     }
 }
 
@@ -49,34 +109,15 @@ impl<'a> Source for Script<'a> {
     ghost given = { λ _. None };
 
     fn receive(&mut self, out: &mut [u8]) -> Result<Received, ReceiveFault> {
-        let at = self.next;
-        if at >= self.arrivals.len() {
+        let Some((cue, before)) = self.next_cue() else {
             self.is_played.store(true, Ordering::SeqCst);
             return Ok(Received::Nothing);
+        };
+        if matches!(cue, Cue::Fault) && self.failures < u64::MAX {
+            self.failures += 1;
+            return Err(ReceiveFault);
         }
-        self.next = at + 1;
-        match &self.arrivals[at] {
-            Arrival::Datagram(endpoint, bytes) => {
-                let length = bytes.len();
-                if length > out.len() {
-                    return Ok(Received::Nothing);
-                }
-                out[..length].copy_from_slice(bytes.as_slice());
-                Ok(Received::Datagram {
-                    endpoint: *endpoint,
-                    length,
-                })
-            }
-            Arrival::Select(leg, on) => Ok(Received::Select { leg: *leg, on: *on }),
-            Arrival::Stop => Ok(Received::Stop),
-            Arrival::Fault => {
-                if self.failures == u64::MAX {
-                    return Ok(Received::Nothing);
-                }
-                self.failures += 1;
-                Err(ReceiveFault)
-            }
-        }
+        Ok(received(cue, before, out))
     }
 }
 
@@ -283,14 +324,19 @@ impl Sink for MemorySink {
     }
 }
 
-/// So many sinks in memory.
-pub(super) fn sinks_of(alloc: Global, count: u64) -> Result<Vec<MemorySink>, AllocError>
+/// So many sinks in memory. Of the first one so many sends fail as `to_fail` says first, and so on.
+pub(super) fn sinks_of(
+    alloc: Global,
+    count: u64,
+    to_fail: &[u64],
+) -> Result<Vec<MemorySink>, AllocError>
     ensures { IfOk result (λ sinks. vec_len sinks ≡ count) }
 {
     let count = count as usize;
     let mut sinks = Vec::with_capacity(alloc, count)?;
-    for _sink in 0..count {
-        sinks.push(MemorySink::failing(alloc, 0))?;
+    for sink in 0..count {
+        let fails = to_fail.get(sink).copied().unwrap_or(0);
+        sinks.push(MemorySink::failing(alloc, fails))?;
     }
     Ok(sinks)
 }

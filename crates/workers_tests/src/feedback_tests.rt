@@ -3,6 +3,7 @@
 ghost use Rattle.std.specs.Prelude.{◌≡◌};
 
 use crate::doubles::MemorySink;
+use crate::expected::same;
 use crate::rooms::{HEAD, examples, is, on};
 use desk::{Call, Change};
 use events::{DeskRefusal, Job, Refusal};
@@ -150,7 +151,7 @@ fn feeds_in_vain<J: Naming, D: DeskCalls, C: SeatCalls, R: Wait + Abort>(
     jobs: &[Job],
 ) {
     for job in jobs {
-        assert_eq!(rt; bench.feed(rt, worker, job), Ok(NOTHING));
+        same(rt, &bench.feed(rt, worker, job), &Ok(NOTHING));
     }
 }
 
@@ -168,7 +169,7 @@ fn asks_nobody<J: Naming, D: DeskCalls, C: SeatCalls, R: Wait + Abort>(
     feeds_in_vain(rt, bench, &mut worker(alloc, 0)?, &[request(0, 1)]);
     let jobs = [request(1, 1), request(0, 0), again];
     feeds_in_vain(rt, bench, &mut worker(alloc, 1)?, &jobs);
-    assert_eq!(rt; bench.counts(), (1, 0));
+    same(rt, &bench.counts(), &(1, 0));
     Ok(())
 }
 
@@ -181,13 +182,16 @@ fn tells_both<J: Naming, D: DeskCalls, C: SeatCalls, R: Wait + Abort>(
 ) -> Result<(), Fail> {
     let mut worker = worker(alloc, 1)?;
     let both = Forwarded { sent: 2, ..NOTHING };
-    assert_eq!(rt; bench.feed(rt, &mut worker, &request(0, 1)), Ok(both));
-    assert_eq!(rt; bench.counts(), (2, 2));
-    assert!(rt; bench.sent(alloc, 0, 0, &TMMBR));
-    assert!(rt; bench.sent(alloc, 1, 1, &TMMBN));
-    assert!(rt; bench.sink.refused.is_empty());
+    same(rt, &bench.feed(rt, &mut worker, &request(0, 1)), &Ok(both));
+    same(rt, &bench.counts(), &(2, 2));
+    let told = [
+        bench.sent(alloc, 0, 0, &TMMBR),
+        bench.sent(alloc, 1, 1, &TMMBN),
+        bench.sink.refused.is_empty(),
+    ];
+    same(rt, &told, &[true; 3]);
     feeds_in_vain(rt, bench, &mut worker, &[request(0, 2)]);
-    assert_eq!(rt; bench.counts(), (3, 2));
+    same(rt, &bench.counts(), &(3, 2));
     let refusal = Refusal::Desk(DeskRefusal::NotPresent);
     assert!(rt; bench.sink.refused.as_slice() == [(Some(1), refusal)].as_slice());
     Ok(())
@@ -201,14 +205,17 @@ fn tells_publisher<J: Naming, D: DeskCalls, C: SeatCalls, R: Wait + Abort>(
 ) -> Result<(), Fail> {
     let wanted = Job::Pli { leg: 0, moment: 0 };
     let done = bench.feed(rt, &mut worker(alloc, 1)?, &wanted);
-    assert_eq!(rt; done, Ok(Forwarded { sent: 1, ..NOTHING }));
+    same(rt, &done, &Ok(Forwarded { sent: 1, ..NOTHING }));
     let settings = examples(alloc).ok_or("settings")?;
     notifies(rt, bench, &mut Notifier::new(alloc, &settings)?);
-    assert_eq!(rt; bench.counts(), (5, 6));
-    assert!(rt; bench.sent(alloc, 2, 0, &PLI));
-    assert!(rt; bench.sent(alloc, 3, 0, &LIFTED));
-    assert!(rt; bench.sent(alloc, 4, 1, &NOBODY));
-    assert!(rt; bench.sent(alloc, 5, 0, &PLI));
+    same(rt, &bench.counts(), &(5, 6));
+    let sent = [
+        bench.sent(alloc, 2, 0, &PLI),
+        bench.sent(alloc, 3, 0, &LIFTED),
+        bench.sent(alloc, 4, 1, &NOBODY),
+        bench.sent(alloc, 5, 0, &PLI),
+    ];
+    same(rt, &sent, &[true; 4]);
     Ok(())
 }
 
@@ -220,8 +227,8 @@ fn notifies<J: Naming, D: DeskCalls, C: SeatCalls, R: Wait + Abort>(
 ) {
     let one = Forwarded { sent: 1, ..NOTHING };
     let both = Forwarded { sent: 2, ..NOTHING };
-    assert_eq!(rt; bench.depart(rt, notifier), Ok(both));
-    assert_eq!(rt; bench.ask_for_picture(notifier), Ok(one));
+    same(rt, &bench.depart(rt, notifier), &Ok(both));
+    same(rt, &bench.ask_for_picture(notifier), &Ok(one));
 }
 
 fn asks_all<J: Naming, D: DeskCalls, C: SeatCalls, R: Wait + Abort>(
@@ -271,7 +278,7 @@ fn tells_in<J: Naming, D: DeskCalls, C: SeatCalls, R: Wait + Abort>(
 }
 
 #[test]
-fn feedback_tells_publisher_and_subscriber(rt: HostRuntime) -> Result<(), Fail> {
+fn feedback_as_row_21(rt: HostRuntime) -> Result<(), Fail> {
     let table = routes::Blank::new(1);
     tells_in::<Brand, Brand, Brand, _>(&rt, rt.alloc(), table, Blank::new(2), Blank::new(1))
 }

@@ -3,6 +3,7 @@
 ghost use Rattle.std.specs.Prelude.{◌≡◌};
 
 use crate::doubles::MemorySink;
+use crate::expected::same;
 use crate::rooms::{examples, is, on, packet, rtp, two_subscribers};
 use events::{Job, SharedPacket};
 use routes::{Blank, Naming, RouteReader, RouteWriter, routes};
@@ -40,6 +41,13 @@ impl<J: Naming> Bench<'_, J> {
     fn forward(&mut self, job: &Job) -> Result<Forwarded, ForwardFault> {
         let note = self.writer.note();
         self.worker.forward(self.reader, note, job, &mut self.sink)
+    }
+
+    /// Whether three datagrams were handed to the sink, and one miss and one skip told, both of leg 0.
+    fn told_once(&self) -> bool {
+        self.sink.handed.len() == 3
+            && self.sink.missed.as_slice() == [0].as_slice()
+            && self.sink.skipped.as_slice() == [0].as_slice()
     }
 
     /// Whether the last datagram went to this endpoint.
@@ -96,26 +104,24 @@ fn does_examples<J: Naming>(
 /// A packet, a report, the packet once more, and one from before it.
 fn does_jobs<J: Naming>(rt: &impl Abort, bench: &mut Bench<'_, J>, first: &Job, older: &Job) {
     let sent = Forwarded { sent: 1, ..NOTHING };
-    assert_eq!(rt; bench.forward(first), Ok(sent));
+    same(rt, &bench.forward(first), &Ok(sent));
     assert!(rt; bench.sent_last(1, &rtp(100, [1, 1])));
     let report = Job::Report {
         leg: 0,
         stay: 1,
         sr: Some((0x0000_000a_8000_0000, 3000)),
     };
-    assert_eq!(rt; bench.forward(&report), Ok(sent));
+    same(rt, &bench.forward(&report), &Ok(sent));
     assert!(rt; bench.sent_last(1, &REPORT));
     let again = Forwarded { missed: 1, ..sent };
-    assert_eq!(rt; bench.forward(&resend(0, 1, 100, 1)), Ok(again));
-    assert_eq!(rt; bench.sink.missed.as_slice(), [0].as_slice());
+    same(rt, &bench.forward(&resend(0, 1, 100, 1)), &Ok(again));
     assert!(rt; bench.sent_last(1, &rtp(100, [1, 1])));
     let old = Forwarded {
         skipped: 1,
         ..NOTHING
     };
-    assert_eq!(rt; bench.forward(older), Ok(old));
-    assert_eq!(rt; bench.sink.skipped.as_slice(), [0].as_slice());
-    assert_eq!(rt; bench.sink.handed.len(), 3);
+    same(rt, &bench.forward(older), &Ok(old));
+    assert!(rt; bench.told_once());
 }
 
 /// Jobs that the worker has nothing to do for: for a desk, of a stay, a leg or a publisher that isn't there, of another
@@ -143,18 +149,46 @@ fn does_nothing<J: Naming>(
         resend(1, 1, 100, 0),
         nowhere,
     ];
-    does_in_vain(rt, &mut make_bench(alloc, writer, reader, 1)?, &own);
+    does_in_vain(rt, alloc, writer, reader, 1, &own)
+}
+
+/// The same of the worker that has no leg.
+fn has_no_leg<J: Naming>(
+    rt: &impl Abort,
+    alloc: Global,
+    writer: &RouteWriter<J>,
+    reader: &mut RouteReader<J>,
+) -> Result<(), Fail> {
     let others = [packet(alloc, 8)?, resend(0, 1, 100, 0)];
-    does_in_vain(rt, &mut make_bench(alloc, writer, reader, 0)?, &others);
+    does_in_vain(rt, alloc, writer, reader, 0, &others)
+}
+
+/// The worker of this number does jobs that send nothing.
+fn does_in_vain<J: Naming>(
+    rt: &impl Abort,
+    alloc: Global,
+    writer: &RouteWriter<J>,
+    reader: &mut RouteReader<J>,
+    number: u16,
+    jobs: &[Job],
+) -> Result<(), Fail> {
+    let mut bench = make_bench(alloc, writer, reader, number)?;
+    for job in jobs {
+        same(rt, &bench.forward(job), &Ok(NOTHING));
+    }
+    assert!(rt; bench.sink.handed.is_empty());
     Ok(())
 }
 
-/// Does jobs that send nothing.
-fn does_in_vain<J: Naming>(rt: &impl Abort, bench: &mut Bench<'_, J>, jobs: &[Job]) {
-    for job in jobs {
-        assert_eq!(rt; bench.forward(job), Ok(NOTHING));
-    }
-    assert!(rt; bench.sink.handed.is_empty());
+/// The worker with a leg, and the one without.
+fn do_nothing<J: Naming>(
+    rt: &impl Abort,
+    alloc: Global,
+    writer: &RouteWriter<J>,
+    reader: &mut RouteReader<J>,
+) -> Result<(), Fail> {
+    does_nothing(rt, alloc, writer, reader)?;
+    has_no_leg(rt, alloc, writer, reader)
 }
 
 fn forwards_in<J: Naming, R: Wait + Abort>(rt: &R, alloc: Global, blank: Blank) -> Result<(), Fail>
@@ -163,7 +197,7 @@ fn forwards_in<J: Naming, R: Wait + Abort>(rt: &R, alloc: Global, blank: Blank) 
     let (mut writer, mut readers) = routes::<J, R>(rt, alloc, blank, 2)?;
     let noted = writer.change(&on(0)).is_ok();
     writer.publish(rt);
-    let done = does_examples(rt, alloc, &writer, &mut readers[0]).and_then(|()| does_nothing(
+    let done = does_examples(rt, alloc, &writer, &mut readers[0]).and_then(|()| do_nothing(
         rt,
         alloc,
         &writer,
@@ -200,10 +234,10 @@ fn fails_once<J: Naming>(
 fn fails_and_goes_out<J: Naming>(rt: &impl Abort, bench: &mut Bench<'_, J>, packet: &Job) {
     let one = Forwarded { sent: 1, ..NOTHING };
     let failed = Forwarded { failed: 1, ..one };
-    assert_eq!(rt; bench.forward(packet), Ok(failed));
-    assert_eq!(rt; bench.sink.handed.len(), 2);
+    same(rt, &bench.forward(packet), &Ok(failed));
+    same(rt, &bench.sink.handed.len(), &2);
     assert!(rt; bench.sent_last(2, &rtp(200, [1, 2])));
-    assert_eq!(rt; bench.forward(&resend(0, 1, 100, 0)), Ok(one));
+    same(rt, &bench.forward(&resend(0, 1, 100, 0)), &Ok(one));
     assert!(rt; bench.sent_last(1, &rtp(100, [1, 1])));
 }
 

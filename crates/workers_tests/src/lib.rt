@@ -11,6 +11,8 @@ mod conference_tests;
 #[cfg(test)]
 mod doubles;
 #[cfg(test)]
+mod expected;
+#[cfg(test)]
 mod feedback_tests;
 #[cfg(test)]
 mod forward_tests;

@@ -3,6 +3,7 @@
 ghost use Rattle.std.specs.Prelude.{◌≡◌};
 
 use crate::doubles::MemorySink;
+use crate::expected::same;
 use crate::rooms::{is, on, packet, rtp, two_subscribers};
 use events::{Job, SharedPacket};
 use routes::{Blank, Naming, Order, RouteReader, RouteWriter, RoutesFault, routes};
@@ -73,8 +74,8 @@ fn until_done<J: Naming>(
         match forward(writer, reader, worker, job, sink) {
             Ok(done) => return Some(done),
             Err(fault) => {
-                assert_eq!(rt; fault, ForwardFault::NoMemory);
-                assert_eq!(rt; sink.handed.len(), before);
+                same(rt, &fault, &ForwardFault::NoMemory);
+                same(rt, &sink.handed.len(), &before);
             }
         }
     }
@@ -93,19 +94,23 @@ fn sends_four<J: Naming>(
     for seq in [8, 9] {
         let job = packet_at_last(alloc, seq)?;
         let done = until_done(rt, writer, reader, &mut worker, &job, &mut sink);
-        assert_eq!(rt; done, Some(BOTH));
+        same(rt, &done, &Some(BOTH));
     }
-    holds_four(rt, &sink);
+    assert!(rt; holds_four(&sink));
     Ok(())
 }
 
-/// The sink was handed both packets for the first subscriber and for the second, with rising numbers.
-fn holds_four(rt: &impl Abort, sink: &MemorySink) {
-    assert_eq!(rt; sink.handed.len(), 4);
-    assert!(rt; is(&sink.handed[0], 1, &rtp(100, [1, 1])));
-    assert!(rt; is(&sink.handed[1], 2, &rtp(200, [1, 2])));
-    assert!(rt; is(&sink.handed[2], 1, &rtp(101, [1, 1])));
-    assert!(rt; is(&sink.handed[3], 2, &rtp(201, [1, 2])));
+/// Whether the sink was handed both packets for the first subscriber and for the second, with rising numbers.
+fn holds_four(sink: &MemorySink) -> bool {
+    match sink.handed.as_slice() {
+        [first, second, third, fourth] => {
+            is(first, 1, &rtp(100, [1, 1]))
+                && is(second, 2, &rtp(200, [1, 2]))
+                && is(third, 1, &rtp(101, [1, 1]))
+                && is(fourth, 2, &rtp(201, [1, 2]))
+        }
+        _ => false,
+    }
 }
 
 /// A sink that keeps nothing, so that it takes no memory.
@@ -159,9 +164,9 @@ fn streams<J: Naming>(
         if seq < FIRST && done.is_err() {
             done = forward(writer, reader, &mut worker, &job, &mut sink);
         }
-        assert_eq!(rt; done, Ok(BOTH));
+        same(rt, &done, &Ok(BOTH));
     }
-    assert_eq!(rt; sink.handed, 2 * u64::from(FIRST + STEADY));
+    same(rt, &sink.handed, &(2 * u64::from(FIRST + STEADY)));
     Ok(())
 }
 
@@ -176,7 +181,7 @@ fn sends_in<J: Naming, R: Wait + Abort>(rt: &R, alloc: Global, blank: Blank) -> 
     let (mut writer, mut readers) = match routes::<J, R>(rt, alloc, blank, 2) {
         Ok(made) => made,
         Err(fault) => {
-            assert_eq!(rt; fault, RoutesFault::NoMemory);
+            same(rt, &fault, &RoutesFault::NoMemory);
             return Ok(());
         }
     };

@@ -1,49 +1,50 @@
 //! Whole runs of the unit in one thread: what goes out, and what a watch and a sink are told meanwhile.
 
-use crate::doubles::{Arrival, Looker, MemorySink, Moved, RisingClock, Script, Shown, Slow};
-use crate::rooms::{Link, is, media_packet, receiver_report, rtp, settings_of};
+use crate::doubles::{Cue, Looker, MemorySink, Moved, RisingClock, Script, Shown, Slow, Timed};
+use crate::expected::same;
+use crate::rooms::{Link, ONE_WORKER, Room, is, rtp};
 use events::Refusal;
 use one_thread::{Pace, run_one_thread};
 use outside::{Look, Status, Unwatched};
 use rtp_packet::RtpFault;
 use settings::RoomFault;
-use std::alloc::{AllocError, Global};
+use std::alloc::Global;
 use std::sync::atomic::{AtomicBool, AtomicU64};
 use std::test::Fail;
 
-/// Endpoint 0 sends to endpoint 1.
-const LINK: Link = Link {
-    subscriber: 1,
-    publisher: 0,
-    out_ssrc: 257,
+/// Endpoint 0 sends to endpoint 2, which never comes, and to endpoint 1.
+const ONE_NEVER_COMES: Room = Room {
+    endpoints: 3,
+    links: &[
+        Link {
+            subscriber: 2,
+            publisher: 0,
+            out_ssrc: 258,
+        },
+        Link {
+            subscriber: 1,
+            publisher: 0,
+            out_ssrc: 257,
+        },
+    ],
+    ..ONE_WORKER
 };
 
-/// Endpoint 0 sends to endpoint 2, which never comes.
-const IN_VAIN: Link = Link {
-    subscriber: 2,
-    publisher: 0,
-    out_ssrc: 258,
-};
-
-/// Both come, and the publisher sends packets with these numbers.
-fn come_and_send(alloc: Global, numbers: &[u16]) -> Result<Vec<Arrival>, AllocError> {
-    let mut arrivals = Vec::new(alloc);
-    arrivals.push(Arrival::Datagram(0, receiver_report(alloc, 16)?))?;
-    arrivals.push(Arrival::Datagram(1, receiver_report(alloc, 17)?))?;
-    for number in numbers {
-        arrivals.push(Arrival::Datagram(0, media_packet(alloc, 16, *number)?))?;
-    }
-    Ok(arrivals)
-}
+/// Both come, and the publisher sends a packet.
+const THREE: [Timed; 3] = [
+    (1, Cue::Report(0)),
+    (1, Cue::Report(1)),
+    (1, Cue::Media(0, 7)),
+];
 
 /// Runs five turns: what was heard, sent and failed, and how many desks there are.
 fn run_five(alloc: Global, sink: &mut MemorySink) -> Result<[u64; 4], Fail> {
-    let settings = settings_of(alloc, 1, 2, &[LINK])?;
+    let settings = ONE_WORKER.settings(alloc)?;
     if settings.workers() != 1 {
         return Err("workers".into());
     }
     let is_played = AtomicBool::new(false);
-    let mut source = Script::of(come_and_send(alloc, &[7])?, &is_played);
+    let mut source = Script::of(&THREE, &is_played);
     let mut clock = RisingClock { moment: 0 };
     let pace = Pace {
         turns: 5,
@@ -68,37 +69,51 @@ fn run_five(alloc: Global, sink: &mut MemorySink) -> Result<[u64; 4], Fail> {
     }
 }
 
+/// Whether the packet was sent on, and nothing else was sent.
+fn is_sent_on(sink: &MemorySink) -> bool {
+    match sink.handed.as_slice() {
+        [only] => is(only, 1, &rtp(100, [1, 1])),
+        _ => false,
+    }
+}
+
 /// Both come, and a packet goes to the subscriber under the leg's source and its first number.
 #[test]
 fn sends_in_one_thread(rt: HostRuntime) -> Result<(), Fail> {
     let mut sink = MemorySink::failing(rt.alloc(), 0);
-    assert_eq!(rt; run_five(rt.alloc(), &mut sink)?, [3, 1, 0, 2]);
-    assert_eq!(rt; sink.handed.len(), 1);
-    assert!(rt; is(&sink.handed[0], 1, &rtp(100, [1, 1])));
+    let counts = run_five(rt.alloc(), &mut sink)?;
+    same(&rt, &counts, &[3, 1, 0, 2]);
+    assert!(rt; is_sent_on(&sink));
     Ok(())
 }
 
-/// Three packets are sent on, one from before them isn't, and one that never was is asked for again (RFC 4585, section 6.2.1); then
-/// comes what is no packet, and a leg that isn't there is selected.
-fn odd_arrivals(alloc: Global) -> Result<Vec<Arrival>, AllocError> {
-    let mut arrivals = come_and_send(alloc, &[7, 8, 9, 6])?;
-    let nack = [0x81, 205, 0, 3, 0, 0, 0, 17, 0, 0, 1, 1, 0, 5, 0, 0];
-    arrivals.push(Arrival::Datagram(1, nack.to_vec(alloc)?))?;
-    let version_1 = [0x40, 0x60, 0, 7, 0, 0, 0x0b, 0xb8, 0, 0, 0, 17, 0xaa, 0xbb];
-    arrivals.push(Arrival::Datagram(1, version_1.to_vec(alloc)?))?;
-    arrivals.push(Arrival::Select(7, true))?;
-    Ok(arrivals)
-}
+/// A NACK of 17 about source 257: packet 5 (RFC 4585, section 6.2.1).
+const NACK: [u8; 16] = [0x81, 205, 0, 3, 0, 0, 0, 17, 0, 0, 1, 1, 0, 5, 0, 0];
+
+/// A packet of version 1.
+const VERSION_1: [u8; 14] = [0x40, 0x60, 0, 7, 0, 0, 0x0b, 0xb8, 0, 0, 0, 17, 0xaa, 0xbb];
+
+/// Both come; three packets are sent on, one from before them isn't, and one that never was is asked for again; then comes what is no
+/// packet, and a leg that isn't there is selected.
+const ODD: [Timed; 7] = [
+    (1, Cue::Report(0)),
+    (1, Cue::Report(1)),
+    (3, Cue::Media(0, 7)),
+    (1, Cue::Media(0, 6)),
+    (1, Cue::Bytes(1, &NACK)),
+    (1, Cue::Bytes(1, &VERSION_1)),
+    (1, Cue::Select(7, true)),
+];
 
 /// Runs ten turns, whose receives take 10 ms each, and the last of which brings nothing. The first leg is to who never comes.
 fn run_watched(alloc: Global, sink: &mut MemorySink, shown: &mut Shown) -> Result<bool, Fail> {
-    let settings = settings_of(alloc, 1, 3, &[IN_VAIN, LINK])?;
+    let settings = ONE_NEVER_COMES.settings(alloc)?;
     if settings.workers() != 1 {
         return Err("workers".into());
     }
     let (is_played, moment) = (AtomicBool::new(false), AtomicU64::new(0));
     let mut source = Slow {
-        script: Script::of(odd_arrivals(alloc)?, &is_played),
+        script: Script::of(&ODD, &is_played),
         moment: &moment,
     };
     let mut clock = Moved { moment: &moment };

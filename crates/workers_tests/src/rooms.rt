@@ -93,23 +93,69 @@ pub(super) struct Times {
     pub(super) gap: i64,
 }
 
-/// So many workers, endpoints with the sources 16, 17 and so on, and these legs, on; all else as in the examples.
-pub(super) fn settings_of(
-    alloc: Global,
-    workers: i64,
-    endpoints: u8,
-    links: &[Link],
-) -> Result<Settings, Fail> {
-    let times = Times {
-        timeout: 1_000,
-        report: 60_000,
-        request: 0,
-        gap: 500,
-    };
-    settings_with(alloc, workers, endpoints, links, times)
+/// What settings are made of, and how many sends fail of each sink.
+#[derive(Clone, Copy)]
+pub(super) struct Room {
+    pub(super) workers: i64,
+    pub(super) endpoints: u8,
+    pub(super) links: &'static [Link],
+    pub(super) times: Times,
+    pub(super) to_fail: &'static [u64],
 }
 
-/// The same, with these times.
+pub(super) const TIMES: Times = Times {
+    timeout: 1_000,
+    report: 60_000,
+    request: 0,
+    gap: 500,
+};
+
+/// Endpoint 0 sends to endpoint 1, by one worker.
+pub(super) const ONE_WORKER: Room = Room {
+    workers: 1,
+    endpoints: 2,
+    links: &[Link {
+        subscriber: 1,
+        publisher: 0,
+        out_ssrc: 257,
+    }],
+    times: TIMES,
+    to_fail: &[],
+};
+
+/// The same with two workers, one of which has no leg.
+pub(super) const ONE_IDLE: Room = Room {
+    workers: 2,
+    ..ONE_WORKER
+};
+
+/// Endpoint 2 sends to the endpoints 0 and 1, each of a worker of its own.
+pub(super) const TWO_WORKERS: Room = Room {
+    workers: 2,
+    endpoints: 3,
+    links: &[
+        Link {
+            subscriber: 0,
+            publisher: 2,
+            out_ssrc: 257,
+        },
+        Link {
+            subscriber: 1,
+            publisher: 2,
+            out_ssrc: 258,
+        },
+    ],
+    times: TIMES,
+    to_fail: &[],
+};
+
+impl Room {
+    pub(super) fn settings(&self, alloc: Global) -> Result<Settings, Fail> {
+        settings_with(alloc, self.workers, self.endpoints, self.links, self.times)
+    }
+}
+
+/// So many workers, endpoints with the sources 16, 17 and so on, these legs, on, and these times; all else as in the examples.
 pub(super) fn settings_with(
     alloc: Global,
     workers: i64,
@@ -143,15 +189,14 @@ pub(super) fn settings_with(
 }
 
 /// A receiver report of this source, without blocks (RFC 3550, section 6.4.2).
-pub(super) fn receiver_report(alloc: Global, source: u8) -> Result<Vec<u8>, AllocError> {
-    [0x80, 0xc9, 0, 1, 0, 0, 0, source].to_vec(alloc)
+pub(super) const fn receiver_report(source: u8) -> [u8; 8] {
+    [0x80, 0xc9, 0, 1, 0, 0, 0, source]
 }
 
 /// An RTP packet of this source with two bytes of payload (RFC 3550, section 5.1).
-pub(super) fn media_packet(alloc: Global, source: u8, seq: u16) -> Result<Vec<u8>, AllocError> {
+pub(super) fn media_packet(source: u8, seq: u16) -> [u8; 14] {
     let [high, low] = seq.to_be_bytes();
     [
         0x80, 0x60, high, low, 0, 0, 0x0b, 0xb8, 0, 0, 0, source, 0xaa, 0xbb,
     ]
-    .to_vec(alloc)
 }

@@ -2,11 +2,9 @@
 
 ghost use Rattle.std.specs.Prelude.{◌+◌};
 
-use crate::doubles::{
-    Arrival, MemorySink, OpenGate, Pairing, RisingClock, Script, StoppedClock, Until, sinks_of,
-};
-use crate::rooms::{Link, Times, media_packet, receiver_report, settings_of, settings_with};
-use settings::Settings;
+use crate::doubles::{Cue, OpenGate, Pairing, RisingClock, Script, StoppedClock, Until, sinks_of};
+use crate::expected::same;
+use crate::rooms::{ONE_IDLE, ONE_WORKER, Room, TIMES, TWO_WORKERS, Times};
 use std::alloc::Global;
 use std::sync::Wait;
 use std::sync::atomic::{AtomicBool, Ordering};
@@ -14,108 +12,105 @@ use std::test::Fail;
 use std::thread::Threads;
 use workers::*;
 
-/// Runs these arrivals for so many turns, at moment 0.
-fn run_script<R: Threads + Wait + Sync, G: Gate + Sync>(
-    rt: &R,
-    alloc: Global,
-    settings: &Settings,
-    source: Script<'_>,
-    gate: &G,
-    turns: u64,
-) -> Result<Report, Fail> {
-    let sinks = sinks_of(alloc, settings.workers() + 1)?;
-    Ok(run_unit(
-        rt,
-        alloc,
-        settings,
-        source,
-        sinks,
-        StoppedClock,
-        gate,
-        turns,
-    )?)
+/// What was heard, sent, failed, lost and dropped, and how many desks there are.
+type Counts = [u64; 6];
+
+fn counts_of(ran: Result<Report, UnitFault>) -> Result<Counts, UnitFault> {
+    let report = ran?;
+    Ok([
+        report.heard,
+        report.sent,
+        report.failed,
+        report.lost,
+        report.dropped,
+        report.desks.len() as u64,
+    ])
 }
 
-/// Endpoint 0 sends to endpoint 1.
-const ONE_LINK: [Link; 1] = [Link {
-    subscriber: 1,
-    publisher: 0,
-    out_ssrc: 257,
-}];
-
-/// Endpoint 2 sends to the endpoints 0 and 1, each of a worker of its own.
-pub(super) const TWO_LINKS: [Link; 2] = [
-    Link {
-        subscriber: 0,
-        publisher: 2,
-        out_ssrc: 257,
-    },
-    Link {
-        subscriber: 1,
-        publisher: 2,
-        out_ssrc: 258,
-    },
-];
+/// Runs a room for so many turns.
+fn run_room<R: Threads + Wait + Sync, C: Clock + Drop, G: Gate + Sync>(
+    rt: &R,
+    alloc: Global,
+    room: &Room,
+    source: Script<'_>,
+    clock: C,
+    gate: &G,
+    turns: u64,
+) -> Result<Result<Counts, UnitFault>, Fail> {
+    let settings = room.settings(alloc)?;
+    let sinks = sinks_of(alloc, settings.workers() + 1, room.to_fail)?;
+    let ran = run_unit(rt, alloc, &settings, source, sinks, clock, gate, turns);
+    Ok(counts_of(ran))
+}
 
 #[test]
 fn gate_two_workers(rt: HostRuntime) -> Result<(), Fail> {
-    let alloc = rt.alloc();
-    let settings = settings_of(alloc, 2, 3, &TWO_LINKS)?;
-    let mut arrivals = Vec::new(alloc);
-    arrivals.push(Arrival::Datagram(0, receiver_report(alloc, 16)?))?;
-    arrivals.push(Arrival::Datagram(1, receiver_report(alloc, 17)?))?;
-    arrivals.push(Arrival::Datagram(2, media_packet(alloc, 18, 7)?))?;
-    let is_played = AtomicBool::new(false);
-    let gate = Pairing::new();
-    let source = Script::of(arrivals, &is_played);
-    let report = run_script(&rt, alloc, &settings, source, &gate, 3)?;
-    assert_eq!(rt; (report.heard, report.sent, report.failed), (3, 2, 0));
-    assert_eq!(rt;
-        (report.lost, report.dropped, report.desks.len()),
-        (0, 0, 3)
-    );
+    let (is_played, gate) = (AtomicBool::new(false), Pairing::new());
+    let cues = [
+        (1, Cue::Report(0)),
+        (1, Cue::Report(1)),
+        (1, Cue::Media(2, 7)),
+    ];
+    let source = Script::of(&cues, &is_played);
+    let ran = run_room(
+        &rt,
+        rt.alloc(),
+        &TWO_WORKERS,
+        source,
+        StoppedClock,
+        &gate,
+        3,
+    )?;
+    same(&rt, &ran, &Ok([3, 2, 0, 0, 0, 3]));
     assert!(rt; gate.all_met());
     Ok(())
 }
 
 #[test]
 fn stop_behind_full_ring(rt: HostRuntime) -> Result<(), Fail> {
-    let alloc = rt.alloc();
-    let settings = settings_of(alloc, 1, 2, &ONE_LINK)?;
-    let mut arrivals = Vec::new(alloc);
-    arrivals.push(Arrival::Datagram(1, receiver_report(alloc, 17)?))?;
-    for seq in 0..2_000u16 {
-        arrivals.push(Arrival::Datagram(0, media_packet(alloc, 16, seq)?))?;
-    }
     let is_played = AtomicBool::new(false);
     let gate = Until {
         has_come: &is_played,
     };
-    let source = Script::of(arrivals, &is_played);
-    let report = run_script(&rt, alloc, &settings, source, &gate, 2_002)?;
-    assert!(rt; report.lost == 975 || report.lost == 976);
-    assert_eq!(rt; report.sent.checked_add(report.lost), Some(2_000));
-    assert_eq!(rt;
-        (report.heard, report.failed, report.dropped),
-        (2_001, 0, 0)
-    );
+    let cues = [(1, Cue::Report(1)), (2_000, Cue::Media(0, 0))];
+    let source = Script::of(&cues, &is_played);
+    let ran = run_room(
+        &rt,
+        rt.alloc(),
+        &ONE_WORKER,
+        source,
+        StoppedClock,
+        &gate,
+        2_002,
+    )?;
+    let [heard, sent, failed, lost, dropped, _] = ran?;
+    assert!(rt; lost == 975 || lost == 976, "{lost}");
+    let counts = [heard, sent.wrapping_add(lost), failed, dropped];
+    same(&rt, &counts, &[2_001, 2_000, 0, 0]);
     Ok(())
 }
 
 /// A stop ends the run: what came before is sent, and what comes after isn't heard.
 #[test]
 fn stops_on_threads(rt: HostRuntime) -> Result<(), Fail> {
-    let alloc = rt.alloc();
-    let settings = settings_of(alloc, 2, 2, &ONE_LINK)?;
-    let mut arrivals = Vec::new(alloc);
-    arrivals.push(Arrival::Datagram(1, receiver_report(alloc, 17)?))?;
-    arrivals.push(Arrival::Datagram(0, media_packet(alloc, 16, 7)?))?;
-    arrivals.push(Arrival::Stop)?;
-    arrivals.push(Arrival::Datagram(0, media_packet(alloc, 16, 8)?))?;
     let is_played = AtomicBool::new(false);
-    let source = Script::of(arrivals, &is_played);
-    let report = run_script(&rt, alloc, &settings, source, &OpenGate, 200)?;
-    assert_eq!(rt; (report.heard, report.sent, report.lost), (2, 1, 0));
+    let cues = [
+        (1, Cue::Report(1)),
+        (1, Cue::Media(0, 7)),
+        (1, Cue::Stop),
+        (1, Cue::Media(0, 8)),
+    ];
+    let source = Script::of(&cues, &is_played);
+    let ran = run_room(
+        &rt,
+        rt.alloc(),
+        &ONE_IDLE,
+        source,
+        StoppedClock,
+        &OpenGate,
+        200,
+    )?;
+    same(&rt, &ran, &Ok([2, 1, 0, 0, 0, 2]));
     assert!(rt; !is_played.load(Ordering::SeqCst));
     Ok(())
 }
@@ -124,84 +119,46 @@ fn stops_on_threads(rt: HostRuntime) -> Result<(), Fail> {
 fn run_faults<R: Threads + Wait + Sync>(
     rt: &R,
     alloc: Global,
-    faults: u64,
-) -> Result<Result<Report, UnitFault>, Fail> {
-    let settings = settings_of(alloc, 2, 2, &ONE_LINK)?;
-    let mut arrivals = Vec::new(alloc);
-    for _fault in 0..faults {
-        arrivals.push(Arrival::Fault)?;
-    }
-    arrivals.push(Arrival::Datagram(1, receiver_report(alloc, 17)?))?;
+    faults: u16,
+) -> Result<Result<Counts, UnitFault>, Fail> {
     let is_played = AtomicBool::new(false);
-    let source = Script::of(arrivals, &is_played);
-    let sinks = sinks_of(alloc, settings.workers() + 1)?;
-    Ok(run_unit(
-        rt,
-        alloc,
-        &settings,
-        source,
-        sinks,
-        StoppedClock,
-        &OpenGate,
-        200,
-    ))
+    let cues = [(faults, Cue::Fault), (1, Cue::Report(1))];
+    let source = Script::of(&cues, &is_played);
+    run_room(rt, alloc, &ONE_IDLE, source, StoppedClock, &OpenGate, 200)
 }
 
 #[test]
 fn receive_faults(rt: HostRuntime) -> Result<(), Fail> {
-    let report = run_faults(&rt, rt.alloc(), 99)??;
-    assert_eq!(rt; (report.heard, report.sent), (1, 0));
-    let fault = run_faults(&rt, rt.alloc(), 100)?.err();
-    assert_eq!(rt; fault, Some(UnitFault::Receive));
-    assert_eq!(rt; UnitFault::Receive.number(), 2);
+    let runs = [
+        run_faults(&rt, rt.alloc(), 99)?,
+        run_faults(&rt, rt.alloc(), 100)?,
+    ];
+    same(
+        &rt,
+        &runs,
+        &[Ok([1, 0, 0, 0, 0, 2]), Err(UnitFault::Receive)],
+    );
+    same(&rt, &UnitFault::Receive.number(), &2);
     Ok(())
 }
 
-/// Sinks for two workers and the ingress, of whose first sends 2, 3 and 1 fail.
-fn failing_sinks(alloc: Global) -> Result<Vec<MemorySink>, Fail> {
-    let mut sinks = Vec::new(alloc);
-    for to_fail in [2, 3, 1] {
-        sinks.push(MemorySink::failing(alloc, to_fail))?;
-    }
-    Ok(sinks)
-}
-
-/// Two endpoints say that they are there, and the third sends six packets.
-fn six_packets(alloc: Global) -> Result<Vec<Arrival>, Fail> {
-    let mut arrivals = Vec::new(alloc);
-    for endpoint in 0..2u8 {
-        let report = receiver_report(alloc, 16 + endpoint)?;
-        arrivals.push(Arrival::Datagram(u16::from(endpoint), report))?;
-    }
-    for seq in 0..6 {
-        arrivals.push(Arrival::Datagram(2, media_packet(alloc, 18, seq)?))?;
-    }
-    Ok(arrivals)
-}
-
-/// Of twelve datagrams that two workers send, the first two of one and the first three of the other fail.
+/// Two endpoints say that they are there, and the third sends six packets. Of the twelve datagrams that two workers send, the first two
+/// of one and the first three of the other fail.
 #[test]
 fn each_count_by_its_name(rt: HostRuntime) -> Result<(), Fail> {
-    let alloc = rt.alloc();
-    let settings = settings_of(alloc, 2, 3, &TWO_LINKS)?;
+    let room = Room {
+        to_fail: &[2, 3, 1],
+        ..TWO_WORKERS
+    };
     let is_played = AtomicBool::new(false);
-    let source = Script::of(six_packets(alloc)?, &is_played);
-    let sinks = failing_sinks(alloc)?;
-    if sinks.len() as u64 != settings.workers() + 1 {
-        return Err("sinks".into());
-    }
-    let report = run_unit(
-        &rt,
-        alloc,
-        &settings,
-        source,
-        sinks,
-        StoppedClock,
-        &OpenGate,
-        8,
-    )?;
-    assert_eq!(rt; (report.heard, report.sent, report.failed), (8, 7, 5));
-    assert_eq!(rt; (report.lost, report.dropped), (0, 0));
+    let cues = [
+        (1, Cue::Report(0)),
+        (1, Cue::Report(1)),
+        (6, Cue::Media(2, 0)),
+    ];
+    let source = Script::of(&cues, &is_played);
+    let ran = run_room(&rt, rt.alloc(), &room, source, StoppedClock, &OpenGate, 8)?;
+    same(&rt, &ran, &Ok([8, 7, 5, 0, 0, 3]));
     Ok(())
 }
 
@@ -209,34 +166,32 @@ fn each_count_by_its_name(rt: HostRuntime) -> Result<(), Fail> {
 fn sent_beside_faults<R: Threads + Wait + Sync>(
     rt: &R,
     alloc: Global,
-    faults: u8,
+    faults: u16,
 ) -> Result<u64, Fail> {
-    let times = Times {
-        timeout: 60_000,
-        report: 1_000,
-        request: 0,
-        gap: 500,
+    let room = Room {
+        times: Times {
+            timeout: 60_000,
+            report: 1_000,
+            ..TIMES
+        },
+        ..ONE_WORKER
     };
-    let settings = settings_with(alloc, 1, 2, &ONE_LINK, times)?;
-    let mut arrivals = Vec::new(alloc);
-    arrivals.push(Arrival::Datagram(0, media_packet(alloc, 16, 7)?))?;
-    for _fault in 0..faults {
-        arrivals.push(Arrival::Fault)?;
-    }
     let is_played = AtomicBool::new(false);
-    let source = Script::of(arrivals, &is_played);
-    let sinks = sinks_of(alloc, settings.workers() + 1)?;
+    let cues = [(1, Cue::Media(0, 7)), (faults, Cue::Fault)];
+    let source = Script::of(&cues, &is_played);
     let clock = RisingClock { moment: 0 };
     let turns = u64::from(faults) + 1;
-    let report = run_unit(rt, alloc, &settings, source, sinks, clock, &OpenGate, turns)?;
-    Ok(report.sent)
+    let [_, sent, ..] = run_room(rt, alloc, &room, source, clock, &OpenGate, turns)??;
+    Ok(sent)
 }
 
 /// A report to the publisher that is due while receives fail goes out then: a turn whose receive failed has its tick.
 #[test]
 fn reports_while_receives_fail(rt: HostRuntime) -> Result<(), Fail> {
-    let before = sent_beside_faults(&rt, rt.alloc(), 0)?;
-    let after = sent_beside_faults(&rt, rt.alloc(), 60)?;
-    assert_eq!(rt; (before, after), (0, 1));
+    let sent = [
+        sent_beside_faults(&rt, rt.alloc(), 0)?,
+        sent_beside_faults(&rt, rt.alloc(), 60)?,
+    ];
+    same(&rt, &sent, &[0, 1]);
     Ok(())
 }

@@ -2,9 +2,9 @@
 
 ghost use Rattle.std.specs.Prelude.{◌≡◌, ◌+◌, vec_len, IfOk};
 
-use crate::doubles::{Arrival, Looker, OpenGate, RisingClock, Script, Shown};
-use crate::rooms::{receiver_report, settings_of};
-use crate::unit_tests::TWO_LINKS;
+use crate::doubles::{Cue, Looker, OpenGate, RisingClock, Script, Shown, Timed};
+use crate::expected::same;
+use crate::rooms::TWO_WORKERS;
 use events::Refusal;
 use rtp_packet::RtpFault;
 use std::alloc::{AllocError, Global};
@@ -63,17 +63,17 @@ fn refusing_sinks(
     Ok(sinks)
 }
 
+/// A packet of version 1.
+const VERSION_1: [u8; 12] = [0x40, 0x60, 0, 7, 0, 0, 0x0b, 0xb8, 0, 0, 0, 17];
+
 /// A subscriber comes, then the publisher, then the other subscriber, then a packet of version 1, and a stop.
-fn arrivals(alloc: Global) -> Result<Vec<Arrival>, AllocError> {
-    let mut arrivals = Vec::new(alloc);
-    arrivals.push(Arrival::Datagram(1, receiver_report(alloc, 17)?))?;
-    arrivals.push(Arrival::Datagram(2, receiver_report(alloc, 18)?))?;
-    arrivals.push(Arrival::Datagram(0, receiver_report(alloc, 16)?))?;
-    let version_1 = [0x40, 0x60, 0, 7, 0, 0, 0x0b, 0xb8, 0, 0, 0, 17];
-    arrivals.push(Arrival::Datagram(1, version_1.to_vec(alloc)?))?;
-    arrivals.push(Arrival::Stop)?;
-    Ok(arrivals)
-}
+const CUES: [Timed; 5] = [
+    (1, Cue::Report(1)),
+    (1, Cue::Report(2)),
+    (1, Cue::Report(0)),
+    (1, Cue::Bytes(1, &VERSION_1)),
+    (1, Cue::Stop),
+];
 
 /// Runs these on threads, and says whether a report came.
 fn run_looked_at<R: Threads + Wait + Sync>(
@@ -82,11 +82,11 @@ fn run_looked_at<R: Threads + Wait + Sync>(
     shown: &mut Shown,
     refused: &Refused,
 ) -> Result<bool, Fail> {
-    let settings = settings_of(alloc, 2, 3, &TWO_LINKS)?;
+    let settings = TWO_WORKERS.settings(alloc)?;
     let is_played = AtomicBool::new(false);
     let sinks = refusing_sinks(alloc, refused, settings.workers() + 1)?;
     let outside = Outside {
-        source: Script::of(arrivals(alloc)?, &is_played),
+        source: Script::of(&CUES, &is_played),
         sinks,
         clock: RisingClock { moment: 0 },
         watch: Looker {
@@ -112,6 +112,17 @@ fn has_totals(shown: &[(u64, Status)], wanted: &[(u64, u64, u64)]) -> bool {
     shown.len() == wanted.len()
 }
 
+/// The moment of each turn, how many endpoints are present then, and how many datagrams came by then.
+const TOTALS: [(u64, u64, u64); 5] = [(20, 1, 1), (40, 2, 2), (60, 3, 3), (80, 3, 4), (100, 3, 4)];
+
+/// Whether the watch was shown so who is present, stays and desks.
+fn is_shown(shown: &Shown) -> bool {
+    shown.present.as_slice() == [(0, false), (1, true), (2, false)].as_slice()
+        && shown.stays.as_slice() == [(0, None), (1, Some(1))].as_slice()
+        && shown.desks.as_slice() == [2].as_slice()
+        && shown.ended == 4
+}
+
 /// After each turn the totals are shown, after that of the stop, too; of each endpoint whether it is present, of each leg its stay, a
 /// desk if it is there; and each look ends. What is refused is told once, of whose datagram it is.
 #[test]
@@ -122,15 +133,16 @@ fn watch_sees_each_turn(rt: HostRuntime) -> Result<(), Fail> {
         versions: AtomicU64::new(0),
         others: AtomicU64::new(0),
     };
-    assert!(rt; run_looked_at(&rt, alloc, &mut shown, &refused)?);
-    let totals = [(20, 1, 1), (40, 2, 2), (60, 3, 3), (80, 3, 4), (100, 3, 4)];
-    assert!(rt; has_totals(shown.totals.as_slice(), &totals));
-    let present = [(0, false), (1, true), (2, false)];
-    assert!(rt; shown.present.as_slice() == present.as_slice());
-    assert!(rt; shown.stays.as_slice() == [(0, None), (1, Some(1))].as_slice());
-    assert!(rt; shown.desks.as_slice() == [2].as_slice());
-    assert_eq!(rt; shown.ended, 4);
-    assert_eq!(rt; refused.versions.load(Ordering::SeqCst), 1);
-    assert_eq!(rt; refused.others.load(Ordering::SeqCst), 0);
+    let ran = run_looked_at(&rt, alloc, &mut shown, &refused)?;
+    let counts = [
+        refused.versions.load(Ordering::SeqCst),
+        refused.others.load(Ordering::SeqCst),
+    ];
+    let is_so = [
+        ran,
+        has_totals(shown.totals.as_slice(), &TOTALS),
+        is_shown(&shown),
+    ];
+    same(&rt, &(is_so, counts), &([true; 3], [1, 0]));
     Ok(())
 }

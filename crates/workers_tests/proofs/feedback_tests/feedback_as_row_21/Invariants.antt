@@ -1,4 +1,4 @@
-use Rattle.workers_tests.proofs.feedback_tests.feedback_tells_publisher_and_subscriber.Given as goal
+use Rattle.workers_tests.proofs.feedback_tests.feedback_as_row_21.Given as goal
 
 -- the table that was just opened
 abbrev pub ghosts-tells_in-J-Naming : goal.ghosts-tells_in-J-Naming
