@@ -3,37 +3,28 @@ ghost use Rattle.std.specs.Prelude.{◌≤◌};
 
 use bumpalo::Bump;
 use resend_ring::*;
-use shared_packet::{Readdressed, SharedPacket};
+use shared_packet::Readdressed;
 use std::alloc::{AllocError, Global};
 use std::process::Abort;
 use std::test::Fail;
-use tmmbr_tuple::Ssrc;
 
-/// A packet with this number as its payload.
-fn packet(alloc: Global, payload: u64) -> Result<Readdressed, AllocError> {
-    let mut bytes = [0; 20];
-    bytes[12..].copy_from_slice(payload.to_be_bytes().as_slice());
-    let packet = SharedPacket::copy_of(alloc, bytes.as_slice())?;
-    Ok(Readdressed::new(packet, Ssrc(0), 0))
+/// A packet that consists of this number.
+fn packet(alloc: Global, number: u64) -> Result<Vec<u8>, AllocError> {
+    number.to_be_bytes().as_slice().to_vec(alloc)
 }
 
-/// Whether the packet's payload is this number.
-fn has(packet: &Readdressed, payload: u64) -> bool {
-    let mut bytes = [0; 20];
-    if packet.len() != bytes.len() {
-        return false;
-    }
-    packet.copy_to(bytes.as_mut_slice());
-    &bytes[12..] == payload.to_be_bytes().as_slice()
+/// Whether the packet consists of this number.
+fn has(packet: &[u8], number: u64) -> bool {
+    packet == number.to_be_bytes().as_slice()
 }
 
-/// Keeps a packet with its number as its payload.
+/// Keeps a packet that consists of its number.
 fn keep(ring: &mut Ring, alloc: Global, number: u64) -> Result<(), AllocError> {
     let _left = ring.keep(number, packet(alloc, number)?);
     Ok(())
 }
 
-/// Whether the packet with this sequence number is found, and its payload is this number.
+/// Whether the packet with this sequence number is found, and consists of this number.
 fn finds(ring: &Ring, seq: u16, number: u64) -> bool {
     match ring.find(seq) {
         Some(packet) => has(packet, number),
@@ -41,7 +32,7 @@ fn finds(ring: &Ring, seq: u16, number: u64) -> bool {
     }
 }
 
-/// Numbers that a ring of this capacity keeps in turn, each with its number as its payload; those that it pushes out; those that it
+/// Numbers that a ring of this capacity keeps in turn, in packets that consist of them; those that it pushes out; those that it
 /// has then; and sequence numbers that it finds nothing for.
 #[derive(Drop)]
 struct Case<'a> {
@@ -147,7 +138,7 @@ fn last_with(numbers: &[u64], from: usize, seq: u16) -> Option<usize> {
     last
 }
 
-/// Whether a ring that kept these numbers in turn, each with its place as its payload, finds each of the sequence numbers as a look
+/// Whether a ring that kept these numbers in turn, in packets that consist of their places, finds each of the sequence numbers as a look
 /// through them from the place `from` on does.
 fn finds_last(ring: &Ring, numbers: &[u64], from: usize, asked: &[u16]) -> bool {
     for seq in asked {
@@ -163,7 +154,7 @@ fn finds_last(ring: &Ring, numbers: &[u64], from: usize, asked: &[u16]) -> bool 
     true
 }
 
-/// Whether a ring that kept these numbers in turn, each with its place as its payload, finds each of the sequence
+/// Whether a ring that kept these numbers in turn, in packets that consist of their places, finds each of the sequence
 /// numbers as a look through the list of the last ones does: after each packet, from the place `from` on.
 fn agrees(
     alloc: Global,
@@ -234,11 +225,11 @@ fn made_in(alloc: Global, capacity: usize, limit: usize) -> (bool, usize)
 {
     let bump = Bump::new(alloc);
     bump.set_allocation_limit(Some(limit));
-    let made = Ring::new(&bump, capacity).is_ok();
+    let made = Ring::<Readdressed, &Bump>::with_capacity(&bump, capacity).is_ok();
     (made, bump.allocated_bytes())
 }
 
-/// A ring of 100 packets wants 4,000 bytes for them, then 200 for their links, then 2,048 for the heads. The
+/// As a leg keeps them, a ring of 100 packets wants 4,000 bytes for them, then 200 for their links, then 2,048 for the heads. The
 /// memory comes in chunks, of which the first is full of the packets. A ring of 512 wants 20 KiB and 3 KiB, one
 /// of 8 wants 592 bytes in all.
 #[test]

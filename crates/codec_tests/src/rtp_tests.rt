@@ -48,9 +48,9 @@ fn write_header(text: &mut String, view: &RtpView<'_>) -> Result<(), AllocError>
 fn write_parts(text: &mut String, view: &RtpView<'_>) -> Result<(), AllocError> {
     text.push_str(" csrcs ")?;
     write_hex(text, view.csrcs)?;
-    if let Some(extension) = &view.extension {
-        write!(text, " extension {:04x} ", extension.profile)?;
-        write_hex(text, extension.words)?;
+    if !view.extension.is_empty() {
+        text.push_str(" extension ")?;
+        write_hex(text, view.extension)?;
     }
     text.push_str(" payload ")?;
     write_hex(text, view.payload)?;
@@ -123,6 +123,6 @@ fn refused_as_in_the_examples(rt: HostRuntime) -> Result<(), Fail> {
 #[test]
 fn parts_of_a_whole_packet(rt: HostRuntime) -> Result<(), Fail> {
     let wanted = "true 96 65535 16909060 3735928559 csrcs 0000000100000002 \
-        extension bede 10203040 payload 616263 padding 000003 whole";
+        extension bede000110203040 payload 616263 padding 000003 whole";
     has_parts(&rt, rt.alloc(), &WHOLE, wanted)
 }

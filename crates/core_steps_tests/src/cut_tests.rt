@@ -146,11 +146,7 @@ fn heard(
     datagram: &[u8],
 ) -> Result<Outcome, Fail> {
     let mut outs = Vec::new(alloc);
-    let event = Event::Hear {
-        moment: 0,
-        endpoint,
-        bytes: Bytes::copy_of(alloc, datagram)?,
-    };
+    let event = Event::Hear(0, endpoint, Bytes::copy_of(alloc, datagram)?);
     do_events(world, &[event], &mut outs)?;
     Ok(match outs.as_slice() {
         [] => READ,

@@ -110,12 +110,12 @@ pub(crate) fn settle(world: &mut World, outs: &mut Vec<Out>) -> Result<(), Fail>
 /// The event of a step.
 pub(crate) fn event_of(alloc: Global, step: &Step<'_>) -> Result<Event, AllocError> {
     Ok(match *step {
-        Hear(moment, endpoint, hex) => Event::Hear {
+        Hear(moment, endpoint, hex) => Event::Hear(
             moment,
             endpoint,
-            bytes: Bytes::new(bytes_of(alloc, hex)?),
-        },
-        Tick(moment) => Event::Tick { moment },
+            Bytes::new(bytes_of(alloc, hex)?),
+        ),
+        Tick(moment) => Event::Tick(moment),
         Ingress => Event::Ingress,
         Work(worker) => Event::Work(worker),
     })
@@ -153,11 +153,11 @@ fn write_out(text: &mut String, out: &Out) -> Result<(), fmt::Error> {
         }
         Out::Busy => text.push_str("busy")?,
         Out::Lost(worker) => write!(text, "lost {worker}")?,
-        Out::Skip { leg, skip } => {
+        Out::Skip(leg, skip) => {
             let number = skip.number();
             write!(text, "skip {leg} {number}")?;
         }
-        Out::Miss { leg, seq } => write!(text, "miss {leg} {seq}")?,
+        Out::Miss(leg, seq) => write!(text, "miss {leg} {seq}")?,
         Out::Idle => text.push_str("idle")?,
     }
     Ok(())

@@ -40,7 +40,7 @@ fn call(room: &mut Room, orders: &mut Vec<Order>, number: u8) -> Result<(), Room
         2 => room.hear(10, 0, Ssrc(16), orders),
         3 => room.select(20, 0, false, orders),
         4 => room.bye(30, 2, orders),
-        5 => room.tick(1002, orders).map_err(RoomFault::from),
+        5 => room.tick(1002, orders),
         6 => room.hear(1005, 1, Ssrc(17), orders),
         // Overdue: it leaves and comes anew.
         _ => room.hear(1010, 0, Ssrc(16), orders),

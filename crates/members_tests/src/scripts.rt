@@ -108,7 +108,7 @@ fn call(
     match name {
         "hear" => Some(room.hear(moment, number, Ssrc(low_32(source)), orders)),
         "bye" => Some(room.bye(moment, number, orders)),
-        "tick" => Some(room.tick(moment, orders).map_err(RoomFault::from)),
+        "tick" => Some(room.tick(moment, orders)),
         "on" => Some(room.select(moment, number, true, orders)),
         "off" => Some(room.select(moment, number, false, orders)),
         _ => None,

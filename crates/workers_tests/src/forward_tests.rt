@@ -139,7 +139,7 @@ fn does_nothing<J: Naming>(
     };
     let nowhere = Job::Packet {
         publisher: 2,
-        packet: SharedPacket::copy_of(alloc, &rtp(8, [0, 16]))?,
+        bytes: SharedPacket::copy_of(alloc, &rtp(8, [0, 16]))?,
     };
     let own = [
         request,

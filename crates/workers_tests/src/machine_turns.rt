@@ -79,9 +79,7 @@ impl Player {
         if !self.ticks.take(turn.moment) {
             return Ok(heard);
         }
-        let tick = Event::Tick {
-            moment: turn.moment,
-        };
+        let tick = Event::Tick(turn.moment);
         Ok(heard.wrapping_add(self.take_in(tick)?))
     }
 
@@ -129,15 +127,11 @@ impl Player {
 fn event_of(alloc: Global, turn: &Turn) -> Result<Option<Event>, AllocError> {
     match &turn.arrival {
         None => Ok(None),
-        Some(Coming::Select { leg, on }) => Ok(Some(Event::Select {
-            moment: turn.moment,
-            leg: *leg,
-            on: *on,
-        })),
-        Some(Coming::Datagram { endpoint, bytes }) => Ok(Some(Event::Hear {
-            moment: turn.moment,
-            endpoint: *endpoint,
-            bytes: Bytes::copy_of(alloc, bytes.as_slice())?,
-        })),
+        Some(Coming::Select { leg, on }) => Ok(Some(Event::Select(turn.moment, *leg, *on))),
+        Some(Coming::Datagram { endpoint, bytes }) => Ok(Some(Event::Hear(
+            turn.moment,
+            *endpoint,
+            Bytes::copy_of(alloc, bytes.as_slice())?,
+        ))),
     }
 }

@@ -136,7 +136,7 @@ fn packet_of(alloc: Global, seq: u16) -> Result<Job, AllocError> {
     bytes[2..4].copy_from_slice(&seq.to_be_bytes());
     Ok(Job::Packet {
         publisher: 0,
-        packet: SharedPacket::copy_of(alloc, &bytes)?,
+        bytes: SharedPacket::copy_of(alloc, &bytes)?,
     })
 }
 

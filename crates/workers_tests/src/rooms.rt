@@ -67,7 +67,7 @@ pub(super) const fn rtp(seq: u8, ssrc: [u8; 2]) -> [u8; 14] {
 pub(super) fn packet(alloc: Global, seq: u8) -> Result<Job, AllocError> {
     Ok(Job::Packet {
         publisher: 0,
-        packet: SharedPacket::copy_of(alloc, &rtp(seq, [0, 16]))?,
+        bytes: SharedPacket::copy_of(alloc, &rtp(seq, [0, 16]))?,
     })
 }
 

@@ -31,8 +31,8 @@ impl Told {
     pub(super) fn of(alloc: Global, turn: u64, out: Out) -> Option<Told> {
         let (what, bytes) = match out {
             Out::Send { endpoint, bytes } => (What::Sent(endpoint), bytes),
-            Out::Miss { leg, .. } => (What::Missed(leg), no_bytes(alloc)),
-            Out::Skip { leg, .. } => (What::Skipped(leg), no_bytes(alloc)),
+            Out::Miss(leg, _) => (What::Missed(leg), no_bytes(alloc)),
+            Out::Skip(leg, _) => (What::Skipped(leg), no_bytes(alloc)),
             Out::Refused(refusal) => (What::Refused(refusal), no_bytes(alloc)),
             Out::Busy | Out::Lost(_) | Out::Idle => return None,
         };
