@@ -65,16 +65,6 @@ fn plays(rt: &impl Abort, alloc: Global, base: u16, script: &str) -> Result<(), 
     Ok(())
 }
 
-/// One of four lost, which is 64 of 256; transits 0, 0 and -900, so 900 / 16 of jitter.
-#[test]
-fn block_of_example_19(rt: HostRuntime) -> Result<(), Fail> {
-    let script = "packet 0 10 0:\n\
-        packet 20 11 1800:\n\
-        packet 50 13 5400:\n\
-        block 50: 16 64 1 13 56 0 0\n";
-    plays(&rt, rt.alloc(), 0, script)
-}
-
 /// The fraction lost of the packets expected since the block before, how many are lost in all, and how far the highest number is above
 /// the first (RFC 3550, appendix A.3). Two of three are missing; a packet that comes twice counts twice; then one before the first; one
 /// as far above the highest as is seen as above it, of which 32,766 of 32,767 are missing; and one as far below as is seen as below.

@@ -107,6 +107,19 @@ fn quiet_moment_is_remembered(rt: HostRuntime) -> Result<(), Fail> {
     plays(&rt, rt.alloc(), &mut larger_room(rt.alloc())?, script)
 }
 
+/// One of four lost, which is 64 of 256; transits 0, 0 and -900, so 900 / 16 of jitter.
+#[test]
+fn block_of_example_19(rt: HostRuntime) -> Result<(), Fail> {
+    let script = "hear 0 0 16:\n\
+        packet 0 10 0:\n\
+        hear 20 0 16:\n\
+        packet 0 11 1800:\n\
+        hear 50 0 16:\n\
+        packet 0 13 5400:\n\
+        block 0: 16 64 1 13 56 0 0\n";
+    small_plays(&rt, rt.alloc(), script)
+}
+
 /// Transits are -3000 and -300, which is 2700 apart, 168 of jitter; 80 ms are 5242.88 units of 1/65536 s. The other endpoint sent no
 /// report. In its next interval one of two packets was lost, and 60 ms are 5,400 units of 1/90000 s.
 #[test]
