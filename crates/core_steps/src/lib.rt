@@ -25,6 +25,7 @@ mod ticking;
 mod working;
 mod world;
 
+pub use announcement::entries_of;
 pub use duties::{Duty, IngressCore};
 pub use events::{Bytes, DeskRefusal, Event, Job, Out, Refusal, RunFault};
 pub use intake::{Ask, Control, Heard, Unheard, hear_datagram, says_one_thing};
@@ -34,7 +35,6 @@ pub use notices::{
     tells_each_change, waiting,
 };
 pub use ring::JOB_LIMIT;
-pub use rtcp_feedback::entries_of;
 pub use runner::{hear, run};
 pub use settings::Links;
 pub use shared_packet::laws as rtp_laws;

@@ -16,7 +16,7 @@ use Rattle.notices.specs.declared.notification.Notification.{Notification}
 use Rattle.events.specs.declared.output.Out.{Out}
 use Rattle.notices.specs.declared.calls.Question.{Question}
 use Rattle.notices.specs.Notification.{told_of, pending_of, pending_with, tells, is_changed, notification_datagrams, requests_upstream, requests_bytes, to_publisher, notices_to_others, notice_to, others_of, picture_upstream, Pending}
-use Rattle.rtcp_feedback.specs.Writing.{entries_of}
+use Rattle.announcement.specs.Entries.{entries_of}
 use Rattle.notices.specs.Head.{Identity}
 use Rattle.settings.specs.Links.{LinkTable}
 use Rattle.forwarding.specs.declared.done.Forwarded.{Forwarded}

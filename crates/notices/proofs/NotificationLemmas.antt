@@ -10,7 +10,7 @@ use Rattle.tmmbr_tuple.specs.declared.ssrc.Ssrc.{Ssrc}
 use Rattle.events.specs.declared.output.Out.{Out}
 use Rattle.events.specs.declared.output.Out.TheVariants.{Send}
 use Rattle.notices.specs.declared.notification.Notification.{Notification}
-use Rattle.rtcp_feedback.specs.Writing.{entries_of}
+use Rattle.announcement.specs.Entries.{entries_of}
 use Rattle.notices.specs.Head.{Identity, report_head}
 use Rattle.settings.specs.Links.{LinkTable}
 use Rattle.notices.specs.Notification.{tells, is_changed, IsAmong, notice_to, to_publisher, tmmbn_bytes, pli_bytes, requests_bytes, others_of, notification_datagrams}

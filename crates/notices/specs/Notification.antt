@@ -8,7 +8,8 @@ use Rattle.rate_cert.specs.declared.request.Request.{Request}
 use Rattle.desk.specs.declared.effect.Effect.{Effect}
 use Rattle.desk.specs.Effect.{is_member}
 use Rattle.rtcp_feedback.specs.declared.tmmb.TmmbrEntry.{TmmbrEntry}
-use Rattle.rtcp_feedback.specs.Writing.{entries_of, packet_bytes, tmmb_body, pli_body}
+use Rattle.rtcp_feedback.specs.Writing.{packet_bytes, tmmb_body, pli_body}
+use Rattle.announcement.specs.Entries.{entries_of}
 use Rattle.members.specs.declared.order.Row.{Row}
 use Rattle.settings.specs.declared.settings.LegSettings.{LegSettings}
 use Rattle.events.specs.declared.output.Out.{Out}

@@ -11,13 +11,12 @@ ghost use Rattle.events.specs.declared.output.Out.TheVariants.{Send};
 ghost use Rattle.notices.specs.Notification.{is_changed, HasSameMembers, is_other, has_stay, others_of, tmmbr_bytes, lifted_bytes, fresh_bytes, requests_bytes, notice_to, requests_upstream, picture_upstream, notification_datagrams};
 
 use crate::head::Head;
+use announcement::entries_of;
 use desk::Effect;
 use events::{Bytes, Out};
 use members::Row;
 use rate_cert::Request;
-use rtcp_feedback::{
-    ENTRY_BYTES, FRONT_BYTES, TmmbrEntry, entries_of, write_pli, write_tmmbn, write_tmmbr,
-};
+use rtcp_feedback::{ENTRY_BYTES, FRONT_BYTES, TmmbrEntry, write_pli, write_tmmbn, write_tmmbr};
 use settings::Links;
 use std::alloc::{AllocError, Global};
 use tmmbr_tuple::Ssrc;

@@ -12,7 +12,8 @@ use Rattle.rate_cert.specs.declared.fault.CertFault.TheVariants.{Place, PairNotF
 use Rattle.bounding_set.specs.State.{State, announced_of}
 use Rattle.rtcp_compound.specs.Fault.{rtcp_fault_number as rtcp_number}
 use Rattle.rtcp_feedback.specs.Fault.{feedback_fault_number as feedback_number}
-use Rattle.rtcp_feedback.specs.Writing.{entries_of, packet_bytes, tmmb_body}
+use Rattle.rtcp_feedback.specs.Writing.{packet_bytes, tmmb_body}
+use Rattle.announcement.specs.Entries.{entries_of}
 use Rattle.request_text.specs.declared.fault.LineFault.{LineFault}
 use Rattle.request_text.specs.declared.fault.LineFault.TheVariants.{Hex, Rtcp, Feedback, Full, Text}
 use Rattle.request_text.specs.Lines.{Refused}

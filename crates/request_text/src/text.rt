@@ -6,10 +6,11 @@ ghost use Rattle.rate_cert.specs.Certificate.{IsInRange};
 ghost use Rattle.request_text.specs.BoundText.{announced_line, announcement, answer_text, bound_text, refused_text, implied_line, kept_line, owner_at, row_text};
 
 use crate::fault::LineFault;
+use announcement::entries_of;
 use bounding_set::Bounds;
 use desk::Desk;
 use rate_cert::{CertFault, Implied, Kept, Request};
-use rtcp_feedback::{MAX_ENTRIES, entries_of, write_tmmbn};
+use rtcp_feedback::{MAX_ENTRIES, write_tmmbn};
 use std::alloc::{AllocError, Global};
 use tmmbr_tuple::Ssrc;
 

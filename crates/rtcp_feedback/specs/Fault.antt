@@ -2,7 +2,7 @@
 use Rattle.std.specs.Prelude.{◌≡◌, ◌≢◌, ◌⊎◌, ◌≤◌, ◌-◌, ◌%◌, ℕ, List, length}
 use Rattle.rtcp_feedback.specs.declared.fault.FbFault.{FbFault}
 use Rattle.rtcp_feedback.specs.declared.fault.FbFault.TheVariants.{Short, OddFci}
-use Rattle.rtcp_compound.specs.declared.packet.TheConstants.{RTPFB}
+use Rattle.rtcp_feedback.specs.declared.packet.TheConstants.{RTPFB}
 
 abbrev pub feedback_fault_number : FbFault → ℕ
 feedback_fault_number Short = 1

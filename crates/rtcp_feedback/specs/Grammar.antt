@@ -5,7 +5,7 @@ use Rattle.std.specs.List.{flat_map}
 use Rattle.byteorder.specs.Endian.{big_bytes}
 use Rattle.rtcp_feedback.specs.declared.nack.Nack.{Nack}
 use Rattle.rtcp_feedback.specs.declared.tmmb.TmmbrEntry.{TmmbrEntry}
-use Rattle.rtcp_compound.specs.declared.packet.TheConstants.{RTPFB, PSFB}
+use Rattle.rtcp_feedback.specs.declared.packet.TheConstants.{RTPFB, PSFB}
 
 -- What a packet says, without what nobody looks at: a NACK's sender, source of media and entries; a PLI's sender and
 -- source of media; the sender and the entries of a TMMBR and of a TMMBN; and the sender of any other.

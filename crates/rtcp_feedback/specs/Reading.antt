@@ -10,7 +10,7 @@ use Rattle.rtcp_feedback.specs.declared.tmmb.TmmbEntries.{TmmbEntries}
 use Rattle.rtcp_feedback.specs.declared.feedback.Feedback.{Feedback}
 use Rattle.rtcp_feedback.specs.declared.feedback.Feedback.TheVariants.{Nack as Lost, Pli, Tmmbr, Tmmbn, Unknown}
 use Rattle.rtcp_feedback.specs.Grammar.{Message, nack, pli, tmmbr, tmmbn, unknown}
-use Rattle.rtcp_compound.specs.declared.packet.TheConstants.{RTPFB, PSFB}
+use Rattle.rtcp_feedback.specs.declared.packet.TheConstants.{RTPFB, PSFB}
 
 -- the entries of a NACK, four bytes each; fewer at the end are none
 abbrev pub nacks_in : List ℕ → List Nack

@@ -1,13 +1,8 @@
 -- The packets that are written, and how they are read again (RFC 4585, sections 6.1 and 6.3.1; RFC 5104, sections 4.2.1
 -- and 4.2.2).
-use Rattle.std.specs.Prelude.{◌≡◌, ℕ, ◌+◌, ◌/◌, ◌%◌, ◌^◌, ◌<◌, List, [], ◌∷◌, ◌++◌, length, map}
+use Rattle.std.specs.Prelude.{◌≡◌, ℕ, ◌+◌, ◌/◌, ◌%◌, ◌^◌, ◌<◌, List, [], ◌∷◌, ◌++◌, length}
 use Rattle.std.specs.List.{flat_map}
 use Rattle.byteorder.specs.Endian.{big_bytes}
-use Rattle.tmmbr_tuple.specs.Tuple.{word_of}
-use Rattle.rate_cert.specs.declared.request.Request.{Request}
-use Rattle.rtcp_compound.specs.Content.{feedback}
-use Rattle.rtcp_compound.specs.Grammar.{RtcpPacket, ReadsRtcp}
-use Rattle.rtcp_compound.specs.Written.{Appends, plain_packet}
 use Rattle.rtcp_feedback.specs.declared.tmmb.TmmbrEntry.{TmmbrEntry}
 use Rattle.rtcp_feedback.specs.Grammar.{Message, ReadsFeedback, body_bytes, entry_bytes}
 
@@ -15,13 +10,6 @@ use Rattle.rtcp_feedback.specs.Grammar.{Message, ReadsFeedback, body_bytes, entr
 -- in words after the header in two bytes; the body (RFC 4585, section 6.1).
 abbrev pub packet_bytes : ℕ → ℕ → List ℕ → List ℕ
 packet_bytes fmt kind body = (128 + fmt) ∷ kind ∷ (big_bytes 2 (length body / 4) ++ body)
-
--- an entry for each request of a set, in its order: its owner and its word
-abbrev pub tmmbr_entry_of : Request → TmmbrEntry
-tmmbr_entry_of r = record { ssrc = r.owner; word = word_of r.tuple }
-
-abbrev pub entries_of : List Request → List TmmbrEntry
-entries_of set = map tmmbr_entry_of set
 
 -- the body of a TMMBR or a TMMBN, as it is written: the source of media is 0
 abbrev pub tmmb_body : ℕ → List TmmbrEntry → List ℕ
@@ -44,12 +32,3 @@ pub record IsReadAs (fmt kind : ℕ) (body : List ℕ) (m : Message) : Type 0 wh
 abbrev pub front_bytes : ℕ → ℕ → ℕ → ℕ → ℕ → List ℕ
 front_bytes fmt kind words sender media =
     (128 + fmt) ∷ kind ∷ (big_bytes 2 words ++ (big_bytes 4 sender ++ big_bytes 4 media))
-
--- These bytes are one RTCP packet, whole and without padding, which shows this FMT, type and body. It is read alone, and
--- in front of any datagram, whose packets then follow.
-pub record JoinsCompounds (fmt kind : ℕ) (body : List ℕ) : Type 0 where
-  pub one : Appends [] (packet_bytes fmt kind body) (plain_packet fmt kind body)
-      (feedback fmt kind body)
-  pub alone : ReadsRtcp (packet_bytes fmt kind body) (plain_packet fmt kind body ∷ [])
-  pub front : (datagram : List ℕ) (others : List RtcpPacket) → ReadsRtcp datagram others
-      → ReadsRtcp (packet_bytes fmt kind body ++ datagram) (plain_packet fmt kind body ∷ others)

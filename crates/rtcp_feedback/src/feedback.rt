@@ -7,10 +7,9 @@ ghost use Rattle.rtcp_feedback.specs.Reading.{Gives, message_at, message_of};
 
 use crate::fault::FbFault;
 use crate::nack::Nacks;
-use crate::packet::{FMT_NACK, FMT_PLI, FMT_TMMBN, FMT_TMMBR, SOURCES_BYTES};
+use crate::packet::{FMT_NACK, FMT_PLI, FMT_TMMBN, FMT_TMMBR, PSFB, RTPFB, SOURCES_BYTES};
 use crate::tmmb::TmmbEntries;
 use byteorder::{BigEndian, ByteOrder};
-use rtcp_compound::{PSFB, RTPFB};
 use tmmbr_tuple::Ssrc;
 
 /// A feedback packet without its header (RFC 4585, section 6.1). Entries are slices of the body. A NACK,

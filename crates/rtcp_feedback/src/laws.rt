@@ -4,7 +4,7 @@
 ghost use Rattle.std.specs.Prelude.{ℕ, ◌^◌, ◌<◌, ◌≤◌, List, length, All};
 ghost use Rattle.rtcp_feedback.specs.declared.tmmb.TmmbrEntry.{TmmbrEntry as Entry};
 ghost use Rattle.rtcp_feedback.specs.Grammar.{IsEntry, tmmbr, tmmbn, pli};
-ghost use Rattle.rtcp_feedback.specs.Writing.{IsReadAs, JoinsCompounds, tmmb_body, pli_body};
+ghost use Rattle.rtcp_feedback.specs.Writing.{IsReadAs, tmmb_body, pli_body};
 
 use crate::tmmb::MAX_ENTRIES;
 
@@ -20,14 +20,4 @@ pub fn writers_read_again()
         → IsReadAs 4 205 (tmmb_body sender entries) (tmmbn sender entries) }
     ensures pli { (sender media : ℕ) → sender < 2 ^ 32 → media < 2 ^ 32
         → IsReadAs 1 206 (pli_body sender media) (pli sender media) }
-{}
-
-/// Each packet that a writer appends is one whole RTCP packet without padding, which shows its FMT, type and
-/// body. So it is read alone, and in front of any datagram, whose packets then follow.
-pub fn writers_join_compounds()
-    ensures tmmbr { (sender : ℕ) (entries : List Entry) → length entries ≤ MAX_ENTRIES
-        → JoinsCompounds 3 205 (tmmb_body sender entries) }
-    ensures tmmbn { (sender : ℕ) (entries : List Entry) → length entries ≤ MAX_ENTRIES
-        → JoinsCompounds 4 205 (tmmb_body sender entries) }
-    ensures pli { (sender media : ℕ) → JoinsCompounds 1 206 (pli_body sender media) }
 {}

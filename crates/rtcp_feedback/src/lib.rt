@@ -16,8 +16,8 @@ mod tmmb;
 pub use fault::FbFault;
 pub use feedback::{Feedback, read_feedback};
 pub use nack::{NACK_BYTES, Nack, Nacks, lost};
-pub use packet::{FMT_NACK, FMT_PLI, FMT_TMMBN, FMT_TMMBR, FRONT_BYTES, SOURCES_BYTES};
-pub use pli::write_pli;
-pub use tmmb::{
-    ENTRY_BYTES, MAX_ENTRIES, TmmbEntries, TmmbrEntry, entries_of, write_tmmbn, write_tmmbr,
+pub use packet::{
+    FMT_NACK, FMT_PLI, FMT_TMMBN, FMT_TMMBR, FRONT_BYTES, PSFB, RTPFB, SOURCES_BYTES,
 };
+pub use pli::write_pli;
+pub use tmmb::{ENTRY_BYTES, MAX_ENTRIES, TmmbEntries, TmmbrEntry, write_tmmbn, write_tmmbr};

@@ -5,9 +5,13 @@ ghost use Rattle.byteorder.specs.Endian.{big_bytes};
 ghost use Rattle.rtcp_feedback.specs.Writing.{front_bytes};
 
 use byteorder::{BigEndian, ByteOrder};
-use rtcp_compound::{SOURCE_BYTES, WORD_BYTES};
 use std::alloc::Allocator;
 use tmmbr_tuple::Ssrc;
+
+/// The type of transport layer feedback, RTPFB (RFC 4585, section 6.1).
+pub const RTPFB: u8 = 205;
+/// The type of payload-specific feedback, PSFB (RFC 4585, section 6.1).
+pub const PSFB: u8 = 206;
 
 /// The FMT of a generic NACK, in RTPFB (RFC 4585, section 6.2.1).
 pub const FMT_NACK: u8 = 1;
@@ -18,10 +22,12 @@ pub const FMT_TMMBR: u8 = 3;
 /// The FMT of the notification of such requests, in RTPFB (RFC 5104, section 4.2.2).
 pub const FMT_TMMBN: u8 = 4;
 
-/// The length in bytes of the two sources that a body begins with.
-pub const SOURCES_BYTES: usize = 2 * SOURCE_BYTES;
+/// The length in bytes of a header, which is a word of 32 bits (RFC 4585, section 6.1).
+const HEADER_BYTES: usize = 4;
+/// The length in bytes of the two sources that a body begins with, a word each (RFC 4585, section 6.1).
+pub const SOURCES_BYTES: usize = 8;
 /// The length in bytes of a packet's front, a header and these sources.
-pub const FRONT_BYTES: usize = WORD_BYTES + SOURCES_BYTES;
+pub const FRONT_BYTES: usize = HEADER_BYTES + SOURCES_BYTES;
 
 /// Appends the front of a packet without padding, which has so many words after its header.
 pub fn put_front<A: Allocator>(

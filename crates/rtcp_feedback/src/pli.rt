@@ -3,8 +3,7 @@
 ghost use Rattle.std.specs.Prelude.{◌≡◌, ◌+◌, ◌≤◌, ◌++◌, vec_len, vec_capacity, OnOk, OnErr, IsOk};
 ghost use Rattle.rtcp_feedback.specs.Writing.{packet_bytes, pli_body};
 
-use crate::packet::{FMT_PLI, FRONT_BYTES, put_front};
-use rtcp_compound::PSFB;
+use crate::packet::{FMT_PLI, FRONT_BYTES, PSFB, put_front};
 use std::alloc::{AllocError, Allocator};
 use tmmbr_tuple::Ssrc;
 

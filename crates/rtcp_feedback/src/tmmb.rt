@@ -1,14 +1,12 @@
 //! Requests for a greatest rate, and the notifications of them (RFC 5104, sections 4.2.1 and 4.2.2).
 
-ghost use Rattle.std.specs.Prelude.{◌≡◌, ◌+◌, ◌*◌, ◌≤◌, ◌<◌, ◌++◌, length, vec_len, vec_capacity, IfOk, OnOk, OnErr, IsOk};
-ghost use Rattle.rtcp_feedback.specs.Writing.{entries_of, packet_bytes, tmmb_body};
+ghost use Rattle.std.specs.Prelude.{◌≡◌, ◌+◌, ◌*◌, ◌≤◌, ◌<◌, ◌++◌, length, vec_len, vec_capacity, OnOk, OnErr, IsOk};
+ghost use Rattle.rtcp_feedback.specs.Writing.{packet_bytes, tmmb_body};
 
 use crate::fault::FbFault;
-use crate::packet::{FMT_TMMBN, FMT_TMMBR, FRONT_BYTES, put_front, put_u32};
+use crate::packet::{FMT_TMMBN, FMT_TMMBR, FRONT_BYTES, RTPFB, put_front, put_u32};
 use byteorder::{BigEndian, ByteOrder};
-use rate_cert::Request;
-use rtcp_compound::RTPFB;
-use std::alloc::{AllocError, Allocator, Global};
+use std::alloc::{AllocError, Allocator};
 use tmmbr_tuple::Ssrc;
 
 /// The length of an entry of a TMMBR or a TMMBN in bytes (RFC 5104, section 4.2.1.1).
@@ -24,18 +22,6 @@ pub struct TmmbrEntry {
     pub ssrc: Ssrc,
     /// The rate and the overhead: exponent, mantissa and overhead in 6, 17 and 9 bits.
     pub word: u32,
-}
-
-/// The entries of a TMMBN that announces these requests: one for each, in their order.
-pub fn entries_of(alloc: Global, set: &[Request]) -> Result<Vec<TmmbrEntry>, AllocError>
-    ensures { IfOk result (λ entries. entries.items ≡ entries_of set.now) }
-{
-    set.iter()
-        .map(|request| TmmbrEntry {
-            ssrc: request.owner,
-            word: request.tuple.to_word(),
-        })
-        .collect(alloc)
 }
 
 /// The entries of a TMMBR or a TMMBN, in order; a slice of the body.

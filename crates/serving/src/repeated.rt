@@ -4,12 +4,12 @@ ghost use Rattle.std.specs.Prelude.{[], OnOk};
 ghost use Rattle.bounding_set.specs.State.{announced_of};
 ghost use Rattle.serving.specs.Repeated.{AsksForAll};
 
+use announcement::entries_of;
 use desk::{Desk, Effect};
 use events::Out;
 use notices::{Head, Notification, notify};
 use outside::{Look, Sink, Status, Watch};
 use repeats::Sets;
-use rtcp_feedback::entries_of;
 use settings::{Links, Settings};
 use sockets::SocketSink;
 use std::alloc::{AllocError, Global};

@@ -1,6 +1,6 @@
 use Rattle.std.proofs.Common.{arith}
-use Rattle.rtcp_feedback.proofs.WriteLemmas.{tmmb_joins, pli_joins}
-use Rattle.rtcp_feedback.proofs.laws.writers_join_compounds.Goals as goal
+use Rattle.announcement.proofs.JoinLemmas.{tmmb_joins, pli_joins}
+use Rattle.announcement.proofs.laws.writers_join_compounds.Goals as goal
 
 pub returns-clause-tmmbr : goal.returns-clause-tmmbr
 returns-clause-tmmbr c = λ sender entries few. tmmb_joins 3 sender entries (omega arith) few
