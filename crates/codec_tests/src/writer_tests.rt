@@ -6,7 +6,7 @@ use crate::expected::same;
 use crate::packet_text::{hex_text, packets_text};
 use bumpalo::Bump;
 use rtcp_compound::*;
-use rtcp_feedback::{TmmbrEntry, write_pli, write_tmmbn, write_tmmbr};
+use rtcp_feedback::{Nack, TmmbrEntry, write_nack, write_pli, write_tmmbn, write_tmmbr};
 use std::alloc::{AllocError, Allocator, Global};
 use std::fmt::Write;
 use std::process::Abort;
@@ -38,12 +38,14 @@ enum Writer {
     Tmmbr,
     /// A PLI of 9 about source 16.
     Pli,
+    /// A NACK of 9 about source 16 with two entries.
+    Nacks,
 }
 
-use Writer::{Bye, Byes, Name, NoEntries, Pli, Rr, RrOfThree, Sr, SrOfThree, Tmmbn, Tmmbr};
+use Writer::{Bye, Byes, Nacks, Name, NoEntries, Pli, Rr, RrOfThree, Sr, SrOfThree, Tmmbn, Tmmbr};
 
 /// What each appends, and what that says.
-const WRITTEN: [(Writer, &str, &str); 11] = [
+const WRITTEN: [(Writer, &str, &str); 12] = [
     (
         Sr,
         "80c80006000001010000000a8000000000000bb80000000100000002",
@@ -102,6 +104,11 @@ const WRITTEN: [(Writer, &str, &str); 11] = [
         "81ce00020000000900000010",
         "feedback 1 206 0000000900000010 pli 9 16",
     ),
+    (
+        Nacks,
+        "81cd00040000000900000010fffe000300078000",
+        "feedback 1 205 0000000900000010fffe000300078000 nack 9 16 65534 3 7 32768",
+    ),
 ];
 
 /// Feedback of FMT 1, to stand after what was written.
@@ -151,6 +158,15 @@ fn entry(ssrc: u32) -> TmmbrEntry {
     }
 }
 
+/// The packets 65534, 65535 and 0; 7 and the last that its entry may name.
+const LOST: [Nack; 2] = [
+    Nack { pid: 65534, blp: 3 },
+    Nack {
+        pid: 7,
+        blp: 0x8000,
+    },
+];
+
 /// Makes the call.
 fn write<A: Allocator>(writer: Writer, out: &mut Vec<u8, A>) -> Result<(), AllocError> {
     match writer {
@@ -170,7 +186,8 @@ fn write_feedback<A: Allocator>(writer: Writer, out: &mut Vec<u8, A>) -> Result<
         Tmmbn => write_tmmbn(out, Ssrc(1), &[entry(17)]),
         NoEntries => write_tmmbn(out, Ssrc(1), &[]),
         Tmmbr => write_tmmbr(out, Ssrc(17), &[entry(16)]),
-        _ => write_pli(out, Ssrc(9), Ssrc(16)),
+        Pli => write_pli(out, Ssrc(9), Ssrc(16)),
+        _ => write_nack(out, Ssrc(9), Ssrc(16), &LOST),
     }
 }
 

@@ -3,3 +3,4 @@ pub mod EntryLemmas
 pub mod MessageLemmas
 pub mod NackLemmas
 pub mod WriteLemmas
+pub mod NackWriteLemmas

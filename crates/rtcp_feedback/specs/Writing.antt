@@ -1,10 +1,11 @@
--- The packets that are written, and how they are read again (RFC 4585, sections 6.1 and 6.3.1; RFC 5104, sections 4.2.1
--- and 4.2.2).
+-- The packets that are written, and how they are read again (RFC 4585, sections 6.1, 6.2.1 and 6.3.1; RFC 5104,
+-- sections 4.2.1 and 4.2.2).
 use Rattle.std.specs.Prelude.{◌≡◌, ℕ, ◌+◌, ◌/◌, ◌%◌, ◌^◌, ◌<◌, List, [], ◌∷◌, ◌++◌, length}
 use Rattle.std.specs.List.{flat_map}
 use Rattle.byteorder.specs.Endian.{big_bytes}
+use Rattle.rtcp_feedback.specs.declared.nack.Nack.{Nack}
 use Rattle.rtcp_feedback.specs.declared.tmmb.TmmbrEntry.{TmmbrEntry}
-use Rattle.rtcp_feedback.specs.Grammar.{Message, ReadsFeedback, body_bytes, entry_bytes}
+use Rattle.rtcp_feedback.specs.Grammar.{Message, ReadsFeedback, body_bytes, entry_bytes, nack_bytes}
 
 -- A packet without padding of this FMT, type and body: the version 2 in two bits and the FMT in five; the type; the length
 -- in words after the header in two bytes; the body (RFC 4585, section 6.1).
@@ -18,6 +19,10 @@ tmmb_body sender entries = body_bytes sender 0 (flat_map entry_bytes entries)
 -- the body of a PLI, as it is written: no FCI
 abbrev pub pli_body : ℕ → ℕ → List ℕ
 pli_body sender media = body_bytes sender media []
+
+-- the body of a NACK
+abbrev pub nack_body : ℕ → ℕ → List Nack → List ℕ
+nack_body sender media entries = body_bytes sender media (flat_map nack_bytes entries)
 
 -- The header before this body says how long it is (whole words, as many as two bytes can say), and the packet is read as
 -- this message.

@@ -15,7 +15,7 @@ mod tmmb;
 
 pub use fault::FbFault;
 pub use feedback::{Feedback, read_feedback};
-pub use nack::{NACK_BYTES, Nack, Nacks, lost};
+pub use nack::{MAX_NACKS, NACK_BYTES, Nack, Nacks, lost, write_nack};
 pub use packet::{
     FMT_NACK, FMT_PLI, FMT_TMMBN, FMT_TMMBR, FRONT_BYTES, PSFB, RTPFB, SOURCES_BYTES,
 };

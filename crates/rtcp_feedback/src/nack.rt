@@ -1,14 +1,21 @@
 //! Generic NACKs (RFC 4585, section 6.2.1).
 
-ghost use Rattle.std.specs.Prelude.{◌≡◌};
+ghost use Rattle.std.specs.Prelude.{◌≡◌, ◌+◌, ◌*◌, ◌≤◌, ◌++◌, length, vec_len, vec_capacity, OnOk, OnErr, IsOk};
 ghost use Rattle.rtcp_feedback.specs.Nack.{lost_numbers};
+ghost use Rattle.rtcp_feedback.specs.Writing.{nack_body, packet_bytes};
 
 use crate::fault::FbFault;
+use crate::packet::{FMT_NACK, FRONT_BYTES, RTPFB, put_front, put_u16};
 use arrayvec::ArrayVec;
 use byteorder::{BigEndian, ByteOrder};
+use std::alloc::{AllocError, Allocator};
+use tmmbr_tuple::Ssrc;
 
 /// The length of an entry in bytes (RFC 4585, section 6.2.1).
 pub const NACK_BYTES: usize = 4;
+
+/// How many entries a written NACK may have: its length, in words, then is 65,535.
+pub const MAX_NACKS: usize = 65_533;
 
 /// How many packets an entry may name after its first.
 const FOLLOWING: u16 = 16;
@@ -80,4 +87,29 @@ pub fn lost(nack: Nack) -> ArrayVec<u16, 17>
         }
     }
     numbers
+}
+
+/// Appends a NACK of this sender about this source of media with these entries, a whole RTCP packet (RFC
+/// 4585, section 6.2.1). Refused only if memory is wanted and there is none; then `out` is as it was.
+pub fn write_nack<A: Allocator>(
+    out: &mut Vec<u8, A>,
+    sender: Ssrc,
+    media: Ssrc,
+    entries: &[Nack],
+) -> Result<(), AllocError>
+    requires { length entries.now ≤ MAX_NACKS }
+    ensures written { OnOk result (out.new.items ≡ out.old.items
+        ++ packet_bytes 1 205 (nack_body sender.0 media.0 entries.now)) }
+    ensures unchanged { OnErr result (out.new.items ≡ out.old.items) }
+    ensures succeeds { vec_len out.old + (12 + 4 * length entries.now) ≤ vec_capacity out.old
+        → IsOk result }
+{
+    out.reserve(FRONT_BYTES + NACK_BYTES * entries.len())?;
+    let words = 2 + entries.len() as u16;
+    put_front(out, FMT_NACK, RTPFB, words, sender, media);
+    for entry in entries {
+        put_u16(out, entry.pid);
+        put_u16(out, entry.blp);
+    }
+    Ok(())
 }

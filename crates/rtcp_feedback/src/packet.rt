@@ -63,6 +63,18 @@ pub fn put_u32<A: Allocator>(out: &mut Vec<u8, A>, number: u32)
     put(out, &bytes);
 }
 
+/// Appends a number in 16 bits, for which there is room.
+pub fn put_u16<A: Allocator>(out: &mut Vec<u8, A>, number: u16)
+    requires { vec_len out.old + 2 ≤ vec_capacity out.old }
+    ensures items { out.new.items ≡ out.old.items ++ big_bytes 2 number }
+    ensures len { vec_len out.new ≡ vec_len out.old + 2 }
+    ensures capacity { vec_capacity out.old ≤ vec_capacity out.new }
+{
+    let mut bytes = [0; 2];
+    BigEndian::write_u16(&mut bytes, number);
+    put(out, &bytes);
+}
+
 /// Appends bytes that there is room for, so that no memory is asked for.
 fn put<A: Allocator>(out: &mut Vec<u8, A>, bytes: &[u8])
     requires { vec_len out.old + length bytes.now ≤ vec_capacity out.old }
