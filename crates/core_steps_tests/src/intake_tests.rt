@@ -11,6 +11,7 @@
 
 use crate::steps::{bytes_of, refusal_parts};
 use core_steps::*;
+use intake::spell;
 use std::alloc::{AllocError, Global};
 use std::fmt::{self, Write};
 use std::process::Abort;
@@ -220,4 +221,46 @@ fn so_many_entries_are_heeded(rt: HostRuntime) -> Result<(), Fail> {
         write!(wanted, "\nresend 257 {pid} 0")?;
     }
     says(&rt, 17, packets.as_slice(), wanted.as_str())
+}
+
+/// What is heard in the packets of a datagram, and the packets that say it again: media as they came, whoever leaves alone, and else a
+/// report of who speaks, then each TMMBN, then a packet for each ask, in the order of asks.
+const SPELLED: [Case; 8] = [
+    (16, "PADDED", "PADDED"),
+    (17, "BYE PLI", "BYE"),
+    (17, "RR", "RR"),
+    (
+        16,
+        "SR",
+        "80c80006000000100000000a8000000000000bb80000000000000000",
+    ),
+    (18, "PLI", "RR PLI"),
+    (17, "TMMBN PLI TMMBN", "RR TMMBN TMMBN PLI"),
+    (17, "NACK TMMBR", "RR NACK TMMBR"),
+    (
+        17,
+        "TWO",
+        "RR TMMBR 83cd00040000001100000000000003e70007d028",
+    ),
+];
+
+/// What a datagram of this source says, spelled.
+fn spelled(alloc: Global, own: u32, datagram: &[u8]) -> Result<Vec<u8>, Fail> {
+    let mut asks = Vec::new(alloc);
+    let Ok(heard) = hear(datagram, own, &mut asks) else {
+        return Err(Fail::from("not heard"));
+    };
+    let mut bytes = Vec::new(alloc);
+    spell(Ssrc(own), heard, asks.as_slice(), datagram, &mut bytes)?;
+    Ok(bytes)
+}
+
+#[test]
+fn spelled_as_heard(rt: HostRuntime) -> Result<(), Fail> {
+    for (own, packets, wanted) in &SPELLED {
+        let came = datagram(rt.alloc(), packets)?;
+        let bytes = spelled(rt.alloc(), *own, came.as_slice())?;
+        assert!(rt; bytes == datagram(rt.alloc(), wanted)?, "{packets}");
+    }
+    Ok(())
 }

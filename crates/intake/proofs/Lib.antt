@@ -1,3 +1,4 @@
 pub mod IntakeLemmas
 pub mod HeedLemmas
 pub mod OneSaidLemmas
+pub mod SpellingLemmas

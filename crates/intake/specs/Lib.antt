@@ -1,2 +1,3 @@
 pub mod Intake
 pub mod Heard
+pub mod Spelling

@@ -5,5 +5,7 @@
 #![tactic(auto)]
 
 mod intake;
+mod spelling;
 
 pub use intake::{Ask, Control, Heard, MAX_ENTRIES, Unheard, hear_datagram, says_one_thing};
+pub use spelling::{is_sayable, sayable, spell, stays_as_heard};
