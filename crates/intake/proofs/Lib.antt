@@ -2,3 +2,4 @@ pub mod IntakeLemmas
 pub mod HeedLemmas
 pub mod OneSaidLemmas
 pub mod SpellingLemmas
+pub mod SpelledLengthLemmas

@@ -1,6 +1,6 @@
 //! A datagram that says a value, whoever made that.
 
-ghost use Rattle.std.specs.Prelude.{◌≡◌, ℕ, ◌≤◌, List, [], ◌++◌, All, length, map, replicate, Ok, OnOk, OnErr};
+ghost use Rattle.std.specs.Prelude.{◌≡◌, ℕ, ◌+◌, ◌*◌, ◌≤◌, List, [], ◌++◌, All, length, map, replicate, Ok, OnOk, OnErr};
 ghost use Rattle.std.specs.List.{flat_map};
 ghost use Rattle.rtcp_compound.specs.Grammar.{packet_bytes};
 ghost use Rattle.intake.specs.Heard.{Hears, HearsBy};
@@ -38,6 +38,15 @@ pub fn stays_as_heard()
     ensures goodbye { (own : ℕ) (came : List ℕ) → IsAsHeard own Heard.Goodbye [] came }
     ensures control { (own : ℕ) (control : Controlled) (asks : List Asked) (came : List ℕ)
         → IsAsHeard own (Heard.Control control) asks came }
+{}
+
+/// How many bytes a value is spelled by at most, if it is no media, which are spelled as they came.
+pub fn spelled_in_so_much()
+    ensures goodbye { (own : ℕ) (asks : List Asked) (came : List ℕ)
+        → length (spelling own Heard.Goodbye asks came) ≡ 8 }
+    ensures control { (own : ℕ) (control : Controlled) (asks : List Asked) (came : List ℕ)
+        → length (spelling own (Heard.Control control) asks came)
+        ≤ 28 + 12 * control.tmmbns + 20 * length asks }
 {}
 
 /// A value as it may be heard, whose types say that each number is within its field, is said by its spelling (`sayable`).
