@@ -3,3 +3,4 @@ pub mod HeedLemmas
 pub mod OneSaidLemmas
 pub mod SpellingLemmas
 pub mod SpelledLengthLemmas
+pub mod HeardAgainLemmas

@@ -8,4 +8,4 @@ mod intake;
 mod spelling;
 
 pub use intake::{Ask, Control, Heard, MAX_ENTRIES, Unheard, hear_datagram, says_one_thing};
-pub use spelling::{is_sayable, sayable, spell, spelled_in_so_much, stays_as_heard};
+pub use spelling::{heard_one_way, is_sayable, sayable, spell, spelled_in_so_much, stays_as_heard};

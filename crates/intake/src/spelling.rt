@@ -1,6 +1,6 @@
 //! A datagram that says a value, whoever made that.
 
-ghost use Rattle.std.specs.Prelude.{◌≡◌, ℕ, ◌+◌, ◌*◌, ◌≤◌, List, [], ◌++◌, All, length, map, replicate, Ok, OnOk, OnErr};
+ghost use Rattle.std.specs.Prelude.{◌≡◌, ℕ, ◌+◌, ◌*◌, ◌≤◌, List, [], ◌++◌, All, length, map, replicate, Result, Ok, OnOk, OnErr, MatchResult};
 ghost use Rattle.std.specs.List.{flat_map};
 ghost use Rattle.rtcp_compound.specs.Grammar.{packet_bytes};
 ghost use Rattle.intake.specs.Heard.{Hears, HearsBy};
@@ -8,8 +8,9 @@ ghost use Rattle.intake.specs.Spelling.{IsAsHeard, IsAskInRange, IsHeardInRange,
 ghost use Rattle.intake.specs.declared.intake.Ask.{Ask as Asked};
 ghost use Rattle.intake.specs.declared.intake.Control.{Control as Controlled};
 ghost use Rattle.intake.specs.declared.intake.Heard.{Heard as Value};
+ghost use Rattle.intake.specs.declared.intake.Unheard.{Unheard as Missed};
 
-use crate::intake::{Ask, Control, Heard, MAX_ENTRIES};
+use crate::intake::{Ask, Control, Heard, MAX_ENTRIES, Unheard};
 use rtcp_compound::{write_bye, write_rr, write_sr};
 use rtcp_feedback::{TmmbrEntry, write_nack, write_pli, write_tmmbn, write_tmmbr};
 use std::alloc::AllocError;
@@ -38,6 +39,17 @@ pub fn stays_as_heard()
     ensures goodbye { (own : ℕ) (came : List ℕ) → IsAsHeard own Heard.Goodbye [] came }
     ensures control { (own : ℕ) (control : Controlled) (asks : List Asked) (came : List ℕ)
         → IsAsHeard own (Heard.Control control) asks came }
+{}
+
+/// A datagram that is heard as this is never refused, nor heard as anything else: memory may be wanted, and that is all. So
+/// `hear_datagram` gives a value again that was spelled.
+pub fn heard_one_way()
+    ensures { (own : ℕ) (datagram : List ℕ) (heard : Value) (asks : List Asked)
+        → Hears own datagram [] asks (Ok heard)
+        → (before after : List Asked) (answer : Result Value Missed)
+        → Hears own datagram before after answer
+        → MatchResult answer (λ again. (again ≡ heard) × (after ≡ before ++ asks))
+        (λ missed. missed ≡ Unheard.NoMemory) }
 {}
 
 /// How many bytes a value is spelled by at most, if it is no media, which are spelled as they came.
