@@ -11,12 +11,11 @@ use Rattle.members.specs.Room.{RoomState, Step, Answers, bye_step, hear_step, se
 use Rattle.members.specs.Calls.{Call as RoomCall, Bye, Hear, Receive, Select, Report as SenderReport, room_after, room_of}
 use Rattle.tmmbr_tuple.specs.declared.ssrc.Ssrc.{Ssrc}
 use Rattle.core_steps.specs.declared.ticking.Due.TheVariants as due
-use Rattle.intake.specs.declared.intake.Ask.{Ask}
-use Rattle.intake.specs.declared.intake.Control.{Control as ControlParts}
-use Rattle.intake.specs.declared.intake.Heard.{Heard}
-use Rattle.intake.specs.declared.intake.Heard.TheVariants.{Media, Goodbye, Control}
-use Rattle.intake.specs.declared.intake.Unheard.{Unheard}
-use Rattle.intake.specs.declared.intake.Unheard.TheVariants.{Refused as RefusedBy}
+use Rattle.datagram.specs.declared.reading.Ask.{Ask}
+use Rattle.datagram.specs.declared.reading.Control.{Control as ControlParts}
+use Rattle.datagram.specs.declared.reading.Media.{Media as MediaParts}
+use Rattle.datagram.specs.declared.reading.What.{What}
+use Rattle.datagram.specs.declared.reading.What.TheVariants.{Media, Goodbye, Control, Refused as RefusedBy}
 use Rattle.events.specs.declared.job.Job.TheVariants.{Packet}
 use Rattle.events.specs.declared.output.Out.{Out}
 use Rattle.events.specs.declared.output.Out.TheVariants.{Refused}
@@ -25,12 +24,10 @@ use Rattle.core_steps.specs.declared.tasks.FollowUp.{FollowUp}
 use Rattle.notices.specs.DeskCalls.{source_of}
 use Rattle.core_steps.specs.FollowUps.{AddsTasks, room_with_report, tasks_due}
 use Rattle.core_steps.specs.Happening.{giving, capped_count}
-use Rattle.intake.specs.Heard.{HearsBy, heard_of, asks_of}
-use Rattle.core_steps.specs.Hearing.{IsHearing, hearing, hearing_by, selecting, selecting_by, ticking, numbers_below, is_served_by, leg_report, refusal_for, task_after, task_for, tasks_after, reports, expires, present_endpoints, is_report_due, refusals_of, jobs_of, receptions}
-use Rattle.intake.specs.Intake.{Said, media, leaves, control, Says, SaysRtp, speaker_of, heeded}
-use Rattle.rtcp_compound.specs.Mux.{is_rtcp}
-use Rattle.shared_packet.specs.Rtp.{IsReadAs}
-use Rattle.shared_packet.proofs.RtpLemmas.{reads_rtp, number_read, payload_read}
+use Rattle.datagram.specs.Reads.{Admission, HasBytes, IsSaidIn, WasRead, what_of, asks_of}
+use Rattle.datagram.proofs.PacketLemmas.{media_said}
+use Rattle.core_steps.specs.Hearing.{IsHearing, SaysTaken, hearing, hearing_by, selecting, selecting_by, ticking, numbers_below, is_served_by, leg_report, refusal_for, task_after, task_for, tasks_after, reports, expires, present_endpoints, is_report_due, refusals_of, jobs_of, receptions}
+use Rattle.datagram.specs.Saying.{Said, media, leaves, control, Says}
 use Rattle.core_steps.specs.Machine.{task_of}
 use Rattle.core_steps.specs.Rule.{is_busy}
 use Rattle.core_steps.specs.Run.{Leaves}
@@ -237,24 +234,12 @@ is_hearing w moment endpoint bytes said outs all new says l =
       given = l.given;
     }
 
-abbrev packet_parts : Heard → ℕ × ℕ × ℕ × ℕ
-packet_parts (Media source seq timestamp octets) = (source.0, seq, timestamp, octets)
-packet_parts Goodbye = (0, 0, 0, 0)
-packet_parts (Control c) = (0, 0, 0, 0)
-
-media_said : (ssrc : Ssrc) (seq timestamp octets : ℕ) (said : Said) → Media ssrc seq timestamp octets ≡ heard_of said
-    → said ≡ media ssrc.0 seq timestamp octets
-media_said ssrc seq timestamp octets (media s q p n) e =
-    sym (ap (λ (x : ℕ × ℕ × ℕ × ℕ). media x.0 x.1 x.2 x.3) (ap packet_parts e))
-media_said ssrc seq timestamp octets leaves e = absurd (cc)
-media_said ssrc seq timestamp octets (control speaker said_reports tmmbns asks) e = absurd (cc)
-
-leaves_said : (said : Said) → Goodbye ≡ heard_of said → said ≡ leaves
+leaves_said : (said : Said) → Goodbye ≡ what_of said → said ≡ leaves
 leaves_said (media s q p n) e = absurd (cc)
 leaves_said leaves e = refl
 leaves_said (control speaker reports tmmbns asks) e = absurd (cc)
 
-control_said : (c : ControlParts) (said : Said) → Control c ≡ heard_of said
+control_said : (c : ControlParts) (said : Said) → Control c ≡ what_of said
     → (reports : List (ℕ × ℕ)) × (c.report ≡ last_or None reports) × (said ≡ control c.speaker.0 reports c.tmmbns (asks_of said))
 control_said c (media s q p n) e = absurd (cc)
 control_said c leaves e = absurd (cc)
@@ -264,100 +249,77 @@ control_said c (control speaker reports tmmbns asks) e =
     let et : tmmbns ≡ c.tmmbns = sym (ap (λ (x : ControlParts). x.tmmbns) parts) in
     (reports, ap (λ (x : ControlParts). x.report) parts, ap₂ (λ (x y : ℕ). control x reports y asks) es et)
 
-says_at : (own own' : ℕ) (read bytes : List ℕ) (a b : Result Said Refusal) → own ≡ own' → read ≡ bytes → a ≡ b → Says own read a
-    → Says own' bytes b
-says_at own own' read bytes a b eo er ea h =
-    let P : ℕ → Type 0 = λ o. Says o read a in
-    let Q : List ℕ → Type 0 = λ r. Says own' r a in
-    let R : Result Said Refusal → Type 0 = λ x. Says own' bytes x in
-    subst R ea (subst Q er (subst P eo h))
+says_same : (own : ℕ) (bytes : List ℕ) (a b : Said) → a ≡ b → Says own bytes (Ok a) → Says own bytes (Ok b)
+says_same own bytes a b e h = subst (λ (x : Said). Says own bytes (Ok x)) e h
 
--- no RTCP says a packet
-no_packet_said : (b : Bool) (s q p n speaker : ℕ) (reports : List (ℕ × ℕ)) (tmmbns : ℕ) (asks : List Ask)
-    → media s q p n ≡ (if b then leaves else control speaker reports tmmbns asks) → ⊥
-no_packet_said true s q p n speaker reports tmmbns asks e = absurd (cc)
-no_packet_said false s q p n speaker reports tmmbns asks e = absurd (cc)
+-- what is taken in, of which it is known what it is
+taken_as : (w : WorldState) (t : Admission) (what : What) (bytes : List ℕ) → t.what ≡ what → SaysTaken w t bytes
+    → IsSaidIn (source_of w.setup.table t.endpoint).0 bytes (record { what = what; asks = t.asks }) × HasBytes what t.bytes bytes
+taken_as w t what bytes e h =
+    let own = (source_of w.setup.table t.endpoint).0 in
+    subst (λ (x : What). IsSaidIn own bytes (record { what = x; asks = t.asks }) × HasBytes x t.bytes bytes) e h
 
-abbrev said_parts : Said → ℕ × ℕ
-said_parts (media s q p n) = (q, n)
-said_parts leaves = (0, 0)
-said_parts (control speaker reports tmmbns asks) = (0, 0)
+pub takes_media : {E : Type 0} (r : Result (Unit {0}) E) (w : WorldState) (moment : ℕ) (t : Admission) (m : MediaParts) (bytes : List ℕ)
+    (outs all : List Out) (new : WorldState) → t.what ≡ Media m → SaysTaken w t bytes
+    → OnOk r (Leaves (λ h. h ≡ hearing w moment t.endpoint t.bytes
+    (Ok (media m.ssrc.0 m.parts.sequence_number m.timestamp m.parts.octets))) w outs new all)
+    → OnOk r (Leaves (IsHearing w moment t.endpoint bytes) w outs new all)
+takes_media (Err e) w moment t m bytes outs all new is h l = l
+takes_media (Ok u) w moment t m bytes outs all new is h l =
+    let own = (source_of w.setup.table t.endpoint).0 in
+    let said : Said = media m.ssrc.0 m.parts.sequence_number m.timestamp m.parts.octets in
+    let (reads, same) = taken_as w t (Media m) bytes is h in
+    let (it, says, what, more) = reads in
+    is_hearing w moment t.endpoint bytes (Ok said) outs all new (says_same own bytes it said (media_said m it what) says)
+    (subst (λ (b : List ℕ). Leaves (λ h. h ≡ hearing w moment t.endpoint b (Ok said)) w outs new all) (sym same) l)
 
-packet_read : (d : List ℕ) (s q p n : ℕ) → SaysRtp d (Ok (media s q p n)) → IsReadAs d (record { sequence_number = q; octets = n })
-packet_read d s q p n (packet, reads, is) = record {
-  is_packet = reads_rtp d packet reads;
-  number = number_read d packet reads ∙ sym (ap (λ (x : Said). (said_parts x).0) is);
-  octets = payload_read d packet reads ∙ sym (ap (λ (x : Said). (said_parts x).1) is);
-}
+pub takes_goodbye : {E : Type 0} (r : Result (Unit {0}) E) (w : WorldState) (moment : ℕ) (t : Admission) (bytes : List ℕ) (outs all : List Out)
+    (new : WorldState) → t.what ≡ Goodbye → SaysTaken w t bytes
+    → OnOk r (Leaves (λ h. h ≡ hearing w moment t.endpoint bytes (Ok leaves)) w outs new all)
+    → OnOk r (Leaves (IsHearing w moment t.endpoint bytes) w outs new all)
+takes_goodbye (Err e) w moment t bytes outs all new is h l = l
+takes_goodbye (Ok u) w moment t bytes outs all new is h l =
+    let own = (source_of w.setup.table t.endpoint).0 in
+    let (it, says, what, more) = (taken_as w t Goodbye bytes is h).0 in
+    is_hearing w moment t.endpoint bytes (Ok leaves) outs all new (says_same own bytes it leaves (leaves_said it what) says) l
 
-says_read : (own : ℕ) (d : List ℕ) (s q p n : ℕ) → Says own d (Ok (media s q p n)) → IsReadAs d (record { sequence_number = q; octets = n })
-says_read own d s q p n (rtcp, rtp) =
-    ⊎_elim
-    (λ (is : is_rtcp d ≡ true).
-    let said = rtcp is in
-    absurd (no_packet_said (list_any (λ x. x == own) said.0.goodbyes) s q p n (speaker_of own said.0.senders) said.0.reports said.0.tmmbns
-    (heeded said.0.asks) said.2))
-    (λ (unlike : is_rtcp d ≡ false). packet_read d s q p n (rtp unlike))
-    (cases_Bool (is_rtcp d))
-
--- a packet that was heard was read so
-pub media_read : (own : ℕ) (d : List ℕ) (heard : Heard) (ssrc : Ssrc) (seq timestamp octets : ℕ) (before after : List Ask)
-    → heard ≡ Media ssrc seq timestamp octets → HearsBy (Says own d) before after (Ok heard)
-    → IsReadAs d (record { sequence_number = seq; octets = octets })
-media_read own d heard ssrc seq timestamp octets before after eh (said, says, is, more) =
-    let e : said ≡ media ssrc.0 seq timestamp octets = media_said ssrc seq timestamp octets said (sym eh ∙ is) in
-    says_read own d ssrc.0 seq timestamp octets (subst (λ (x : Said). Says own d (Ok x)) e says)
-
-pub hears_media : {E : Type 0} (r : Result (Unit {0}) E) (w : WorldState) (moment endpoint own : ℕ) (read bytes : List ℕ) (outs all : List Out)
-    (new : WorldState) (heard : Heard) (ssrc : Ssrc) (seq timestamp octets : ℕ) (before after : List Ask)
-    → own ≡ (source_of w.setup.table endpoint).0 → read ≡ bytes → heard ≡ Media ssrc seq timestamp octets
-    → HearsBy (Says own read) before after (Ok heard)
-    → OnOk r (Leaves (λ h. h ≡ hearing w moment endpoint bytes (Ok (media ssrc.0 seq timestamp octets))) w outs new all)
-    → OnOk r (Leaves (IsHearing w moment endpoint bytes) w outs new all)
-hears_media (Err e) w moment endpoint own read bytes outs all new heard ssrc seq timestamp octets before after eo er eh h l = l
-hears_media (Ok u) w moment endpoint own read bytes outs all new heard ssrc seq timestamp octets before after eo er eh (said, says, is, more) l =
-    let e : said ≡ media ssrc.0 seq timestamp octets = media_said ssrc seq timestamp octets said (sym eh ∙ is) in
-    is_hearing w moment endpoint bytes (Ok (media ssrc.0 seq timestamp octets)) outs all new
-    (says_at own (source_of w.setup.table endpoint).0 read bytes (Ok said) (Ok (media ssrc.0 seq timestamp octets)) eo er (ap Ok e) says) l
-
-pub hears_goodbye : {E : Type 0} (r : Result (Unit {0}) E) (w : WorldState) (moment endpoint own : ℕ) (read bytes : List ℕ) (outs all : List Out)
-    (new : WorldState) (heard : Heard) (before after : List Ask) → own ≡ (source_of w.setup.table endpoint).0 → read ≡ bytes
-    → heard ≡ Goodbye → HearsBy (Says own read) before after (Ok heard)
-    → OnOk r (Leaves (λ h. h ≡ hearing w moment endpoint bytes (Ok leaves)) w outs new all)
-    → OnOk r (Leaves (IsHearing w moment endpoint bytes) w outs new all)
-hears_goodbye (Err e) w moment endpoint own read bytes outs all new heard before after eo er eh h l = l
-hears_goodbye (Ok u) w moment endpoint own read bytes outs all new heard before after eo er eh (said, says, is, more) l =
-    let e : said ≡ leaves = leaves_said said (sym eh ∙ is) in
-    is_hearing w moment endpoint bytes (Ok leaves) outs all new
-    (says_at own (source_of w.setup.table endpoint).0 read bytes (Ok said) (Ok leaves) eo er (ap Ok e) says) l
-
-pub hears_control : {E : Type 0} (r : Result (Unit {0}) E) (w : WorldState) (moment endpoint own : ℕ) (read bytes : List ℕ) (outs all : List Out)
-    (new : WorldState) (heard : Heard) (c : ControlParts) (before after : List Ask) → own ≡ (source_of w.setup.table endpoint).0
-    → read ≡ bytes → heard ≡ Control c → before ≡ [] → HearsBy (Says own read) before after (Ok heard)
+pub takes_control : {E : Type 0} (r : Result (Unit {0}) E) (w : WorldState) (moment : ℕ) (t : Admission) (c : ControlParts) (bytes : List ℕ)
+    (outs all : List Out) (new : WorldState) → t.what ≡ Control c → SaysTaken w t bytes
     → ((reports : List (ℕ × ℕ)) → c.report ≡ last_or None reports
-    → OnOk r (Leaves (λ h. h ≡ hearing w moment endpoint bytes (Ok (control c.speaker.0 reports c.tmmbns after))) w outs new all))
-    → OnOk r (Leaves (IsHearing w moment endpoint bytes) w outs new all)
-hears_control (Err e) w moment endpoint own read bytes outs all new heard c before after eo er eh eb h l = tt
-hears_control (Ok u) w moment endpoint own read bytes outs all new heard c before after eo er eh eb (said, says, is, more) l =
-    let (told, et, e) = control_said c said (sym eh ∙ is) in
-    let same : asks_of said ≡ after = sym (more ∙ ap (λ (x : List Ask). x ++ asks_of said) eb) in
-    let e' : said ≡ control c.speaker.0 told c.tmmbns after = e ∙ ap (λ (x : List Ask). control c.speaker.0 told c.tmmbns x) same in
-    is_hearing w moment endpoint bytes (Ok (control c.speaker.0 told c.tmmbns after)) outs all new
-    (says_at own (source_of w.setup.table endpoint).0 read bytes (Ok said) (Ok (control c.speaker.0 told c.tmmbns after)) eo er (ap Ok e') says)
-    (l told et)
+    → OnOk r (Leaves (λ h. h ≡ hearing w moment t.endpoint bytes (Ok (control c.speaker.0 reports c.tmmbns t.asks))) w outs new all))
+    → OnOk r (Leaves (IsHearing w moment t.endpoint bytes) w outs new all)
+takes_control (Err e) w moment t c bytes outs all new is h l = tt
+takes_control (Ok u) w moment t c bytes outs all new is h l =
+    let own = (source_of w.setup.table t.endpoint).0 in
+    let (it, says, what, more) = (taken_as w t (Control c) bytes is h).0 in
+    let (told, et, e) = control_said c it what in
+    let said : Said = control c.speaker.0 told c.tmmbns t.asks in
+    let e' : it ≡ said = e ∙ ap (λ (x : List Ask). control c.speaker.0 told c.tmmbns x) (sym more) in
+    is_hearing w moment t.endpoint bytes (Ok said) outs all new (says_same own bytes it said e' says) (l told et)
 
-pub hears_refusal : (w : WorldState) (moment endpoint own : ℕ) (read bytes : List ℕ) (outs all : List Out) (unheard : Unheard) (refusal : Refusal)
-    (before after : List Ask) → is_busy w ≡ false → w.lost < 2 ^ 64 → w.tmmbns < 2 ^ 64 → own ≡ (source_of w.setup.table endpoint).0
-    → read ≡ bytes → unheard ≡ RefusedBy refusal → HearsBy (Says own read) before after (Err unheard)
-    → all ≡ outs ++ Refused refusal ∷ [] → Leaves (IsHearing w moment endpoint bytes) w outs w all
-hears_refusal w moment endpoint own read bytes outs all unheard refusal before after h lost tmmbns eo er eu says given =
-    let P : Unheard → Type 0 = λ u. HearsBy (Says own read) before after (Err u) in
-    let at : Says own read (Err refusal) × (after ≡ before) = subst P eu says in
-    is_hearing w moment endpoint bytes (Err refusal) outs all w
-    (says_at own (source_of w.setup.table endpoint).0 read bytes (Err refusal) (Err refusal) eo er refl at.0)
+pub takes_refusal : (w : WorldState) (moment : ℕ) (t : Admission) (refusal : Refusal) (bytes : List ℕ) (outs all : List Out) → is_busy w ≡ false
+    → w.lost < 2 ^ 64 → w.tmmbns < 2 ^ 64 → t.what ≡ RefusedBy refusal → SaysTaken w t bytes → all ≡ outs ++ Refused refusal ∷ []
+    → Leaves (IsHearing w moment t.endpoint bytes) w outs w all
+takes_refusal w moment t refusal bytes outs all idles lost tmmbns is h given =
+    is_hearing w moment t.endpoint bytes (Err refusal) outs all w ((taken_as w t (RefusedBy refusal) bytes is h).0.0)
     record {
       happening = giving w (Refused refusal ∷ []);
       allowed = refl;
-      leads = took w (Refused refusal ∷ []) [] [] w.reported 0 w.room w.tasks w.tmmbns h lost refl (idle w h) (uncounted w.tmmbns tmmbns);
+      leads = took w (Refused refusal ∷ []) [] [] w.reported 0 w.room w.tasks w.tmmbns idles lost refl (idle w idles) (uncounted w.tmmbns tmmbns);
       given = given;
     }
+
+-- ---- what was read
+
+has_own_bytes : (what : What) (bytes : List ℕ) → HasBytes what bytes bytes
+has_own_bytes (Media m) bytes = refl
+has_own_bytes Goodbye bytes = tt
+has_own_bytes (Control c) bytes = tt
+has_own_bytes (RefusedBy refusal) bytes = tt
+
+-- the datagram that was read says what is taken in of it
+pub read_says : (w : WorldState) (own : Ssrc) (endpoint : ℕ) (bytes : List ℕ) (r : WasRead) (t : Admission) → own ≡ source_of w.setup.table endpoint
+    → IsSaidIn own.0 bytes r → t ≡ record { endpoint = endpoint; what = r.what; asks = r.asks; bytes = bytes } → SaysTaken w t bytes
+read_says w own endpoint bytes r t eo reads et =
+    subst (λ (x : Admission). SaysTaken w x bytes) (sym et)
+    (subst (λ (o : Ssrc). IsSaidIn o.0 bytes r) eo reads, has_own_bytes r.what bytes)

@@ -25,7 +25,7 @@ use Rattle.core_steps.specs.declared.ring.TheConstants.{JOB_LIMIT}
 use Rattle.core_steps.specs.Happening.{Happening, RecordedCall, GivenUp, Worked, giving}
 use Rattle.core_steps.specs.Laws.{TellsLegalDesk, IsGivenUpFull}
 use Rattle.core_steps.specs.Hearing.{IsHearing, hearing, hearing_by, ticking, room_call, receptions, selecting_by, jobs_of, tasks_after}
-use Rattle.intake.specs.Intake.{Said}
+use Rattle.datagram.specs.Saying.{Said}
 use Rattle.legs.specs.Legs.{legs_after}
 use Rattle.core_steps.specs.Rule.{Does, DoesNext, DoesTask, DoesJob, Works, WorksOn, is_busy, Replies, IngressAsks, OrderAsks, JobAsks, WorkerAsks, ingress_asked, worker_asked, pushing, putting, done_task, taking, working, with_hand, forwarding, hand_of}
 use Rattle.core_steps.specs.World.{WorldState, WorkerState, Task, order, push, pulse, expire, report, Hand, free, doing, telling}

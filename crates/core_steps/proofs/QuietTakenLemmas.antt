@@ -15,13 +15,13 @@ use Rattle.members.specs.Stream.{timestamps_of}
 use Rattle.settings.specs.Settings.{Configuration}
 use Rattle.members.proofs.EndedLemmas.{Once, IfOnce, once_call, once_past, once_below}
 use Rattle.members.proofs.StandLemmas.{StandsIn, IfStands, stands}
-use Rattle.intake.specs.declared.intake.Ask.{Ask}
-use Rattle.intake.specs.declared.intake.Ask.TheVariants.{Rate, Resend as Again, Picture}
+use Rattle.datagram.specs.declared.reading.Ask.{Ask}
+use Rattle.datagram.specs.declared.reading.Ask.TheVariants.{Rate, Resend as Again, Picture}
 use Rattle.events.specs.declared.job.Job.TheVariants.{Packet, Pli, Report as LegReport, Goodbye}
 use Rattle.core_steps.specs.Happening.{RecordedCall}
-use Rattle.intake.specs.Heard.{asks_of}
+use Rattle.datagram.specs.Reads.{asks_of}
 use Rattle.core_steps.specs.Hearing.{leg_stay, owner_of, receptions, serving, jobs_of, task_on, task_for, job_by, present_endpoints, expires, reports, is_report_due, leg_report, is_left, task_after}
-use Rattle.intake.specs.Intake.{Said, media, leaves, control}
+use Rattle.datagram.specs.Saying.{Said, media, leaves, control}
 use Rattle.settings.specs.Links.{LinkTable, leg_to, table_of, worker_of}
 use Rattle.core_steps.specs.Quiet.{HeardRate, rate_of, rate_on}
 use Rattle.core_steps.specs.World.{Setup, WorldState, WorkerState, Task, order, push, pulse, expire, report}

@@ -6,7 +6,7 @@ use Rattle.members.specs.Presence.{is_present_at}
 use Rattle.members.specs.Room.{RoomState, after_report}
 use Rattle.members.specs.Reception.{Heard}
 use Rattle.members.specs.Stream.{heard_report, nothing_heard}
-use Rattle.intake.specs.Intake.{after_reports}
+use Rattle.datagram.specs.Saying.{after_reports}
 
 -- what is received after this report, as far as it is present
 abbrev reported : Bool → List Heard → ℕ → ℕ → ℕ × ℕ → List Heard

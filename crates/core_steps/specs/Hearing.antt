@@ -13,16 +13,16 @@ use Rattle.members.specs.Calls.{Call as RoomCall, Hear, Bye, Tick, Select, Recei
 use Rattle.members.specs.Stream.{timestamps_of}
 use Rattle.events.specs.declared.job.Job.{Job}
 use Rattle.events.specs.declared.job.Job.TheVariants.{Packet, Request, Resend, Pli, Report, Goodbye}
-use Rattle.intake.specs.declared.intake.Ask.{Ask}
-use Rattle.intake.specs.declared.intake.Ask.TheVariants.{Rate, Resend as Again, Picture}
+use Rattle.datagram.specs.declared.reading.Ask.{Ask}
+use Rattle.datagram.specs.declared.reading.Ask.TheVariants.{Rate, Resend as Again, Picture}
 use Rattle.events.specs.declared.output.Out.{Out}
 use Rattle.events.specs.declared.output.Out.TheVariants.{Refused}
 use Rattle.events.specs.declared.output.Refusal.{Refusal}
 use Rattle.events.specs.declared.output.Refusal.TheVariants.{Room}
 use Rattle.settings.specs.Links.{LinkTable, legs_of, leg_to, worker_of}
 use Rattle.notices.specs.DeskCalls.{source_of}
-use Rattle.intake.specs.Heard.{asks_of}
-use Rattle.intake.specs.Intake.{Said, media, leaves, control, Says}
+use Rattle.datagram.specs.Reads.{Admission, IsSaidBy, asks_of}
+use Rattle.datagram.specs.Saying.{Said, media, leaves, control, Says}
 use Rattle.core_steps.specs.World.{Setup, Task, order, push, pulse, expire, report, WorldState}
 use Rattle.core_steps.specs.Happening.{Happening, giving}
 
@@ -159,6 +159,10 @@ pub record IsHearing (w : WorldState) (moment endpoint : ℕ) (bytes : List ℕ)
   pub said : Result Said Refusal
   pub says : Says (source_of w.setup.table endpoint).0 bytes said
   pub does : h ≡ hearing w moment endpoint bytes said
+
+-- The datagram, of the endpoint that this is taken in of, says it.
+abbrev pub SaysTaken : WorldState → Admission → List ℕ → Type 0
+SaysTaken w t bytes = IsSaidBy (source_of w.setup.table t.endpoint).0 t bytes
 
 -- ---- a moment
 

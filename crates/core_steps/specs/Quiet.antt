@@ -15,14 +15,14 @@ use Rattle.desk.specs.State.{DeskState}
 use Rattle.desk.specs.Trace.{empty_base}
 use Rattle.events.specs.declared.event.Event.{Event}
 use Rattle.events.specs.declared.event.Event.TheVariants.{Hear, Tick, Select, Ingress, Work}
-use Rattle.intake.specs.declared.intake.Ask.{Ask}
-use Rattle.intake.specs.declared.intake.Ask.TheVariants.{Rate, Resend as Again, Picture}
+use Rattle.datagram.specs.declared.reading.Ask.{Ask}
+use Rattle.datagram.specs.declared.reading.Ask.TheVariants.{Rate, Resend as Again, Picture}
 use Rattle.events.specs.declared.output.Refusal.{Refusal}
 use Rattle.notices.specs.DeskCalls.{source_of}
 use Rattle.core_steps.specs.Happening.{Happening, world_after}
-use Rattle.intake.specs.Heard.{asks_of}
+use Rattle.datagram.specs.Reads.{asks_of}
 use Rattle.core_steps.specs.Hearing.{room_call, leg_stay}
-use Rattle.intake.specs.Intake.{Said, Says}
+use Rattle.datagram.specs.Saying.{Said, Says}
 use Rattle.settings.specs.Links.{LinkTable, leg_to, table_of}
 use Rattle.core_steps.specs.Opening.{IsNewWorld}
 use Rattle.core_steps.specs.Rule.{is_busy}

@@ -1,6 +1,8 @@
 //! What the ingress takes in, for a driver that does itself what follows.
 
-ghost use Rattle.std.specs.Prelude.{◌≡◌, IfOk, OnOk, OnErr};
+ghost use Rattle.std.specs.Prelude.{◌≡◌, ℕ, List, IfOk, OnOk, OnErr};
+ghost use Rattle.datagram.specs.Reads.{IsPacketRead, admission_of};
+ghost use Rattle.core_steps.specs.Hearing.{SaysTaken};
 ghost use Rattle.events.specs.declared.event.Event.TheVariants.{Hear, Tick, Select};
 ghost use Rattle.core_steps.specs.declared.tasks.NextTask.TheVariants.{FollowUp as AFollowUp};
 ghost use Rattle.core_steps.specs.Duties.{task_by};
@@ -9,13 +11,14 @@ ghost use Rattle.core_steps.specs.Rule.{Does};
 ghost use Rattle.core_steps.specs.Run.{Leaves, Stays};
 
 use crate::front::Front;
-use crate::hearing::{hear, select};
+use crate::hearing::{hear, select, take};
 use crate::ingress::report_on;
 use crate::runner::busy;
 use crate::seed::job_of;
 use crate::tasks::{FollowUp, NextTask};
 use crate::ticking::tick;
 use crate::world::standing;
+use datagram::{Reading, Taking};
 use events::{Bytes, Job, Out, SharedPacket};
 use members::Order;
 use notices::Head;
@@ -43,6 +46,8 @@ pub enum Duty {
 #[derive(Drop)]
 pub struct IngressCore {
     front: Front,
+    /// Where a datagram is read.
+    reading: Reading,
 }
 
 impl Model for IngressCore {
@@ -55,7 +60,9 @@ impl Model for IngressCore {
 }
 
 impl IngressCore {
-    ghost use Rattle.std.specs.Prelude.{◌≡◌, ◌≢◌, IfOk, OnOk, OnErr, MatchOption};
+    ghost use Rattle.std.specs.Prelude.{◌≡◌, ◌≢◌, ℕ, List, IfOk, OnOk, OnErr, MatchOption};
+    ghost use Rattle.datagram.specs.Reads.{IsPacketRead, admission_of};
+    ghost use Rattle.core_steps.specs.Hearing.{SaysTaken};
     ghost use Rattle.members.specs.Presence.{is_present_at};
     ghost use Rattle.members.specs.Room.{leg_at};
     ghost use Rattle.events.specs.declared.event.Event.TheVariants.{Hear, Tick, Select};
@@ -69,6 +76,7 @@ impl IngressCore {
     {
         Ok(IngressCore {
             front: Front::new(alloc, settings)?,
+            reading: Reading::new(alloc),
         })
     }
 
@@ -85,7 +93,31 @@ impl IngressCore {
             self.old outs.old.items self.new outs.new.items) }
         ensures err { OnErr result (Stays self.old outs.old.items self.new outs.new.items) }
     {
-        hear_or_busy(&mut self.front, moment, endpoint, bytes, outs)
+        hear_or_busy(
+            &mut self.front,
+            &mut self.reading,
+            moment,
+            endpoint,
+            bytes,
+            outs,
+        )
+    }
+
+    /// What a datagram of an endpoint says is taken in at this moment: what `hear` does of each datagram that says it. Appends what was refused of
+    /// it; `Busy` alone if a duty waits. Refused for want of memory alone; then nothing was done.
+    pub fn take(
+        &mut self,
+        moment: u64,
+        taking: Taking<'_>,
+        outs: &mut Vec<Out>,
+    ) -> Result<(), AllocError>
+        requires read { IsPacketRead taking.bytes.now taking.what }
+        ensures ok { (bytes : List ℕ) → SaysTaken self.old (admission_of taking.entry) bytes
+            → OnOk result (Leaves (Does self.old (Hear moment taking.entry.endpoint bytes))
+            self.old outs.old.items self.new outs.new.items) }
+        ensures err { OnErr result (Stays self.old outs.old.items self.new outs.new.items) }
+    {
+        take_or_busy(&mut self.front, moment, taking, outs)
     }
 
     /// It is this moment. Appends nothing, but `Busy` if a duty waits. Refused for want of memory alone; then nothing
@@ -184,6 +216,7 @@ impl IngressCore {
 /// A datagram came from this endpoint; `Busy` if a duty waits.
 fn hear_or_busy(
     front: &mut Front,
+    reading: &mut Reading,
     moment: u64,
     endpoint: u16,
     bytes: &[u8],
@@ -197,7 +230,27 @@ fn hear_or_busy(
     if front.is_busy() {
         return busy(front, outs);
     }
-    hear(front, moment, endpoint, bytes, outs)
+    hear(front, reading, moment, endpoint, bytes, outs)
+}
+
+/// What a datagram says is taken in; `Busy` if a duty waits.
+fn take_or_busy(
+    front: &mut Front,
+    moment: u64,
+    taking: Taking<'_>,
+    outs: &mut Vec<Out>,
+) -> Result<(), AllocError>
+    requires read { IsPacketRead taking.bytes.now taking.what }
+    ensures ok { (bytes : List ℕ) → SaysTaken (alone front.old) (admission_of taking.entry) bytes
+        → OnOk result (Leaves (Does (alone front.old) (Hear moment taking.entry.endpoint bytes))
+        (alone front.old) outs.old.items (alone front.new) outs.new.items) }
+    ensures err { OnErr result (Stays (alone front.old) outs.old.items
+        (alone front.new) outs.new.items) }
+{
+    if front.is_busy() {
+        return busy(front, outs);
+    }
+    take(front, moment, taking, outs)
 }
 
 /// It is this moment; `Busy` if a duty waits.

@@ -12,8 +12,8 @@ ghost use Rattle.core_steps.specs.World.{push};
 
 use crate::seed::Seed;
 use crate::tasks::FollowUp;
+use datagram::Ask;
 use events::{Out, Refusal};
-use intake::Ask;
 use members::Room;
 use settings::{Links, RoomFault};
 use tmmbr_tuple::Ssrc;

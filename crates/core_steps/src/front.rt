@@ -6,7 +6,6 @@ ghost use Rattle.core_steps.specs.Machine.{setup_of};
 ghost use Rattle.core_steps.specs.Opening.{setup_by};
 
 use crate::tasks::Tasks;
-use intake::Ask;
 use legs::Plan;
 use members::Room;
 use notices::Head;
@@ -26,8 +25,6 @@ pub(crate) struct Front {
     pub(crate) reported: u64,
     /// TMMBNs heard.
     pub(crate) tmmbns: u64,
-    /// Where a datagram's asks are collected; empty between events.
-    pub(crate) asks: Vec<Ask>,
     /// Where a job is planned; empty between events.
     pub(crate) plan: Plan,
 }
@@ -75,7 +72,6 @@ impl Front {
             tasks: Tasks::new(alloc),
             reported: 0,
             tmmbns: 0,
-            asks: Vec::new(alloc),
             plan: Plan::new(alloc),
         })
     }

@@ -8,9 +8,10 @@ ghost use Rattle.events.specs.declared.output.Refusal.TheVariants.{Room as ByRoo
 ghost use Rattle.core_steps.specs.Machine.{alone};
 ghost use Rattle.notices.specs.DeskCalls.{source_of};
 ghost use Rattle.core_steps.specs.FollowUps.{room_with_report};
-ghost use Rattle.core_steps.specs.Hearing.{IsHearing, hearing, selecting};
+ghost use Rattle.core_steps.specs.Hearing.{IsHearing, SaysTaken, hearing, selecting};
 ghost use Rattle.shared_packet.specs.Rtp.{IsReadAs};
-ghost use Rattle.intake.specs.Intake.{media as Packet, leaves as Leaving, control as Controls};
+ghost use Rattle.datagram.specs.Reads.{IsPacketRead, admission_of};
+ghost use Rattle.datagram.specs.Saying.{media as Packet, leaves as Leaving, control as Controls};
 ghost use Rattle.core_steps.specs.Rule.{is_busy};
 ghost use Rattle.core_steps.specs.Run.{Stays};
 ghost use Rattle.core_steps.specs.TakingIn.{TakesIn};
@@ -18,25 +19,17 @@ ghost use Rattle.core_steps.specs.TakingIn.{TakesIn};
 use crate::follow_ups::{push_asks, push_packet};
 use crate::front::Front;
 use crate::order_follow_ups::push_after;
+use datagram::{Ask, Control, Media, Reading, Taking, What, read};
 use events::{Out, Refusal};
-use intake::{Control, Heard, Unheard, hear_datagram};
 use members::Room;
 use settings::{Links, RoomFault};
-use shared_packet::Reading;
 use std::alloc::AllocError;
 use tmmbr_tuple::Ssrc;
 
-/// An RTP packet that came.
-#[derive(Clone, Copy)]
-struct Media {
-    ssrc: Ssrc,
-    timestamp: u32,
-    reading: Reading,
-}
-
-/// A datagram came from this endpoint, while nothing waits.
+/// A datagram came from this endpoint, while nothing waits: it is read, and what it says is taken in.
 pub(crate) fn hear(
     front: &mut Front,
+    reading: &mut Reading,
     moment: u64,
     endpoint: u16,
     bytes: &[u8],
@@ -48,36 +41,41 @@ pub(crate) fn hear(
     ensures err { OnErr result (Stays (alone front.old) outs.old.items
         (alone front.new) outs.new.items) }
 {
-    front.knows_count();
     let own = own_source(&front.setup.links, endpoint);
-    front.asks.clear();
-    match hear_datagram(bytes, own, &mut front.asks) {
-        Ok(
-            Heard::Media {
-                ssrc,
-                seq,
-                timestamp,
-                octets,
-            },
-        ) => {
-            let reading = Reading {
-                sequence_number: seq,
-                octets,
-            };
-            let packet = Media {
-                ssrc,
-                timestamp,
-                reading,
-            };
-            hear_media(front, moment, endpoint, bytes, packet, outs)
-        }
-        Ok(Heard::Goodbye) => hear_goodbye(front, moment, endpoint, outs),
-        Ok(Heard::Control(control)) => hear_control(front, moment, endpoint, &control, outs),
-        Err(Unheard::Refused(refusal)) => {
+    read(bytes, own, reading)?;
+    take(front, moment, reading.taking(endpoint, bytes), outs)
+}
+
+/// What a datagram of an endpoint says is taken in, while nothing waits.
+pub(crate) fn take(
+    front: &mut Front,
+    moment: u64,
+    taking: Taking<'_>,
+    outs: &mut Vec<Out>,
+) -> Result<(), AllocError>
+    requires idle { is_busy (alone front.old) ≡ false }
+    requires read { IsPacketRead taking.bytes.now taking.what }
+    ensures ok { (bytes : List ℕ) → SaysTaken (alone front.old) (admission_of taking.entry) bytes
+        → TakesIn front.old (λ w. IsHearing w moment taking.entry.endpoint bytes) front.new
+        outs.old.items outs.new.items result }
+    ensures err { OnErr result (Stays (alone front.old) outs.old.items
+        (alone front.new) outs.new.items) }
+{
+    front.knows_count();
+    let Taking {
+        endpoint,
+        what,
+        asks,
+        bytes,
+    } = taking;
+    match what {
+        What::Media(packet) => hear_media(front, moment, endpoint, bytes, packet, outs),
+        What::Goodbye => hear_goodbye(front, moment, endpoint, outs),
+        What::Control(control) => hear_control(front, moment, endpoint, &control, asks, outs),
+        What::Refused(refusal) => {
             outs.push(Out::Refused(refusal))?;
             Ok(())
         }
-        Err(Unheard::NoMemory) => Err(AllocError),
     }
 }
 
@@ -99,9 +97,9 @@ fn hear_media(
     outs: &mut Vec<Out>,
 ) -> Result<(), AllocError>
     requires idle { is_busy (alone front.old) ≡ false }
-    requires read { IsReadAs bytes.now packet.reading }
+    requires read { IsReadAs bytes.now packet.parts }
     ensures ok { TakesIn front.old (λ w h. h ≡ hearing w moment endpoint bytes.now
-        (Ok (Packet packet.ssrc.0 packet.reading.sequence_number packet.timestamp packet.reading.octets)))
+        (Ok (Packet packet.ssrc.0 packet.parts.sequence_number packet.timestamp packet.parts.octets)))
         front.new outs.old.items outs.new.items result }
     ensures err { OnErr result (Stays (alone front.old) outs.old.items
         (alone front.new) outs.new.items) }
@@ -110,7 +108,7 @@ fn hear_media(
     let Media {
         ssrc,
         timestamp,
-        reading,
+        parts,
     } = packet;
     outs.reserve(1)?;
     if let Some(fault) = front.room.refuses(endpoint, ssrc) {
@@ -122,7 +120,7 @@ fn hear_media(
         .prepare(front.room.most_orders() + usize::from(workers))?;
     front
         .tasks
-        .copy_datagram(front.alloc, bytes, reading, &mut front.plan)?;
+        .copy_datagram(front.alloc, bytes, parts, &mut front.plan)?;
     match front
         .room
         .hear(moment, endpoint, ssrc, &mut front.tasks.orders)
@@ -143,7 +141,7 @@ fn hear_media(
             );
             front
                 .room
-                .received(endpoint, reading.sequence_number, timestamp);
+                .received(endpoint, parts.sequence_number, timestamp);
             Ok(())
         }
         Err(fault) => refuse(fault, outs),
@@ -181,31 +179,30 @@ fn hear_goodbye(
     }
 }
 
-/// Other RTCP packets: what they ask for stands in the front's list.
+/// Other RTCP packets, and what they ask for.
 fn hear_control(
     front: &mut Front,
     moment: u64,
     endpoint: u16,
     control: &Control,
+    asks: &[Ask],
     outs: &mut Vec<Out>,
 ) -> Result<(), AllocError>
     requires { is_busy (alone front.old) ≡ false }
     ensures ok { (bytes : List ℕ) (reports : List (ℕ × ℕ))
         → control.now.report ≡ last_or None reports
         → TakesIn front.old (λ w h. h ≡ hearing w moment endpoint bytes
-        (Ok (Controls control.now.speaker.0 reports control.now.tmmbns front.old.asks.items)))
+        (Ok (Controls control.now.speaker.0 reports control.now.tmmbns asks.now)))
         front.new outs.old.items outs.new.items result }
     ensures err { OnErr result (Stays (alone front.old) outs.old.items
         (alone front.new) outs.new.items) }
 {
     front.knows_count();
-    outs.reserve(front.asks.len().max(1))?;
+    outs.reserve(asks.len().max(1))?;
     if let Some(fault) = front.room.refuses(endpoint, control.speaker) {
         return refuse(fault, outs);
     }
-    front
-        .tasks
-        .prepare(front.room.most_orders() + front.asks.len())?;
+    front.tasks.prepare(front.room.most_orders() + asks.len())?;
     match front
         .room
         .hear(moment, endpoint, control.speaker, &mut front.tasks.orders)
@@ -221,7 +218,7 @@ fn hear_control(
                 &front.setup.links,
                 &front.room,
                 endpoint,
-                front.asks.as_slice(),
+                asks,
                 &mut front.tasks.follow_ups,
                 outs,
             );

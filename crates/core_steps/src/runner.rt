@@ -1,10 +1,12 @@
 //! Events in order, each an atomic step.
 
-ghost use Rattle.std.specs.Prelude.{◌≡◌, ◌<◌, ◌^◌, ◌∷◌, [], length, take, OnOk, OnErr, IfErr};
+ghost use Rattle.std.specs.Prelude.{◌≡◌, ℕ, List, ◌<◌, ◌^◌, ◌∷◌, [], length, take, OnOk, OnErr, IfErr};
 ghost use Rattle.core_steps.specs.Machine.{Rest, whole, state_of};
 ghost use Rattle.events.specs.declared.event.Event.TheVariants.{Hear};
 ghost use Rattle.events.specs.declared.output.Out.TheVariants.{Busy};
+ghost use Rattle.datagram.specs.Reads.{IsPacketRead, admission_of};
 ghost use Rattle.core_steps.specs.Happening.{giving};
+ghost use Rattle.core_steps.specs.Hearing.{SaysTaken};
 ghost use Rattle.core_steps.specs.OverRuns.{AnnouncesOverRuns, EndsStaysOverRuns, events_done};
 ghost use Rattle.core_steps.specs.Quiet.{ObeysQuietLaw};
 ghost use Rattle.core_steps.specs.Rule.{Does};
@@ -19,6 +21,7 @@ use crate::machine::Machine;
 use crate::ticking::tick;
 use crate::working::work;
 use crate::world::World;
+use datagram::{Reading, Taking};
 use events::{Event, Out, RunFault};
 use std::alloc::AllocError;
 
@@ -38,7 +41,7 @@ pub fn run(world: &mut World, events: &[Event], outs: &mut Vec<Out>) -> Result<(
         × HasRun (take (done_of fault) events.now) world.old outs.old.items world.new
         outs.new.items) }
 {
-    run_machine(&mut world.machine, events, outs)
+    run_machine(&mut world.machine, &mut world.reading, events, outs)
 }
 
 /// A datagram came from this endpoint at this moment: what `run` does of one `Hear`, without an event that holds its bytes. They are lent, and
@@ -60,11 +63,48 @@ pub fn hear(
         world.old world.new) }
     ensures err { OnErr result (Stays world.old outs.old.items world.new outs.new.items) }
 {
-    hear_or_busy(&mut world.machine, moment, endpoint, bytes, outs)
+    hear_or_busy(
+        &mut world.machine,
+        &mut world.reading,
+        moment,
+        endpoint,
+        bytes,
+        outs,
+    )
+}
+
+/// What a datagram of an endpoint says is taken in at this moment: for each datagram that says it, this is what `hear` does of that. So nothing
+/// that is taken in does what no datagram could. Of what no datagram says nothing is promised. Refused for want of memory alone; then nothing was done (`err`).
+pub fn take(
+    world: &mut World,
+    moment: u64,
+    taking: Taking<'_>,
+    outs: &mut Vec<Out>,
+) -> Result<(), AllocError>
+    requires read { IsPacketRead taking.bytes.now taking.what }
+    ensures ok { (bytes : List ℕ) → SaysTaken world.old (admission_of taking.entry) bytes
+        → OnOk result (HasRun (Hear moment taking.entry.endpoint bytes ∷ []) world.old outs.old.items
+        world.new outs.new.items) }
+    ensures announced { (bytes : List ℕ) → SaysTaken world.old (admission_of taking.entry) bytes
+        → OnOk result (AnnouncesOverRuns (Hear moment taking.entry.endpoint bytes ∷ [])
+        world.old outs.old.items world.new outs.new.items) }
+    ensures ended { (bytes : List ℕ) → SaysTaken world.old (admission_of taking.entry) bytes
+        → OnOk result (EndsStaysOverRuns (Hear moment taking.entry.endpoint bytes ∷ [])
+        world.old outs.old.items world.new outs.new.items) }
+    ensures quiet { (bytes : List ℕ) → SaysTaken world.old (admission_of taking.entry) bytes
+        → OnOk result (ObeysQuietLaw (Hear moment taking.entry.endpoint bytes ∷ []) world.old world.new) }
+    ensures err { OnErr result (Stays world.old outs.old.items world.new outs.new.items) }
+{
+    take_or_busy(&mut world.machine, moment, taking, outs)
 }
 
 /// Does the events in order on the machine's parts.
-fn run_machine(m: &mut Machine, events: &[Event], outs: &mut Vec<Out>) -> Result<(), RunFault>
+fn run_machine(
+    m: &mut Machine,
+    reading: &mut Reading,
+    events: &[Event],
+    outs: &mut Vec<Out>,
+) -> Result<(), RunFault>
     ensures ok { OnOk result (HasRun events.now (state_of m.old) outs.old.items
         (state_of m.new) outs.new.items) }
     ensures err { IfErr result (λ fault. (done_of fault < length events.now)
@@ -72,7 +112,7 @@ fn run_machine(m: &mut Machine, events: &[Event], outs: &mut Vec<Out>) -> Result
         (state_of m.new) outs.new.items) }
 {
     for (done, event) in events.iter().enumerate() {
-        if step(m, event, outs).is_err() {
+        if step(m, reading, event, outs).is_err() {
             return Err(RunFault::NoMemory { done });
         }
     }
@@ -80,7 +120,12 @@ fn run_machine(m: &mut Machine, events: &[Event], outs: &mut Vec<Out>) -> Result
 }
 
 /// Does one event. Refused for want of memory alone; then nothing was done.
-fn step(m: &mut Machine, event: &Event, outs: &mut Vec<Out>) -> Result<(), AllocError>
+fn step(
+    m: &mut Machine,
+    reading: &mut Reading,
+    event: &Event,
+    outs: &mut Vec<Out>,
+) -> Result<(), AllocError>
     ensures ok { OnOk result (Leaves (Does (state_of m.old) event.now)
         (state_of m.old) outs.old.items (state_of m.new) outs.new.items) }
     ensures err { OnErr result (Stays (state_of m.old) outs.old.items
@@ -91,7 +136,7 @@ fn step(m: &mut Machine, event: &Event, outs: &mut Vec<Out>) -> Result<(), Alloc
         Event::Ingress => do_next(m, outs),
         Event::Work(worker) => work(m, *worker, outs),
         Event::Hear(moment, endpoint, bytes) => {
-            hear_or_busy(m, *moment, *endpoint, bytes.as_slice(), outs)
+            hear_or_busy(m, reading, *moment, *endpoint, bytes.as_slice(), outs)
         }
         Event::Tick(moment) => {
             if m.is_busy() {
@@ -111,6 +156,7 @@ fn step(m: &mut Machine, event: &Event, outs: &mut Vec<Out>) -> Result<(), Alloc
 /// A datagram came from this endpoint; `Busy` if something waits.
 fn hear_or_busy(
     m: &mut Machine,
+    reading: &mut Reading,
     moment: u64,
     endpoint: u16,
     bytes: &[u8],
@@ -125,7 +171,28 @@ fn hear_or_busy(
     if m.is_busy() {
         return busy(&m.front, outs);
     }
-    hearing::hear(&mut m.front, moment, endpoint, bytes, outs)
+    hearing::hear(&mut m.front, reading, moment, endpoint, bytes, outs)
+}
+
+/// What a datagram says is taken in; `Busy` if something waits.
+fn take_or_busy(
+    m: &mut Machine,
+    moment: u64,
+    taking: Taking<'_>,
+    outs: &mut Vec<Out>,
+) -> Result<(), AllocError>
+    requires read { IsPacketRead taking.bytes.now taking.what }
+    ensures ok { (bytes : List ℕ) → SaysTaken (state_of m.old) (admission_of taking.entry) bytes
+        → OnOk result (Leaves (Does (state_of m.old) (Hear moment taking.entry.endpoint bytes))
+        (state_of m.old) outs.old.items (state_of m.new) outs.new.items) }
+    ensures err { OnErr result (Stays (state_of m.old) outs.old.items
+        (state_of m.new) outs.new.items) }
+{
+    m.knows_counts();
+    if m.is_busy() {
+        return busy(&m.front, outs);
+    }
+    hearing::take(&mut m.front, moment, taking, outs)
 }
 
 /// Nothing is taken in, whatever stands beside the front.

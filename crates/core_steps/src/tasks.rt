@@ -4,7 +4,7 @@ use crate::seed::Seed;
 use events::SharedPacket;
 use legs::Plan;
 use members::Order;
-use shared_packet::Reading;
+use shared_packet::PacketParts;
 use std::alloc::{AllocError, Global};
 use std::mem;
 
@@ -83,7 +83,7 @@ impl Tasks {
         &mut self,
         alloc: Global,
         bytes: &[u8],
-        reading: Reading,
+        reading: PacketParts,
         plan: &mut Plan,
     ) -> Result<(), AllocError>
         requires read { IsReadAs bytes.now reading }

@@ -11,6 +11,7 @@ ghost use Rattle.core_steps.specs.Opening.{IsNewDesk, IsNewWorker, AreNewWorkers
 use crate::front::Front;
 use crate::machine::{Hand, Machine, Worker};
 use crate::ring::JobRing;
+use datagram::Reading;
 use desk::{Desk, Effect};
 use events::Out;
 use legs::Legs;
@@ -24,6 +25,8 @@ use std::marker::Model;
 #[derive(Drop)]
 pub struct World {
     pub(crate) machine: Machine,
+    /// Where a datagram is read.
+    pub(crate) reading: Reading,
 }
 
 impl Model for World {
@@ -183,6 +186,7 @@ impl World {
     {
         Ok(World {
             machine: new_machine(alloc, settings)?,
+            reading: Reading::new(alloc),
         })
     }
 
@@ -205,7 +209,7 @@ impl World {
     pub fn into_desks(self) -> Vec<Desk>
         ensures { result.items ≡ self.desks }
     {
-        let World { machine } = self;
+        let World { machine, .. } = self;
         let Machine { desks, .. } = machine;
         desks
     }

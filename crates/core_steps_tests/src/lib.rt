@@ -6,7 +6,7 @@
 #[cfg(test)]
 mod cut_tests;
 #[cfg(test)]
-mod intake_tests;
+mod reading_tests;
 #[cfg(test)]
 mod memory_tests;
 #[cfg(test)]

@@ -16,7 +16,7 @@ use members::Row;
 use resend_ring::MAX_CAPACITY;
 use rtcp_feedback::{Nack, lost};
 use settings::{Links, MAX_LEGS};
-use shared_packet::{Reading, SharedPacket};
+use shared_packet::{PacketParts, SharedPacket};
 use std::alloc::{AllocError, Global};
 use std::collections::HashMap;
 use std::marker::Model;
@@ -131,7 +131,7 @@ fn plan_place(
     place: u16,
     rows: &[Row],
     packet: &SharedPacket,
-    reading: Reading,
+    reading: PacketParts,
     plan: &mut Plan,
 ) -> Result<(), AllocError>
     requires read { IsReadAs packet.now reading }
@@ -156,7 +156,7 @@ fn plan_places(
     places: &[u16],
     rows: &[Row],
     packet: &SharedPacket,
-    reading: Reading,
+    reading: PacketParts,
     plan: &mut Plan,
 ) -> Result<(), AllocError>
     requires read { IsReadAs packet.now reading }

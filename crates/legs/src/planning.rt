@@ -12,7 +12,7 @@ use crate::plan::{Change, Plan, Planned};
 use events::{Bytes, Out};
 use rewrite::SEQ_CYCLE;
 use rtcp_compound::{write_bye, write_rr, write_sdes_cname, write_sr};
-use shared_packet::{Readdressed, Reading, SharedPacket};
+use shared_packet::{Readdressed, PacketParts, SharedPacket};
 use std::alloc::{AllocError, Global};
 
 /// The bytes of a packet that goes out.
@@ -32,7 +32,7 @@ pub fn plan_packet(
     place: u16,
     turn: u64,
     packet: &SharedPacket,
-    reading: Reading,
+    reading: PacketParts,
     plan: &mut Plan,
 ) -> Result<Planned, AllocError>
     requires read { IsReadAs packet.now reading }

@@ -2,11 +2,11 @@
 use Rattle.std.proofs.Common.{◌≡◌, ◌∙◌, ℕ, ◌+◌, inl, inr, List, [], Option, None, Some, Ok, Err, Result, map, refl, sym, ap, subst}
 use Rattle.std.specs.Prelude.{slice_get}
 use Rattle.settings.specs.Links.{legs_of}
-use Rattle.intake.specs.Heard.{Hears}
-use Rattle.intake.specs.declared.intake.Ask.{Ask}
-use Rattle.intake.specs.declared.intake.Heard.{Heard}
-use Rattle.intake.specs.declared.intake.Unheard.{Unheard}
-use Rattle.intake.specs.declared.intake.Unheard.TheVariants.{NoMemory, Refused}
+use Rattle.datagram.specs.Reads.{AsksFor, IsSaidIn, ReadsBy, WasRead, asks_of, what_of}
+use Rattle.datagram.specs.Saying.{Said, Says}
+use Rattle.datagram.specs.declared.reading.Ask.{Ask}
+use Rattle.datagram.specs.declared.reading.What.{What}
+use Rattle.datagram.specs.declared.reading.What.TheVariants.{Media, Goodbye, Control, Refused}
 use Rattle.repeats.specs.Again.{next_held}
 use Rattle.repeats.specs.Comings.{first_due, looked_from, noted_in}
 use Rattle.repeats.specs.Keeper.{HearsAgain, HearsComing, HearsNext, SaysWord, Stays, asked_again, hold_terms, next_heard, noted_by, with_room, word_in}
@@ -15,22 +15,23 @@ use Rattle.repeats.specs.declared.keeper.Keeper.{Keeper}
 use Rattle.repeats.specs.declared.keeper.Word.{Word}
 use Rattle.repeats.specs.declared.keeper.Word.TheVariants.{Nothing}
 
-heard_alone : (own : ℕ) (datagram : List ℕ) (before asks : List Ask) (r : Result Heard Unheard) → before ≡ [] → Hears own datagram before asks r → Hears own datagram [] asks r
-heard_alone own datagram before asks r none h = subst (λ (xs : List Ask). Hears own datagram xs asks r) none h
+pub read_word : (own : ℕ) (datagram : List ℕ) (r : WasRead) (word : Word) → IsSaidIn own datagram r → word ≡ word_in own r.what
+    → SaysWord own datagram word r.asks
+read_word own datagram r word h is = by_what r.what h is
+  where
+    said_word : (what : What) (said : Said) → Says own datagram (Ok said) → what ≡ what_of said → r.asks ≡ asks_of said → word ≡ word_in own what
+        → SaysWord own datagram word r.asks
+    said_word what said says e more eq =
+        record { said = Ok said; says = says; is = inl (eq ∙ ap (word_in own) e, more) }
 
-pub heard_word : (own : ℕ) (datagram : List ℕ) (before asks : List Ask) (heard : Heard) (word : Word) → before ≡ [] → Hears own datagram before asks (Ok heard)
-    → word ≡ word_in own heard → SaysWord own datagram word asks
-heard_word own datagram before asks heard word none h is =
-    let alone = heard_alone own datagram before asks (Ok heard) none h in
-    record { said = Ok alone.0; says = alone.1; is = inl (is ∙ ap (word_in own) alone.2, alone.3) }
+    by_what : (what : What) → ReadsBy (Says own datagram) [] r.asks what → word ≡ word_in own what → SaysWord own datagram word r.asks
+    by_what (Media m) (said, says, e, more) eq = said_word (Media m) said says e more eq
+    by_what Goodbye (said, says, e, more) eq = said_word Goodbye said says e more eq
+    by_what (Control c) (said, says, e, more) eq = said_word (Control c) said says e more eq
+    by_what (Refused refusal) (says, none) eq = record { said = Err refusal; says = says; is = eq }
 
-unheard_alone : (own : ℕ) (datagram : List ℕ) (asks : List Ask) (u : Unheard) → Hears own datagram [] asks (Err u) → SaysWord own datagram Nothing asks
-unheard_alone own datagram asks (Refused refusal) h = record { said = Err refusal; says = h.0; is = refl }
-unheard_alone own datagram asks NoMemory h = record { said = Ok h.0; says = h.1; is = inr (refl, h.2) }
-
-pub unheard_word : (own : ℕ) (datagram : List ℕ) (before asks : List Ask) (u : Unheard) → before ≡ [] → Hears own datagram before asks (Err u)
-    → SaysWord own datagram Nothing asks
-unheard_word own datagram before asks u none h = unheard_alone own datagram asks u (heard_alone own datagram before asks (Err u) none h)
+pub unread_word : (own : ℕ) (datagram : List ℕ) (asks : List Ask) → AsksFor own datagram → SaysWord own datagram Nothing asks
+unread_word own datagram asks (said, says, some) = record { said = Ok said; says = says; is = inr (refl, some) }
 
 -- ---- what is heard once more
 

@@ -4,11 +4,11 @@ use Rattle.tmmbr_tuple.specs.declared.ssrc.Ssrc.{Ssrc}
 use Rattle.rtcp_feedback.specs.Writing.{packet_bytes, tmmb_body}
 use Rattle.settings.specs.Links.{legs_of}
 use Rattle.settings.specs.declared.settings.LegSettings.{LegSettings}
-use Rattle.intake.specs.Heard.{asks_of, heard_of}
-use Rattle.intake.specs.Intake.{Said, Says}
-use Rattle.intake.specs.declared.intake.Ask.{Ask}
-use Rattle.intake.specs.declared.intake.Heard.{Heard}
-use Rattle.intake.specs.declared.intake.Heard.TheVariants.{Media, Goodbye, Control}
+use Rattle.datagram.specs.Reads.{asks_of, what_of}
+use Rattle.datagram.specs.Saying.{Said, Says}
+use Rattle.datagram.specs.declared.reading.Ask.{Ask}
+use Rattle.datagram.specs.declared.reading.What.{What}
+use Rattle.datagram.specs.declared.reading.What.TheVariants.{Media, Goodbye, Control, Refused}
 use Rattle.events.specs.declared.output.Refusal.{Refusal}
 use Rattle.repeats.specs.Again.{HoldTerms, next_held, still_held}
 use Rattle.repeats.specs.Comings.{first_due, looked_from, noted_in, with_comer, without}
@@ -39,14 +39,15 @@ pub record IsAsItWas (h k : Keeper) : Type 0 where
 -- ---- what a datagram says of who sent it
 
 -- under the endpoint's own source: that it leaves, or that it is there, and whether it notifies of requests
-abbrev pub word_in : ℕ → Heard → Word
-word_in own (Media ssrc seq timestamp octets) = if ssrc.0 == own then Speaks false else Nothing
+abbrev pub word_in : ℕ → What → Word
+word_in own (Media packet) = if packet.ssrc.0 == own then Speaks false else Nothing
 word_in own Goodbye = Leaves
 word_in own (Control c) = if c.speaker.0 == own then Speaks (nat_lt 0 c.tmmbns) else Nothing
+word_in own (Refused refusal) = Nothing
 
 -- nothing if it is refused, or memory was wanting for what it asks for
 abbrev pub IsWordFor : ℕ → Result Said Refusal → Word → List Ask → Type 0
-IsWordFor own (Ok said) word asks = ((word ≡ word_in own (heard_of said)) × (asks ≡ asks_of said))
+IsWordFor own (Ok said) word asks = ((word ≡ word_in own (what_of said)) × (asks ≡ asks_of said))
     ⊎ ((word ≡ Nothing) × (0 < length (asks_of said)))
 IsWordFor own (Err refusal) word asks = word ≡ Nothing
 

@@ -1,7 +1,7 @@
 -- What is held for each leg: what its subscriber asked for last since it left last (RFC 5104, section 4.2.1).
 use Rattle.std.specs.Prelude.{◌≡◌, ◌==◌, ℕ, List, [], ◌∷◌, map, Option, None, Some, slice_get, slice_set, if◌then◌else◌}
-use Rattle.intake.specs.declared.intake.Ask.{Ask}
-use Rattle.intake.specs.declared.intake.Ask.TheVariants.{Rate, Resend, Picture}
+use Rattle.datagram.specs.declared.reading.Ask.{Ask}
+use Rattle.datagram.specs.declared.reading.Ask.TheVariants.{Rate, Resend, Picture}
 use Rattle.settings.specs.Links.{LinkTable, leg_to}
 use Rattle.settings.specs.declared.settings.LegSettings.{LegSettings}
 use Rattle.repeats.specs.declared.requests.HeldRequest.{HeldRequest}

@@ -17,7 +17,7 @@ use crate::presence::Presence;
 use crate::requests::{HeldRequest, Requests};
 use crate::sets::Sets;
 use crate::told::last_notice;
-use intake::{Ask, Heard, hear_datagram};
+use datagram::{Ask, MAX_ENTRIES, Media, Reading, What, read};
 use outside::{MAX_DATAGRAM, written};
 use rtcp_compound::split;
 use settings::{Links, Settings};
@@ -37,8 +37,8 @@ pub(crate) struct Keeper<'a> {
     /// The moment of the last turn, in milliseconds.
     moment_ms: &'a Cell<u64>,
     comings: Comings,
-    /// What the datagram asks for that is looked at.
-    asks: Vec<Ask>,
+    /// What is read of the datagram that is looked at.
+    reading: Reading,
     /// What is given on of it.
     given: Vec<u8>,
 }
@@ -54,10 +54,10 @@ enum Word {
     Leaves,
 }
 
-/// Room for what a datagram asks for, and for what is given on of it.
-fn room_for_one(alloc: Global) -> Result<(Vec<Ask>, Vec<u8>), AllocError> {
-    let asks = Vec::with_capacity(alloc, intake::MAX_ENTRIES)?;
-    Ok((asks, Vec::with_capacity(alloc, MAX_DATAGRAM)?))
+/// Room for what is read of a datagram, and for what is given on of it.
+fn room_for_one(alloc: Global) -> Result<(Reading, Vec<u8>), AllocError> {
+    let reading = Reading::with_room(alloc, MAX_ENTRIES)?;
+    Ok((reading, Vec::with_capacity(alloc, MAX_DATAGRAM)?))
 }
 
 impl<'a> Keeper<'a> {
@@ -73,7 +73,7 @@ impl<'a> Keeper<'a> {
         ensures looks { IfOk result
             (λ held. (held.moment_ms ≡ moment_ms.entry) × (held.sets ≡ sets.entry)) }
     {
-        let (asks, given) = room_for_one(alloc)?;
+        let (reading, given) = room_for_one(alloc)?;
         let requests = Requests::new(alloc, settings.legs())?;
         let presence = Presence::new(alloc, settings.endpoints().len(), settings.timeout_ms())?;
         let wait_ms = wait_by(settings.request_ms(), tick_ms);
@@ -85,7 +85,7 @@ impl<'a> Keeper<'a> {
             sets,
             moment_ms,
             comings: Comings::new(alloc, settings.endpoints().len(), wait_ms)?,
-            asks,
+            reading,
             given,
         })
     }
@@ -116,7 +116,7 @@ impl<'a> Keeper<'a> {
         ensures notes { NotesWord self.old self.new endpoint own.0 moment datagram.now result }
         ensures stays { Stays self.old self.new }
     {
-        match word_of(datagram, own, &mut self.asks) {
+        match word_of(datagram, own, &mut self.reading) {
             Word::Nothing => false,
             Word::Leaves => {
                 self.leave(endpoint);
@@ -128,7 +128,7 @@ impl<'a> Keeper<'a> {
                     self.note_notice(endpoint, own, datagram);
                 }
                 self.note_asks(endpoint, moment);
-                !self.asks.is_empty()
+                !self.reading.asks().is_empty()
             }
         }
     }
@@ -150,7 +150,7 @@ impl<'a> Keeper<'a> {
         ensures requests { self.new.requests ≡ requests_as_comes self.old endpoint moment }
         ensures comings { ComesIf (comes self.old.presence endpoint moment) endpoint
             self.old.comings.list.items self.new.comings.list.items }
-        ensures asks { self.new.asks ≡ self.old.asks }
+        ensures reading { self.new.reading ≡ self.old.reading }
         ensures stays { Stays self.old self.new }
     {
         if self.presence.comes(endpoint, moment) {
@@ -185,10 +185,10 @@ impl<'a> Keeper<'a> {
     /// Holds what the endpoint asks for.
     fn note_asks(&mut self, endpoint: u16, moment: u64)
         ensures requests { self.new.requests
-            ≡ fold (ask_in self.old.links endpoint moment) self.old.requests self.old.asks.items }
+            ≡ fold (ask_in self.old.links endpoint moment) self.old.requests self.old.reading.asks }
         ensures presence { self.new.presence ≡ self.old.presence }
         ensures comings { self.new.comings ≡ self.old.comings }
-        ensures asks { self.new.asks ≡ self.old.asks }
+        ensures reading { self.new.reading ≡ self.old.reading }
         ensures stays { Stays self.old self.new }
     {
         hold_all(
@@ -196,9 +196,9 @@ impl<'a> Keeper<'a> {
             &self.links,
             endpoint,
             moment,
-            self.asks.as_slice(),
+            self.reading.asks(),
         );
-        tell_all(self.sets, &self.links, endpoint, self.asks.as_slice());
+        tell_all(self.sets, &self.links, endpoint, self.reading.asks());
     }
 
     /// Writes over a datagram of the endpoint what of it is given on, and says how long that is. `None` if memory is wanting; then the datagram
@@ -302,30 +302,29 @@ impl<'a> Keeper<'a> {
     }
 }
 
-/// What the unit hears in a datagram of the endpoint with this source. What it asks for is listed.
-fn word_of(datagram: &[u8], own: Ssrc, asks: &mut Vec<Ask>) -> Word
-    ensures { SaysWord own.0 datagram.now result asks.new.items }
+/// What the unit hears in a datagram of the endpoint with this source, which is read.
+fn word_of(datagram: &[u8], own: Ssrc, reading: &mut Reading) -> Word
+    ensures { SaysWord own.0 datagram.now result reading.new.asks }
 {
-    asks.clear();
-    match hear_datagram(datagram, own, asks) {
-        Ok(heard) => word_in(heard, own),
+    match read(datagram, own, reading) {
+        Ok(()) => word_in(reading.what(), own),
         Err(_) => Word::Nothing,
     }
 }
 
 /// The same, of what it says.
-fn word_in(heard: Heard, own: Ssrc) -> Word
-    ensures { result ≡ word_in own.0 heard }
+fn word_in(what: What, own: Ssrc) -> Word
+    ensures { result ≡ word_in own.0 what }
 {
-    match heard {
-        Heard::Media { ssrc, .. } => {
+    match what {
+        What::Media(Media { ssrc, .. }) => {
             if ssrc.0 == own.0 {
                 Word::Speaks { notifies: false }
             } else {
                 Word::Nothing
             }
         }
-        Heard::Control(control) => {
+        What::Control(control) => {
             if control.speaker.0 == own.0 {
                 let notifies = control.tmmbns > 0;
                 Word::Speaks { notifies }
@@ -333,7 +332,8 @@ fn word_in(heard: Heard, own: Ssrc) -> Word
                 Word::Nothing
             }
         }
-        Heard::Goodbye => Word::Leaves,
+        What::Goodbye => Word::Leaves,
+        What::Refused(_) => Word::Nothing,
     }
 }
 

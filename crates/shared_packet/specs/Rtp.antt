@@ -3,7 +3,7 @@ use Rattle.std.specs.Prelude.{◌≡◌, ◌==◌, ◌&&◌, ◌||◌, not, ℕ,
 use Rattle.byteorder.specs.Endian.{big_number}
 use Rattle.rtp_packet.specs.Fault.{extension_end}
 use Rattle.rtp_packet.specs.Grammar.{RtpPacket, bytes_of, with_address}
-use Rattle.shared_packet.specs.declared.packet.Reading.{Reading}
+use Rattle.shared_packet.specs.declared.packet.PacketParts.{PacketParts}
 use Rattle.shared_packet.specs.Readdressed.{readdressed_bytes}
 
 -- the padding bit is set
@@ -37,7 +37,7 @@ pub record SaysAs (d : List ℕ) (p : RtpPacket) : Type 0 where
       → readdressed_bytes ssrc number d ≡ bytes_of (with_address ssrc number p)
 
 -- what a leg wants to know of the datagram, which is a packet
-pub record IsReadAs (d : List ℕ) (r : Reading) : Type 0 where
+pub record IsReadAs (d : List ℕ) (r : PacketParts) : Type 0 where
   pub is_packet : is_rtp d ≡ true
   pub number : sequence_number d ≡ r.sequence_number
   pub octets : payload_octets d ≡ r.octets

@@ -11,5 +11,5 @@ mod packet;
 mod readdressed;
 
 pub use bytes::SharedBytes;
-pub use packet::{Reading, SharedPacket};
+pub use packet::{PacketParts, SharedPacket};
 pub use readdressed::Readdressed;

@@ -10,7 +10,7 @@ use std::marker::Model;
 
 /// What a leg wants to know of an RTP packet (RFC 3550, section 5.1).
 #[derive(Clone, Copy)]
-pub struct Reading {
+pub struct PacketParts {
     pub sequence_number: u16,
     /// The octets of its payload.
     pub octets: u64,
@@ -22,7 +22,7 @@ pub struct Reading {
 pub struct SharedPacket {
     bytes: SharedBytes,
     /// `None` if they are no packet.
-    reading: Option<Reading>,
+    reading: Option<PacketParts>,
 }
 
 impl Model for SharedPacket {
@@ -48,7 +48,7 @@ impl SharedPacket {
     }
 
     /// These bytes, which were read so.
-    pub fn new(bytes: SharedBytes, reading: Reading) -> SharedPacket
+    pub fn new(bytes: SharedBytes, reading: PacketParts) -> SharedPacket
         requires read { IsReadAs bytes reading }
         ensures { result ≡ bytes }
     {
@@ -69,7 +69,7 @@ impl SharedPacket {
     }
 
     /// What a leg wants to know of them; `None` if they are no packet.
-    pub fn reading(&self) -> Option<Reading>
+    pub fn reading(&self) -> Option<PacketParts>
         ensures { MatchOption result (is_rtp self.now ≡ false) (IsReadAs self.now) }
     {
         self.reading
@@ -106,11 +106,11 @@ impl SharedPacket {
 }
 
 /// What a leg wants to know of a datagram; `None` if it is no packet.
-fn reading_of(bytes: &[u8]) -> Option<Reading>
+fn reading_of(bytes: &[u8]) -> Option<PacketParts>
     ensures { MatchOption result (is_rtp bytes.now ≡ false) (IsReadAs bytes.now) }
 {
     match RtpView::parse(bytes) {
-        Ok(packet) => Some(Reading {
+        Ok(packet) => Some(PacketParts {
             sequence_number: packet.sequence_number,
             octets: packet.payload.len() as u64,
         }),

@@ -1,7 +1,7 @@
 use Rattle.std.proofs.Common.{◌∙◌, ◌++◌, List, ap, arith, map}
 use Rattle.std.proofs.lemmas.List.{take_all}
 use Rattle.std.specs.List.{filter_map}
-use Rattle.intake.specs.declared.intake.Ask.{Ask}
+use Rattle.datagram.specs.declared.reading.Ask.{Ask}
 use Rattle.core_steps.specs.Hearing.{task_for}
 use Rattle.core_steps.specs.Machine.{task_of}
 use Rattle.core_steps.proofs.HearingLemmas.{refusal_one_more, task_one_more}

@@ -18,7 +18,7 @@ returns-in-Ok-clause-ok c =
     let d = c.in_ok-copy_datagram.ensures in
     let p = c.in_ok-prepare.ensures in
     λ rest idle. medias (whole c.args.front.now rest) c.args.moment c.args.endpoint c.args.bytes.now c.copy_datagram.new.self.datagram
-    c.args.packet.ssrc.0 c.args.packet.reading.sequence_number c.args.packet.timestamp c.args.packet.reading.octets c.workers-workers.result c.args.outs.now.items c.reserve.new.self.items c.copy_datagram.new.self.orders.items
+    c.args.packet.ssrc.0 c.args.packet.parts.sequence_number c.args.packet.timestamp c.args.packet.parts.octets c.workers-workers.result c.args.outs.now.items c.reserve.new.self.items c.copy_datagram.new.self.orders.items
     c.hear.new.orders.items c.hear.new.self c.received.new.self c.copy_datagram.new.self.follow_ups.items
     c.push_after.new.follow_ups.items c.push_packet.new.follow_ups.items _ c.in_ok-reserve.ensures.items (not_busy c.args.front.now rest c.requires.idle idle)
     idle.1 c.knows_count.ensures

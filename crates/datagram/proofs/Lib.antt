@@ -1,0 +1,7 @@
+pub mod ReaderLemmas
+pub mod HeedLemmas
+pub mod OneSaidLemmas
+pub mod PacketLemmas
+pub mod SpellingLemmas
+pub mod SpelledLengthLemmas
+pub mod ReadAgainLemmas

@@ -1,0 +1,125 @@
+-- What packets say one after the other, and what is kept of it.
+use Rattle.std.proofs.Common.{◌≡◌, ◌∙◌, ℕ, ◌+◌, ◌≤◌, inr, Bool, true, false, List, [], ◌∷◌, ◌++◌, length, map, Option, None, Some, Result, Ok, Err, refl, sym, ap, ap₂, arith, append_assoc, add_assoc, add-zero, eqb}
+use Rattle.std.specs.Prelude.{◌==◌, ◌||◌, not, cond}
+use Rattle.std.specs.List.{flat_map, last_or}
+use Rattle.std.specs.Option.{option_or}
+use Rattle.std.proofs.lemmas.Bool.{cond-false, eq-eqb}
+use Rattle.std.proofs.lemmas.List.Folds.{list_any-append}
+use Rattle.std.proofs.lemmas.List.{append-nil, length-append}
+use Rattle.rtcp_compound.specs.Content.{Content, packet_content}
+use Rattle.rtcp_compound.specs.Grammar.{RtcpPacket, packet_bytes, ReadsRtcp}
+use Rattle.rtcp_feedback.specs.declared.fault.FbFault.{FbFault}
+use Rattle.datagram.specs.declared.reading.Ask.{Ask}
+use Rattle.datagram.specs.declared.reader.Survey.{Survey}
+use Rattle.datagram.specs.declared.reading.What.{What}
+use Rattle.datagram.specs.declared.reading.What.TheVariants.{Control}
+use Rattle.datagram.specs.Reads.{IsSurveyOf, what_of}
+use Rattle.datagram.specs.Saying.{Gist, PacketSays, PacketsSay, control, heeded, joint_gist, empty_gist, said_by, speaker_of}
+
+-- ---- gists
+
+pub joined_nothing : (a : Gist) → joint_gist a empty_gist ≡ a
+joined_nothing a = λ i. record {
+  senders = append-nil a.senders i;
+  goodbyes = append-nil a.goodbyes i;
+  reports = append-nil a.reports i;
+  tmmbns = add-zero a.tmmbns i;
+  asks = append-nil a.asks i;
+}
+
+pub joined_assoc : (a b c : Gist) → joint_gist a (joint_gist b c) ≡ joint_gist (joint_gist a b) c
+joined_assoc a b c = λ i. record {
+  senders = sym (append_assoc a.senders b.senders c.senders) i;
+  goodbyes = sym (append_assoc a.goodbyes b.goodbyes c.goodbyes) i;
+  reports = sym (append_assoc a.reports b.reports c.reports) i;
+  tmmbns = sym (add_assoc a.tmmbns b.tmmbns c.tmmbns) i;
+  asks = sym (append_assoc a.asks b.asks c.asks) i;
+}
+
+-- what is said after this gist, with it
+abbrev pub behind : Gist → Result Gist FbFault → Result Gist FbFault
+behind a (Ok b) = Ok (joint_gist a b)
+behind a (Err fault) = Err fault
+
+pub behind_both : (a b : Gist) (said : Result Gist FbFault) → behind a (behind b said) ≡ behind (joint_gist a b) said
+behind_both a b (Ok c) = ap Ok (joined_assoc a b c)
+behind_both a b (Err fault) = refl
+
+pub say_more : (c : Content) (cs : List Content) (first : Gist) (said : Result Gist FbFault)
+    → PacketSays c (Ok first) → PacketsSay cs said → PacketsSay (c ∷ cs) (behind first said)
+say_more c cs first (Ok others) one rest = (first, others, one, rest, refl)
+say_more c cs first (Err fault) one rest = inr (first, one, rest)
+
+-- ---- what is kept of both
+
+pub speaker_of-append : (own : ℕ) (xs ys : List ℕ) → speaker_of own (xs ++ ys) ≡ cond (speaker_of own xs == own) (speaker_of own ys) (speaker_of own xs)
+speaker_of-append own [] ys = let same : eqb own own ≡ true = eq-eqb own own refl in rw same refl
+speaker_of-append own (x ∷ xs) ys = cases (x == own) refl (speaker_of-append own xs ys)
+  where
+    cases : (b : Bool) → (x == own) ≡ b
+        → speaker_of own (xs ++ ys) ≡ cond (speaker_of own xs == own) (speaker_of own ys) (speaker_of own xs)
+        → speaker_of own (x ∷ (xs ++ ys)) ≡ cond (speaker_of own (x ∷ xs) == own) (speaker_of own ys) (speaker_of own (x ∷ xs))
+    cases true e rest = rw e rest
+    cases false e rest = rw e (rw e refl)
+
+option_or_more : {A : Type 0} (o p : Option A) (y : A) → option_or o (Some y) ≡ option_or (option_or o (Some y)) p
+option_or_more None p y = refl
+option_or_more (Some z) p y = refl
+
+last_or_else : {A : Type 0} (o : Option A) (ys : List A) → last_or o ys ≡ option_or (last_or None ys) o
+last_or_else o [] = refl
+last_or_else o (y ∷ ys) =
+    last_or_else (Some y) ys ∙ option_or_more (last_or None ys) o y ∙ ap (λ p. option_or p o) (sym (last_or_else (Some y) ys))
+
+last_or_after : {A : Type 0} (o : Option A) (xs ys : List A) → last_or o (xs ++ ys) ≡ last_or (last_or o xs) ys
+last_or_after o [] ys = refl
+last_or_after o (x ∷ xs) ys = last_or_after (Some x) xs ys
+
+pub last_or-append : {A : Type 0} (xs ys : List A) → last_or None (xs ++ ys) ≡ option_or (last_or None ys) (last_or None xs)
+last_or-append xs ys = last_or_after None xs ys ∙ last_or_else (last_or None xs) ys
+
+pub not_true : (p : Bool) → not p ≡ true → p ≡ false
+not_true true e = cc
+not_true false e = refl
+
+or_false : (p q : Bool) → (p || q) ≡ false → (p ≡ false) × (q ≡ false)
+or_false true q e = cc
+or_false false q e = (refl, e)
+
+-- What is kept of the one and of the other is what is kept of both.
+pub kept_of_both : (own : ℕ) (x y z : Survey) (a b : Gist) → IsSurveyOf own x a → IsSurveyOf own y b
+    → z.goodbye ≡ (x.goodbye || y.goodbye) → z.asking ≡ (x.asking || y.asking)
+    → z.control.speaker.0 ≡ cond (x.control.speaker.0 == own) y.control.speaker.0 x.control.speaker.0
+    → z.control.report ≡ option_or y.control.report x.control.report
+    → z.control.tmmbns ≡ x.control.tmmbns + y.control.tmmbns
+    → IsSurveyOf own z (joint_gist a b)
+kept_of_both own x y z a b sx sy goodbye asking speaker report tmmbns = record {
+  goodbye = goodbye ∙ ap₂ (λ p q. p || q) sx.goodbye sy.goodbye ∙ sym (list_any-append (λ s. s == own) a.goodbyes b.goodbyes);
+  asking = λ e.
+      let none = or_false x.asking y.asking (sym asking ∙ e) in
+      ap₂ (λ (p q : List Ask). p ++ q) (sx.asking none.0) (sy.asking none.1);
+  speaker = speaker ∙ ap₂ (λ (p q : ℕ). cond (p == own) q p) sx.speaker sy.speaker ∙ sym (speaker_of-append own a.senders b.senders);
+  report = report ∙ ap₂ (λ (p q : Option (ℕ × ℕ)). option_or p q) sy.report sx.report ∙ sym (last_or-append a.reports b.reports);
+  tmmbns = tmmbns ∙ ap₂ (λ (p q : ℕ). p + q) sx.tmmbns sy.tmmbns;
+}
+
+-- if nobody leaves, what is kept is what is heard
+pub control_said : (own : ℕ) (s : Survey) (g : Gist) → IsSurveyOf own s g → s.goodbye ≡ false
+    → control (speaker_of own g.senders) g.reports g.tmmbns (heeded g.asks) ≡ said_by own g
+control_said own s g is stays = sym (cond-false _ _ _ (sym is.goodbye ∙ stays))
+
+pub control_heard : (own : ℕ) (s : Survey) (g : Gist) → IsSurveyOf own s g
+    → ◌≡◌ {A = What} (Control s.control) (what_of (control (speaker_of own g.senders) g.reports g.tmmbns (heeded g.asks)))
+control_heard own s g is = λ i. Control (record { speaker = record { 0 = is.speaker i }; report = is.report i; tmmbns = is.tmmbns i })
+
+-- ---- the number of packets
+
+pub packets_fit : (ps : List RtcpPacket) → length (map packet_content ps) ≤ length (flat_map packet_bytes ps)
+packets_fit [] = omega arith
+packets_fit (p ∷ ps) =
+    let rest = packets_fit ps in
+    let long = length-append (packet_bytes p) (flat_map packet_bytes ps) in
+    omega arith
+
+pub count_fits : (datagram : List ℕ) (ps : List RtcpPacket) → ReadsRtcp datagram ps → length (map packet_content ps) ≤ length datagram
+count_fits datagram ps reads = let fit = packets_fit ps in let long = ap length reads.bytes_are in omega arith

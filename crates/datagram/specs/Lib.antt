@@ -1,0 +1,3 @@
+pub mod Saying
+pub mod Reads
+pub mod Spelling

@@ -1,0 +1,96 @@
+-- The datagram that says a value: so what is made of what was heard is said by what a client may send (RFC 3550, section 6;
+-- RFC 4585, section 6; RFC 5104, section 4.2).
+use Rattle.std.specs.Prelude.{◌≡◌, ◌==◌, ℕ, ◌^◌, ◌<◌, true, false, List, [], ◌∷◌, ◌++◌, map, replicate, Option, None, Some, Result, Ok, Err, MatchResult, if◌then◌else◌}
+use Rattle.std.specs.List.{flat_map, list_any}
+use Rattle.rtcp_compound.specs.Grammar.{RtcpPacket, packet_bytes}
+use Rattle.rtcp_compound.specs.Mux.{is_rtcp}
+use Rattle.rtcp_compound.specs.Written.{bye_packet, plain_packet, rr_packet, sr_packet}
+use Rattle.rtcp_compound.specs.declared.packet.TheConstants.{RTPFB, PSFB}
+use Rattle.rtcp_feedback.specs.Grammar.{IsNack}
+use Rattle.rtcp_feedback.specs.Writing.{nack_body, pli_body, tmmb_body}
+use Rattle.datagram.specs.declared.reading.Ask.{Ask}
+use Rattle.datagram.specs.declared.reading.Ask.TheVariants.{Rate, Resend, Picture}
+use Rattle.datagram.specs.declared.reading.Control.{Control}
+use Rattle.datagram.specs.declared.reading.What.{What}
+use Rattle.datagram.specs.declared.reading.What.TheVariants.{Media, Goodbye, Control as Controls, Refused}
+use Rattle.datagram.specs.Saying.{Gist, JoinsPackets, Said, Says, SaysRtp, control, leaves, media, speaker_of}
+use Rattle.events.specs.declared.output.Refusal.{Refusal}
+
+-- who speaks says so by a report without blocks: of a sender with these NTP and RTP timestamps, else of a receiver (RFC 3550,
+-- sections 6.4.1 and 6.4.2)
+abbrev pub speaking_packet : ℕ → Option (ℕ × ℕ) → RtcpPacket
+speaking_packet speaker None = rr_packet speaker []
+speaking_packet speaker (Some report) = sr_packet speaker report.0 report.1 0 0 []
+
+-- a TMMBN without entries (RFC 5104, section 4.2.2)
+abbrev pub notice_packet : ℕ → RtcpPacket
+notice_packet speaker = plain_packet 4 RTPFB (tmmb_body speaker [])
+
+-- a TMMBR or a NACK of one entry, or a PLI (RFC 5104, section 4.2.1; RFC 4585, sections 6.2.1 and 6.3.1)
+abbrev pub ask_packet : ℕ → Ask → RtcpPacket
+ask_packet speaker (Rate source word) =
+    plain_packet 3 RTPFB (tmmb_body speaker (record { ssrc = source; word = word } ∷ []))
+ask_packet speaker (Resend source nack) =
+    plain_packet 1 RTPFB (nack_body speaker source.0 (nack ∷ []))
+ask_packet speaker (Picture source) = plain_packet 1 PSFB (pli_body speaker source.0)
+
+-- a report first (RFC 3550, section 6.1), then each TMMBN, then a packet for each ask
+abbrev pub control_packets : Control → List Ask → List RtcpPacket
+control_packets c asks =
+    speaking_packet c.speaker.0 c.report
+    ∷ (replicate c.tmmbns (notice_packet c.speaker.0) ++ map (ask_packet c.speaker.0) asks)
+
+-- the datagram of a value: media and what is refused as they came, a goodbye of the own source alone (RFC 3550, section 6.6), else these packets
+unfoldable pub spelling : ℕ → What → List Ask → List ℕ → List ℕ
+spelling own (Media packet) asks came = came
+spelling own Goodbye asks came = packet_bytes (bye_packet (own ∷ []))
+spelling own (Controls c) asks came = flat_map packet_bytes (control_packets c asks)
+spelling own (Refused refusal) asks came = came
+
+-- A value as it is read, or made of that: a packet is what these bytes say, and so is a refusal; and with neither, nor with a goodbye, is anything
+-- asked for.
+abbrev pub IsAsHeard : ℕ → What → List Ask → List ℕ → Type 0
+IsAsHeard own (Media packet) asks came = (asks ≡ [])
+    × Says own came (Ok (media packet.ssrc.0 packet.parts.sequence_number packet.timestamp
+    packet.parts.octets))
+IsAsHeard own Goodbye asks came = asks ≡ []
+IsAsHeard own (Controls c) asks came = Unit {0}
+IsAsHeard own (Refused refusal) asks came = (asks ≡ []) × Says own came (Err refusal)
+
+-- each number within its field
+abbrev pub IsAskInRange : Ask → Type 0
+IsAskInRange (Rate source word) = (source.0 < 2 ^ 32) × (word < 2 ^ 32)
+IsAskInRange (Resend source nack) = (source.0 < 2 ^ 32) × IsNack nack
+IsAskInRange (Picture source) = source.0 < 2 ^ 32
+
+abbrev pub IsReportInRange : Option (ℕ × ℕ) → Type 0
+IsReportInRange None = Unit {0}
+IsReportInRange (Some report) = (report.0 < 2 ^ 64) × (report.1 < 2 ^ 32)
+
+abbrev pub IsHeardInRange : ℕ → What → Type 0
+IsHeardInRange own (Media packet) = Unit {0}
+IsHeardInRange own Goodbye = own < 2 ^ 32
+IsHeardInRange own (Controls c) = (c.speaker.0 < 2 ^ 32) × IsReportInRange c.report
+IsHeardInRange own (Refused refusal) = Unit {0}
+
+-- what packets say, with all that they ask for, be it more than is heeded
+abbrev pub said_in_full : ℕ → Gist → Said
+said_in_full own g =
+    if list_any (λ s. s == own) g.goodbyes then leaves
+    else control (speaker_of own g.senders) g.reports g.tmmbns g.asks
+
+abbrev pub SaysRtcpInFull : ℕ → List ℕ → Said → Type 0
+SaysRtcpInFull own datagram said =
+    (gist : Gist) × JoinsPackets datagram (Ok gist) × (said ≡ said_in_full own gist)
+
+-- What a datagram says, with all that it asks for. If that is no more than is heeded, it is what `Says` has.
+abbrev pub SaysInFull : ℕ → List ℕ → Result Said Refusal → Type 0
+SaysInFull own datagram (Ok said) =
+    (is_rtcp datagram ≡ true → SaysRtcpInFull own datagram said)
+    × (is_rtcp datagram ≡ false → SaysRtp datagram (Ok said))
+SaysInFull own datagram (Err refusal) = Says own datagram (Err refusal)
+
+-- a call appends these bytes, or some bytes if memory is wanted
+abbrev pub PutsBytes : {E : Type 0} → List ℕ → List ℕ → List ℕ → Result (Unit {0}) E → Type 0
+PutsBytes before after bytes r =
+    MatchResult r (λ _. after ≡ before ++ bytes) (λ _. (some : List ℕ) × (after ≡ before ++ some))

@@ -1,6 +1,0 @@
-use Rattle.std.specs.List.{AllWithin}
-use Rattle.intake.specs.Spelling.{IsAskInRange}
-use Rattle.intake.proofs.spelling.is_sayable.Given as goal
-
-abbrev pub invariant-loop-ask : goal.invariant-loop-ask
-invariant-loop-ask l = AllWithin IsAskInRange l.asks 0 l.ask-index

@@ -1,8 +1,0 @@
-use Rattle.intake.proofs.SpelledLengthLemmas.{control_length, goodbye_length}
-use Rattle.intake.proofs.spelling.spelled_in_so_much.Goals as goal
-
-pub returns-clause-goodbye : goal.returns-clause-goodbye
-returns-clause-goodbye c = goodbye_length
-
-pub returns-clause-control : goal.returns-clause-control
-returns-clause-control c = control_length

@@ -1,3 +1,0 @@
-pub mod Intake
-pub mod Heard
-pub mod Spelling
