@@ -5,8 +5,10 @@ use Rattle.rtcp_compound.specs.Grammar.{ReadsRtcp}
 use Rattle.rtcp_compound.specs.Written.{Appends, plain_packet}
 use Rattle.rtcp_compound.proofs.WriterLemmas.{appended}
 use Rattle.rtcp_compound.proofs.LawLemmas.{reads_alone, reads_written}
+use Rattle.rtcp_feedback.specs.declared.nack.Nack.{Nack}
 use Rattle.rtcp_feedback.specs.declared.tmmb.TmmbrEntry.{TmmbrEntry}
-use Rattle.rtcp_feedback.specs.Writing.{packet_bytes, tmmb_body, pli_body}
+use Rattle.rtcp_feedback.specs.Writing.{packet_bytes, nack_body, tmmb_body, pli_body}
+use Rattle.rtcp_feedback.proofs.NackWriteLemmas.{length-nack_body}
 use Rattle.rtcp_feedback.proofs.WriteLemmas.{length-tmmb_body}
 use Rattle.announcement.specs.Joining.{JoinsCompounds}
 
@@ -39,3 +41,8 @@ tmmb_joins fmt sender entries fits few =
 
 pub pli_joins : (sender media : ℕ) → JoinsCompounds 1 206 (pli_body sender media)
 pli_joins sender media = joins 1 206 (pli_body sender media) (omega arith) (omega arith) refl (omega arith) (shown_206 1 (pli_body sender media))
+
+pub nack_joins : (sender media : ℕ) (entries : List Nack) → length entries ≤ 65533 → JoinsCompounds 1 205 (nack_body sender media entries)
+nack_joins sender media entries few =
+    let size = length-nack_body sender media entries in
+    joins 1 205 (nack_body sender media entries) (omega arith) (omega arith) (omega arith) (omega arith) (shown_205 1 (nack_body sender media entries))

@@ -1,5 +1,5 @@
 use Rattle.std.proofs.Common.{arith}
-use Rattle.announcement.proofs.JoinLemmas.{tmmb_joins, pli_joins}
+use Rattle.announcement.proofs.JoinLemmas.{nack_joins, tmmb_joins, pli_joins}
 use Rattle.announcement.proofs.laws.writers_join_compounds.Goals as goal
 
 pub returns-clause-tmmbr : goal.returns-clause-tmmbr
@@ -10,3 +10,6 @@ returns-clause-tmmbn c = λ sender entries few. tmmb_joins 4 sender entries (ome
 
 pub returns-clause-pli : goal.returns-clause-pli
 returns-clause-pli c = λ sender media. pli_joins sender media
+
+pub returns-clause-nack : goal.returns-clause-nack
+returns-clause-nack c = λ sender media entries few. nack_joins sender media entries few
