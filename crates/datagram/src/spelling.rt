@@ -28,8 +28,8 @@ pub fn sayable()
         → IsSaidIn own (spelling own what asks came) (record { what = what; asks = asks }) }
 {}
 
-/// What is read may be spelled, whichever of its asks are left or changed, and if somebody else speaks; so may any goodbye, and
-/// any control with any asks.
+/// What is read may be spelled, and still may with fewer or other asks, no more than there were; so may any goodbye, and any
+/// control with any asks, whoever speaks.
 pub fn stays_as_heard()
     ensures read { (own : ℕ) (what : Value) (asks : List Asked) (came : List ℕ)
         → IsSaidIn own came (record { what = what; asks = asks }) → IsAsHeard own what asks came }
@@ -81,8 +81,9 @@ fn ask_in_range(ask: Ask)
     ensures { IsAskInRange ask }
 {}
 
-/// Appends the datagram that says a value: media and what is refused as they came; else the packets that say it, each by its writer, who speaks first
-/// (RFC 3550, section 6.1). Refused only if memory is wanted and there is none; then `out` is as it was.
+/// Appends the datagram that says a value of the endpoint with this source: media and what is refused as they came (`came`, which counts for
+/// nothing else); a goodbye of that source; or a report of who speaks, then a packet for each TMMBN and each ask (RFC 3550, section 6.1).
+/// With media or a goodbye no asks are written. Refused only if memory is wanted and there is none; then `out` is as it was.
 pub fn spell(
     own: Ssrc,
     what: What,
