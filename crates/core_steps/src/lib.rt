@@ -38,4 +38,5 @@ pub use ring::JOB_LIMIT;
 pub use runner::{hear, run, take};
 pub use settings::Links;
 pub use shared_packet::laws as rtp_laws;
+pub use std::alloc::AllocError as NoMemory;
 pub use world::{Waiting, World};

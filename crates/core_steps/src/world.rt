@@ -8,6 +8,7 @@ ghost use Rattle.core_steps.specs.Machine.{state_of, worker_state, hand_in};
 ghost use Rattle.core_steps.specs.Waits.{as_counted, hand_count};
 ghost use Rattle.core_steps.specs.Opening.{IsNewDesk, IsNewWorker, AreNewWorkers, IsNewWorld};
 
+use crate::NoMemory;
 use crate::front::Front;
 use crate::machine::{Hand, Machine, Worker};
 use crate::ring::JobRing;
@@ -17,7 +18,7 @@ use events::Out;
 use legs::Legs;
 use members::Row;
 use settings::{Links, Settings};
-use std::alloc::{AllocError, Global};
+use std::alloc::Global;
 use std::marker::Model;
 
 /// The unit as one machine: the room, the tasks of the ingress, the desks, the route table, and the workers with their
@@ -47,14 +48,14 @@ pub struct Waiting {
 }
 
 /// A desk with an empty history.
-fn new_desk(alloc: Global, settings: &Settings) -> Result<Desk, AllocError>
+fn new_desk(alloc: Global, settings: &Settings) -> Result<Desk, NoMemory>
     ensures { IfOk result (IsNewDesk settings.now) }
 {
     Desk::new(alloc, settings.pli_gap_ms(), settings.request_ms())
 }
 
 /// A desk for each endpoint.
-fn new_desks(alloc: Global, settings: &Settings) -> Result<Vec<Desk>, AllocError>
+fn new_desks(alloc: Global, settings: &Settings) -> Result<Vec<Desk>, NoMemory>
     ensures count { IfOk result (λ desks. length desks.items ≡ length settings.now.endpoints) }
     ensures each { IfOk result (λ desks. All (IsNewDesk settings.now) desks.items) }
 {
@@ -72,7 +73,7 @@ fn new_worker(
     settings: &Settings,
     links: &Links,
     number: u16,
-) -> Result<Worker, AllocError>
+) -> Result<Worker, NoMemory>
     requires { links.now ≡ table_of settings.now }
     ensures { IfOk result (λ w. IsNewWorker settings.now number (worker_state w)) }
 {
@@ -86,7 +87,7 @@ fn new_worker(
 }
 
 /// The workers of these settings.
-fn new_workers(alloc: Global, settings: &Settings, links: &Links) -> Result<Vec<Worker>, AllocError>
+fn new_workers(alloc: Global, settings: &Settings, links: &Links) -> Result<Vec<Worker>, NoMemory>
     requires { links.now ≡ table_of settings.now }
     ensures { IfOk result
         (λ workers. AreNewWorkers settings.now links.now.workers (map worker_state workers.items)) }
@@ -99,7 +100,7 @@ fn new_workers(alloc: Global, settings: &Settings, links: &Links) -> Result<Vec<
 }
 
 /// A row for each of so many legs, on which nothing stands.
-fn new_rows(alloc: Global, legs: usize) -> Result<Vec<Row>, AllocError>
+fn new_rows(alloc: Global, legs: usize) -> Result<Vec<Row>, NoMemory>
     ensures { IfOk result (λ rows. rows.items ≡ opening_rows legs) }
 {
     let row = Row {
@@ -112,7 +113,7 @@ fn new_rows(alloc: Global, legs: usize) -> Result<Vec<Row>, AllocError>
 }
 
 /// The machine of these settings.
-fn new_machine(alloc: Global, settings: &Settings) -> Result<Machine, AllocError>
+fn new_machine(alloc: Global, settings: &Settings) -> Result<Machine, NoMemory>
     ensures { IfOk result (λ m. IsNewWorld settings.now (state_of m)) }
 {
     let front = Front::new(alloc, settings)?;
@@ -181,7 +182,7 @@ impl World {
     ghost use Rattle.core_steps.specs.Waits.{has_work, waiting_in};
 
     /// The world of these settings: nobody is present, and nothing waits. Refused for want of memory alone.
-    pub fn new(alloc: Global, settings: &Settings) -> Result<World, AllocError>
+    pub fn new(alloc: Global, settings: &Settings) -> Result<World, NoMemory>
         ensures { IfOk result (IsNewWorld settings.now) }
     {
         Ok(World {

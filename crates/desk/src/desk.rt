@@ -1,5 +1,6 @@
 //! One publisher's desk: who may ask it for rates, what is asked, and what is announced.
 
+use crate::NoMemory;
 use crate::base::{Base, CALL_LIMIT};
 use crate::call::{Answer, Call, Change, Entry, Signal};
 use crate::effect::{Effect, list_announced, show_change, show_unchanged};
@@ -8,7 +9,7 @@ use crate::standing::Standing;
 use arrayvec::ArrayVec;
 use circular_buffer::HeapCircularBuffer;
 use rate_cert::{Cert, MAX_REQUESTS, Request};
-use std::alloc::{AllocError, Global};
+use std::alloc::Global;
 use std::marker::Model;
 use thiserror::Error;
 use tmmbr_tuple::{Ssrc, Tuple};
@@ -91,7 +92,7 @@ impl Desk {
 
     /// A desk where nobody is present. It sends PLIs upstream at least `gap` milliseconds apart, and takes
     /// requests away that are `request_ms` milliseconds old; never where that is 0.
-    pub fn new(alloc: Global, gap: u64, request_ms: u64) -> Result<Desk, AllocError>
+    pub fn new(alloc: Global, gap: u64, request_ms: u64) -> Result<Desk, NoMemory>
         ensures base { IfOk result (λ d. d.base ≡ empty_base) }
         ensures history { IfOk result (λ d. d.history ≡ []) }
         ensures gap { IfOk result (λ d. d.gap ≡ gap) }

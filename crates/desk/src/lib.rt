@@ -22,3 +22,4 @@ pub use call::{Answer, Call, Change, Entry, KEPT_WORDS, Signal};
 pub use desk::{Desk, HISTORY_LIMIT, HistoryFull, Recorded, Reply};
 pub use effect::Effect;
 pub use presence::{Asked, PRESENT_LIMIT, Present};
+pub use std::alloc::AllocError as NoMemory;

@@ -4,6 +4,7 @@ ghost use Rattle.std.specs.Prelude.{◌≡◌, IfSome, option_map};
 ghost use Rattle.desk.specs.Call.{HasStay};
 ghost use Rattle.forwarding.specs.Asking.{is_owned, is_asking, QuestionOf, subscriber_asking, subscriber_of};
 
+use crate::NoMemory;
 use crate::done::{ForwardFault, Forwarded};
 use crate::notifier::Notifier;
 use crate::sending::send_all;
@@ -14,7 +15,7 @@ use outside::Sink;
 use rate_desk::{DeskCalls, DeskSeat, House, SeatCalls};
 use routes::{Naming, RouteNote, RouteReader};
 use settings::Settings;
-use std::alloc::{AllocError, Global};
+use std::alloc::Global;
 use std::marker::Model;
 use std::sync::Wait;
 
@@ -47,7 +48,7 @@ impl Forwarder {
     ghost use Rattle.forwarding.specs.Asking.{Feeds, asking, telling, terms};
 
     /// The worker of these settings with this number, which has sent nothing yet.
-    pub fn new(alloc: Global, settings: &Settings, worker: u16) -> Result<Forwarder, AllocError>
+    pub fn new(alloc: Global, settings: &Settings, worker: u16) -> Result<Forwarder, NoMemory>
         ensures { IfOk result (λ f. f ≡ new_forwarder settings.now worker) }
     {
         let notifier = Notifier::new(alloc, settings)?;

@@ -16,3 +16,4 @@ pub use forwarder::Forwarder;
 pub use notifier::Notifier;
 pub use outside::{Clock, Datagram, Gate, ReceiveFault, SendFault, Sink, Source};
 pub use sending::send_all;
+pub use std::alloc::AllocError as NoMemory;

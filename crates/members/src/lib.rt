@@ -22,4 +22,5 @@ pub use settings::{
     SettingsFault,
 };
 pub use stays::MAX_STAY;
+pub use std::alloc::AllocError as NoMemory;
 pub use stream::COUNTED_PACKETS;

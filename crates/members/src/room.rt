@@ -4,6 +4,7 @@ ghost use Rattle.std.specs.Prelude.{◌≡◌, map, IfOk};
 ghost use Rattle.members.specs.Stays.{without_orders, leaving};
 ghost use Rattle.members.specs.Stream.{nothing_heard};
 
+use crate::NoMemory;
 use crate::order::{Draft, Order};
 use crate::presence::{LAST_MOMENT, first_overdue, is_present_at, mark, source_at};
 use crate::reception::Reception;
@@ -11,7 +12,7 @@ use crate::stays::{arrive, leave_present, select_leg};
 use crate::table::Table;
 use rtcp_compound::Block;
 use settings::{RoomFault, Settings};
-use std::alloc::{AllocError, Global};
+use std::alloc::Global;
 use std::marker::Model;
 use std::mem;
 use tmmbr_tuple::Ssrc;
@@ -42,7 +43,7 @@ pub struct Room {
 }
 
 /// Of each endpoint nothing was received.
-fn new_receptions(alloc: Global, sources: &[Ssrc]) -> Result<Vec<Reception>, AllocError>
+fn new_receptions(alloc: Global, sources: &[Ssrc]) -> Result<Vec<Reception>, NoMemory>
     ensures { IfOk result (λ v. v.items ≡ map (λ _. nothing_heard) sources.now) }
 {
     sources.iter().map(|_| Reception::new()).collect(alloc)
@@ -78,7 +79,7 @@ impl Room {
     ghost use Rattle.members.specs.Stream.{IsBlockAnswer, timestamps_of};
 
     /// The room of these settings: nobody is present, its moment is 0.
-    pub fn new(alloc: Global, settings: &Settings) -> Result<Room, AllocError>
+    pub fn new(alloc: Global, settings: &Settings) -> Result<Room, NoMemory>
         ensures { IfOk result (λ room. room ≡ new_room settings.now) }
     {
         Ok(Room {
@@ -172,7 +173,7 @@ impl Room {
         &mut self,
         moment: u64,
         orders: &mut Vec<Order>,
-    ) -> Result<(), AllocError>
+    ) -> Result<(), NoMemory>
         ensures ok { OnOk result
             (TakesStep (tick_step self.old moment) orders.old.items self.new orders.new.items) }
         ensures unchanged { OnErr result

@@ -3,13 +3,14 @@
 ghost use Rattle.std.specs.Prelude.{◌≡◌, ◌≤◌, replicate, vec_len, vec_capacity, IfOk, []};
 ghost use Rattle.rate_desk.specs.Shares.{new_seat};
 
+use crate::NoMemory;
 use crate::held::HeldDesk;
 use crate::hold::Hold;
 use crate::ledger::{DeskCalls, SeatCalls, Tally};
 use crate::receipt::{HouseFault, Receipt};
 use crate::seat::DeskSeat;
 use desk::{Call, Change, Desk, Effect, Signal};
-use std::alloc::{AllocError, Global};
+use std::alloc::Global;
 use std::sync::ledger::{Blank, Share};
 use std::sync::{Mutex, Wait};
 use std::thread;
@@ -56,7 +57,7 @@ impl<D: DeskCalls, S: SeatCalls> House<D, S> {
         seats: usize,
         gap: u64,
         request_ms: u64,
-    ) -> Result<(House<D, S>, Vec<DeskSeat<S>>), AllocError>
+    ) -> Result<(House<D, S>, Vec<DeskSeat<S>>), NoMemory>
         requires recorded { (recorded.name ≡ D.name) × (recorded.parts ≡ D.parts) }
         requires made { (made.name ≡ S.name) × (made.parts ≡ S.parts) }
         requires parts { (publishers ≤ D.parts) × (seats ≤ S.parts) }
@@ -344,7 +345,7 @@ fn new_desks<D: DeskCalls>(
     publishers: usize,
     gap: u64,
     request_ms: u64,
-) -> Result<Vec<Mutex<HeldDesk<D>>>, AllocError>
+) -> Result<Vec<Mutex<HeldDesk<D>>>, NoMemory>
     requires parts { publishers ≤ shares.parts }
     requires no_calls { shares.amount ≡ 0 }
     requires gap { gap ≡ D.gap }
@@ -371,7 +372,7 @@ fn new_seats<S: SeatCalls>(
     shares: Share<S>,
     publishers: usize,
     seats: usize,
-) -> Result<Vec<DeskSeat<S>>, AllocError>
+) -> Result<Vec<DeskSeat<S>>, NoMemory>
     requires publishers { publishers ≡ S.publishers }
     requires parts { seats ≤ shares.parts }
     requires no_calls { shares.amount ≡ 0 }

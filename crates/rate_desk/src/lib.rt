@@ -15,7 +15,7 @@ mod seat;
 
 pub use desk::{
     Answer, Asked, Base, CALL_LIMIT, Call, Change, Desk, Effect, Entry, HISTORY_LIMIT, HistoryFull,
-    KEPT_WORDS, PRESENT_LIMIT, Present, Recorded, Reply, Signal, laws,
+    KEPT_WORDS, NoMemory, PRESENT_LIMIT, Present, Recorded, Reply, Signal, laws,
 };
 pub use hold::Hold;
 pub use house::House;

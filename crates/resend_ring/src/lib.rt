@@ -9,3 +9,4 @@ mod ring;
 
 pub use packets::MAX_CAPACITY;
 pub use ring::Ring;
+pub use std::alloc::AllocError as NoMemory;

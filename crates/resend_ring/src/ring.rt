@@ -4,10 +4,11 @@ ghost use Rattle.std.specs.Prelude.{◌≡◌, ◌≤◌, [], ◌∷◌, ◌++�
 ghost use Rattle.std.specs.Option.{option_to_list};
 ghost use Rattle.circular_buffer.specs.Buffer.{keep_last};
 
+use crate::NoMemory;
 use crate::chains::Chains;
 use crate::packets::{MAX_CAPACITY, Packets, SEQ_CYCLE};
 use circular_buffer::HeapCircularBuffer;
-use std::alloc::{AllocError, Allocator, Global};
+use std::alloc::{Allocator, Global};
 use std::marker::Model;
 
 /// The last packets of a leg, each with its outgoing number: their bytes, or whatever stands for them.
@@ -38,7 +39,7 @@ impl<T: Drop, A: Allocator> Ring<T, A> {
     ghost use Rattle.resend_ring.specs.Kept.{sent_packet, last_kept_with};
 
     /// An empty ring that keeps this many packets, from 1 to `MAX_CAPACITY`, as whatever the caller has.
-    pub fn with_capacity(alloc: A, capacity: usize) -> Result<Ring<T, A>, AllocError>
+    pub fn with_capacity(alloc: A, capacity: usize) -> Result<Ring<T, A>, NoMemory>
     where
         A: Clone,
         requires least { 1 ≤ capacity }
@@ -78,7 +79,7 @@ impl<A: Allocator> Ring<Vec<u8>, A> {
     ghost use Rattle.resend_ring.specs.Kept.{last_kept_with};
 
     /// An empty ring that keeps the bytes of this many packets, from 1 to `MAX_CAPACITY`.
-    pub fn new(alloc: A, capacity: usize) -> Result<Ring<Vec<u8>, A>, AllocError>
+    pub fn new(alloc: A, capacity: usize) -> Result<Ring<Vec<u8>, A>, NoMemory>
     where
         A: Clone,
         requires least { 1 ≤ capacity }

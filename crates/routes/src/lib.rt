@@ -17,4 +17,5 @@ pub use note::RouteNote;
 pub use opening::{Blank, MAX_READERS, RoutesFault, routes};
 pub use reader::RouteReader;
 pub use rule::Naming;
-pub use writer::{NoMemory, RouteWriter};
+pub use std::alloc::AllocError as NoMemory;
+pub use writer::RouteWriter;

@@ -4,6 +4,7 @@ ghost use Rattle.std.specs.Prelude.{◌≡◌, ◌++◌, ◌∷◌, [], drop};
 ghost use Rattle.routes.specs.Publications.{head_of};
 ghost use Rattle.routes.specs.Views.{IsAhead, IsNext};
 
+use crate::NoMemory;
 use crate::mark::{Law, Mark};
 use crate::note::RouteNote;
 use crate::rule::{Naming, Published};
@@ -16,12 +17,6 @@ use std::alloc::Global;
 use std::marker::Model;
 use std::sync::Wait;
 use std::thread;
-use thiserror::Error;
-
-/// There is no memory for one change more.
-#[derive(Clone, Copy, Debug, PartialEq, Eq, Error)]
-#[error("no memory")]
-pub struct NoMemory;
 
 pub(crate) type TableWriter<J> = Writer<Table, Batch, (), Published<J>>;
 
@@ -100,7 +95,8 @@ impl<J: Naming> RouteWriter<J> {
                     return Ok(());
                 }
                 let row = Row { stay, turn, on };
-                self.noted.push(Change { leg, row }).map_err(|_| NoMemory)
+                self.noted.push(Change { leg, row })?;
+                Ok(())
             }
             Order::Arrive { .. } | Order::Depart { .. } => Ok(()),
         }

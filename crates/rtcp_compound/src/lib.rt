@@ -26,6 +26,7 @@ pub use packet::{PSFB, RR, RTPFB};
 pub use packets::split;
 pub use report::{Block, Blocks};
 pub use sizes::{BLOCK_BYTES, SOURCE_BYTES, WORD_BYTES};
+pub use std::alloc::AllocError as NoMemory;
 pub use unread::Packets;
 pub use view::RtcpView;
 pub use writer::{CNAME_LIMIT, ENTRY_LIMIT, write_bye, write_rr, write_sdes_cname, write_sr};

@@ -8,11 +8,12 @@ ghost use Rattle.rtcp_compound.specs.Grammar.{packet_bytes, chunk_bytes};
 ghost use Rattle.rtcp_compound.specs.Report.{block_of, block_bytes, lost_word, IsReportBlock};
 ghost use Rattle.rtcp_compound.specs.Written.{Appends, sr_packet, rr_packet, cname_packet, cname_chunk, bye_packet};
 
+use crate::NoMemory;
 use crate::packet::{BYE, RR, SDES, SR};
 use crate::report::Block;
 use crate::sizes::{BLOCK_BYTES, SENDER_BYTES, SOURCE_BYTES, WORD_BYTES};
 use byteorder::{BigEndian, ByteOrder};
-use std::alloc::{AllocError, Allocator};
+use std::alloc::Allocator;
 use tmmbr_tuple::Ssrc;
 
 /// The most blocks of one report, and sources of one goodbye: five bits count them (RFC 3550, section
@@ -37,7 +38,7 @@ pub fn write_sr<A: Allocator>(
     packets: u32,
     octets: u32,
     blocks: &[Block],
-) -> Result<(), AllocError>
+) -> Result<(), NoMemory>
     requires { length blocks.now ≤ ENTRY_LIMIT }
     ensures ok { OnOk result (Appends out.old.items out.new.items
         (sr_packet sender.0 ntp rtp packets octets (map block_of blocks.now))
@@ -66,7 +67,7 @@ pub fn write_rr<A: Allocator>(
     out: &mut Vec<u8, A>,
     sender: Ssrc,
     blocks: &[Block],
-) -> Result<(), AllocError>
+) -> Result<(), NoMemory>
     requires { length blocks.now ≤ ENTRY_LIMIT }
     ensures ok { OnOk result (Appends out.old.items out.new.items
         (rr_packet sender.0 (map block_of blocks.now))
@@ -89,7 +90,7 @@ pub fn write_sdes_cname<A: Allocator>(
     out: &mut Vec<u8, A>,
     source: Ssrc,
     cname: &[u8],
-) -> Result<(), AllocError>
+) -> Result<(), NoMemory>
     requires { length cname.now ≤ CNAME_LIMIT }
     ensures ok { OnOk result (Appends out.old.items out.new.items (cname_packet source.0 cname.now)
         (description 1 (chunk_bytes (cname_chunk source.0 cname.now)))) }
@@ -110,7 +111,7 @@ pub fn write_sdes_cname<A: Allocator>(
 
 /// Appends a goodbye of these sources, without a reason (RFC 3550, section 6.6). Refused for want of memory
 /// alone; then nothing was appended.
-pub fn write_bye<A: Allocator>(out: &mut Vec<u8, A>, sources: &[Ssrc]) -> Result<(), AllocError>
+pub fn write_bye<A: Allocator>(out: &mut Vec<u8, A>, sources: &[Ssrc]) -> Result<(), NoMemory>
     requires { length sources.now ≤ ENTRY_LIMIT }
     ensures ok { OnOk result (Appends out.old.items out.new.items
         (bye_packet (map (λ source. source.0) sources.now))

@@ -20,4 +20,5 @@ pub use packet::{
     FMT_NACK, FMT_PLI, FMT_TMMBN, FMT_TMMBR, FRONT_BYTES, PSFB, RTPFB, SOURCES_BYTES,
 };
 pub use pli::write_pli;
+pub use std::alloc::AllocError as NoMemory;
 pub use tmmb::{ENTRY_BYTES, MAX_ENTRIES, TmmbEntries, TmmbrEntry, write_tmmbn, write_tmmbr};

@@ -3,8 +3,9 @@
 ghost use Rattle.std.specs.Prelude.{◌≡◌, ◌+◌, ◌≤◌, ◌++◌, vec_len, vec_capacity, OnOk, OnErr, IsOk};
 ghost use Rattle.rtcp_feedback.specs.Writing.{packet_bytes, pli_body};
 
+use crate::NoMemory;
 use crate::packet::{FMT_PLI, FRONT_BYTES, PSFB, put_front};
-use std::alloc::{AllocError, Allocator};
+use std::alloc::Allocator;
 use tmmbr_tuple::Ssrc;
 
 /// Appends a PLI of this sender about this source of media, a whole RTCP packet without FCI. Refused only
@@ -13,7 +14,7 @@ pub fn write_pli<A: Allocator>(
     out: &mut Vec<u8, A>,
     sender: Ssrc,
     media: Ssrc,
-) -> Result<(), AllocError>
+) -> Result<(), NoMemory>
     ensures written { OnOk result (out.new.items ≡ out.old.items
         ++ packet_bytes 1 206 (pli_body sender.0 media.0)) }
     ensures unchanged { OnErr result (out.new.items ≡ out.old.items) }

@@ -3,10 +3,11 @@
 ghost use Rattle.std.specs.Prelude.{◌≡◌, ◌+◌, ◌*◌, ◌≤◌, ◌<◌, ◌++◌, length, vec_len, vec_capacity, OnOk, OnErr, IsOk};
 ghost use Rattle.rtcp_feedback.specs.Writing.{packet_bytes, tmmb_body};
 
+use crate::NoMemory;
 use crate::fault::FbFault;
 use crate::packet::{FMT_TMMBN, FMT_TMMBR, FRONT_BYTES, RTPFB, put_front, put_u32};
 use byteorder::{BigEndian, ByteOrder};
-use std::alloc::{AllocError, Allocator};
+use std::alloc::Allocator;
 use tmmbr_tuple::Ssrc;
 
 /// The length of an entry of a TMMBR or a TMMBN in bytes (RFC 5104, section 4.2.1.1).
@@ -74,7 +75,7 @@ pub fn write_tmmbr<A: Allocator>(
     out: &mut Vec<u8, A>,
     sender: Ssrc,
     entries: &[TmmbrEntry],
-) -> Result<(), AllocError>
+) -> Result<(), NoMemory>
     requires { length entries.now ≤ MAX_ENTRIES }
     ensures written { OnOk result (out.new.items ≡ out.old.items
         ++ packet_bytes 3 205 (tmmb_body sender.0 entries.now)) }
@@ -91,7 +92,7 @@ pub fn write_tmmbn<A: Allocator>(
     out: &mut Vec<u8, A>,
     sender: Ssrc,
     entries: &[TmmbrEntry],
-) -> Result<(), AllocError>
+) -> Result<(), NoMemory>
     requires { length entries.now ≤ MAX_ENTRIES }
     ensures written { OnOk result (out.new.items ≡ out.old.items
         ++ packet_bytes 4 205 (tmmb_body sender.0 entries.now)) }
@@ -108,7 +109,7 @@ fn write_entries<A: Allocator>(
     fmt: u8,
     sender: Ssrc,
     entries: &[TmmbrEntry],
-) -> Result<(), AllocError>
+) -> Result<(), NoMemory>
     requires fmt { fmt < 32 }
     requires count { length entries.now ≤ MAX_ENTRIES }
     ensures written { OnOk result (out.new.items ≡ out.old.items

@@ -22,7 +22,7 @@ mod unit;
 mod worker;
 
 pub use fault::UnitFault;
-pub use forwarding::{ForwardFault, Forwarded, Forwarder, Notifier};
+pub use forwarding::{ForwardFault, Forwarded, Forwarder, NoMemory, Notifier};
 pub use given::Outside;
 pub use outside::{
     Clock, Datagram, Gate, Look, MAX_DATAGRAM, MAX_FAULTS, Open, Pace, ReceiveFault, Received,
