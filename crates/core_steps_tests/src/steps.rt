@@ -3,7 +3,7 @@
 ghost use Rattle.std.specs.Prelude.{◌<◌};
 
 use core_steps::*;
-use settings::{EndpointParts, LegParts, Parts, Settings, SettingsFault};
+use settings::{LegParts, Parts, Settings, SettingsFault};
 use std::alloc::{AllocError, Global};
 use std::fmt::{self, Write};
 use std::test::Fail;
@@ -52,7 +52,7 @@ fn parts(alloc: Global) -> Result<Parts, AllocError> {
         on: None,
     };
     let mut parts = Parts::example(alloc)?;
-    parts.endpoints = EndpointParts::unnamed(alloc, &[Some(16), Some(17)])?;
+    parts.endpoints = [Some(16), Some(17)].to_vec(alloc)?;
     parts.legs = [leg].to_vec(alloc)?;
     Ok(parts)
 }

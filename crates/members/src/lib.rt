@@ -18,7 +18,7 @@ pub use order::{Change, Order, Row};
 pub use room::Room;
 pub use rtcp_compound::Block;
 pub use settings::{
-    EndpointParts, Key, LegParts, LegSettings, MAX_ENDPOINTS, MAX_LEGS, Parts, RoomFault, Settings,
+    Extras, Key, LegParts, LegSettings, MAX_ENDPOINTS, MAX_LEGS, Parts, RoomFault, Settings,
     SettingsFault,
 };
 pub use stays::MAX_STAY;

@@ -1,7 +1,7 @@
 //! As many endpoints and legs as there may be, and the limits that no call reaches. What settings accept at the edges of each limit are
 //! cases of `cases/`.
 use crate::scripts::write_orders;
-use crate::settings_tests::{found_parts, leg, unnamed};
+use crate::settings_tests::{found_parts, leg};
 use members::*;
 use std::alloc::{AllocError, Global};
 use std::fmt::Write;
@@ -10,10 +10,10 @@ use std::test::Fail;
 use tmmbr_tuple::Ssrc;
 
 /// So many endpoints, with the sources 10,000, 10,001 and so on.
-fn endpoints(alloc: Global, count: u16) -> Result<Vec<EndpointParts>, AllocError> {
+fn endpoints(alloc: Global, count: u16) -> Result<Vec<Option<i64>>, AllocError> {
     let mut endpoints = Vec::new(alloc);
     for k in 0..count {
-        endpoints.push(unnamed(Some(10_000 + i64::from(k))))?;
+        endpoints.push(Some(10_000 + i64::from(k)))?;
     }
     Ok(endpoints)
 }

@@ -1,6 +1,6 @@
 //! Who comes and goes in, orders out; packets in, blocks out.
 use crate::scripts::plays;
-use crate::settings_tests::{found_parts, leg, unnamed};
+use crate::settings_tests::{found_parts, leg};
 use members::*;
 use std::alloc::{AllocError, Global};
 use std::process::Abort;
@@ -22,7 +22,7 @@ fn small_room(alloc: Global) -> Result<Room, SettingsFault> {
 /// off.
 fn larger_parts(alloc: Global) -> Result<Parts, AllocError> {
     let mut p = found_parts(alloc)?;
-    p.endpoints.push(unnamed(Some(18)))?;
+    p.endpoints.push(Some(18))?;
     let mut second = leg(2, 0, 258);
     second.on = Some(false);
     p.legs.push(second)?;

@@ -15,17 +15,12 @@ pub(crate) fn leg(subscriber: i64, publisher: i64, out_ssrc: i64) -> LegParts {
     }
 }
 
-/// An endpoint with this source, and without a name of its own.
-pub(crate) fn unnamed(ssrc: Option<i64>) -> EndpointParts {
-    EndpointParts { ssrc, cname: None }
-}
-
 /// The settings of the examples.
 pub(crate) fn found_parts(alloc: Global) -> Result<Parts, AllocError> {
     let mut first = leg(1, 0, 257);
     first.first_seq = Some(100);
     let mut parts = Parts::example(alloc)?;
-    parts.endpoints = EndpointParts::unnamed(alloc, &[Some(16), Some(17)])?;
+    parts.endpoints = vec![in alloc; Some(16), Some(17)]?;
     parts.legs = vec![in alloc; first]?;
     Ok(parts)
 }
@@ -85,12 +80,12 @@ fn settings_of_the_examples(rt: HostRuntime) -> Result<(), Fail> {
     Ok(())
 }
 
-/// Whether legs ask for a picture as they begin, and whether goodbye is said of them, if the parts say so of either.
+/// Whether legs ask for a picture as they begin, and whether goodbye is said of them, if the extras say so of either.
 fn rules(alloc: Global, pictures: Option<bool>, goodbyes: Option<bool>) -> Result<[bool; 2], Fail> {
-    let mut parts = found_parts(alloc)?;
-    parts.early_pictures = pictures;
-    parts.leg_goodbyes = goodbyes;
-    let rules = Settings::new(alloc, &parts)?.rules();
+    let mut extras = Extras::none(alloc);
+    extras.early_pictures = pictures;
+    extras.leg_goodbyes = goodbyes;
+    let rules = Settings::new_with(alloc, &found_parts(alloc)?, &extras)?.rules();
     Ok([rules.early_pictures, rules.leg_goodbyes])
 }
 

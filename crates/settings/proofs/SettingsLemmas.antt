@@ -13,15 +13,13 @@ use Rattle.tmmbr_tuple.specs.declared.ssrc.Ssrc.{Ssrc}
 use Rattle.settings.specs.declared.settings.LegSettings.{LegSettings}
 use Rattle.settings.specs.declared.parts.Parts.{Parts}
 use Rattle.settings.specs.declared.fault.SettingsFault.{SettingsFault}
-use Rattle.settings.specs.Settings.{Check, check, checks, top_checks, endpoint_checks, leg_checks, first_fault, are_distinct, sources, number_or_zero, number_within, is_cname, is_cname_or_none, name_of, own_name_or, said_name, rules_of, ssrc_of, endpoint_ssrc, leg_of, number_below, or_zero, is_same, has_pair, is_publisher, AreNumbersOf, IsInRange, IsLegAmong, HasOtherEnds}
+use Rattle.settings.specs.Settings.{Check, check, checks, top_checks, endpoint_checks, leg_checks, first_fault, are_distinct, sources, number_or_zero, number_within, is_cname, is_cname_or_none, name_of, own_name, said_name, said_names, Additions, ssrc_of, leg_of, number_below, or_zero, is_same, has_pair, is_publisher, AreNumbersOf, IsInRange, IsLegAmong, HasOtherEnds}
 use Rattle.settings.specs.declared.checks.Numbers.{Numbers}
 use Rattle.settings.specs.declared.fault.SettingsFault.TheVariants.{SameSsrc}
 use Rattle.rtcp_compound.specs.declared.writer.TheConstants.{CNAME_LIMIT}
 use Rattle.settings.specs.declared.limits.TheConstants.{SSRCS, MAX_WORKERS, MAX_RING, LEAST_HISTORY, MAX_HISTORY, MAX_PERIOD_MS, MAX_ENDPOINTS, MAX_LEGS}
-use Rattle.settings.specs.declared.parts.EndpointParts.{EndpointParts}
 use Rattle.settings.specs.declared.parts.LegParts.{LegParts}
-use Rattle.std.specs.Prelude.{ℤ, pos, negsuc, nat_le, nat_lt, ◌≢◌, is_some, take, String}
-use Rattle.std.specs.Global.{Global}
+use Rattle.std.specs.Prelude.{ℤ, pos, negsuc, nat_le, nat_lt, ◌≢◌, is_some, take, unwrap_or}
 
 first_passes : (cs ds : List Check) → first_fault cs ≡ None → first_fault (cs ++ ds) ≡ first_fault ds
 first_passes [] ds passes = refl
@@ -107,26 +105,26 @@ pub source_unit : (p : Parts) → get_or (sources p) 0 0 ≡ number_or_zero p.un
 unfolding sources
 source_unit p = refl
 
-pub source_endpoint : (p : Parts) (k : ℕ) (d : EndpointParts) → k < length p.endpoints.items
-    → get_or (sources p) (suc k) 0 ≡ number_or_zero (get_or p.endpoints.items k d).ssrc SSRCS
+pub source_endpoint : (p : Parts) (k : ℕ) (d : Option ℤ) → k < length p.endpoints.items
+    → get_or (sources p) (suc k) 0 ≡ number_or_zero (get_or p.endpoints.items k d) SSRCS
 unfolding sources
 source_endpoint p k d below =
-    get_or_append_left (map (λ (e : EndpointParts). number_or_zero e.ssrc SSRCS) p.endpoints.items) (map (λ l. number_or_zero l.out_ssrc SSRCS) p.legs.items) 0 k
+    get_or_append_left (map (λ (e : Option ℤ). number_or_zero e SSRCS) p.endpoints.items) (map (λ l. number_or_zero l.out_ssrc SSRCS) p.legs.items) 0 k
     (rw length-map below)
-    ∙ get_or-map (λ (e : EndpointParts). number_or_zero e.ssrc SSRCS) p.endpoints.items k d 0 below
+    ∙ get_or-map (λ (e : Option ℤ). number_or_zero e SSRCS) p.endpoints.items k d 0 below
 
 pub source_leg : (p : Parts) (k : ℕ) (d : LegParts) → length p.endpoints.items ≤ k → k < length p.endpoints.items + length p.legs.items
     → get_or (sources p) (suc k) 0 ≡ number_or_zero (get_or p.legs.items (k - length p.endpoints.items) d).out_ssrc SSRCS
 unfolding sources
 source_leg p k d above below =
-    get_or-append_right (map (λ (e : EndpointParts). number_or_zero e.ssrc SSRCS) p.endpoints.items) (map (λ (l : LegParts). number_or_zero l.out_ssrc SSRCS) p.legs.items)
-    (length p.endpoints.items) k 0 (length-map p.endpoints.items (λ (e : EndpointParts). number_or_zero e.ssrc SSRCS)) above
+    get_or-append_right (map (λ (e : Option ℤ). number_or_zero e SSRCS) p.endpoints.items) (map (λ (l : LegParts). number_or_zero l.out_ssrc SSRCS) p.legs.items)
+    (length p.endpoints.items) k 0 (length-map p.endpoints.items (λ (e : Option ℤ). number_or_zero e SSRCS)) above
     ∙ get_or-map (λ (l : LegParts). number_or_zero l.out_ssrc SSRCS) p.legs.items (k - length p.endpoints.items) d 0 (omega arith)
 
 -- ---- all checks
 
-abbrev endpoints_part : Parts → List Check
-endpoints_part p = flat_map endpoint_checks (enumerate_from 0 p.endpoints.items)
+abbrev endpoints_part : Parts → Additions → List Check
+endpoints_part p x = flat_map (endpoint_checks x) (enumerate_from 0 p.endpoints.items)
 
 abbrev legs_part : Parts → List Check
 legs_part p = flat_map (leg_checks p) (enumerate_from 0 p.legs.items)
@@ -134,41 +132,41 @@ legs_part p = flat_map (leg_checks p) (enumerate_from 0 p.legs.items)
 abbrev sources_part : Parts → List Check
 sources_part p = check (are_distinct (sources p)) SameSsrc ∷ []
 
-checks-is : (p : Parts) → first_fault (checks p) ≡ first_fault (top_checks p ++ (endpoints_part p ++ (legs_part p ++ sources_part p)))
+checks-is : (p : Parts) (x : Additions) → first_fault (checks p x) ≡ first_fault (top_checks p ++ (endpoints_part p x ++ (legs_part p ++ sources_part p)))
 unfolding checks
-checks-is p =
-    let same : checks p ≡ top_checks p ++ (endpoints_part p ++ (legs_part p ++ sources_part p)) = simp append_assoc in
+checks-is p x =
+    let same : checks p x ≡ top_checks p ++ (endpoints_part p x ++ (legs_part p ++ sources_part p)) = simp append_assoc in
     ap first_fault same
 
-pub top_fails : (p : Parts) (f : SettingsFault) → first_fault (top_checks p) ≡ Some f → first_fault (checks p) ≡ Some f
-top_fails p f top = checks-is p ∙ first_fails (top_checks p) (endpoints_part p ++ (legs_part p ++ sources_part p)) f top
+pub top_fails : (p : Parts) (x : Additions) (f : SettingsFault) → first_fault (top_checks p) ≡ Some f → first_fault (checks p x) ≡ Some f
+top_fails p x f top = checks-is p x ∙ first_fails (top_checks p) (endpoints_part p x ++ (legs_part p ++ sources_part p)) f top
 
-past_top : (p : Parts) → first_fault (top_checks p) ≡ None → first_fault (checks p) ≡ first_fault (endpoints_part p ++ (legs_part p ++ sources_part p))
-past_top p top = checks-is p ∙ first_passes (top_checks p) (endpoints_part p ++ (legs_part p ++ sources_part p)) top
+past_top : (p : Parts) (x : Additions) → first_fault (top_checks p) ≡ None → first_fault (checks p x) ≡ first_fault (endpoints_part p x ++ (legs_part p ++ sources_part p))
+past_top p x top = checks-is p x ∙ first_passes (top_checks p) (endpoints_part p x ++ (legs_part p ++ sources_part p)) top
 
-pub endpoints_fail : (p : Parts) (f : SettingsFault) → first_fault (top_checks p) ≡ None → first_fault (endpoints_part p) ≡ Some f
-    → first_fault (checks p) ≡ Some f
-endpoints_fail p f top fails = past_top p top ∙ first_fails (endpoints_part p) (legs_part p ++ sources_part p) f fails
+pub endpoints_fail : (p : Parts) (x : Additions) (f : SettingsFault) → first_fault (top_checks p) ≡ None → first_fault (endpoints_part p x) ≡ Some f
+    → first_fault (checks p x) ≡ Some f
+endpoints_fail p x f top fails = past_top p x top ∙ first_fails (endpoints_part p x) (legs_part p ++ sources_part p) f fails
 
-past_endpoints : (p : Parts) → first_fault (top_checks p) ≡ None → first_fault (endpoints_part p) ≡ None
-    → first_fault (checks p) ≡ first_fault (legs_part p ++ sources_part p)
-past_endpoints p top endpoints = past_top p top ∙ first_passes (endpoints_part p) (legs_part p ++ sources_part p) endpoints
+past_endpoints : (p : Parts) (x : Additions) → first_fault (top_checks p) ≡ None → first_fault (endpoints_part p x) ≡ None
+    → first_fault (checks p x) ≡ first_fault (legs_part p ++ sources_part p)
+past_endpoints p x top endpoints = past_top p x top ∙ first_passes (endpoints_part p x) (legs_part p ++ sources_part p) endpoints
 
-pub legs_fail : (p : Parts) (f : SettingsFault) → first_fault (top_checks p) ≡ None → first_fault (endpoints_part p) ≡ None
-    → first_fault (legs_part p) ≡ Some f → first_fault (checks p) ≡ Some f
-legs_fail p f top endpoints fails = past_endpoints p top endpoints ∙ first_fails (legs_part p) (sources_part p) f fails
+pub legs_fail : (p : Parts) (x : Additions) (f : SettingsFault) → first_fault (top_checks p) ≡ None → first_fault (endpoints_part p x) ≡ None
+    → first_fault (legs_part p) ≡ Some f → first_fault (checks p x) ≡ Some f
+legs_fail p x f top endpoints fails = past_endpoints p x top endpoints ∙ first_fails (legs_part p) (sources_part p) f fails
 
-past_legs : (p : Parts) → first_fault (top_checks p) ≡ None → first_fault (endpoints_part p) ≡ None → first_fault (legs_part p) ≡ None
-    → first_fault (checks p) ≡ first_fault (sources_part p)
-past_legs p top endpoints legs = past_endpoints p top endpoints ∙ first_passes (legs_part p) (sources_part p) legs
+past_legs : (p : Parts) (x : Additions) → first_fault (top_checks p) ≡ None → first_fault (endpoints_part p x) ≡ None → first_fault (legs_part p) ≡ None
+    → first_fault (checks p x) ≡ first_fault (sources_part p)
+past_legs p x top endpoints legs = past_endpoints p x top endpoints ∙ first_passes (legs_part p) (sources_part p) legs
 
-pub sources_fail : (p : Parts) → first_fault (top_checks p) ≡ None → first_fault (endpoints_part p) ≡ None → first_fault (legs_part p) ≡ None
-    → are_distinct (sources p) ≡ false → first_fault (checks p) ≡ Some SameSsrc
-sources_fail p top endpoints legs twice = past_legs p top endpoints legs ∙ rw twice refl
+pub sources_fail : (p : Parts) (x : Additions) → first_fault (top_checks p) ≡ None → first_fault (endpoints_part p x) ≡ None → first_fault (legs_part p) ≡ None
+    → are_distinct (sources p) ≡ false → first_fault (checks p x) ≡ Some SameSsrc
+sources_fail p x top endpoints legs twice = past_legs p x top endpoints legs ∙ rw twice refl
 
-pub all_pass : (p : Parts) → first_fault (top_checks p) ≡ None → first_fault (endpoints_part p) ≡ None → first_fault (legs_part p) ≡ None
-    → are_distinct (sources p) ≡ true → first_fault (checks p) ≡ None
-all_pass p top endpoints legs distinct = past_legs p top endpoints legs ∙ rw distinct refl
+pub all_pass : (p : Parts) (x : Additions) → first_fault (top_checks p) ≡ None → first_fault (endpoints_part p x) ≡ None → first_fault (legs_part p) ≡ None
+    → are_distinct (sources p) ≡ true → first_fault (checks p x) ≡ None
+all_pass p x top endpoints legs distinct = past_legs p x top endpoints legs ∙ rw distinct refl
 
 -- ---- ranges
 
@@ -225,53 +223,73 @@ none_split (c ∷ cs) ys passes = step c.passes (none_split cs ys) passes
     step true rest p = rest p
     step false rest p = absurd (cc)
 
-pub top_of : (p : Parts) → first_fault (checks p) ≡ None → first_fault (top_checks p) ≡ None
-top_of p passes = (none_split (top_checks p) (endpoints_part p ++ (legs_part p ++ sources_part p)) (sym (checks-is p) ∙ passes)).0
+pub top_of : (p : Parts) (x : Additions) → first_fault (checks p x) ≡ None → first_fault (top_checks p) ≡ None
+top_of p x passes = (none_split (top_checks p) (endpoints_part p x ++ (legs_part p ++ sources_part p)) (sym (checks-is p x) ∙ passes)).0
 
-legs_of : (p : Parts) → first_fault (checks p) ≡ None → first_fault (legs_part p) ≡ None
-legs_of p passes =
-    let behind = (none_split (top_checks p) (endpoints_part p ++ (legs_part p ++ sources_part p)) (sym (checks-is p) ∙ passes)).1 in
-    let last = (none_split (endpoints_part p) (legs_part p ++ sources_part p) behind).1 in
+legs_of : (p : Parts) (x : Additions) → first_fault (checks p x) ≡ None → first_fault (legs_part p) ≡ None
+legs_of p x passes =
+    let behind = (none_split (top_checks p) (endpoints_part p x ++ (legs_part p ++ sources_part p)) (sym (checks-is p x) ∙ passes)).1 in
+    let last = (none_split (endpoints_part p x) (legs_part p ++ sources_part p) behind).1 in
     (none_split (legs_part p) (sources_part p) last).0
 
-endpoints_of : (p : Parts) → first_fault (checks p) ≡ None → first_fault (endpoints_part p) ≡ None
-endpoints_of p passes =
-    let behind = (none_split (top_checks p) (endpoints_part p ++ (legs_part p ++ sources_part p)) (sym (checks-is p) ∙ passes)).1 in
-    (none_split (endpoints_part p) (legs_part p ++ sources_part p) behind).0
+endpoints_of : (p : Parts) (x : Additions) → first_fault (checks p x) ≡ None → first_fault (endpoints_part p x) ≡ None
+endpoints_of p x passes =
+    let behind = (none_split (top_checks p) (endpoints_part p x ++ (legs_part p ++ sources_part p)) (sym (checks-is p x) ∙ passes)).1 in
+    (none_split (endpoints_part p x) (legs_part p ++ sources_part p) behind).0
+
+-- if the checks of all pass, so do those of the one at this place
+passes_at : {X : Type 0} (f : ℕ × X → List Check) (xs : List X) (k : ℕ) (d : X) → k < length xs → checks_from f xs k ≡ None
+    → (first_fault (f (k, get_or xs k d)) ≡ None) × (checks_from f xs (k + 1) ≡ None)
+passes_at f xs k d below passes =
+    none_split (f (k, get_or xs k d)) (flat_map f (enumerate_from (k + 1) (drop (k + 1) xs)))
+    (sym (ap (λ ys. first_fault (flat_map f (enumerate_from k ys))) (drop_more xs k d below)) ∙ passes)
+
+passes_from : {X : Type 0} (f : ℕ × X → List Check) (xs : List X) (k : ℕ) (d : X) → k ≤ length xs → checks_from f xs 0 ≡ None
+    → checks_from f xs k ≡ None
+passes_from f xs zero d within passes = passes
+passes_from f xs (suc k) d within passes =
+    let P : ℕ → Type 0 = λ n. checks_from f xs n ≡ None in
+    subst P (add-one k) (passes_at f xs k d (omega arith) (passes_from f xs k d (omega arith) passes)).1
 
 -- ---- names
 
 -- what is said of an endpoint that passes is a canonical name
-name_passes : (p : Parts) (k : ℕ) (e : EndpointParts) → is_cname (name_of p.cname) ≡ true → first_fault (endpoint_checks (k, e)) ≡ None
-    → is_cname (said_name p e) ≡ true
-name_passes p k e unit passes =
-    let each = each_passes (endpoint_checks (k, e)) passes in
+name_passes : (p : Parts) (x : Additions) (k : ℕ) (e : Option ℤ) → is_cname (name_of p.cname) ≡ true → first_fault (endpoint_checks x (k, e)) ≡ None
+    → is_cname (said_name p x k) ≡ true
+name_passes p x k e unit passes =
+    let each = each_passes (endpoint_checks x (k, e)) passes in
     let any : Check = check true SameSsrc in
-    said e.cname (each 0 any (omega arith))
+    said (own_name x k) (each 0 any (omega arith))
   where
-    said : (own : Option (String Global)) → is_cname_or_none own ≡ true → is_cname (own_name_or (name_of p.cname) own) ≡ true
+    said : (own : Option (List ℕ)) → is_cname_or_none own ≡ true → is_cname (unwrap_or own (name_of p.cname)) ≡ true
     said None fits = unit
-    said (Some text) fits = fits
+    said (Some name) fits = fits
 
-names_pass : (p : Parts) (k : ℕ) (es : List EndpointParts) → is_cname (name_of p.cname) ≡ true
-    → first_fault (flat_map endpoint_checks (enumerate_from k es)) ≡ None → All (λ n. is_cname n ≡ true) (map (said_name p) es)
-names_pass p k [] unit passes = All-nil (λ n. is_cname n ≡ true)
-names_pass p k (e ∷ es) unit passes =
-    let parts = none_split (endpoint_checks (k, e)) (flat_map endpoint_checks (enumerate_from (k + 1) es)) passes in
-    All-cons (λ n. is_cname n ≡ true) (said_name p e) (map (said_name p) es)
-    (name_passes p k e unit parts.0) (names_pass p (k + 1) es unit parts.1)
+names_pass : (p : Parts) (x : Additions) (k : ℕ) (es : List (Option ℤ)) → is_cname (name_of p.cname) ≡ true
+    → first_fault (flat_map (endpoint_checks x) (enumerate_from k es)) ≡ None → All (λ n. is_cname n ≡ true) (said_names p x k es)
+names_pass p x k [] unit passes = All-nil (λ n. is_cname n ≡ true)
+names_pass p x k (e ∷ es) unit passes =
+    let parts = none_split (endpoint_checks x (k, e)) (flat_map (endpoint_checks x) (enumerate_from (k + 1) es)) passes in
+    All-cons (λ n. is_cname n ≡ true) (said_name p x k) (said_names p x (k + 1) es)
+    (name_passes p x k e unit parts.0) (names_pass p x (k + 1) es unit parts.1)
 
-names_short : (p : Parts) (k : ℕ) (es : List EndpointParts) → is_cname (name_of p.cname) ≡ true
-    → first_fault (flat_map endpoint_checks (enumerate_from k es)) ≡ None → All (λ e. length (said_name p e) ≤ CNAME_LIMIT) es
-names_short p k [] unit passes = All-nil (λ e. length (said_name p e) ≤ CNAME_LIMIT)
-names_short p k (e ∷ es) unit passes =
-    let parts = none_split (endpoint_checks (k, e)) (flat_map endpoint_checks (enumerate_from (k + 1) es)) passes in
-    All-cons (λ e. length (said_name p e) ≤ CNAME_LIMIT) e es
-    (name_bounds (said_name p e) (name_passes p k e unit parts.0)).1 (names_short p (k + 1) es unit parts.1)
+length-said_names : (p : Parts) (x : Additions) (k : ℕ) (es : List (Option ℤ)) → length (said_names p x k es) ≡ length es
+length-said_names p x k [] = refl
+length-said_names p x k (e ∷ es) = ap suc (length-said_names p x (k + 1) es)
+
+-- the names from the one of this number on
+pub names_more : (p : Parts) (x : Additions) (es : List (Option ℤ)) (k : ℕ) → k < length es
+    → said_names p x k (drop k es) ≡ said_name p x k ∷ said_names p x (k + 1) (drop (k + 1) es)
+names_more p x es k below = ap (said_names p x k) (drop_more es k None below)
 
 -- if every check passes, each name that is said is short enough to be said
-pub names_fit : (p : Parts) → first_fault (checks p) ≡ None → All (λ e. length (said_name p e) ≤ CNAME_LIMIT) p.endpoints.items
-names_fit p passes = names_short p 0 p.endpoints.items (top_passes p (top_of p passes)).cname (endpoints_of p passes)
+pub names_fit : (p : Parts) (x : Additions) → first_fault (checks p x) ≡ None
+    → (k : ℕ) → k < length p.endpoints.items → length (said_name p x k) ≤ CNAME_LIMIT
+names_fit p x passes k below =
+    let es = p.endpoints.items in
+    let from = passes_from (endpoint_checks x) es k None (omega arith) (endpoints_of p x passes) in
+    let here = (passes_at (endpoint_checks x) es k None below from).0 in
+    (name_bounds (said_name p x k) (name_passes p x k (get_or es k None) (top_passes p (top_of p x passes)).cname here)).1
 
 -- a number that is there is below its limit
 record IsThere (v : Option ℤ) (n : ℕ) : Type 0 where
@@ -325,20 +343,6 @@ legs_pass p k (l ∷ ls) passes =
     let parts = none_split (leg_checks p (k, l)) (flat_map (leg_checks p) (enumerate_from (k + 1) ls)) passes in
     All-cons (IsLegAmong (length p.endpoints.items)) (leg_of (length p.endpoints.items) l) (map (leg_of (length p.endpoints.items)) ls)
     (leg_passes p k l parts.0) (legs_pass p (k + 1) ls parts.1)
-
--- if the checks of all pass, so do those of the one at this place
-passes_at : {X : Type 0} (f : ℕ × X → List Check) (xs : List X) (k : ℕ) (d : X) → k < length xs → checks_from f xs k ≡ None
-    → (first_fault (f (k, get_or xs k d)) ≡ None) × (checks_from f xs (k + 1) ≡ None)
-passes_at f xs k d below passes =
-    none_split (f (k, get_or xs k d)) (flat_map f (enumerate_from (k + 1) (drop (k + 1) xs)))
-    (sym (ap (λ ys. first_fault (flat_map f (enumerate_from k ys))) (drop_more xs k d below)) ∙ passes)
-
-passes_from : {X : Type 0} (f : ℕ × X → List Check) (xs : List X) (k : ℕ) (d : X) → k ≤ length xs → checks_from f xs 0 ≡ None
-    → checks_from f xs k ≡ None
-passes_from f xs zero d within passes = passes
-passes_from f xs (suc k) d within passes =
-    let P : ℕ → Type 0 = λ n. checks_from f xs n ≡ None in
-    subst P (add-one k) (passes_at f xs k d (omega arith) (passes_from f xs k d (omega arith) passes)).1
 
 -- what the checks of a leg say: its ends are there, and no leg before it has them both
 record LegPasses (p : Parts) (k : ℕ) (l : LegParts) : Type 0 where
@@ -419,8 +423,8 @@ pairs_distinct (x ∷ xs) distinct =
     others x xs none k d below same =
         false_true (sym none ∙ list_any_at (λ y. y == x) xs k d below (eq-eqb (get_or xs k d) x (sym same)))
 
-sources_distinct : (p : Parts) → first_fault (checks p) ≡ None → are_distinct (sources p) ≡ true
-sources_distinct p passes = shown (are_distinct (sources p)) (sym (past_legs p (top_of p passes) (endpoints_of p passes) (legs_of p passes)) ∙ passes)
+sources_distinct : (p : Parts) (x : Additions) → first_fault (checks p x) ≡ None → are_distinct (sources p) ≡ true
+sources_distinct p x passes = shown (are_distinct (sources p)) (sym (past_legs p x (top_of p x passes) (endpoints_of p x passes) (legs_of p x passes)) ∙ passes)
   where
     shown : (b : Bool) → first_fault (check b SameSsrc ∷ []) ≡ None → b ≡ true
     shown true none = refl
@@ -429,13 +433,13 @@ sources_distinct p passes = shown (are_distinct (sources p)) (sym (past_legs p (
 sources_differ : (p : Parts) → are_distinct (sources p) ≡ true
     → AllPairs (λ a b. a ≢ b)
     (number_or_zero p.unit_ssrc SSRCS
-    ∷ (map (λ e. e.0) (map endpoint_ssrc p.endpoints.items) ++ map (λ l. l.out_ssrc.0) (map (leg_of (length p.endpoints.items)) p.legs.items)))
+    ∷ (map (λ e. e.0) (map ssrc_of p.endpoints.items) ++ map (λ l. l.out_ssrc.0) (map (leg_of (length p.endpoints.items)) p.legs.items)))
 unfolding sources
 sources_differ p distinct =
-    rw (map-map (λ (e : Ssrc). e.0) endpoint_ssrc p.endpoints.items, map-map (λ (l : LegSettings). l.out_ssrc.0) (leg_of (length p.endpoints.items)) p.legs.items)
+    rw (map-map (λ (e : Ssrc). e.0) ssrc_of p.endpoints.items, map-map (λ (l : LegSettings). l.out_ssrc.0) (leg_of (length p.endpoints.items)) p.legs.items)
     (pairs_distinct (sources p) distinct)
 
-pub in_range : (p : Parts) (n : Numbers) → AreNumbersOf p n → first_fault (checks p) ≡ None
+pub in_range : (p : Parts) (x : Additions) (n : Numbers) → AreNumbersOf p n → first_fault (checks p x) ≡ None
     → IsInRange (record {
       workers = n.workers;
       ring = n.ring;
@@ -446,13 +450,13 @@ pub in_range : (p : Parts) (n : Numbers) → AreNumbersOf p n → first_fault (c
       pli_gap_ms = n.pli_gap_ms;
       unit_ssrc = ssrc_of p.unit_ssrc;
       cname = name_of p.cname;
-      rules = rules_of p;
-      endpoints = map endpoint_ssrc p.endpoints.items;
-      cnames = map (said_name p) p.endpoints.items;
+      rules = x.rules;
+      endpoints = map ssrc_of p.endpoints.items;
+      cnames = said_names p x 0 p.endpoints.items;
       legs = map (leg_of (length p.endpoints.items)) p.legs.items;
     })
-in_range p n is whole =
-    let top = top_of p whole in
+in_range p x n is whole =
+    let top = top_of p x whole in
     let passes = top_passes p top in
     let endpoints = endpoint_bounds p top in
     let legs = leg_bound p top in
@@ -474,9 +478,9 @@ in_range p n is whole =
       least_endpoints = rw length-map endpoints.0;
       most_endpoints = rw length-map endpoints.1;
       most_legs = rw length-map legs;
-      cname_count = length-map p.endpoints.items (said_name p) ∙ sym (length-map p.endpoints.items endpoint_ssrc);
-      cnames = names_pass p 0 p.endpoints.items passes.cname (endpoints_of p whole);
-      legs = rw (length-map p.endpoints.items endpoint_ssrc) (legs_pass p 0 p.legs.items (legs_of p whole));
-      pairs = pairs_differ p (legs_of p whole);
-      sources = sources_differ p (sources_distinct p whole);
+      cname_count = length-said_names p x 0 p.endpoints.items ∙ sym (length-map p.endpoints.items ssrc_of);
+      cnames = names_pass p x 0 p.endpoints.items passes.cname (endpoints_of p x whole);
+      legs = rw (length-map p.endpoints.items ssrc_of) (legs_pass p 0 p.legs.items (legs_of p x whole));
+      pairs = pairs_differ p (legs_of p x whole);
+      sources = sources_differ p (sources_distinct p x whole);
     }

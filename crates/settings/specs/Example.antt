@@ -1,6 +1,5 @@
 -- The settings that tests and benchmarks begin with.
-use Rattle.std.specs.Prelude.{◌≡◌, ℤ, [], Option, None, Some, pos, codes}
-use Rattle.settings.specs.declared.parts.EndpointParts.{EndpointParts}
+use Rattle.std.specs.Prelude.{◌≡◌, [], None, Some, pos, codes}
 use Rattle.settings.specs.declared.parts.Parts.{Parts}
 use Rattle.settings.specs.Settings.{name_of}
 
@@ -15,11 +14,5 @@ pub record AreExamples (p : Parts) : Type 0 where
   pub gap : p.pli_gap_ms ≡ Some (pos 500)
   pub unit : p.unit_ssrc ≡ Some (pos 9)
   pub cname : name_of p.cname ≡ codes "sfu"
-  pub pictures : p.early_pictures ≡ None
-  pub goodbyes : p.leg_goodbyes ≡ None
   pub endpoints : p.endpoints.items ≡ []
   pub legs : p.legs.items ≡ []
-
--- an endpoint of which just the source was found
-abbrev pub unnamed : Option ℤ → EndpointParts
-unnamed ssrc = record { ssrc = ssrc; cname = None }

@@ -1,11 +1,11 @@
 -- What settings may hold: a list of checks in order, and what passes them all.
-use Rattle.std.specs.Prelude.{◌≡◌, ◌≢◌, ◌==◌, ℕ, ◌<◌, ◌≤◌, nat_lt, nat_le, Bool, true, false, not, ◌&&◌, List, [], ◌∷◌, ◌++◌, map, length, take, flat_map, All, AllPairs, Option, None, Some, is_some, unwrap_or, String, string_bytes, if◌then◌else◌, ℤ, pos, negsuc}
+use Rattle.std.specs.Prelude.{◌≡◌, ◌≢◌, ◌==◌, ℕ, ◌+◌, ◌<◌, ◌≤◌, nat_lt, nat_le, Bool, true, false, not, ◌&&◌, List, [], ◌∷◌, ◌++◌, map, length, take, flat_map, All, AllPairs, Option, None, Some, is_some, unwrap_or, option_map, option_and_then, slice_get, String, string_bytes, if◌then◌else◌, ℤ, pos, negsuc}
 use Rattle.std.specs.Global.{Global}
 use Rattle.std.specs.List.{list_all, list_any, enumerate_from}
 use Rattle.rtcp_compound.specs.declared.writer.TheConstants.{CNAME_LIMIT}
 use Rattle.tmmbr_tuple.specs.declared.ssrc.Ssrc.{Ssrc}
 use Rattle.settings.specs.declared.parts.Parts.{Parts}
-use Rattle.settings.specs.declared.parts.EndpointParts.{EndpointParts}
+use Rattle.settings.specs.declared.parts.Extras.{Extras}
 use Rattle.settings.specs.declared.parts.LegParts.{LegParts}
 use Rattle.settings.specs.declared.rules.LegRules.{LegRules}
 use Rattle.settings.specs.declared.settings.LegSettings.{LegSettings}
@@ -56,9 +56,34 @@ is_cname bytes = nat_le 1 (length bytes) && nat_le (length bytes) CNAME_LIMIT
     && list_all (λ b. nat_lt b 128) bytes
 
 -- an endpoint may have no name of its own
-abbrev pub is_cname_or_none : Option (String Global) → Bool
+abbrev pub is_cname_or_none : Option (List ℕ) → Bool
 is_cname_or_none None = true
-is_cname_or_none (Some text) = is_cname (string_bytes text)
+is_cname_or_none (Some name) = is_cname name
+
+-- what is asked of a room beyond its parts: how legs begin and end, and by their numbers the endpoints' own names
+pub record Additions : Type 0 where
+  pub rules : LegRules
+  pub names : List (Option (List ℕ))
+
+-- legs begin and end without a word, unless the extras say otherwise
+abbrev pub additions_of : Extras → Additions
+additions_of x = record {
+  rules = record {
+    early_pictures = unwrap_or x.early_pictures false;
+    leg_goodbyes = unwrap_or x.leg_goodbyes false;
+  };
+  names = map (option_map string_bytes) x.cnames.items;
+}
+
+abbrev pub no_additions : Additions
+no_additions = record {
+  rules = record { early_pictures = false; leg_goodbyes = false };
+  names = [];
+}
+
+-- the name of its own of the endpoint with this number
+abbrev pub own_name : Additions → ℕ → Option (List ℕ)
+own_name x k = option_and_then (λ name. name) (slice_get x.names k)
 
 -- the keys of the table, by their names
 unfoldable pub top_checks : Parts → List Check
@@ -78,10 +103,10 @@ top_checks p =
     ∷ []
 
 -- the keys of an endpoint, by their names
-abbrev pub endpoint_checks : ℕ × EndpointParts → List Check
-endpoint_checks (k, e) =
-    check (is_cname_or_none e.cname) (Endpoint k key.Cname)
-    ∷ check (is_some (number_below e.ssrc SSRCS)) (Endpoint k key.Ssrc)
+abbrev pub endpoint_checks : Additions → ℕ × Option ℤ → List Check
+endpoint_checks x (k, ssrc) =
+    check (is_cname_or_none (own_name x k)) (Endpoint k key.Cname)
+    ∷ check (is_some (number_below ssrc SSRCS)) (Endpoint k key.Ssrc)
     ∷ []
 
 -- an earlier leg has this subscriber and this publisher
@@ -116,7 +141,7 @@ number_or_zero value limit = unwrap_or (number_below value limit) 0
 unfoldable pub sources : Parts → List ℕ
 sources p =
     number_or_zero p.unit_ssrc SSRCS
-    ∷ (map (λ e. number_or_zero e.ssrc SSRCS) p.endpoints.items
+    ∷ (map (λ e. number_or_zero e SSRCS) p.endpoints.items
     ++ map (λ l. number_or_zero l.out_ssrc SSRCS) p.legs.items)
 
 abbrev pub are_distinct : List ℕ → Bool
@@ -124,10 +149,10 @@ are_distinct [] = true
 are_distinct (x ∷ xs) = not (list_any (λ y. y == x) xs) && are_distinct xs
 
 -- every check, in order
-unfoldable pub checks : Parts → List Check
-checks p =
+unfoldable pub checks : Parts → Additions → List Check
+checks p x =
     top_checks p
-    ++ flat_map endpoint_checks (enumerate_from 0 p.endpoints.items)
+    ++ flat_map (endpoint_checks x) (enumerate_from 0 p.endpoints.items)
     ++ flat_map (leg_checks p) (enumerate_from 0 p.legs.items)
     ++ check (are_distinct (sources p)) SameSsrc ∷ []
 
@@ -155,17 +180,15 @@ pub record Configuration : Type 0 where
 abbrev pub ssrc_of : Option ℤ → Ssrc
 ssrc_of value = record { 0 = number_or_zero value SSRCS }
 
-abbrev pub endpoint_ssrc : EndpointParts → Ssrc
-endpoint_ssrc e = ssrc_of e.ssrc
-
-abbrev pub own_name_or : List ℕ → Option (String Global) → List ℕ
-own_name_or unit None = unit
-own_name_or unit (Some own) = string_bytes own
-
 -- The canonical name that is said of what an endpoint publishes: its own, or else the unit's. One name says one participant, whose
 -- clock is one (RFC 3550, section 6.5.1).
-abbrev pub said_name : Parts → EndpointParts → List ℕ
-said_name p e = own_name_or (name_of p.cname) e.cname
+abbrev pub said_name : Parts → Additions → ℕ → List ℕ
+said_name p x k = unwrap_or (own_name x k) (name_of p.cname)
+
+-- the names that are said of endpoints of which the first has this number
+abbrev pub said_names : Parts → Additions → ℕ → List (Option ℤ) → List (List ℕ)
+said_names p x k [] = []
+said_names p x k (e ∷ es) = said_name p x k ∷ said_names p x (k + 1) es
 
 abbrev pub leg_of : ℕ → LegParts → LegSettings
 leg_of endpoints l = record {
@@ -176,16 +199,9 @@ leg_of endpoints l = record {
   on = unwrap_or l.on true;
 }
 
--- legs begin and end without a word, unless the parts say otherwise
-abbrev pub rules_of : Parts → LegRules
-rules_of p = record {
-  early_pictures = unwrap_or p.early_pictures false;
-  leg_goodbyes = unwrap_or p.leg_goodbyes false;
-}
-
--- the settings that these parts spell, if they pass every check
-abbrev pub configuration_of : Parts → Configuration
-configuration_of p = record {
+-- the settings that these parts spell, with what is asked beyond them, if they pass every check
+abbrev pub configuration_of : Parts → Additions → Configuration
+configuration_of p x = record {
   workers = unwrap_or (number_within p.workers 1 MAX_WORKERS) 0;
   ring = unwrap_or (number_within p.ring 1 MAX_RING) 0;
   history = unwrap_or (number_within p.history LEAST_HISTORY MAX_HISTORY) 0;
@@ -195,9 +211,9 @@ configuration_of p = record {
   pli_gap_ms = unwrap_or (number_within p.pli_gap_ms 0 MAX_PERIOD_MS) 0;
   unit_ssrc = ssrc_of p.unit_ssrc;
   cname = name_of p.cname;
-  rules = rules_of p;
-  endpoints = map endpoint_ssrc p.endpoints.items;
-  cnames = map (said_name p) p.endpoints.items;
+  rules = x.rules;
+  endpoints = map ssrc_of p.endpoints.items;
+  cnames = said_names p x 0 p.endpoints.items;
   legs = map (leg_of (length p.endpoints.items)) p.legs.items;
 }
 

@@ -1,15 +1,15 @@
 //! The checks of settings, in their order, and the plain numbers that pass them.
 
-ghost use Rattle.std.specs.Prelude.{◌≡◌, ◌+◌, ◌<◌, ◌≤◌, ◌^◌, length, drop, flat_map, MatchResult, IfSome, Some, None, nat_lt, true, false, not, ◌==◌, slice_index, slice_index_or};
+ghost use Rattle.std.specs.Prelude.{◌≡◌, ◌+◌, ◌<◌, ◌≤◌, ◌^◌, length, drop, flat_map, MatchResult, IfSome, Some, None, nat_lt, true, false, not, ◌==◌, slice_index, slice_index_or, option_map};
 ghost use Rattle.std.specs.List.{list_all, list_any, enumerate_from};
-ghost use Rattle.settings.specs.Settings.{number_within, number_below, or_zero, is_same, name_of, is_cname, is_cname_or_none, top_checks, endpoint_checks, leg_checks, has_pair, sources, number_or_zero, are_distinct, first_fault, AreNumbersOf, checks};
+ghost use Rattle.settings.specs.Settings.{number_within, number_below, or_zero, is_same, name_of, is_cname, is_cname_or_none, own_name, additions_of, top_checks, endpoint_checks, leg_checks, has_pair, sources, number_or_zero, are_distinct, first_fault, AreNumbersOf, checks};
 
 use crate::fault::{Key, SettingsFault};
 use crate::limits::{
     LEAST_HISTORY, MAX_ENDPOINTS, MAX_HISTORY, MAX_LEGS, MAX_PERIOD_MS, MAX_RING, MAX_WORKERS,
     SSRCS,
 };
-use crate::parts::{EndpointParts, LegParts, Parts};
+use crate::parts::{Extras, LegParts, Parts};
 use rewrite::SEQ_CYCLE;
 use rtcp_compound::CNAME_LIMIT;
 
@@ -95,12 +95,22 @@ fn is_name(cname: &Option<String>) -> bool
     }
 }
 
-/// Whether this is a canonical name, or there is none.
-fn is_name_or_none(cname: &Option<String>) -> bool
-    ensures { result ≡ is_cname_or_none cname.now }
+/// The name of its own of the endpoint with this number.
+pub fn own_name(extras: &Extras, k: usize) -> Option<&str>
+    ensures { option_map (λ name. name.now) result ≡ own_name (additions_of extras.now) k }
 {
-    match cname {
-        Some(text) => is_cname(text.as_bytes()),
+    match extras.cnames.get(k) {
+        Some(Some(name)) => Some(name.as_str()),
+        _ => None,
+    }
+}
+
+/// Whether the endpoint with this number has a canonical name, or none of its own.
+fn has_name_or_none(extras: &Extras, k: usize) -> bool
+    ensures { result ≡ is_cname_or_none (own_name (additions_of extras.now) k) }
+{
+    match own_name(extras, k) {
+        Some(name) => is_cname(name.as_bytes()),
         None => true,
     }
 }
@@ -169,27 +179,27 @@ fn is_taken(
 }
 
 /// The first fault of the endpoint with this number.
-fn check_endpoint(k: usize, endpoint: &EndpointParts) -> Result<(), SettingsFault>
+fn check_endpoint(extras: &Extras, k: usize, ssrc: Option<i64>) -> Result<(), SettingsFault>
     ensures { MatchResult result
-        (λ _. first_fault (endpoint_checks (k, endpoint.now)) ≡ None)
-        (λ f. first_fault (endpoint_checks (k, endpoint.now)) ≡ Some f) }
+        (λ _. first_fault (endpoint_checks (additions_of extras.now) (k, ssrc)) ≡ None)
+        (λ f. first_fault (endpoint_checks (additions_of extras.now) (k, ssrc)) ≡ Some f) }
 {
-    let is_named = is_name_or_none(&endpoint.cname);
+    let is_named = has_name_or_none(extras, k);
     require(is_named, SettingsFault::Endpoint(k, Key::Cname))?;
-    let ssrc = number_under(endpoint.ssrc, SSRCS);
+    let ssrc = number_under(ssrc, SSRCS);
     require(ssrc.is_some(), SettingsFault::Endpoint(k, Key::Ssrc))
 }
 
 /// The first fault of the endpoints.
-fn check_endpoints(parts: &Parts) -> Result<(), SettingsFault>
+fn check_endpoints(parts: &Parts, extras: &Extras) -> Result<(), SettingsFault>
     ensures { MatchResult result
-        (λ _. first_fault
-        (flat_map endpoint_checks (enumerate_from 0 parts.now.endpoints.items)) ≡ None)
-        (λ f. first_fault
-        (flat_map endpoint_checks (enumerate_from 0 parts.now.endpoints.items)) ≡ Some f) }
+        (λ _. first_fault (flat_map (endpoint_checks (additions_of extras.now))
+        (enumerate_from 0 parts.now.endpoints.items)) ≡ None)
+        (λ f. first_fault (flat_map (endpoint_checks (additions_of extras.now))
+        (enumerate_from 0 parts.now.endpoints.items)) ≡ Some f) }
 {
-    for (k, endpoint) in parts.endpoints.iter().enumerate() {
-        check_endpoint(k, endpoint)?;
+    for k in 0..parts.endpoints.len() {
+        check_endpoint(extras, k, parts.endpoints[k])?;
     }
     Ok(())
 }
@@ -252,7 +262,7 @@ fn source_at(parts: &Parts, place: usize) -> u64
     let place = place - 1;
     let endpoints = parts.endpoints.len();
     if place < endpoints {
-        return number_or_none(parts.endpoints[place].ssrc, SSRCS);
+        return number_or_none(parts.endpoints[place], SSRCS);
     }
     number_or_none(parts.legs[place - endpoints].out_ssrc, SSRCS)
 }
@@ -288,13 +298,14 @@ fn are_all_distinct(parts: &Parts) -> bool
 }
 
 /// The plain numbers, if every check passes; else the first fault.
-pub fn checked(parts: &Parts) -> Result<Numbers, SettingsFault>
+pub fn checked(parts: &Parts, extras: &Extras) -> Result<Numbers, SettingsFault>
     ensures { MatchResult result
-        (λ n. (first_fault (checks parts.now) ≡ None) × AreNumbersOf parts.now n)
-        (λ f. first_fault (checks parts.now) ≡ Some f) }
+        (λ n. (first_fault (checks parts.now (additions_of extras.now)) ≡ None)
+        × AreNumbersOf parts.now n)
+        (λ f. first_fault (checks parts.now (additions_of extras.now)) ≡ Some f) }
 {
     let numbers = Numbers::read(parts)?;
-    check_endpoints(parts)?;
+    check_endpoints(parts, extras)?;
     check_legs(parts)?;
     if !are_all_distinct(parts) {
         return Err(SettingsFault::SameSsrc);

@@ -17,6 +17,6 @@ pub use cname::Cname;
 pub use fault::{Key, RoomFault, SettingsFault};
 pub use limits::{MAX_ENDPOINTS, MAX_LEGS};
 pub use links::Links;
-pub use parts::{EndpointParts, LegParts, Parts};
+pub use parts::{Extras, LegParts, Parts};
 pub use rules::LegRules;
 pub use settings::{LegSettings, Settings};

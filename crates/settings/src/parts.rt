@@ -1,4 +1,4 @@
-//! The parts of a room's settings, as they were found.
+//! The parts of a room's settings, as they were found, and what may be asked of a room beyond them.
 
 use std::alloc::{AllocError, Global};
 
@@ -24,12 +24,8 @@ pub struct Parts {
     /// The unit's canonical name (RFC 3550, section 6.5.1), 1 to 255 bytes of ASCII. It is also said of what an endpoint without a
     /// name of its own publishes.
     pub cname: Option<String>,
-    /// Whether a leg that begins asks for a picture at once; false if absent.
-    pub early_pictures: Option<bool>,
-    /// Whether a leg's subscriber is told when its publisher is gone; false if absent.
-    pub leg_goodbyes: Option<bool>,
-    /// The endpoints.
-    pub endpoints: Vec<EndpointParts>,
+    /// The source of each endpoint, 32 bits.
+    pub endpoints: Vec<Option<i64>>,
     /// The legs.
     pub legs: Vec<LegParts>,
 }
@@ -53,40 +49,37 @@ impl Parts {
             pli_gap_ms: Some(500),
             unit_ssrc: Some(9),
             cname: Some(String::from_str(alloc, "sfu")?),
-            early_pictures: None,
-            leg_goodbyes: None,
             endpoints: Vec::new(alloc),
             legs: Vec::new(alloc),
         })
     }
 }
 
-/// What was found of an endpoint's settings.
+/// What may be asked of a room beyond its `Parts`. Nothing of it has to be there.
 #[derive(Drop)]
-pub struct EndpointParts {
-    /// Its source, 32 bits.
-    pub ssrc: Option<i64>,
-    /// The canonical name of whoever publishes it (RFC 3550, section 6.5.1), 1 to 255 bytes of ASCII; the unit's, if absent.
-    /// Endpoints of one participant have one name: their clock is one.
-    pub cname: Option<String>,
+pub struct Extras {
+    /// Whether a leg that begins asks for a picture at once; false if absent.
+    pub early_pictures: Option<bool>,
+    /// Whether a leg's subscriber is told when its publisher is gone; false if absent.
+    pub leg_goodbyes: Option<bool>,
+    /// By the number of an endpoint the canonical name of whoever publishes it (RFC 3550, section 6.5.1), 1 to 255 bytes of ASCII; the
+    /// unit's, if absent, as for each endpoint after the last one here. Endpoints of one participant have one name: their clock is one.
+    pub cnames: Vec<Option<String>>,
 }
 
-impl EndpointParts {
-    ghost use Rattle.std.specs.Prelude.{◌≡◌, IfOk, map};
-    ghost use Rattle.settings.specs.Example.{unnamed};
+impl Extras {
+    ghost use Rattle.std.specs.Prelude.{◌≡◌};
+    ghost use Rattle.settings.specs.Settings.{additions_of, no_additions};
 
-    /// Endpoints of which just these sources were found.
-    pub fn unnamed(alloc: Global, sources: &[Option<i64>]) -> Result<Vec<EndpointParts>, AllocError>
-        ensures { IfOk result (λ endpoints. endpoints.items ≡ map unnamed sources.now) }
+    /// Nothing is asked for.
+    pub fn none(alloc: Global) -> Extras
+        ensures { additions_of result ≡ no_additions }
     {
-        let mut endpoints = Vec::with_capacity(alloc, sources.len())?;
-        for ssrc in sources {
-            endpoints.push(EndpointParts {
-                ssrc: *ssrc,
-                cname: None,
-            })?;
+        Extras {
+            early_pictures: None,
+            leg_goodbyes: None,
+            cnames: Vec::new(alloc),
         }
-        Ok(endpoints)
     }
 }
 

@@ -1,13 +1,13 @@
 //! The settings of a room, each number in its range.
 
-ghost use Rattle.std.specs.Prelude.{◌≡◌, ◌≤◌, length, map, All, IfOk, OnErr, None, Err, string_bytes};
-ghost use Rattle.settings.specs.Settings.{name_of, first_fault, rules_of, ssrc_of, endpoint_ssrc, said_name, leg_of, configuration_of, AreNumbersOf, checks};
+ghost use Rattle.std.specs.Prelude.{◌≡◌, ◌≤◌, ◌<◌, ℕ, length, map, IfOk, OnErr, None, Err, string_bytes};
+ghost use Rattle.settings.specs.Settings.{name_of, first_fault, additions_of, ssrc_of, said_name, said_names, leg_of, configuration_of, AreNumbersOf, checks};
 
-use crate::checks::{Numbers, checked, number_or_none};
+use crate::checks::{Numbers, checked, number_or_none, own_name};
 use crate::cname::Cname;
 use crate::fault::SettingsFault;
 use crate::limits::{MAX_ENDPOINTS, SSRCS};
-use crate::parts::{EndpointParts, LegParts, Parts};
+use crate::parts::{Extras, LegParts, Parts};
 use crate::rules::LegRules;
 use rewrite::SEQ_CYCLE;
 use rtcp_compound::CNAME_LIMIT;
@@ -103,13 +103,13 @@ fn leg_settings(leg: &LegParts, endpoints: u64) -> LegSettings
     }
 }
 
-/// What the parts say of legs that begin and end.
-fn rules_in(parts: &Parts) -> LegRules
-    ensures { result ≡ rules_of parts.now }
+/// What the extras say of legs that begin and end.
+fn rules_in(extras: &Extras) -> LegRules
+    ensures { result ≡ (additions_of extras.now).rules }
 {
     LegRules {
-        early_pictures: parts.early_pictures.unwrap_or(false),
-        leg_goodbyes: parts.leg_goodbyes.unwrap_or(false),
+        early_pictures: extras.early_pictures.unwrap_or(false),
+        leg_goodbyes: extras.leg_goodbyes.unwrap_or(false),
     }
 }
 
@@ -125,21 +125,18 @@ fn copied_name(alloc: Global, cname: &Option<String>) -> Result<String, AllocErr
 
 /// The sources of the endpoints.
 fn copied_endpoints(alloc: Global, parts: &Parts) -> Result<Vec<Ssrc>, AllocError>
-    ensures { IfOk result (λ v. v.items ≡ map endpoint_ssrc parts.now.endpoints.items) }
+    ensures { IfOk result (λ v. v.items ≡ map ssrc_of parts.now.endpoints.items) }
 {
     let endpoints = &parts.endpoints;
-    endpoints
-        .iter()
-        .map(|endpoint| source_of(endpoint.ssrc))
-        .collect(alloc)
+    endpoints.iter().map(|ssrc| source_of(*ssrc)).collect(alloc)
 }
 
-/// The name that is said of what an endpoint publishes.
-fn said_name<'a>(parts: &'a Parts, endpoint: &'a EndpointParts) -> &'a str
-    ensures { result.now ≡ said_name parts.now endpoint.now }
+/// The name that is said of what the endpoint with this number publishes.
+fn said_name<'a>(parts: &'a Parts, extras: &'a Extras, k: usize) -> &'a str
+    ensures { result.now ≡ said_name parts.now (additions_of extras.now) k }
 {
-    match &endpoint.cname {
-        Some(own) => own.as_str(),
+    match own_name(extras, k) {
+        Some(own) => own,
         None => match &parts.cname {
             Some(unit) => unit.as_str(),
             None => "",
@@ -148,13 +145,16 @@ fn said_name<'a>(parts: &'a Parts, endpoint: &'a EndpointParts) -> &'a str
 }
 
 /// The names that are said of what the endpoints publish.
-fn copied_cnames(alloc: Global, parts: &Parts) -> Result<Vec<Cname>, AllocError>
-    requires { All (λ e. length (said_name parts.now e) ≤ CNAME_LIMIT) parts.now.endpoints.items }
-    ensures { IfOk result (λ v. v.items ≡ map (said_name parts.now) parts.now.endpoints.items) }
+fn copied_cnames(alloc: Global, parts: &Parts, extras: &Extras) -> Result<Vec<Cname>, AllocError>
+    requires { (k : ℕ) → k < length parts.now.endpoints.items
+        → length (said_name parts.now (additions_of extras.now) k) ≤ CNAME_LIMIT }
+    ensures { IfOk result (λ v. v.items
+        ≡ said_names parts.now (additions_of extras.now) 0 parts.now.endpoints.items) }
 {
-    let mut cnames = Vec::with_capacity(alloc, parts.endpoints.len())?;
-    for endpoint in &parts.endpoints {
-        cnames.push(Cname::new(alloc, said_name(parts, endpoint))?)?;
+    let count = parts.endpoints.len();
+    let mut cnames = Vec::with_capacity(alloc, count)?;
+    for k in 0..count {
+        cnames.push(Cname::new(alloc, said_name(parts, extras, k))?)?;
     }
     Ok(cnames)
 }
@@ -175,20 +175,25 @@ fn copied_legs(alloc: Global, parts: &Parts) -> Result<Vec<LegSettings>, AllocEr
 }
 
 /// The settings of parts that passed every check.
-fn copied(alloc: Global, parts: &Parts, numbers: Numbers) -> Result<Settings, AllocError>
+fn copied(
+    alloc: Global,
+    parts: &Parts,
+    extras: &Extras,
+    numbers: Numbers,
+) -> Result<Settings, AllocError>
     requires numbers { AreNumbersOf parts.now numbers }
-    requires passes { first_fault (checks parts.now) ≡ None }
-    ensures { IfOk result (λ s. s ≡ configuration_of parts.now) }
+    requires passes { first_fault (checks parts.now (additions_of extras.now)) ≡ None }
+    ensures { IfOk result (λ s. s ≡ configuration_of parts.now (additions_of extras.now)) }
 {
     let cname = copied_name(alloc, &parts.cname)?;
     let endpoints = copied_endpoints(alloc, parts)?;
-    let cnames = copied_cnames(alloc, parts)?;
+    let cnames = copied_cnames(alloc, parts, extras)?;
     let legs = copied_legs(alloc, parts)?;
     Ok(Settings {
         numbers,
         unit_ssrc: source_of(parts.unit_ssrc),
         cname,
-        rules: rules_in(parts),
+        rules: rules_in(extras),
         endpoints,
         cnames,
         legs,
@@ -197,19 +202,37 @@ fn copied(alloc: Global, parts: &Parts, numbers: Numbers) -> Result<Settings, Al
 
 impl Settings {
     ghost use Rattle.std.specs.Prelude.{IfSome, OnErr};
-    ghost use Rattle.settings.specs.Settings.{checks, configuration_of, IsInRange};
+    ghost use Rattle.settings.specs.Settings.{checks, configuration_of, no_additions, additions_of, IsInRange};
 
-    /// The settings that these parts spell. Refused with the first fault by the order of the checks, and
-    /// as `NoMemory` only if every check passes.
+    /// The settings that these parts spell, with nothing asked beyond them. Refused with the first fault by the order of
+    /// the checks, and as `NoMemory` only if every check passes.
     pub fn new(alloc: Global, parts: &Parts) -> Result<Settings, SettingsFault>
-        ensures ok { IfOk result
-            (λ s. (first_fault (checks parts.now) ≡ None) × (s ≡ configuration_of parts.now)) }
-        ensures fault { IfSome (first_fault (checks parts.now)) (λ f. result ≡ Err f) }
-        ensures no_memory { first_fault (checks parts.now) ≡ None
+        ensures ok { IfOk result (λ s. (first_fault (checks parts.now no_additions) ≡ None)
+            × (s ≡ configuration_of parts.now no_additions)) }
+        ensures fault { IfSome (first_fault (checks parts.now no_additions)) (λ f. result ≡ Err f) }
+        ensures no_memory { first_fault (checks parts.now no_additions) ≡ None
             → OnErr result (result ≡ Err SettingsFault.NoMemory) }
     {
-        match checked(parts) {
-            Ok(numbers) => match copied(alloc, parts, numbers) {
+        Settings::new_with(alloc, parts, &Extras::none(alloc))
+    }
+
+    /// The settings that these parts and extras spell. Refused with the first fault by the order of the checks, an endpoint's
+    /// name before its source, and as `NoMemory` only if every check passes.
+    pub fn new_with(
+        alloc: Global,
+        parts: &Parts,
+        extras: &Extras,
+    ) -> Result<Settings, SettingsFault>
+        ensures ok { IfOk result
+            (λ s. (first_fault (checks parts.now (additions_of extras.now)) ≡ None)
+            × (s ≡ configuration_of parts.now (additions_of extras.now))) }
+        ensures fault { IfSome (first_fault (checks parts.now (additions_of extras.now)))
+            (λ f. result ≡ Err f) }
+        ensures no_memory { first_fault (checks parts.now (additions_of extras.now)) ≡ None
+            → OnErr result (result ≡ Err SettingsFault.NoMemory) }
+    {
+        match checked(parts, extras) {
+            Ok(numbers) => match copied(alloc, parts, extras, numbers) {
                 Ok(settings) => Ok(settings),
                 Err(_) => Err(SettingsFault::NoMemory),
             },

@@ -6,12 +6,13 @@ use Rattle.toml.specs.View.{items_of, items_view, view}
 use Rattle.toml.specs.declared.value.Value.{Value}
 use Rattle.settings.specs.declared.fault.SettingsFault.{SettingsFault}
 use Rattle.settings.specs.declared.fault.SettingsFault.TheVariants as fault
+use Rattle.settings.specs.declared.parts.Extras.{Extras}
 use Rattle.settings.specs.declared.parts.Parts.{Parts}
-use Rattle.settings.specs.Settings.{Configuration, checks, first_fault}
+use Rattle.settings.specs.Settings.{Configuration, additions_of, checks, first_fault}
 use Rattle.settings_toml.specs.declared.settings_file.SettingsProblem.{SettingsProblem}
 use Rattle.settings_toml.specs.declared.settings_file.SettingsProblem.TheVariants.{NoMemory, File, Toml, Top, Endpoint, Leg, SameSsrc}
 use Rattle.settings_toml.specs.SettingsFaults.{Spot, TableGives, checks_spot, earlier, fault_spot, has_all, misfit_of, problem_spot}
-use Rattle.settings_toml.specs.SettingsFile.{ArePartsOf, items_in, list_of}
+use Rattle.settings_toml.specs.SettingsFile.{AreExtrasOf, ArePartsOf, items_in, list_of}
 
 list_of-items : (ds : List Data) → list_of (items_of ds) ≡ ds
 list_of-items [] = refl
@@ -60,28 +61,28 @@ map-view f (v ∷ vs) = ap (λ t. f (view v) ∷ t) (map-view f vs)
 -- ---- the first fault
 
 -- a problem that is want of memory, or stands at the table's first fault
-stands_first : (t : Members) (ps : Parts) (s : Spot) (p : SettingsProblem) → ArePartsOf t ps
-    → earlier (misfit_of t) (checks_spot (first_fault (checks ps))) ≡ Some s → (p ≡ NoMemory) ⊎ (problem_spot p ≡ Some s) → TableGives t (Err p)
-stands_first t ps s NoMemory found first h = tt
-stands_first t ps s File found first (inl e) = absurd cc
-stands_first t ps s File found first (inr e) = absurd cc
-stands_first t ps s Toml found first (inl e) = absurd cc
-stands_first t ps s Toml found first (inr e) = absurd cc
-stands_first t ps s (Top key) found first (inl e) = absurd cc
-stands_first t ps s (Top key) found first (inr e) = record { parts = ps; found = found; first = e ∙ sym first }
-stands_first t ps s (Endpoint number key) found first (inl e) = absurd cc
-stands_first t ps s (Endpoint number key) found first (inr e) = record { parts = ps; found = found; first = e ∙ sym first }
-stands_first t ps s (Leg number key) found first (inl e) = absurd cc
-stands_first t ps s (Leg number key) found first (inr e) = record { parts = ps; found = found; first = e ∙ sym first }
-stands_first t ps s SameSsrc found first (inl e) = absurd cc
-stands_first t ps s SameSsrc found first (inr e) = record { parts = ps; found = found; first = e ∙ sym first }
+stands_first : (t : Members) (ps : Parts) (xs : Extras) (s : Spot) (p : SettingsProblem) → ArePartsOf t ps → AreExtrasOf t xs
+    → earlier (misfit_of t) (checks_spot (first_fault (checks ps (additions_of xs)))) ≡ Some s → (p ≡ NoMemory) ⊎ (problem_spot p ≡ Some s) → TableGives t (Err p)
+stands_first t ps xs s NoMemory found added first h = tt
+stands_first t ps xs s File found added first (inl e) = absurd cc
+stands_first t ps xs s File found added first (inr e) = absurd cc
+stands_first t ps xs s Toml found added first (inl e) = absurd cc
+stands_first t ps xs s Toml found added first (inr e) = absurd cc
+stands_first t ps xs s (Top key) found added first (inl e) = absurd cc
+stands_first t ps xs s (Top key) found added first (inr e) = record { parts = ps; found = found; extras = xs; added = added; first = e ∙ sym first }
+stands_first t ps xs s (Endpoint number key) found added first (inl e) = absurd cc
+stands_first t ps xs s (Endpoint number key) found added first (inr e) = record { parts = ps; found = found; extras = xs; added = added; first = e ∙ sym first }
+stands_first t ps xs s (Leg number key) found added first (inl e) = absurd cc
+stands_first t ps xs s (Leg number key) found added first (inr e) = record { parts = ps; found = found; extras = xs; added = added; first = e ∙ sym first }
+stands_first t ps xs s SameSsrc found added first (inl e) = absurd cc
+stands_first t ps xs s SameSsrc found added first (inr e) = record { parts = ps; found = found; extras = xs; added = added; first = e ∙ sym first }
 
 -- the parts pass, and a key misfits
-pub key_stands_first : (t : Members) (ps : Parts) (s : Spot) (p : SettingsProblem) → ArePartsOf t ps → Some s ≡ misfit_of t
-    → first_fault (checks ps) ≡ None → (p ≡ NoMemory) ⊎ (problem_spot p ≡ Some s) → TableGives t (Err p)
-key_stands_first t ps s p found misfit none h =
-    let first = ap (λ m. earlier m (checks_spot (first_fault (checks ps)))) (sym misfit) ∙ ap (λ f. earlier (Some s) (checks_spot f)) none in
-    stands_first t ps s p found first h
+pub key_stands_first : (t : Members) (ps : Parts) (xs : Extras) (s : Spot) (p : SettingsProblem) → ArePartsOf t ps → AreExtrasOf t xs → Some s ≡ misfit_of t
+    → first_fault (checks ps (additions_of xs)) ≡ None → (p ≡ NoMemory) ⊎ (problem_spot p ≡ Some s) → TableGives t (Err p)
+key_stands_first t ps xs s p found added misfit none h =
+    let first = ap (λ m. earlier m (checks_spot (first_fault (checks ps (additions_of xs))))) (sym misfit) ∙ ap (λ f. earlier (Some s) (checks_spot f)) none in
+    stands_first t ps xs s p found added first h
 
 abbrev err_spot : Result Configuration SettingsFault → Option Spot
 err_spot (Ok c) = None
@@ -96,10 +97,10 @@ same_fault None e is none = sym (ap err_spot (none refl))
 same_fault (Some f) e is none = sym (ap err_spot is)
 
 -- the parts don't pass, and a key may misfit
-pub part_stands_first : (t : Members) (ps : Parts) (s : Spot) (p : SettingsProblem) (e : SettingsFault) (m f : Option Spot) → ArePartsOf t ps
-    → m ≡ misfit_of t → f ≡ fault_spot e → Some s ≡ earlier m f → IfSome (first_fault (checks ps)) (λ g. failed e ≡ failed g)
-    → (first_fault (checks ps) ≡ None → failed e ≡ failed fault.NoMemory) → (p ≡ NoMemory) ⊎ (problem_spot p ≡ Some s) → TableGives t (Err p)
-part_stands_first t ps s p e m f found misfit spot first is none h =
-    let same : checks_spot (first_fault (checks ps)) ≡ f = same_fault (first_fault (checks ps)) e is none ∙ sym spot in
-    let here = ap (λ n. earlier n (checks_spot (first_fault (checks ps)))) (sym misfit) ∙ ap (earlier m) same ∙ sym first in
-    stands_first t ps s p found here h
+pub part_stands_first : (t : Members) (ps : Parts) (xs : Extras) (s : Spot) (p : SettingsProblem) (e : SettingsFault) (m f : Option Spot) → ArePartsOf t ps → AreExtrasOf t xs
+    → m ≡ misfit_of t → f ≡ fault_spot e → Some s ≡ earlier m f → IfSome (first_fault (checks ps (additions_of xs))) (λ g. failed e ≡ failed g)
+    → (first_fault (checks ps (additions_of xs)) ≡ None → failed e ≡ failed fault.NoMemory) → (p ≡ NoMemory) ⊎ (problem_spot p ≡ Some s) → TableGives t (Err p)
+part_stands_first t ps xs s p e m f found added misfit spot first is none h =
+    let same : checks_spot (first_fault (checks ps (additions_of xs))) ≡ f = same_fault (first_fault (checks ps (additions_of xs))) e is none ∙ sym spot in
+    let here = ap (λ n. earlier n (checks_spot (first_fault (checks ps (additions_of xs))))) (sym misfit) ∙ ap (earlier m) same ∙ sym first in
+    stands_first t ps xs s p found added here h

@@ -8,16 +8,17 @@ use Rattle.toml.specs.Data.{Data, Members, array, as_bool, as_integer, as_str, a
 use Rattle.toml.specs.Parse.{parse_document}
 use Rattle.settings.specs.declared.fault.SettingsFault.{SettingsFault}
 use Rattle.settings.specs.declared.fault.SettingsFault.TheVariants as fault
+use Rattle.settings.specs.declared.parts.Extras.{Extras}
 use Rattle.settings.specs.declared.parts.Parts.{Parts}
 use Rattle.settings.specs.Fault.{key_name}
-use Rattle.settings.specs.Settings.{checks, first_fault, number_below}
+use Rattle.settings.specs.Settings.{additions_of, checks, first_fault, number_below}
 use Rattle.settings_toml.specs.declared.bound_keys.TheConstants.{FLOODS, GAPS_MS, SHARES}
 use Rattle.settings_toml.specs.declared.settings_file.FileSettings.{FileSettings}
 use Rattle.settings_toml.specs.declared.settings_file.SettingsProblem.{SettingsProblem}
 use Rattle.settings_toml.specs.declared.settings_file.SettingsProblem.TheVariants.{NoMemory, File, Toml, Top, Endpoint, Leg, SameSsrc}
 use Rattle.settings_toml.specs.declared.settings_keys.Place.{Place}
 use Rattle.settings_toml.specs.declared.settings_keys.Place.TheVariants as place
-use Rattle.settings_toml.specs.SettingsFile.{ArePartsOf, HoldsSettings, items_in, list_of, repeat_of}
+use Rattle.settings_toml.specs.SettingsFile.{AreExtrasOf, ArePartsOf, HoldsSettings, items_in, list_of, repeat_of}
 
 -- where a fault stands: a key of the settings, of an endpoint or of a leg; or the sources together
 pub data Spot : Type 0 where
@@ -188,8 +189,10 @@ problem_spot SameSsrc = Some sources
 pub record IsFirstSettingsFault (t : Members) (problem : SettingsProblem) : Type 0 where
   pub parts : Parts
   pub found : ArePartsOf t parts
-  pub first : problem_spot problem
-      ≡ earlier (misfit_of t) (checks_spot (first_fault (checks parts)))
+  pub extras : Extras
+  pub added : AreExtrasOf t extras
+  pub first : problem_spot problem ≡ earlier (misfit_of t)
+      (checks_spot (first_fault (checks parts (additions_of extras))))
 
 -- What a table gives: its settings, if no key misfits; else its first fault; or memory is wanting.
 abbrev pub TableGives : Members → Result FileSettings SettingsProblem → Type 0

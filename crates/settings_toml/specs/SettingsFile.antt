@@ -2,10 +2,10 @@
 use Rattle.std.specs.Prelude.{◌≡◌, ◌==◌, ◌||◌, ℕ, ℤ, nat_le, Bool, false, List, [], ◌∷◌, map, Option, None, Some, option_map, option_and_then, unwrap_or, codes, string_bytes, String, if◌then◌else◌}
 use Rattle.std.specs.Global.{Global}
 use Rattle.toml.specs.Data.{Data, Items, Members, array, as_bool, as_integer, as_str, get, get_member, item, no_items}
-use Rattle.settings.specs.declared.parts.EndpointParts.{EndpointParts}
+use Rattle.settings.specs.declared.parts.Extras.{Extras}
 use Rattle.settings.specs.declared.parts.LegParts.{LegParts}
 use Rattle.settings.specs.declared.parts.Parts.{Parts}
-use Rattle.settings.specs.Settings.{checks, configuration_of, first_fault, number_below, number_or_zero}
+use Rattle.settings.specs.Settings.{additions_of, checks, configuration_of, first_fault, number_below, number_or_zero}
 use Rattle.settings_toml.specs.declared.bound_keys.BoundKeys.{BoundKeys}
 use Rattle.settings_toml.specs.declared.bound_keys.TheConstants.{FLOODS, GAPS_MS, LEAST_REPEAT_MS, REPEATS_MS, SHARES}
 use Rattle.settings_toml.specs.declared.settings_file.ClientText.{ClientText}
@@ -75,18 +75,11 @@ abbrev pub text_bytes : Option (String Global) → Option (List ℕ)
 text_bytes text = option_map string_bytes text
 
 -- what an endpoint's table says of the room's settings: its source, and the name of who publishes it
-pub record EndpointSays : Type 0 where
-  pub ssrc : Option ℤ
-  pub cname : Option (List ℕ)
+abbrev pub ssrc_in : Data → Option ℤ
+ssrc_in endpoint = integer_in (get (codes "ssrc") endpoint)
 
-abbrev pub endpoint_in : Data → EndpointSays
-endpoint_in endpoint = record {
-  ssrc = integer_in (get (codes "ssrc") endpoint);
-  cname = text_in (get (codes "cname") endpoint);
-}
-
-abbrev pub endpoint_says : EndpointParts → EndpointSays
-endpoint_says parts = record { ssrc = parts.ssrc; cname = text_bytes parts.cname }
+abbrev pub cname_in : Data → Option (List ℕ)
+cname_in endpoint = text_in (get (codes "cname") endpoint)
 
 abbrev pub client_says : ClientText → ClientSays
 client_says client = record {
@@ -127,18 +120,24 @@ pub record ArePartsOf (t : Members) (p : Parts) : Type 0 where
   pub pli_gap_ms : p.pli_gap_ms ≡ integer_in (get_member (codes "pli_gap_ms") t)
   pub unit_ssrc : p.unit_ssrc ≡ integer_in (get_member (codes "unit_ssrc") t)
   pub cname : text_bytes p.cname ≡ text_in (get_member (codes "cname") t)
-  pub early_pictures : p.early_pictures ≡ bool_in (get_member (codes "early_pictures") t)
-  pub leg_goodbyes : p.leg_goodbyes ≡ bool_in (get_member (codes "leg_goodbyes") t)
-  pub endpoints : map endpoint_says p.endpoints.items
-      ≡ map endpoint_in (items_in (get_member (codes "endpoint") t))
+  pub endpoints : p.endpoints.items ≡ map ssrc_in (items_in (get_member (codes "endpoint") t))
   pub legs : p.legs.items ≡ map leg_in (items_in (get_member (codes "leg") t))
 
--- The table's parts pass every check, and these are their settings; what is said of addresses is as the table spells it.
+-- So are the extras.
+pub record AreExtrasOf (t : Members) (x : Extras) : Type 0 where
+  pub early_pictures : x.early_pictures ≡ bool_in (get_member (codes "early_pictures") t)
+  pub leg_goodbyes : x.leg_goodbyes ≡ bool_in (get_member (codes "leg_goodbyes") t)
+  pub cnames : map text_bytes x.cnames.items
+      ≡ map cname_in (items_in (get_member (codes "endpoint") t))
+
+-- The table's parts and extras pass every check, and these are their settings; what is said of addresses is as the table spells it.
 pub record HoldsSettings (t : Members) (f : FileSettings) : Type 0 where
   pub parts : Parts
   pub found : ArePartsOf t parts
-  pub passes : first_fault (checks parts) ≡ None
-  pub settings : f.settings ≡ configuration_of parts
+  pub extras : Extras
+  pub added : AreExtrasOf t extras
+  pub passes : first_fault (checks parts (additions_of extras)) ≡ None
+  pub settings : f.settings ≡ configuration_of parts (additions_of extras)
   pub listen : text_bytes f.listen ≡ text_in (get_member (codes "listen") t)
   pub new_starts : f.new_starts ≡ bool_in (get_member (codes "new_starts") t)
   pub strict_ssrc : f.strict_ssrc ≡ bool_in (get_member (codes "strict_ssrc") t)

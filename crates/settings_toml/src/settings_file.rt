@@ -3,13 +3,13 @@
 ghost use Rattle.std.specs.Prelude.{◌≡◌, ◌⊎◌, IfOk, Some, codes, map, option_map, string_bytes};
 ghost use Rattle.toml.specs.Data.{get_member};
 ghost use Rattle.toml.specs.View.{table_view, view};
-ghost use Rattle.settings_toml.specs.SettingsFile.{ArePartsOf, bool_in, bounds_in, client_in, client_says, endpoint_in, endpoint_says, integer_in, items_in, leg_in, text_bytes, text_in, text_of, texts_in, texts_of};
+ghost use Rattle.settings_toml.specs.SettingsFile.{AreExtrasOf, ArePartsOf, bool_in, bounds_in, client_in, client_says, cname_in, integer_in, items_in, leg_in, ssrc_in, text_bytes, text_in, text_of, texts_in, texts_of};
 ghost use Rattle.settings_toml.specs.SettingsFaults.{TableGives, TextGives, earlier, fault_spot, problem_spot, spot_of};
 
 use crate::bound_keys::{BoundKeys, bounds_at};
 use crate::settings_keys::{Place, first_misfit, items_at, items_in};
 use crate::values::{bool_at, bool_in, integer_at, integer_in, text_in, value_at};
-use settings::{EndpointParts, LegParts, Parts, Settings, SettingsFault};
+use settings::{Extras, LegParts, Parts, Settings, SettingsFault};
 use std::alloc::{AllocError, Global};
 use toml::{Table, Value};
 
@@ -96,8 +96,9 @@ fn settings_of(alloc: Global, table: &Table) -> Result<FileSettings, SettingsPro
     ensures { TableGives (table_view table.now) result }
 {
     let parts = parts_of(alloc, table)?;
+    let extras = extras_of(alloc, table)?;
     let misfit = first_misfit(table);
-    match Settings::new(alloc, &parts) {
+    match Settings::new_with(alloc, &parts, &extras) {
         Ok(settings) => match misfit {
             Some(place) => Err(problem_at(alloc, place)),
             None => Ok(file_of(alloc, table, settings)?),
@@ -196,33 +197,43 @@ fn parts_of(alloc: Global, table: &Table) -> Result<Parts, AllocError>
         pli_gap_ms: integer_at(table, "pli_gap_ms"),
         unit_ssrc: integer_at(table, "unit_ssrc"),
         cname: text_in(alloc, value_at(table, "cname"))?,
-        early_pictures: bool_at(table, "early_pictures"),
-        leg_goodbyes: bool_at(table, "leg_goodbyes"),
-        endpoints: endpoints_of(alloc, items_at(table, "endpoint"))?,
+        endpoints: sources_of(alloc, items_at(table, "endpoint"))?,
         legs: legs_of(alloc, items_at(table, "leg"))?,
     })
 }
 
-/// The parts of each endpoint.
-fn endpoints_of(alloc: Global, endpoints: &[Value]) -> Result<Vec<EndpointParts>, AllocError>
-    ensures { IfOk result
-        (λ v. map endpoint_says v.items ≡ map (λ x. endpoint_in (view x)) endpoints.now) }
+/// What it asks of the room beyond these.
+fn extras_of(alloc: Global, table: &Table) -> Result<Extras, AllocError>
+    ensures { IfOk result (AreExtrasOf (table_view table.now)) }
 {
-    let mut parts = Vec::new(alloc);
-    for endpoint in endpoints {
-        parts.push(endpoint_in(alloc, endpoint)?)?;
-    }
-    Ok(parts)
+    Ok(Extras {
+        early_pictures: bool_at(table, "early_pictures"),
+        leg_goodbyes: bool_at(table, "leg_goodbyes"),
+        cnames: cnames_of(alloc, items_at(table, "endpoint"))?,
+    })
 }
 
-/// What an endpoint's table says of the room's settings.
-fn endpoint_in(alloc: Global, endpoint: &Value) -> Result<EndpointParts, AllocError>
-    ensures { IfOk result (λ e. endpoint_says e ≡ endpoint_in (view endpoint.now)) }
+/// The source of each endpoint.
+fn sources_of(alloc: Global, endpoints: &[Value]) -> Result<Vec<Option<i64>>, AllocError>
+    ensures { IfOk result (λ v. v.items ≡ map (λ x. ssrc_in (view x)) endpoints.now) }
 {
-    Ok(EndpointParts {
-        ssrc: integer_in(endpoint.get("ssrc")),
-        cname: text_in(alloc, endpoint.get("cname"))?,
-    })
+    let mut sources = Vec::new(alloc);
+    for endpoint in endpoints {
+        sources.push(integer_in(endpoint.get("ssrc")))?;
+    }
+    Ok(sources)
+}
+
+/// The name of whoever publishes each endpoint.
+fn cnames_of(alloc: Global, endpoints: &[Value]) -> Result<Vec<Option<String>>, AllocError>
+    ensures { IfOk result
+        (λ v. map text_bytes v.items ≡ map (λ x. cname_in (view x)) endpoints.now) }
+{
+    let mut cnames = Vec::new(alloc);
+    for endpoint in endpoints {
+        cnames.push(text_in(alloc, endpoint.get("cname"))?)?;
+    }
+    Ok(cnames)
 }
 
 /// The parts of each leg.

@@ -2,7 +2,7 @@
 
 use events::{Job, SharedPacket};
 use members::Order;
-use settings::{EndpointParts, LegParts, Parts, Settings};
+use settings::{LegParts, Parts, Settings};
 use std::alloc::{AllocError, Global};
 use std::test::Fail;
 use workers::*;
@@ -30,7 +30,7 @@ fn room_of(
 ) -> Option<Settings> {
     let mut parts = Parts::example(alloc).ok()?;
     parts.workers = Some(workers);
-    parts.endpoints = EndpointParts::unnamed(alloc, endpoints).ok()?;
+    parts.endpoints = endpoints.to_vec(alloc).ok()?;
     parts.legs = legs.to_vec(alloc).ok()?;
     Settings::new(alloc, &parts).ok()
 }
@@ -183,7 +183,7 @@ pub(super) fn settings_with(
     parts.report_ms = Some(times.report);
     parts.request_ms = Some(times.request);
     parts.pli_gap_ms = Some(times.gap);
-    parts.endpoints = EndpointParts::unnamed(alloc, sources.as_slice())?;
+    parts.endpoints = sources;
     parts.legs = legs;
     Ok(Settings::new(alloc, &parts)?)
 }

@@ -1,7 +1,7 @@
 use Rattle.std.proofs.Common.{◌≡◌, ◌+◌, ◌-◌, ◌<◌, ◌≤◌, suc, length, arith, ◌∙◌, sym, ap, get_or}
+use Rattle.std.specs.Prelude.{ℤ, Option}
 use Rattle.settings.specs.Settings.{number_or_zero}
 use Rattle.settings.specs.declared.limits.TheConstants.{SSRCS}
-use Rattle.settings.specs.declared.parts.EndpointParts.{EndpointParts}
 use Rattle.settings.specs.declared.parts.LegParts.{LegParts}
 use Rattle.settings.proofs.SettingsLemmas.{source_unit, source_endpoint, source_leg}
 use Rattle.settings.proofs.checks.source_at.Goals as goal
@@ -15,7 +15,7 @@ returns-then-place-endpoints c =
     let below : c.args.place - 1 < length c.args.parts.now.endpoints.items = omega arith in
     rw place
     (c.number_or_none-then-place-endpoints.ensures.value
-    ∙ ap (λ (e : EndpointParts). number_or_zero e.ssrc SSRCS) c.index.ensures
+    ∙ ap (λ (e : Option ℤ). number_or_zero e SSRCS) c.index.ensures
     ∙ sym (source_endpoint c.args.parts.now (c.args.place - 1) c.index.result.now below))
 
 pub returns : goal.returns

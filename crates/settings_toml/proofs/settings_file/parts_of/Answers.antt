@@ -1,5 +1,5 @@
 use Rattle.std.proofs.Common.{◌∙◌, ap, map}
-use Rattle.settings_toml.specs.SettingsFile.{endpoint_in, leg_in, text_in}
+use Rattle.settings_toml.specs.SettingsFile.{leg_in, ssrc_in, text_in}
 use Rattle.settings_toml.proofs.SettingsLemmas.{map-view}
 use Rattle.settings_toml.proofs.settings_file.parts_of.Goals as goal
 
@@ -14,8 +14,6 @@ returns c = record {
   pli_gap_ms = c.integer_at-7.ensures;
   unit_ssrc = c.integer_at-8.ensures;
   cname = c.in_ok-text_in.ensures ∙ ap text_in c.value_at.ensures;
-  early_pictures = c.bool_at.ensures;
-  leg_goodbyes = c.bool_at-2.ensures;
-  endpoints = c.in_ok-endpoints_of.ensures ∙ map-view endpoint_in c.items_at.result.now ∙ ap (map endpoint_in) c.items_at.ensures;
+  endpoints = c.in_ok-sources_of.ensures ∙ map-view ssrc_in c.items_at.result.now ∙ ap (map ssrc_in) c.items_at.ensures;
   legs = c.in_ok-legs_of.ensures ∙ map-view leg_in c.items_at-2.result.now ∙ ap (map leg_in) c.items_at-2.ensures;
 }
