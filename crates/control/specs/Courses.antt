@@ -1,6 +1,6 @@
 -- What a request leads to.
 use Rattle.std.specs.Prelude.{ℕ, Bool, nat_lt, if◌then◌else◌}
-use Rattle.outside.specs.declared.source.Received.TheVariants as received
+use Rattle.outside.specs.declared.feed.Received.TheVariants as received
 use Rattle.outside.specs.declared.watch.Look.TheVariants.{Presence, Desk}
 use Rattle.control.specs.declared.answer.Refused.TheVariants.{Leg, Publisher, Recorded, Unrecorded}
 use Rattle.control.specs.declared.request.Request.{Request}

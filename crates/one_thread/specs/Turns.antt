@@ -118,7 +118,7 @@ Raises count more next = (n : ℕ) → count ≡ as_counted n → next ≡ as_co
 
 -- ---- the outside
 
--- what the source gave, what the clock told and what the sink was handed, if that is known; and how many sends failed
+-- what the feed gave, what the clock told and what the sink was handed, if that is known; and how many sends failed
 pub record OutsideView : Type 0 where
   pub given : Option (List Arrival)
   pub told : Option (List ℕ)
@@ -149,7 +149,7 @@ pub record SendsCounted (outs : List Out) (before after : SinkView) (former tall
 
 -- ---- turns that are made
 
--- Of one turn: what the source gave and the clock told, what was done of it, and what was handed over and counted; how ticks and
+-- Of one turn: what the feed gave and the clock told, what was done of it, and what was handed over and counted; how ticks and
 -- receives that fail stand then, and whether a stop came.
 pub record MakesTurn (ticks next_ticks : TicksState) (faults next_faults : ℕ) (stopped : Bool)
     (old new : WorldState) (before after : OutsideView) (former tally : Tally) : Type 0 where
@@ -168,7 +168,7 @@ pub record MakesTurn (ticks next_ticks : TicksState) (faults next_faults : ℕ) 
   pub failing : next_faults ≡ faults_with faults turn.arrival
   pub stops : stopped ≡ is_stop turn.arrival
 
--- These turns were made. The source gave what came in them, and the clock told their moments. The events from outside are those of
+-- These turns were made. The feed gave what came in them, and the clock told their moments. The events from outside are those of
 -- the turns, one after the other; each found nothing waiting; no job was given up; the sink was handed the machine's datagrams, in
 -- order; and what came, was sent and couldn't be is counted.
 pub record MakesTurns (ticks : TicksState) (turns : List Turn) (old new : WorldState)
@@ -184,7 +184,7 @@ pub record MakesTurns (ticks : TicksState) (turns : List Turn) (old new : WorldS
   pub counts_sent : tally.sent ≡ as_counted sent
   pub counts_failed : tally.failed ≡ as_counted failed
 
--- A turn was begun, and there was no memory in it: the source gave, and the clock told; the first of its events were done, and what
+-- A turn was begun, and there was no memory in it: the feed gave, and the clock told; the first of its events were done, and what
 -- the machine gave out then wasn't handed over.
 pub record BreaksOff (ticks : TicksState) (old : WorldState) (before after : OutsideView) : Type 0
   where

@@ -15,7 +15,7 @@ use crate::tally::Tally;
 use crate::turn::{Engine, turn};
 use core_steps::World;
 use desk::Desk;
-use outside::{Clock, MAX_DATAGRAM, MAX_FAULTS, Pace, Sink, Source, Ticks, Watch};
+use outside::{Feed, MAX_DATAGRAM, MAX_FAULTS, Pace, Sink, Ticks, Timekeeper, Watch};
 use settings::Settings;
 use std::alloc::{AllocError, Global};
 use thiserror::Error;
@@ -79,10 +79,10 @@ fn open_engine(alloc: Global, settings: &Settings, tick_ms: u64) -> Result<Engin
 
 /// Makes so many turns, fewer if a stop comes: then that turn is the last.
 #[tactic(auto, using(crate::proofs::TurnLemmas::made_nothing, crate::proofs::TurnLemmas::made_more, crate::proofs::TurnLemmas::ends_whole, crate::proofs::TurnLemmas::ends_stopped, crate::proofs::TurnLemmas::stops_in, crate::proofs::TurnLemmas::fails_in))]
-fn run_turns<Src: Source, Snk: Sink, Clk: Clock, W: Watch>(
+fn run_turns<F: Feed, Snk: Sink, Clk: Timekeeper, W: Watch>(
     engine: &mut Engine,
     turns: u64,
-    source: &mut Src,
+    feed: &mut F,
     sink: &mut Snk,
     clock: &mut Clk,
     watch: &mut W,
@@ -94,16 +94,16 @@ fn run_turns<Src: Source, Snk: Sink, Clk: Clock, W: Watch>(
     requires tally { engine.old.tally ≡ record { heard = 0; sent = 0; failed = 0 } }
     ensures ok { OnOk result (HasEnded engine.old.world engine.old.ticks turns
         engine.new.world engine.new.faults engine.new.tally
-        (view_of (Src.given source.old) (Clk.told clock.old) (Snk.shown sink.old))
-        (view_of (Src.given source.new) (Clk.told clock.new) (Snk.shown sink.new))) }
+        (view_of (F.given feed.old) (Clk.told clock.old) (Snk.shown sink.old))
+        (view_of (F.given feed.new) (Clk.told clock.new) (Snk.shown sink.new))) }
     ensures few { OnOk result (engine.new.faults < MAX_FAULTS) }
     ensures idle { OnOk result (IsIdle engine.new.world) }
     ensures err { IfErr result (StopsEarly engine.old.world engine.old.ticks
-        (view_of (Src.given source.old) (Clk.told clock.old) (Snk.shown sink.old))
-        (view_of (Src.given source.new) (Clk.told clock.new) (Snk.shown sink.new))) }
+        (view_of (F.given feed.old) (Clk.told clock.old) (Snk.shown sink.old))
+        (view_of (F.given feed.new) (Clk.told clock.new) (Snk.shown sink.new))) }
 {
     for _turn in 0..turns {
-        let Ok(()) = turn(engine, source, sink, clock, watch) else {
+        let Ok(()) = turn(engine, feed, sink, clock, watch) else {
             return Err(DriveFault::NoMemory);
         };
         if engine.faults >= MAX_FAULTS {
@@ -135,10 +135,10 @@ fn report_of(engine: Engine) -> Report
 /// Refused as `NoMemory` if there is no memory, and then what the machine gave out in this turn isn't handed over; as `Receive`
 /// after 100 receives in a row that fail (`err`).
 #[tactic(auto, using(crate::proofs::DriverLemmas::never_began, crate::proofs::DriverLemmas::ends_early))]
-pub fn run_one_thread<Src: Source, Snk: Sink, Clk: Clock, W: Watch>(
+pub fn run_one_thread<F: Feed, Snk: Sink, Clk: Timekeeper, W: Watch>(
     alloc: Global,
     settings: &Settings,
-    source: &mut Src,
+    feed: &mut F,
     sink: &mut Snk,
     clock: &mut Clk,
     watch: &mut W,
@@ -146,15 +146,15 @@ pub fn run_one_thread<Src: Source, Snk: Sink, Clk: Clock, W: Watch>(
 ) -> Result<Report, DriveFault>
     requires one { settings.now.workers ≡ 1 }
     ensures ok { IfOk result (HasDriven settings.now pace.tick_ms pace.turns
-        (view_of (Src.given source.old) (Clk.told clock.old) (Snk.shown sink.old))
-        (view_of (Src.given source.new) (Clk.told clock.new) (Snk.shown sink.new))) }
+        (view_of (F.given feed.old) (Clk.told clock.old) (Snk.shown sink.old))
+        (view_of (F.given feed.new) (Clk.told clock.new) (Snk.shown sink.new))) }
     ensures err { IfErr result (EndsEarly settings.now pace.tick_ms
-        (view_of (Src.given source.old) (Clk.told clock.old) (Snk.shown sink.old))
-        (view_of (Src.given source.new) (Clk.told clock.new) (Snk.shown sink.new))) }
+        (view_of (F.given feed.old) (Clk.told clock.old) (Snk.shown sink.old))
+        (view_of (F.given feed.new) (Clk.told clock.new) (Snk.shown sink.new))) }
     ensures desks { IfOk result (λ r. AreDesksOf settings.now.pli_gap_ms settings.now.request_ms
         (length settings.now.endpoints) r.desks.items) }
 {
     let mut engine = open_engine(alloc, settings, pace.tick_ms)?;
-    run_turns(&mut engine, pace.turns, source, sink, clock, watch)?;
+    run_turns(&mut engine, pace.turns, feed, sink, clock, watch)?;
     Ok(report_of(engine))
 }

@@ -14,7 +14,7 @@ use crate::tally::Tally;
 use core_steps::World;
 use desk::Desk;
 use events::{Event, Out};
-use outside::{Clock, Look, ReceiveFault, Received, Sink, Source, Status, Ticks, Watch};
+use outside::{Feed, Look, ReceiveFault, Received, Sink, Status, Ticks, Timekeeper, Watch};
 use std::alloc::AllocError;
 
 /// What a receive gave, or that it failed.
@@ -282,9 +282,9 @@ fn count_present(world: &World) -> u64 {
 
 /// Receives once, asks the clock, takes in what came and ticks if a tick is due, with all that follows, and hands what comes out to
 /// the sink. For want of memory it stops; then what the machine gave out in this turn isn't handed over.
-pub(crate) fn turn<Src: Source, Snk: Sink, Clk: Clock, W: Watch>(
+pub(crate) fn turn<F: Feed, Snk: Sink, Clk: Timekeeper, W: Watch>(
     engine: &mut Engine,
-    source: &mut Src,
+    feed: &mut F,
     sink: &mut Snk,
     clock: &mut Clk,
     watch: &mut W,
@@ -295,17 +295,17 @@ pub(crate) fn turn<Src: Source, Snk: Sink, Clk: Clock, W: Watch>(
     requires few { engine.old.faults < MAX_FAULTS }
     ensures ok { OnOk result (MakesTurn engine.old.ticks engine.new.ticks engine.old.faults
         engine.new.faults engine.new.is_stopped engine.old.world engine.new.world
-        (view_of (Src.given source.old) (Clk.told clock.old) (Snk.shown sink.old))
-        (view_of (Src.given source.new) (Clk.told clock.new) (Snk.shown sink.new))
+        (view_of (F.given feed.old) (Clk.told clock.old) (Snk.shown sink.old))
+        (view_of (F.given feed.new) (Clk.told clock.new) (Snk.shown sink.new))
         engine.old.tally engine.new.tally) }
     ensures err { OnErr result (BreaksOff engine.old.ticks engine.old.world
-        (view_of (Src.given source.old) (Clk.told clock.old) (Snk.shown sink.old))
-        (view_of (Src.given source.new) (Clk.told clock.new) (Snk.shown sink.new))) }
+        (view_of (F.given feed.old) (Clk.told clock.old) (Snk.shown sink.old))
+        (view_of (F.given feed.new) (Clk.told clock.new) (Snk.shown sink.new))) }
     ensures one { OnOk result (length engine.new.world.workers ≡ 1) }
     ensures idle { OnOk result (IsIdle engine.new.world) }
     ensures empty { OnOk result (engine.new.outs.items ≡ []) }
 {
-    let received = source.receive(engine.buffer.as_mut_slice());
+    let received = feed.receive(engine.buffer.as_mut_slice());
     let moment = clock.moment();
     let before = take_turn(
         &mut engine.world,

@@ -1,7 +1,7 @@
 //! What a run shows while it goes on, who steers it, and who records it.
 
 ghost use Rattle.std.specs.Prelude.{◌≡◌, None, IsNone, IsSome};
-ghost use Rattle.outside.specs.declared.source.Received.TheVariants.{Nothing};
+ghost use Rattle.outside.specs.declared.feed.Received.TheVariants.{Nothing};
 
 use crate::recorder::Recorder;
 use crate::steering::{Steering, Wish};

@@ -1,27 +1,27 @@
-//! A source and a clock of a unit that may be recorded, and whose counts are told the moments: each turn of the unit receives once, and then
+//! A feed and a clock of a unit that may be recorded, and whose counts are told the moments: each turn of the unit receives once, and then
 //! asks the clock once.
 
 use crate::control_heard::ControlHeard;
 use crate::gauges::Gauges;
-use outside::{Clock, ReceiveFault, Received, Source};
+use outside::{Feed, ReceiveFault, Received, Timekeeper};
 use traffic::Traffic;
 
-/// A source of which is noted what it gives.
+/// A feed of which is noted what it gives.
 #[derive(Drop)]
-pub struct RecordedSource<'a, Src: Drop> {
-    pub source: Src,
+pub struct RecordedFeed<'a, F: Drop> {
+    pub feed: F,
     pub gauges: &'a Gauges,
     pub control: &'a ControlHeard,
 }
 
-impl<Src: Source + Drop> Source for RecordedSource<'_, Src> {
-    ghost failures = { λ s. Src.failures s.source };
+impl<F: Feed + Drop> Feed for RecordedFeed<'_, F> {
+    ghost failures = { λ s. F.failures s.feed };
 
-    ghost given = { λ s. Src.given s.source };
+    ghost given = { λ s. F.given s.feed };
 
     fn receive(&mut self, out: &mut [u8]) -> Result<Received, ReceiveFault> {
         self.gauges.made.set(false);
-        let received = self.source.receive(&mut *out);
+        let received = self.feed.receive(&mut *out);
         if let Some(mut recorder) = self.gauges.recorder() {
             recorder.note(&received, out, self.gauges.made.get());
         }
@@ -39,7 +39,7 @@ pub struct RecordedClock<'a, C: Drop> {
     pub traffic: &'a Traffic,
 }
 
-impl<C: Clock + Drop> Clock for RecordedClock<'_, C> {
+impl<C: Timekeeper + Drop> Timekeeper for RecordedClock<'_, C> {
     ghost told = { λ c. C.told c.clock };
 
     fn moment(&mut self) -> u64 {

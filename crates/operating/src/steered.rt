@@ -1,43 +1,43 @@
-//! A source and a watch of a unit that may be steered.
+//! A feed and a watch of a unit that may be steered.
 
 use crate::gauges::Gauges;
 use desk::Desk;
-use outside::{Look, ReceiveFault, Received, Source, Status, Watch};
+use outside::{Feed, Look, ReceiveFault, Received, Status, Watch};
 use traffic::Traffic;
 
-/// A source, and what peers want beside.
+/// A feed, and what peers want beside.
 #[derive(Drop)]
-pub struct SteeredSource<'a, Src: Drop> {
-    pub source: Src,
+pub struct SteeredFeed<'a, F: Drop> {
+    pub feed: F,
     pub gauges: &'a Gauges,
 }
 
-impl<Src: Source + Drop> Source for SteeredSource<'_, Src> {
+impl<F: Feed + Drop> Feed for SteeredFeed<'_, F> {
     ghost use Rattle.std.specs.Prelude.{◌≡◌, ◌⊎◌, ◌+◌, ◌∷◌, [], None, length, IfOk, OnOk, OnErr};
     ghost use Rattle.outside.specs.Outside.{FitsIn, Grows, arrival_of};
     ghost use Rattle.operating.specs.Steered.{IsWish};
 
-    ghost failures = { λ s. Src.failures s.source };
+    ghost failures = { λ s. F.failures s.feed };
 
     ghost given = { λ _. None };
 
     fn receive(&mut self, out: &mut [u8]) -> Result<Received, ReceiveFault>
         ensures within { IfOk result (FitsIn (length out.new)) }
         ensures given { Grows None (arrival_of out.new result ∷ []) None }
-        ensures ok { OnOk result (Src.failures self.new.source ≡ Src.failures self.old.source) }
+        ensures ok { OnOk result (F.failures self.new.feed ≡ F.failures self.old.feed) }
         ensures err { OnErr result
-            (Src.failures self.new.source ≡ Src.failures self.old.source + 1) }
-        ensures steered { (IsWish result × (self.new.source ≡ self.old.source))
-            ⊎ Grows (Src.given self.old.source) (arrival_of out.new result ∷ [])
-            (Src.given self.new.source) }
+            (F.failures self.new.feed ≡ F.failures self.old.feed + 1) }
+        ensures steered { (IsWish result × (self.new.feed ≡ self.old.feed))
+            ⊎ Grows (F.given self.old.feed) (arrival_of out.new result ∷ [])
+            (F.given self.new.feed) }
         ensures alone { self.old.gauges.now.steering ≡ None
-            → Grows (Src.given self.old.source) (arrival_of out.new result ∷ [])
-            (Src.given self.new.source) }
+            → Grows (F.given self.old.feed) (arrival_of out.new result ∷ [])
+            (F.given self.new.feed) }
     {
         match self.gauges.wished() {
             Received::Select { leg, on } => Ok(Received::Select { leg, on }),
             Received::Stop => Ok(Received::Stop),
-            Received::Nothing | Received::Datagram { .. } => self.source.receive(out),
+            Received::Nothing | Received::Datagram { .. } => self.feed.receive(out),
         }
     }
 }

@@ -1,18 +1,18 @@
--- What contracts see of the outside: what a source gave, and what a sink was handed.
+-- What contracts see of the outside: what a feed gave, and what a sink was handed.
 use Rattle.std.specs.Prelude.{◌≡◌, ◌≤◌, ℕ, Bool, true, false, List, [], ◌∷◌, ◌++◌, flat_map, take, Option, None, Some, option_map, Result, Ok, Err}
 use Rattle.events.specs.declared.output.Out.{Out}
 use Rattle.events.specs.declared.output.Out.TheVariants.{Send, Refused, Busy, Lost, Skip, Miss, Idle}
 use Rattle.outside.specs.declared.datagram.Datagram.{Datagram}
 use Rattle.outside.specs.declared.source.ReceiveFault.{ReceiveFault}
-use Rattle.outside.specs.declared.source.Received.{Received}
-use Rattle.outside.specs.declared.source.Received.TheVariants.{Nothing, Datagram as datagram_of, Select, Stop}
+use Rattle.outside.specs.declared.feed.Received.{Received}
+use Rattle.outside.specs.declared.feed.Received.TheVariants.{Nothing, Datagram as datagram_of, Select, Stop}
 
 -- These came after those before; or what came isn't known any more.
 abbrev pub Grows : {A : Type 0} → Option (List A) → List A → Option (List A) → Type 0
 Grows before more None = Unit {0}
 Grows before more (Some all) = option_map (λ known. known ++ more) before ≡ Some all
 
--- ---- a source
+-- ---- a feed
 
 -- What a receive gave: a datagram of an endpoint, a leg that is switched on or off, the end of the run, silence, or a failure.
 pub data Arrival : Type 0 where
@@ -21,6 +21,11 @@ pub data Arrival : Type 0 where
   stop : Arrival
   silence : Arrival
   failure : Arrival
+
+-- what came of a source: a datagram of an endpoint, which is so long, or nothing
+abbrev pub received_of : Option (ℕ × ℕ) → Received
+received_of None = Nothing
+received_of (Some (endpoint, size)) = datagram_of endpoint size
 
 -- a datagram that was received has no more bytes than the buffer
 abbrev pub FitsIn : ℕ → Received → Type 0

@@ -1,4 +1,4 @@
-//! What comes from outside.
+//! Where datagrams come from.
 
 ghost use Rattle.std.specs.Prelude.{◌≡◌, ◌<◌, ◌≤◌, length, take, IfNone, IfSome};
 
@@ -15,49 +15,16 @@ pub const MAX_FAULTS: u64 = 100;
 #[error("a receive failed")]
 pub struct ReceiveFault;
 
-/// What a receive gave.
-#[derive(Clone, Copy, Debug, PartialEq, Eq)]
-pub enum Received {
-    /// Nothing came.
-    Nothing,
-    /// A datagram of the endpoint with this number. So many bytes of it stand at the beginning of the buffer.
-    Datagram { endpoint: u16, length: usize },
-    /// The leg with this number is to be switched on or off.
-    Select { leg: u16, on: bool },
-    /// The run is to end with this turn.
-    Stop,
-}
-
-impl Received {
-    ghost use Rattle.std.specs.Prelude.{◌≡◌, List, ℕ};
-    ghost use Rattle.outside.specs.Outside.{arrival_in, is_stop};
-
-    /// Whether the run is to end with this turn.
-    pub fn is_stop(self) -> bool
-        ensures { (buffer : List ℕ) → result ≡ is_stop (arrival_in buffer self) }
-    {
-        match self {
-            Received::Stop => true,
-            Received::Nothing | Received::Datagram { .. } | Received::Select { .. } => false,
-        }
-    }
-}
-
-/// Where datagrams come from, and what else is wished of a unit while it runs.
+/// Where datagrams come from.
 pub trait Source {
-    ghost use Rattle.std.specs.Prelude.{◌≡◌, ◌+◌, ◌∷◌, [], List, Option, ℕ, length, IfOk, OnOk, OnErr};
-    ghost use Rattle.outside.specs.Outside.{Arrival, FitsIn, Grows, arrival_of};
+    ghost use Rattle.std.specs.Prelude.{◌≡◌, ◌≤◌, ◌+◌, ℕ, length, IfOk, IfSome, OnOk, OnErr};
 
     /// How many receives failed. A count that can't rise any more answers Ok.
     ghost failures: { Self → ℕ };
 
-    /// What each receive gave, in order, if that is known. A socket doesn't know it.
-    ghost given: { Self → Option (List Arrival) };
-
-    /// What comes next. The bytes of a datagram are written to the beginning of `out`.
-    fn receive(&mut self, out: &mut [u8]) -> Result<Received, ReceiveFault>
-        ensures within { IfOk result (FitsIn (length out.new)) }
-        ensures given { Grows (given self.old) (arrival_of out.new result ∷ []) (given self.new) }
+    /// The endpoint whose datagram came, by its number, and how many bytes of it stand at the beginning of `out`; `None` if nothing came.
+    fn receive(&mut self, out: &mut [u8]) -> Result<Option<(u16, usize)>, ReceiveFault>
+        ensures within { IfOk result (λ came. IfSome came (λ c. c.1 ≤ length out.new)) }
         ensures ok { OnOk result (failures self.new ≡ failures self.old) }
         ensures err { OnErr result (failures self.new ≡ failures self.old + 1) };
 }

@@ -1,8 +1,8 @@
 -- What is given for what a source gave.
 use Rattle.std.proofs.Common.{◌≡◌, ℕ, Bool, List, [], ◌∷◌, take, Option, None, refl, subst}
 use Rattle.outside.specs.Outside.{Arrival, came, chosen, arrival_in, Grows}
-use Rattle.outside.specs.declared.source.Received.{Received}
-use Rattle.outside.specs.declared.source.Received.TheVariants.{Datagram, Select}
+use Rattle.outside.specs.declared.feed.Received.{Received}
+use Rattle.outside.specs.declared.feed.Received.TheVariants.{Datagram, Select}
 use Rattle.repeats.specs.Holding.{GivesHeld, HearsIf, LooksAgain}
 use Rattle.repeats.specs.declared.keeper.Keeper.{Keeper}
 

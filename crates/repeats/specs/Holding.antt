@@ -1,4 +1,4 @@
--- What is given of what a source gave, while what subscribers ask for is held.
+-- What is given of what a feed gave, while what subscribers ask for is held.
 use Rattle.std.specs.Prelude.{◌≡◌, ℕ, List, [], ◌∷◌, length, map, replicate, Option, None, Some}
 use Rattle.settings.specs.Links.{table_of}
 use Rattle.settings.specs.Settings.{Configuration}
@@ -31,7 +31,7 @@ HearsIf None after endpoint datagram given = (after ≡ None) × (given ≡ data
 HearsIf (Some h) None endpoint datagram given = ⊥
 HearsIf (Some h) (Some k) endpoint datagram given = HearsDatagram h k endpoint datagram given
 
--- ---- what is given for what a source gave
+-- ---- what is given for what a feed gave
 
 -- it is given, and nothing is known but what was
 abbrev pub IsGivenAsIs : Option Keeper → Option Keeper → Arrival → Arrival → Type 0
@@ -50,13 +50,13 @@ IsGivenFor before after stop given = IsGivenAsIs before after stop given
 IsGivenFor before after silence given = IsGivenAsIs before after silence given
 IsGivenFor before after failure given = IsGivenAsIs before after failure given
 
--- The source was asked once, and this is given for what it gave.
+-- The feed was asked once, and this is given for what it gave.
 pub record GivesForOne (old new : Option (List Arrival)) (before after : Option Keeper) (given : Arrival) : Type 0 where
   pub arrival : Arrival
   pub asked : Grows old (arrival ∷ []) new
   pub for_it : IsGivenFor before after arrival given
 
--- what is to be heard once more; else what the source gives
+-- what is to be heard once more; else what the feed gives
 abbrev pub GivesFirst : Option (ℕ × List ℕ) → Option (List Arrival) → Option (List Arrival) → Option Keeper → Option Keeper → Arrival → Type 0
 GivesFirst None old new before after given = GivesForOne old new before after given
 GivesFirst (Some again) old new before after given =

@@ -1,8 +1,8 @@
 -- What is left of what a source gave.
 use Rattle.std.proofs.Common.{◌≡◌, ℕ, Bool, List, [], ◌∷◌, take, Option, refl, sym, subst}
 use Rattle.outside.specs.Outside.{Arrival, came, chosen, arrival_in, Grows}
-use Rattle.outside.specs.declared.source.Received.{Received}
-use Rattle.outside.specs.declared.source.Received.TheVariants.{Datagram, Select}
+use Rattle.outside.specs.declared.feed.Received.{Received}
+use Rattle.outside.specs.declared.feed.Received.TheVariants.{Datagram, Select}
 use Rattle.screening.specs.Screened.{GivesWhatIsLeft}
 use Rattle.screening.specs.Sieve.{Sifts}
 use Rattle.screening.specs.declared.sieve.Sieve.{Sieve}

@@ -1,4 +1,4 @@
--- What a screen gives of what its source gave.
+-- What a screen gives of what its feed gave.
 use Rattle.std.specs.Prelude.{◌≡◌, ℕ, true, false, List, [], ◌∷◌, Option}
 use Rattle.outside.specs.Outside.{Arrival, came, chosen, stop, silence, failure, Grows}
 use Rattle.screening.specs.Sieve.{Sifts}
@@ -22,7 +22,7 @@ IsLeftOf s t room stop given = IsGivenAsIs s t stop given
 IsLeftOf s t room silence given = IsGivenAsIs s t silence given
 IsLeftOf s t room failure given = IsGivenAsIs s t failure given
 
--- The source was asked once, and what is given is what is left of what it gave.
+-- The feed was asked once, and what is given is what is left of what it gave.
 pub record GivesWhatIsLeft (old new : Option (List Arrival)) (s t : Sieve) (room : ℕ) (given : Arrival) : Type 0 where
   pub arrival : Arrival
   pub asked : Grows old (arrival ∷ []) new

@@ -1,4 +1,4 @@
-//! The datagrams of a source, screened.
+//! The datagrams of a feed, screened.
 
 ghost use Rattle.std.specs.Prelude.{◌≡◌, ◌≢◌, ◌+◌, ◌∷◌, [], length, replicate, None, Some, IfOk, IsSomeAnd, OnOk, OnErr};
 ghost use Rattle.outside.specs.Outside.{FitsIn, Grows, arrival_of};
@@ -11,32 +11,32 @@ ghost use Rattle.screening.specs.declared.put_by.Waiting.{Waiting};
 use crate::letting::Bounded;
 use crate::rules::Rules;
 use crate::sieve::Sieve;
-use outside::{ReceiveFault, Received, Source};
+use outside::{Feed, ReceiveFault, Received};
 use settings::Settings;
 use std::alloc::{AllocError, Global};
 use std::cell::Cell;
 use tmmbr_tuple::Ssrc;
 use traffic::Traffic;
 
-/// The datagrams of a source, screened by its rules. A packet that is far from the highest number of its endpoint is counted, and put by.
+/// The datagrams of a feed, screened by its rules. A packet that is far from the highest number of its endpoint is counted, and put by.
 /// If the next one shows that the endpoint began anew, a goodbye of it is given (RFC 3550, section 6.6), then both packets, so that who
 /// hears them takes the endpoint as one that left and came again. Receiver reports and feedback name the endpoint's own source.
 #[derive(Drop)]
-pub struct Screen<'a, S: Source + Drop> {
-    source: S,
+pub struct Screen<'a, F: Feed + Drop> {
+    feed: F,
     sieve: Sieve<'a>,
 }
 
-impl<'a, S: Source + Drop> Screen<'a, S> {
-    /// Screens what a source gives from now on, of the endpoints with these sources. Raises `far` for each far packet.
+impl<'a, F: Feed + Drop> Screen<'a, F> {
+    /// Screens what a feed gives from now on, of the endpoints with these sources. Raises `far` for each far packet.
     pub fn new(
         alloc: Global,
-        source: S,
+        feed: F,
         sources: &'a [Ssrc],
         rules: Rules,
         far: &'a Cell<u64>,
-    ) -> Result<Screen<'a, S>, AllocError>
-        ensures source { IfOk result (λ screen. screen.source ≡ source) }
+    ) -> Result<Screen<'a, F>, AllocError>
+        ensures feed { IfOk result (λ screen. screen.feed ≡ feed) }
         ensures rules { IfOk result (λ screen. screen.sieve.rules ≡ rules) }
         ensures endpoints { IfOk result (λ screen. screen.sieve.sources.now ≡ sources.now) }
         ensures goodbyes { IfOk result
@@ -49,7 +49,7 @@ impl<'a, S: Source + Drop> Screen<'a, S> {
         ensures counts { IfOk result (λ screen. screen.sieve.far ≡ far.entry) }
     {
         Ok(Screen {
-            source,
+            feed,
             sieve: Sieve::new(alloc, sources, rules, far)?,
         })
     }
@@ -63,8 +63,8 @@ impl<'a, S: Source + Drop> Screen<'a, S> {
         traffic: &'a Traffic,
         moment_ms: &'a Cell<u64>,
         held: &'a Cell<u64>,
-    ) -> Result<Screen<'a, S>, AllocError>
-        ensures source { IfOk result (λ screen. screen.source ≡ self.entry.source) }
+    ) -> Result<Screen<'a, F>, AllocError>
+        ensures feed { IfOk result (λ screen. screen.feed ≡ self.entry.feed) }
         ensures stays { IfOk result (λ screen. Stays self.entry.sieve screen.sieve) }
         ensures starts { IfOk result
             (λ screen. screen.sieve.starts ≡ self.entry.sieve.starts) }
@@ -85,39 +85,39 @@ impl<'a, S: Source + Drop> Screen<'a, S> {
         }
         let bounded = Bounded::new(alloc, settings, bounds, traffic, moment_ms, held)?;
         Ok(Screen {
-            source: self.source,
+            feed: self.feed,
             sieve: self.sieve.bounding(bounded),
         })
     }
 }
 
-impl<S: Source + Drop> Source for Screen<'_, S> {
-    ghost failures = { λ s. S.failures s.source };
+impl<F: Feed + Drop> Feed for Screen<'_, F> {
+    ghost failures = { λ s. F.failures s.feed };
 
     ghost given = { λ _. None };
 
     fn receive(&mut self, out: &mut [u8]) -> Result<Received, ReceiveFault>
         ensures within { IfOk result (FitsIn (length out.new)) }
         ensures given { Grows None (arrival_of out.new result ∷ []) None }
-        ensures ok { OnOk result (S.failures self.new.source ≡ S.failures self.old.source) }
-        ensures err { OnErr result (S.failures self.new.source ≡ S.failures self.old.source + 1) }
+        ensures ok { OnOk result (F.failures self.new.feed ≡ F.failures self.old.feed) }
+        ensures err { OnErr result (F.failures self.new.feed ≡ F.failures self.old.feed + 1) }
         ensures waits { self.old.sieve.put_by.waiting ≢ None
-            → self.new.source ≡ self.old.source }
+            → self.new.feed ≡ self.old.feed }
         ensures next { (w : Waiting) → self.old.sieve.put_by.waiting ≡ Some w
             → GivesWaiting self.old.sieve self.new.sieve (length out.new) w
             (arrival_of out.new result) }
         ensures left { self.old.sieve.put_by.waiting ≡ None
-            → GivesWhatIsLeft (S.given self.old.source) (S.given self.new.source) self.old.sieve
+            → GivesWhatIsLeft (F.given self.old.feed) (F.given self.new.feed) self.old.sieve
             self.new.sieve (length out.new) (arrival_of out.new result) }
         ensures off { self.old.sieve.put_by.waiting ≡ None
             → LooksForNothing self.old.sieve.rules → self.old.sieve.bounded ≡ None
-            → Grows (S.given self.old.source) (arrival_of out.new result ∷ [])
-            (S.given self.new.source) }
+            → Grows (F.given self.old.feed) (arrival_of out.new result ∷ [])
+            (F.given self.new.feed) }
     {
         if let Some(waiting) = self.sieve.put_by.waiting {
             return Ok(self.sieve.give(waiting, out));
         }
-        match self.source.receive(out)? {
+        match self.feed.receive(out)? {
             Received::Datagram { endpoint, length } => Ok(self.sieve.sift(endpoint, length, out)),
             Received::Nothing => Ok(Received::Nothing),
             Received::Select { leg, on } => Ok(Received::Select { leg, on }),

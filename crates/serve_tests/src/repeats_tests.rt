@@ -1,7 +1,7 @@
 //! Requests that are held until their publisher comes, and sets that are asked for again.
 
 use crate::expected::{is_text, same};
-use outside::{ReceiveFault, Received, Source};
+use outside::{Feed, ReceiveFault, Received};
 use repeats::{Holding, Sets};
 use rtcp_feedback::TmmbrEntry;
 use settings::Settings;
@@ -136,7 +136,7 @@ struct Put<'a> {
     bytes: &'a Cell<&'static [u8]>,
 }
 
-impl Source for Put<'_> {
+impl Feed for Put<'_> {
     ghost use Rattle.std.specs.Prelude.{None};
 
     ghost failures = { λ _. 0 };

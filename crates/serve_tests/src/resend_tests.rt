@@ -1,6 +1,6 @@
 //! What of NACKs is let through on a leg.
 
-use outside::{ReceiveFault, Received, Source};
+use outside::{Feed, ReceiveFault, Received};
 use rtcp_compound::{Block, write_rr, write_sr};
 use screening::{ResendBounds, Rules, Screen};
 use settings::Settings;
@@ -35,7 +35,7 @@ struct Put<'a> {
     length: &'a Cell<usize>,
 }
 
-impl Source for Put<'_> {
+impl Feed for Put<'_> {
     ghost use Rattle.std.specs.Prelude.{None};
 
     ghost failures = { λ _. 0 };
@@ -76,7 +76,7 @@ struct Inlet<'a> {
 
 /// What is given of a NACK with a PLI of endpoint 1 at this moment: how many bytes, the length in words of the first packet, and its
 /// first entry's PID and BLP, or 0 and 0 of the PLI's header if there is none.
-fn given<S: Source + Drop>(
+fn given<S: Feed + Drop>(
     screen: &mut Screen<'_, S>,
     inlet: &Inlet<'_>,
     moment: u64,

@@ -3,7 +3,7 @@
 ghost use Rattle.std.specs.Prelude.{length};
 ghost use Rattle.outside.specs.Outside.{FitsIn};
 
-use outside::{ReceiveFault, Received, Source};
+use outside::{Feed, ReceiveFault, Received};
 use screening::{Rules, Screen};
 use std::alloc::{AllocError, Global};
 use std::cell::Cell;
@@ -46,7 +46,7 @@ fn give(out: &mut [u8], bytes: &[u8]) -> Received
     }
 }
 
-impl Source for Listed<'_> {
+impl Feed for Listed<'_> {
     ghost use Rattle.std.specs.Prelude.{None};
 
     ghost failures = { λ _. 0 };

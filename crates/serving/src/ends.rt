@@ -4,6 +4,7 @@ use crate::repeated::RepeatingWatch;
 use crate::serve_fault::ServeFault;
 use addressing::{Client, Directory};
 use operating::{ControlHeard, Gauges, SteeredWatch};
+use outside::Fed;
 use repeats::{Holding, Sets};
 use screening::{Rules, Screen};
 use settings::Settings;
@@ -42,7 +43,7 @@ impl Common {
 }
 
 /// What comes to the sockets, screened by these rules, and what is to be heard once more.
-pub(crate) type RunSource<'a> = Holding<'a, Screen<'a, SocketSource<'a>>>;
+pub(crate) type RunFeed<'a> = Holding<'a, Screen<'a, Fed<SocketSource<'a>>>>;
 
 /// What a run stands between: sockets, and the clients there; and by which rules what comes is looked at.
 #[derive(Clone, Copy)]
@@ -54,13 +55,13 @@ pub(crate) struct Ends<'a> {
 }
 
 /// What comes to the sockets, screened and held, of a unit in which the moment rises by so much between two ticks.
-pub(crate) fn source_on<'a>(
+pub(crate) fn feed_on<'a>(
     alloc: Global,
     ends: Ends<'a>,
     settings: &'a Settings,
     tick_ms: u64,
     gauges: &'a Gauges,
-) -> Result<RunSource<'a>, ServeFault> {
+) -> Result<RunFeed<'a>, ServeFault> {
     let Ends {
         sockets,
         clients,
@@ -87,11 +88,11 @@ pub(crate) fn source_on<'a>(
         gauges,
         traffic,
     )?;
-    let source = SocketSource::new(sockets, arrivals, gauges);
-    let screen = Screen::new(alloc, source, settings.endpoints(), rules, &gauges.far)?;
+    let datagrams = Fed::by(SocketSource::new(sockets, arrivals, gauges));
+    let screen = Screen::new(alloc, datagrams, settings.endpoints(), rules, &gauges.far)?;
     let moment_ms = &gauges.moment_ms;
     let screen = screen.bounding(alloc, settings, traffic, moment_ms, &gauges.held)?;
-    let source = Holding::new(
+    let feed = Holding::new(
         alloc,
         screen,
         settings,
@@ -100,7 +101,7 @@ pub(crate) fn source_on<'a>(
         moment_ms,
         sets,
     )?;
-    Ok(source)
+    Ok(feed)
 }
 
 /// Who looks at the run: this watch, what peers are shown beside, and who looks at desks so that publishers are asked again.

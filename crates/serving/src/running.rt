@@ -5,12 +5,12 @@ ghost use Rattle.settings.specs.Settings.{IsInRange};
 ghost use Rattle.rate_desk.specs.Gathered.{AreDesksOf};
 ghost use Rattle.serving.specs.DrivenReport.{IsDrivenReport};
 
-use crate::ends::{Common, Ends, source_on, watch_on};
+use crate::ends::{Common, Ends, feed_on, watch_on};
 use crate::serve_fault::ServeFault;
 use addressing::Client;
 use one_thread::run_one_thread;
-use operating::{ControlHeard, Gauges, RecordedClock, RecordedSource, SteeredSource};
-use outside::{Sink, Source};
+use operating::{ControlHeard, Gauges, RecordedClock, RecordedFeed, SteeredFeed};
+use outside::{Feed, Sink, Timed};
 use screening::Rules;
 use settings::Settings;
 use sockets::{RunClock, SocketSink, Sockets, say_goodbyes, socket_sinks};
@@ -123,18 +123,18 @@ fn run_watched_here<R: AllocGlobal + time::Clock, W: Watch + Drop>(
         (length settings.now.endpoints) r.desks.items) }
     ensures driven { IfOk result (IsDrivenReport settings.now pace.tick_ms pace.turns) }
 {
-    let source = source_on(rt.alloc(), ends, settings, pace.tick_ms, gauges)?;
-    drive(rt, ends, settings, pace, gauges, source, watch)
+    let feed = feed_on(rt.alloc(), ends, settings, pace.tick_ms, gauges)?;
+    drive(rt, ends, settings, pace, gauges, feed, watch)
 }
 
-/// Drives the machine over this source and this watch.
-fn drive<R: AllocGlobal + time::Clock, Src: Source + Drop, W: Watch + Drop>(
+/// Drives the machine over this feed and this watch.
+fn drive<R: AllocGlobal + time::Clock, F: Feed + Drop, W: Watch + Drop>(
     rt: &R,
     ends: Ends<'_>,
     settings: &Settings,
     pace: Pace,
     gauges: &Gauges,
-    source: Src,
+    feed: F,
     watch: W,
 ) -> Result<Report, ServeFault>
     requires { settings.now.workers ≡ 1 }
@@ -149,9 +149,9 @@ fn drive<R: AllocGlobal + time::Clock, Src: Source + Drop, W: Watch + Drop>(
         ..
     } = ends.common;
     let mut watch = watch;
-    let mut source = recorded(source, gauges, control);
+    let mut feed = recorded(feed, gauges, control);
     let mut sink = SocketSink::new(ends.sockets, directory, traffic);
-    let clock = RunClock::new(rt, &gauges.moment_ms);
+    let clock = Timed::by(RunClock::new(rt, &gauges.moment_ms));
     let mut clock = RecordedClock {
         clock,
         gauges,
@@ -161,7 +161,7 @@ fn drive<R: AllocGlobal + time::Clock, Src: Source + Drop, W: Watch + Drop>(
     match run_one_thread(
         rt.alloc(),
         settings,
-        &mut source,
+        &mut feed,
         &mut sink,
         &mut clock,
         &mut watch,
@@ -172,15 +172,15 @@ fn drive<R: AllocGlobal + time::Clock, Src: Source + Drop, W: Watch + Drop>(
     }
 }
 
-/// This source, steered and recorded.
-fn recorded<'a, Src: Source + Drop>(
-    source: Src,
+/// This feed, steered and recorded.
+fn recorded<'a, F: Feed + Drop>(
+    feed: F,
     gauges: &'a Gauges,
     control: &'a ControlHeard,
-) -> RecordedSource<'a, SteeredSource<'a, Src>> {
-    let source = SteeredSource { source, gauges };
-    RecordedSource {
-        source,
+) -> RecordedFeed<'a, SteeredFeed<'a, F>> {
+    let feed = SteeredFeed { feed, gauges };
+    RecordedFeed {
+        feed,
         gauges,
         control,
     }
@@ -242,23 +242,14 @@ fn run_watched_on_threads<R: AllocGlobal + Threads + Wait + Sync + time::Clock, 
         ..
     } = ends.common;
     let sinks = socket_sinks(alloc, ends.sockets, directory, traffic, count)?;
-    let source = source_on(alloc, ends, settings, pace.tick_ms, gauges)?;
-    spread(
-        rt,
-        ends.common,
-        settings,
-        pace,
-        gauges,
-        source,
-        sinks,
-        watch,
-    )
+    let feed = feed_on(alloc, ends, settings, pace.tick_ms, gauges)?;
+    spread(rt, ends.common, settings, pace, gauges, feed, sinks, watch)
 }
 
-/// Runs threads over this source, these sinks and this watch.
+/// Runs threads over this feed, these sinks and this watch.
 fn spread<
     R: AllocGlobal + Threads + Wait + Sync + time::Clock,
-    Src: Source + Drop,
+    F: Feed + Drop,
     Snk: Sink + Send + Drop,
     W: Watch + Drop,
 >(
@@ -267,7 +258,7 @@ fn spread<
     settings: &Settings,
     pace: Pace,
     gauges: &Gauges,
-    source: Src,
+    feed: F,
     sinks: Vec<Snk>,
     watch: W,
 ) -> Result<Report, ServeFault>
@@ -281,10 +272,10 @@ fn spread<
         ..
     } = common;
     let outside = Outside {
-        source: recorded(source, gauges, control),
+        feed: recorded(feed, gauges, control),
         sinks,
         clock: RecordedClock {
-            clock: RunClock::new(rt, &gauges.moment_ms),
+            clock: Timed::by(RunClock::new(rt, &gauges.moment_ms)),
             gauges,
             control,
             traffic,

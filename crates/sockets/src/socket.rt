@@ -7,7 +7,7 @@ use crate::arrivals::Arrivals;
 use addressing::{Directory, Listening};
 use events::Refusal;
 use operating::Gauges;
-use outside::{Clock, ReceiveFault, Received, SendFault, Sink, Source};
+use outside::{Clock, ReceiveFault, SendFault, Sink, Source};
 use rtcp_compound::is_rtcp;
 use senders::Kind;
 use std::alloc::{AllocError, Global};
@@ -145,27 +145,18 @@ impl<'a> SocketSource<'a> {
 }
 
 impl Source for SocketSource<'_> {
-    ghost use Rattle.std.specs.Prelude.{None};
-
     ghost failures = { λ s. s.failures };
 
-    ghost given = { λ _. None };
-
-    fn receive(&mut self, out: &mut [u8]) -> Result<Received, ReceiveFault> {
-        if let Some((endpoint, length)) = self.arrivals.waiting(out) {
-            return Ok(Received::Datagram { endpoint, length });
+    fn receive(&mut self, out: &mut [u8]) -> Result<Option<(u16, usize)>, ReceiveFault> {
+        if let Some(waiting) = self.arrivals.waiting(out) {
+            return Ok(Some(waiting));
         }
         if self.arrivals.has_rest() {
-            return Ok(Received::Nothing);
+            return Ok(None);
         }
         match self.come(out) {
-            Ok((size, from)) => match self.arrivals.heard(from, size, out) {
-                Some((endpoint, length)) => Ok(Received::Datagram { endpoint, length }),
-                None => Ok(Received::Nothing),
-            },
-            Err(error) if is_silence(error.kind()) || self.failures == u64::MAX => Ok(
-                Received::Nothing,
-            ),
+            Ok((size, from)) => Ok(self.arrivals.heard(from, size, out)),
+            Err(error) if is_silence(error.kind()) || self.failures == u64::MAX => Ok(None),
             Err(_) => {
                 self.failures += 1;
                 Err(ReceiveFault)
@@ -312,10 +303,6 @@ impl<'a, R: time::Clock> RunClock<'a, R> {
 }
 
 impl<R: time::Clock> Clock for RunClock<'_, R> {
-    ghost use Rattle.std.specs.Prelude.{None};
-
-    ghost told = { λ _. None };
-
     fn moment(&mut self) -> u64 {
         let elapsed_ms = self.elapsed_ms();
         let moment = later_moment(self.shown.get(), elapsed_ms);

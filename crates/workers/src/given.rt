@@ -2,8 +2,8 @@
 
 /// What the unit needs from outside. There is a sink for each worker, by its number, and last one for the ingress.
 #[derive(Drop)]
-pub struct Outside<Src: Drop, Snk: Drop, Clk: Drop, W: Drop> {
-    pub source: Src,
+pub struct Outside<F: Drop, Snk: Drop, Clk: Drop, W: Drop> {
+    pub feed: F,
     pub sinks: Vec<Snk>,
     pub clock: Clk,
     pub watch: W,

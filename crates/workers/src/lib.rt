@@ -25,7 +25,7 @@ pub use fault::UnitFault;
 pub use forwarding::{ForwardFault, Forwarded, Forwarder, NoMemory, Notifier};
 pub use given::Outside;
 pub use outside::{
-    Clock, Datagram, Gate, Look, MAX_DATAGRAM, MAX_FAULTS, Open, Pace, ReceiveFault, Received,
-    SendFault, Sink, Source, Status, Unwatched, Watch,
+    Clock, Datagram, Fed, Feed, Gate, Look, MAX_DATAGRAM, MAX_FAULTS, Open, Pace, ReceiveFault,
+    Received, SendFault, Sink, Source, Status, Timed, Timekeeper, Unwatched, Watch,
 };
 pub use unit::{Report, run_unit, run_watched};

@@ -13,7 +13,7 @@ use crate::turns::Inlet;
 use crate::worker::WorkerThread;
 use core_steps::IngressCore;
 use forwarding::{Forwarder, Notifier};
-use outside::{Clock, Gate, Pace, Sink, Source, Ticks, Watch};
+use outside::{Feed, Gate, Pace, Sink, Ticks, Timekeeper, Watch};
 use rate_desk::{DeskCalls, DeskSeat, House, SeatCalls};
 use routes::{Blank, Naming, RouteReader, RouteWriter, routes};
 use settings::Settings;
@@ -39,9 +39,9 @@ pub(crate) fn run_scoped<
     C: SeatCalls + Send + Sync + 'a,
     J: Naming + Send + Sync + 'a,
     R: Threads + Wait + Sync + 'a,
-    Src: Source + Drop,
+    F: Feed + Drop,
     S: Sink + Send + Drop + 'a,
-    Clk: Clock + Drop,
+    Clk: Timekeeper + Drop,
     W: Watch + Drop,
     G: Gate + Sync + 'a,
 >(
@@ -49,7 +49,7 @@ pub(crate) fn run_scoped<
     shared: &'a Shared<'a, D, C, G>,
     table: Blank,
     seats: Vec<DeskSeat<C>>,
-    outside: Outside<Src, S, Clk, W>,
+    outside: Outside<F, S, Clk, W>,
     pace: Pace,
 ) -> Result<Vec<DeskSeat<C>>, UnitFault>
     requires table { (table.book ≡ J.book) × (table.legs ≡ J.legs) }
@@ -60,7 +60,7 @@ pub(crate) fn run_scoped<
         move |scope| -> Result<Vec<DeskSeat<C>>, UnitFault>
             requires { (table.book ≡ J.book) × (table.legs ≡ J.legs) }
         {
-            run_in_scope::<D, C, J, R, Src, S, Clk, W, G>(
+            run_in_scope::<D, C, J, R, F, S, Clk, W, G>(
                 scope, rt, shared, table, seats, outside, pace,
             )
         },
@@ -75,9 +75,9 @@ fn run_in_scope<
     C: SeatCalls + Send + Sync + 'a,
     J: Naming + Send + Sync + 'a,
     R: Threads + Wait + Sync + 'a,
-    Src: Source + Drop,
+    F: Feed + Drop,
     S: Sink + Send + Drop + 'a,
-    Clk: Clock + Drop,
+    Clk: Timekeeper + Drop,
     W: Watch + Drop,
     G: Gate + Sync + 'a,
 >(
@@ -86,7 +86,7 @@ fn run_in_scope<
     shared: &'a Shared<'a, D, C, G>,
     table: Blank,
     seats: Vec<DeskSeat<C>>,
-    outside: Outside<Src, S, Clk, W>,
+    outside: Outside<F, S, Clk, W>,
     pace: Pace,
 ) -> Result<Vec<DeskSeat<C>>, UnitFault>
     requires table { (table.book ≡ J.book) × (table.legs ≡ J.legs) }
@@ -115,9 +115,9 @@ fn run_equipped<
     C: SeatCalls + Send + Sync + 'a,
     J: Naming + Send + Sync + 'a,
     R: Threads + Wait + Sync + 'a,
-    Src: Source + Drop,
+    F: Feed + Drop,
     S: Sink + Send + Drop + 'a,
-    Clk: Clock + Drop,
+    Clk: Timekeeper + Drop,
     W: Watch + Drop,
     G: Gate + Sync + 'a,
 >(
@@ -127,17 +127,17 @@ fn run_equipped<
     writer: &mut RouteWriter<J>,
     readers: Vec<RouteReader<J>>,
     seats: Vec<DeskSeat<C>>,
-    outside: Outside<Src, S, Clk, W>,
+    outside: Outside<F, S, Clk, W>,
     pace: Pace,
 ) -> Result<Vec<DeskSeat<C>>, UnitFault> {
     let Outside {
-        source,
+        feed,
         sinks,
         clock,
         watch,
     } = outside;
     let gears = gears_of(shared.alloc, seats, readers, sinks)?;
-    let inlet = Inlet::new(shared.alloc, source, clock, watch)?;
+    let inlet = Inlet::new(shared.alloc, feed, clock, watch)?;
     run_beside(scope, rt, shared, writer, gears, inlet, pace)
 }
 
@@ -149,9 +149,9 @@ fn run_beside<
     C: SeatCalls + Send + Sync + 'a,
     J: Naming + Send + Sync + 'a,
     R: Threads + Wait + Sync + 'a,
-    Src: Source + Drop,
+    F: Feed + Drop,
     S: Sink + Send + Drop + 'a,
-    Clk: Clock + Drop,
+    Clk: Timekeeper + Drop,
     W: Watch + Drop,
     G: Gate + Sync + 'a,
 >(
@@ -160,7 +160,7 @@ fn run_beside<
     shared: &'a Shared<'a, D, C, G>,
     writer: &mut RouteWriter<J>,
     gears: Vec<Gear<C, J, S>>,
-    inlet: Inlet<Src, Clk, W>,
+    inlet: Inlet<F, Clk, W>,
     pace: Pace,
 ) -> Result<Vec<DeskSeat<C>>, UnitFault> {
     let mut gears = gears;
@@ -192,9 +192,9 @@ fn run_manned<
     C: SeatCalls + Send + Sync + 'a,
     J: Naming + Send + Sync + 'a,
     R: Threads + Wait + Sync + 'a,
-    Src: Source + Drop,
+    F: Feed + Drop,
     S: Sink + Send + Drop + 'a,
-    Clk: Clock + Drop,
+    Clk: Timekeeper + Drop,
     W: Watch + Drop,
     G: Gate + Sync + 'a,
 >(
@@ -205,7 +205,7 @@ fn run_manned<
     gears: Vec<Gear<C, J, S>>,
     own: Gear<C, J, S>,
     parts: IngressParts<J, C>,
-    inlet: Inlet<Src, Clk, W>,
+    inlet: Inlet<F, Clk, W>,
     pace: Pace,
 ) -> Result<Vec<DeskSeat<C>>, UnitFault> {
     let mut inlet = inlet;

@@ -5,7 +5,7 @@ ghost use Rattle.std.specs.Prelude.{◌≡◌, vec_len, IfOk};
 use crate::fault::UnitFault;
 use crate::faults::Faults;
 use crate::ingress::Ingress;
-use outside::{Clock, MAX_DATAGRAM, Received, Sink, Source, Watch};
+use outside::{Feed, MAX_DATAGRAM, Received, Sink, Timekeeper, Watch};
 use rate_desk::{DeskCalls, SeatCalls};
 use routes::Naming;
 use std::alloc::{AllocError, Global};
@@ -13,8 +13,8 @@ use std::sync::Wait;
 
 /// What the turns take from outside.
 #[derive(Drop)]
-pub(crate) struct Inlet<Src: Drop, Clk: Drop, W: Drop> {
-    pub(crate) source: Src,
+pub(crate) struct Inlet<F: Drop, Clk: Drop, W: Drop> {
+    pub(crate) feed: F,
     pub(crate) clock: Clk,
     pub(crate) watch: W,
     /// Where a datagram is received.
@@ -22,17 +22,17 @@ pub(crate) struct Inlet<Src: Drop, Clk: Drop, W: Drop> {
     pub(crate) faults: Faults,
 }
 
-impl<Src: Source + Drop, Clk: Clock + Drop, W: Watch + Drop> Inlet<Src, Clk, W> {
+impl<F: Feed + Drop, Clk: Timekeeper + Drop, W: Watch + Drop> Inlet<F, Clk, W> {
     pub(crate) fn new(
         alloc: Global,
-        source: Src,
+        feed: F,
         clock: Clk,
         watch: W,
-    ) -> Result<Inlet<Src, Clk, W>, AllocError>
+    ) -> Result<Inlet<F, Clk, W>, AllocError>
         ensures { IfOk result (λ inlet. vec_len inlet.buffer ≡ 65535) }
     {
         Ok(Inlet {
-            source,
+            feed,
             clock,
             watch,
             buffer: vec![in alloc; 0; MAX_DATAGRAM]?,
@@ -76,7 +76,7 @@ impl<Src: Source + Drop, Clk: Clock + Drop, W: Watch + Drop> Inlet<Src, Clk, W> 
         rt: &R,
         ingress: &mut Ingress<'_, D, C, J, S>,
     ) -> Result<bool, UnitFault> {
-        let received = self.source.receive(self.buffer.as_mut_slice());
+        let received = self.feed.receive(self.buffer.as_mut_slice());
         let moment = self.clock.moment();
         self.faults.note(&received);
         match received {

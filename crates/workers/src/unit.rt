@@ -8,7 +8,9 @@ use crate::fault::UnitFault;
 use crate::given::Outside;
 use crate::scope::{Shared, run_scoped};
 use desk::Desk;
-use outside::{Clock, Gate, Pace, Sink, Source, Status, Unwatched, Watch};
+use outside::{
+    Clock, Fed, Feed, Gate, Pace, Sink, Source, Status, Timed, Timekeeper, Unwatched, Watch,
+};
 use rate_desk::{DeskCalls, House, SeatCalls};
 use routes::Naming;
 use settings::Settings;
@@ -38,8 +40,7 @@ pub struct Report {
 /// Each turn makes a tick, unless the moment fell.
 const TICK_MS: u64 = 0;
 
-/// Runs the unit for so many turns, each one receive and one tick, with all that follows; a turn in which a stop came is the last.
-/// Each worker sends on its legs in
+/// Runs the unit for so many turns, each one receive and one tick, with all that follows. Each worker sends on its legs in
 /// a thread of its own, and calls the gate before and after each job. After the turns each worker does the jobs that wait,
 /// all threads end, and the desks are gathered.
 ///
@@ -67,9 +68,9 @@ pub fn run_unit<
         (length settings.now.endpoints) r.desks.items) }
 {
     let outside = Outside {
-        source,
+        feed: Fed::by(source),
         sinks,
-        clock,
+        clock: Timed::by(clock),
         watch: Unwatched,
     };
     let pace = Pace {
@@ -79,19 +80,20 @@ pub fn run_unit<
     run_watched(rt, alloc, settings, outside, gate, pace)
 }
 
-/// `run_unit`, while somebody watches, at a pace.
+/// `run_unit`, while somebody watches, at a pace, with a feed in place of a source: what comes may be a leg that is switched, too, and
+/// a turn in which a stop came is the last.
 pub fn run_watched<
     R: Threads + Wait + Sync,
-    Src: Source + Drop,
+    F: Feed + Drop,
     Snk: Sink + Send + Drop,
-    Clk: Clock + Drop,
+    Clk: Timekeeper + Drop,
     W: Watch + Drop,
     G: Gate + Sync,
 >(
     rt: &R,
     alloc: Global,
     settings: &Settings,
-    outside: Outside<Src, Snk, Clk, W>,
+    outside: Outside<F, Snk, Clk, W>,
     gate: &G,
     pace: Pace,
 ) -> Result<Report, UnitFault>
@@ -103,7 +105,7 @@ pub fn run_watched<
     let workers = settings.workers();
     let legs = settings.legs().len() as u16;
     let counts = Counts::new(alloc, workers as u16)?;
-    run_named::<Brand, Brand, Brand, R, Src, Snk, Clk, W, G>(
+    run_named::<Brand, Brand, Brand, R, F, Snk, Clk, W, G>(
         rt,
         alloc,
         settings,
@@ -123,9 +125,9 @@ fn run_named<
     C: SeatCalls + Send + Sync,
     J: Naming + Send + Sync,
     R: Threads + Wait + Sync,
-    Src: Source + Drop,
+    F: Feed + Drop,
     Snk: Sink + Send + Drop,
-    Clk: Clock + Drop,
+    Clk: Timekeeper + Drop,
     W: Watch + Drop,
     G: Gate + Sync,
 >(
@@ -135,7 +137,7 @@ fn run_named<
     recorded: Blank,
     made: Blank,
     table: routes::Blank,
-    outside: Outside<Src, Snk, Clk, W>,
+    outside: Outside<F, Snk, Clk, W>,
     gate: &G,
     counts: &Counts,
     pace: Pace,
@@ -169,7 +171,7 @@ fn run_named<
         gate,
         counts,
     };
-    let seats = run_scoped::<D, C, J, R, Src, Snk, Clk, W, G>(
+    let seats = run_scoped::<D, C, J, R, F, Snk, Clk, W, G>(
         rt, &shared, table, seats, outside, pace,
     )?;
     let desks = house.gather(seats, &[])?;

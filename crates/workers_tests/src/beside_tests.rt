@@ -8,14 +8,14 @@ use crate::random_turns::{Plan, Turn, WORKERS, make_turns, room, room_with};
 use crate::told::Told;
 use crate::turn_doubles::{Counting, ROOM, RingSink, Stage, Turned, sink_and_end};
 use one_thread::{Pace, run_one_thread};
-use outside::Unwatched;
+use outside::{Timed, Unwatched};
 use rtrb::Consumer;
 use settings::Settings;
 use std::alloc::{AllocError, Global};
 use std::sync::Wait;
 use std::test::Fail;
 use std::thread::Threads;
-use workers::{Report, UnitFault, run_unit};
+use workers::{Outside, Report, UnitFault, run_watched};
 
 /// Turns that are never calm.
 const RESTLESS: Plan = Plan {
@@ -43,13 +43,21 @@ fn run_turns<R: Threads + Wait + Sync>(
     if sinks.len() as u64 != settings.workers() + 1 {
         return Err("sinks".into());
     }
-    let source = Turned::new(turns, stage);
     let gate = Counting { stage };
     let clock = Moved {
         moment: &stage.moment,
     };
-    let count = turns.len() as u64;
-    let ran = run_unit(rt, alloc, settings, source, sinks, clock, &gate, count);
+    let outside = Outside {
+        feed: Turned::new(turns, stage),
+        sinks,
+        clock: Timed::by(clock),
+        watch: Unwatched,
+    };
+    let pace = Pace {
+        turns: turns.len() as u64,
+        tick_ms: TICK_MS,
+    };
+    let ran = run_watched(rt, alloc, settings, outside, &gate, pace);
     Ok(counts_of(ran)?)
 }
 
@@ -64,10 +72,10 @@ fn run_alone(
     if settings.workers() != 1 {
         return Err("workers".into());
     }
-    let mut source = Turned::new(turns, stage);
-    let mut clock = Moved {
+    let mut feed = Turned::new(turns, stage);
+    let mut clock = Timed::by(Moved {
         moment: &stage.moment,
-    };
+    });
     let pace = Pace {
         turns: turns.len() as u64,
         tick_ms: TICK_MS,
@@ -75,7 +83,7 @@ fn run_alone(
     let ran = run_one_thread(
         alloc,
         &settings,
-        &mut source,
+        &mut feed,
         sink,
         &mut clock,
         &mut Unwatched,

@@ -30,12 +30,12 @@ pub(super) enum Cue {
 }
 
 /// A cue, with how often it is played. A packet comes with the next number each time.
-pub(super) type Timed = (u16, Cue);
+pub(super) type Played = (u16, Cue);
 
-/// A source that plays its cues one after the other; after them nothing comes, and it says so.
+/// A feed that plays its cues one after the other; after them nothing comes, and it says so.
 #[derive(Drop)]
 pub(super) struct Script<'a> {
-    cues: &'a [Timed],
+    cues: &'a [Played],
     /// The place of the next cue, and how often it was played.
     place: usize,
     played: u16,
@@ -46,7 +46,7 @@ pub(super) struct Script<'a> {
 impl<'a> Script<'a> {
     ghost use Rattle.std.specs.Prelude.{◌≡◌};
 
-    pub(super) fn of(cues: &'a [Timed], is_played: &'a AtomicBool) -> Script<'a> {
+    pub(super) fn of(cues: &'a [Played], is_played: &'a AtomicBool) -> Script<'a> {
         Script {
             cues,
             place: 0,
@@ -101,7 +101,7 @@ fn received(cue: Cue, before: u16, out: &mut [u8]) -> Received
     }
 }
 
-impl<'a> Source for Script<'a> {
+impl<'a> Feed for Script<'a> {
     ghost use Rattle.std.specs.Prelude.{None};
 
     ghost failures = { λ s. s.failures };
@@ -121,14 +121,31 @@ impl<'a> Source for Script<'a> {
     }
 }
 
-/// A source that plays its script; each receive takes 10 ms, by which a clock that is asked after it is later.
+/// The datagrams of a script, and its faults, as a source; any other cue is silence.
+#[derive(Drop)]
+pub(super) struct Datagrams<'a> {
+    pub(super) script: Script<'a>,
+}
+
+impl<'a> Source for Datagrams<'a> {
+    ghost failures = { λ s. s.script.failures };
+
+    fn receive(&mut self, out: &mut [u8]) -> Result<Option<(u16, usize)>, ReceiveFault> {
+        match self.script.receive(out)? {
+            Received::Datagram { endpoint, length } => Ok(Some((endpoint, length))),
+            Received::Nothing | Received::Select { .. } | Received::Stop => Ok(None),
+        }
+    }
+}
+
+/// A feed that plays its script; each receive takes 10 ms, by which a clock that is asked after it is later.
 #[derive(Drop)]
 pub(super) struct Slow<'a> {
     pub(super) script: Script<'a>,
     pub(super) moment: &'a AtomicU64,
 }
 
-impl<'a> Source for Slow<'a> {
+impl<'a> Feed for Slow<'a> {
     ghost use Rattle.std.specs.Prelude.{None};
 
     ghost failures = { λ s. s.script.failures };
@@ -146,10 +163,6 @@ impl<'a> Source for Slow<'a> {
 pub(super) struct StoppedClock;
 
 impl Clock for StoppedClock {
-    ghost use Rattle.std.specs.Prelude.{None};
-
-    ghost told = { λ _. None };
-
     fn moment(&mut self) -> u64 {
         0
     }
@@ -162,10 +175,6 @@ pub(super) struct RisingClock {
 }
 
 impl Clock for RisingClock {
-    ghost use Rattle.std.specs.Prelude.{None};
-
-    ghost told = { λ _. None };
-
     fn moment(&mut self) -> u64 {
         self.moment = self.moment.saturating_add(20);
         self.moment
@@ -179,10 +188,6 @@ pub(super) struct Moved<'a> {
 }
 
 impl<'a> Clock for Moved<'a> {
-    ghost use Rattle.std.specs.Prelude.{None};
-
-    ghost told = { λ _. None };
-
     fn moment(&mut self) -> u64 {
         self.moment.load(Ordering::SeqCst)
     }

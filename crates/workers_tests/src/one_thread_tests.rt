@@ -1,11 +1,11 @@
 //! Whole runs of the unit in one thread: what goes out, and what a watch and a sink are told meanwhile.
 
-use crate::doubles::{Cue, Looker, MemorySink, Moved, RisingClock, Script, Shown, Slow, Timed};
+use crate::doubles::{Cue, Looker, MemorySink, Moved, Played, RisingClock, Script, Shown, Slow};
 use crate::expected::same;
 use crate::rooms::{Link, ONE_WORKER, Room, is, rtp};
 use events::Refusal;
 use one_thread::{Pace, run_one_thread};
-use outside::{Look, Status, Unwatched};
+use outside::{Look, Status, Timed, Unwatched};
 use rtp_packet::RtpFault;
 use settings::RoomFault;
 use std::alloc::Global;
@@ -31,7 +31,7 @@ const ONE_NEVER_COMES: Room = Room {
 };
 
 /// Both come, and the publisher sends a packet.
-const THREE: [Timed; 3] = [
+const THREE: [Played; 3] = [
     (1, Cue::Report(0)),
     (1, Cue::Report(1)),
     (1, Cue::Media(0, 7)),
@@ -44,8 +44,8 @@ fn run_five(alloc: Global, sink: &mut MemorySink) -> Result<[u64; 4], Fail> {
         return Err("workers".into());
     }
     let is_played = AtomicBool::new(false);
-    let mut source = Script::of(&THREE, &is_played);
-    let mut clock = RisingClock { moment: 0 };
+    let mut feed = Script::of(&THREE, &is_played);
+    let mut clock = Timed::by(RisingClock { moment: 0 });
     let pace = Pace {
         turns: 5,
         tick_ms: 10,
@@ -53,7 +53,7 @@ fn run_five(alloc: Global, sink: &mut MemorySink) -> Result<[u64; 4], Fail> {
     let ran = run_one_thread(
         alloc,
         &settings,
-        &mut source,
+        &mut feed,
         sink,
         &mut clock,
         &mut Unwatched,
@@ -95,7 +95,7 @@ const VERSION_1: [u8; 14] = [0x40, 0x60, 0, 7, 0, 0, 0x0b, 0xb8, 0, 0, 0, 17, 0x
 
 /// Both come; three packets are sent on, one from before them isn't, and one that never was is asked for again; then comes what is no
 /// packet, and a leg that isn't there is selected.
-const ODD: [Timed; 7] = [
+const ODD: [Played; 7] = [
     (1, Cue::Report(0)),
     (1, Cue::Report(1)),
     (3, Cue::Media(0, 7)),
@@ -112,11 +112,11 @@ fn run_watched(alloc: Global, sink: &mut MemorySink, shown: &mut Shown) -> Resul
         return Err("workers".into());
     }
     let (is_played, moment) = (AtomicBool::new(false), AtomicU64::new(0));
-    let mut source = Slow {
+    let mut feed = Slow {
         script: Script::of(&ODD, &is_played),
         moment: &moment,
     };
-    let mut clock = Moved { moment: &moment };
+    let mut clock = Timed::by(Moved { moment: &moment });
     let mut watch = Looker {
         wanted: [Look::Presence, Look::Stays, Look::Desk(0), Look::Desk(7)],
         shown,
@@ -126,13 +126,7 @@ fn run_watched(alloc: Global, sink: &mut MemorySink, shown: &mut Shown) -> Resul
         tick_ms: 10,
     };
     let ran = run_one_thread(
-        alloc,
-        &settings,
-        &mut source,
-        sink,
-        &mut clock,
-        &mut watch,
-        pace,
+        alloc, &settings, &mut feed, sink, &mut clock, &mut watch, pace,
     );
     Ok(ran.is_ok())
 }

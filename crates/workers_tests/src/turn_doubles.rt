@@ -1,4 +1,4 @@
-//! What stands for the outside of a unit that plays the turns of a test: a source that moves the clock, a count of the jobs
+//! What stands for the outside of a unit that plays the turns of a test: a feed that moves the clock, a count of the jobs
 //! that are done, and sinks that hand on what they are told. All of them share a `Stage`.
 
 ghost use Rattle.std.specs.Prelude.{◌+◌, None};
@@ -15,7 +15,7 @@ use workers::*;
 /// So much a sink hands on.
 pub(super) const ROOM: usize = 1 << 15;
 
-/// So often the source looks whether the workers are done, before it gives up.
+/// So often the feed looks whether the workers are done, before it gives up.
 const PATIENCE: u32 = 100_000_000;
 
 /// Where a unit that plays turns stands.
@@ -40,7 +40,7 @@ impl Stage {
     }
 }
 
-/// A source that waits until the workers are done with what came before; it moves the clock.
+/// A feed that waits until the workers are done with what came before; it moves the clock.
 #[derive(Drop)]
 pub(super) struct Turned<'a> {
     turns: &'a [Turn],
@@ -69,7 +69,7 @@ impl<'a> Turned<'a> {
     }
 }
 
-impl<'a> Source for Turned<'a> {
+impl<'a> Feed for Turned<'a> {
     ghost use Rattle.std.specs.Prelude.{None};
 
     ghost failures = { λ s. 0 };

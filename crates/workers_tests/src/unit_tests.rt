@@ -2,7 +2,9 @@
 
 ghost use Rattle.std.specs.Prelude.{◌+◌};
 
-use crate::doubles::{Cue, OpenGate, Pairing, RisingClock, Script, StoppedClock, Until, sinks_of};
+use crate::doubles::{
+    Cue, Datagrams, OpenGate, Pairing, RisingClock, Script, StoppedClock, Until, sinks_of,
+};
 use crate::expected::same;
 use crate::rooms::{ONE_IDLE, ONE_WORKER, Room, TIMES, TWO_WORKERS, Times};
 use std::alloc::Global;
@@ -27,18 +29,19 @@ fn counts_of(ran: Result<Report, UnitFault>) -> Result<Counts, UnitFault> {
     ])
 }
 
-/// Runs a room for so many turns.
+/// Runs a room over the datagrams of a script, for so many turns.
 fn run_room<R: Threads + Wait + Sync, C: Clock + Drop, G: Gate + Sync>(
     rt: &R,
     alloc: Global,
     room: &Room,
-    source: Script<'_>,
+    script: Script<'_>,
     clock: C,
     gate: &G,
     turns: u64,
 ) -> Result<Result<Counts, UnitFault>, Fail> {
     let settings = room.settings(alloc)?;
     let sinks = sinks_of(alloc, settings.workers() + 1, room.to_fail)?;
+    let source = Datagrams { script };
     let ran = run_unit(rt, alloc, &settings, source, sinks, clock, gate, turns);
     Ok(counts_of(ran))
 }
@@ -51,12 +54,12 @@ fn gate_two_workers(rt: HostRuntime) -> Result<(), Fail> {
         (1, Cue::Report(1)),
         (1, Cue::Media(2, 7)),
     ];
-    let source = Script::of(&cues, &is_played);
+    let script = Script::of(&cues, &is_played);
     let ran = run_room(
         &rt,
         rt.alloc(),
         &TWO_WORKERS,
-        source,
+        script,
         StoppedClock,
         &gate,
         3,
@@ -73,12 +76,12 @@ fn stop_behind_full_ring(rt: HostRuntime) -> Result<(), Fail> {
         has_come: &is_played,
     };
     let cues = [(1, Cue::Report(1)), (2_000, Cue::Media(0, 0))];
-    let source = Script::of(&cues, &is_played);
+    let script = Script::of(&cues, &is_played);
     let ran = run_room(
         &rt,
         rt.alloc(),
         &ONE_WORKER,
-        source,
+        script,
         StoppedClock,
         &gate,
         2_002,
@@ -88,6 +91,26 @@ fn stop_behind_full_ring(rt: HostRuntime) -> Result<(), Fail> {
     let counts = [heard, sent.wrapping_add(lost), failed, dropped];
     same(&rt, &counts, &[2_001, 2_000, 0, 0]);
     Ok(())
+}
+
+/// Runs a room over a whole script, for so many turns.
+fn run_script<R: Threads + Wait + Sync>(
+    rt: &R,
+    alloc: Global,
+    room: &Room,
+    script: Script<'_>,
+    turns: u64,
+) -> Result<Result<Counts, UnitFault>, Fail> {
+    let settings = room.settings(alloc)?;
+    let outside = Outside {
+        feed: script,
+        sinks: sinks_of(alloc, settings.workers() + 1, room.to_fail)?,
+        clock: Timed::by(StoppedClock),
+        watch: Unwatched,
+    };
+    let pace = Pace { turns, tick_ms: 0 };
+    let ran = run_watched(rt, alloc, &settings, outside, &OpenGate, pace);
+    Ok(counts_of(ran))
 }
 
 /// A stop ends the run: what came before is sent, and what comes after isn't heard.
@@ -100,16 +123,8 @@ fn stops_on_threads(rt: HostRuntime) -> Result<(), Fail> {
         (1, Cue::Stop),
         (1, Cue::Media(0, 8)),
     ];
-    let source = Script::of(&cues, &is_played);
-    let ran = run_room(
-        &rt,
-        rt.alloc(),
-        &ONE_IDLE,
-        source,
-        StoppedClock,
-        &OpenGate,
-        200,
-    )?;
+    let script = Script::of(&cues, &is_played);
+    let ran = run_script(&rt, rt.alloc(), &ONE_IDLE, script, 200)?;
     same(&rt, &ran, &Ok([2, 1, 0, 0, 0, 2]));
     assert!(rt; !is_played.load(Ordering::SeqCst));
     Ok(())
@@ -123,8 +138,8 @@ fn run_faults<R: Threads + Wait + Sync>(
 ) -> Result<Result<Counts, UnitFault>, Fail> {
     let is_played = AtomicBool::new(false);
     let cues = [(faults, Cue::Fault), (1, Cue::Report(1))];
-    let source = Script::of(&cues, &is_played);
-    run_room(rt, alloc, &ONE_IDLE, source, StoppedClock, &OpenGate, 200)
+    let script = Script::of(&cues, &is_played);
+    run_room(rt, alloc, &ONE_IDLE, script, StoppedClock, &OpenGate, 200)
 }
 
 #[test]
@@ -156,8 +171,8 @@ fn each_count_by_its_name(rt: HostRuntime) -> Result<(), Fail> {
         (1, Cue::Report(1)),
         (6, Cue::Media(2, 0)),
     ];
-    let source = Script::of(&cues, &is_played);
-    let ran = run_room(&rt, rt.alloc(), &room, source, StoppedClock, &OpenGate, 8)?;
+    let script = Script::of(&cues, &is_played);
+    let ran = run_room(&rt, rt.alloc(), &room, script, StoppedClock, &OpenGate, 8)?;
     same(&rt, &ran, &Ok([8, 7, 5, 0, 0, 3]));
     Ok(())
 }
@@ -178,10 +193,10 @@ fn sent_beside_faults<R: Threads + Wait + Sync>(
     };
     let is_played = AtomicBool::new(false);
     let cues = [(1, Cue::Media(0, 7)), (faults, Cue::Fault)];
-    let source = Script::of(&cues, &is_played);
+    let script = Script::of(&cues, &is_played);
     let clock = RisingClock { moment: 0 };
     let turns = u64::from(faults) + 1;
-    let [_, sent, ..] = run_room(rt, alloc, &room, source, clock, &OpenGate, turns)??;
+    let [_, sent, ..] = run_room(rt, alloc, &room, script, clock, &OpenGate, turns)??;
     Ok(sent)
 }
 

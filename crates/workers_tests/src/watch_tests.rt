@@ -2,7 +2,7 @@
 
 ghost use Rattle.std.specs.Prelude.{◌≡◌, ◌+◌, vec_len, IfOk};
 
-use crate::doubles::{Cue, Looker, OpenGate, RisingClock, Script, Shown, Timed};
+use crate::doubles::{Cue, Looker, OpenGate, Played, RisingClock, Script, Shown};
 use crate::expected::same;
 use crate::rooms::TWO_WORKERS;
 use events::Refusal;
@@ -67,7 +67,7 @@ fn refusing_sinks(
 const VERSION_1: [u8; 12] = [0x40, 0x60, 0, 7, 0, 0, 0x0b, 0xb8, 0, 0, 0, 17];
 
 /// A subscriber comes, then the publisher, then the other subscriber, then a packet of version 1, and a stop.
-const CUES: [Timed; 5] = [
+const CUES: [Played; 5] = [
     (1, Cue::Report(1)),
     (1, Cue::Report(2)),
     (1, Cue::Report(0)),
@@ -86,9 +86,9 @@ fn run_looked_at<R: Threads + Wait + Sync>(
     let is_played = AtomicBool::new(false);
     let sinks = refusing_sinks(alloc, refused, settings.workers() + 1)?;
     let outside = Outside {
-        source: Script::of(&CUES, &is_played),
+        feed: Script::of(&CUES, &is_played),
         sinks,
-        clock: RisingClock { moment: 0 },
+        clock: Timed::by(RisingClock { moment: 0 }),
         watch: Looker {
             wanted: [Look::Presence, Look::Stays, Look::Desk(2), Look::Desk(3)],
             shown,

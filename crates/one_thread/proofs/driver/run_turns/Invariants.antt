@@ -7,8 +7,8 @@ use Rattle.one_thread.proofs.driver.run_turns.Given as goal
 abbrev pub invariant-loop-turn : goal.invariant-loop-turn
 invariant-loop-turn g l = record {
   made : HasMade l.fn.engine.world l.fn.engine.ticks l._turn l.engine.world l.engine.ticks l.engine.faults l.engine.tally
-      (view_of (g.Src.Source.given l.fn.source) (g.Clk.Clock.told l.fn.clock) (g.Snk.Sink.shown l.fn.sink))
-      (view_of (g.Src.Source.given l.source) (g.Clk.Clock.told l.clock) (g.Snk.Sink.shown l.sink));
+      (view_of (g.F.Feed.given l.fn.feed) (g.Clk.Timekeeper.told l.fn.clock) (g.Snk.Sink.shown l.fn.sink))
+      (view_of (g.F.Feed.given l.feed) (g.Clk.Timekeeper.told l.clock) (g.Snk.Sink.shown l.sink));
   few : l.engine.faults < MAX_FAULTS;
   one : length l.engine.world.workers ≡ 1;
   idle : IsIdle l.engine.world;

@@ -17,10 +17,10 @@ returns-in_err-before-clause-err g c =
     let kept : buffer ≡ out =
     c.as_slice.ensures.value
     ∙ with_items_is c.args.engine.now.buffer out (omega (arith, c.receive-received.auto.out, c.as_mut_slice.ensures.len)) in
-    let P : List ℕ → Type 0 = λ b. Grows (g.Src.Source.given c.args.source.now) (arrival_of b c.receive-received.result ∷ []) (g.Src.Source.given c.receive-received.new.self) in
+    let P : List ℕ → Type 0 = λ b. Grows (g.F.Feed.given c.args.feed.now) (arrival_of b c.receive-received.result ∷ []) (g.F.Feed.given c.receive-received.new.self) in
     on_err_of c.from_residual.result _
-    (turn_broken c.args.engine.now.ticks c.args.engine.now.world c.take_turn.new.world (g.Src.Source.given c.args.source.now)
-    (g.Src.Source.given c.receive-received.new.self) (g.Clk.Clock.told c.args.clock.now) (g.Clk.Clock.told c.moment-moment.new.self)
+    (turn_broken c.args.engine.now.ticks c.args.engine.now.world c.take_turn.new.world (g.F.Feed.given c.args.feed.now)
+    (g.F.Feed.given c.receive-received.new.self) (g.Clk.Timekeeper.told c.args.clock.now) (g.Clk.Timekeeper.told c.moment-moment.new.self)
     (g.Snk.Sink.shown c.args.sink.now) (arrival_of buffer c.receive-received.result) c.moment-moment.result
     c.args.engine.now.outs.items c.take_turn.new.outs.items c.requires.empty (subst P (sym kept) c.receive-received.ensures.given)
     c.moment-moment.ensures.told c.in_err-before.ensures.err)
@@ -32,7 +32,7 @@ returns-clause-ok g c =
     let kept : buffer ≡ out =
     c.as_slice.ensures.value
     ∙ with_items_is c.args.engine.now.buffer out (omega (arith, c.receive-received.auto.out, c.as_mut_slice.ensures.len)) in
-    let P : List ℕ → Type 0 = λ b. Grows (g.Src.Source.given c.args.source.now) (arrival_of b c.receive-received.result ∷ []) (g.Src.Source.given c.receive-received.new.self) in
+    let P : List ℕ → Type 0 = λ b. Grows (g.F.Feed.given c.args.feed.now) (arrival_of b c.receive-received.result ∷ []) (g.F.Feed.given c.receive-received.new.self) in
     let mid : Tally = record {
       heard = c.heard_with-engine.result;
       sent = c.args.engine.now.tally.sent;
@@ -43,8 +43,8 @@ returns-clause-ok g c =
     let driven = subst (λ (w : WorldState). Drives events c.args.engine.now.world c.args.engine.now.outs.items w c.take_turn.new.outs.items)
     (sym c.take_back.ensures.world) c.in_ok-before.ensures.ok in
     turn_made c.args.engine.now.ticks c.take_turn.new.ticks c.args.engine.now.faults c.faults_with-engine.result c.is_stop-engine.result c.args.engine.now.world
-    c.take_back.new.self (g.Src.Source.given c.args.source.now) (g.Src.Source.given c.receive-received.new.self)
-    (g.Clk.Clock.told c.args.clock.now) (g.Clk.Clock.told c.moment-moment.new.self) (g.Snk.Sink.shown c.args.sink.now)
+    c.take_back.new.self (g.F.Feed.given c.args.feed.now) (g.F.Feed.given c.receive-received.new.self)
+    (g.Clk.Timekeeper.told c.args.clock.now) (g.Clk.Timekeeper.told c.moment-moment.new.self) (g.Snk.Sink.shown c.args.sink.now)
     (g.Snk.Sink.shown c.give_all.new.sink) c.args.engine.now.tally mid c.give_all.new.tally (arrival_of buffer c.receive-received.result)
     c.moment-moment.result c.args.engine.now.outs.items c.take_turn.new.outs.items c.requires.empty
     (subst P (sym kept) c.receive-received.ensures.given) c.moment-moment.ensures.told driven

@@ -1,5 +1,5 @@
 use Rattle.screening.proofs.ScreenedLemmas.{left_of_datagram, left_of_switch}
-use Rattle.screening.proofs.screen.ScreenSource.receive.Goals as goal
+use Rattle.screening.proofs.screen.ScreenFeed.receive.Goals as goal
 
 pub returns-in-Datagram-clause-left : goal.returns-in-Datagram-clause-left
 returns-in-Datagram-clause-left g c = λ _.

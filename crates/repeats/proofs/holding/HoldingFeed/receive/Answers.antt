@@ -1,5 +1,5 @@
 use Rattle.repeats.proofs.HoldingLemmas.{given_for_datagram, given_for_switch}
-use Rattle.repeats.proofs.holding.HoldingSource.receive.Goals as goal
+use Rattle.repeats.proofs.holding.HoldingFeed.receive.Goals as goal
 
 pub returns-in-Datagram-clause-gives : goal.returns-in-Datagram-clause-gives
 returns-in-Datagram-clause-gives g c =
