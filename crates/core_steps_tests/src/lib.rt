@@ -6,10 +6,10 @@
 #[cfg(test)]
 mod cut_tests;
 #[cfg(test)]
-mod reading_tests;
-#[cfg(test)]
 mod memory_tests;
 #[cfg(test)]
 mod quiet_tests;
+#[cfg(test)]
+mod reading_tests;
 #[cfg(test)]
 mod steps;

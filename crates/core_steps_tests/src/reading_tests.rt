@@ -51,7 +51,7 @@ fn packet(word: &str) -> &str {
 }
 
 /// The bytes of these packets, joined.
-fn datagram(alloc: Global, packets: &str) -> Result<Vec<u8>, AllocError> {
+fn joined(alloc: Global, packets: &str) -> Result<Vec<u8>, AllocError> {
     let mut bytes = Vec::new(alloc);
     for word in packets.split(' ') {
         bytes.extend_from_slice(bytes_of(alloc, packet(word))?.as_slice())?;
@@ -88,11 +88,13 @@ fn write_refusal(text: &mut String, refusal: &Refusal) -> Result<(), fmt::Error>
 /// Writes what a datagram says.
 fn write_what(text: &mut String, what: What) -> Result<(), fmt::Error> {
     match what {
-        What::Media(Media {
-            ssrc,
-            timestamp,
-            parts,
-        }) => write!(
+        What::Media(
+            Media {
+                ssrc,
+                timestamp,
+                parts,
+            },
+        ) => write!(
             text,
             "media {} {} {timestamp} {}",
             ssrc.0, parts.sequence_number, parts.octets
@@ -125,7 +127,7 @@ fn read_one(datagram: &[u8], own: u32, reading: &mut Reading) -> Result<(), Allo
 
 /// What a datagram of this source says and asks for, read where one that asks for a picture was read before.
 fn said(alloc: Global, own: u32, bytes: &[u8]) -> Result<String, Fail> {
-    let former = datagram(alloc, "PLI")?;
+    let former = joined(alloc, "PLI")?;
     let mut reading = Reading::new(alloc);
     read_one(former.as_slice(), 17, &mut reading)?;
     read_one(bytes, own, &mut reading)?;
@@ -150,7 +152,7 @@ fn says(
 /// Each datagram says what stands beside it, and asks for it.
 fn all_say(rt: &(impl Abort + AllocGlobal), cases: &[Case]) -> Result<(), Fail> {
     for (own, packets, wanted) in cases {
-        let datagram = datagram(rt.alloc(), packets)?;
+        let datagram = joined(rt.alloc(), packets)?;
         says(rt, *own, datagram.as_slice(), wanted)?;
     }
     Ok(())
@@ -206,7 +208,7 @@ fn push_long_nack(packet: &mut Vec<u8>, count: u16) -> Result<(), AllocError> {
 fn so_many_entries_are_heeded(rt: HostRuntime) -> Result<(), Fail> {
     let mut packets = Vec::new(rt.alloc());
     push_long_nack(&mut packets, 300)?;
-    packets.extend_from_slice(datagram(rt.alloc(), "PLI")?.as_slice())?;
+    packets.extend_from_slice(joined(rt.alloc(), "PLI")?.as_slice())?;
     let mut wanted = String::new(rt.alloc());
     wanted.push_str("control 17")?;
     for pid in 0..256 {
@@ -237,22 +239,20 @@ const SPELLED: [Case; 8] = [
 ];
 
 /// What a datagram of this source says, spelled.
-fn spelled(alloc: Global, own: u32, datagram: &[u8]) -> Result<Vec<u8>, Fail> {
-    let mut asks = Vec::new(alloc);
-    let Ok(heard) = hear(datagram, own, &mut asks) else {
-        return Err(Fail::from("not heard"));
-    };
+fn spelled(alloc: Global, own: u32, came: &[u8]) -> Result<Vec<u8>, Fail> {
+    let mut reading = Reading::new(alloc);
+    read_one(came, own, &mut reading)?;
     let mut bytes = Vec::new(alloc);
-    spell(Ssrc(own), heard, asks.as_slice(), datagram, &mut bytes)?;
+    spell(Ssrc(own), reading.what(), reading.asks(), came, &mut bytes)?;
     Ok(bytes)
 }
 
 #[test]
 fn spelled_as_heard(rt: HostRuntime) -> Result<(), Fail> {
     for (own, packets, wanted) in &SPELLED {
-        let came = datagram(rt.alloc(), packets)?;
+        let came = joined(rt.alloc(), packets)?;
         let bytes = spelled(rt.alloc(), *own, came.as_slice())?;
-        assert!(rt; bytes == datagram(rt.alloc(), wanted)?, "{packets}");
+        assert!(rt; bytes == joined(rt.alloc(), wanted)?, "{packets}");
     }
     Ok(())
 }

@@ -12,7 +12,7 @@ use crate::plan::{Change, Plan, Planned};
 use events::{Bytes, Out};
 use rewrite::SEQ_CYCLE;
 use rtcp_compound::{write_bye, write_rr, write_sdes_cname, write_sr};
-use shared_packet::{Readdressed, PacketParts, SharedPacket};
+use shared_packet::{PacketParts, Readdressed, SharedPacket};
 use std::alloc::{AllocError, Global};
 
 /// The bytes of a packet that goes out.
