@@ -186,6 +186,20 @@ impl Desk {
         })
     }
 
+    /// How many milliseconds at least lie between PLIs that it sends upstream.
+    pub fn gap(&self) -> u64
+        ensures { result ≡ self.now.gap }
+    {
+        self.gap
+    }
+
+    /// How many milliseconds old a request may grow; 0 for any age.
+    pub fn request_ms(&self) -> u64
+        ensures { result ≡ self.now.request_ms }
+    {
+        self.request_ms
+    }
+
     /// What stands for the calls before the listed ones.
     pub fn base(&self) -> &Base
         ensures value { result.now ≡ self.now.base }
