@@ -5,13 +5,12 @@ ghost use Rattle.std.specs.Prelude.{◌≡◌, ◌<◌, ◌≤◌, ◌-◌, ◌�
 ghost use Rattle.rate_desk.specs.Shares.{calls_to, words_to};
 ghost use Rattle.rate_desk.specs.Gathered.{AddsUp, AddUpBelow, Agrees, AreDesksOf, AtItsDesk, FailsToGather, Fits, GathersAll, IsApart, IsFirst, IsFirstGatherFault, IsFirstOff, IsFirstTwice, IsFoldedAt, StandsIn, receipt_entry};
 
-use crate::held::HeldDesk;
+use crate::desk_lock::DeskLock;
 use crate::house::House;
 use crate::ledger::{DeskCalls, SeatCalls};
 use crate::receipt::{GatherFault, Receipt};
 use crate::seat::DeskSeat;
 use desk::{Answer, Call, Change, Desk, Signal};
-use std::sync::Mutex;
 use tmmbr_tuple::Tuple;
 
 impl<D: DeskCalls, S: SeatCalls> House<D, S> {
@@ -45,10 +44,7 @@ impl<D: DeskCalls, S: SeatCalls> House<D, S> {
 }
 
 /// The desks, in order, in the room that was made for them.
-fn unlock<D: DeskCalls>(
-    locks: Vec<Mutex<HeldDesk<D>>>,
-    room: Vec<Desk>,
-) -> Result<Vec<Desk>, GatherFault>
+fn unlock<D: DeskCalls>(locks: Vec<DeskLock<D>>, room: Vec<Desk>) -> Result<Vec<Desk>, GatherFault>
     requires empty { room.items ≡ [] }
     requires roomy { vec_len locks ≤ vec_capacity room }
     ensures { MatchResult result (λ desks. AreDesksOf D.gap D.request_ms (vec_len locks)
@@ -57,7 +53,7 @@ fn unlock<D: DeskCalls>(
 {
     let mut desks = room;
     for lock in locks {
-        let desk = lock.into_inner().into_desk();
+        let desk = lock.into_desk();
         let Ok(()) = desks.push(desk) else {
             return Err(GatherFault::NoMemory);
         };

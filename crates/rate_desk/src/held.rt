@@ -7,12 +7,10 @@ use crate::ledger::DeskCalls;
 use desk::{CALL_LIMIT, Desk};
 use std::sync::ledger::Share;
 
-/// Whose desk it is; a desk, whose type keeps that its history is legal and its announced set the smallest; and its share of
-/// the ledger of recorded calls. Its gap and the age of its requests are the house's.
+/// A desk, whose type keeps that its history is legal and its announced set the smallest; and its share of the ledger of recorded
+/// calls. Its gap and the age of its requests are the house's.
 #[derive(Drop)]
 pub struct HeldDesk<D: DeskCalls> {
-    /// The number of its publisher.
-    pub publisher: usize,
     pub desk: Desk,
     pub share: Share<D>,
     pub ghost one_part: { share.parts ≡ 1 },
@@ -28,11 +26,7 @@ impl<D: DeskCalls> HeldDesk<D> {
     pub fn into_desk(self) -> Desk
         ensures { IsDeskOf D.gap D.request_ms result }
     {
-        let HeldDesk {
-            publisher: _,
-            desk,
-            share: _,
-        } = self;
+        let HeldDesk { desk, share: _ } = self;
         prove!(desk.calls() <= CALL_LIMIT);
         desk
     }

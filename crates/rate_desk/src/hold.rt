@@ -12,6 +12,7 @@ use std::sync::MutexGuard;
 /// changes it again. Contracts see whose desk it is, and the desk.
 #[derive(Drop)]
 pub struct Hold<'a, D: DeskCalls> {
+    pub(crate) publisher: usize,
     pub(crate) guard: MutexGuard<'a, HeldDesk<D>>,
 }
 
@@ -22,7 +23,7 @@ impl<'a, D: DeskCalls> Model for Hold<'a, D> {
     ghost Value = { HoldState };
 
     ghost view = { λ h. record {
-      publisher = (mutex_guard_value h.guard).publisher;
+      publisher = h.publisher;
       desk = (mutex_guard_value h.guard).desk;
     } };
 }

@@ -1,10 +1,10 @@
 //! Desks under locks of their own, one for each publisher, which several threads call.
 
-ghost use Rattle.std.specs.Prelude.{◌≡◌, ◌≤◌, replicate, vec_len, vec_capacity, IfOk, []};
+ghost use Rattle.std.specs.Prelude.{◌≡◌, ◌≤◌, replicate, slice_index, vec_len, vec_capacity, EachIndex, IfOk, []};
 ghost use Rattle.rate_desk.specs.Shares.{new_seat};
 
 use crate::NoMemory;
-use crate::held::HeldDesk;
+use crate::desk_lock::DeskLock;
 use crate::hold::Hold;
 use crate::ledger::{DeskCalls, SeatCalls, Tally};
 use crate::receipt::{HouseFault, Receipt};
@@ -13,7 +13,6 @@ use desk::{Call, Change, Desk, Effect, Signal};
 use std::alloc::Global;
 use std::sync::ledger::{Blank, Share};
 use std::sync::{Mutex, Wait};
-use std::thread;
 use tmmbr_tuple::{Ssrc, Tuple};
 
 /// A desk for each publisher.
@@ -24,13 +23,15 @@ use tmmbr_tuple::{Ssrc, Tuple};
 /// and for those of other publishers only while one of them is counted.
 #[derive(Drop)]
 pub struct House<D: DeskCalls, S: SeatCalls> {
-    pub(crate) desks: Vec<Mutex<HeldDesk<D>>>,
+    /// The locks of the desks, in the order of their publishers.
+    pub(crate) desks: Vec<DeskLock<D>>,
     pub(crate) tally: Mutex<Tally<D, S>>,
     /// How many seats were made.
     pub(crate) seats: usize,
     /// Room for the desks once they are out of their locks.
     pub(crate) room: Vec<Desk>,
     pub(crate) ghost all_here: { vec_len desks ≡ S.publishers },
+    pub(crate) ghost in_order: { EachIndex desks.items (λ p. slice_index desks.items p ≡ p) },
     pub(crate) ghost all_made: { seats ≡ S.seats },
     pub(crate) ghost empty: { room.items ≡ [] },
     pub(crate) ghost roomy: { S.publishers ≤ vec_capacity room },
@@ -281,9 +282,8 @@ impl<D: DeskCalls, S: SeatCalls> House<D, S> {
         ensures unchanged { OnErr result ((effect.new ≡ effect.old) × (hold.new ≡ hold.old)) }
         ensures place { hold.new.publisher ≡ hold.old.publisher }
     {
-        let held = &mut *hold.guard;
-        let publisher = held.publisher;
-        seat.call(rt, held, &self.tally, publisher, call, effect)
+        let publisher = hold.publisher;
+        seat.call(rt, &mut *hold.guard, &self.tally, publisher, call, effect)
     }
 
     /// A tick, without saying what is announced: a tick doesn't change that. A fault leaves the seat as it
@@ -300,24 +300,16 @@ impl<D: DeskCalls, S: SeatCalls> House<D, S> {
             seat.old seat.new result }
         ensures answered { IfOk result (IsPulsed D.gap D.request_ms) }
     {
-        let mut held = self.hold(rt, publisher);
-        seat.pulse(rt, &mut *held.guard, &self.tally, publisher, moment)
+        let mut hold = self.hold(rt, publisher);
+        seat.pulse(rt, &mut *hold.guard, &self.tally, publisher, moment)
     }
 
-    /// The publisher's desk, which nobody else calls until the hold is dropped: who waits for it waits so long. It is the one whose
-    /// lock says so. No lock has the desk of another publisher; it would be waited for in vain.
+    /// The publisher's desk, which nobody else calls until the hold is dropped: who waits for it waits so long.
     pub fn hold<R: Wait>(&self, rt: &R, publisher: usize) -> Hold<'_, D>
         requires { publisher < S.publishers }
         ensures { result.publisher ≡ publisher }
     {
-        for _ in rt.forever() {
-            let guard = self.desks[publisher].lock(rt);
-            if guard.publisher == publisher {
-                return Hold { guard };
-            }
-            thread::yield_now();
-        }
-        unreachable!()
+        self.desks[publisher].hold(rt)
     }
 
     /// Makes a call, and hands its effect out with the receipt.
@@ -338,30 +330,28 @@ impl<D: DeskCalls, S: SeatCalls> House<D, S> {
     }
 }
 
-/// A desk for each publisher, each with a part of the ledger.
+/// A desk for each publisher under its lock, in the order of the publishers, each with a part of the ledger.
 fn new_desks<D: DeskCalls>(
     alloc: Global,
     shares: Share<D>,
     publishers: usize,
     gap: u64,
     request_ms: u64,
-) -> Result<Vec<Mutex<HeldDesk<D>>>, NoMemory>
+) -> Result<Vec<DeskLock<D>>, NoMemory>
     requires parts { publishers ≤ shares.parts }
     requires no_calls { shares.amount ≡ 0 }
     requires gap { gap ≡ D.gap }
     requires request_ms { request_ms ≡ D.request_ms }
-    ensures { IfOk result (λ desks. vec_len desks ≡ publishers) }
+    ensures count { IfOk result (λ desks. vec_len desks ≡ publishers) }
+    ensures order { IfOk result
+        (λ desks. EachIndex desks.items (λ p. slice_index desks.items p ≡ p)) }
 {
     let mut shares = shares;
     let mut desks = Vec::with_capacity(alloc, publishers)?;
     for publisher in 0..publishers {
         let desk = Desk::new(alloc, gap, request_ms)?;
         let share = shares.split_off(1, 0);
-        desks.push(Mutex::new(HeldDesk {
-            publisher,
-            desk,
-            share,
-        }))?;
+        desks.push(DeskLock::new(publisher, desk, share))?;
     }
     Ok(desks)
 }

@@ -5,6 +5,7 @@
 //! moments are handed in. No call of a made house allocates.
 #![tactic(auto)]
 
+mod desk_lock;
 mod gathering;
 mod held;
 mod hold;

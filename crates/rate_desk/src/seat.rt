@@ -89,14 +89,12 @@ impl<S: SeatCalls> DeskSeat<S> {
     ) -> Result<Receipt, HouseFault>
         requires stays { HasStay call }
         requires publisher { publisher < S.publishers }
-        requires here { held.old.publisher ≡ publisher }
         ensures desk { CallsHeldDesk publisher call self.old held.old.desk held.new.desk result }
         ensures seat { GetsReceipt D.gap D.request_ms publisher call self.old self.new result }
         ensures effect { OnOk result (IsEffect (announced_of held.old.desk.bounds)
             (announced_of held.new.desk.bounds) effect.new) }
         ensures told { IfOk result (λ r. IsTold D.gap D.request_ms r effect.new) }
         ensures unchanged { OnErr result (effect.new ≡ effect.old) }
-        ensures place { held.new.publisher ≡ publisher }
     {
         let calls = held.desk.calls();
         if calls < self.calls(publisher) {
@@ -105,7 +103,7 @@ impl<S: SeatCalls> DeskSeat<S> {
             }
             return Err(HouseFault::Behind(calls));
         }
-        let HeldDesk { desk, share, .. } = held;
+        let HeldDesk { desk, share } = held;
         let Ok(Recorded { number, answer }) = desk.call(&call, effect) else {
             return Err(HouseFault::HistoryFull);
         };
@@ -128,14 +126,12 @@ impl<S: SeatCalls> DeskSeat<S> {
         moment: u64,
     ) -> Result<Receipt, HouseFault>
         requires publisher { publisher < S.publishers }
-        requires here { held.old.publisher ≡ publisher }
         ensures desk { CallsHeldDesk publisher (call.Time moment signal.Tick)
             self.old held.old.desk held.new.desk result }
         ensures seat { GetsReceipt D.gap D.request_ms publisher (call.Time moment signal.Tick)
             self.old self.new result }
         ensures announced { held.new.desk.bounds ≡ held.old.desk.bounds }
         ensures answered { IfOk result (IsPulsed D.gap D.request_ms) }
-        ensures place { held.new.publisher ≡ publisher }
     {
         let tick = Call::Time {
             moment,
@@ -148,7 +144,7 @@ impl<S: SeatCalls> DeskSeat<S> {
             }
             return Err(HouseFault::Behind(calls));
         }
-        let HeldDesk { desk, share, .. } = held;
+        let HeldDesk { desk, share } = held;
         let Ok(Recorded { number, answer }) = desk.pulse(moment) else {
             return Err(HouseFault::HistoryFull);
         };
