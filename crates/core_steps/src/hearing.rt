@@ -111,7 +111,7 @@ fn hear_media(
         parts,
     } = packet;
     outs.reserve(1)?;
-    if let Some(fault) = front.room.refuses(endpoint, ssrc) {
+    if let Some(fault) = front.room.refuses(moment, endpoint, ssrc) {
         return refuse(fault, outs);
     }
     let workers = front.setup.links.workers();
@@ -199,7 +199,7 @@ fn hear_control(
 {
     front.knows_count();
     outs.reserve(asks.len().max(1))?;
-    if let Some(fault) = front.room.refuses(endpoint, control.speaker) {
+    if let Some(fault) = front.room.refuses(moment, endpoint, control.speaker) {
         return refuse(fault, outs);
     }
     front.tasks.prepare(front.room.most_orders() + asks.len())?;

@@ -23,7 +23,7 @@ heard_at es k = option_and_then (λ (e : Endpoint). e.heard) (slice_get es k)
 abbrev pub overdue_of : ℕ → ℕ → Option ℕ → Bool
 overdue_of t m heard = option_map_or (λ h. nat_le (h + t) m) heard false
 
-overdue_heard : (t m : ℕ) (es : List Endpoint) (k : ℕ) → is_overdue_at t m es k ≡ overdue_of t m (heard_at es k)
+pub overdue_heard : (t m : ℕ) (es : List Endpoint) (k : ℕ) → is_overdue_at t m es k ≡ overdue_of t m (heard_at es k)
 unfolding is_overdue_at
 overdue_heard t m [] k = refl
 overdue_heard t m (e ∷ es) zero = refl

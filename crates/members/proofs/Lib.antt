@@ -6,5 +6,6 @@ pub mod NumberLemmas
 pub mod OrderCountLemmas
 pub mod ReceivedLemmas
 pub mod ReceptionLemmas
+pub mod SpentLemmas
 pub mod StandLemmas
 pub mod StayLemmas

@@ -86,6 +86,10 @@ leaving_most : (r : RoomState) (moment : ℕ) → AtMost (without_orders r.endpo
 unfolding leaving
 leaving_most r moment = overdue_most r.timeout moment (without_orders r.endpoints r.legs) (length r.endpoints)
 
+-- nobody takes a leg along
+pub leaving_legs : (r : RoomState) (moment : ℕ) → length (after_leaving r moment).legs ≡ length r.legs
+leaving_legs r moment = (leaving_most r moment).legs
+
 bye_most : (t u : Told) (e : ℕ) → AtMost t u → AtMost t (after_bye u e)
 bye_most t u e h = of (is_present_at u.endpoints e)
   where

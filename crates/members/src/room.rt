@@ -6,9 +6,9 @@ ghost use Rattle.members.specs.Stream.{nothing_heard};
 
 use crate::NoMemory;
 use crate::order::{Draft, Order};
-use crate::presence::{LAST_MOMENT, first_overdue, is_present_at, mark, source_at};
+use crate::presence::{LAST_MOMENT, first_overdue, is_overdue_at, is_present_at, mark, source_at};
 use crate::reception::Reception;
-use crate::stays::{arrive, leave_present, select_leg};
+use crate::stays::{LegStay, MAX_STAY, arrive, leave_present, select_leg};
 use crate::table::Table;
 use rtcp_compound::Block;
 use settings::{RoomFault, Settings};
@@ -70,11 +70,12 @@ impl Model for Room {
 }
 
 impl Room {
-    ghost use Rattle.std.specs.Prelude.{◌≡◌, ◌<◌, ◌≤◌, ◌+◌, ◌*◌, ◌↔◌, ℕ, max, true, Err, IsTrue, IsOk, IsNone, IfNone, IfSome, IfOk, IfErr, OnOk, OnErr, length};
+    ghost use Rattle.std.specs.Prelude.{◌≡◌, ◌<◌, ◌≤◌, ◌+◌, ◌*◌, ◌↔◌, ℕ, max, true, Err, IsTrue, IsOk, IsNone, IfNone, IfSome, IfOk, IfErr, OnOk, OnErr, MatchBool, MatchOption, count_by, length};
     ghost use Rattle.members.specs.Presence.{NobodyOverdue, is_present_at, source_at};
     ghost use Rattle.members.specs.Room.{new_room, tick_step, bye_step, hear_step, heard_step, select_step, after_leaving, leg_at, Answers, ChangesNothing, IsCalm, TakesStep};
     ghost use Rattle.members.specs.Room.{reception_at, after_packet, after_report, after_block};
     ghost use Rattle.members.specs.Calls.{Call, step_of};
+    ghost use Rattle.members.specs.Stays.{begins_with};
     ghost use Rattle.settings.specs.declared.limits.TheConstants.{MAX_LEGS};
     ghost use Rattle.members.specs.Stream.{IsBlockAnswer, timestamps_of};
 
@@ -227,10 +228,26 @@ impl Room {
         Ok(())
     }
 
-    /// What `hear` refuses a packet of this source at the endpoint with, at every moment: `UnknownEndpoint`, or `WrongSsrc` if the
-    /// source isn't the endpoint's; `None` if the endpoint is known and the source is its own. Who wants memory for a packet asks
-    /// this first, so that a want of memory comes after these refusals.
-    pub fn refuses(&self, endpoint: u16, ssrc: Ssrc) -> Option<RoomFault>
+    /// What `hear` refuses a packet of this source at the endpoint with, if no memory is wanting: `UnknownEndpoint`; `WrongSsrc` if the
+    /// source isn't the endpoint's; `StaysSpent` if a stay that begins would get the number `MAX_STAY`; `None` if it takes the packet
+    /// in. Who wants memory for a packet asks this first, so that a want of memory comes after these refusals.
+    pub fn refuses(&self, moment: u64, endpoint: u16, ssrc: Ssrc) -> Option<RoomFault>
+        ensures { MatchOption result (IsOk (hear_step self.now moment endpoint ssrc.0))
+            (λ fault. hear_step self.now moment endpoint ssrc.0 ≡ Err fault) }
+    {
+        if let Some(fault) = self.refuses_source(endpoint, ssrc) {
+            return Some(fault);
+        }
+        let moment = self.moment.max(moment);
+        if self.spends_stays(moment, usize::from(endpoint)) {
+            return Some(RoomFault::StaysSpent);
+        }
+        None
+    }
+
+    /// What a packet of this source at the endpoint is refused with at every moment; `None` if the endpoint is known and the source is
+    /// its own.
+    fn refuses_source(&self, endpoint: u16, ssrc: Ssrc) -> Option<RoomFault>
         ensures refused { IfSome result (λ fault. (moment : ℕ)
             → hear_step self.now moment endpoint ssrc.0 ≡ Err fault) }
         ensures own { IsNone result ↔ ((endpoint < length self.now.endpoints)
@@ -244,6 +261,55 @@ impl Room {
             return Some(RoomFault::WrongSsrc);
         }
         None
+    }
+
+    /// Whether more stays begin than numbers are left, if this endpoint is heard after those overdue at this moment left.
+    fn spends_stays(&self, moment: u64, at: usize) -> bool
+        ensures { MatchBool result
+            (heard_step self.now moment at (after_leaving self.now moment)
+            ≡ Err RoomFault.StaysSpent)
+            (IsOk (heard_step self.now moment at (after_leaving self.now moment))) }
+    {
+        let legs = self.held.legs.as_slice();
+        if self.next + legs.len() as u64 <= MAX_STAY {
+            return false;
+        }
+        if self.remains(moment, at) {
+            return false;
+        }
+        self.next + self.count_coming(moment, at) > MAX_STAY
+    }
+
+    /// Whether the endpoint is present after those overdue at this moment left.
+    fn remains(&self, moment: u64, endpoint: usize) -> bool
+        ensures { result ≡ is_present_at (after_leaving self.now moment).endpoints endpoint }
+    {
+        let endpoints = self.held.endpoints.as_slice();
+        is_present_at(endpoints, endpoint)
+            && !is_overdue_at(endpoints, self.timeout_ms, moment, endpoint)
+    }
+
+    /// Whether a stay of the leg begins as the endpoint comes, after those overdue at this moment left.
+    fn begins(&self, leg: &LegStay, moment: u64, endpoint: usize) -> bool
+        ensures { result
+            ≡ begins_with (after_leaving self.now moment).endpoints endpoint leg.now }
+    {
+        let subscriber = usize::from(leg.subscriber);
+        let publisher = usize::from(leg.publisher);
+        (subscriber == endpoint && self.remains(moment, publisher))
+            || (publisher == endpoint && self.remains(moment, subscriber))
+    }
+
+    /// How many stays begin as the endpoint comes, after those overdue at this moment left.
+    fn count_coming(&self, moment: u64, endpoint: usize) -> u64
+        ensures { result ≡ count_by
+            (begins_with (after_leaving self.now moment).endpoints endpoint) self.now.legs }
+    {
+        self.held
+            .legs
+            .iter()
+            .filter(|leg| self.begins(leg, moment, endpoint))
+            .count() as u64
     }
 
     /// A packet of this source was heard at the endpoint, which comes if it isn't present: its
@@ -267,7 +333,7 @@ impl Room {
             → is_present_at self.old.endpoints endpoint ≡ true → IsCalm self.old moment
             → IsOk result }
     {
-        if let Some(fault) = self.refuses(endpoint, ssrc) {
+        if let Some(fault) = self.refuses_source(endpoint, ssrc) {
             return Err(fault);
         }
         let moment = self.moment.max(moment);

@@ -51,6 +51,7 @@ fn stays_of_example_17(rt: HostRuntime) -> Result<(), Fail> {
         tick 999:\n\
         tick 1000: route 0 0 1 off depart 0 1\n\
         hear 1000 1 17: arrive 0 2 route 0 2 2 on\n\
+        refuses 1000 1 18: 2\n\
         hear 1000 1 18: refused 2\n\
         moment: 1000\n\
         stay 0: 2\n\
@@ -65,7 +66,9 @@ fn stays_of_example_17(rt: HostRuntime) -> Result<(), Fail> {
         on 1500 1: refused 3\n\
         hear 1500 2 16: refused 1\n\
         bye 1600 2: refused 1\n\
+        refuses 1600 65535 16: 1\n\
         hear 1600 65535 16: refused 1\n\
+        refuses 1600 0 16: 0\n\
         on 1600 65535: refused 3\n\
         moment: 1500\n";
     small_plays(&rt, rt.alloc(), script)

@@ -6,7 +6,7 @@
 //! | `hear MOMENT ENDPOINT SOURCE`, `bye MOMENT ENDPOINT` | a packet of an endpoint, its goodbye |
 //! | `tick MOMENT`, `on MOMENT LEG`, `off MOMENT LEG` | a moment; a leg is selected, or not |
 //! | `packet ENDPOINT SEQ TIMESTAMP`, `report ENDPOINT NTP RTP` | what is received of an endpoint; of a reception the moment stands in the endpoint's place |
-//! | `moment`, `quiet`, `present ENDPOINT`, `stay LEG`, `refuses ENDPOINT SOURCE` | what a room shows |
+//! | `moment`, `quiet`, `present ENDPOINT`, `stay LEG`, `refuses MOMENT ENDPOINT SOURCE` | what a room shows |
 //! | `last ENDPOINT`, `block ENDPOINT` | the last sender report, the block about an endpoint |
 //!
 //! A call gives its orders, or `refused` and the fault's number, and leaves the orders that stood before. A block gives its fields in
@@ -129,14 +129,13 @@ fn receive(room: &mut Room, name: &str, numbers: Numbers) -> bool {
 
 /// The number that a room shows under this name.
 fn shown(room: &Room, name: &str, numbers: Numbers) -> u64 {
-    let [first, source, _] = numbers;
-    let first = low_16(first);
+    let [first, endpoint, source] = numbers;
     match name {
         "moment" => room.moment(),
         "quiet" => room.quiet_until(),
-        "present" => u64::from(room.is_present(first)),
-        "stay" => room.stay(first),
-        _ => match room.refuses(first, Ssrc(low_32(source))) {
+        "present" => u64::from(room.is_present(low_16(first))),
+        "stay" => room.stay(low_16(first)),
+        _ => match room.refuses(first, low_16(endpoint), Ssrc(low_32(source))) {
             Some(fault) => u64::from(fault.number()),
             None => 0,
         },

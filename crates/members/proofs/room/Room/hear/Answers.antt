@@ -8,4 +8,4 @@ use Rattle.members.proofs.room.Room.hear.Goals as goal
 pub returns-in-Some-clause-calm : goal.returns-in-Some-clause-calm
 returns-in-Some-clause-calm c = λ source present calm.
     let known : c.args.endpoint < length c.args.self.now.endpoints = present_within c.args.self.now.endpoints c.args.endpoint present in
-    absurd (cc (subst (λ (o : Option RoomFault). IsNone o) c.in-Some.is (c.refuses.ensures.own.1 (known, source))))
+    absurd (cc (subst (λ (o : Option RoomFault). IsNone o) c.in-Some.is (c.refuses_source.ensures.own.1 (known, source))))
