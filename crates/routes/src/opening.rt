@@ -7,7 +7,7 @@ ghost use Rattle.members.specs.Rows.{opening_rows};
 ghost use Rattle.routes.specs.Views.{IsOpening, IsTable};
 
 use crate::mark::{Law, Mark};
-use crate::reader::RouteReader;
+use crate::reader::{RouteReader, TableReader};
 use crate::rule::Naming;
 use crate::table::Table;
 use crate::writer::{RouteWriter, TableWriter};
@@ -79,8 +79,8 @@ impl Blank {
 
 /// The writer of a table and so many readers. All rows begin without a stay, at turn 0 and off.
 ///
-/// Refused with `NoPlace` if a reader finds no place, else with `NoMemory`. It may wait only if it
-/// is refused, to let the table go.
+/// Refused with `NoPlace` if a reader finds no place, else with `NoMemory`; without memory for the table itself there are no places to
+/// be found. It may wait only if it is refused, to let the table go.
 pub fn routes<J: Naming, R: Wait>(
     rt: &R,
     alloc: Global,
@@ -132,7 +132,7 @@ fn opening_table(alloc: Global, legs: u16, mark: &Mark) -> Result<Table, AllocEr
     })
 }
 
-/// So many readers.
+/// So many readers. Each finds its place before memory is wanted for the first of them.
 fn make_readers<J: Naming>(
     alloc: Global,
     writer: &TableWriter<J>,
@@ -145,41 +145,24 @@ fn make_readers<J: Naming>(
     ensures count { IfOk result (λ readers. length readers.items ≡ count) }
     ensures readers { IfOk result (λ readers. All (IsOpening J.legs) readers.items) }
 {
-    let mut readers = Vec::with_capacity(alloc, count)?;
-    while readers.len() < count {
-        let reader = make_reader(alloc, writer, mark, legs)?;
-        readers.push(reader).map_err(|_| AllocError)?;
+    if count == 0 {
+        return Ok(Vec::new(alloc));
     }
+    let place = take_place(writer)?;
+    let mut readers = make_readers(alloc, writer, mark, legs, count - 1)?;
+    let reader = RouteReader::new(alloc, place, opening_table(alloc, legs, mark)?);
+    let Ok(()) = readers.push(reader) else {
+        return Err(RoutesFault::NoMemory);
+    };
     Ok(readers)
 }
 
-fn make_reader<J: Naming>(
-    alloc: Global,
-    writer: &TableWriter<J>,
-    mark: &Mark,
-    legs: u16,
-) -> Result<RouteReader<J>, RoutesFault>
-    requires mark { (mark.now.seen.book ≡ J.book) × (mark.now.seen.log ≡ []) }
-    requires legs { legs ≡ J.legs }
-    ensures { IfOk result (IsOpening J.legs) }
-{
-    let taken = opening_table(alloc, legs, mark)?;
-    reader_with(alloc, writer, taken)
-}
-
-/// A reader with this copy of the table. Refused only if there is no place for it.
-fn reader_with<J: Naming>(
-    alloc: Global,
-    writer: &TableWriter<J>,
-    taken: Table,
-) -> Result<RouteReader<J>, RoutesFault>
-    requires { IsTable J.book J.legs taken }
-    ensures known { IfOk result (λ r. r.known ≡ changes_of taken.mark.seen.log) }
-    ensures rows { IfOk result (λ r. r.rows ≡ taken.rows.items) }
+/// A place of the table for one reader. Refused only if there is none.
+fn take_place<J: Naming>(writer: &TableWriter<J>) -> Result<TableReader<J>, RoutesFault>
     ensures no_place { IfErr result (λ fault. fault ≡ NoPlace) }
 {
     match writer.factory().reader() {
-        Ok(reader) => Ok(RouteReader::new(alloc, reader, taken)),
+        Ok(reader) => Ok(reader),
         Err(_) => Err(RoutesFault::NoPlace),
     }
 }
