@@ -20,7 +20,7 @@ use crate::ticking::tick;
 use crate::world::standing;
 use datagram::{Reading, Taking};
 use events::{Bytes, Job, Out, SharedPacket};
-use members::Order;
+use members::{Order, RoomView};
 use notices::Head;
 use settings::{Links, Settings};
 use std::alloc::{AllocError, Global};
@@ -189,6 +189,17 @@ impl IngressCore {
             (λ s. (s ≢ 0) × ((leg_at self.now.room.legs leg).stay ≡ s)) }
     {
         standing(self.front.room.stay(leg))
+    }
+
+    /// The room as it is, and how its legs are found.
+    pub fn view(&self) -> RoomView<'_>
+        ensures links { result.links.now ≡ self.now.setup.table }
+        ensures room { result.room.now ≡ self.now.room }
+    {
+        RoomView {
+            links: &self.front.setup.links,
+            room: &self.front.room,
+        }
     }
 
     /// The legs.

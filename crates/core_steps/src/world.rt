@@ -16,7 +16,7 @@ use datagram::Reading;
 use desk::{Desk, Effect};
 use events::Out;
 use legs::Legs;
-use members::Row;
+use members::{RoomView, Row};
 use settings::{Links, Settings};
 use std::alloc::Global;
 use std::marker::Model;
@@ -220,6 +220,18 @@ impl World {
         ensures { result ≡ is_present_at self.now.room.endpoints endpoint }
     {
         self.machine.front.room.is_present(endpoint)
+    }
+
+    /// The room as it is, and how its legs are found.
+    pub fn view(&self) -> RoomView<'_>
+        ensures links { result.links.now ≡ self.now.setup.table }
+        ensures room { result.room.now ≡ self.now.room }
+    {
+        let front = &self.machine.front;
+        RoomView {
+            links: &front.setup.links,
+            room: &front.room,
+        }
     }
 
     /// The stay that stands for this leg; `None` if none does.

@@ -13,6 +13,7 @@ mod room;
 mod stays;
 pub mod stream;
 mod table;
+mod view;
 
 pub use order::{Change, Order, Row};
 pub use room::Room;
@@ -24,3 +25,4 @@ pub use settings::{
 pub use stays::MAX_STAY;
 pub use std::alloc::AllocError as NoMemory;
 pub use stream::COUNTED_PACKETS;
+pub use view::RoomView;

@@ -280,6 +280,15 @@ impl Room {
         self.next + self.count_coming(moment, at) > MAX_STAY
     }
 
+    /// Whether this endpoint is present at this moment, or at the room's own if that is later: it is present, and isn't overdue by
+    /// then. So it is known before the room is handed the moment.
+    pub fn is_present_by(&self, endpoint: u16, moment: u64) -> bool
+        ensures { result ≡ is_present_at
+            (after_leaving self.now (max self.now.moment moment)).endpoints endpoint }
+    {
+        self.remains(self.moment.max(moment), usize::from(endpoint))
+    }
+
     /// Whether the endpoint is present after those overdue at this moment left.
     fn remains(&self, moment: u64, endpoint: usize) -> bool
         ensures { result ≡ is_present_at (after_leaving self.now moment).endpoints endpoint }
