@@ -2,9 +2,9 @@
 
 ghost use Rattle.std.specs.Prelude.{◌≡◌, ◌<◌, ◌≤◌, ◌^◌, ◌++◌, ◌∷◌, ◌↔◌, [], length, IsTrue, MatchBool, IfSome};
 ghost use mathlib.Core.List.{IsPrefix};
-ghost use Rattle.routes.specs.Publications.{head_of};
+ghost use Rattle.routes.specs.Publications.{head_of, MayPublish};
 
-use logbook::{Gain, Offer, Plain, Play, Rule, Seen, Word};
+use logbook::{Gain, Offer, Pen, Plain, Play, Rule, Seen, Word};
 use members::Change;
 
 /// The rule of the book of publications.
@@ -37,13 +37,39 @@ impl Gain<[Change; 0], u64> for Nothing {
     ghost after = { λ names about answer. ftrue };
 }
 
-/// A step that puts a publication after all others.
+/// A step that makes the right to publish, if there is none.
+pub struct Open;
+
+impl Play<[Change; 0], u64> for Open {
+    ghost use Rattle.routes.specs.Publications.{Opens};
+
+    ghost then = { Opens };
+}
+
+/// A step that changes nothing, by who has the right to publish.
+pub struct Look;
+
+impl Play<[Change; 0], u64> for Look {
+    ghost use Rattle.routes.specs.Publications.{SeesAll};
+
+    ghost then = { SeesAll };
+}
+
+/// A step that puts a publication after all others, and uses the right to publish up.
 pub struct Publish;
 
 impl Play<[Change; 0], u64> for Publish {
     ghost use Rattle.routes.specs.Publications.{Publishes};
 
     ghost then = { Publishes };
+}
+
+impl Plain<(), [Change; 0], u64> for Publish {
+    ghost use Rattle.std.specs.Prelude.{None, []};
+
+    ghost ask = { λ _. [] };
+
+    ghost state = { λ _. None };
 }
 
 impl Plain<Vec<Change>, [Change; 0], u64> for Publish {
@@ -109,46 +135,94 @@ impl Mark {
     }
 
     /// Whether there are 2^62 publications, which is as many as the book may have.
-    fn is_full(&self) -> bool
+    pub(crate) fn is_full(&self) -> bool
         ensures { IsTrue result ↔ (2 ^ 62 ≤ length self.now.seen.log) }
     {
         self.count >= MOST
     }
 
-    /// One publication more, if nobody else made one and the book isn't full.
-    pub(crate) fn publish(
-        &self,
-        head: &Word<[Change; 0], u64, Law>,
-        changes: &Vec<Change>,
-    ) -> Option<Mark>
+    /// The right to the publication that follows this mark, if nobody has it and the book isn't full.
+    pub(crate) fn next_right(&self, head: &Word<[Change; 0], u64, Law>) -> Option<Pen>
         requires { head.now ≡ head_of self.now.seen.book }
-        ensures { IfSome result (λ m. (m.seen.book ≡ self.now.seen.book)
-            × (m.seen.log ≡ self.now.seen.log ++ changes.now.items ∷ [])) }
+        ensures { IfSome result (MayPublish self.now.seen.book self.now.seen.log) }
     {
         if self.is_full() {
             return None;
         }
+        let mut seen = self.seen.again();
+        let mut offer: Offer<[Change; 0], u64, Law, Nothing> = seen.plain::<Nothing, (), Publish>(
+            &(),
+        );
+        let mut right = seen.no_pen();
+        let count = 2 * self.count;
+        let found = head.compare_exchange::<Open, Nothing>(
+            count,
+            count + 1,
+            &mut seen,
+            &mut offer,
+            &mut right,
+        );
+        if found != count {
+            return None;
+        }
+        let _word: Word<[Change; 0], u64, Law> = Word::tracked(0, &mut right);
+        Some(right)
+    }
+
+    /// One publication more, by the right to it, which is used up.
+    pub(crate) fn publish(
+        &self,
+        head: &Word<[Change; 0], u64, Law>,
+        right: &mut Pen,
+        changes: &Vec<Change>,
+    ) -> Mark
+        requires head { head.now ≡ head_of self.now.seen.book }
+        requires right { MayPublish self.now.seen.book self.now.seen.log right.old }
+        requires room { length self.now.seen.log < 2 ^ 62 }
+        ensures book { result.seen.book ≡ self.now.seen.book }
+        ensures log { result.seen.log ≡ self.now.seen.log ++ changes.now.items ∷ [] }
+    {
         let mut seen = self.seen.again();
         let mut offer: Offer<[Change; 0], u64, Law, Nothing> = seen.plain::<
             Nothing,
             Vec<Change>,
             Publish,
         >(changes);
-        let mut pen = seen.no_pen();
-        let count = self.count;
-        let found = head.compare_exchange::<Publish, Nothing>(
+        let count = 2 * self.count + 1;
+        let _found = head.compare_exchange::<Publish, Nothing>(
             count,
             count + 1,
             &mut seen,
             &mut offer,
-            &mut pen,
+            right,
         );
-        if found != count {
-            return None;
-        }
-        Some(Mark {
-            count: count + 1,
+        Mark {
+            count: self.count + 1,
             seen,
-        })
+        }
+    }
+
+    /// Whether the other mark has all publications, too. It has a beginning of them: nobody publishes while the right to the one that
+    /// follows this mark is held.
+    pub(crate) fn is_all_of(
+        &self,
+        head: &Word<[Change; 0], u64, Law>,
+        right: &mut Pen,
+        other: &Mark,
+    ) -> bool
+        requires head { head.now ≡ head_of self.now.seen.book }
+        requires right { MayPublish self.now.seen.book self.now.seen.log right.old }
+        requires book { other.now.seen.book ≡ self.now.seen.book }
+        ensures right { MayPublish self.now.seen.book self.now.seen.log right.new }
+        ensures beginning { IsPrefix other.now.seen.log self.now.seen.log }
+        ensures all { IsTrue result ↔ (other.now.seen.log ≡ self.now.seen.log) }
+    {
+        let mut seen = self.seen.again();
+        seen.learn(&other.seen);
+        let mut offer: Offer<[Change; 0], u64, Law, Nothing> = seen.plain::<Nothing, (), Publish>(
+            &(),
+        );
+        let _found = head.compare_exchange::<Look, Nothing>(0, 0, &mut seen, &mut offer, right);
+        other.count == self.count
     }
 }

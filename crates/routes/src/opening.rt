@@ -12,7 +12,7 @@ use crate::rule::Naming;
 use crate::table::Table;
 use crate::writer::{RouteWriter, TableWriter};
 use left_right::writer::Writer;
-use logbook::{Seen, Start, Word};
+use logbook::{Pen, Seen, Start, Word};
 use members::{Change, Row};
 use std::alloc::{AllocError, Global};
 use std::marker::Model;
@@ -46,19 +46,22 @@ impl From<AllocError> for RoutesFault {
 pub struct Blank {
     head: Word<[Change; 0], u64, Law>,
     mark: Mark,
+    /// The right to the first publication.
+    right: Option<Pen>,
     legs: u16,
 }
 
 impl Model for Blank {
-    ghost use Rattle.std.specs.Prelude.{◌≡◌, []};
-    ghost use Rattle.routes.specs.Publications.{head_of};
+    ghost use Rattle.std.specs.Prelude.{◌≡◌, [], IfSome};
+    ghost use Rattle.routes.specs.Publications.{head_of, MayPublish};
     ghost use Rattle.routes.specs.Views.{BlankView};
 
     ghost Value = { BlankView };
 
     ghost view = { λ b. record { book = b.mark.seen.book; legs = b.legs } };
 
-    ghost invariant = { λ b. (b.head ≡ head_of b.mark.seen.book) × (b.mark.seen.log ≡ []) };
+    ghost invariant = { λ b. (b.head ≡ head_of b.mark.seen.book) × (b.mark.seen.log ≡ [])
+        × IfSome b.right (MayPublish b.mark.seen.book []) };
 }
 
 impl Blank {
@@ -69,9 +72,13 @@ impl Blank {
         ensures { result.legs ≡ legs }
     {
         let (seen, mut first, _second) = Seen::open(Start::alone(), 0, 0);
+        let head = Word::tracked(0, &mut first);
+        let mark = Mark::first(seen);
+        let right = mark.next_right(&head);
         Blank {
-            head: Word::tracked(0, &mut first),
-            mark: Mark::first(seen),
+            head,
+            mark,
+            right,
             legs,
         }
     }
@@ -79,8 +86,9 @@ impl Blank {
 
 /// The writer of a table and so many readers. All rows begin without a stay, at turn 0 and off.
 ///
-/// Refused with `NoPlace` if a reader finds no place, else with `NoMemory`; without memory for the table itself there are no places to
-/// be found. It may wait only if it is refused, to let the table go.
+/// Refused with `NoPlace` if a reader finds no place, or somebody else had the right to publish, which nobody has; else with
+/// `NoMemory`. Without memory for the table itself there are no places to be found. It may wait only if it is refused, to let the
+/// table go.
 pub fn routes<J: Naming, R: Wait>(
     rt: &R,
     alloc: Global,
@@ -93,12 +101,20 @@ pub fn routes<J: Naming, R: Wait>(
     ensures count { IfOk result (λ r. length r.1.items ≡ readers) }
     ensures readers { IfOk result (λ r. All (IsOpening J.legs) r.1.items) }
 {
-    let Blank { head, mark, legs } = blank;
+    let Blank {
+        head,
+        mark,
+        right,
+        legs,
+    } = blank;
+    let Some(right) = right else {
+        return Err(RoutesFault::NoPlace);
+    };
     let first = opening_table(alloc, legs, &mark)?;
     let second = opening_table(alloc, legs, &mark)?;
     let writer: TableWriter<J> = Writer::new(alloc, first, second, readers)?;
     let made = make_readers(alloc, &writer, &mark, legs, readers);
-    let writer = RouteWriter::new(alloc, writer, head, mark, legs);
+    let writer = RouteWriter::new(alloc, writer, head, mark, right, legs);
     match made {
         Ok(readers) => Ok((writer, readers)),
         Err(fault) => {

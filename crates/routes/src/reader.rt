@@ -40,7 +40,7 @@ impl<J: Naming> Model for RouteReader<J> {
 }
 
 impl<J: Naming> RouteReader<J> {
-    ghost use Rattle.std.specs.Prelude.{◌≡◌, MatchBool};
+    ghost use Rattle.std.specs.Prelude.{◌≡◌, IsTrue, MatchBool};
     ghost use mathlib.Core.List.{IsPrefix};
     ghost use Rattle.members.specs.Rows.{rows_after};
     ghost use Rattle.routes.specs.Publications.{changes_of};
@@ -68,12 +68,13 @@ impl<J: Naming> RouteReader<J> {
         note.mark.begins(&self.known)
     }
 
-    /// Whether it knows all that the writer published. Else it knows a beginning of that.
-    pub fn knows_all_of(&self, writer: &RouteWriter<J>) -> bool
-        ensures { Knows result self.now.known writer.now.published }
+    /// Whether it knows all that the writer published. It knows a beginning of that, since only the writer publishes.
+    pub fn knows_all_of(&self, writer: &mut RouteWriter<J>) -> bool
+        ensures writer { writer.new ≡ writer.old }
+        ensures beginning { IsPrefix self.now.known writer.old.published }
+        ensures all { IsTrue result → self.now.known ≡ writer.old.published }
     {
-        let note = writer.note();
-        self.knows(&note)
+        writer.is_all_of(&self.known)
     }
 
     /// The note of all that it knows, for other readers.
@@ -93,7 +94,8 @@ impl<J: Naming> RouteReader<J> {
     }
 
     /// Takes the rows that are published, and says whether it did: not if the table gives no view.
-    /// Then nothing changed. It waits for nobody, and takes no memory.
+    /// Then nothing changed. It waits for nobody, and takes no memory. The rows are those after what it knows then, which is a
+    /// beginning of what the writer published (`knows_all_of`).
     pub fn enter(&mut self) -> bool
         ensures view { MatchBool result
             (IsPrefix self.old.known self.new.known

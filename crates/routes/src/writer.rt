@@ -1,7 +1,7 @@
 //! The writer of the route table: it notes changes, and publishes them all at once.
 
-ghost use Rattle.std.specs.Prelude.{◌≡◌, ◌++◌, ◌∷◌, [], drop};
-ghost use Rattle.routes.specs.Publications.{head_of};
+ghost use Rattle.std.specs.Prelude.{◌≡◌, ◌<◌, ◌^◌, ◌++◌, ◌∷◌, [], drop, length};
+ghost use Rattle.routes.specs.Publications.{head_of, MayPublish};
 ghost use Rattle.routes.specs.Views.{IsAhead, IsNext};
 
 use crate::NoMemory;
@@ -11,7 +11,7 @@ use crate::rule::{Naming, Published};
 use crate::table::{Batch, Table};
 use core::mem::{replace, replace_with};
 use left_right::writer::Writer;
-use logbook::Word;
+use logbook::{Pen, Word};
 use members::{Change, Order, Row};
 use std::alloc::Global;
 use std::marker::Model;
@@ -25,6 +25,8 @@ pub struct RouteWriter<J: Naming> {
     writer: TableWriter<J>,
     head: Word<[Change; 0], u64, Law>,
     mark: Mark,
+    /// The right to the next publication, so that nobody else makes one.
+    right: Pen,
     noted: Vec<Change>,
     legs: u16,
     alloc: Global,
@@ -32,7 +34,7 @@ pub struct RouteWriter<J: Naming> {
 
 impl<J: Naming> Model for RouteWriter<J> {
     ghost use Rattle.std.specs.Prelude.{◌≡◌, drop};
-    ghost use Rattle.routes.specs.Publications.{changes_of, head_of};
+    ghost use Rattle.routes.specs.Publications.{changes_of, head_of, MayPublish};
     ghost use Rattle.routes.specs.Views.{WriterView, IsAhead};
 
     ghost Value = { WriterView };
@@ -40,14 +42,16 @@ impl<J: Naming> Model for RouteWriter<J> {
     ghost view = { λ w. record { published = changes_of w.mark.seen.log; noted = w.noted.items } };
 
     ghost invariant = { λ w. (w.legs ≡ J.legs) × (w.head ≡ head_of J.book)
-        × (w.mark.seen.book ≡ J.book) × IsAhead J.book J.legs w.mark.seen.log
+        × (w.mark.seen.book ≡ J.book) × MayPublish J.book w.mark.seen.log w.right
+        × IsAhead J.book J.legs w.mark.seen.log
         (drop w.writer.behind w.writer.log.items) w.writer.desk.shown.value };
 }
 
 impl<J: Naming> RouteWriter<J> {
-    ghost use Rattle.std.specs.Prelude.{◌≡◌, ◌≢◌, ◌++◌, [], drop, OnOk, OnErr};
+    ghost use Rattle.std.specs.Prelude.{◌≡◌, ◌≢◌, ◌++◌, [], drop, IsTrue, OnOk, OnErr};
+    ghost use mathlib.Core.List.{IsPrefix};
     ghost use Rattle.members.specs.Rows.{changes_by};
-    ghost use Rattle.routes.specs.Publications.{changes_of, head_of};
+    ghost use Rattle.routes.specs.Publications.{changes_of, head_of, MayPublish};
     ghost use Rattle.routes.specs.Views.{IsAhead, IsNext};
 
     /// A writer that has noted nothing.
@@ -56,11 +60,13 @@ impl<J: Naming> RouteWriter<J> {
         writer: TableWriter<J>,
         head: Word<[Change; 0], u64, Law>,
         mark: Mark,
+        right: Pen,
         legs: u16,
     ) -> RouteWriter<J>
         requires legs { legs ≡ J.legs }
         requires head { head ≡ head_of J.book }
         requires book { mark.seen.book ≡ J.book }
+        requires right { MayPublish J.book mark.seen.log right }
         requires ahead { IsAhead J.book J.legs mark.seen.log
             (drop writer.behind writer.log.items) writer.desk.shown.value }
         ensures published { result.published ≡ changes_of mark.seen.log }
@@ -70,6 +76,7 @@ impl<J: Naming> RouteWriter<J> {
             writer,
             head,
             mark,
+            right,
             noted: Vec::new(alloc),
             legs,
             alloc,
@@ -111,7 +118,7 @@ impl<J: Naming> RouteWriter<J> {
         ensures note { result ≡ self.new.published }
     {
         let changes = replace(&mut self.noted, Vec::new(self.alloc));
-        let mark = advance(rt, &self.head, &self.mark, &changes);
+        let mark = advance(rt, &self.head, &self.mark, &mut self.right, &changes);
         let before = replace(&mut self.mark, mark.again());
         let batch = Batch { changes, mark };
         replace_with(
@@ -135,12 +142,23 @@ impl<J: Naming> RouteWriter<J> {
         RouteNote::of(&self.mark)
     }
 
+    /// Whether the mark has all that is published. It has a beginning of it.
+    pub(crate) fn is_all_of(&mut self, mark: &Mark) -> bool
+        requires { mark.now.seen.book ≡ J.book }
+        ensures same { self.new ≡ self.old }
+        ensures beginning { IsPrefix (changes_of mark.now.seen.log) self.old.published }
+        ensures all { IsTrue result → changes_of mark.now.seen.log ≡ self.old.published }
+    {
+        self.mark.is_all_of(&self.head, &mut self.right, mark)
+    }
+
     /// Waits for the readers, and lets the table go. From then on no reader gets a view.
     pub fn end<R: Wait>(self, rt: &R) {
         let RouteWriter {
             writer,
             head: _,
             mark: _,
+            right: _,
             noted: _,
             legs: _,
             alloc: _,
@@ -149,20 +167,47 @@ impl<J: Naming> RouteWriter<J> {
     }
 }
 
-/// Makes the publication once nobody else makes one. Nobody does: the word is the writer's alone.
+/// Makes the publication by the right to it, and has the right to the next one then.
 fn advance<R: Wait>(
     rt: &R,
     head: &Word<[Change; 0], u64, Law>,
     mark: &Mark,
+    right: &mut Pen,
     changes: &Vec<Change>,
 ) -> Mark
-    requires { head.now ≡ head_of mark.now.seen.book }
+    requires head { head.now ≡ head_of mark.now.seen.book }
+    requires right { MayPublish mark.now.seen.book mark.now.seen.log right.old }
     ensures book { result.seen.book ≡ mark.now.seen.book }
     ensures log { result.seen.log ≡ mark.now.seen.log ++ changes.now.items ∷ [] }
+    ensures right { MayPublish result.seen.book result.seen.log right.new }
+{
+    wait_for_room(rt, mark);
+    let next = mark.publish(head, right, changes);
+    *right = wait_for_right(rt, head, &next);
+    next
+}
+
+/// Returns only if the book has room for one publication more.
+fn wait_for_room<R: Wait>(rt: &R, mark: &Mark)
+    ensures { length mark.now.seen.log < 2 ^ 62 }
 {
     for _ in rt.forever() {
-        if let Some(next) = mark.publish(head, changes) {
-            return next;
+        if !mark.is_full() {
+            return;
+        }
+        thread::yield_now();
+    }
+    unreachable!()
+}
+
+/// The right to the publication that follows the mark, once nobody else has it. Nobody does: the word is the writer's alone.
+fn wait_for_right<R: Wait>(rt: &R, head: &Word<[Change; 0], u64, Law>, mark: &Mark) -> Pen
+    requires { head.now ≡ head_of mark.now.seen.book }
+    ensures { MayPublish mark.now.seen.book mark.now.seen.log result }
+{
+    for _ in rt.forever() {
+        if let Some(right) = mark.next_right(head) {
+            return right;
         }
         thread::yield_now();
     }

@@ -169,7 +169,7 @@ fn follow_all<J: Naming + Send + Sync, R: Threads + Wait + Sync>(
 }
 
 /// All readers came to the end, and know all that was published; the first knows no less than the others.
-fn all_know<J: Naming>(followed: &[Option<RouteReader<J>>], writer: &RouteWriter<J>) -> bool {
+fn all_know<J: Naming>(followed: &[Option<RouteReader<J>>], writer: &mut RouteWriter<J>) -> bool {
     let Some(Some(first)) = followed.first() else {
         return false;
     };
@@ -201,7 +201,7 @@ fn follow_beside<J: Naming + Send + Sync, R: Threads + Wait + Abort + Sync>(
         move || follow_all(rt, alloc, readers, letters),
     );
     let know = match &followed {
-        Some(all) => all.len() == READERS && all_know(all.as_slice(), &writer),
+        Some(all) => all.len() == READERS && all_know(all.as_slice(), &mut writer),
         None => false,
     };
     writer.end(rt);
