@@ -85,7 +85,7 @@ impl Forwarder {
         ensures unchanged { OnErr result ((self.new ≡ self.old) × (sink.new ≡ sink.old)) }
     {
         reader.learn(note);
-        if !reader.enter() {
+        if !reader.take() {
             return Err(ForwardFault::NoView);
         }
         let alloc = self.notifier.alloc;

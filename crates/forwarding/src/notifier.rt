@@ -254,7 +254,7 @@ pub(crate) fn tell<J: Naming, S: Sink>(
         (pending_with effect.now notification.now)
         (telling reader.old.rows reader.new (S.shown sink.old) (S.shown sink.new)) result }
 {
-    if !reader.enter() {
+    if !reader.take() {
         return Err(ForwardFault::NoView);
     }
     let mut outs = Vec::new(alloc);

@@ -20,6 +20,12 @@ pub record ReaderView : Type 0 where
 abbrev pub Knows : Bool → List Change → List Change → Type 0
 Knows answer known told = MatchBool answer (IsPrefix told known) (IsPrefix known told)
 
+-- the rows after some published changes, which begin with these
+pub record AreRowsPast (legs : ℕ) (known : List Change) (rows : List Row) : Type 0 where
+  pub seen : List Change
+  pub begins : IsPrefix known seen
+  pub after : rows ≡ rows_after legs seen
+
 -- a reader that has seen nothing
 abbrev pub IsOpening : ℕ → ReaderView → Type 0
 IsOpening legs r = (r.known ≡ []) × (r.rows ≡ opening_rows legs)

@@ -40,11 +40,11 @@ impl<J: Naming> Model for RouteReader<J> {
 }
 
 impl<J: Naming> RouteReader<J> {
-    ghost use Rattle.std.specs.Prelude.{◌≡◌, IsTrue, MatchBool};
+    ghost use Rattle.std.specs.Prelude.{◌≡◌, IsTrue, IfSome, MatchBool};
     ghost use mathlib.Core.List.{IsPrefix};
     ghost use Rattle.members.specs.Rows.{rows_after};
     ghost use Rattle.routes.specs.Publications.{changes_of};
-    ghost use Rattle.routes.specs.Views.{IsTable, Knows, Sees};
+    ghost use Rattle.routes.specs.Views.{AreRowsPast, IsTable, Knows, Sees};
 
     /// A reader that took this copy of the table, and knows what its mark knows.
     pub(crate) fn new(alloc: Global, reader: TableReader<J>, taken: Table) -> RouteReader<J>
@@ -93,10 +93,18 @@ impl<J: Naming> RouteReader<J> {
         learn_mark(&mut self.known, note.mark);
     }
 
-    /// Takes the rows that are published, and says whether it did: not if the table gives no view.
+    /// The rows that are published; `None` if the table gives no view. It waits for nobody, and takes no memory. They follow from a
+    /// beginning of what was published that has all that the reader knew. `take` says what the reader knows then.
+    pub fn enter(&mut self) -> Option<&[Row]>
+        ensures { IfSome result (λ rows. AreRowsPast J.legs self.old.known rows.now) }
+    {
+        if self.take() { Some(self.rows()) } else { None }
+    }
+
+    /// Takes the rows that are published, for `rows` to show, and says whether it did: not if the table gives no view.
     /// Then nothing changed. It waits for nobody, and takes no memory. The rows are those after what it knows then, which is a
     /// beginning of what the writer published (`knows_all_of`).
-    pub fn enter(&mut self) -> bool
+    pub fn take(&mut self) -> bool
         ensures view { MatchBool result
             (IsPrefix self.old.known self.new.known
             × (self.new.rows ≡ rows_after J.legs self.new.known))

@@ -47,11 +47,11 @@ fn take_published<J: Naming, R: Wait + Abort>(
     let (mut writer, mut readers) = routes::<J, R>(rt, alloc, blank, 2)?;
     let before = readers[0].rows() == [OPENING, OPENING, OPENING].as_slice();
     let noted = writer.change(&ROUTE).is_ok();
-    let unseen = readers[0].enter() && readers[0].rows() == [OPENING, OPENING, OPENING].as_slice();
+    let unseen = readers[0].enter() == Some([OPENING, OPENING, OPENING].as_slice());
     let note = writer.publish(rt);
-    let seen = readers[0].enter() && readers[0].rows() == [OPENING, SECOND, OPENING].as_slice();
+    let seen = readers[0].enter() == Some([OPENING, SECOND, OPENING].as_slice());
     readers[1].learn(note);
-    let other = readers[1].enter() && readers[1].rows() == [OPENING, SECOND, OPENING].as_slice();
+    let other = readers[1].take() && readers[1].rows() == [OPENING, SECOND, OPENING].as_slice();
     let off = writer
         .change(&Order::Route {
             leg: 1,
@@ -76,9 +76,9 @@ fn take_published<J: Naming, R: Wait + Abort>(
         on: false,
     };
     readers[0].learn(writer.note());
-    let last = readers[0].enter() && readers[0].rows() == [OPENING, ended, OPENING].as_slice();
+    let last = readers[0].enter() == Some([OPENING, ended, OPENING].as_slice());
     writer.end(rt);
-    let gone = readers[0].enter();
+    let gone = readers[0].enter().is_some();
     assert!(rt; before && noted && unseen && seen && other);
     assert!(rt; off && beyond && arrival && last && !gone);
     Ok(())

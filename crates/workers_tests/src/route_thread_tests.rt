@@ -122,7 +122,7 @@ fn stay_of(rows: &[Row]) -> Option<u64> {
     }
 }
 
-/// Enters until it was told of the last publication. None if there was no view, if rows of two
+/// Takes rows until it was told of the last publication. None if there was no view, if rows of two
 /// publications stood together, or if a view was older than the one before or than what was told.
 fn follow<J: Naming, R: Wait>(
     rt: &R,
@@ -133,7 +133,7 @@ fn follow<J: Naming, R: Wait>(
     let mut seen = 0;
     for _ in rt.forever() {
         let told = hear(rt, &mut reader, letter);
-        if !reader.enter() {
+        if !reader.take() {
             return None;
         }
         let stay = stay_of(reader.rows())?;

@@ -1,5 +1,5 @@
 use Rattle.routes.proofs.ViewLemmas.{entered}
-use Rattle.routes.proofs.reader.RouteReader.enter.Goals as goal
+use Rattle.routes.proofs.reader.RouteReader.take.Goals as goal
 
 pub returns : goal.returns
 returns g c = record {
