@@ -37,6 +37,15 @@ impl Gain<[Change; 0], u64> for Nothing {
     ghost after = { λ names about answer. ftrue };
 }
 
+/// Of a step that publishes nothing nobody asks anything.
+impl Plain<(), [Change; 0], u64> for Nothing {
+    ghost use Rattle.std.specs.Prelude.{None, []};
+
+    ghost ask = { λ _. [] };
+
+    ghost state = { λ _. None };
+}
+
 /// A step that makes the right to publish, if there is none.
 pub struct Open;
 
@@ -62,14 +71,6 @@ impl Play<[Change; 0], u64> for Publish {
     ghost use Rattle.routes.specs.Publications.{Publishes};
 
     ghost then = { Publishes };
-}
-
-impl Plain<(), [Change; 0], u64> for Publish {
-    ghost use Rattle.std.specs.Prelude.{None, []};
-
-    ghost ask = { λ _. [] };
-
-    ghost state = { λ _. None };
 }
 
 impl Plain<Vec<Change>, [Change; 0], u64> for Publish {
@@ -150,7 +151,7 @@ impl Mark {
             return None;
         }
         let mut seen = self.seen.again();
-        let mut offer: Offer<[Change; 0], u64, Law, Nothing> = seen.plain::<Nothing, (), Publish>(
+        let mut offer: Offer<[Change; 0], u64, Law, Nothing> = seen.plain::<Nothing, (), Nothing>(
             &(),
         );
         let mut right = seen.no_pen();
@@ -219,7 +220,7 @@ impl Mark {
     {
         let mut seen = self.seen.again();
         seen.learn(&other.seen);
-        let mut offer: Offer<[Change; 0], u64, Law, Nothing> = seen.plain::<Nothing, (), Publish>(
+        let mut offer: Offer<[Change; 0], u64, Law, Nothing> = seen.plain::<Nothing, (), Nothing>(
             &(),
         );
         let _found = head.compare_exchange::<Look, Nothing>(0, 0, &mut seen, &mut offer, right);
