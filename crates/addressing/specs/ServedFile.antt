@@ -41,6 +41,7 @@ pub record PlacesFile (same : SocketAddr → SocketAddr → Bool) (file : FileSe
   pub settings : s.settings ≡ file.settings
   pub listen : Spells file.listen s.listen.media
   pub rules : s.rules ≡ rules_in file.new_starts file.strict_ssrc file.bounds
+  pub tick_ms : s.tick_ms ≡ file.tick_ms
   pub listen_rtcp : ListensApart s.listen.media file.listen_rtcp s.listen.rtcp
   pub texts : s.texts ≡ file.clients
   pub clients : AreSpelled same s.listen file.clients.items (Ok s.clients.items)

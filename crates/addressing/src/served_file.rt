@@ -25,6 +25,8 @@ pub struct ServedSettings {
     pub listen: Listening,
     /// What of a datagram is looked at before the machine hears it.
     pub rules: Rules,
+    /// How many milliseconds there are at least between two ticks.
+    pub tick_ms: u64,
     /// Where the clients of its endpoints are.
     pub clients: Vec<Client>,
     /// What the file says of each client.
@@ -61,6 +63,7 @@ fn placed(alloc: Global, file: FileSettings) -> Result<ServedSettings, SettingsP
             settings: file.settings,
             listen,
             rules: rules_in(file.new_starts, file.strict_ssrc, file.bounds),
+            tick_ms: file.tick_ms,
             clients,
             texts: file.clients,
         }),

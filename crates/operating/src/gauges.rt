@@ -15,10 +15,6 @@ use std::sync::Arc;
 use std::sync::atomic::{AtomicU64, Ordering};
 use std::thread::Threads;
 
-/// How far the unit's moment rises at least between two ticks, in milliseconds. Each present endpoint's desk records the moment at each: so it
-/// lives for years, and a room of 256 costs little while nobody speaks.
-pub const TICK_MS: u64 = 50;
-
 /// What a source and a clock show of a run while it goes on.
 #[derive(Drop)]
 pub struct Gauges {

@@ -21,7 +21,7 @@ mod steering;
 
 pub use control_heard::ControlHeard;
 pub use control_socket::{close_control, open_control};
-pub use gauges::{Gauges, TICK_MS};
+pub use gauges::Gauges;
 pub use lines::{ErrorOutput, Lines, TimedLines};
 pub use record_file::{close_record, open_record};
 pub use recorded::{RecordedClock, RecordedFeed};

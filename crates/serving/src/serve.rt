@@ -3,7 +3,6 @@
 ghost use Rattle.std.specs.Prelude.{◌≡◌, Option, None, MatchResult, length, map, string_bytes, IfErr, IfOk, OnOk};
 ghost use Rattle.std.specs.Io.KnownBytes.{Appends};
 ghost use Rattle.addressing.specs.Clients.{client_at};
-ghost use Rattle.operating.specs.declared.gauges.TheConstants.{TICK_MS};
 ghost use Rattle.serving.specs.ReportText.{PrintsReport, report_text};
 ghost use Rattle.cli.specs.Endings.{SaysWhy};
 ghost use Rattle.serving.specs.Serving.{EndsServe, FailsServe, FailsToStart, SaysFault, SaysWhyServing, serving_line, turns_by};
@@ -13,7 +12,7 @@ use crate::running::run_on;
 use crate::serve_fault::ServeFault;
 use addressing::{Client, ServedSettings};
 use cli::{Status, say, say_no_memory, unsaid};
-use operating::{ErrorOutput, Gauges, Lines, StatusLines, TICK_MS, TimedLines};
+use operating::{ErrorOutput, Gauges, Lines, StatusLines, TimedLines};
 use screening::Rules;
 use settings::Settings;
 use sockets::{Sockets, watch_drops};
@@ -100,7 +99,7 @@ pub fn serve_file<
     writer: &mut O,
     errors: &mut E,
 ) -> Status
-    ensures ends { EndsServe file.now.settings TICK_MS (turns_by term.ticks)
+    ensures ends { EndsServe file.now.settings file.now.tick_ms (turns_by term.ticks)
         (O.contents writer.old) (O.contents writer.new) result }
     ensures said { SaysWhyServing (E.contents errors.old) (E.contents errors.new) result }
 {
@@ -174,7 +173,7 @@ fn serve_bound<
     writer: &mut O,
     errors: &mut E,
 ) -> Status
-    ensures ends { EndsServe file.now.settings TICK_MS (turns_by term.ticks)
+    ensures ends { EndsServe file.now.settings file.now.tick_ms (turns_by term.ticks)
         (O.contents writer.old) (O.contents writer.new) result }
     ensures said { SaysWhy (E.contents errors.old) (E.contents errors.new) result }
 {
@@ -204,7 +203,7 @@ fn serve_lined<
     writer: &mut O,
     errors: &mut E,
 ) -> Status
-    ensures ends { EndsServe file.now.settings TICK_MS (turns_by term.ticks)
+    ensures ends { EndsServe file.now.settings file.now.tick_ms (turns_by term.ticks)
         (O.contents writer.old) (O.contents writer.new) result }
     ensures said { SaysWhy (E.contents errors.old) (E.contents errors.new) result }
 {
@@ -217,7 +216,7 @@ fn serve_lined<
     let clients = clients.as_slice();
     let pace = Pace {
         turns: term.turns(),
-        tick_ms: TICK_MS,
+        tick_ms: file.tick_ms,
     };
     match term.status {
         Some(seconds) => match Lines::new(rt) {

@@ -4,15 +4,16 @@ use Rattle.std.specs.Cmp.Lexicographic.{slice_cmp}
 use Rattle.std.specs.List.{list_all}
 use Rattle.std.specs.Ordering.{is_lt, nat_cmp}
 use Rattle.std.specs.Str.{IsUtf8, bytes_eq}
-use Rattle.toml.specs.Data.{Data, Members, array, as_bool, as_integer, as_str, as_table, get_member, member, no_members, table}
+use Rattle.toml.specs.Data.{Data, Members, array, as_bool, as_integer, as_str, as_table, get_member, member, no_members}
 use Rattle.toml.specs.Parse.{parse_document}
 use Rattle.settings.specs.declared.fault.SettingsFault.{SettingsFault}
 use Rattle.settings.specs.declared.fault.SettingsFault.TheVariants as fault
 use Rattle.settings.specs.declared.parts.Extras.{Extras}
 use Rattle.settings.specs.declared.parts.Parts.{Parts}
 use Rattle.settings.specs.Fault.{key_name}
-use Rattle.settings.specs.Settings.{additions_of, checks, first_fault, number_below}
+use Rattle.settings.specs.Settings.{additions_of, checks, first_fault, number_below, number_within}
 use Rattle.settings_toml.specs.declared.bound_keys.TheConstants.{FLOODS, GAPS_MS, SHARES}
+use Rattle.settings_toml.specs.declared.tick_key.TheConstants.{MOST_TICK_MS}
 use Rattle.settings_toml.specs.declared.settings_file.FileSettings.{FileSettings}
 use Rattle.settings_toml.specs.declared.settings_file.SettingsProblem.{SettingsProblem}
 use Rattle.settings_toml.specs.declared.settings_file.SettingsProblem.TheVariants.{NoMemory, File, Toml, Top, Endpoint, Leg, SameSsrc}
@@ -78,6 +79,10 @@ is_under limit value = is_some (number_below (as_integer value) limit)
 abbrev pub is_repeat : Data → Bool
 is_repeat value = is_some (repeat_of (as_integer value))
 
+-- a time between two ticks
+abbrev pub is_tick : Data → Bool
+is_tick value = is_some (number_within (as_integer value) 1 MOST_TICK_MS)
+
 -- a list of such values
 abbrev pub has_all : (Data → Bool) → Data → Bool
 has_all is_such (array items) = list_all is_such (list_of items)
@@ -112,6 +117,7 @@ takes_top key value =
     else if bytes_eq key (codes "repeat_ms") then is_repeat value
     else if bytes_eq key (codes "resend_gap_ms") then is_under GAPS_MS value
     else if bytes_eq key (codes "resend_share") then is_under SHARES value
+    else if bytes_eq key (codes "tick_ms") then is_tick value
     else is_required key
 
 abbrev pub takes_endpoint : List ℕ → Data → Bool

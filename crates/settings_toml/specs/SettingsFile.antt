@@ -5,9 +5,10 @@ use Rattle.toml.specs.Data.{Data, Items, Members, array, as_bool, as_integer, as
 use Rattle.settings.specs.declared.parts.Extras.{Extras}
 use Rattle.settings.specs.declared.parts.LegParts.{LegParts}
 use Rattle.settings.specs.declared.parts.Parts.{Parts}
-use Rattle.settings.specs.Settings.{additions_of, checks, configuration_of, first_fault, number_below, number_or_zero}
+use Rattle.settings.specs.Settings.{additions_of, checks, configuration_of, first_fault, number_below, number_or_zero, number_within}
 use Rattle.settings_toml.specs.declared.bound_keys.BoundKeys.{BoundKeys}
 use Rattle.settings_toml.specs.declared.bound_keys.TheConstants.{FLOODS, GAPS_MS, LEAST_REPEAT_MS, REPEATS_MS, SHARES}
+use Rattle.settings_toml.specs.declared.tick_key.TheConstants.{MOST_TICK_MS, TICK_MS}
 use Rattle.settings_toml.specs.declared.settings_file.ClientText.{ClientText}
 use Rattle.settings_toml.specs.declared.settings_file.FileSettings.{FileSettings}
 
@@ -109,6 +110,11 @@ bounds_in t = record {
   resend_share = number_or_zero (integer_in (get_member (codes "resend_share") t)) SHARES;
 }
 
+-- the time between two ticks: the number at its key, from 1 to the greatest; or the usual one
+abbrev pub tick_in : Members → ℕ
+tick_in t =
+    unwrap_or (number_within (integer_in (get_member (codes "tick_ms") t)) 1 MOST_TICK_MS) TICK_MS
+
 -- The parts are what the table has under their keys.
 pub record ArePartsOf (t : Members) (p : Parts) : Type 0 where
   pub workers : p.workers ≡ integer_in (get_member (codes "workers") t)
@@ -142,6 +148,7 @@ pub record HoldsSettings (t : Members) (f : FileSettings) : Type 0 where
   pub new_starts : f.new_starts ≡ bool_in (get_member (codes "new_starts") t)
   pub strict_ssrc : f.strict_ssrc ≡ bool_in (get_member (codes "strict_ssrc") t)
   pub bounds : f.bounds ≡ bounds_in t
+  pub tick_ms : f.tick_ms ≡ tick_in t
   pub listen_rtcp : text_bytes f.listen_rtcp ≡ text_in (get_member (codes "listen_rtcp") t)
   pub clients : map client_says f.clients.items
       ≡ map client_in (items_in (get_member (codes "endpoint") t))

@@ -8,6 +8,7 @@ use Rattle.rtcp_compound.specs.declared.writer.TheConstants.{CNAME_LIMIT}
 use Rattle.settings.specs.declared.limits.TheConstants.{LEAST_HISTORY, MAX_ENDPOINTS, MAX_HISTORY, MAX_LEGS, MAX_PERIOD_MS, MAX_RING, MAX_WORKERS, SSRCS}
 use Rattle.settings_toml.specs.SettingsFaults.{Spot, endpoint, leg, sources, top}
 use Rattle.settings_toml.specs.declared.bound_keys.TheConstants.{FLOODS, GAPS_MS, LEAST_REPEAT_MS, REPEATS_MS, SHARES}
+use Rattle.settings_toml.specs.declared.tick_key.TheConstants.{MOST_TICK_MS}
 use Rattle.settings_toml.specs.declared.wanted.Kind.{Kind}
 use Rattle.settings_toml.specs.declared.wanted.Kind.TheVariants as kind
 use Rattle.settings_toml.specs.declared.wanted.Wanted.{Wanted}
@@ -46,6 +47,7 @@ value_rows =
     ∷ key_row (codes "resend_share") (Whole 0 (SHARES - 1))
     ∷ key_row (codes "ring") (Whole 1 MAX_RING)
     ∷ key_row (codes "strict_ssrc") (Other kind.Truth)
+    ∷ key_row (codes "tick_ms") (Whole 1 MOST_TICK_MS)
     ∷ key_row (codes "timeout_ms") (Whole 1 MAX_PERIOD_MS)
     ∷ key_row (codes "unit_ssrc") (Whole 0 (SSRCS - 1))
     ∷ key_row (codes "workers") (Whole 1 MAX_WORKERS)

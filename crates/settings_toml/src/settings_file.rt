@@ -3,11 +3,12 @@
 ghost use Rattle.std.specs.Prelude.{◌≡◌, ◌⊎◌, IfOk, Some, codes, map, option_map, string_bytes};
 ghost use Rattle.toml.specs.Data.{get_member};
 ghost use Rattle.toml.specs.View.{table_view, view};
-ghost use Rattle.settings_toml.specs.SettingsFile.{AreExtrasOf, ArePartsOf, bool_in, bounds_in, client_in, client_says, cname_in, integer_in, items_in, leg_in, ssrc_in, text_bytes, text_in, text_of, texts_in, texts_of};
+ghost use Rattle.settings_toml.specs.SettingsFile.{AreExtrasOf, ArePartsOf, bool_in, bounds_in, client_in, client_says, cname_in, integer_in, items_in, leg_in, ssrc_in, text_bytes, tick_in, text_in, text_of, texts_in, texts_of};
 ghost use Rattle.settings_toml.specs.SettingsFaults.{TableGives, TextGives, earlier, fault_spot, problem_spot, spot_of};
 
 use crate::bound_keys::{BoundKeys, bounds_at};
 use crate::settings_keys::{Place, first_misfit, items_at, items_in};
+use crate::tick_key::tick_at;
 use crate::values::{bool_at, bool_in, integer_at, integer_in, text_in, value_at};
 use settings::{Extras, LegParts, Parts, Settings, SettingsFault};
 use std::alloc::{AllocError, Global};
@@ -26,6 +27,8 @@ pub struct FileSettings {
     pub strict_ssrc: Option<bool>,
     /// What one client may cost the others.
     pub bounds: BoundKeys,
+    /// How many milliseconds there are at least between two ticks; `TICK_MS` if the file says nothing.
+    pub tick_ms: u64,
     /// Where it listens for RTCP, as the file spells it; where it listens for all if the file says nothing.
     pub listen_rtcp: Option<String>,
     /// What the file says of each endpoint's client, by the endpoint's number.
@@ -120,6 +123,7 @@ fn file_of(alloc: Global, table: &Table, settings: Settings) -> Result<FileSetti
     ensures strict_ssrc { IfOk result (λ f. f.strict_ssrc
         ≡ bool_in (get_member (codes "strict_ssrc") (table_view table.now))) }
     ensures bounds { IfOk result (λ f. f.bounds ≡ bounds_in (table_view table.now)) }
+    ensures tick_ms { IfOk result (λ f. f.tick_ms ≡ tick_in (table_view table.now)) }
     ensures listen_rtcp { IfOk result (λ f. text_bytes f.listen_rtcp
         ≡ text_in (get_member (codes "listen_rtcp") (table_view table.now))) }
     ensures clients { IfOk result (λ f. map client_says f.clients.items
@@ -131,6 +135,7 @@ fn file_of(alloc: Global, table: &Table, settings: Settings) -> Result<FileSetti
         new_starts: bool_at(table, "new_starts"),
         strict_ssrc: bool_at(table, "strict_ssrc"),
         bounds: bounds_at(table),
+        tick_ms: tick_at(table),
         listen_rtcp: text_in(alloc, value_at(table, "listen_rtcp"))?,
         clients: clients_of(alloc, items_at(table, "endpoint"))?,
     })

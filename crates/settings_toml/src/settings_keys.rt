@@ -9,6 +9,7 @@ ghost use Rattle.settings_toml.specs.SettingsFaults.{endpoint, has_tables, has_t
 ghost use Rattle.settings_toml.specs.SettingsFile.{items_in};
 
 use crate::bound_keys::{FLOODS, GAPS_MS, SHARES, is_repeat, is_under};
+use crate::tick_key::is_tick;
 use toml::{Table, Value};
 
 /// Where a fault of settings stands. Faults are given in the order of these places: the keys of the table by their names,
@@ -63,6 +64,7 @@ fn takes_top(key: &str, value: &Value) -> bool
         "repeat_ms" => is_repeat(value),
         "resend_gap_ms" => is_under(value, GAPS_MS),
         "resend_share" => is_under(value, SHARES),
+        "tick_ms" => is_tick(value),
         _ => is_required(key),
     }
 }

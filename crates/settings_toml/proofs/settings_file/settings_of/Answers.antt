@@ -23,6 +23,7 @@ returns-in-Ok c = (
     new_starts = c.in_ok-file_of-in-None.ensures.new_starts;
     strict_ssrc = c.in_ok-file_of-in-None.ensures.strict_ssrc;
     bounds = c.in_ok-file_of-in-None.ensures.bounds;
+    tick_ms = c.in_ok-file_of-in-None.ensures.tick_ms;
     listen_rtcp = c.in_ok-file_of-in-None.ensures.listen_rtcp;
     clients = c.in_ok-file_of-in-None.ensures.clients;
   },
