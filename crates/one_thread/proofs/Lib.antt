@@ -2,3 +2,4 @@ pub mod StepLemmas
 pub mod DrivingLemmas
 pub mod TurnLemmas
 pub mod DriverLemmas
+pub mod NameLemmas

@@ -10,13 +10,21 @@ use Rattle.outside.specs.declared.source.TheConstants.{MAX_FAULTS}
 use Rattle.outside.specs.Outside.{Arrival, came, chosen, stop, silence, failure, is_stop, Grows, SinkView, datagram_in, datagrams_of}
 use Rattle.outside.specs.Ticks.{TicksState, ticks_after}
 use Rattle.outside.proofs.GrowsLemmas.{grows_more, grows_nothing}
+use Rattle.outside.specs.declared.source.ReceiveFault.{ReceiveFault}
+use Rattle.settings.specs.Links.{LinkTable}
+use Rattle.notices.specs.DeskCalls.{source_of}
+use Rattle.datagram.specs.Reads.{Admission, IsSaidBy}
+use Rattle.entrance.specs.declared.entrance.Admitted.{Admitted}
+use Rattle.entrance.specs.declared.entrance.Admitted.TheVariants.{Nothing, Taking, Select, Stop}
+use Rattle.entrance.specs.Entrance.{ComesInVain, IfTaken, IsTakenFrom}
+use Rattle.core_steps.specs.Hearing.{SaysTaken}
 use Rattle.core_steps.specs.Waits.{as_counted}
 use Rattle.core_steps.specs.World.{WorldState}
 use Rattle.one_thread.specs.declared.tally.Tally.{Tally}
 use Rattle.one_thread.specs.Driver.{FailsToReceive, StopsIn}
 use Rattle.one_thread.specs.Driving.{Drives, DrivesSome}
 use Rattle.one_thread.specs.Turns.{BreaksOff, GoesOn, SendsCounted, Sends, HasEnded, HasMade, NeverStops, MakesTurn, MakesTurns, OutsideView, Raises, Turn, events_of, faults_over, faults_with, brought_at, heard_count, heard_over, sink_of, tick_at, ticks_over, turn_events, view_of}
-use Rattle.one_thread.proofs.DrivingLemmas.{drives_after, drives_nothing, drives_on}
+use Rattle.one_thread.proofs.DrivingLemmas.{drives_after, drives_nothing, drives_on, some_none}
 
 -- ---- what is handed over
 
@@ -242,6 +250,30 @@ turn_broken ticks old new g h t u s arrival moment before unsent none given told
   told = told;
   sink = refl;
 }
+
+-- something came, and there was no memory to read it
+pub turn_in_vain : (ticks : TicksState) (w : WorldState) (g h : Option (List Arrival)) (t u : Option (List ℕ)) (s : SinkView) → ComesInVain g t h u
+    → BreaksOff ticks w (view_of g t s) (view_of h u s)
+turn_in_vain ticks w g h t u s v = record {
+  turn = record { arrival = v.arrival; moment = v.moment };
+  new = w;
+  unsent = [];
+  drives = some_none (brought_at v.moment v.arrival ++ tick_at ticks v.moment) w w [] [] (refl, refl);
+  given = v.gives;
+  told = v.tells;
+  sink = refl;
+}
+
+-- what the entrance shows is what the datagram says
+pub says_taken : (w : WorldState) (table : LinkTable) (admitted : Result Admitted ReceiveFault) (t current : Admission) (datagram : List ℕ)
+    → table ≡ w.setup.table → t ≡ current → IfTaken admitted (IsTakenFrom table current datagram) → IfTaken admitted (SaysTaken w t datagram)
+says_taken w table (Ok Nothing) t current datagram et ec h = tt
+says_taken w table (Ok Taking) t current datagram et ec h =
+    subst (λ (x : LinkTable). IsSaidBy (source_of x t.endpoint).0 t datagram) et
+    (subst (λ (x : Admission). IsSaidBy (source_of table x.endpoint).0 x datagram) (sym ec) h.0)
+says_taken w table (Ok (Select leg on)) t current datagram et ec h = tt
+says_taken w table (Ok Stop) t current datagram et ec h = tt
+says_taken w table (Err fault) t current datagram et ec h = tt
 
 faults_rise : (faults : ℕ) (a : Arrival) → faults_with faults a ≤ faults + 1
 faults_rise faults (came endpoint bytes) = omega arith

@@ -15,7 +15,8 @@ use crate::tally::Tally;
 use crate::turn::{Engine, turn};
 use core_steps::World;
 use desk::Desk;
-use outside::{Feed, MAX_DATAGRAM, MAX_FAULTS, Pace, Sink, Ticks, Timekeeper, Watch};
+use entrance::{Direct, Entrance, Kept};
+use outside::{Feed, MAX_FAULTS, Pace, Sink, Ticks, Timekeeper, Watch};
 use settings::Settings;
 use std::alloc::{AllocError, Global};
 use thiserror::Error;
@@ -47,12 +48,10 @@ fn new_engine(alloc: Global, settings: &Settings, tick_ms: u64) -> Result<Engine
     ensures counts { IfOk result (λ e. (e.faults ≡ 0)
         × (e.tally ≡ record { heard = 0; sent = 0; failed = 0 })) }
 {
-    let buffer = vec![in alloc; 0; MAX_DATAGRAM]?;
     let world = World::new(alloc, settings)?;
     Ok(Engine {
         world,
         outs: Vec::new(alloc),
-        buffer,
         ticks: Ticks::new(tick_ms),
         faults: 0,
         is_stopped: false,
@@ -79,12 +78,11 @@ fn open_engine(alloc: Global, settings: &Settings, tick_ms: u64) -> Result<Engin
 
 /// Makes so many turns, fewer if a stop comes: then that turn is the last.
 #[tactic(auto, using(crate::proofs::TurnLemmas::made_nothing, crate::proofs::TurnLemmas::made_more, crate::proofs::TurnLemmas::ends_whole, crate::proofs::TurnLemmas::ends_stopped, crate::proofs::TurnLemmas::stops_in, crate::proofs::TurnLemmas::fails_in))]
-fn run_turns<F: Feed, Snk: Sink, Clk: Timekeeper, W: Watch>(
+fn run_turns<E: Entrance, Snk: Sink, W: Watch>(
     engine: &mut Engine,
     turns: u64,
-    feed: &mut F,
+    entrance: &mut E,
     sink: &mut Snk,
-    clock: &mut Clk,
     watch: &mut W,
 ) -> Result<(), DriveFault>
     requires one { length engine.old.world.workers ≡ 1 }
@@ -94,16 +92,17 @@ fn run_turns<F: Feed, Snk: Sink, Clk: Timekeeper, W: Watch>(
     requires tally { engine.old.tally ≡ record { heard = 0; sent = 0; failed = 0 } }
     ensures ok { OnOk result (HasEnded engine.old.world engine.old.ticks turns
         engine.new.world engine.new.faults engine.new.tally
-        (view_of (F.given feed.old) (Clk.told clock.old) (Snk.shown sink.old))
-        (view_of (F.given feed.new) (Clk.told clock.new) (Snk.shown sink.new))) }
+        (view_of (E.given entrance.old) (E.told entrance.old) (Snk.shown sink.old))
+        (view_of (E.given entrance.new) (E.told entrance.new) (Snk.shown sink.new))) }
     ensures few { OnOk result (engine.new.faults < MAX_FAULTS) }
     ensures idle { OnOk result (IsIdle engine.new.world) }
     ensures err { IfErr result (StopsEarly engine.old.world engine.old.ticks
-        (view_of (F.given feed.old) (Clk.told clock.old) (Snk.shown sink.old))
-        (view_of (F.given feed.new) (Clk.told clock.new) (Snk.shown sink.new))) }
+        (view_of (E.given entrance.old) (E.told entrance.old) (Snk.shown sink.old))
+        (view_of (E.given entrance.new) (E.told entrance.new) (Snk.shown sink.new))) }
+    ensures names { E.names entrance.new ≡ E.names entrance.old }
 {
     for _turn in 0..turns {
-        let Ok(()) = turn(engine, feed, sink, clock, watch) else {
+        let Ok(()) = turn(engine, entrance, sink, watch) else {
             return Err(DriveFault::NoMemory);
         };
         if engine.faults >= MAX_FAULTS {
@@ -128,13 +127,39 @@ fn report_of(engine: Engine) -> Report
     }
 }
 
-/// Runs the unit of these settings in this thread for so many turns, from a new world on. In a turn it receives once and asks the
-/// clock; hears a datagram that came, or selects a leg, and ticks if a tick is due, each with all that follows from it; and hands what
-/// the machine gives out to the sink, in order. A turn in which a stop came is the last. No job is ever given up. What the machine's laws say holds of all that was received (`ok`).
+/// Runs the unit of these settings in this thread for so many turns, from a new world on. In a turn it takes in what the entrance lets in, a
+/// datagram or a selection, and ticks if a tick is due, each with all that follows from it; and hands what
+/// the machine gives out to the sink, in order. A turn in which a stop came is the last. No job is ever given up. What the machine's laws say holds of all that was let in (`ok`).
 ///
 /// Refused as `NoMemory` if there is no memory, and then what the machine gave out in this turn isn't handed over; as `Receive`
 /// after 100 receives in a row that fail (`err`).
 #[tactic(auto, using(crate::proofs::DriverLemmas::never_began, crate::proofs::DriverLemmas::ends_early))]
+pub fn run_through<E: Entrance, Snk: Sink, W: Watch>(
+    alloc: Global,
+    settings: &Settings,
+    entrance: &mut E,
+    sink: &mut Snk,
+    watch: &mut W,
+    pace: Pace,
+) -> Result<Report, DriveFault>
+    requires one { settings.now.workers ≡ 1 }
+    ensures ok { IfOk result (HasDriven settings.now pace.tick_ms pace.turns
+        (view_of (E.given entrance.old) (E.told entrance.old) (Snk.shown sink.old))
+        (view_of (E.given entrance.new) (E.told entrance.new) (Snk.shown sink.new))) }
+    ensures err { IfErr result (EndsEarly settings.now pace.tick_ms
+        (view_of (E.given entrance.old) (E.told entrance.old) (Snk.shown sink.old))
+        (view_of (E.given entrance.new) (E.told entrance.new) (Snk.shown sink.new))) }
+    ensures desks { IfOk result (λ r. AreDesksOf settings.now.pli_gap_ms settings.now.request_ms
+        (length settings.now.endpoints) r.desks.items) }
+    ensures names { E.names entrance.new ≡ E.names entrance.old }
+{
+    let mut engine = open_engine(alloc, settings, pace.tick_ms)?;
+    run_turns(&mut engine, pace.turns, entrance, sink, watch)?;
+    Ok(report_of(engine))
+}
+
+/// Runs the unit of these settings in this thread, as `run_through` does, with all that the feed gives, at the moments that the clock tells.
+#[tactic(auto, using(crate::proofs::NameLemmas::first_name, crate::proofs::NameLemmas::second_name))]
 pub fn run_one_thread<F: Feed, Snk: Sink, Clk: Timekeeper, W: Watch>(
     alloc: Global,
     settings: &Settings,
@@ -154,7 +179,9 @@ pub fn run_one_thread<F: Feed, Snk: Sink, Clk: Timekeeper, W: Watch>(
     ensures desks { IfOk result (λ r. AreDesksOf settings.now.pli_gap_ms settings.now.request_ms
         (length settings.now.endpoints) r.desks.items) }
 {
-    let mut engine = open_engine(alloc, settings, pace.tick_ms)?;
-    run_turns(&mut engine, pace.turns, feed, sink, clock, watch)?;
-    Ok(report_of(engine))
+    let Ok(mut kept) = Kept::new(alloc) else {
+        return Err(DriveFault::NoMemory);
+    };
+    let mut entrance = Direct::new(feed, clock, &mut kept);
+    run_through(alloc, settings, &mut entrance, sink, watch, pace)
 }

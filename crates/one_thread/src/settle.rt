@@ -1,13 +1,15 @@
 //! An event from outside, and all that follows from it.
 
-ghost use Rattle.std.specs.Prelude.{◌≡◌, ◌∷◌, [], true, false, length, OnOk, OnErr};
+ghost use Rattle.std.specs.Prelude.{◌≡◌, ◌∷◌, [], true, false, length, ℕ, List, OnOk, OnErr};
+ghost use Rattle.datagram.specs.Reads.{IsPacketRead, admission_of};
+ghost use Rattle.core_steps.specs.Hearing.{SaysTaken};
 ghost use Rattle.events.specs.declared.event.Event.TheVariants.{Hear};
 ghost use Rattle.core_steps.specs.Run.{HasRun, Stays};
 ghost use Rattle.core_steps.specs.Waits.{has_work};
 ghost use Rattle.core_steps.specs.Settling.{ingress_left};
 ghost use Rattle.one_thread.specs.Driving.{Drives, DrivesSome, IsIdle, is_from_outside};
 
-use core_steps::{World, hear, run};
+use core_steps::{Taking, World, run, take};
 use events::{Event, Out};
 use std::alloc::AllocError;
 
@@ -80,24 +82,27 @@ pub(crate) fn take_in(
     settle(world, outs)
 }
 
-/// A datagram of this endpoint, which finds nothing waiting, and all that follows from it.
+/// What a datagram of an endpoint says, which finds nothing waiting, and all that follows from it.
 #[tactic(auto, using(crate::proofs::DrivingLemmas::taken_in, crate::proofs::DrivingLemmas::taken_some, crate::proofs::DrivingLemmas::some_none, crate::proofs::DrivingLemmas::same_count))]
-pub(crate) fn hear_in(
+pub(crate) fn take_one(
     world: &mut World,
     moment: u64,
-    endpoint: u16,
-    bytes: &[u8],
+    taking: Taking<'_>,
     outs: &mut Vec<Out>,
 ) -> Result<(), AllocError>
+    requires read { IsPacketRead taking.bytes.now taking.what }
+    requires said { (bytes : List ℕ) × SaysTaken world.old (admission_of taking) bytes }
     requires one { length world.old.workers ≡ 1 }
     requires idle { IsIdle world.old }
-    ensures ok { OnOk result (Drives (Hear moment endpoint bytes.now ∷ [])
+    ensures ok { (bytes : List ℕ) → SaysTaken world.old (admission_of taking.entry) bytes
+        → OnOk result (Drives (Hear moment taking.entry.endpoint bytes ∷ [])
         world.old outs.old.items world.new outs.new.items) }
-    ensures err { OnErr result (DrivesSome (Hear moment endpoint bytes.now ∷ [])
+    ensures err { (bytes : List ℕ) → SaysTaken world.old (admission_of taking.entry) bytes
+        → OnErr result (DrivesSome (Hear moment taking.entry.endpoint bytes ∷ [])
         world.old outs.old.items world.new outs.new.items) }
     ensures idle { OnOk result (IsIdle world.new) }
     ensures one { length world.new.workers ≡ 1 }
 {
-    hear(world, moment, endpoint, bytes, outs)?;
+    take(world, moment, taking, outs)?;
     settle(world, outs)
 }

@@ -3,22 +3,26 @@
 ghost use Rattle.std.specs.Prelude.{◌≡◌, ◌<◌, ◌∷◌, ◌++◌, [], List, ℕ, length, slice_get, None, Some, MatchOption, IfOk, OnOk, OnErr};
 ghost use Rattle.events.specs.declared.event.Event.TheVariants.{Select};
 ghost use Rattle.events.specs.declared.output.Out.TheVariants.{Send};
-ghost use Rattle.outside.specs.Outside.{FitsIn, arrival_of, is_stop};
+ghost use Rattle.datagram.specs.Reads.{IsPacketRead, admission_of};
+ghost use Rattle.core_steps.specs.Hearing.{SaysTaken};
+ghost use Rattle.outside.specs.Outside.{is_stop};
+ghost use Rattle.entrance.specs.Entrance.{IfTaken, arrival_by};
 ghost use Rattle.outside.specs.Ticks.{ticks_after};
 ghost use Rattle.outside.specs.declared.source.TheConstants.{MAX_FAULTS};
 ghost use Rattle.one_thread.specs.Driving.{Drives, DrivesSome, DrivesBoth, IsIdle};
 ghost use Rattle.one_thread.specs.Turns.{BreaksOff, SendsCounted, MakesTurn, Raises, faults_with, brought_at, heard_count, tick_at, view_of, who_came};
 
-use crate::settle::{hear_in, take_in};
+use crate::settle::{take_in, take_one};
 use crate::tally::Tally;
-use core_steps::World;
+use core_steps::{Taking, World};
 use desk::Desk;
+use entrance::{Admitted, Came, Entrance};
 use events::{Event, Out};
-use outside::{Feed, Look, ReceiveFault, Received, Sink, Status, Ticks, Timekeeper, Watch};
+use outside::{Look, ReceiveFault, Sink, Status, Ticks, Watch};
 use std::alloc::AllocError;
 
-/// What a receive gave, or that it failed.
-type Receipt = Result<Received, ReceiveFault>;
+/// What was let in, or that a receive failed.
+type Receipt = Result<Admitted, ReceiveFault>;
 
 /// The machine with what comes in and goes out, and the counts of a run.
 #[derive(Drop)]
@@ -26,8 +30,6 @@ pub(crate) struct Engine {
     pub(crate) world: World,
     /// What the machine gave out in this turn; empty between turns.
     pub(crate) outs: Vec<Out>,
-    /// Where a datagram is received.
-    pub(crate) buffer: Vec<u8>,
     pub(crate) ticks: Ticks,
     /// How many receives failed since the last one that didn't.
     pub(crate) faults: u64,
@@ -36,31 +38,37 @@ pub(crate) struct Engine {
     pub(crate) tally: Tally,
 }
 
-/// A datagram that came is heard, and a selection made.
+/// What was let in of a datagram is taken in, and a selection made.
 #[tactic(auto, using(crate::proofs::DrivingLemmas::drives_nothing))]
-fn take_received(
+fn take_admitted(
     world: &mut World,
     moment: u64,
-    received: Receipt,
-    buffer: &[u8],
+    admitted: Receipt,
+    taking: Taking<'_>,
     outs: &mut Vec<Out>,
 ) -> Result<(), AllocError>
-    requires within { IfOk received (FitsIn (length buffer.now)) }
+    requires read { IfTaken admitted (IsPacketRead taking.bytes.now taking.what) }
+    requires said { IfTaken admitted
+        ((bytes : List ℕ) × SaysTaken world.old (admission_of taking) bytes) }
     requires one { length world.old.workers ≡ 1 }
     requires idle { IsIdle world.old }
-    ensures ok { OnOk result (Drives (brought_at moment (arrival_of buffer.now received))
+    ensures ok { (datagram : List ℕ)
+        → IfTaken admitted (SaysTaken world.old (admission_of taking.entry) datagram)
+        → OnOk result (Drives
+        (brought_at moment (arrival_by admitted taking.entry.endpoint datagram))
         world.old outs.old.items world.new outs.new.items) }
-    ensures err { OnErr result (DrivesSome (brought_at moment (arrival_of buffer.now received))
+    ensures err { (datagram : List ℕ)
+        → IfTaken admitted (SaysTaken world.old (admission_of taking.entry) datagram)
+        → OnErr result (DrivesSome
+        (brought_at moment (arrival_by admitted taking.entry.endpoint datagram))
         world.old outs.old.items world.new outs.new.items) }
     ensures idle { OnOk result (IsIdle world.new) }
     ensures one { length world.new.workers ≡ 1 }
 {
-    match received {
-        Ok(Received::Datagram { endpoint, length }) => {
-            hear_in(world, moment, endpoint, &buffer[..length], outs)
-        }
-        Ok(Received::Select { leg, on }) => { take_in(world, Event::Select(moment, leg, on), outs) }
-        Ok(Received::Nothing | Received::Stop) | Err(_) => Ok(()),
+    match admitted {
+        Ok(Admitted::Taking) => take_one(world, moment, taking, outs),
+        Ok(Admitted::Select { leg, on }) => { take_in(world, Event::Select(moment, leg, on), outs) }
+        Ok(Admitted::Nothing | Admitted::Stop) | Err(_) => Ok(()),
     }
 }
 
@@ -89,35 +97,36 @@ fn tick(
 }
 
 /// How many receives in a row failed, with this one.
-fn faults_with(faults: u64, received: Receipt) -> u64
+fn faults_with(faults: u64, admitted: Receipt) -> u64
     requires few { faults < MAX_FAULTS }
-    ensures { (buffer : List ℕ) → result ≡ faults_with faults (arrival_of buffer received) }
+    ensures { (endpoint : ℕ) (datagram : List ℕ)
+        → result ≡ faults_with faults (arrival_by admitted endpoint datagram) }
 {
-    match received {
+    match admitted {
         Ok(_) => 0,
         Err(_) => faults + 1,
     }
 }
 
 /// The count of datagrams that came, with this receive.
-fn heard_with(heard: u64, received: Receipt) -> u64
-    ensures { (buffer : List ℕ) → Raises heard (heard_count (arrival_of buffer received)) result }
+fn heard_with(heard: u64, admitted: Receipt) -> u64
+    ensures { (endpoint : ℕ) (datagram : List ℕ)
+        → Raises heard (heard_count (arrival_by admitted endpoint datagram)) result }
 {
-    match received {
-        Ok(Received::Datagram { .. }) => heard.saturating_add(1),
-        Ok(Received::Nothing | Received::Select { .. } | Received::Stop) | Err(_) => heard,
+    match admitted {
+        Ok(Admitted::Taking) => heard.saturating_add(1),
+        Ok(Admitted::Nothing | Admitted::Select { .. } | Admitted::Stop) | Err(_) => heard,
     }
 }
 
 /// Whether the run ends with this turn.
-fn is_stop(received: Receipt) -> bool
-    ensures { (buffer : List ℕ) → result ≡ is_stop (arrival_of buffer received) }
+fn is_stop(admitted: Receipt) -> bool
+    ensures { (endpoint : ℕ) (datagram : List ℕ)
+        → result ≡ is_stop (arrival_by admitted endpoint datagram) }
 {
-    match received {
-        Ok(Received::Stop) => true,
-        Ok(Received::Nothing | Received::Datagram { .. } | Received::Select { .. }) | Err(_) => {
-            false
-        }
+    match admitted {
+        Ok(Admitted::Stop) => true,
+        Ok(Admitted::Nothing | Admitted::Taking | Admitted::Select { .. }) | Err(_) => false,
     }
 }
 
@@ -126,37 +135,47 @@ fn is_stop(received: Receipt) -> bool
 fn take_turn(
     world: &mut World,
     ticks: &mut Ticks,
-    moment: u64,
-    received: Receipt,
-    buffer: &[u8],
+    came: Came,
+    taking: Taking<'_>,
     outs: &mut Vec<Out>,
 ) -> Result<usize, AllocError>
-    requires within { IfOk received (FitsIn (length buffer.now)) }
+    requires read { IfTaken came.admitted (IsPacketRead taking.bytes.now taking.what) }
+    requires said { IfTaken came.admitted
+        ((bytes : List ℕ) × SaysTaken world.old (admission_of taking) bytes) }
     requires one { length world.old.workers ≡ 1 }
     requires idle { IsIdle world.old }
-    ensures ok { OnOk result (Drives (brought_at moment (arrival_of buffer.now received)
-        ++ tick_at ticks.old moment) world.old outs.old.items world.new outs.new.items) }
-    ensures before { IfOk result (DrivesBoth (brought_at moment (arrival_of buffer.now received))
-        (tick_at ticks.old moment) world.old outs.old.items world.new outs.new.items) }
-    ensures err { OnErr result (DrivesSome (brought_at moment (arrival_of buffer.now received)
-        ++ tick_at ticks.old moment) world.old outs.old.items world.new outs.new.items) }
-    ensures noted { OnOk result (ticks.new ≡ ticks_after ticks.old moment) }
+    ensures ok { (datagram : List ℕ)
+        → IfTaken came.admitted (SaysTaken world.old (admission_of taking.entry) datagram)
+        → OnOk result (Drives
+        (brought_at came.moment (arrival_by came.admitted taking.entry.endpoint datagram)
+        ++ tick_at ticks.old came.moment) world.old outs.old.items world.new outs.new.items) }
+    ensures before { (datagram : List ℕ)
+        → IfTaken came.admitted (SaysTaken world.old (admission_of taking.entry) datagram)
+        → IfOk result (DrivesBoth
+        (brought_at came.moment (arrival_by came.admitted taking.entry.endpoint datagram))
+        (tick_at ticks.old came.moment) world.old outs.old.items world.new outs.new.items) }
+    ensures err { (datagram : List ℕ)
+        → IfTaken came.admitted (SaysTaken world.old (admission_of taking.entry) datagram)
+        → OnErr result (DrivesSome
+        (brought_at came.moment (arrival_by came.admitted taking.entry.endpoint datagram)
+        ++ tick_at ticks.old came.moment) world.old outs.old.items world.new outs.new.items) }
+    ensures noted { OnOk result (ticks.new ≡ ticks_after ticks.old came.moment) }
     ensures idle { OnOk result (IsIdle world.new) }
     ensures one { length world.new.workers ≡ 1 }
 {
-    take_received(world, moment, received, buffer, outs)?;
+    take_admitted(world, came.moment, came.admitted, taking, outs)?;
     let before = outs.as_slice().len();
-    tick(world, moment, ticks, outs)?;
+    tick(world, came.moment, ticks, outs)?;
     Ok(before)
 }
 
 /// Whose datagram came.
-fn who_came(received: Receipt) -> Option<u16>
-    ensures { (buffer : List ℕ) → result ≡ who_came (arrival_of buffer received) }
+fn who_came(admitted: Receipt, endpoint: u16) -> Option<u16>
+    ensures { (datagram : List ℕ) → result ≡ who_came (arrival_by admitted endpoint datagram) }
 {
-    match received {
-        Ok(Received::Datagram { endpoint, .. }) => Some(endpoint),
-        Ok(Received::Nothing | Received::Select { .. } | Received::Stop) | Err(_) => None,
+    match admitted {
+        Ok(Admitted::Taking) => Some(endpoint),
+        Ok(Admitted::Nothing | Admitted::Select { .. } | Admitted::Stop) | Err(_) => None,
     }
 }
 
@@ -280,13 +299,12 @@ fn count_present(world: &World) -> u64 {
     present
 }
 
-/// Receives once, asks the clock, takes in what came and ticks if a tick is due, with all that follows, and hands what comes out to
+/// Takes in what the entrance lets in next and ticks if a tick is due, with all that follows, and hands what comes out to
 /// the sink. For want of memory it stops; then what the machine gave out in this turn isn't handed over.
-pub(crate) fn turn<F: Feed, Snk: Sink, Clk: Timekeeper, W: Watch>(
+pub(crate) fn turn<E: Entrance, Snk: Sink, W: Watch>(
     engine: &mut Engine,
-    feed: &mut F,
+    entrance: &mut E,
     sink: &mut Snk,
-    clock: &mut Clk,
     watch: &mut W,
 ) -> Result<(), AllocError>
     requires one { length engine.old.world.workers ≡ 1 }
@@ -295,31 +313,32 @@ pub(crate) fn turn<F: Feed, Snk: Sink, Clk: Timekeeper, W: Watch>(
     requires few { engine.old.faults < MAX_FAULTS }
     ensures ok { OnOk result (MakesTurn engine.old.ticks engine.new.ticks engine.old.faults
         engine.new.faults engine.new.is_stopped engine.old.world engine.new.world
-        (view_of (F.given feed.old) (Clk.told clock.old) (Snk.shown sink.old))
-        (view_of (F.given feed.new) (Clk.told clock.new) (Snk.shown sink.new))
+        (view_of (E.given entrance.old) (E.told entrance.old) (Snk.shown sink.old))
+        (view_of (E.given entrance.new) (E.told entrance.new) (Snk.shown sink.new))
         engine.old.tally engine.new.tally) }
     ensures err { OnErr result (BreaksOff engine.old.ticks engine.old.world
-        (view_of (F.given feed.old) (Clk.told clock.old) (Snk.shown sink.old))
-        (view_of (F.given feed.new) (Clk.told clock.new) (Snk.shown sink.new))) }
+        (view_of (E.given entrance.old) (E.told entrance.old) (Snk.shown sink.old))
+        (view_of (E.given entrance.new) (E.told entrance.new) (Snk.shown sink.new))) }
     ensures one { OnOk result (length engine.new.world.workers ≡ 1) }
     ensures idle { OnOk result (IsIdle engine.new.world) }
     ensures empty { OnOk result (engine.new.outs.items ≡ []) }
+    ensures names { E.names entrance.new ≡ E.names entrance.old }
 {
-    let received = feed.receive(engine.buffer.as_mut_slice());
-    let moment = clock.moment();
+    let came = entrance.receive(engine.world.view())?;
+    let taking = entrance.taking();
     let before = take_turn(
         &mut engine.world,
         &mut engine.ticks,
-        moment,
-        received,
-        engine.buffer.as_slice(),
+        came,
+        taking,
         &mut engine.outs,
     )?;
-    let endpoint = who_came(received);
+    let Came { moment, admitted } = came;
+    let endpoint = who_came(admitted, taking.endpoint);
     let origin = Origin { endpoint, before };
-    engine.faults = faults_with(engine.faults, received);
-    engine.is_stopped = is_stop(received);
-    engine.tally.heard = heard_with(engine.tally.heard, received);
+    engine.faults = faults_with(engine.faults, admitted);
+    engine.is_stopped = is_stop(admitted);
+    engine.tally.heard = heard_with(engine.tally.heard, admitted);
     give_all(engine.outs.as_slice(), origin, sink, &mut engine.tally);
     engine.world.take_back(&mut engine.outs);
     show(&engine.world, moment, &engine.tally, watch);

@@ -1,6 +1,7 @@
 //! How many receives failed in a row.
 
-use outside::{MAX_FAULTS, ReceiveFault, Received};
+use entrance::Admitted;
+use outside::{MAX_FAULTS, ReceiveFault};
 use std::marker::Model;
 
 /// How many receives failed since the last one that didn't. Contracts see it as that number.
@@ -29,10 +30,10 @@ impl Faults {
     }
 
     /// One more receive ended so.
-    pub(crate) fn note(&mut self, received: &Result<Received, ReceiveFault>)
-        ensures { self.new ≡ faults_after self.old (is_ok received.now) }
+    pub(crate) fn note(&mut self, admitted: &Result<Admitted, ReceiveFault>)
+        ensures { self.new ≡ faults_after self.old (is_ok admitted.now) }
     {
-        match received {
+        match admitted {
             Ok(_) => self.in_a_row = 0,
             Err(_) => self.in_a_row = self.in_a_row.saturating_add(1),
         }

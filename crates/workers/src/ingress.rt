@@ -1,6 +1,8 @@
 //! The ingress: it takes in what comes, and does what follows, in the thread that runs the unit.
 
-ghost use Rattle.std.specs.Prelude.{◌≡◌, ◌<◌, ◌++◌, [], OnOk, OnErr};
+ghost use Rattle.std.specs.Prelude.{◌≡◌, ◌<◌, ◌++◌, [], ℕ, List, OnOk, OnErr};
+ghost use Rattle.datagram.specs.Reads.{IsPacketRead, admission_of};
+ghost use Rattle.core_steps.specs.Hearing.{SaysTaken};
 ghost use Rattle.desk.specs.Call.{HasStay};
 ghost use Rattle.events.specs.declared.event.Event.TheVariants.{Hear, Select, Tick};
 ghost use Rattle.core_steps.specs.Rule.{Does};
@@ -14,7 +16,7 @@ use crate::gear::Gear;
 use crate::item::Item;
 use crate::lane::Crew;
 use crate::settling::{Patience, settle};
-use core_steps::{Duty, IngressCore};
+use core_steps::{Duty, IngressCore, Taking};
 use desk::{Answer, Call, Change, Signal};
 use events::{DeskRefusal, Job, Out, Refusal};
 use forwarding::{ForwardFault, Forwarded, Notifier, send_all};
@@ -72,17 +74,18 @@ impl<'a, D: DeskCalls, C: SeatCalls, J: Naming, S: Sink + Drop> Ingress<'a, D, C
         crew.join(rt, counts, gear.into_seat())
     }
 
-    /// A datagram came from an endpoint: it is heard, and what follows is done.
-    pub(crate) fn hear<R: Wait>(
+    /// What a datagram of an endpoint says is taken in, and what follows is done.
+    pub(crate) fn take<R: Wait>(
         &mut self,
         rt: &R,
         moment: u64,
-        endpoint: u16,
-        bytes: &[u8],
-    ) -> Result<(), AllocError> {
+        taking: Taking<'_>,
+    ) -> Result<(), AllocError>
+        requires read { IsPacketRead taking.bytes.now taking.what }
+    {
         self.counts.add_heard();
-        self.endpoint = Some(endpoint);
-        hear_one(&mut self.core, moment, endpoint, bytes, &mut self.refusals)?;
+        self.endpoint = Some(taking.endpoint);
+        take_one(&mut self.core, moment, taking, &mut self.refusals)?;
         self.tell_refusals();
         self.do_duties(rt)
     }
@@ -352,19 +355,20 @@ fn may_wait(job: &Job) -> bool
     matches!(job, Job::Report { .. })
 }
 
-/// The core hears a datagram; what was refused of it alone is listed.
-fn hear_one(
+/// The core takes in what a datagram says; what was refused of it alone is listed.
+fn take_one(
     core: &mut IngressCore,
     moment: u64,
-    endpoint: u16,
-    bytes: &[u8],
+    taking: Taking<'_>,
     refusals: &mut Vec<Out>,
 ) -> Result<(), AllocError>
-    ensures { OnOk result (Leaves (Does core.old (Hear moment endpoint bytes.now)) core.old []
+    requires read { IsPacketRead taking.bytes.now taking.what }
+    ensures { (bytes : List ℕ) → SaysTaken core.old (admission_of taking.entry) bytes
+        → OnOk result (Leaves (Does core.old (Hear moment taking.entry.endpoint bytes)) core.old []
         core.new refusals.new.items) }
 {
     refusals.clear();
-    core.hear(moment, endpoint, bytes, refusals)
+    core.take(moment, taking, refusals)
 }
 
 /// The core selects a leg or not; what was refused of it alone is listed.

@@ -12,6 +12,7 @@ use crate::settling::Patience;
 use crate::turns::Inlet;
 use crate::worker::WorkerThread;
 use core_steps::IngressCore;
+use entrance::{Direct, Entrance, Kept};
 use forwarding::{Forwarder, Notifier};
 use outside::{Feed, Gate, Pace, Sink, Ticks, Timekeeper, Watch};
 use rate_desk::{DeskCalls, DeskSeat, House, SeatCalls};
@@ -137,7 +138,9 @@ fn run_equipped<
         watch,
     } = outside;
     let gears = gears_of(shared.alloc, seats, readers, sinks)?;
-    let inlet = Inlet::new(shared.alloc, feed, clock, watch)?;
+    let (mut feed, mut clock) = (feed, clock);
+    let mut kept = Kept::new(shared.alloc)?;
+    let inlet = Inlet::new(Direct::new(&mut feed, &mut clock, &mut kept), watch);
     run_beside(scope, rt, shared, writer, gears, inlet, pace)
 }
 
@@ -149,9 +152,8 @@ fn run_beside<
     C: SeatCalls + Send + Sync + 'a,
     J: Naming + Send + Sync + 'a,
     R: Threads + Wait + Sync + 'a,
-    F: Feed + Drop,
+    E: Entrance + Drop,
     S: Sink + Send + Drop + 'a,
-    Clk: Timekeeper + Drop,
     W: Watch + Drop,
     G: Gate + Sync + 'a,
 >(
@@ -160,7 +162,7 @@ fn run_beside<
     shared: &'a Shared<'a, D, C, G>,
     writer: &mut RouteWriter<J>,
     gears: Vec<Gear<C, J, S>>,
-    inlet: Inlet<F, Clk, W>,
+    inlet: Inlet<E, W>,
     pace: Pace,
 ) -> Result<Vec<DeskSeat<C>>, UnitFault> {
     let mut gears = gears;
@@ -192,9 +194,8 @@ fn run_manned<
     C: SeatCalls + Send + Sync + 'a,
     J: Naming + Send + Sync + 'a,
     R: Threads + Wait + Sync + 'a,
-    F: Feed + Drop,
+    E: Entrance + Drop,
     S: Sink + Send + Drop + 'a,
-    Clk: Timekeeper + Drop,
     W: Watch + Drop,
     G: Gate + Sync + 'a,
 >(
@@ -205,7 +206,7 @@ fn run_manned<
     gears: Vec<Gear<C, J, S>>,
     own: Gear<C, J, S>,
     parts: IngressParts<J, C>,
-    inlet: Inlet<F, Clk, W>,
+    inlet: Inlet<E, W>,
     pace: Pace,
 ) -> Result<Vec<DeskSeat<C>>, UnitFault> {
     let mut inlet = inlet;

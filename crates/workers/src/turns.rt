@@ -1,43 +1,29 @@
 //! The turns of the ingress: one receive and one tick each.
 
-ghost use Rattle.std.specs.Prelude.{◌≡◌, vec_len, IfOk};
-
 use crate::fault::UnitFault;
 use crate::faults::Faults;
 use crate::ingress::Ingress;
-use outside::{Feed, MAX_DATAGRAM, Received, Sink, Timekeeper, Watch};
+use entrance::{Admitted, Came, Entrance};
+use outside::{Sink, Watch};
 use rate_desk::{DeskCalls, SeatCalls};
 use routes::Naming;
-use std::alloc::{AllocError, Global};
 use std::sync::Wait;
 
 /// What the turns take from outside.
 #[derive(Drop)]
-pub(crate) struct Inlet<F: Drop, Clk: Drop, W: Drop> {
-    pub(crate) feed: F,
-    pub(crate) clock: Clk,
+pub(crate) struct Inlet<E: Drop, W: Drop> {
+    pub(crate) entrance: E,
     pub(crate) watch: W,
-    /// Where a datagram is received.
-    pub(crate) buffer: Vec<u8>,
     pub(crate) faults: Faults,
 }
 
-impl<F: Feed + Drop, Clk: Timekeeper + Drop, W: Watch + Drop> Inlet<F, Clk, W> {
-    pub(crate) fn new(
-        alloc: Global,
-        feed: F,
-        clock: Clk,
-        watch: W,
-    ) -> Result<Inlet<F, Clk, W>, AllocError>
-        ensures { IfOk result (λ inlet. vec_len inlet.buffer ≡ 65535) }
-    {
-        Ok(Inlet {
-            feed,
-            clock,
+impl<E: Entrance + Drop, W: Watch + Drop> Inlet<E, W> {
+    pub(crate) fn new(entrance: E, watch: W) -> Inlet<E, W> {
+        Inlet {
+            entrance,
             watch,
-            buffer: vec![in alloc; 0; MAX_DATAGRAM]?,
             faults: Faults::new(),
-        })
+        }
     }
 
     /// Makes so many turns, if all workers were started.
@@ -70,22 +56,18 @@ impl<F: Feed + Drop, Clk: Timekeeper + Drop, W: Watch + Drop> Inlet<F, Clk, W> {
         Ok(())
     }
 
-    /// Takes in what was received, then ticks. Says whether a stop came.
+    /// Takes in what the entrance lets in, then ticks. Says whether a stop came.
     fn turn<D: DeskCalls, C: SeatCalls, J: Naming, S: Sink + Drop, R: Wait>(
         &mut self,
         rt: &R,
         ingress: &mut Ingress<'_, D, C, J, S>,
     ) -> Result<bool, UnitFault> {
-        let received = self.feed.receive(self.buffer.as_mut_slice());
-        let moment = self.clock.moment();
-        self.faults.note(&received);
-        match received {
-            Ok(Received::Datagram { endpoint, length }) => {
-                let bytes = &self.buffer.as_slice()[..length];
-                ingress.hear(rt, moment, endpoint, bytes)?;
-            }
-            Ok(Received::Select { leg, on }) => ingress.select(rt, moment, leg, on)?,
-            Ok(Received::Nothing | Received::Stop) | Err(_) => {}
+        let Came { moment, admitted } = self.entrance.receive(ingress.core.view())?;
+        self.faults.note(&admitted);
+        match admitted {
+            Ok(Admitted::Taking) => ingress.take(rt, moment, self.entrance.taking())?,
+            Ok(Admitted::Select { leg, on }) => ingress.select(rt, moment, leg, on)?,
+            Ok(Admitted::Nothing | Admitted::Stop) | Err(_) => {}
         }
         ingress.tick(rt, moment)?;
         if self.watch.is_due(moment) {
@@ -95,6 +77,6 @@ impl<F: Feed + Drop, Clk: Timekeeper + Drop, W: Watch + Drop> Inlet<F, Clk, W> {
         if self.faults.are_too_many() {
             return Err(UnitFault::Receive);
         }
-        Ok(received.is_ok_and(Received::is_stop))
+        Ok(matches!(admitted, Ok(Admitted::Stop)))
     }
 }

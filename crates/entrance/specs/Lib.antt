@@ -1,0 +1,2 @@
+pub mod Entrance
+pub mod Kept
