@@ -36,6 +36,11 @@ fn readers_take_what_was_published(rt: HostRuntime) -> Result<(), Fail> {
     take_published::<Brand, _>(&rt, rt.alloc(), Blank::new(LEGS))
 }
 
+/// Whether the reader's entry answers just these rows.
+fn enters<J: Naming>(reader: &mut RouteReader<J>, wanted: &[Row]) -> bool {
+    reader.enter() == Some(wanted)
+}
+
 /// Two readers and one writer in one thread.
 fn take_published<J: Naming, R: Wait + Abort>(
     rt: &R,
@@ -47,9 +52,9 @@ fn take_published<J: Naming, R: Wait + Abort>(
     let (mut writer, mut readers) = routes::<J, R>(rt, alloc, blank, 2)?;
     let before = readers[0].rows() == [OPENING, OPENING, OPENING].as_slice();
     let noted = writer.change(&ROUTE).is_ok();
-    let unseen = readers[0].enter() == Some([OPENING, OPENING, OPENING].as_slice());
+    let unseen = enters(&mut readers[0], [OPENING, OPENING, OPENING].as_slice());
     let note = writer.publish(rt);
-    let seen = readers[0].enter() == Some([OPENING, SECOND, OPENING].as_slice());
+    let seen = enters(&mut readers[0], [OPENING, SECOND, OPENING].as_slice());
     readers[1].learn(note);
     let other = readers[1].take() && readers[1].rows() == [OPENING, SECOND, OPENING].as_slice();
     let off = writer
@@ -76,9 +81,9 @@ fn take_published<J: Naming, R: Wait + Abort>(
         on: false,
     };
     readers[0].learn(writer.note());
-    let last = readers[0].enter() == Some([OPENING, ended, OPENING].as_slice());
+    let last = enters(&mut readers[0], [OPENING, ended, OPENING].as_slice());
     writer.end(rt);
-    let gone = readers[0].enter().is_some();
+    let gone = readers[0].take();
     assert!(rt; before && noted && unseen && seen && other);
     assert!(rt; off && beyond && arrival && last && !gone);
     Ok(())
