@@ -23,14 +23,16 @@ pub struct Kept {
 }
 
 impl Kept {
-    ghost use Rattle.std.specs.Prelude.{◌≡◌, ◌∷◌, [], IfOk, OnOk};
+    ghost use Rattle.std.specs.Prelude.{◌≡◌, ◌∷◌, [], length, IfOk, OnOk};
     ghost use Rattle.datagram.specs.Reads.{admission_of};
     ghost use Rattle.outside.specs.Outside.{Grows};
     ghost use Rattle.entrance.specs.Entrance.{IfTaken, IsTakenFrom, arrival_by};
     ghost use Rattle.entrance.specs.Kept.{admission_in, arrival_kept, datagram_in};
 
-    /// Nothing came yet.
-    pub fn new(alloc: Global) -> Result<Kept, AllocError> {
+    /// Nothing came yet. There is room for the longest datagram.
+    pub fn new(alloc: Global) -> Result<Kept, AllocError>
+        ensures { IfOk result (λ k. length k.buffer.items ≡ 65535) }
+    {
         Ok(Kept {
             buffer: vec![in alloc; 0; MAX_DATAGRAM]?,
             endpoint: 0,
