@@ -42,7 +42,7 @@ pub(crate) fn hear(
         (alone front.new) outs.new.items) }
 {
     let own = own_source(&front.setup.links, endpoint);
-    read(bytes, own, reading)?;
+    read(bytes, own, None, reading)?;
     take(front, moment, reading.taking(endpoint, bytes), outs)
 }
 

@@ -122,7 +122,7 @@ fn write_asks(text: &mut String, asks: &[Ask]) -> Result<(), fmt::Error> {
 
 /// Reads a datagram, and promises nothing, so that who calls it is proved without what `read` says.
 fn read_one(datagram: &[u8], own: u32, reading: &mut Reading) -> Result<(), AllocError> {
-    read(datagram, Ssrc(own), reading)
+    read(datagram, Ssrc(own), None, reading)
 }
 
 /// What a datagram of this source says and asks for, read where one that asks for a picture was read before.
@@ -132,8 +132,8 @@ fn said(alloc: Global, own: u32, bytes: &[u8]) -> Result<String, Fail> {
     read_one(former.as_slice(), 17, &mut reading)?;
     read_one(bytes, own, &mut reading)?;
     let mut text = String::new(alloc);
-    write_what(&mut text, reading.what())?;
-    write_asks(&mut text, reading.asks())?;
+    write_what(&mut text, reading.what)?;
+    write_asks(&mut text, reading.asks.as_slice())?;
     Ok(text)
 }
 
@@ -243,7 +243,7 @@ fn spelled(alloc: Global, own: u32, came: &[u8]) -> Result<Vec<u8>, Fail> {
     let mut reading = Reading::new(alloc);
     read_one(came, own, &mut reading)?;
     let mut bytes = Vec::new(alloc);
-    spell(Ssrc(own), reading.what(), reading.asks(), came, &mut bytes)?;
+    spell(Ssrc(own), reading.what, reading.asks.as_slice(), came, &mut bytes)?;
     Ok(bytes)
 }
 

@@ -1,5 +1,4 @@
 pub mod ReaderLemmas
-pub mod HeedLemmas
 pub mod OneSaidLemmas
 pub mod PacketLemmas
 pub mod SpellingLemmas

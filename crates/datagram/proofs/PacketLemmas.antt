@@ -1,7 +1,7 @@
 -- A packet that was read has the number and the octets of the datagram.
-use Rattle.std.proofs.Common.{◌≡◌, ◌∙◌, ◌==◌, ℕ, ⊎_elim, List, [], Bool, true, false, Result, Ok, sym, ap, subst}
+use Rattle.std.proofs.Common.{◌≡◌, ◌∙◌, ◌==◌, ℕ, ⊎_elim, List, Bool, true, false, Ok, sym, ap, subst}
 use Rattle.std.proofs.lemmas.Bool.{cases_Bool}
-use Rattle.std.specs.Prelude.{if◌then◌else◌, length}
+use Rattle.std.specs.Prelude.{if◌then◌else◌}
 use Rattle.std.specs.List.{list_any}
 use Rattle.rtcp_compound.specs.Mux.{is_rtcp}
 use Rattle.shared_packet.specs.Rtp.{IsReadAs}
@@ -11,7 +11,7 @@ use Rattle.datagram.specs.declared.reading.Media.{Media as Packet}
 use Rattle.datagram.specs.declared.reading.What.{What}
 use Rattle.datagram.specs.declared.reading.What.TheVariants.{Media, Goodbye, Control, Refused}
 use Rattle.datagram.specs.Reads.{IsPacketRead, ReadsBy, what_of}
-use Rattle.datagram.specs.Saying.{Said, Says, SaysRtp, media, leaves, control, speaker_of, heeded}
+use Rattle.datagram.specs.Saying.{Said, Says, SaysRtp, media, leaves, control, speaker_of}
 
 -- ---- what is said of a packet
 
@@ -54,14 +54,14 @@ says_read own d s q p n (rtcp, rtp) =
     (λ (is : is_rtcp d ≡ true).
     let said = rtcp is in
     absurd (no_packet_said (list_any (λ x. x == own) said.0.goodbyes) s q p n (speaker_of own said.0.senders) said.0.reports said.0.tmmbns
-    (heeded said.0.asks) said.2))
+    said.0.asks said.2))
     (λ (unlike : is_rtcp d ≡ false). packet_read d s q p n (rtp unlike))
     (cases_Bool (is_rtcp d))
 
-pub packet_was_read : (own : ℕ) (d : List ℕ) (before after : List Ask) (what : What) → ReadsBy (Says own d) before after what → IsPacketRead d what
-packet_was_read own d before after (Media m) (said, says, is, more) =
+pub packet_was_read : (own : ℕ) (d : List ℕ) (asks : List Ask) (what : What) → ReadsBy (Says own d) asks what → IsPacketRead d what
+packet_was_read own d asks (Media m) (said, says, is, more) =
     says_read own d m.ssrc.0 m.parts.sequence_number m.timestamp m.parts.octets
     (subst (λ (x : Said). Says own d (Ok x)) (media_said m said is) says)
-packet_was_read own d before after Goodbye reads = tt
-packet_was_read own d before after (Control c) reads = tt
-packet_was_read own d before after (Refused refusal) reads = tt
+packet_was_read own d asks Goodbye reads = tt
+packet_was_read own d asks (Control c) reads = tt
+packet_was_read own d asks (Refused refusal) reads = tt

@@ -17,7 +17,7 @@ read_of (Err refusal) = record { what = Refused refusal; asks = [] }
 abbrev IsReadOf : ℕ → List ℕ → WasRead → Type 0
 IsReadOf own datagram r = (said : Result Said Refusal) × Says own datagram said × (r ≡ read_of said)
 
-of_said : (own : ℕ) (datagram : List ℕ) (what : What) (asks : List Ask) → ReadsSaid (Says own datagram) [] asks what
+of_said : (own : ℕ) (datagram : List ℕ) (what : What) (asks : List Ask) → ReadsSaid (Says own datagram) asks what
     → IsReadOf own datagram (record { what = what; asks = asks })
 of_said own datagram what asks (said, says, is, more) = (Ok said, says, λ i. record { what = is i; asks = more i })
 

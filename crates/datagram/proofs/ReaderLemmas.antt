@@ -1,11 +1,12 @@
 -- What packets say one after the other, and what is kept of it.
-use Rattle.std.proofs.Common.{◌≡◌, ◌∙◌, ℕ, ◌+◌, ◌≤◌, inr, Bool, true, false, List, [], ◌∷◌, ◌++◌, length, map, Option, None, Some, Result, Ok, Err, refl, sym, ap, ap₂, arith, append_assoc, add_assoc, add-zero, eqb}
+use Rattle.std.proofs.Common.{◌≡◌, ◌∙◌, ℕ, ◌+◌, ◌-◌, ◌^◌, ◌<◌, ◌≤◌, inr, Bool, true, false, List, [], ◌∷◌, ◌++◌, length, map, take, min, Option, None, Some, Result, Ok, Err, refl, sym, ap, ap₂, subst, arith, append_assoc, add_assoc, add-zero, eqb}
 use Rattle.std.specs.Prelude.{◌==◌, ◌||◌, not, cond}
 use Rattle.std.specs.List.{flat_map, last_or}
 use Rattle.std.specs.Option.{option_or}
 use Rattle.std.proofs.lemmas.Bool.{cond-false, eq-eqb}
 use Rattle.std.proofs.lemmas.List.Folds.{list_any-append}
-use Rattle.std.proofs.lemmas.List.{append-nil, length-append}
+use Rattle.std.proofs.lemmas.Bool.Decides.{nat_tests}
+use Rattle.std.proofs.lemmas.List.{append-nil, length-append, length-take, take-append-le, take_all}
 use Rattle.rtcp_compound.specs.Content.{Content, packet_content}
 use Rattle.rtcp_compound.specs.Grammar.{RtcpPacket, packet_bytes, ReadsRtcp}
 use Rattle.rtcp_feedback.specs.declared.fault.FbFault.{FbFault}
@@ -13,14 +14,16 @@ use Rattle.datagram.specs.declared.reading.Ask.{Ask}
 use Rattle.datagram.specs.declared.reader.Survey.{Survey}
 use Rattle.datagram.specs.declared.reading.What.{What}
 use Rattle.datagram.specs.declared.reading.What.TheVariants.{Control}
-use Rattle.datagram.specs.Reads.{IsSurveyOf, what_of}
-use Rattle.datagram.specs.Saying.{Gist, PacketSays, PacketsSay, control, heeded, joint_gist, empty_gist, said_by, speaker_of}
+use Rattle.datagram.specs.declared.reading.Reading.{Reading}
+use Rattle.datagram.specs.Reads.{IsListed, IsReadUpTo, IsSaidIn, IsSurveyOf, MayList, first_asks, is_full, was_read, what_of}
+use Rattle.datagram.specs.Saying.{Gist, PacketSays, PacketsSay, control, joint_gist, empty_gist, said_by, speaker_of}
 
 -- ---- gists
 
 pub joined_nothing : (a : Gist) → joint_gist a empty_gist ≡ a
 joined_nothing a = λ i. record {
   senders = append-nil a.senders i;
+  clocks = append-nil a.clocks i;
   goodbyes = append-nil a.goodbyes i;
   reports = append-nil a.reports i;
   tmmbns = add-zero a.tmmbns i;
@@ -30,6 +33,7 @@ joined_nothing a = λ i. record {
 pub joined_assoc : (a b c : Gist) → joint_gist a (joint_gist b c) ≡ joint_gist (joint_gist a b) c
 joined_assoc a b c = λ i. record {
   senders = sym (append_assoc a.senders b.senders c.senders) i;
+  clocks = sym (append_assoc a.clocks b.clocks c.clocks) i;
   goodbyes = sym (append_assoc a.goodbyes b.goodbyes c.goodbyes) i;
   reports = sym (append_assoc a.reports b.reports c.reports) i;
   tmmbns = sym (add_assoc a.tmmbns b.tmmbns c.tmmbns) i;
@@ -92,8 +96,9 @@ pub kept_of_both : (own : ℕ) (x y z : Survey) (a b : Gist) → IsSurveyOf own 
     → z.control.speaker.0 ≡ cond (x.control.speaker.0 == own) y.control.speaker.0 x.control.speaker.0
     → z.control.report ≡ option_or y.control.report x.control.report
     → z.control.tmmbns ≡ x.control.tmmbns + y.control.tmmbns
+    → z.clocked.0 ≡ cond (x.clocked.0 == own) y.clocked.0 x.clocked.0
     → IsSurveyOf own z (joint_gist a b)
-kept_of_both own x y z a b sx sy goodbye asking speaker report tmmbns = record {
+kept_of_both own x y z a b sx sy goodbye asking speaker report tmmbns clocked = record {
   goodbye = goodbye ∙ ap₂ (λ p q. p || q) sx.goodbye sy.goodbye ∙ sym (list_any-append (λ s. s == own) a.goodbyes b.goodbyes);
   asking = λ e.
       let none = or_false x.asking y.asking (sym asking ∙ e) in
@@ -101,16 +106,64 @@ kept_of_both own x y z a b sx sy goodbye asking speaker report tmmbns = record {
   speaker = speaker ∙ ap₂ (λ (p q : ℕ). cond (p == own) q p) sx.speaker sy.speaker ∙ sym (speaker_of-append own a.senders b.senders);
   report = report ∙ ap₂ (λ (p q : Option (ℕ × ℕ)). option_or p q) sy.report sx.report ∙ sym (last_or-append a.reports b.reports);
   tmmbns = tmmbns ∙ ap₂ (λ (p q : ℕ). p + q) sx.tmmbns sy.tmmbns;
+  clocked = clocked ∙ ap₂ (λ (p q : ℕ). cond (p == own) q p) sx.clocked sy.clocked ∙ sym (speaker_of-append own a.clocks b.clocks);
 }
 
 -- if nobody leaves, what is kept is what is heard
 pub control_said : (own : ℕ) (s : Survey) (g : Gist) → IsSurveyOf own s g → s.goodbye ≡ false
-    → control (speaker_of own g.senders) g.reports g.tmmbns (heeded g.asks) ≡ said_by own g
+    → control (speaker_of own g.senders) g.reports g.tmmbns g.asks ≡ said_by own g
 control_said own s g is stays = sym (cond-false _ _ _ (sym is.goodbye ∙ stays))
 
 pub control_heard : (own : ℕ) (s : Survey) (g : Gist) → IsSurveyOf own s g
-    → ◌≡◌ {A = What} (Control s.control) (what_of (control (speaker_of own g.senders) g.reports g.tmmbns (heeded g.asks)))
+    → ◌≡◌ {A = What} (Control s.control) (what_of (control (speaker_of own g.senders) g.reports g.tmmbns g.asks))
 control_heard own s g is = λ i. Control (record { speaker = record { 0 = is.speaker i }; report = is.report i; tmmbns = is.tmmbns i })
+
+-- ---- what is listed
+
+pub none_listed : (most : Option ℕ) (r : Reading) → r.asks.items ≡ [] → r.beyond ≡ 0 → IsListed most [] r
+none_listed None r asks beyond = (asks, beyond)
+none_listed (Some most) r asks beyond = (asks ∙ sym (take_all most [] (omega arith)), beyond ∙ omega arith)
+
+-- one more is listed, or counted
+pub listed_one : (most : Option ℕ) (asks : List Ask) (ask : Ask) (r s : Reading) → is_full (length r.asks.items) most ≡ false
+    → s.asks.items ≡ r.asks.items ++ ask ∷ [] → s.beyond ≡ r.beyond → IsListed most asks r → IsListed most (asks ++ ask ∷ []) s
+listed_one None asks ask r s free more beyond (listed, rest) = (more ∙ ap (λ (l : List Ask). l ++ ask ∷ []) listed, beyond ∙ rest)
+listed_one (Some most) asks ask r s free more beyond (listed, rest) =
+    let few : length r.asks.items < most = grind (arith, nat_tests, free) in
+    let cut : length r.asks.items ≡ length (take most asks) = ap length listed in
+    let kept = length-take most asks in
+    let long = length-append asks (ask ∷ []) in
+    let all : take most asks ≡ asks = take_all most asks (omega arith) in
+    let both : take most (asks ++ ask ∷ []) ≡ asks ++ ask ∷ [] = take_all most (asks ++ ask ∷ []) (omega arith) in
+    (more ∙ ap (λ (l : List Ask). l ++ ask ∷ []) (listed ∙ all) ∙ sym both, beyond ∙ rest ∙ omega arith)
+
+pub counted_one : (most : Option ℕ) (asks : List Ask) (ask : Ask) (r s : Reading) → is_full (length r.asks.items) most ≡ true
+    → s.asks.items ≡ r.asks.items → s.beyond ≡ min (r.beyond + 1) (2 ^ 64 - 1) → IsListed most asks r → IsListed most (asks ++ ask ∷ []) s
+counted_one None asks ask r s full same beyond listed = absurd (cc)
+counted_one (Some most) asks ask r s full same beyond (listed, rest) =
+    let many : most ≤ length r.asks.items = grind (arith, nat_tests, full) in
+    let cut : length r.asks.items ≡ length (take most asks) = ap length listed in
+    let kept = length-take most asks in
+    let long = length-append asks (ask ∷ []) in
+    (same ∙ listed ∙ sym (take-append-le most asks (ask ∷ []) (omega arith)), beyond ∙ omega arith)
+
+pub may_list : (listed : ℕ) (most : Option ℕ) → is_full listed most ≡ false → MayList most
+may_list listed None free = tt
+may_list listed (Some most) free = grind (arith, nat_tests, free)
+
+-- something is listed if it may be
+pub some_listed : (most : Option ℕ) (asks : List Ask) → MayList most → 0 < length asks → 0 < length (first_asks most asks)
+some_listed None asks may some = some
+some_listed (Some most) asks may some = let kept = length-take most asks in omega arith
+
+pub listed_more : (most : Option ℕ) (asks done more : List Ask) (r : Reading) → IsListed most ((asks ++ done) ++ more) r
+    → IsListed most (asks ++ (done ++ more)) r
+listed_more most asks done more r listed = subst (λ (l : List Ask). IsListed most l r) (append_assoc asks done more) listed
+
+-- all of it is listed, if that may be
+pub read_whole : (own : ℕ) (datagram : List ℕ) (r : Reading) → IsReadUpTo own datagram None r → IsSaidIn own datagram (was_read r)
+read_whole own datagram r read =
+    subst (λ (asks : List Ask). IsSaidIn own datagram (record { what = r.what; asks = asks })) (sym read.listed) read.says
 
 -- ---- the number of packets
 

@@ -1,9 +1,9 @@
 -- What is spelled is said.
 use Rattle.std.proofs.Common.{◌≡◌, ◌∙◌, ℕ, zero, suc, ◌+◌, ◌/◌, ◌^◌, ◌<◌, ◌≤◌, Bool, true, false, List, [], ◌∷◌, ◌++◌, length, map, replicate, Option, None, Some, Ok, Err, refl, sym, ap, subst, arith, append-nil}
 use Rattle.std.specs.Prelude.{◌==◌, cond, slice_index}
-use Rattle.std.specs.List.{flat_map, list_any, All, last_or}
+use Rattle.std.specs.List.{flat_map, All, last_or}
 use Rattle.std.specs.Option.{option_to_list}
-use Rattle.std.proofs.lemmas.List.{take_all}
+use Rattle.std.proofs.lemmas.List.{length-take}
 use Rattle.std.proofs.lemmas.List.Elements.{All-nil, All-cons}
 use Rattle.std.proofs.lemmas.Bool.{both_ways, eq-eqb, eqb-true}
 use Rattle.std.proofs.lemmas.Bool.Decides.{nat_tests}
@@ -26,12 +26,12 @@ use Rattle.datagram.specs.declared.reading.Ask.TheVariants.{Rate, Resend, Pictur
 use Rattle.datagram.specs.declared.reading.Control.{Control}
 use Rattle.datagram.specs.declared.reading.What.{What}
 use Rattle.datagram.specs.declared.reading.What.TheVariants.{Media, Goodbye, Control as Controls, Refused}
-use Rattle.datagram.specs.declared.reader.TheConstants.{MAX_ENTRIES}
-use Rattle.datagram.specs.Reads.{IsSaidIn, ReadsBy, ReadsSaid, asks_of, what_of}
+use Rattle.datagram.specs.declared.reading.Reading.{Reading}
+use Rattle.datagram.specs.Reads.{IsReadUpTo, IsSaidIn, ReadsBy, asks_of, first_asks, what_of}
 use Rattle.datagram.specs.declared.reading.Media.{Media as Packet}
 use Rattle.datagram.proofs.PacketLemmas.{media_said}
-use Rattle.datagram.specs.Saying.{Gist, JoinsPackets, PacketSays, PacketsSay, Said, Says, control, empty_gist, gist_of, heeded, joint_gist, leaves, media, said_by, sent_by, speaker_of}
-use Rattle.datagram.specs.Spelling.{IsAsHeard, IsAskInRange, IsHeardInRange, IsReportInRange, SaysInFull, ask_packet, control_packets, notice_packet, said_in_full, speaking_packet, spelling}
+use Rattle.datagram.specs.Saying.{Gist, JoinsPackets, PacketSays, PacketsSay, Said, Says, control, empty_gist, gist_of, joint_gist, leaves, media, said_by, sent_by, speaker_of}
+use Rattle.datagram.specs.Spelling.{IsAsHeard, IsAskInRange, IsHeardInRange, IsReportInRange, ask_packet, control_packets, notice_packet, speaking_packet, spelling}
 
 -- ---- each packet
 
@@ -48,8 +48,13 @@ says_alone old new p c g a says = record {
   says = subst (λ (x : Content). PacketSays x (Ok g)) (sym a.says) says;
 }
 
+-- what a report says
+abbrev reporting : ℕ → Option (ℕ × ℕ) → Gist
+reporting speaker report =
+    record (sent_by speaker) { clocks = map (λ _. speaker) (option_to_list report); reports = option_to_list report }
+
 report_says : (speaker : ℕ) (report : Option (ℕ × ℕ)) → speaker < 2 ^ 32 → IsReportInRange report
-    → SaysAlone (speaking_packet speaker report) (record (sent_by speaker) { reports = option_to_list report })
+    → SaysAlone (speaking_packet speaker report) (reporting speaker report)
 report_says speaker None fits within =
     says_alone [] _ (rr_packet speaker []) (receiver_report speaker []) _
     (rr_written [] _ speaker 0 1 [] refl (omega arith) refl fits (All-nil IsReportBlock) refl) refl
@@ -126,7 +131,7 @@ joins p ps g say = record {
 
 -- what asks say
 abbrev asking : ℕ → List Ask → Gist
-asking speaker asks = record { senders = replicate (length asks) speaker; goodbyes = []; reports = []; tmmbns = 0; asks = asks }
+asking speaker asks = record { senders = replicate (length asks) speaker; clocks = []; goodbyes = []; reports = []; tmmbns = 0; asks = asks }
 
 asks_say : (speaker : ℕ) (asks : List Ask) → speaker < 2 ^ 32 → All IsAskInRange asks → SayTogether (map (ask_packet speaker) asks) (asking speaker asks)
 asks_say speaker [] fits within = refl
@@ -140,7 +145,7 @@ asks_say speaker (a ∷ asks) fits within = (
 
 -- what so many TMMBNs say before that
 abbrev noticing : ℕ → ℕ → Gist → Gist
-noticing speaker n g = record { senders = replicate n speaker ++ g.senders; goodbyes = g.goodbyes; reports = g.reports; tmmbns = n + g.tmmbns; asks = g.asks }
+noticing speaker n g = record { senders = replicate n speaker ++ g.senders; clocks = g.clocks; goodbyes = g.goodbyes; reports = g.reports; tmmbns = n + g.tmmbns; asks = g.asks }
 
 notices_say : (speaker n : ℕ) (rest : List RtcpPacket) (g : Gist) → speaker < 2 ^ 32 → SayTogether rest g
     → SayTogether (replicate n (notice_packet speaker) ++ rest) (noticing speaker n g)
@@ -157,7 +162,7 @@ notices_say speaker (suc n) rest g fits say = (
 
 -- what all packets of a value say
 abbrev gist_spelled : ℕ → Option (ℕ × ℕ) → ℕ → List Ask → Gist
-gist_spelled speaker report n asks = joint_gist (record (sent_by speaker) { reports = option_to_list report }) (noticing speaker n (asking speaker asks))
+gist_spelled speaker report n asks = joint_gist (reporting speaker report) (noticing speaker n (asking speaker asks))
 
 -- ---- who speaks
 
@@ -213,15 +218,15 @@ last_report : (report : Option (ℕ × ℕ)) → last_or None (option_to_list re
 last_report None = refl
 last_report (Some report) = refl
 
-control_in_full : (own : ℕ) (c : Control) (asks : List Ask) (came : List ℕ) → IsHeardInRange own (Controls c) → All IsAskInRange asks
-    → ReadsBy (SaysInFull own (spelling own (Controls c) asks came)) [] asks (Controls c)
+control_spelled : (own : ℕ) (c : Control) (asks : List Ask) (came : List ℕ) → IsHeardInRange own (Controls c) → All IsAskInRange asks
+    → ReadsBy (Says own (spelling own (Controls c) asks came)) asks (Controls c)
 unfolding spelling
-control_in_full own c asks came (fits, report) each =
+control_spelled own c asks came (fits, report) each =
     let speaker = c.speaker.0 in
     let gist = gist_spelled speaker c.report c.tmmbns asks in
     let behind = replicate c.tmmbns (notice_packet speaker) ++ map (ask_packet speaker) asks in
     let says : SayTogether (control_packets c asks) gist = (
-      record (sent_by speaker) { reports = option_to_list c.report },
+      reporting speaker c.report,
       noticing speaker c.tmmbns (asking speaker asks),
       report_says speaker c.report fits report,
       notices_say speaker c.tmmbns _ _ fits (asks_say speaker asks fits each),
@@ -232,20 +237,20 @@ control_in_full own c asks came (fits, report) each =
     let speaks : speaker_of own gist.senders ≡ speaker =
     one_speaks own speaker _ (just_both speaker (replicate c.tmmbns speaker) (replicate (length asks) speaker) (just_so_many speaker c.tmmbns) (just_so_many speaker (length asks))) in
     let count : gist.tmmbns ≡ c.tmmbns = omega arith in (
-      said_in_full own gist,
+      said_by own gist,
       (λ _. (gist, joins (speaking_packet speaker c.report) behind gist says, refl), λ not. absurd (both_ways _ not rtcp)),
       (λ i. Controls (record { speaker = record { 0 = sym speaks i }; report = sym (last_report c.report) i; tmmbns = sym count i })),
       refl,
     )
 
-goodbye_in_full : (own : ℕ) (came : List ℕ) → own < 2 ^ 32 → ReadsBy (SaysInFull own (spelling own Goodbye [] came)) [] [] Goodbye
+goodbye_spelled : (own : ℕ) (came : List ℕ) → own < 2 ^ 32 → ReadsBy (Says own (spelling own Goodbye [] came)) [] Goodbye
 unfolding spelling
-goodbye_in_full own came fits =
+goodbye_spelled own came fits =
     let gist : Gist = record empty_gist { goodbyes = own ∷ [] } in
     let one = bye_says own fits in
     let joined : JoinsPackets (flat_map packet_bytes (bye_packet (own ∷ []) ∷ [])) (Ok gist) = joins (bye_packet (own ∷ [])) [] gist (gist, empty_gist, one, refl, refl) in
     let same : (own == own) ≡ true = eq-eqb own own refl in
-    let leaves_it : ◌≡◌ {A = Said} leaves (said_in_full own gist) = rw same refl in (
+    let leaves_it : ◌≡◌ {A = Said} leaves (said_by own gist) = rw same refl in (
       leaves,
       (λ _. (gist, subst (λ (y : List ℕ). JoinsPackets y (Ok gist)) (append-nil (packet_bytes (bye_packet (own ∷ [])))) joined, leaves_it), λ not. absurd (both_ways _ not (bye_shows own))),
       refl,
@@ -257,30 +262,30 @@ no_media : (b : Bool) (speaker n source number timestamp octets : ℕ) (reports 
 no_media true speaker n source number timestamp octets reports asks e = cc
 no_media false speaker n source number timestamp octets reports asks e = cc
 
-media_in_full : (own : ℕ) (m : Packet) (came : List ℕ)
+packet_spelled : (own : ℕ) (m : Packet) (came : List ℕ)
     → Says own came (Ok (media m.ssrc.0 m.parts.sequence_number m.timestamp m.parts.octets))
-    → ReadsBy (SaysInFull own (spelling own (Media m) [] came)) [] [] (Media m)
+    → ReadsBy (Says own (spelling own (Media m) [] came)) [] (Media m)
 unfolding spelling
-media_in_full own m came says = (
+packet_spelled own m came says = (
   media m.ssrc.0 m.parts.sequence_number m.timestamp m.parts.octets,
   (λ is. let (g, joined, e) = says.0 is in absurd (no_media _ _ _ _ _ _ _ _ _ e), says.1),
   refl,
   refl,
 )
 
-refused_in_full : (own : ℕ) (refusal : Refusal) (asks : List Ask) (came : List ℕ) → asks ≡ [] → Says own came (Err refusal)
-    → ReadsBy (SaysInFull own (spelling own (Refused refusal) asks came)) [] asks (Refused refusal)
+refused_spelled : (own : ℕ) (refusal : Refusal) (asks : List Ask) (came : List ℕ) → asks ≡ [] → Says own came (Err refusal)
+    → ReadsBy (Says own (spelling own (Refused refusal) asks came)) asks (Refused refusal)
 unfolding spelling
-refused_in_full own refusal asks came none says = (says, none)
+refused_spelled own refusal asks came none says = (says, none)
 
-pub in_full : (own : ℕ) (what : What) (asks : List Ask) (came : List ℕ) → IsAsHeard own what asks came → IsHeardInRange own what → All IsAskInRange asks
-    → ReadsBy (SaysInFull own (spelling own what asks came)) [] asks what
-in_full own (Media m) asks came (none, says) within each =
-    subst (λ (a : List Ask). ReadsBy (SaysInFull own (spelling own (Media m) a came)) [] a (Media m)) (sym none) (media_in_full own m came says)
-in_full own Goodbye asks came none within each =
-    subst (λ (a : List Ask). ReadsBy (SaysInFull own (spelling own Goodbye a came)) [] a Goodbye) (sym none) (goodbye_in_full own came within)
-in_full own (Controls c) asks came as_heard within each = control_in_full own c asks came within each
-in_full own (Refused refusal) asks came (none, says) within each = refused_in_full own refusal asks came none says
+pub spelling_said : (own : ℕ) (what : What) (asks : List Ask) (came : List ℕ) → IsAsHeard own what asks came → IsHeardInRange own what → All IsAskInRange asks
+    → ReadsBy (Says own (spelling own what asks came)) asks what
+spelling_said own (Media m) asks came (none, says) within each =
+    subst (λ (a : List Ask). ReadsBy (Says own (spelling own (Media m) a came)) a (Media m)) (sym none) (packet_spelled own m came says)
+spelling_said own Goodbye asks came none within each =
+    subst (λ (a : List Ask). ReadsBy (Says own (spelling own Goodbye a came)) a Goodbye) (sym none) (goodbye_spelled own came within)
+spelling_said own (Controls c) asks came as_heard within each = control_spelled own c asks came within each
+spelling_said own (Refused refusal) asks came (none, says) within each = refused_spelled own refusal asks came none says
 
 -- ---- what is read may be spelled
 
@@ -309,31 +314,12 @@ fewer_heard own Goodbye asks fewer came none less = fewer_none asks fewer less n
 fewer_heard own (Controls c) asks fewer came h less = tt
 fewer_heard own (Refused refusal) asks fewer came (none, says) less = (fewer_none asks fewer less none, says)
 
--- ---- what is heeded of it
-
-full_heeded : (own : ℕ) (g : Gist) (said : Said) → said ≡ said_in_full own g → length (asks_of said) ≤ MAX_ENTRIES → said ≡ said_by own g
-full_heeded own g said is few = cases (list_any (λ s. s == own) g.goodbyes) is
+-- also what was read up to so many asks
+pub read_up_to : (own : ℕ) (came : List ℕ) (most : Option ℕ) (r : Reading) → IsReadUpTo own came most r → IsAsHeard own r.what r.asks.items came
+read_up_to own came most r read =
+    subst (λ (asks : List Ask). IsAsHeard own r.what asks came) (sym read.listed)
+    (fewer_heard own r.what read.asks (first_asks most read.asks) came (as_heard own r.what read.asks came read.says) (no_more most read.asks))
   where
-    cases : (b : Bool) → said ≡ cond b leaves (control (speaker_of own g.senders) g.reports g.tmmbns g.asks)
-        → said ≡ cond b leaves (control (speaker_of own g.senders) g.reports g.tmmbns (heeded g.asks))
-    cases true e = e
-    cases false e =
-        let count : length (asks_of said) ≡ length g.asks = ap (λ x. length (asks_of x)) e in
-        e ∙ ap (control (speaker_of own g.senders) g.reports g.tmmbns) (sym (take_all MAX_ENTRIES g.asks (omega arith)))
-
-said_as_heeded : (own : ℕ) (what : What) (asks : List Ask) (datagram : List ℕ) → length asks ≤ MAX_ENTRIES
-    → ReadsSaid (SaysInFull own datagram) [] asks what → ReadsSaid (Says own datagram) [] asks what
-said_as_heeded own what asks datagram few (said, says, is, asks_are) =
-    let count : length asks ≡ length (asks_of said) = ap length asks_are in (
-      said,
-      (λ rtcp. let (g, joined, e) = says.0 rtcp in (g, joined, full_heeded own g said e (omega arith)), says.1),
-      is,
-      asks_are,
-    )
-
-pub as_heeded : (own : ℕ) (what : What) (asks : List Ask) (datagram : List ℕ) → length asks ≤ MAX_ENTRIES
-    → ReadsBy (SaysInFull own datagram) [] asks what → IsSaidIn own datagram (record { what = what; asks = asks })
-as_heeded own (Media m) asks datagram few reads = said_as_heeded own (Media m) asks datagram few reads
-as_heeded own Goodbye asks datagram few reads = said_as_heeded own Goodbye asks datagram few reads
-as_heeded own (Controls c) asks datagram few reads = said_as_heeded own (Controls c) asks datagram few reads
-as_heeded own (Refused refusal) asks datagram few reads = reads
+    no_more : (most : Option ℕ) (asks : List Ask) → length (first_asks most asks) ≤ length asks
+    no_more None asks = omega arith
+    no_more (Some most) asks = let kept = length-take most asks in omega arith

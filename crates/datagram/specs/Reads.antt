@@ -1,5 +1,5 @@
 -- How what is read of a datagram meets what the datagram says.
-use Rattle.std.specs.Prelude.{◌≡◌, ◌==◌, ◌<◌, ℕ, false, None, List, [], ◌++◌, length, Result, Ok, Err, MatchResult}
+use Rattle.std.specs.Prelude.{◌≡◌, ◌==◌, ◌<◌, ℕ, ◌-◌, ◌^◌, min, nat_le, Bool, false, Option, None, Some, List, [], ◌++◌, length, take, Result, Ok, Err, MatchResult}
 use Rattle.std.specs.List.{last_or, list_any}
 use Rattle.std.specs.declared.alloc.AllocError.{AllocError}
 use Rattle.rtcp_compound.specs.Content.{Content}
@@ -10,10 +10,12 @@ use Rattle.datagram.specs.declared.reading.Ask.{Ask}
 use Rattle.datagram.specs.declared.reading.What.{What}
 use Rattle.datagram.specs.declared.reading.What.TheVariants.{Media, Goodbye, Control, Refused}
 use Rattle.datagram.specs.declared.reading.Taking.{Taking}
+use Rattle.datagram.specs.declared.reading.Reading.{Reading}
+use Rattle.datagram.specs.declared.reader.Heard.{Heard}
 use Rattle.datagram.specs.declared.reader.Survey.{Survey}
 use Rattle.events.specs.declared.output.Refusal.{Refusal}
 use Rattle.events.specs.declared.output.Refusal.TheVariants.{Rtp, Feedback}
-use Rattle.datagram.specs.Saying.{Gist, PacketsSay, Said, Says, SaysRtcp, SaysRtp, media, leaves, control, said_by, speaker_of}
+use Rattle.datagram.specs.Saying.{Gist, PacketsSay, Said, Says, media, leaves, control, said_by, speaker_of}
 
 -- what is said, but for what is asked for; of the sender reports the last
 abbrev pub what_of : Said → What
@@ -36,34 +38,65 @@ asks_of (media source number timestamp octets) = []
 asks_of leaves = []
 asks_of (control speaker reports tmmbns asks) = asks
 
--- this was read of what says something, and what is asked for was put after what was listed before
-abbrev pub ReadsSaid : (Result Said Refusal → Type 0) → List Ask → List Ask → What → Type 0
-ReadsSaid says before after what =
-    (said : Said) × says (Ok said) × (what ≡ what_of said) × (after ≡ before ++ asks_of said)
+-- this was read of what says something, and that is asked for
+abbrev pub ReadsSaid : (Result Said Refusal → Type 0) → List Ask → What → Type 0
+ReadsSaid says asks what = (said : Said) × says (Ok said) × (what ≡ what_of said) × (asks ≡ asks_of said)
 
 -- the same, also of what is refused; then nothing is asked for
-abbrev pub ReadsBy : (Result Said Refusal → Type 0) → List Ask → List Ask → What → Type 0
-ReadsBy says before after (Media packet) = ReadsSaid says before after (Media packet)
-ReadsBy says before after Goodbye = ReadsSaid says before after Goodbye
-ReadsBy says before after (Control c) = ReadsSaid says before after (Control c)
-ReadsBy says before after (Refused refusal) = says (Err refusal) × (after ≡ before)
+abbrev pub ReadsBy : (Result Said Refusal → Type 0) → List Ask → What → Type 0
+ReadsBy says asks (Media packet) = ReadsSaid says asks (Media packet)
+ReadsBy says asks Goodbye = ReadsSaid says asks Goodbye
+ReadsBy says asks (Control c) = ReadsSaid says asks (Control c)
+ReadsBy says asks (Refused refusal) = says (Err refusal) × (asks ≡ [])
 
 -- what was read of a datagram: what it says, and what it asks for
 pub record WasRead : Type 0 where
   pub what : What
   pub asks : List Ask
 
--- of no bytes
-abbrev pub nothing_read : WasRead
-nothing_read = record { what = Refused (Rtp Short); asks = [] }
-
 -- The datagram, of the endpoint whose own source this is, says what was read.
 abbrev pub IsSaidIn : ℕ → List ℕ → WasRead → Type 0
-IsSaidIn own datagram r = ReadsBy (Says own datagram) [] r.asks r.what
+IsSaidIn own datagram r = ReadsBy (Says own datagram) r.asks r.what
 
--- it isn't refused, and asks for something, which takes memory
-abbrev pub AsksFor : ℕ → List ℕ → Type 0
-AsksFor own datagram = (said : Said) × Says own datagram (Ok said) × (0 < length (asks_of said))
+abbrev pub was_read : Reading → WasRead
+was_read r = record { what = r.what; asks = r.asks.items }
+
+-- as of no bytes
+pub record IsUnread (r : Reading) : Type 0 where
+  pub read : was_read r ≡ record { what = Refused (Rtp Short); asks = [] }
+  pub clocked : r.clocked.0 ≡ 0
+  pub beyond : r.beyond ≡ 0
+
+-- so many at most, the first; or all
+abbrev pub first_asks : Option ℕ → List Ask → List Ask
+first_asks None asks = asks
+first_asks (Some most) asks = take most asks
+
+-- how many there are beyond these, as far as 64 bits count
+abbrev pub asks_beyond : Option ℕ → List Ask → ℕ
+asks_beyond None asks = 0
+asks_beyond (Some most) asks = min (length asks - most) (2 ^ 64 - 1)
+
+-- The datagram, of the endpoint whose own source this is, says what was read, and asks for this, of which so much is listed, the first.
+pub record IsReadUpTo (own : ℕ) (datagram : List ℕ) (most : Option ℕ) (r : Reading) : Type 0 where
+  pub asks : List Ask
+  pub says : IsSaidIn own datagram (record { what = r.what; asks = asks })
+  pub listed : r.asks.items ≡ first_asks most asks
+  pub beyond : r.beyond ≡ asks_beyond most asks
+
+-- Who speaks if only sender reports say so: of packets that say this the first of the senders of such that isn't the endpoint's own source,
+-- else that.
+abbrev pub IsClocked : ℕ → (Gist → Type 0) → What → ℕ → Type 0
+IsClocked own says (Media packet) clocked = clocked ≡ own
+IsClocked own says Goodbye clocked = (gist : Gist) × says gist × (clocked ≡ speaker_of own gist.clocks)
+IsClocked own says (Control c) clocked =
+    (gist : Gist) × says gist × (clocked ≡ speaker_of own gist.clocks)
+IsClocked own says (Refused refusal) clocked = clocked ≡ own
+
+-- it isn't refused, and asks for something that may be listed, which takes memory
+abbrev pub AsksFor : ℕ → List ℕ → Option ℕ → Type 0
+AsksFor own datagram most =
+    (said : Said) × Says own datagram (Ok said) × (0 < length (first_asks most (asks_of said)))
 
 -- a packet's number and octets are those of the bytes
 abbrev pub IsPacketRead : List ℕ → What → Type 0
@@ -103,12 +136,16 @@ IsSaidBy own t datagram =
 
 -- ---- the steps of a call that reads
 
--- a call reads so, or memory was wanting for what is asked for
-abbrev pub ReadsOr : (Result Said Refusal → Type 0) → List Ask → List Ask → Result What AllocError
+-- of this so much is listed, the first, and the rest is counted
+abbrev pub IsListed : Option ℕ → List Ask → Reading → Type 0
+IsListed most asks r = (r.asks.items ≡ first_asks most asks) × (r.beyond ≡ asks_beyond most asks)
+
+-- a call reads so, and lists what is asked for, or memory was wanting for that
+abbrev pub ReadsOr : (Result Said Refusal → Type 0) → Option ℕ → Reading → Result Heard AllocError
     → Type 0
-ReadsOr says before after r =
-    MatchResult r (λ what. ReadsBy says before after what)
-    (λ _. (said : Said) × says (Ok said) × (0 < length (asks_of said)))
+ReadsOr says most after r =
+    MatchResult r (λ h. (asks : List Ask) × ReadsBy says asks h.what × IsListed most asks after)
+    (λ _. (said : Said) × says (Ok said) × (0 < length (first_asks most (asks_of said))))
 
 -- what the packets of a datagram say, or the fault of feedback
 abbrev pub PacketsMean : ℕ → List Content → Result Said Refusal → Type 0
@@ -123,13 +160,24 @@ pub record IsSurveyOf (own : ℕ) (s : Survey) (g : Gist) : Type 0 where
   pub speaker : s.control.speaker.0 ≡ speaker_of own g.senders
   pub report : s.control.report ≡ last_or None g.reports
   pub tmmbns : s.control.tmmbns ≡ g.tmmbns
+  pub clocked : s.clocked.0 ≡ speaker_of own g.clocks
 
 abbrev pub Surveys : ℕ → (Result Gist FbFault → Type 0) → Result Survey FbFault → Type 0
 Surveys own says r =
     MatchResult r (λ s. (g : Gist) × says (Ok g) × IsSurveyOf own s g) (λ fault. says (Err fault))
 
--- a call appends all of this, or something if memory is wanted
-abbrev pub Fills : {E : Type 0} → List Ask → List Ask → List Ask → Result (Unit {0}) E → Type 0
-Fills before after more r =
-    MatchResult r (λ _. after ≡ before ++ more)
-    (λ _. (0 < length more) × ((some : List Ask) × (after ≡ before ++ some)))
+-- as many are listed as may be
+abbrev pub is_full : ℕ → Option ℕ → Bool
+is_full listed None = false
+is_full listed (Some most) = nat_le most listed
+
+-- something may be listed
+abbrev pub MayList : Option ℕ → Type 0
+MayList None = Unit {0}
+MayList (Some most) = 0 < most
+
+-- a call lists this, too, or memory was wanting for some of it
+abbrev pub Lists : {E : Type 0} → Option ℕ → Reading → Reading → List Ask → Result (Unit {0}) E → Type 0
+Lists most before after more r =
+    MatchResult r (λ _. (asks : List Ask) → IsListed most asks before → IsListed most (asks ++ more) after)
+    (λ _. (0 < length more) × MayList most)

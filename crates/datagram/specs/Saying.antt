@@ -1,6 +1,6 @@
 -- What a datagram of an endpoint says (RFC 3550, sections 5.1, 6.1 and 6.6; RFC 4585, sections 6.1 to 6.3; RFC 5104,
 -- section 4.2), by the grammars of RTP packets, of RTCP datagrams and of feedback.
-use Rattle.std.specs.Prelude.{◌≡◌, ◌==◌, ◌⊎◌, ◌<◌, ℕ, ◌+◌, not, true, false, unwrap_or, List, take, [], ◌∷◌, ◌++◌, length, map, fold, Result, Ok, Err, if◌then◌else◌}
+use Rattle.std.specs.Prelude.{◌≡◌, ◌==◌, ◌⊎◌, ◌<◌, ℕ, ◌+◌, not, true, false, unwrap_or, List, [], ◌∷◌, ◌++◌, length, map, fold, Result, Ok, Err, if◌then◌else◌}
 use Rattle.std.specs.List.{find, list_any}
 use Rattle.members.specs.Room.{RoomState, after_report}
 use Rattle.rtp_packet.specs.Fault.{HasRtpFault}
@@ -13,33 +13,37 @@ use Rattle.rtcp_feedback.specs.declared.fault.FbFault.{FbFault}
 use Rattle.rtcp_feedback.specs.declared.fault.FbFault.TheVariants.{Short, OddFci}
 use Rattle.rtcp_feedback.specs.Fault.{HasOddFci}
 use Rattle.rtcp_feedback.specs.Grammar.{Message, ReadsFeedback, nack, pli, tmmbr, tmmbn, unknown}
-use Rattle.datagram.specs.declared.reader.TheConstants.{MAX_ENTRIES}
 use Rattle.datagram.specs.declared.reading.Ask.{Ask}
 use Rattle.datagram.specs.declared.reading.Ask.TheVariants.{Rate, Resend, Picture}
 use Rattle.events.specs.declared.output.Refusal.{Refusal}
 use Rattle.events.specs.declared.output.Refusal.TheVariants.{Rtp, Rtcp, Feedback, Room, Desk}
 
--- What RTCP packets say, in the order of packets and entries: who sent the reports and the feedback, which sources leave,
--- the NTP and RTP timestamps of the sender reports, how many TMMBNs there are, and what is asked for.
+-- What RTCP packets say, in the order of packets and entries: who sent the reports and the feedback, and who the sender reports, which
+-- sources leave, the NTP and RTP timestamps of the sender reports, how many TMMBNs there are, and what is asked for.
 pub record Gist : Type 0 where
   pub senders : List ℕ
+  pub clocks : List ℕ
   pub goodbyes : List ℕ
   pub reports : List (ℕ × ℕ)
   pub tmmbns : ℕ
   pub asks : List Ask
 
 abbrev pub empty_gist : Gist
-empty_gist = record { senders = []; goodbyes = []; reports = []; tmmbns = 0; asks = [] }
+empty_gist = record { senders = []; clocks = []; goodbyes = []; reports = []; tmmbns = 0; asks = [] }
 
 -- a sender, and no more
 abbrev pub sent_by : ℕ → Gist
-sent_by sender =
-    record { senders = sender ∷ []; goodbyes = []; reports = []; tmmbns = 0; asks = [] }
+sent_by sender = record empty_gist { senders = sender ∷ [] }
+
+-- a sender report of this sender with these timestamps
+abbrev pub clocked_by : ℕ → ℕ × ℕ → Gist
+clocked_by sender report = record (sent_by sender) { clocks = sender ∷ []; reports = report ∷ [] }
 
 -- the one, then the other
 abbrev pub joint_gist : Gist → Gist → Gist
 joint_gist a b = record {
   senders = a.senders ++ b.senders;
+  clocks = a.clocks ++ b.clocks;
   goodbyes = a.goodbyes ++ b.goodbyes;
   reports = a.reports ++ b.reports;
   tmmbns = a.tmmbns + b.tmmbns;
@@ -67,7 +71,7 @@ FeedbackSays fmt kind body (Err OddFci) = HasOddFci fmt kind body
 -- what a packet says, or its fault; nobody looks at blocks, descriptions and packets of other types
 abbrev pub PacketSays : Content → Result Gist FbFault → Type 0
 PacketSays (sender_report sender ntp rtp packets octets blocks) said =
-    said ≡ Ok (record (sent_by sender) { reports = (ntp, rtp) ∷ [] })
+    said ≡ Ok (clocked_by sender (ntp, rtp))
 PacketSays (receiver_report sender blocks) said = said ≡ Ok (sent_by sender)
 PacketSays (description count chunks) said = said ≡ Ok empty_gist
 PacketSays (goodbye sources) said = said ≡ Ok (record empty_gist { goodbyes = sources })
@@ -91,10 +95,6 @@ pub data Said : Type 0 where
   leaves : Said
   control : ℕ → List (ℕ × ℕ) → ℕ → List Ask → Said
 
--- what counts of what a datagram asks for: so many entries, the first
-abbrev pub heeded : List Ask → List Ask
-heeded asks = take MAX_ENTRIES asks
-
 -- the first of the senders that isn't the endpoint's own source, else that
 abbrev pub speaker_of : ℕ → List ℕ → ℕ
 speaker_of own senders = unwrap_or (find (λ s. not (s == own)) senders) own
@@ -102,7 +102,7 @@ speaker_of own senders = unwrap_or (find (λ s. not (s == own)) senders) own
 abbrev pub said_by : ℕ → Gist → Said
 said_by own g =
     if list_any (λ s. s == own) g.goodbyes then leaves
-    else control (speaker_of own g.senders) g.reports g.tmmbns (heeded g.asks)
+    else control (speaker_of own g.senders) g.reports g.tmmbns g.asks
 
 -- The datagram joins packets, which say this together.
 pub record JoinsPackets (datagram : List ℕ) (said : Result Gist FbFault) : Type 0 where

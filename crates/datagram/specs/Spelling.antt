@@ -1,9 +1,8 @@
 -- The datagram that says a value: so what is made of what was heard is said by what a client may send (RFC 3550, section 6;
 -- RFC 4585, section 6; RFC 5104, section 4.2).
-use Rattle.std.specs.Prelude.{◌≡◌, ◌==◌, ℕ, ◌^◌, ◌<◌, true, false, List, [], ◌∷◌, ◌++◌, map, replicate, Option, None, Some, Result, Ok, Err, MatchResult, if◌then◌else◌}
-use Rattle.std.specs.List.{flat_map, list_any}
+use Rattle.std.specs.Prelude.{◌≡◌, ℕ, ◌^◌, ◌<◌, List, [], ◌∷◌, ◌++◌, map, replicate, Option, None, Some, Result, Ok, Err, MatchResult}
+use Rattle.std.specs.List.{flat_map}
 use Rattle.rtcp_compound.specs.Grammar.{RtcpPacket, packet_bytes}
-use Rattle.rtcp_compound.specs.Mux.{is_rtcp}
 use Rattle.rtcp_compound.specs.Written.{bye_packet, plain_packet, rr_packet, sr_packet}
 use Rattle.rtcp_compound.specs.declared.packet.TheConstants.{RTPFB, PSFB}
 use Rattle.rtcp_feedback.specs.Grammar.{IsNack}
@@ -13,8 +12,7 @@ use Rattle.datagram.specs.declared.reading.Ask.TheVariants.{Rate, Resend, Pictur
 use Rattle.datagram.specs.declared.reading.Control.{Control}
 use Rattle.datagram.specs.declared.reading.What.{What}
 use Rattle.datagram.specs.declared.reading.What.TheVariants.{Media, Goodbye, Control as Controls, Refused}
-use Rattle.datagram.specs.Saying.{Gist, JoinsPackets, Said, Says, SaysRtp, control, leaves, media, speaker_of}
-use Rattle.events.specs.declared.output.Refusal.{Refusal}
+use Rattle.datagram.specs.Saying.{Says, media}
 
 -- who speaks says so by a report without blocks: of a sender with these NTP and RTP timestamps, else of a receiver (RFC 3550,
 -- sections 6.4.1 and 6.4.2)
@@ -72,23 +70,6 @@ IsHeardInRange own (Media packet) = Unit {0}
 IsHeardInRange own Goodbye = own < 2 ^ 32
 IsHeardInRange own (Controls c) = (c.speaker.0 < 2 ^ 32) × IsReportInRange c.report
 IsHeardInRange own (Refused refusal) = Unit {0}
-
--- what packets say, with all that they ask for, be it more than is heeded
-abbrev pub said_in_full : ℕ → Gist → Said
-said_in_full own g =
-    if list_any (λ s. s == own) g.goodbyes then leaves
-    else control (speaker_of own g.senders) g.reports g.tmmbns g.asks
-
-abbrev pub SaysRtcpInFull : ℕ → List ℕ → Said → Type 0
-SaysRtcpInFull own datagram said =
-    (gist : Gist) × JoinsPackets datagram (Ok gist) × (said ≡ said_in_full own gist)
-
--- What a datagram says, with all that it asks for. If that is no more than is heeded, it is what `Says` has.
-abbrev pub SaysInFull : ℕ → List ℕ → Result Said Refusal → Type 0
-SaysInFull own datagram (Ok said) =
-    (is_rtcp datagram ≡ true → SaysRtcpInFull own datagram said)
-    × (is_rtcp datagram ≡ false → SaysRtp datagram (Ok said))
-SaysInFull own datagram (Err refusal) = Says own datagram (Err refusal)
 
 -- a call appends these bytes, or some bytes if memory is wanted
 abbrev pub PutsBytes : {E : Type 0} → List ℕ → List ℕ → List ℕ → Result (Unit {0}) E → Type 0

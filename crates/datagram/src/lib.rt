@@ -8,6 +8,6 @@ mod reader;
 mod reading;
 mod spelling;
 
-pub use reader::{MAX_ENTRIES, read, says_one_thing};
-pub use reading::{Ask, Control, Media, Reading, Taking, What};
+pub use reader::{read, says_one_thing};
+pub use reading::{Ask, Control, Media, Reading, Sent, Taking, What};
 pub use spelling::{is_sayable, read_one_way, sayable, spell, spelled_in_so_much, stays_as_heard};

@@ -1,12 +1,12 @@
 //! Reads a datagram of an endpoint.
 
-ghost use Rattle.std.specs.Prelude.{◌≡◌, ◌==◌, ℕ, ◌+◌, ◌^◌, ◌<◌, ◌≤◌, List, [], ◌++◌, drop, length, map, take, OnErr, OnOk, IfOk, Result, Ok};
+ghost use Rattle.std.specs.Prelude.{◌≡◌, ◌==◌, ℕ, ◌+◌, ◌^◌, ◌<◌, ◌≤◌, List, [], ◌∷◌, length, map, OnErr, OnOk, IfOk, Result, Ok, if◌then◌else◌};
 ghost use Rattle.std.specs.List.{list_any};
 ghost use Rattle.rtcp_compound.specs.Content.{content_of, sources_left};
 ghost use Rattle.rtcp_compound.specs.Left.{contents_left};
 ghost use Rattle.rtcp_feedback.specs.Reading.{entries_left, message_of, nacks_left};
-ghost use Rattle.datagram.specs.Reads.{AsksFor, Fills, IsPacketRead, IsSaidIn, IsSurveyOf, PacketsMean, ReadsBy, ReadsOr, Surveys};
-ghost use Rattle.datagram.specs.Saying.{Gist, heeded, PacketSays, PacketsSay, Said, Says, SaysRtcp, SaysRtp, gist_of, joint_gist, empty_gist, sent_by};
+ghost use Rattle.datagram.specs.Reads.{AsksFor, IsClocked, IsListed, IsPacketRead, IsReadUpTo, IsSurveyOf, Lists, PacketsMean, ReadsBy, ReadsOr, Surveys, is_full};
+ghost use Rattle.datagram.specs.Saying.{Gist, JoinsPackets, PacketSays, PacketsSay, Said, Says, SaysRtcp, SaysRtp, gist_of, joint_gist, empty_gist, sent_by};
 ghost use Rattle.datagram.specs.declared.reading.Ask.{Ask as Asked};
 ghost use Rattle.events.specs.declared.output.Refusal.{Refusal as RefusedBy};
 
@@ -19,37 +19,61 @@ use shared_packet::PacketParts;
 use std::alloc::AllocError;
 use tmmbr_tuple::Ssrc;
 
-/// How many entries of a datagram's feedback are heeded, the first; a PLI is one.
-pub const MAX_ENTRIES: usize = 256;
-
 /// Reads a datagram of the endpoint with this source: RTCP if the second byte is 192 to 223 (RFC
 /// 5761, section 4), else RTP. Says what it says, and what it asks for in the order of packets
-/// and entries, the first `MAX_ENTRIES` of them; a NACK or a TMMBR without entries asks for nothing. All of it is read
-/// before memory is wanted, so a refusal comes before want of memory, and then nothing was read.
-pub fn read(datagram: &[u8], own: Ssrc, reading: &mut Reading) -> Result<(), AllocError>
-    ensures ok { OnOk result (IsSaidIn own.0 datagram.now reading.new) }
+/// and entries, all of it, or no more than `most`, the first, and how much there is beyond; a NACK or a TMMBR without entries asks for nothing.
+/// All of it is read before memory is wanted, so a refusal comes before want of memory, and then nothing was read.
+pub fn read(
+    datagram: &[u8],
+    own: Ssrc,
+    most: Option<usize>,
+    reading: &mut Reading,
+) -> Result<(), AllocError>
+    ensures ok { OnOk result (IsReadUpTo own.0 datagram.now most reading.new) }
+    ensures clocked { OnOk result (IsClocked own.0 (λ gist. JoinsPackets datagram.now (Ok gist))
+        reading.new.what reading.new.clocked.0) }
     ensures packet { OnOk result (IsPacketRead datagram.now reading.new.what) }
-    ensures err { OnErr result (AsksFor own.0 datagram.now) }
+    ensures err { OnErr result (AsksFor own.0 datagram.now most) }
 {
     reading.asks.clear();
-    reading.what = read_into(datagram, own, &mut reading.asks)?;
+    reading.beyond = 0;
+    let heard = read_into(datagram, own, most, reading)?;
+    reading.what = heard.what;
+    reading.clocked = heard.clocked;
     Ok(())
 }
 
-/// Reads a datagram, and appends what it asks for.
-fn read_into(datagram: &[u8], own: Ssrc, asks: &mut Vec<Ask>) -> Result<What, AllocError>
-    ensures { ReadsOr (Says own.0 datagram.now) asks.old.items asks.new.items result }
+/// What a datagram says, but for what it asks for.
+#[derive(Clone, Copy)]
+struct Heard {
+    what: What,
+    /// Who speaks if only sender reports say so.
+    clocked: Ssrc,
+}
+
+/// Reads a datagram, and lists what it asks for.
+fn read_into(
+    datagram: &[u8],
+    own: Ssrc,
+    most: Option<usize>,
+    reading: &mut Reading,
+) -> Result<Heard, AllocError>
+    requires { IsListed most [] reading.old }
+    ensures heard { ReadsOr (Says own.0 datagram.now) most reading.new result }
+    ensures clocked { IfOk result (λ h. IsClocked own.0
+        (λ gist. JoinsPackets datagram.now (Ok gist)) h.what h.clocked.0) }
 {
     if is_rtcp(datagram) {
-        read_rtcp(datagram, own, asks)
+        read_rtcp(datagram, own, most, reading)
     } else {
-        Ok(read_rtp(datagram))
+        let what = read_rtp(datagram);
+        Ok(Heard { what, clocked: own })
     }
 }
 
 /// Reads an RTP packet.
 fn read_rtp(datagram: &[u8]) -> What
-    ensures { ReadsBy (SaysRtp datagram.now) [] [] result }
+    ensures { ReadsBy (SaysRtp datagram.now) [] result }
 {
     match RtpView::parse(datagram) {
         Ok(view) => {
@@ -74,35 +98,64 @@ fn read_rtp(datagram: &[u8]) -> What
 }
 
 /// Reads RTCP packets.
-fn read_rtcp(datagram: &[u8], own: Ssrc, asks: &mut Vec<Ask>) -> Result<What, AllocError>
-    ensures { ReadsOr (SaysRtcp own.0 datagram.now) asks.old.items asks.new.items result }
+fn read_rtcp(
+    datagram: &[u8],
+    own: Ssrc,
+    most: Option<usize>,
+    reading: &mut Reading,
+) -> Result<Heard, AllocError>
+    requires { IsListed most [] reading.old }
+    ensures heard { ReadsOr (SaysRtcp own.0 datagram.now) most reading.new result }
+    ensures clocked { IfOk result (λ h. IsClocked own.0
+        (λ gist. JoinsPackets datagram.now (Ok gist)) h.what h.clocked.0) }
 {
     match split(datagram) {
-        Ok(packets) => read_packets(packets, own, asks),
-        Err(fault) => Ok(What::Refused(Refusal::Rtcp(fault))),
+        Ok(packets) => read_packets(packets, own, most, reading),
+        Err(fault) => Ok(Heard {
+            what: What::Refused(Refusal::Rtcp(fault)),
+            clocked: own,
+        }),
     }
 }
 
 /// Reads the packets of a datagram: all of them first, and those that ask for something once more.
-fn read_packets(packets: Packets<'_>, own: Ssrc, asks: &mut Vec<Ask>) -> Result<What, AllocError>
-    requires { length (contents_left packets) < 2 ^ 64 }
-    ensures { ReadsOr (PacketsMean own.0 (contents_left packets.entry)) asks.old.items
-        asks.new.items result }
+fn read_packets(
+    packets: Packets<'_>,
+    own: Ssrc,
+    most: Option<usize>,
+    reading: &mut Reading,
+) -> Result<Heard, AllocError>
+    requires count { length (contents_left packets) < 2 ^ 64 }
+    requires listed { IsListed most [] reading.old }
+    ensures heard { ReadsOr (PacketsMean own.0 (contents_left packets.entry)) most reading.new
+        result }
+    ensures clocked { IfOk result (λ h. IsClocked own.0
+        (λ gist. PacketsSay (contents_left packets.entry) (Ok gist)) h.what h.clocked.0) }
 {
     match survey_packets(packets, own) {
         Ok(survey) => {
             if survey.goodbye {
-                return Ok(What::Goodbye);
+                return Ok(Heard {
+                    what: What::Goodbye,
+                    clocked: survey.clocked,
+                });
             }
+            let heard = Heard {
+                what: What::Control(survey.control),
+                clocked: survey.clocked,
+            };
             if !survey.asking {
-                return Ok(What::Control(survey.control));
+                return Ok(heard);
             }
-            match collect(packets, asks) {
-                Ok(()) => Ok(What::Control(survey.control)),
+            match collect(packets, most, reading) {
+                Ok(()) => Ok(heard),
                 Err(error) => Err(error),
             }
         }
-        Err(fault) => Ok(What::Refused(Refusal::Feedback(fault))),
+        Err(fault) => Ok(Heard {
+            what: What::Refused(Refusal::Feedback(fault)),
+            clocked: own,
+        }),
     }
 }
 
@@ -114,6 +167,8 @@ struct Survey {
     /// There is a NACK, a PLI or a TMMBR.
     asking: bool,
     control: Control,
+    /// Who speaks if only sender reports say so.
+    clocked: Ssrc,
 }
 
 impl Survey {
@@ -129,6 +184,7 @@ impl Survey {
                 report: None,
                 tmmbns: 0,
             },
+            clocked: own,
         }
     }
 
@@ -161,16 +217,20 @@ impl Survey {
             goodbye: self.goodbye || next.goodbye,
             asking: self.asking || next.asking,
             control: Control {
-                speaker: if self.control.speaker == own {
-                    next.control.speaker
-                } else {
-                    self.control.speaker
-                },
+                speaker: first_other(self.control.speaker, next.control.speaker, own),
                 report: next.control.report.or(self.control.report),
                 tmmbns: self.control.tmmbns + next.control.tmmbns,
             },
+            clocked: first_other(self.clocked, next.clocked, own),
         }
     }
+}
+
+/// The first of two sources that isn't the endpoint's own, else that.
+fn first_other(first: Ssrc, next: Ssrc, own: Ssrc) -> Ssrc
+    ensures { result.0 ≡ (if first.0 == own.0 then next.0 else first.0) }
+{
+    if first == own { next } else { first }
 }
 
 /// Reads packets, up to the first fault.
@@ -199,6 +259,7 @@ fn survey_packet(packet: RtcpView<'_>, own: Ssrc) -> Result<Survey, FbFault>
         } => {
             let mut said = Survey::of_sender(sender, own);
             said.control.report = Some((ntp, rtp));
+            said.clocked = said.control.speaker;
             Ok(said)
         }
         RtcpView::Rr { sender, .. } => Ok(Survey::of_sender(sender, own)),
@@ -246,91 +307,112 @@ fn survey_feedback(feedback: Feedback<'_>, own: Ssrc) -> Survey
     }
 }
 
-/// Appends what is heeded of what packets ask for, or some of it if memory is wanting.
-fn collect(packets: Packets<'_>, asks: &mut Vec<Ask>) -> Result<(), AllocError>
+/// Lists what packets ask for.
+fn collect(
+    packets: Packets<'_>,
+    most: Option<usize>,
+    reading: &mut Reading,
+) -> Result<(), AllocError>
     ensures { (gist : Gist) → PacketsSay (contents_left packets.entry) (Ok gist)
-        → Fills asks.old.items asks.new.items (heeded gist.asks) result }
-{
-    let before = asks.len();
-    collect_packets(packets, asks)?;
-    heed(asks, before);
-    Ok(())
-}
-
-/// Keeps what is heeded of those from a place on.
-fn heed(asks: &mut Vec<Ask>, first: usize)
-    ensures { asks.new.items ≡ take first asks.old.items ++ heeded (drop first asks.old.items) }
-{
-    if first < asks.len() {
-        asks.truncate(first + MAX_ENTRIES);
-    }
-}
-
-/// Appends what packets ask for, as much of it as there is room for.
-fn collect_packets(packets: Packets<'_>, asks: &mut Vec<Ask>) -> Result<(), AllocError>
-    ensures { (gist : Gist) → PacketsSay (contents_left packets.entry) (Ok gist)
-        → Fills asks.old.items asks.new.items gist.asks result }
+        → Lists most reading.old reading.new gist.asks result }
 {
     for packet in packets {
-        collect_packet(packet, asks)?;
+        collect_packet(packet, most, reading)?;
     }
     Ok(())
 }
 
-/// Appends what a packet asks for, as much of it as there is room for.
-fn collect_packet(packet: RtcpView<'_>, asks: &mut Vec<Ask>) -> Result<(), AllocError>
+/// Lists what a packet asks for.
+fn collect_packet(
+    packet: RtcpView<'_>,
+    most: Option<usize>,
+    reading: &mut Reading,
+) -> Result<(), AllocError>
     ensures { (gist : Gist) → PacketSays (content_of packet.entry) (Ok gist)
-        → Fills asks.old.items asks.new.items gist.asks result }
+        → Lists most reading.old reading.new gist.asks result }
 {
     match packet {
         RtcpView::Feedback { fmt, kind, body } => match read_feedback(fmt, kind, body) {
-            Ok(feedback) => collect_feedback(feedback, asks),
+            Ok(feedback) => collect_feedback(feedback, most, reading),
             Err(_) => Ok(()),
         },
         _ => Ok(()),
     }
 }
 
-/// Appends what a feedback packet asks for, as much of it as there is room for.
-fn collect_feedback(feedback: Feedback<'_>, asks: &mut Vec<Ask>) -> Result<(), AllocError>
-    ensures { Fills asks.old.items asks.new.items (gist_of (message_of feedback.entry)).asks
+/// Lists what a feedback packet asks for.
+fn collect_feedback(
+    feedback: Feedback<'_>,
+    most: Option<usize>,
+    reading: &mut Reading,
+) -> Result<(), AllocError>
+    ensures { Lists most reading.old reading.new (gist_of (message_of feedback.entry)).asks
         result }
 {
     match feedback {
-        Feedback::Nack { media, entries, .. } => collect_resends(media, entries, asks),
-        Feedback::Pli { media, .. } => {
-            asks.push(Ask::Picture { media })?;
-            Ok(())
-        }
-        Feedback::Tmmbr { entries, .. } => collect_rates(entries, asks),
+        Feedback::Nack { media, entries, .. } => collect_resends(media, entries, most, reading),
+        Feedback::Pli { media, .. } => list(Ask::Picture { media }, most, reading),
+        Feedback::Tmmbr { entries, .. } => collect_rates(entries, most, reading),
         Feedback::Tmmbn { .. } => Ok(()),
         Feedback::Unknown { .. } => Ok(()),
     }
 }
 
-/// Appends the entries of a NACK, as many as there is room for.
-fn collect_resends(media: Ssrc, entries: Nacks<'_>, asks: &mut Vec<Ask>) -> Result<(), AllocError>
-    ensures { Fills asks.old.items asks.new.items
+/// Lists the entries of a NACK.
+fn collect_resends(
+    media: Ssrc,
+    entries: Nacks<'_>,
+    most: Option<usize>,
+    reading: &mut Reading,
+) -> Result<(), AllocError>
+    ensures { Lists most reading.old reading.new
         (map (λ n. Ask.Resend media n) (nacks_left entries.entry)) result }
 {
     for nack in entries {
-        asks.push(Ask::Resend { media, nack })?;
+        list(Ask::Resend { media, nack }, most, reading)?;
     }
     Ok(())
 }
 
-/// Appends the entries of a TMMBR, as many as there is room for.
-fn collect_rates(entries: TmmbEntries<'_>, asks: &mut Vec<Ask>) -> Result<(), AllocError>
-    ensures { Fills asks.old.items asks.new.items
+/// Lists the entries of a TMMBR.
+fn collect_rates(
+    entries: TmmbEntries<'_>,
+    most: Option<usize>,
+    reading: &mut Reading,
+) -> Result<(), AllocError>
+    ensures { Lists most reading.old reading.new
         (map (λ e. Ask.Rate e.ssrc e.word) (entries_left entries.entry)) result }
 {
     for entry in entries {
-        asks.push(Ask::Rate {
+        let ask = Ask::Rate {
             media: entry.ssrc,
             word: entry.word,
-        })?;
+        };
+        list(ask, most, reading)?;
     }
     Ok(())
+}
+
+/// Lists an ask, or counts it if there are as many as may be.
+fn list(ask: Ask, most: Option<usize>, reading: &mut Reading) -> Result<(), AllocError>
+    ensures { Lists most reading.old reading.new (ask ∷ []) result }
+{
+    if is_full(reading.asks.len(), most) {
+        reading.beyond = reading.beyond.saturating_add(1);
+        return Ok(());
+    }
+    reading.asks.push(ask)?;
+    Ok(())
+}
+
+/// Whether as many are listed as may be.
+fn is_full(listed: usize, most: Option<usize>) -> bool
+    ensures { result ≡ is_full listed most }
+{
+    match most {
+        Some(most) => listed >= most,
+        None => false,
+    }
 }
 
 /// A datagram says one thing. This function does nothing: its contract is the law.

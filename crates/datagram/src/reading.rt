@@ -5,7 +5,6 @@ use rtcp_feedback::Nack;
 use rtp_packet::RtpFault;
 use shared_packet::PacketParts;
 use std::alloc::{AllocError, Global};
-use std::marker::Model;
 use tmmbr_tuple::Ssrc;
 
 /// What an entry of feedback asks for.
@@ -52,62 +51,59 @@ pub struct Control {
     pub tmmbns: u64,
 }
 
+/// Who sent a datagram, and when it came.
+#[derive(Clone, Copy, PartialEq, Eq)]
+pub struct Sent {
+    /// In milliseconds since the run began.
+    pub moment: u64,
+    /// The number of the endpoint.
+    pub endpoint: u16,
+    /// The endpoint's own source.
+    pub own: Ssrc,
+}
+
 /// What was read of a datagram. It is read into one `Reading` again and again, so that what datagrams ask for takes no memory once there
 /// was room for the most of it.
 #[derive(Drop)]
 pub struct Reading {
-    pub(crate) what: What,
+    pub what: What,
     /// In the order of packets and entries.
-    pub(crate) asks: Vec<Ask>,
+    pub asks: Vec<Ask>,
+    /// Who speaks if only sender reports say so: the first sender of one that isn't the endpoint's own source, else that.
+    pub clocked: Ssrc,
+    /// How many entries were passed over, beyond those that may be asked for.
+    pub beyond: u64,
 }
 
 /// What no bytes at all say.
 const NOTHING: What = What::Refused(Refusal::Rtp(RtpFault::Short));
 
-impl Model for Reading {
-    ghost use Rattle.datagram.specs.Reads.{WasRead};
-
-    ghost Value = { WasRead };
-
-    ghost view = { λ r. record { what = r.what; asks = r.asks.items } };
-}
-
 impl Reading {
     ghost use Rattle.std.specs.Prelude.{◌≡◌, IfOk};
-    ghost use Rattle.datagram.specs.Reads.{WasRead, nothing_read, admission_of};
+    ghost use Rattle.datagram.specs.Reads.{IsUnread, admission_of};
 
     /// What is read of no bytes at all. It takes no memory.
     pub fn new(alloc: Global) -> Reading
-        ensures { result ≡ nothing_read }
+        ensures { IsUnread result }
     {
         Reading {
             what: NOTHING,
             asks: Vec::new(alloc),
+            clocked: Ssrc(0),
+            beyond: 0,
         }
     }
 
     /// The same, with room for so much that is asked for.
     pub fn with_room(alloc: Global, asks: usize) -> Result<Reading, AllocError>
-        ensures { IfOk result (λ r. r ≡ nothing_read) }
+        ensures { IfOk result IsUnread }
     {
         Ok(Reading {
             what: NOTHING,
             asks: Vec::with_capacity(alloc, asks)?,
+            clocked: Ssrc(0),
+            beyond: 0,
         })
-    }
-
-    /// What the datagram says, but for what it asks for.
-    pub fn what(&self) -> What
-        ensures { result ≡ self.now.what }
-    {
-        self.what
-    }
-
-    /// What it asks for, in the order of packets and entries.
-    pub fn asks(&self) -> &[Ask]
-        ensures { result.now ≡ self.now.asks }
-    {
-        self.asks.as_slice()
     }
 
     /// As what it is taken in, if these are the bytes that were read.
@@ -115,7 +111,7 @@ impl Reading {
         ensures { admission_of result ≡ record {
           endpoint = endpoint;
           what = self.now.what;
-          asks = self.now.asks;
+          asks = self.now.asks.items;
           bytes = bytes.now;
         } }
     {

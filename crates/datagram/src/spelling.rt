@@ -1,38 +1,36 @@
 //! A datagram that says a value, whoever made that.
 
-ghost use Rattle.std.specs.Prelude.{◌≡◌, ℕ, ◌+◌, ◌*◌, ◌≤◌, List, [], ◌++◌, All, length, map, replicate, Result, Ok, OnOk, OnErr, MatchResult};
+ghost use Rattle.std.specs.Prelude.{◌≡◌, ℕ, ◌+◌, ◌*◌, ◌≤◌, List, [], ◌++◌, All, length, map, replicate, Option, Result, Ok, OnOk, OnErr, MatchResult};
 ghost use Rattle.std.specs.List.{flat_map};
 ghost use Rattle.rtcp_compound.specs.Grammar.{packet_bytes};
-ghost use Rattle.datagram.specs.Reads.{IsSaidIn, ReadsBy, WasRead};
-ghost use Rattle.datagram.specs.Spelling.{IsAsHeard, IsAskInRange, IsHeardInRange, PutsBytes, SaysInFull, ask_packet, control_packets, notice_packet, speaking_packet, spelling};
+ghost use Rattle.datagram.specs.Reads.{IsReadUpTo, IsSaidIn, WasRead};
+ghost use Rattle.datagram.specs.Spelling.{IsAsHeard, IsAskInRange, IsHeardInRange, PutsBytes, ask_packet, control_packets, notice_packet, speaking_packet, spelling};
 ghost use Rattle.datagram.specs.declared.reading.Ask.{Ask as Asked};
 ghost use Rattle.datagram.specs.declared.reading.Control.{Control as Controlled};
+ghost use Rattle.datagram.specs.declared.reading.Reading.{Reading as Read};
 ghost use Rattle.datagram.specs.declared.reading.What.{What as Value};
 
-use crate::reader::MAX_ENTRIES;
 use crate::reading::{Ask, Control, What};
 use rtcp_compound::{write_bye, write_rr, write_sr};
 use rtcp_feedback::{TmmbrEntry, write_nack, write_pli, write_tmmbn, write_tmmbr};
 use std::alloc::AllocError;
 use tmmbr_tuple::Ssrc;
 
-/// A value as it may be read, with all that it asks for, is said by its spelling. This function does nothing: its contract is
+/// A value as it may be read is said by its spelling, with all that it asks for. This function does nothing: its contract is
 /// the law.
 pub fn sayable()
-    ensures in_full { (own : ℕ) (what : Value) (asks : List Asked) (came : List ℕ)
+    ensures { (own : ℕ) (what : Value) (asks : List Asked) (came : List ℕ)
         → IsAsHeard own what asks came → IsHeardInRange own what → All IsAskInRange asks
-        → ReadsBy (SaysInFull own (spelling own what asks came)) [] asks what }
-    ensures heeded { (own : ℕ) (what : Value) (asks : List Asked) (came : List ℕ)
-        → IsAsHeard own what asks came → IsHeardInRange own what → All IsAskInRange asks
-        → length asks ≤ MAX_ENTRIES
         → IsSaidIn own (spelling own what asks came) (record { what = what; asks = asks }) }
 {}
 
-/// What is read may be spelled, and still may with fewer or other asks, no more than there were; so may any goodbye, and any
-/// control with any asks, whoever speaks.
+/// What is read may be spelled, also if not all that it asks for was listed, and still may with fewer or other asks, no more than there were;
+/// so may any goodbye, and any control with any asks, whoever speaks.
 pub fn stays_as_heard()
     ensures read { (own : ℕ) (what : Value) (asks : List Asked) (came : List ℕ)
         → IsSaidIn own came (record { what = what; asks = asks }) → IsAsHeard own what asks came }
+    ensures read_up_to { (own : ℕ) (came : List ℕ) (most : Option ℕ) (r : Read)
+        → IsReadUpTo own came most r → IsAsHeard own r.what r.asks.items came }
     ensures fewer { (own : ℕ) (what : Value) (asks fewer : List Asked) (came : List ℕ)
         → IsAsHeard own what asks came → length fewer ≤ length asks
         → IsAsHeard own what fewer came }
@@ -59,10 +57,7 @@ pub fn spelled_in_so_much()
 /// A value as it may be read, whose types say that each number is within its field, is said by its spelling (`sayable`).
 pub fn is_sayable(own: Ssrc, what: What, asks: &[Ask], came: &[u8])
     requires { IsAsHeard own.0 what asks.now came.now }
-    ensures in_full { ReadsBy (SaysInFull own.0 (spelling own.0 what asks.now came.now)) []
-        asks.now what }
-    ensures heeded { length asks.now ≤ MAX_ENTRIES
-        → IsSaidIn own.0 (spelling own.0 what asks.now came.now)
+    ensures { IsSaidIn own.0 (spelling own.0 what asks.now came.now)
         (record { what = what; asks = asks.now }) }
 {
     what_in_range(own, what);

@@ -16,7 +16,7 @@ abbrev pub admission_in : Kept → Admission
 admission_in k = record {
   endpoint = k.endpoint;
   what = k.reading.what;
-  asks = k.reading.asks;
+  asks = k.reading.asks.items;
   bytes = datagram_in k;
 }
 

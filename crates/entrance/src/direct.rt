@@ -86,7 +86,12 @@ impl Kept {
             (IsTakenFrom links.now (admission_in self.new) (datagram_in self.new)) }
     {
         let own = own_source(links, self.endpoint);
-        read(&self.buffer.as_slice()[..self.size], own, &mut self.reading)
+        read(
+            &self.buffer.as_slice()[..self.size],
+            own,
+            None,
+            &mut self.reading,
+        )
     }
 
     /// What was read, as it is taken in.

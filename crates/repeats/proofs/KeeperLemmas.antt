@@ -24,13 +24,13 @@ read_word own datagram r word h is = by_what r.what h is
     said_word what said says e more eq =
         record { said = Ok said; says = says; is = inl (eq ∙ ap (word_in own) e, more) }
 
-    by_what : (what : What) → ReadsBy (Says own datagram) [] r.asks what → word ≡ word_in own what → SaysWord own datagram word r.asks
+    by_what : (what : What) → ReadsBy (Says own datagram) r.asks what → word ≡ word_in own what → SaysWord own datagram word r.asks
     by_what (Media m) (said, says, e, more) eq = said_word (Media m) said says e more eq
     by_what Goodbye (said, says, e, more) eq = said_word Goodbye said says e more eq
     by_what (Control c) (said, says, e, more) eq = said_word (Control c) said says e more eq
     by_what (Refused refusal) (says, none) eq = record { said = Err refusal; says = says; is = eq }
 
-pub unread_word : (own : ℕ) (datagram : List ℕ) (asks : List Ask) → AsksFor own datagram → SaysWord own datagram Nothing asks
+pub unread_word : (own : ℕ) (datagram : List ℕ) (asks : List Ask) → AsksFor own datagram None → SaysWord own datagram Nothing asks
 unread_word own datagram asks (said, says, some) = record { said = Ok said; says = says; is = inr (refl, some) }
 
 -- ---- what is heard once more

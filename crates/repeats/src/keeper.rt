@@ -17,7 +17,7 @@ use crate::presence::Presence;
 use crate::requests::{HeldRequest, Requests};
 use crate::sets::Sets;
 use crate::told::last_notice;
-use datagram::{Ask, MAX_ENTRIES, Media, Reading, What, read};
+use datagram::{Ask, Media, Reading, What, read};
 use outside::{MAX_DATAGRAM, written};
 use rtcp_compound::split;
 use settings::{Links, Settings};
@@ -56,7 +56,7 @@ enum Word {
 
 /// Room for what is read of a datagram, and for what is given on of it.
 fn room_for_one(alloc: Global) -> Result<(Reading, Vec<u8>), AllocError> {
-    let reading = Reading::with_room(alloc, MAX_ENTRIES)?;
+    let reading = Reading::with_room(alloc, 256)?;
     Ok((reading, Vec::with_capacity(alloc, MAX_DATAGRAM)?))
 }
 
@@ -128,7 +128,7 @@ impl<'a> Keeper<'a> {
                     self.note_notice(endpoint, own, datagram);
                 }
                 self.note_asks(endpoint, moment);
-                !self.reading.asks().is_empty()
+                !self.reading.asks.as_slice().is_empty()
             }
         }
     }
@@ -196,9 +196,9 @@ impl<'a> Keeper<'a> {
             &self.links,
             endpoint,
             moment,
-            self.reading.asks(),
+            self.reading.asks.as_slice(),
         );
-        tell_all(self.sets, &self.links, endpoint, self.reading.asks());
+        tell_all(self.sets, &self.links, endpoint, self.reading.asks.as_slice());
     }
 
     /// Writes over a datagram of the endpoint what of it is given on, and says how long that is. `None` if memory is wanting; then the datagram
@@ -304,10 +304,10 @@ impl<'a> Keeper<'a> {
 
 /// What the unit hears in a datagram of the endpoint with this source, which is read.
 fn word_of(datagram: &[u8], own: Ssrc, reading: &mut Reading) -> Word
-    ensures { SaysWord own.0 datagram.now result reading.new.asks }
+    ensures { SaysWord own.0 datagram.now result reading.new.asks.items }
 {
-    match read(datagram, own, reading) {
-        Ok(()) => word_in(reading.what(), own),
+    match read(datagram, own, None, reading) {
+        Ok(()) => word_in(reading.what, own),
         Err(_) => Word::Nothing,
     }
 }

@@ -1,9 +1,8 @@
-use Rattle.std.proofs.Common.{◌≡◌, ◌∙◌, refl, sym, ap, true, false}
-use Rattle.std.specs.Prelude.{◌==◌, ◌||◌, cond}
-use Rattle.std.proofs.lemmas.Bool.{cond-false, cond-true}
+use Rattle.std.proofs.Common.{◌≡◌, refl}
+use Rattle.std.specs.Prelude.{◌||◌}
 use Rattle.datagram.proofs.ReaderLemmas.{kept_of_both}
 use Rattle.datagram.proofs.reader.Survey.then.Goals as goal
-use Rattle.datagram.proofs.reader.Survey.then.Goals.{then-self, else-self, then-self-2, else-self-2, then-eq, else-eq}
+use Rattle.datagram.proofs.reader.Survey.then.Goals.{then-self, else-self, then-self-2, else-self-2}
 
 pub returns : goal.returns
 returns c = λ a b sx sy.
@@ -18,8 +17,4 @@ returns c = λ a b sx sy.
       | then-self-2 w ↦ rw (w.result-is, w.if-self-2.true) refl
       | else-self-2 w ↦ rw (w.if-self-2.false, w.result-is) refl
     ] in
-    let speaker : c.if-eq.result.0 ≡ cond (x.control.speaker.0 == own) y.control.speaker.0 x.control.speaker.0 = elim c.if-eq.branch [
-      | then-eq w ↦ ap (λ s. s.0) w.result-is ∙ sym (cond-true _ _ _ (sym c.eq.ensures ∙ w.if-eq.true))
-      | else-eq w ↦ ap (λ s. s.0) w.result-is ∙ sym (cond-false _ _ _ (sym c.eq.ensures ∙ w.if-eq.false))
-    ] in
-    kept_of_both own x y _ a b sx sy goodbye asking speaker c.or.ensures refl
+    kept_of_both own x y _ a b sx sy goodbye asking c.first_other.ensures c.or.ensures refl c.first_other-2.ensures
