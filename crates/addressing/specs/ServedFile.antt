@@ -23,6 +23,7 @@ rules_in new_starts strict_ssrc bounds = record {
   new_starts = option_map_or (λ b. b) new_starts false;
   strict_ssrc = option_map_or (λ b. b) strict_ssrc true;
   resends = record { gap_ms = bounds.resend_gap_ms; share = bounds.resend_share };
+  entry_limit = bounds.entry_limit;
   flood_limit = bounds.flood_limit;
   repeat_ms = bounds.repeat_ms;
 }

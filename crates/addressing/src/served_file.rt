@@ -86,6 +86,7 @@ fn rules_in(new_starts: Option<bool>, strict_ssrc: Option<bool>, bounds: BoundKe
             gap_ms: bounds.resend_gap_ms,
             share: bounds.resend_share,
         },
+        entry_limit: bounds.entry_limit,
         flood_limit: bounds.flood_limit,
         repeat_ms: bounds.repeat_ms,
     }

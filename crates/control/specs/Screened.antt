@@ -3,9 +3,12 @@ use Rattle.std.specs.Prelude.{◌++◌, ℕ, List, codes}
 use Rattle.std.specs.Fmt.{decimal}
 use Rattle.control.specs.declared.screened.Screened.{Screened}
 
--- packets that were far, packets that were held back, and datagrams beyond the limit
+-- packets that were far, packets that were held back, datagrams beyond the limit, and entries beyond theirs
 abbrev pub screened_line : Screened → List ℕ
 screened_line s =
     codes "far "
     ++ (decimal s.far
-    ++ (codes " held " ++ (decimal s.held ++ (codes " flooded " ++ (decimal s.flooded ++ codes "\n")))))
+    ++ (codes " held "
+    ++ (decimal s.held
+    ++ (codes " flooded "
+    ++ (decimal s.flooded ++ (codes " beyond " ++ (decimal s.beyond ++ codes "\n")))))))

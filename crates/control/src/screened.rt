@@ -15,6 +15,8 @@ pub struct Screened {
     pub held: u64,
     /// Datagrams beyond the limit of a millisecond.
     pub flooded: u64,
+    /// Entries of feedback beyond those that may be asked for in a datagram.
+    pub beyond: u64,
 }
 
 /// The second line of `counts`: what was kept from the machine. Refused for want of memory alone.
@@ -22,7 +24,7 @@ pub fn screened_text(alloc: Global, screened: &Screened) -> Result<String, Alloc
     ensures { IfOk result (λ text. string_bytes text ≡ screened_line screened.now) }
 {
     format!(in alloc;
-        "far {} held {} flooded {}\n",
-        screened.far, screened.held, screened.flooded,
+        "far {} held {} flooded {} beyond {}\n",
+        screened.far, screened.held, screened.flooded, screened.beyond,
     )
 }

@@ -5,11 +5,14 @@
 //! below it, a line each. A packet is a name of `packet`'s, or hexadecimal digits. A line is one of these:
 //!
 //! - `media SOURCE SEQ TIMESTAMP`: RTP.
-//! - `control SPEAKER`, with ` report NTP RTP` if there is a sender report, and ` tmmbns COUNT` if there are TMMBNs.
+//! - `control SPEAKER`, with ` report NTP RTP` if there is a sender report, ` tmmbns COUNT` if there are TMMBNs, and ` clocked SOURCE` if
+//!   that isn't the source of who sends.
 //! - `goodbye`; `refused WHAT FAULT`.
-//! - `rate SOURCE WORD`, `resend SOURCE PID BLP`, `picture SOURCE`: what is asked for.
+//! - `rate SOURCE WORD`, `resend SOURCE PID BLP`, `picture SOURCE`: what is asked for. `beyond COUNT`: what wasn't listed of it.
 
-use crate::steps::{bytes_of, refusal_parts};
+use crate::steps::{
+    Hear, PACKET, REPORT, bytes_of, do_events, do_step, refusal_parts, settings, settle,
+};
 use core_steps::*;
 use datagram::spell;
 use std::alloc::{AllocError, Global};
@@ -121,19 +124,37 @@ fn write_asks(text: &mut String, asks: &[Ask]) -> Result<(), fmt::Error> {
 }
 
 /// Reads a datagram, and promises nothing, so that who calls it is proved without what `read` says.
-fn read_one(datagram: &[u8], own: u32, reading: &mut Reading) -> Result<(), AllocError> {
-    read(datagram, Ssrc(own), None, reading)
+fn read_one(
+    datagram: &[u8],
+    own: u32,
+    most: Option<usize>,
+    reading: &mut Reading,
+) -> Result<(), AllocError> {
+    read(datagram, Ssrc(own), most, reading)
 }
 
-/// What a datagram of this source says and asks for, read where one that asks for a picture was read before.
-fn said(alloc: Global, own: u32, bytes: &[u8]) -> Result<String, Fail> {
-    let former = joined(alloc, "PLI")?;
+/// Writes what was read of a datagram of this source.
+fn write_reading(text: &mut String, own: u32, reading: &Reading) -> Result<(), fmt::Error> {
+    write_what(text, reading.what)?;
+    if reading.clocked.0 != own {
+        write!(text, " clocked {}", reading.clocked.0)?;
+    }
+    write_asks(text, reading.asks.as_slice())?;
+    if reading.beyond > 0 {
+        write!(text, "\nbeyond {}", reading.beyond)?;
+    }
+    Ok(())
+}
+
+/// What a datagram of this source says, and what it asks for, all of it or the first, read where one of two entries was read before, of
+/// which one was listed.
+fn said(alloc: Global, own: u32, bytes: &[u8], most: Option<usize>) -> Result<String, Fail> {
+    let former = joined(alloc, "TWO")?;
     let mut reading = Reading::new(alloc);
-    read_one(former.as_slice(), 17, &mut reading)?;
-    read_one(bytes, own, &mut reading)?;
+    read_one(former.as_slice(), 17, Some(1), &mut reading)?;
+    read_one(bytes, own, most, &mut reading)?;
     let mut text = String::new(alloc);
-    write_what(&mut text, reading.what)?;
-    write_asks(&mut text, reading.asks.as_slice())?;
+    write_reading(&mut text, own, &reading)?;
     Ok(text)
 }
 
@@ -142,9 +163,10 @@ fn says(
     rt: &(impl Abort + AllocGlobal),
     own: u32,
     datagram: &[u8],
+    most: Option<usize>,
     wanted: &str,
 ) -> Result<(), Fail> {
-    let text = said(rt.alloc(), own, datagram)?;
+    let text = said(rt.alloc(), own, datagram, most)?;
     assert_eq!(rt; text.as_str(), wanted);
     Ok(())
 }
@@ -153,13 +175,20 @@ fn says(
 fn all_say(rt: &(impl Abort + AllocGlobal), cases: &[Case]) -> Result<(), Fail> {
     for (own, packets, wanted) in cases {
         let datagram = joined(rt.alloc(), packets)?;
-        says(rt, *own, datagram.as_slice(), wanted)?;
+        says(rt, *own, datagram.as_slice(), None, wanted)?;
     }
     Ok(())
 }
 
-/// At the end two entries for one source; all in the order of packets; and a NACK and a TMMBR without entries.
-const ASKED: [Case; 9] = [
+/// Who speaks by sender reports alone. At the end two entries for one source; all in the order of packets; and a NACK and a TMMBR without
+/// entries.
+const ASKED: [Case; 11] = [
+    (
+        17,
+        "RR SR",
+        "control 16 report 0000000a80000000 3000 clocked 16",
+    ),
+    (16, "RR SR", "control 17 report 0000000a80000000 3000"),
     (17, "TMMBR", "control 17\nrate 257 0007d028"),
     (17, "NACK", "control 17\nresend 257 100 1"),
     (17, "PLI", "control 17\npicture 257"),
@@ -203,18 +232,72 @@ fn push_long_nack(packet: &mut Vec<u8>, count: u16) -> Result<(), AllocError> {
     Ok(())
 }
 
-/// Of 300 entries, and a PLI after them, the first 256 are heeded.
-#[test]
-fn so_many_entries_are_heeded(rt: HostRuntime) -> Result<(), Fail> {
-    let mut packets = Vec::new(rt.alloc());
+/// What asks for packets 0 to 299 of source 257, and for a picture.
+fn long_compound(alloc: Global) -> Result<Vec<u8>, AllocError> {
+    let mut packets = Vec::new(alloc);
     push_long_nack(&mut packets, 300)?;
-    packets.extend_from_slice(joined(rt.alloc(), "PLI")?.as_slice())?;
-    let mut wanted = String::new(rt.alloc());
-    wanted.push_str("control 17")?;
-    for pid in 0..256 {
-        write!(wanted, "\nresend 257 {pid} 0")?;
+    packets.extend_from_slice(joined(alloc, "PLI")?.as_slice())?;
+    Ok(packets)
+}
+
+/// What is listed of it: so many packets, and then this.
+fn long_list(alloc: Global, count: u16, then: &str) -> Result<String, fmt::Error> {
+    let mut text = String::new(alloc);
+    text.push_str("control 17")?;
+    for pid in 0..count {
+        write!(text, "\nresend 257 {pid} 0")?;
     }
-    says(&rt, 17, packets.as_slice(), wanted.as_str())
+    text.push_str(then)?;
+    Ok(text)
+}
+
+#[test]
+fn all_entries_are_listed(rt: HostRuntime) -> Result<(), Fail> {
+    let packets = long_compound(rt.alloc())?;
+    let wanted = long_list(rt.alloc(), 300, "\npicture 257")?;
+    says(&rt, 17, packets.as_slice(), None, wanted.as_str())
+}
+
+#[test]
+fn so_many_entries_are_listed(rt: HostRuntime) -> Result<(), Fail> {
+    let packets = long_compound(rt.alloc())?;
+    let wanted = long_list(rt.alloc(), 256, "\nbeyond 45")?;
+    says(&rt, 17, packets.as_slice(), Some(256), wanted.as_str())
+}
+
+/// How many packets weren't kept.
+fn count_misses(outs: &[Out]) -> usize {
+    let mut count = 0usize;
+    for out in outs {
+        if let Out::Miss(_, _) = out {
+            count = count.saturating_add(1);
+        }
+    }
+    count
+}
+
+/// How many packets aren't kept that a datagram asks for with so many entries.
+fn misses(alloc: Global, world: &mut World, entries: u16) -> Result<usize, Fail> {
+    let mut outs = Vec::new(alloc);
+    for step in &[Hear(0, 0, PACKET), Hear(0, 1, REPORT)] {
+        do_step(alloc, world, step, &mut outs)?;
+        settle(world, &mut outs)?;
+    }
+    let mut nack = Vec::new(alloc);
+    push_long_nack(&mut nack, entries)?;
+    do_events(world, &[Event::Hear(10, 1, Bytes::new(nack))], &mut outs)?;
+    settle(world, &mut outs)?;
+    Ok(count_misses(outs.as_slice()))
+}
+
+/// Each of 300 entries of a datagram is done.
+#[test]
+fn all_entries_are_heeded(rt: HostRuntime) -> Result<(), Fail> {
+    let settings = settings(rt.alloc())?;
+    let mut world = World::new(rt.alloc(), &settings)?;
+    let count = misses(rt.alloc(), &mut world, 300)?;
+    assert_eq!(rt; count, 300);
+    Ok(())
 }
 
 /// What is heard in the packets of a datagram, and the packets that say it again: media as they came, whoever leaves alone, and else a
@@ -241,9 +324,15 @@ const SPELLED: [Case; 8] = [
 /// What a datagram of this source says, spelled.
 fn spelled(alloc: Global, own: u32, came: &[u8]) -> Result<Vec<u8>, Fail> {
     let mut reading = Reading::new(alloc);
-    read_one(came, own, &mut reading)?;
+    read_one(came, own, None, &mut reading)?;
     let mut bytes = Vec::new(alloc);
-    spell(Ssrc(own), reading.what, reading.asks.as_slice(), came, &mut bytes)?;
+    spell(
+        Ssrc(own),
+        reading.what,
+        reading.asks.as_slice(),
+        came,
+        &mut bytes,
+    )?;
     Ok(bytes)
 }
 

@@ -1,12 +1,14 @@
 -- What was read of a datagram is taken in of it.
-use Rattle.std.proofs.Common.{◌≡◌, ℕ, List, Result, Ok, Err, refl, subst}
+use Rattle.std.proofs.Common.{◌≡◌, ℕ, List, None, Result, Ok, Err, refl, subst}
 use Rattle.std.specs.Prelude.{OnOk}
 use Rattle.tmmbr_tuple.specs.declared.ssrc.Ssrc.{Ssrc}
 use Rattle.settings.specs.Links.{LinkTable}
 use Rattle.notices.specs.DeskCalls.{source_of}
 use Rattle.datagram.specs.declared.reading.What.{What}
 use Rattle.datagram.specs.declared.reading.What.TheVariants.{Media, Goodbye, Control, Refused}
-use Rattle.datagram.specs.Reads.{HasBytes, IsPacketRead, IsSaidIn, WasRead}
+use Rattle.datagram.specs.Reads.{HasBytes, IsPacketRead, IsReadUpTo, IsSaidIn, was_read}
+use Rattle.datagram.specs.declared.reading.Reading.{Reading}
+use Rattle.datagram.proofs.ReaderLemmas.{read_whole}
 use Rattle.entrance.specs.Entrance.{IsTakenFrom}
 
 has_own_bytes : (what : What) (bytes : List ℕ) → HasBytes what bytes bytes
@@ -15,11 +17,15 @@ has_own_bytes Goodbye bytes = tt
 has_own_bytes (Control c) bytes = tt
 has_own_bytes (Refused refusal) bytes = tt
 
-pub taken_as_read : {E : Type 0} (r : Result (Unit {0}) E) (table : LinkTable) (own : Ssrc) (endpoint : ℕ) (came bytes : List ℕ) (read : WasRead)
-    → own ≡ source_of table endpoint → came ≡ bytes → OnOk r (IsSaidIn own.0 came read) → OnOk r (IsPacketRead came read.what)
-    → OnOk r (IsTakenFrom table (record { endpoint = endpoint; what = read.what; asks = read.asks; bytes = bytes }) bytes)
+pub taken_as_read : {E : Type 0} (r : Result (Unit {0}) E) (table : LinkTable) (own : Ssrc) (endpoint : ℕ) (came bytes : List ℕ) (read : Reading)
+    → own ≡ source_of table endpoint → came ≡ bytes → OnOk r (IsReadUpTo own.0 came None read) → OnOk r (IsPacketRead came read.what)
+    → OnOk r (IsTakenFrom table (record { endpoint = endpoint; what = read.what; asks = read.asks.items; bytes = bytes }) bytes)
 taken_as_read (Err e) table own endpoint came bytes read eo eb reads packet = tt
 taken_as_read (Ok u) table own endpoint came bytes read eo eb reads packet = (
-  (subst (λ (b : List ℕ). IsSaidIn (source_of table endpoint).0 b read) eb (subst (λ (o : Ssrc). IsSaidIn o.0 came read) eo reads), has_own_bytes read.what bytes),
+  (
+    subst (λ (b : List ℕ). IsSaidIn (source_of table endpoint).0 b (was_read read)) eb
+        (subst (λ (o : Ssrc). IsSaidIn o.0 came (was_read read)) eo (read_whole own.0 came read reads)),
+    has_own_bytes read.what bytes,
+  ),
   subst (λ (b : List ℕ). IsPacketRead b read.what) eb packet,
 )

@@ -26,6 +26,8 @@ pub struct Gauges {
     pub held: Cell<u64>,
     /// How many datagrams came beyond the limit of their endpoint and millisecond, and weren't heard.
     pub flooded: Cell<u64>,
+    /// How many entries of feedback were beyond those that may be asked for in a datagram, and weren't heard.
+    pub beyond: Cell<u64>,
     /// How many milliseconds went by since the run began, at the last turn.
     pub moment_ms: Cell<u64>,
     /// Whether lines of counts begin with the time.
@@ -53,6 +55,7 @@ impl Gauges {
             far: Cell::new(0),
             held: Cell::new(0),
             flooded: Cell::new(0),
+            beyond: Cell::new(0),
             moment_ms: Cell::new(0),
             log_time: Cell::new(false),
             made: Cell::new(false),
@@ -199,6 +202,7 @@ impl Gauges {
             far: self.far.get(),
             held: self.held.get(),
             flooded: self.flooded.get(),
+            beyond: self.beyond.get(),
         }
     }
 

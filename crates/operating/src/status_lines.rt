@@ -91,12 +91,17 @@ impl<'a, E: Write> StatusLines<'a, E> {
         format!(in self.alloc; " strangers {strangers} far {far}")
     }
 
-    /// How many resends were held back, and how many datagrams came beyond the limit, if any.
+    /// How many resends were held back, how many datagrams came beyond the limit, and how many entries beyond theirs, if any.
     fn screened_part(&self) -> Result<String, AllocError> {
-        let Screened { held, flooded, .. } = self.gauges.screened();
-        match (held, flooded) {
-            (0, 0) => Ok(String::new(self.alloc)),
-            _ => format!(in self.alloc; " held {held} flooded {flooded}"),
+        let Screened {
+            held,
+            flooded,
+            beyond,
+            ..
+        } = self.gauges.screened();
+        match (held, flooded, beyond) {
+            (0, 0, 0) => Ok(String::new(self.alloc)),
+            _ => format!(in self.alloc; " held {held} flooded {flooded} beyond {beyond}"),
         }
     }
 

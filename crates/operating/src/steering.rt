@@ -500,6 +500,13 @@ fn screened_metrics(
     push_total(&mut text, "sfu_far_total", far, screened.far)?;
     let held = "Packets that were asked for again, too soon or too many.";
     push_total(&mut text, "sfu_resends_held_total", held, screened.held)?;
+    let beyond = "Entries of feedback beyond those that may be asked for in a datagram.";
+    push_total(
+        &mut text,
+        "sfu_entries_beyond_total",
+        beyond,
+        screened.beyond,
+    )?;
     let mut samples = Vec::new(alloc);
     for (number, count) in flooded.iter().enumerate() {
         samples.push(Sample {

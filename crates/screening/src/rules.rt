@@ -14,6 +14,8 @@ pub struct Rules {
     pub strict_ssrc: bool,
     /// How often and how many packets are sent again on a leg.
     pub resends: ResendBounds,
+    /// How many entries of a datagram's feedback are heard, the first; 0 for all. Who reads the datagram counts them.
+    pub entry_limit: u32,
     /// How many datagrams of one endpoint are heard in a millisecond; 0 for any number.
     pub flood_limit: u32,
     /// How many milliseconds there are between two repeats of what a publisher is asked for; 0 for none. A screen repeats nothing.
@@ -27,6 +29,7 @@ impl Rules {
           new_starts = false;
           strict_ssrc = true;
           resends = record { gap_ms = 0; share = 0 };
+          entry_limit = 0;
           flood_limit = 0;
           repeat_ms = 0;
         } }
@@ -38,6 +41,7 @@ impl Rules {
                 gap_ms: 0,
                 share: 0,
             },
+            entry_limit: 0,
             flood_limit: 0,
             repeat_ms: 0,
         }

@@ -12,7 +12,7 @@ use Rattle.settings.specs.declared.parts.Extras.{Extras}
 use Rattle.settings.specs.declared.parts.Parts.{Parts}
 use Rattle.settings.specs.Fault.{key_name}
 use Rattle.settings.specs.Settings.{additions_of, checks, first_fault, number_below, number_within}
-use Rattle.settings_toml.specs.declared.bound_keys.TheConstants.{FLOODS, GAPS_MS, SHARES}
+use Rattle.settings_toml.specs.declared.bound_keys.TheConstants.{ENTRIES, FLOODS, GAPS_MS, SHARES}
 use Rattle.settings_toml.specs.declared.tick_key.TheConstants.{MOST_TICK_MS}
 use Rattle.settings_toml.specs.declared.settings_file.FileSettings.{FileSettings}
 use Rattle.settings_toml.specs.declared.settings_file.SettingsProblem.{SettingsProblem}
@@ -113,6 +113,7 @@ takes_top key value =
     else if bytes_eq key (codes "new_starts") || bytes_eq key (codes "strict_ssrc")
     then is_some (as_bool value)
     else if bytes_eq key (codes "request_ms") then is_some (as_integer value)
+    else if bytes_eq key (codes "entry_limit") then is_under ENTRIES value
     else if bytes_eq key (codes "flood_limit") then is_under FLOODS value
     else if bytes_eq key (codes "repeat_ms") then is_repeat value
     else if bytes_eq key (codes "resend_gap_ms") then is_under GAPS_MS value

@@ -7,7 +7,7 @@ use Rattle.settings.specs.declared.parts.LegParts.{LegParts}
 use Rattle.settings.specs.declared.parts.Parts.{Parts}
 use Rattle.settings.specs.Settings.{additions_of, checks, configuration_of, first_fault, number_below, number_or_zero, number_within}
 use Rattle.settings_toml.specs.declared.bound_keys.BoundKeys.{BoundKeys}
-use Rattle.settings_toml.specs.declared.bound_keys.TheConstants.{FLOODS, GAPS_MS, LEAST_REPEAT_MS, REPEATS_MS, SHARES}
+use Rattle.settings_toml.specs.declared.bound_keys.TheConstants.{ENTRIES, FLOODS, GAPS_MS, LEAST_REPEAT_MS, REPEATS_MS, SHARES}
 use Rattle.settings_toml.specs.declared.tick_key.TheConstants.{MOST_TICK_MS, TICK_MS}
 use Rattle.settings_toml.specs.declared.settings_file.ClientText.{ClientText}
 use Rattle.settings_toml.specs.declared.settings_file.FileSettings.{FileSettings}
@@ -104,6 +104,7 @@ repeat_of value = repeat_if (number_below value REPEATS_MS)
 -- nothing, if there is none
 abbrev pub bounds_in : Members → BoundKeys
 bounds_in t = record {
+  entry_limit = number_or_zero (integer_in (get_member (codes "entry_limit") t)) ENTRIES;
   flood_limit = number_or_zero (integer_in (get_member (codes "flood_limit") t)) FLOODS;
   repeat_ms = unwrap_or (repeat_of (integer_in (get_member (codes "repeat_ms") t))) 0;
   resend_gap_ms = number_or_zero (integer_in (get_member (codes "resend_gap_ms") t)) GAPS_MS;

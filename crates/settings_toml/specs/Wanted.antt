@@ -7,7 +7,7 @@ use Rattle.rewrite.specs.declared.sequence.TheConstants.{SEQ_CYCLE}
 use Rattle.rtcp_compound.specs.declared.writer.TheConstants.{CNAME_LIMIT}
 use Rattle.settings.specs.declared.limits.TheConstants.{LEAST_HISTORY, MAX_ENDPOINTS, MAX_HISTORY, MAX_LEGS, MAX_PERIOD_MS, MAX_RING, MAX_WORKERS, SSRCS}
 use Rattle.settings_toml.specs.SettingsFaults.{Spot, endpoint, leg, sources, top}
-use Rattle.settings_toml.specs.declared.bound_keys.TheConstants.{FLOODS, GAPS_MS, LEAST_REPEAT_MS, REPEATS_MS, SHARES}
+use Rattle.settings_toml.specs.declared.bound_keys.TheConstants.{ENTRIES, FLOODS, GAPS_MS, LEAST_REPEAT_MS, REPEATS_MS, SHARES}
 use Rattle.settings_toml.specs.declared.tick_key.TheConstants.{MOST_TICK_MS}
 use Rattle.settings_toml.specs.declared.wanted.Kind.{Kind}
 use Rattle.settings_toml.specs.declared.wanted.Kind.TheVariants as kind
@@ -33,6 +33,7 @@ abbrev pub value_rows : List KeyRow
 value_rows =
     key_row (codes "cname") (Name CNAME_LIMIT)
     ∷ key_row (codes "early_pictures") (Other kind.Truth)
+    ∷ key_row (codes "entry_limit") (Whole 0 (ENTRIES - 1))
     ∷ key_row (codes "flood_limit") (Whole 0 (FLOODS - 1))
     ∷ key_row (codes "history") (Whole LEAST_HISTORY MAX_HISTORY)
     ∷ key_row (codes "leg_goodbyes") (Other kind.Truth)

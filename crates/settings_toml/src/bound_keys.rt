@@ -16,6 +16,9 @@ pub const GAPS_MS: u64 = 60_001;
 /// One more than the greatest share of resends, in percent.
 pub const SHARES: u64 = 101;
 
+/// One more than the greatest number of entries of a datagram.
+pub const ENTRIES: u64 = 65_536;
+
 /// One more than the greatest number of datagrams in a millisecond.
 pub const FLOODS: u64 = 1_000_001;
 
@@ -28,6 +31,8 @@ pub const REPEATS_MS: u64 = 60_001;
 /// What a settings file says of bounds; each is 0, which bounds and repeats nothing, if the file says nothing.
 #[derive(Clone, Copy, PartialEq, Eq)]
 pub struct BoundKeys {
+    /// How many entries of a datagram's feedback are heard.
+    pub entry_limit: u32,
     /// How many datagrams of one endpoint are heard in a millisecond.
     pub flood_limit: u32,
     /// How many milliseconds there are between two repeats of what a publisher is asked for.
@@ -43,6 +48,7 @@ pub(crate) fn bounds_at(table: &Table) -> BoundKeys
     ensures { result ≡ bounds_in (table_view table.now) }
 {
     BoundKeys {
+        entry_limit: bound_at(table, "entry_limit", ENTRIES) as u32,
         flood_limit: bound_at(table, "flood_limit", FLOODS) as u32,
         repeat_ms: repeat_of(integer_at(table, "repeat_ms")).unwrap_or(0),
         resend_gap_ms: bound_at(table, "resend_gap_ms", GAPS_MS),

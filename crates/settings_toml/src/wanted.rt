@@ -60,6 +60,7 @@ fn wanted_top(key: &str) -> Option<Wanted>
         "leg" => Some(Wanted::Legs(4096)),
         "cname" => Some(Wanted::Name(255)),
         "early_pictures" => Some(Wanted::Other(Kind::Truth)),
+        "entry_limit" => Some(Wanted::Whole(0, 65_535)),
         "flood_limit" => Some(Wanted::Whole(0, 1_000_000)),
         "history" => Some(Wanted::Whole(128, 65_536)),
         "leg_goodbyes" => Some(Wanted::Other(Kind::Truth)),
@@ -179,7 +180,7 @@ pub(crate) fn keys(place: Place<'_>) -> &'static str
         }
         Place::Leg(_, _) => "first_seq, on, out_ssrc, publisher and subscriber",
         Place::Top(_) | Place::Sources => {
-            "cname, early_pictures, flood_limit, history, leg_goodbyes, listen, listen_rtcp, new_starts, pli_gap_ms, repeat_ms, report_ms, request_ms, resend_gap_ms, resend_share, ring, strict_ssrc, tick_ms, timeout_ms, unit_ssrc and workers"
+            "cname, early_pictures, entry_limit, flood_limit, history, leg_goodbyes, listen, listen_rtcp, new_starts, pli_gap_ms, repeat_ms, report_ms, request_ms, resend_gap_ms, resend_share, ring, strict_ssrc, tick_ms, timeout_ms, unit_ssrc and workers"
         }
     }
 }

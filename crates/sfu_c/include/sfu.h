@@ -181,7 +181,8 @@ sfu_opened sfu_open(sfu_conference *conference, const uint8_t *text, size_t text
  *
  * Refused as SFU_IS_CLOSED; as SFU_BUSY, exactly if something waits, and as SFU_NO_MEMORY: then nothing was done. SFU_UNSETTLED: it
  * was heard, and the rest of what follows waits for sfu_settle. A datagram that is no RTP or RTCP, or isn't the endpoint's to send, is
- * SFU_DONE, too: nothing follows from it.
+ * SFU_DONE, too: nothing follows from it. All that its feedback asks for is done, however much that is: a NACK of 64 KB has 16,000 entries, so
+ * whoever doesn't trust its clients doesn't hand on what is longer than a path carries in one piece, which has some 370.
  */
 uint32_t sfu_hear(sfu_conference *conference, uint64_t moment, uint16_t endpoint, const uint8_t *bytes, size_t bytes_size);
 
