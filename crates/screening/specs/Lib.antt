@@ -1,10 +1,7 @@
 pub mod Bounded
 pub mod Floods
-pub mod Letting
 pub mod Nacks
 pub mod PutBy
 pub mod Resends
 pub mod Screened
-pub mod Sieve
-pub mod Speakers
 pub mod Starts

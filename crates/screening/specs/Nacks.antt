@@ -1,19 +1,17 @@
--- What of an RTCP datagram is given on: in NACKs those entries, and those bits of them, that are let through; all else as it came
+-- What is left of what feedback asks for: in the entries of NACKs those numbers that are let through; all else as it was asked for
 -- (RFC 4585, section 6.2.1).
-use Rattle.std.specs.Prelude.{◌≡◌, ◌==◌, ℕ, ◌+◌, ◌-◌, ◌*◌, ◌/◌, ◌%◌, ◌^◌, ◌<◌, ◌≤◌, nat_lt, nat_le, ◌&&◌, ◌||◌, Bool, bit_or, List, [], ◌∷◌, ◌++◌, length, take, drop, Option, None, Some, option_to_list, slice_get, slice_index, slice_set, unwrap_or, if◌then◌else◌}
-use Rattle.std.specs.List.{flat_map, list_any}
-use Rattle.byteorder.specs.Endian.{big_bytes, big_number}
+use Rattle.std.specs.Prelude.{◌≡◌, ◌==◌, ℕ, ◌+◌, ◌-◌, ◌%◌, ◌^◌, ◌≤◌, nat_lt, ◌||◌, bit_or, List, [], ◌∷◌, ◌++◌, Option, None, Some, option_to_list, slice_get, slice_set, unwrap_or, if◌then◌else◌}
+use Rattle.std.specs.List.{list_any}
+use Rattle.std.specs.Option.{option_map}
+use Rattle.datagram.specs.declared.reading.Ask.{Ask}
+use Rattle.datagram.specs.declared.reading.Ask.TheVariants.{Rate, Resend, Picture}
+use Rattle.datagram.specs.declared.reading.Sent.{Sent}
 use Rattle.rewrite.specs.declared.sequence.TheConstants.{SEQ_CYCLE}
-use Rattle.rtcp_compound.specs.declared.packet.TheConstants.{RTPFB}
-use Rattle.rtcp_feedback.specs.Grammar.{nack_bytes}
 use Rattle.rtcp_feedback.specs.Nack.{is_set, lost_numbers}
-use Rattle.rtcp_feedback.specs.Reading.{nacks_in}
 use Rattle.rtcp_feedback.specs.declared.nack.Nack.{Nack}
-use Rattle.senders.specs.Naming.{heard_size}
 use Rattle.settings.specs.Links.{LinkTable, leg_to}
 use Rattle.settings.specs.declared.settings.LegSettings.{LegSettings}
 use Rattle.screening.specs.Resends.{Book, book_after, gap_by, most_at, numbers_passed}
-use Rattle.screening.specs.declared.nacks.Asking.{Asking}
 use Rattle.screening.specs.declared.resends.Allowance.{Allowance}
 use Rattle.screening.specs.declared.resends.Flow.{Flow}
 use Rattle.screening.specs.declared.resends.ResendBounds.{ResendBounds}
@@ -50,50 +48,6 @@ pub record NamesJust (seq : ℕ) (seqs : List ℕ) : Type 0 where
   pub each : (i : ℕ) → 1 ≤ i → i ≤ 16
       → is_set blp i ≡ list_any (λ other. behind_by seq other == i) seqs
 
--- ---- the entries of a NACK, one after the other
-
-abbrev pub entries_given : Book → Allowance → List Nack → List Nack
-entries_given b a [] = []
-entries_given b a (n ∷ ns) =
-    option_to_list (entry_of (numbers_passed b a (lost_numbers n)))
-    ++ entries_given (book_after b a (lost_numbers n)) a ns
-
-abbrev pub book_through : Book → Allowance → List Nack → Book
-book_through b a [] = b
-book_through b a (n ∷ ns) = book_through (book_after b a (lost_numbers n)) a ns
-
--- ---- a packet
-
--- how many bytes at its end are padding, by its header and its last byte (RFC 3550, section 6.4.1)
-abbrev pub padding_at : List ℕ → ℕ
-padding_at packet =
-    if slice_index packet 0 / 32 % 2 == 1 then slice_index packet (length packet - 1) else 0
-
--- It is a NACK: transport layer feedback with the FMT 1 that has two sources after its header (RFC 4585, section 6.1).
-abbrev pub is_nack : List ℕ → Bool
-is_nack packet =
-    nat_le 12 (length packet)
-    && ((slice_index packet 1 == RTPFB)
-    && ((slice_index packet 0 % 32 == 1) && nat_le (12 + padding_at packet) (length packet)))
-
--- its source of media
-abbrev pub media_at : List ℕ → ℕ
-media_at packet = big_number 4 (drop 8 packet)
-
--- its entries' bytes, and its padding
-abbrev pub fci_of : List ℕ → List ℕ
-fci_of packet = take (length packet - padding_at packet - 12) (drop 12 packet)
-
-abbrev pub padding_of : List ℕ → List ℕ
-padding_of packet = drop (length packet - padding_at packet) packet
-
--- the packet with these entries: the length in its header is in words, without the header
-abbrev pub packet_with : List ℕ → List Nack → List ℕ
-packet_with packet entries =
-    take 2 packet
-    ++ (big_bytes 2 ((8 + 4 * length entries + padding_at packet) / 4)
-    ++ (take 8 (drop 4 packet) ++ (flat_map nack_bytes entries ++ padding_of packet)))
-
 -- ---- who asks, of which leg, and what may be let through there
 
 -- who is sent what; how resends are bounded; what came of each endpoint; and the round trip on each leg, in milliseconds, if it is known
@@ -121,46 +75,49 @@ allowance_on t moment leg = record {
   most = most_on t moment (slice_get t.table.legs leg);
 }
 
--- the leg to who sent it that a packet asks of, if it is a NACK
-abbrev pub leg_asked : LinkTable → Asking → List ℕ → Option ℕ
-leg_asked table who packet =
-    if is_nack packet then leg_to table who.endpoint (media_at packet) else None
+-- ---- one ask
 
--- what is given on of a packet that asks of this leg, of which that is known
-abbrev pub asked_given : Option Book → Allowance → List ℕ → List ℕ
-asked_given None a packet = packet
-asked_given (Some b) a packet = packet_with packet (entries_given b a (nacks_in (fci_of packet)))
+-- what is left of an entry, by what is noted of its leg
+abbrev pub entry_left : Option Book → Allowance → Nack → Option Nack
+entry_left None a entry = Some entry
+entry_left (Some b) a entry = entry_of (numbers_passed b a (lost_numbers entry))
 
-abbrev pub asked_books : List Book → ℕ → Option Book → Allowance → List ℕ → List Book
-asked_books books leg None a packet = books
-asked_books books leg (Some b) a packet =
-    slice_set books leg (book_through b a (nacks_in (fci_of packet)))
+abbrev pub book_noted_on : List Book → ℕ → Allowance → Nack → Option Book → List Book
+book_noted_on books leg a entry None = books
+book_noted_on books leg a entry (Some b) = slice_set books leg (book_after b a (lost_numbers entry))
 
-abbrev pub given_by : Terms → Asking → List Book → List ℕ → Option ℕ → List ℕ
-given_by t who books packet None = packet
-given_by t who books packet (Some leg) =
-    asked_given (slice_get books leg) (allowance_on t who.moment leg) packet
+-- The leg is the one on which who asks is sent this source; if there is none, nothing is bounded.
+abbrev pub entry_on : Terms → Sent → List Book → Nack → Option ℕ → Option Nack
+entry_on t sent books entry None = Some entry
+entry_on t sent books entry (Some leg) =
+    entry_left (slice_get books leg) (allowance_on t sent.moment leg) entry
 
-abbrev pub books_by : Terms → Asking → List Book → List ℕ → Option ℕ → List Book
-books_by t who books packet None = books
-books_by t who books packet (Some leg) =
-    asked_books books leg (slice_get books leg) (allowance_on t who.moment leg) packet
+abbrev pub books_on : Terms → Sent → List Book → Nack → Option ℕ → List Book
+books_on t sent books entry None = books
+books_on t sent books entry (Some leg) =
+    book_noted_on books leg (allowance_on t sent.moment leg) entry (slice_get books leg)
 
--- what is given on of a packet, and what is noted of each leg then
-unfoldable pub packet_given : Terms → Asking → List Book → List ℕ → List ℕ
-packet_given t who books packet = given_by t who books packet (leg_asked t.table who packet)
+-- what is left of an ask, and what is noted of each leg then
+abbrev pub ask_left : Terms → Sent → List Book → Ask → Option Ask
+ask_left t sent books (Rate media word) = Some (Rate media word)
+ask_left t sent books (Resend media entry) =
+    option_map (Resend media) (entry_on t sent books entry (leg_to t.table sent.endpoint media.0))
+ask_left t sent books (Picture media) = Some (Picture media)
 
-unfoldable pub books_given : Terms → Asking → List Book → List ℕ → List Book
-books_given t who books packet = books_by t who books packet (leg_asked t.table who packet)
+abbrev pub books_with : Terms → Sent → List Book → Ask → List Book
+books_with t sent books (Rate media word) = books
+books_with t sent books (Resend media entry) =
+    books_on t sent books entry (leg_to t.table sent.endpoint media.0)
+books_with t sent books (Picture media) = books
 
--- ---- a datagram
+-- ---- asks, one after the other: each by what is noted after those before it
 
--- What is given on of a datagram, packet by packet: each by what is noted after those before it.
-pub data GivesOn : Terms → Asking → List Book → List ℕ → List ℕ → List Book → Type 0 where
-  ended : {t : Terms} {who : Asking} {books : List Book} → GivesOn t who books [] [] books
-  packet : {t : Terms} {who : Asking} {books final : List Book} {given : List ℕ} (bytes : List ℕ)
-      → 0 < length bytes
-      → GivesOn t who (books_given t who books (take (heard_size bytes) bytes))
-      (drop (heard_size bytes) bytes) given final
-      → GivesOn t who books bytes
-      (packet_given t who books (take (heard_size bytes) bytes) ++ given) final
+abbrev pub asks_left : Terms → Sent → List Book → List Ask → List Ask
+asks_left t sent books [] = []
+asks_left t sent books (ask ∷ asks) =
+    option_to_list (ask_left t sent books ask)
+    ++ asks_left t sent (books_with t sent books ask) asks
+
+abbrev pub books_after : Terms → Sent → List Book → List Ask → List Book
+books_after t sent books [] = books
+books_after t sent books (ask ∷ asks) = books_after t sent (books_with t sent books ask) asks

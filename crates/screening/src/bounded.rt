@@ -1,44 +1,57 @@
 //! The resends on all legs of a unit, bounded.
 
-ghost use Rattle.std.specs.Prelude.{◌≡◌, ◌<◌, ◌≤◌, ◌+◌, ◌^◌, ◌++◌, List, length, replicate, slice_get, IfOk, OnOk};
-ghost use Rattle.rtcp_compound.specs.Fault.{Refuses};
-ghost use Rattle.rtcp_compound.specs.Grammar.{RtcpPacket, ReadsRtcp};
-ghost use Rattle.rtcp_compound.specs.declared.fault.RtcpFault.{RtcpFault};
-ghost use Rattle.screening.specs.Bounded.{AreIdle, GivesDatagram, empty_book, flows_with, remembered_by, terms_of, terms_in};
-ghost use Rattle.screening.specs.Nacks.{allowance_on, asked_books, asked_given, books_given, most_by, most_on, packet_given, padding_at, trip_on};
+ghost use Rattle.std.specs.Prelude.{◌≡◌, ◌≤◌, length, replicate, slice_get, take, IfOk, Some};
+ghost use Rattle.screening.specs.Bounded.{LetsThrough, counted_by, empty_book, idle_resends, remembered_by, terms_of};
+ghost use Rattle.settings.specs.Links.{leg_to};
+ghost use Rattle.screening.specs.Nacks.{allowance_on, ask_left, asks_left, book_noted_on, books_after, books_on, books_with, entry_left, entry_on, most_by, most_on, trip_on};
 
-use crate::nacks::{Asking, give_nack, leg_asked, push};
+use crate::nacks::let_through;
 use crate::resends::{Allowance, Flow, LegBook, REMEMBERED, ResendBounds, gap_by};
 use crate::trips::note_trips;
-use rtcp_compound::split;
+use datagram::{Ask, Sent};
 use rtcp_feedback::Nack;
-use senders::first_size;
 use settings::{LegSettings, Links, Settings};
 use std::alloc::{AllocError, Global};
+use std::cell::Cell;
+use std::marker::Model;
+use tmmbr_tuple::Ssrc;
 use traffic::Traffic;
 
-/// What came of each endpoint, what was let through on each leg, and the round trip there.
+/// What came of each endpoint, and what was let through on each leg.
 #[derive(Drop)]
 pub(crate) struct Resends {
     links: Links,
     bounds: ResendBounds,
     /// What came of each endpoint, by its number.
     flows: Vec<Flow>,
-    /// The round trip on each leg in milliseconds, by its number; `None` if it isn't known.
-    trips: Vec<Option<u32>>,
     /// What was let through on each leg, by its number.
     books: Vec<LegBook>,
-    /// The entries that are given on of the NACK that is looked at.
-    kept: Vec<Nack>,
+    /// The round trip on each leg in milliseconds, by its number, as it was known when it was looked up last.
+    trips: Vec<Option<u32>>,
 }
 
-/// What is looked up while a datagram is given on.
+impl Model for Resends {
+    ghost use Rattle.screening.specs.Bounded.{ResendState};
+
+    ghost Value = { ResendState };
+
+    ghost view = { λ r. record {
+      table = r.links;
+      bounds = r.bounds;
+      flows = r.flows.items;
+      books = r.books.items;
+    } };
+}
+
+/// What is looked up while asks are looked at.
 #[derive(Clone, Copy)]
 pub(crate) struct Known<'a> {
     links: &'a Links,
     bounds: ResendBounds,
     flows: &'a [Flow],
     trips: &'a [Option<u32>],
+    /// How many packets that were asked for again weren't let through.
+    held: &'a Cell<u64>,
 }
 
 impl Resends {
@@ -48,7 +61,7 @@ impl Resends {
         settings: &Settings,
         bounds: ResendBounds,
     ) -> Result<Resends, AllocError>
-        ensures { IfOk result (AreIdle settings.now bounds) }
+        ensures { IfOk result (λ r. r ≡ idle_resends settings.now bounds) }
     {
         let idle = Flow::new();
         let remembered = remembered_by(bounds);
@@ -56,18 +69,14 @@ impl Resends {
             links: Links::new(alloc, settings)?,
             bounds,
             flows: vec![in alloc; idle; settings.endpoints().len()]?,
-            trips: vec![in alloc; None; settings.legs().len()]?,
             books: books_of(alloc, settings.legs().len(), remembered)?,
-            kept: Vec::new(alloc),
+            trips: vec![in alloc; None; settings.legs().len()]?,
         })
     }
 
     /// A packet came of this endpoint at this moment.
-    pub(crate) fn came(&mut self, endpoint: u16, moment: u64)
-        ensures flows { self.new.flows.items ≡ flows_with self.old.flows.items endpoint moment }
-        ensures others { (self.new.books.items ≡ self.old.books.items)
-            × (self.new.trips.items ≡ self.old.trips.items)
-            × (self.new.links ≡ self.old.links) × (self.new.bounds ≡ self.old.bounds) }
+    pub(crate) fn count(&mut self, endpoint: u16, moment: u64)
+        ensures { self.new ≡ counted_by self.old endpoint moment }
     {
         let at = usize::from(endpoint);
         if at < self.flows.len() {
@@ -75,49 +84,29 @@ impl Resends {
         }
     }
 
-    /// Notes the round trip on each leg that a datagram of RTCP asks of, as it is known by now, if a gap is wanted.
-    pub(crate) fn note_trips(&mut self, who: Asking, datagram: &[u8], traffic: &Traffic)
-        ensures { (self.new.books.items ≡ self.old.books.items)
-            × (self.new.flows.items ≡ self.old.flows.items)
-            × (self.new.links ≡ self.old.links) × (self.new.bounds ≡ self.old.bounds) }
+    /// Keeps of what the endpoint asks for what is let through, by the round trips that are known now, and raises `held` for each packet that
+    /// isn't.
+    pub(crate) fn let_through(
+        &mut self,
+        sent: Sent,
+        asks: &mut Vec<Ask>,
+        traffic: &Traffic,
+        held: &Cell<u64>,
+    )
+        ensures { LetsThrough sent self.old self.new asks.old.items asks.new.items }
     {
         if self.bounds.gap_ms > 0 {
-            note_trips(&mut self.trips, &self.links, who, datagram, traffic);
+            note_trips(&mut self.trips, &self.links, sent.endpoint, asks, traffic);
         }
-    }
-
-    /// Appends what is given on of a datagram of RTCP, and says how many packets that it asks for are held back. One that is faulty is
-    /// given on as it is.
-    pub(crate) fn give_on(
-        &mut self,
-        out: &mut Vec<u8>,
-        who: Asking,
-        datagram: &[u8],
-    ) -> Result<u64, AllocError>
-        requires { length datagram.now < 2 ^ 16 }
-        ensures read { (packets : List RtcpPacket) → ReadsRtcp datagram.now packets
-            → OnOk result (GivesDatagram (terms_in self.old) who self.old.books.items
-            datagram.now out.old.items out.new.items self.new.books.items) }
-        ensures faulty { (fault : RtcpFault) → Refuses datagram.now fault
-            → OnOk result ((out.new.items ≡ out.old.items ++ datagram.now)
-            × (self.new.books.items ≡ self.old.books.items)) }
-        ensures others { (self.new.flows.items ≡ self.old.flows.items)
-            × (self.new.trips.items ≡ self.old.trips.items)
-            × (self.new.links ≡ self.old.links) × (self.new.bounds ≡ self.old.bounds) }
-    {
         let known = Known {
             links: &self.links,
             bounds: self.bounds,
             flows: &self.flows,
             trips: &self.trips,
+            held,
         };
-        match split(datagram) {
-            Ok(_) => give_packets(out, &mut self.kept, &mut self.books, known, who, datagram),
-            Err(_) => {
-                push(out, datagram)?;
-                Ok(0)
-            }
-        }
+        let left = keep_asks(asks, &mut self.books, known, sent);
+        asks.truncate(left);
     }
 }
 
@@ -143,65 +132,94 @@ fn books_of(alloc: Global, legs: usize, remembered: usize) -> Result<Vec<LegBook
     Ok(books)
 }
 
-/// Appends what is given on of each packet of a datagram, and says how many packets that they ask for are held back.
-fn give_packets(
-    out: &mut Vec<u8>,
-    kept: &mut Vec<Nack>,
-    books: &mut [LegBook],
-    known: Known<'_>,
-    who: Asking,
-    datagram: &[u8],
-) -> Result<u64, AllocError>
-    requires { length datagram.now < 2 ^ 16 }
-    ensures { OnOk result (GivesDatagram (terms_of known.entry) who books.old datagram.now
-        out.old.items out.new.items books.new) }
+/// Moves what is left of what is asked for to the front, in its order, and says how much that is.
+fn keep_asks(asks: &mut [Ask], books: &mut [LegBook], known: Known<'_>, sent: Sent) -> usize
+    ensures left { take result asks.new
+        ≡ asks_left (terms_of known.entry) sent books.old asks.old }
+    ensures noted { books.new ≡ books_after (terms_of known.entry) sent books.old asks.old }
+    ensures fewer { result ≤ length asks.new }
+    ensures length { length asks.new ≡ length asks.old }
 {
-    let mut held = 0u64;
-    let mut rest = datagram;
-    while !rest.is_empty() {
-        let (packet, behind) = rest.split_at(first_size(rest));
-        held = held.saturating_add(give_packet(out, kept, books, known, who, packet)?);
-        rest = behind;
+    let mut kept: usize = 0;
+    for at in 0..asks.len() {
+        if let Some(left) = ask_left(books, known, sent, asks[at]) {
+            asks[kept] = left;
+            kept += 1;
+        }
     }
-    Ok(held)
+    kept
 }
 
-/// Appends what is given on of a packet, and says how many packets that it asks for are held back.
-#[tactic(auto, unfolding(crate::specs::Nacks::packet_given, crate::specs::Nacks::books_given))]
-fn give_packet(
-    out: &mut Vec<u8>,
-    kept: &mut Vec<Nack>,
+/// What is left of an ask, by what is known of the leg on which who asks is sent that source.
+fn ask_left(books: &mut [LegBook], known: Known<'_>, sent: Sent, ask: Ask) -> Option<Ask>
+    ensures left { result ≡ ask_left (terms_of known.entry) sent books.old ask }
+    ensures noted { books.new ≡ books_with (terms_of known.entry) sent books.old ask }
+{
+    match ask {
+        Ask::Resend { media, nack } => match entry_to(books, known, sent, media, nack) {
+            Some(nack) => Some(Ask::Resend { media, nack }),
+            None => None,
+        },
+        Ask::Rate { .. } | Ask::Picture { .. } => Some(ask),
+    }
+}
+
+/// What is left of an entry that asks for packets of this source.
+fn entry_to(
     books: &mut [LegBook],
     known: Known<'_>,
-    who: Asking,
-    packet: &[u8],
-) -> Result<u64, AllocError>
-    requires { length packet.now < 2 ^ 16 }
-    ensures given { OnOk result (out.new.items ≡ out.old.items
-        ++ packet_given (terms_of known.entry) who books.old packet.now) }
-    ensures noted { OnOk result
-        (books.new ≡ books_given (terms_of known.entry) who books.old packet.now) }
+    sent: Sent,
+    media: Ssrc,
+    entry: Nack,
+) -> Option<Nack>
+    ensures left { result ≡ entry_on (terms_of known.entry) sent books.old entry
+        (leg_to known.entry.links.now sent.endpoint media.0) }
+    ensures noted { books.new ≡ books_on (terms_of known.entry) sent books.old entry
+        (leg_to known.entry.links.now sent.endpoint media.0) }
 {
-    match leg_asked(known.links, who, packet) {
-        Some(leg) => {
-            let allowance = allowance_on(known, who, leg);
-            give_asked(out, kept, books, leg, allowance, packet)
-        }
-        None => {
-            push(out, packet)?;
-            Ok(0)
-        }
+    match known.links.leg_to(sent.endpoint, media) {
+        Some(leg) => entry_on(
+            books,
+            leg,
+            allowance_on(known, sent.moment, leg),
+            entry,
+            known.held,
+        ),
+        None => Some(entry),
     }
+}
+
+/// What is left of an entry for this leg.
+fn entry_on(
+    books: &mut [LegBook],
+    leg: u16,
+    allowance: Allowance,
+    entry: Nack,
+    held: &Cell<u64>,
+) -> Option<Nack>
+    ensures left { result ≡ entry_left (slice_get books.old leg) allowance entry }
+    ensures noted { books.new
+        ≡ book_noted_on books.old leg allowance entry (slice_get books.old leg) }
+{
+    let at = usize::from(leg);
+    if at >= books.len() {
+        return Some(entry);
+    }
+    let before = books[at].held();
+    let left = let_through(&mut books[at], allowance, entry);
+    let more = books[at].held().saturating_sub(before);
+    held.set(held.get().saturating_add(more));
+    left
 }
 
 /// What may be let through on a leg.
-fn allowance_on(known: Known<'_>, who: Asking, leg: u16) -> Allowance
-    ensures { result ≡ allowance_on (terms_of known.entry) who.moment leg }
+fn allowance_on(known: Known<'_>, moment: u64, leg: u16) -> Allowance
+    ensures { result ≡ allowance_on (terms_of known.entry) moment leg }
 {
     Allowance {
-        moment: who.moment,
+        moment,
         gap_ms: gap_by(known.bounds.gap_ms, trip_on(known, leg)),
-        most: most_on(known, who.moment, known.links.leg(leg).copied()),
+        most: most_on(known, moment, known.links.leg(leg).copied()),
     }
 }
 
@@ -231,31 +249,4 @@ fn most_by(known: Known<'_>, moment: u64, publisher: u16) -> u64
         Some(flow) => flow.most(known.bounds.share, moment),
         None => 0,
     }
-}
-
-/// Appends what is given on of a NACK for this leg, and says how many packets are held back.
-fn give_asked(
-    out: &mut Vec<u8>,
-    kept: &mut Vec<Nack>,
-    books: &mut [LegBook],
-    leg: u16,
-    allowance: Allowance,
-    packet: &[u8],
-) -> Result<u64, AllocError>
-    requires front { 12 ≤ length packet.now }
-    requires padding { 12 + padding_at packet.now ≤ length packet.now }
-    requires size { length packet.now < 2 ^ 16 }
-    ensures given { OnOk result (out.new.items ≡ out.old.items
-        ++ asked_given (slice_get books.old leg) allowance packet.now) }
-    ensures noted { OnOk result
-        (books.new ≡ asked_books books.old leg (slice_get books.old leg) allowance packet.now) }
-{
-    let at = usize::from(leg);
-    if at >= books.len() {
-        push(out, packet)?;
-        return Ok(0);
-    }
-    let before = books[at].held();
-    give_nack(out, kept, &mut books[at], allowance, packet)?;
-    Ok(books[at].held().saturating_sub(before))
 }

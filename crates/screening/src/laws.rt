@@ -1,9 +1,7 @@
-//! What is so of every list of a source's packets, of every list of numbers, and of every datagram. These functions do nothing: their contracts are the laws.
+//! What is so of every list of a source's packets, and of every list of numbers. These functions do nothing: their contracts are the laws.
 
-ghost use Rattle.std.specs.Prelude.{◌≡◌, ℕ, List, map};
-ghost use Rattle.rtcp_compound.specs.Grammar.{RtcpPacket, ReadsRtcp};
+ghost use Rattle.std.specs.Prelude.{◌≡◌, ℕ, List};
 ghost use Rattle.screening.specs.Nacks.{NamesJust};
-ghost use Rattle.screening.specs.Speakers.{IsUnder, spoken_by};
 ghost use Rattle.screening.specs.Starts.{FollowsFar, first_or_placed, run_of};
 ghost use Rattle.screening.specs.declared.run.Stamp.{Stamp};
 ghost use Rattle.screening.specs.declared.run.Placement.TheVariants.{Anew};
@@ -21,12 +19,4 @@ pub fn anew_follows_far()
 #[tactic(auto, using(crate::proofs::EntryLemmas::names_just))]
 pub fn entries_name_numbers()
     ensures { (seq : ℕ) (seqs : List ℕ) → NamesJust seq seqs }
-{}
-
-/// A datagram that is read as RTCP packets is read as the same ones under the source under which it is heard, which is who speaks in receiver
-/// reports and in feedback.
-pub fn speaks_as_own()
-    ensures { (own : ℕ) (datagram under : List ℕ) (packets : List RtcpPacket)
-        → ReadsRtcp datagram packets → IsUnder own datagram under
-        → ReadsRtcp under (map (spoken_by own) packets) }
 {}

@@ -1,127 +1,226 @@
-//! The datagrams of a feed, screened.
+//! What was read of a datagram, judged before the machine takes it in.
 
-ghost use Rattle.std.specs.Prelude.{◌≡◌, ◌≢◌, ◌+◌, ◌∷◌, [], length, replicate, None, Some, IfOk, IsSomeAnd, OnOk, OnErr};
-ghost use Rattle.outside.specs.Outside.{FitsIn, Grows, arrival_of};
-ghost use Rattle.screening.specs.Bounded.{AreIdle};
-ghost use Rattle.screening.specs.PutBy.{IsEmpty};
-ghost use Rattle.screening.specs.Screened.{GivesWhatIsLeft, LooksForNothing};
-ghost use Rattle.screening.specs.Sieve.{AreGoodbyes, GivesWaiting, Stays};
-ghost use Rattle.screening.specs.declared.put_by.Waiting.{Waiting};
+ghost use Rattle.std.specs.Prelude.{◌≡◌, ℕ, List, None, IfOk, length, replicate};
+ghost use Rattle.datagram.specs.Reads.{IsPacketRead};
+ghost use Rattle.datagram.specs.Spelling.{IsAsHeard};
+ghost use Rattle.screening.specs.Screened.{IsAsItWas, Judges, JudgesControl, JudgesPacket, LetsThroughIf, LooksForNothing, PlacesOwn, Stays, control_heard, counted_in, placement_by, resends_by, runs_by, stamp_in};
 
-use crate::letting::Bounded;
+use crate::bounded::Resends;
+use crate::resends::ResendBounds;
 use crate::rules::Rules;
-use crate::sieve::Sieve;
-use outside::{Feed, ReceiveFault, Received};
+use crate::run::{Placement, Stamp};
+use crate::starts::Starts;
+use datagram::{Ask, Control, Media, Reading, Sent, What};
 use settings::Settings;
 use std::alloc::{AllocError, Global};
 use std::cell::Cell;
 use tmmbr_tuple::Ssrc;
 use traffic::Traffic;
 
-/// The datagrams of a feed, screened by its rules. A packet that is far from the highest number of its endpoint is counted, and put by.
-/// If the next one shows that the endpoint began anew, a goodbye of it is given (RFC 3550, section 6.6), then both packets, so that who
-/// hears them takes the endpoint as one that left and came again. Receiver reports and feedback name the endpoint's own source.
-#[derive(Drop)]
-pub struct Screen<'a, F: Feed + Drop> {
-    feed: F,
-    sieve: Sieve<'a>,
+/// What becomes of what was read of a datagram.
+#[derive(Clone, Copy, PartialEq, Eq)]
+pub enum Judged {
+    /// It is taken in.
+    Take,
+    /// It is a packet that is far from the highest number of its endpoint: it is put by, since it may be an odd one.
+    PutBy,
+    /// It is a packet with which its endpoint began anew: a goodbye of it is taken in first (RFC 3550, section 6.6), then the packet that
+    /// was put by, then this one.
+    Anew,
 }
 
-impl<'a, F: Feed + Drop> Screen<'a, F> {
-    /// Screens what a feed gives from now on, of the endpoints with these sources. Raises `far` for each far packet.
+/// By which rules what was read is judged, and what is known of the endpoints.
+#[derive(Drop)]
+pub struct Screen<'a> {
+    rules: Rules,
+    starts: Starts,
+    /// What is known of resends, if they are bounded.
+    resends: Option<Resends>,
+    /// What is known of the round trips on legs.
+    traffic: &'a Traffic,
+    /// How many packets were far from the highest number.
+    far: &'a Cell<u64>,
+    /// How many packets that were asked for again weren't let through.
+    held: &'a Cell<u64>,
+}
+
+impl<'a> Screen<'a> {
+    /// Nothing came and nothing was let through in a unit of these settings. `traffic` says the round trips there; `far` is raised for each
+    /// far packet, `held` for each packet that is asked for again and isn't let through.
     pub fn new(
         alloc: Global,
-        feed: F,
-        sources: &'a [Ssrc],
+        settings: &Settings,
         rules: Rules,
+        traffic: &'a Traffic,
         far: &'a Cell<u64>,
-    ) -> Result<Screen<'a, F>, AllocError>
-        ensures feed { IfOk result (λ screen. screen.feed ≡ feed) }
-        ensures rules { IfOk result (λ screen. screen.sieve.rules ≡ rules) }
-        ensures endpoints { IfOk result (λ screen. screen.sieve.sources.now ≡ sources.now) }
-        ensures goodbyes { IfOk result
-            (λ screen. AreGoodbyes sources.now screen.sieve.goodbyes.items) }
+        held: &'a Cell<u64>,
+    ) -> Result<Screen<'a>, AllocError>
+        ensures rules { IfOk result (λ screen. screen.rules ≡ rules) }
         ensures starts { IfOk result
-            (λ screen. screen.sieve.starts ≡ replicate (length sources.now) None) }
-        ensures put_by { IfOk result
-            (λ screen. IsEmpty (length sources.now) screen.sieve.put_by) }
-        ensures unbounded { IfOk result (λ screen. screen.sieve.bounded ≡ None) }
-        ensures counts { IfOk result (λ screen. screen.sieve.far ≡ far.entry) }
+            (λ screen. screen.starts ≡ replicate (length settings.now.endpoints) None) }
+        ensures resends { IfOk result
+            (λ screen. screen.resends ≡ resends_by settings.now rules.resends) }
+        ensures looks { IfOk result (λ screen. screen.traffic ≡ traffic.entry) }
+        ensures counts { IfOk result
+            (λ screen. (screen.far ≡ far.entry) × (screen.held ≡ held.entry)) }
     {
         Ok(Screen {
-            feed,
-            sieve: Sieve::new(alloc, sources, rules, far)?,
+            rules,
+            starts: Starts::new(alloc, settings.endpoints().len())?,
+            resends: resends_by(alloc, settings, rules.resends)?,
+            traffic,
+            far,
+            held,
         })
     }
 
-    /// The same, with resends bounded as its rules say on the legs of these settings. `traffic` says the round trips there, and `moment_ms` the
-    /// moment of the last turn; `held` is raised for each packet that is asked for again and isn't let through.
-    pub fn bounding(
-        self,
-        alloc: Global,
-        settings: &Settings,
-        traffic: &'a Traffic,
-        moment_ms: &'a Cell<u64>,
-        held: &'a Cell<u64>,
-    ) -> Result<Screen<'a, F>, AllocError>
-        ensures feed { IfOk result (λ screen. screen.feed ≡ self.entry.feed) }
-        ensures stays { IfOk result (λ screen. Stays self.entry.sieve screen.sieve) }
-        ensures starts { IfOk result
-            (λ screen. screen.sieve.starts ≡ self.entry.sieve.starts) }
-        ensures put_by { IfOk result
-            (λ screen. screen.sieve.put_by ≡ self.entry.sieve.put_by) }
-        ensures off { self.entry.sieve.rules.resends ≡ record { gap_ms = 0; share = 0 }
-            → IfOk result (λ screen. screen.sieve.bounded ≡ self.entry.sieve.bounded) }
-        ensures bounded { self.entry.sieve.rules.resends ≢ record { gap_ms = 0; share = 0 }
-            → IfOk result (λ screen. IsSomeAnd screen.sieve.bounded
-            (λ b. AreIdle settings.now self.entry.sieve.rules.resends b.resends)) }
-        ensures looks { self.entry.sieve.rules.resends ≢ record { gap_ms = 0; share = 0 }
-            → IfOk result (λ screen. IsSomeAnd screen.sieve.bounded (λ b. (b.traffic ≡ traffic.entry)
-            × (b.moment_ms ≡ moment_ms.entry) × (b.held ≡ held.entry))) }
+    /// Judges what was read of a datagram. RTCP is heard under the endpoint's own source, unless the rules are strict: who speaks is then whom
+    /// its sender reports name, if they name another one. Of what that source asks for is left what may be sent again by now. A packet of
+    /// the own source is placed and noted, and unless it is far it is counted of the endpoint.
+    pub fn judge(&mut self, sent: Sent, reading: &mut Reading) -> Judged
+        ensures judged { Judges self.old self.new sent reading.old reading.new result }
+        ensures stays { Stays self.old self.new }
+        ensures as_heard { (came : List ℕ)
+            → IsAsHeard sent.own.0 reading.old.what reading.old.asks.items came
+            → IsAsHeard sent.own.0 reading.new.what reading.new.asks.items came }
+        ensures packet { (bytes : List ℕ) → IsPacketRead bytes reading.old.what
+            → IsPacketRead bytes reading.new.what }
+        ensures off { LooksForNothing self.old
+            → IsAsItWas self.old self.new reading.old reading.new result }
     {
-        let bounds = self.sieve.rules.resends;
-        if bounds.gap_ms == 0 && bounds.share == 0 {
-            return Ok(self);
+        match reading.what {
+            What::Media(packet) => self.judge_packet(sent, packet),
+            What::Control(control) => self.judge_control(sent, control, reading),
+            What::Goodbye | What::Refused(_) => Judged::Take,
         }
-        let bounded = Bounded::new(alloc, settings, bounds, traffic, moment_ms, held)?;
-        Ok(Screen {
-            feed: self.feed,
-            sieve: self.sieve.bounding(bounded),
-        })
+    }
+
+    /// A packet of the endpoint that was put by is taken in.
+    pub fn count(&mut self, endpoint: u16, moment: u64)
+        ensures counted { self.new.resends ≡ counted_in self.old.resends endpoint moment }
+        ensures starts { self.new.starts ≡ self.old.starts }
+        ensures stays { Stays self.old self.new }
+    {
+        if let Some(resends) = &mut self.resends {
+            resends.count(endpoint, moment);
+        }
+    }
+
+    /// What becomes of a packet.
+    fn judge_packet(&mut self, sent: Sent, packet: Media) -> Judged
+        ensures judged { JudgesPacket self.old self.new sent (stamp_in sent.own packet) result }
+        ensures stays { Stays self.old self.new }
+    {
+        match stamp_in(sent.own, packet) {
+            Some(stamp) => self.judge_own(sent, stamp),
+            None => Judged::Take,
+        }
+    }
+
+    /// What becomes of a packet of the endpoint's own source.
+    fn judge_own(&mut self, sent: Sent, stamp: Stamp) -> Judged
+        ensures judged { PlacesOwn self.old self.new sent stamp result }
+        ensures stays { Stays self.old self.new }
+    {
+        match self.place(sent.endpoint, stamp) {
+            Placement::Near => {
+                self.count(sent.endpoint, sent.moment);
+                Judged::Take
+            }
+            Placement::Far => {
+                self.far.set(self.far.get().saturating_add(1));
+                Judged::PutBy
+            }
+            Placement::Anew => {
+                self.count(sent.endpoint, sent.moment);
+                Judged::Anew
+            }
+        }
+    }
+
+    /// Where a packet of the endpoint's own source stands, which is noted if new starts are looked for.
+    fn place(&mut self, endpoint: u16, stamp: Stamp) -> Placement
+        ensures placement { result
+            ≡ placement_by self.old.rules.new_starts self.old.starts endpoint stamp }
+        ensures noted { self.new.starts
+            ≡ runs_by self.old.rules.new_starts self.old.starts endpoint stamp }
+        ensures resends { self.new.resends ≡ self.old.resends }
+        ensures stays { Stays self.old self.new }
+    {
+        if self.rules.new_starts {
+            self.starts.note(endpoint, stamp)
+        } else {
+            Placement::Near
+        }
+    }
+
+    /// What becomes of RTCP packets.
+    fn judge_control(&mut self, sent: Sent, control: Control, reading: &mut Reading) -> Judged
+        ensures judged { JudgesControl self.old self.new sent
+            (control_heard self.old.rules control reading.old.clocked) reading.old reading.new
+            result }
+        ensures stays { Stays self.old self.new }
+    {
+        let heard = control_heard(self.rules, control, reading.clocked);
+        reading.what = What::Control(heard);
+        if heard.speaker == sent.own {
+            self.let_through(sent, &mut reading.asks);
+        }
+        Judged::Take
+    }
+
+    /// Keeps of what the endpoint's own source asks for what is let through, if resends are bounded.
+    fn let_through(&mut self, sent: Sent, asks: &mut Vec<Ask>)
+        ensures left { LetsThroughIf sent self.old.resends self.new.resends asks.old.items
+            asks.new.items }
+        ensures starts { self.new.starts ≡ self.old.starts }
+        ensures stays { Stays self.old self.new }
+    {
+        if let Some(resends) = &mut self.resends {
+            resends.let_through(sent, asks, self.traffic, self.held);
+        }
     }
 }
 
-impl<F: Feed + Drop> Feed for Screen<'_, F> {
-    ghost failures = { λ s. F.failures s.feed };
+/// What is known of resends in a unit of these settings, if they are bounded.
+fn resends_by(
+    alloc: Global,
+    settings: &Settings,
+    bounds: ResendBounds,
+) -> Result<Option<Resends>, AllocError>
+    ensures { IfOk result (λ r. r ≡ resends_by settings.now bounds) }
+{
+    if bounds.gap_ms == 0 && bounds.share == 0 {
+        return Ok(None);
+    }
+    Ok(Some(Resends::new(alloc, settings, bounds)?))
+}
 
-    ghost given = { λ _. None };
+/// The number and timestamp of a packet, if it is of this source.
+fn stamp_in(own: Ssrc, packet: Media) -> Option<Stamp>
+    ensures { result ≡ stamp_in own packet }
+{
+    if packet.ssrc == own {
+        Some(Stamp {
+            seq: packet.parts.sequence_number,
+            timestamp: packet.timestamp,
+        })
+    } else {
+        None
+    }
+}
 
-    fn receive(&mut self, out: &mut [u8]) -> Result<Received, ReceiveFault>
-        ensures within { IfOk result (FitsIn (length out.new)) }
-        ensures given { Grows None (arrival_of out.new result ∷ []) None }
-        ensures ok { OnOk result (F.failures self.new.feed ≡ F.failures self.old.feed) }
-        ensures err { OnErr result (F.failures self.new.feed ≡ F.failures self.old.feed + 1) }
-        ensures waits { self.old.sieve.put_by.waiting ≢ None
-            → self.new.feed ≡ self.old.feed }
-        ensures next { (w : Waiting) → self.old.sieve.put_by.waiting ≡ Some w
-            → GivesWaiting self.old.sieve self.new.sieve (length out.new) w
-            (arrival_of out.new result) }
-        ensures left { self.old.sieve.put_by.waiting ≡ None
-            → GivesWhatIsLeft (F.given self.old.feed) (F.given self.new.feed) self.old.sieve
-            self.new.sieve (length out.new) (arrival_of out.new result) }
-        ensures off { self.old.sieve.put_by.waiting ≡ None
-            → LooksForNothing self.old.sieve.rules → self.old.sieve.bounded ≡ None
-            → Grows (F.given self.old.feed) (arrival_of out.new result ∷ [])
-            (F.given self.new.feed) }
-    {
-        if let Some(waiting) = self.sieve.put_by.waiting {
-            return Ok(self.sieve.give(waiting, out));
-        }
-        match self.feed.receive(out)? {
-            Received::Datagram { endpoint, length } => Ok(self.sieve.sift(endpoint, length, out)),
-            Received::Nothing => Ok(Received::Nothing),
-            Received::Select { leg, on } => Ok(Received::Select { leg, on }),
-            Received::Stop => Ok(Received::Stop),
-        }
+/// What RTCP packets say as it is heard: under this source, unless the rules are strict.
+fn control_heard(rules: Rules, control: Control, clocked: Ssrc) -> Control
+    ensures { result ≡ control_heard rules control clocked }
+{
+    Control {
+        speaker: if rules.strict_ssrc {
+            control.speaker
+        } else {
+            clocked
+        },
+        report: control.report,
+        tmmbns: control.tmmbns,
     }
 }

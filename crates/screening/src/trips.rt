@@ -2,26 +2,30 @@
 
 ghost use Rattle.std.specs.Prelude.{◌≡◌, slice_set};
 
-use crate::nacks::{Asking, leg_asked};
-use senders::first_size;
+use datagram::Ask;
 use settings::Links;
 use traffic::Traffic;
 
-/// Notes the round trip on each leg that a datagram asks of, as it is known by now.
+/// Notes the round trip, as it is known by now, on each leg to the endpoint of which it asks for packets again.
 pub(crate) fn note_trips(
     trips: &mut [Option<u32>],
     links: &Links,
-    who: Asking,
-    datagram: &[u8],
+    endpoint: u16,
+    asks: &[Ask],
     traffic: &Traffic,
 ) {
-    let mut rest = datagram;
-    while !rest.is_empty() {
-        let (packet, behind) = rest.split_at(first_size(rest));
-        if let Some(leg) = leg_asked(links, who, packet) {
+    for ask in asks {
+        if let Some(leg) = leg_asked(links, endpoint, *ask) {
             note_trip(trips, leg, known_trip(traffic, leg));
         }
-        rest = behind;
+    }
+}
+
+/// The leg to the endpoint of which packets are asked for again.
+fn leg_asked(links: &Links, endpoint: u16, ask: Ask) -> Option<u16> {
+    match ask {
+        Ask::Resend { media, .. } => links.leg_to(endpoint, media),
+        Ask::Rate { .. } | Ask::Picture { .. } => None,
     }
 }
 

@@ -1,113 +1,105 @@
-//! A source that goes on, odd packets of it, and a source that begins anew.
+//! A source that goes on, odd packets of it, and a source that begins anew; and under whom reports and feedback are heard.
 
-ghost use Rattle.std.specs.Prelude.{length};
-ghost use Rattle.outside.specs.Outside.{FitsIn};
-
-use outside::{Feed, ReceiveFault, Received};
-use screening::{Rules, Screen};
+use crate::resend_tests::room;
+use datagram::{Reading, Sent, What, read};
+use screening::{Judged, Rules, Screen};
 use std::alloc::{AllocError, Global};
 use std::cell::Cell;
 use std::fmt::Write;
-use std::process::Abort;
 use std::test::Fail;
 use tmmbr_tuple::Ssrc;
+use traffic::Traffic;
 
 /// A datagram of endpoint 1.
 #[derive(Clone, Copy)]
 enum Cue {
-    /// An RTP packet of the source 16 with this number (RFC 3550, section 5.1).
+    /// An RTP packet of the source 17 with this number (RFC 3550, section 5.1).
     Packet(u16),
     /// A sender report, a receiver report and a PLI of the source 0x99.
     OfAnother,
-    /// A receiver report of that source alone.
+    /// A receiver report and a PLI of that source.
+    FeedbackOfAnother,
+    /// The report alone.
     ReportOfAnother,
     /// The same after feedback that is a header alone, with no sender.
     ReportAfterHeader,
 }
 
-/// A source of these datagrams.
-#[derive(Drop)]
-struct Listed<'a> {
-    cues: &'a [Cue],
-}
-
-/// Writes a datagram of endpoint 1 to the front of a buffer, and says what came: nothing if there is no room for it.
-fn give(out: &mut [u8], bytes: &[u8]) -> Received
-    ensures { FitsIn (length out.new) result }
-{
-    let length = bytes.len();
-    if length > out.len() {
-        return Received::Nothing;
-    }
-    out[..length].copy_from_slice(bytes);
-    Received::Datagram {
-        endpoint: 1,
-        length,
-    }
-}
-
-impl Feed for Listed<'_> {
-    ghost use Rattle.std.specs.Prelude.{None};
-
-    ghost failures = { λ _. 0 };
-
-    ghost given = { λ _. None };
-
-    fn receive(&mut self, out: &mut [u8]) -> Result<Received, ReceiveFault> {
-        let [cue, rest @ ..] = self.cues else {
-            return Ok(Received::Nothing);
-        };
-        let cue = *cue;
-        self.cues = rest;
-        Ok(match cue {
-            Cue::Packet(seq) => give(out, &packet(seq)),
-            Cue::OfAnother => give(out, &OF_ANOTHER),
-            Cue::ReportOfAnother => give(out, &[0x80, 0xc9, 0, 1, 0, 0, 0, 0x99]),
-            Cue::ReportAfterHeader => give(out, &AFTER_HEADER),
-        })
-    }
-}
-
 fn packet(seq: u16) -> [u8; 13] {
     let [high, low] = seq.to_be_bytes();
-    [0x80, 0x60, high, low, 0, 0, 0, 0, 0, 0, 0, 16, 0xaa]
+    [0x80, 0x60, high, low, 0, 0, 0, 0, 0, 0, 0, 17, 0xaa]
 }
 
-/// The sources of two endpoints; datagrams come from the second.
-const SOURCES: [Ssrc; 2] = [Ssrc(15), Ssrc(16)];
+/// A sender report of the source 0x99, and a receiver report and a PLI of it behind that.
+const OF_ANOTHER: [u8; 48] = [
+    0x80, 0xc8, 0, 6, 0, 0, 0, 0x99, 0, 0, 0, 1, 0, 0, 0, 2, 0, 0, 0, 3, 0, 0, 0, 4, 0, 0, 0, 5,
+    0x80, 0xc9, 0, 1, 0, 0, 0, 0x99, 0x81, 0xce, 0, 2, 0, 0, 0, 0x99, 0, 0, 1, 1,
+];
 
-/// Bytes in hexadecimal digits.
-fn hex_of(alloc: Global, bytes: &[u8]) -> Result<String, AllocError> {
-    let mut text = String::new(alloc);
-    for byte in bytes {
-        write!(text, "{byte:02x}")?;
-    }
-    Ok(text)
-}
+/// A header of feedback with no words after it, and a receiver report of the source 0x99.
+const AFTER_HEADER: [u8; 12] = [0x81, 0xce, 0, 0, 0x80, 0xc9, 0, 1, 0, 0, 0, 0x99];
 
-/// What the next receive gives of endpoint 1, in hexadecimal digits; nothing if it gives nothing.
-fn given(alloc: Global, screen: &mut Screen<'_, Listed<'_>>) -> Result<String, Fail> {
-    let mut buffer = [0; 64];
-    match screen.receive(&mut buffer)? {
-        Received::Datagram {
-            endpoint: 1,
-            length,
-        } => Ok(hex_of(alloc, &buffer[..length])?),
-        _ => Ok(String::new(alloc)),
+/// Reads a datagram of the source 17.
+fn read_cue(cue: Cue, reading: &mut Reading) -> Result<(), AllocError> {
+    let own = Ssrc(17);
+    match cue {
+        Cue::Packet(seq) => read(&packet(seq), own, None, reading),
+        Cue::OfAnother => read(&OF_ANOTHER, own, None, reading),
+        Cue::FeedbackOfAnother => read(&OF_ANOTHER[28..], own, None, reading),
+        Cue::ReportOfAnother => read(&OF_ANOTHER[28..36], own, None, reading),
+        Cue::ReportAfterHeader => read(&AFTER_HEADER, own, None, reading),
     }
 }
 
-/// The next receives give these.
-fn gives(
-    rt: &impl Abort,
-    alloc: Global,
-    screen: &mut Screen<'_, Listed<'_>>,
-    wanted: &[&str],
-) -> Result<(), Fail> {
-    for digits in wanted {
-        assert_eq!(rt; given(alloc, screen)?.as_str(), *digits);
+/// What becomes of it, in a word.
+fn word_of(judged: Judged) -> &'static str {
+    match judged {
+        Judged::Take => "take",
+        Judged::PutBy => "put by",
+        Judged::Anew => "anew",
+    }
+}
+
+/// Appends what was made of a datagram: who speaks, or what becomes of it.
+fn push_judged(text: &mut String, judged: Judged, what: What) -> Result<(), AllocError> {
+    match what {
+        What::Control(control) => write!(text, "{:x}, ", control.speaker.0)?,
+        What::Refused(_) => text.push_str("refused, ")?,
+        _ => write!(text, "{}, ", word_of(judged))?,
     }
     Ok(())
+}
+
+/// What is made of these, one after the other.
+fn push_all(
+    text: &mut String,
+    screen: &mut Screen<'_>,
+    reading: &mut Reading,
+    cues: &[Cue],
+) -> Result<(), AllocError> {
+    let sent = Sent {
+        moment: 0,
+        endpoint: 1,
+        own: Ssrc(17),
+    };
+    for cue in cues {
+        read_cue(*cue, reading)?;
+        let judged = screen.judge(sent, reading);
+        push_judged(text, judged, reading.what)?;
+    }
+    Ok(())
+}
+
+/// The same by these rules, and how many packets were far.
+fn judged(alloc: Global, rules: Rules, cues: &[Cue]) -> Result<String, Fail> {
+    let settings = room(alloc)?;
+    let traffic = Traffic::new(alloc, &settings)?;
+    let (far, held) = (Cell::new(0), Cell::new(0));
+    let mut screen = Screen::new(alloc, &settings, rules, &traffic, &far, &held)?;
+    let mut text = String::new(alloc);
+    push_all(&mut text, &mut screen, &mut Reading::new(alloc), cues)?;
+    write!(text, "{} far", far.get())?;
+    Ok(text)
 }
 
 /// An odd packet after two that follow each other, and a source that begins anew.
@@ -121,83 +113,41 @@ const ODD: [Cue; 7] = [
     Cue::Packet(40_002),
 ];
 
-/// Two packets, nothing, a packet, and nothing.
-const BEFORE: [&str; 5] = [
-    "806000070000000000000010aa",
-    "806000080000000000000010aa",
-    "",
-    "806000090000000000000010aa",
-    "",
-];
-
-/// A goodbye of the source 16 (RFC 3550, section 6.6), three packets, and nothing.
-const BEHIND: [&str; 5] = [
-    "81cb000100000010",
-    "80609c400000000000000010aa",
-    "80609c410000000000000010aa",
-    "80609c420000000000000010aa",
-    "",
-];
-
-/// An odd packet is left out, and the goodbye of a source that begins anew is given before its first packet, once the second one came.
+/// An odd packet is put by, and so is the first one of a source that begins anew, which is known with the second.
 #[test]
-fn goodbye_before_a_new_start(rt: HostRuntime) -> Result<(), Fail> {
-    let alloc = rt.alloc();
-    let far = Cell::new(0);
+fn starts_of_a_source(rt: HostRuntime) -> Result<(), Fail> {
     let rules = Rules {
         new_starts: true,
         ..Rules::none()
     };
-    let mut screen = Screen::new(alloc, Listed { cues: &ODD }, &SOURCES, rules, &far)?;
-    gives(&rt, alloc, &mut screen, &BEFORE)?;
-    assert_eq!(rt; far.get(), 2);
-    gives(&rt, alloc, &mut screen, &BEHIND)
+    let text = judged(rt.alloc(), rules, &ODD)?;
+    assert_eq!(rt; text.as_str(), "take, take, put by, take, put by, anew, take, 2 far");
+    Ok(())
 }
 
-/// A receiver report and a PLI of the source 0x99, and a sender report of it before them.
-const OF_ANOTHER: [u8; 48] = [
-    0x80, 0xc8, 0, 6, 0, 0, 0, 0x99, 0, 0, 0, 1, 0, 0, 0, 2, 0, 0, 0, 3, 0, 0, 0, 4, 0, 0, 0, 5,
-    0x80, 0xc9, 0, 1, 0, 0, 0, 0x99, 0x81, 0xce, 0, 2, 0, 0, 0, 0x99, 0, 0, 1, 1,
+const ANOTHER: [Cue; 4] = [
+    Cue::OfAnother,
+    Cue::FeedbackOfAnother,
+    Cue::ReportOfAnother,
+    Cue::ReportAfterHeader,
 ];
 
-/// A header of feedback with no words after it, and a receiver report of the source 0x99.
-const AFTER_HEADER: [u8; 12] = [0x81, 0xce, 0, 0, 0x80, 0xc9, 0, 1, 0, 0, 0, 0x99];
-
-/// Feedback of another source is given so, with rules about sources that are strict or not.
-fn gives_feedback(
-    rt: &impl Abort,
-    alloc: Global,
-    strict_ssrc: bool,
-    wanted: &[&str],
-) -> Result<(), Fail> {
-    let cues = [Cue::OfAnother, Cue::ReportOfAnother, Cue::ReportAfterHeader];
-    let far = Cell::new(0);
+/// By rules about sources that are strict or not.
+fn speakers(alloc: Global, strict_ssrc: bool) -> Result<String, Fail> {
     let rules = Rules {
         strict_ssrc,
         ..Rules::none()
     };
-    let mut screen = Screen::new(alloc, Listed { cues: &cues }, &SOURCES, rules, &far)?;
-    gives(rt, alloc, &mut screen, wanted)
+    judged(alloc, rules, &ANOTHER)
 }
 
-/// As they came.
-const AS_THEY_CAME: [&str; 3] = [
-    "80c8000600000099000000010000000200000003000000040000000580c900010000009981ce00020000009900000101",
-    "80c9000100000099",
-    "81ce000080c9000100000099",
-];
-
-/// The receiver reports and the PLI under source 16.
-const UNDER_16: [&str; 3] = [
-    "80c8000600000099000000010000000200000003000000040000000580c900010000001081ce00020000001000000101",
-    "80c9000100000010",
-    "81ce000080c9000100000010",
-];
-
 /// Feedback under a source that a client made up is the endpoint's, unless the rules are strict; what a sender report says is its own.
-/// So is a report of eight bytes that comes alone, or after a header that names no sender.
+/// So is a report of eight bytes that comes alone; a header of feedback that names no sender is refused.
 #[test]
 fn feedback_under_another_source(rt: HostRuntime) -> Result<(), Fail> {
-    gives_feedback(&rt, rt.alloc(), true, &AS_THEY_CAME)?;
-    gives_feedback(&rt, rt.alloc(), false, &UNDER_16)
+    let strict = speakers(rt.alloc(), true)?;
+    assert_eq!(rt; strict.as_str(), "99, 99, 99, refused, 0 far");
+    let free = speakers(rt.alloc(), false)?;
+    assert_eq!(rt; free.as_str(), "99, 11, 11, refused, 0 far");
+    Ok(())
 }

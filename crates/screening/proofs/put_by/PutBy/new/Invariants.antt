@@ -1,8 +1,7 @@
-use Rattle.std.proofs.Common.{◌≡◌, ℕ, [], length}
-use Rattle.std.specs.Prelude.{slice_get}
-use Rattle.screening.specs.PutBy.{bytes_at}
+use Rattle.std.proofs.Common.{◌≡◌, []}
+use Rattle.std.specs.Prelude.{replicate}
+use Rattle.screening.specs.PutBy.{packets_of}
 use Rattle.screening.proofs.put_by.PutBy.new.Given as goal
 
 abbrev pub invariant-loop-endpoint : goal.invariant-loop-endpoint
-invariant-loop-endpoint l =
-    (length l.odd.items ≡ l._endpoint) × ((k : ℕ) → bytes_at (slice_get l.odd.items k) ≡ [])
+invariant-loop-endpoint l = packets_of l.odd.items ≡ replicate l._endpoint []
