@@ -1,5 +1,4 @@
-pub mod HeldLemmas
-pub mod HoldingLemmas
-pub mod KeeperLemmas
+pub mod ComingLemmas
+pub mod HearingLemmas
 pub mod RequestLemmas
 pub mod SetLemmas

@@ -1,41 +1,34 @@
--- Publishers that came, and from when on what is held for their legs is heard again.
-use Rattle.std.specs.Prelude.{ℕ, ◌-◌, ◌==◌, nat_eq, nat_le, not, Bool, false, List, [], ◌∷◌, ◌++◌, filter, Option, None, Some, if◌then◌else◌}
+-- Publishers that came, and how far what is held for their legs was heard again.
+use Rattle.std.specs.Prelude.{ℕ, ◌+◌, nat_eq, Bool, true, false, List, [], ◌∷◌, Option, None, Some, if◌then◌else◌}
 use Rattle.repeats.specs.declared.comings.Coming.{Coming}
+use Rattle.repeats.specs.declared.comings.Coming.TheVariants.{Over, Waits, Due}
 
--- How long it waits: if requests grow too old, until the next tick, which tells the desk of who came the moment.
-abbrev pub wait_by : ℕ → ℕ → ℕ
-wait_by request_ms tick_ms = if nat_eq request_ms 0 then 0 else tick_ms
+-- how a publisher comes: if requests grow too old it waits for a tick, which tells the desk of who came the moment
+abbrev pub first_coming : ℕ → Coming
+first_coming request_ms = if nat_eq request_ms 0 then Due 0 else Waits
 
--- ---- each once, the latest last
+-- once a tick was made
+abbrev pub ticked_in : Coming → Coming
+ticked_in Over = Over
+ticked_in Waits = Due 0
+ticked_in (Due from) = Due from
 
--- once all legs of this publisher were looked at
-abbrev pub without : ℕ → List Coming → List Coming
-without publisher = filter (λ c. not (c.publisher == publisher))
+-- from which place on the legs of who is due are looked at
+abbrev pub due_from : Coming → Option ℕ
+due_from Over = None
+due_from Waits = None
+due_from (Due from) = Some from
 
--- once this publisher comes
-abbrev pub with_comer : ℕ → List Coming → List Coming
-with_comer publisher cs =
-    without publisher cs ++ record { publisher = publisher; from = 0; since = None } ∷ []
+abbrev pub is_due : Coming → Bool
+is_due Over = false
+is_due Waits = false
+is_due (Due from) = true
 
--- ---- who has waited long enough
+abbrev pub or_later : ℕ → Option ℕ → Option (ℕ × ℕ) → Option (ℕ × ℕ)
+or_later number None later = later
+or_later number (Some from) later = Some (number, from)
 
--- the last turn was at this moment, and who came in it since then
-abbrev pub noted : ℕ → Option ℕ → Option ℕ
-noted moment None = Some moment
-noted moment (Some since) = Some since
-
-abbrev pub noted_in : ℕ → Coming → Coming
-noted_in moment c = record c { since = noted moment c.since }
-
-abbrev pub is_due : ℕ → ℕ → Option ℕ → Bool
-is_due wait_ms moment None = false
-is_due wait_ms moment (Some since) = nat_le wait_ms (moment - since)
-
--- the first who has
-abbrev pub first_due : ℕ → ℕ → List Coming → Option Coming
-first_due wait_ms moment [] = None
-first_due wait_ms moment (c ∷ cs) = if is_due wait_ms moment c.since then Some c else first_due wait_ms moment cs
-
--- the legs of this publisher are looked at from this place on
-abbrev pub looked_from : ℕ → ℕ → Coming → Coming
-looked_from publisher from c = if c.publisher == publisher then record c { from = from } else c
+-- the first that is due, of publishers of which the first has number n, and from which place on its legs are looked at
+abbrev pub first_due : ℕ → List Coming → Option (ℕ × ℕ)
+first_due n [] = None
+first_due n (coming ∷ comings) = or_later n (due_from coming) (first_due (n + 1) comings)

@@ -1,70 +1,117 @@
--- What is given of what a feed gave, while what subscribers ask for is held.
-use Rattle.std.specs.Prelude.{◌≡◌, ℕ, List, [], ◌∷◌, length, map, replicate, Option, None, Some}
-use Rattle.settings.specs.Links.{table_of}
+-- What is held of a unit's legs after what was heard, and what is heard once more (RFC 5104, section 4.2.1).
+use Rattle.std.specs.Prelude.{◌≡◌, ℕ, ◌+◌, List, length, filter, fold, map, replicate, Option, None, Some, slice_set, if◌then◌else◌}
+use Rattle.settings.specs.Links.{legs_of}
 use Rattle.settings.specs.Settings.{Configuration}
-use Rattle.outside.specs.Outside.{Arrival, came, chosen, stop, silence, failure, Grows}
-use Rattle.repeats.specs.Comings.{wait_by}
-use Rattle.repeats.specs.Requests.{unasked}
-use Rattle.repeats.specs.Keeper.{HearsAgain, HearsDatagram}
-use Rattle.repeats.specs.declared.keeper.Keeper.{Keeper}
+use Rattle.members.specs.declared.view.RoomView.{RoomView}
+use Rattle.datagram.specs.declared.reading.Ask.{Ask}
+use Rattle.datagram.specs.declared.reading.Sent.{Sent}
+use Rattle.repeats.specs.Again.{HoldTerms, next_again}
+use Rattle.repeats.specs.Asking.{Asking, is_left}
+use Rattle.repeats.specs.Comings.{first_coming, first_due, ticked_in}
+use Rattle.repeats.specs.Presence.{is_there}
+use Rattle.repeats.specs.Requests.{ask_in, place_without, unasked}
+use Rattle.repeats.specs.declared.again.Again.{Again}
+use Rattle.repeats.specs.declared.comings.Coming.{Coming}
+use Rattle.repeats.specs.declared.comings.Coming.TheVariants.{Over, Due}
+use Rattle.repeats.specs.declared.holding.Holding.{Holding}
+use Rattle.repeats.specs.declared.requests.LegRequest.{LegRequest}
+use Rattle.repeats.specs.declared.word.Word.{Word}
+use Rattle.repeats.specs.declared.word.Word.TheVariants.{Nothing, Speaks, Leaves}
 
--- Nobody is there yet in a unit of these settings and ticks, nothing is held, and nobody came.
-pub record HoldsNothing (c : Configuration) (tick_ms : ℕ) (h : Keeper) : Type 0 where
-  pub table : h.links ≡ table_of c
-  pub nobody : h.presence ≡ record { heard = replicate (length c.endpoints) None; timeout_ms = c.timeout_ms }
+-- Nothing is held in a unit of these settings, and nobody came.
+pub record HoldsNothing (c : Configuration) (h : Holding) : Type 0 where
   pub nothing : h.requests ≡ map unasked c.legs
+  pub nobody : h.comings ≡ replicate (length c.endpoints) Over
   pub age : h.request_ms ≡ c.request_ms
-  pub nobody_came : h.comings.list.items ≡ []
-  pub wait : h.comings.wait_ms ≡ wait_by c.request_ms tick_ms
 
--- ---- if anything is held
+-- when requests are given up, and where sets are looked up, stays
+pub record Stays (h k : Holding) : Type 0 where
+  pub age : k.request_ms ≡ h.request_ms
+  pub sets : k.sets ≡ h.sets
 
--- what is to be heard once more
-abbrev pub LooksAgain : Option Keeper → Option Keeper → ℕ → Option (ℕ × List ℕ) → Type 0
-LooksAgain None after room again = (after ≡ None) × (again ≡ None)
-LooksAgain (Some h) None room again = ⊥
-LooksAgain (Some h) (Some k) room again = HearsAgain h k room again
+-- ---- what is said of who sent a datagram
 
--- what of a datagram of an endpoint is given on; if nothing is held, all
-abbrev pub HearsIf : Option Keeper → Option Keeper → ℕ → List ℕ → List ℕ → Type 0
-HearsIf None after endpoint datagram given = (after ≡ None) × (given ≡ datagram)
-HearsIf (Some h) None endpoint datagram given = ⊥
-HearsIf (Some h) (Some k) endpoint datagram given = HearsDatagram h k endpoint datagram given
+-- who sent it, into a room that is so
+abbrev pub asking_of : RoomView → Sent → Asking
+asking_of view sent = record {
+  table = view.links.now;
+  room = view.room.now;
+  endpoint = sent.endpoint;
+  moment = sent.moment;
+}
 
--- ---- what is given for what a feed gave
+-- nobody came or left, and nothing was asked for
+pub record IsAsItWas (h k : Holding) : Type 0 where
+  pub requests : k.requests ≡ h.requests
+  pub comings : k.comings ≡ h.comings
 
--- it is given, and nothing is known but what was
-abbrev pub IsGivenAsIs : Option Keeper → Option Keeper → Arrival → Arrival → Type 0
-IsGivenAsIs before after arrival given = (given ≡ arrival) × (after ≡ before)
+-- it said goodbye: what it asked for is forgotten, and it isn't one that came
+pub record HasLeft (h k : Holding) (endpoint : ℕ) : Type 0 where
+  pub requests : k.requests ≡ map (place_without endpoint) h.requests
+  pub comings : k.comings ≡ slice_set h.comings endpoint Over
 
--- a datagram is heard, and this of it given on
-pub record HearsAndGives (before after : Option Keeper) (endpoint : ℕ) (datagram : List ℕ) (given : Arrival) : Type 0 where
-  pub bytes : List ℕ
-  pub heard : HearsIf before after endpoint datagram bytes
-  pub is_given : given ≡ came endpoint bytes
+-- if it wasn't there it comes, and what it asked for before is forgotten
+abbrev pub requests_as_comes : Asking → List LegRequest → List LegRequest
+requests_as_comes a requests =
+    if is_there a.room a.endpoint a.moment then requests
+    else map (place_without a.endpoint) requests
 
-abbrev pub IsGivenFor : Option Keeper → Option Keeper → Arrival → Arrival → Type 0
-IsGivenFor before after (came endpoint bytes) given = HearsAndGives before after endpoint bytes given
-IsGivenFor before after (chosen leg on) given = IsGivenAsIs before after (chosen leg on) given
-IsGivenFor before after stop given = IsGivenAsIs before after stop given
-IsGivenFor before after silence given = IsGivenAsIs before after silence given
-IsGivenFor before after failure given = IsGivenAsIs before after failure given
+-- and it is noted as one that came
+abbrev pub comings_as_comes : Asking → ℕ → List Coming → List Coming
+comings_as_comes a request_ms comings =
+    if is_there a.room a.endpoint a.moment then comings
+    else slice_set comings a.endpoint (first_coming request_ms)
 
--- The feed was asked once, and this is given for what it gave.
-pub record GivesForOne (old new : Option (List Arrival)) (before after : Option Keeper) (given : Arrival) : Type 0 where
-  pub arrival : Arrival
-  pub asked : Grows old (arrival ∷ []) new
-  pub for_it : IsGivenFor before after arrival given
+-- it is there, and asked for this
+pub record IsThere (h k : Holding) (a : Asking) (asks : List Ask) : Type 0 where
+  pub requests : k.requests
+      ≡ fold (ask_in a.table a.endpoint a.moment) (requests_as_comes a h.requests) asks
+  pub comings : k.comings ≡ comings_as_comes a h.request_ms h.comings
 
--- what is to be heard once more; else what the feed gives
-abbrev pub GivesFirst : Option (ℕ × List ℕ) → Option (List Arrival) → Option (List Arrival) → Option Keeper → Option Keeper → Arrival → Type 0
-GivesFirst None old new before after given = GivesForOne old new before after given
-GivesFirst (Some again) old new before after given =
-    (given ≡ came again.0 again.1) × (after ≡ before) × (new ≡ old)
+-- This is heard of who sent a datagram, with what it asks for.
+abbrev pub HearsWord : Word → Holding → Holding → Asking → List Ask → Type 0
+HearsWord Nothing h k a asks = IsAsItWas h k
+HearsWord Leaves h k a asks = HasLeft h k a.endpoint
+HearsWord (Speaks notifies) h k a asks = IsThere h k a asks
 
--- What is to be heard once more is looked for, and given.
-pub record GivesHeld (old new : Option (List Arrival)) (before after : Option Keeper) (room : ℕ) (given : Arrival) : Type 0 where
-  pub mid : Option Keeper
-  pub again : Option (ℕ × List ℕ)
-  pub looked : LooksAgain before mid room again
-  pub gives : GivesFirst again old new mid after given
+-- what of what it asks for is left
+abbrev pub asks_left : Word → Asking → List Ask → List Ask
+asks_left Nothing a asks = asks
+asks_left Leaves a asks = asks
+asks_left (Speaks notifies) a asks = filter (is_left a) asks
+
+-- ---- what is heard once more
+
+-- A tick was made.
+pub record Ticks (h k : Holding) : Type 0 where
+  pub stays : Stays h k
+  pub requests : k.requests ≡ h.requests
+  pub comings : k.comings ≡ map ticked_in h.comings
+
+abbrev pub hold_terms : List LegRequest → ℕ → RoomView → ℕ → HoldTerms
+hold_terms requests request_ms view moment = record {
+  requests = requests;
+  table = view.links.now;
+  room = view.room.now;
+  request_ms = request_ms;
+  moment = moment;
+}
+
+-- of this publisher the leg that was found, after which its legs are looked at next; if none was, it is done with
+abbrev pub HearsNext : Option (ℕ × Again) → List Coming → List Coming → ℕ → Option Again → Type 0
+HearsNext None before after publisher again =
+    (again ≡ None) × (after ≡ slice_set before publisher Over)
+HearsNext (Some next) before after publisher again =
+    (again ≡ Some next.1) × (after ≡ slice_set before publisher (Due (next.0 + 1)))
+
+-- of the first publisher that is due
+abbrev pub HearsDue : Option (ℕ × ℕ) → HoldTerms → List Coming → List Coming → Option Again → Type 0
+HearsDue None t before after again = (again ≡ None) × (after ≡ before)
+HearsDue (Some due) t before after again =
+    HearsNext (next_again t due.1 0 (legs_of t.table due.0)) before after due.0 again
+
+-- What is heard once more, if anything is.
+pub record HearsAgain (h k : Holding) (t : HoldTerms) (again : Option Again) : Type 0 where
+  pub stays : Stays h k
+  pub requests : k.requests ≡ h.requests
+  pub hears : HearsDue (first_due 0 h.comings) t h.comings k.comings again

@@ -1,9 +1,9 @@
 pub mod Again
+pub mod Asking
 pub mod Comings
-pub mod Held
 pub mod Holding
-pub mod Keeper
 pub mod Presence
 pub mod Requests
 pub mod Sets
 pub mod Told
+pub mod Word

@@ -1,22 +1,31 @@
 //! What is heard once more as a publisher comes.
 
-ghost use Rattle.std.specs.Prelude.{◌≡◌, ◌&&◌, ◌∷◌, [], IfSome, ◌<◌, length, is_some, nat_le};
-ghost use Rattle.rtcp_feedback.specs.Writing.{packet_bytes, tmmb_body};
-ghost use Rattle.repeats.specs.Again.{held_in, is_young, next_held, still_held, terms};
+ghost use Rattle.std.specs.Prelude.{◌≡◌, ◌<◌, IfSome, length};
+ghost use Rattle.repeats.specs.Again.{asked_again, again_from, held_in, is_young, next_again, still_held, terms};
 
-use crate::entries::{REQUEST_BYTES, TMMBR};
-use crate::presence::Presence;
+use crate::presence::is_there;
 use crate::requests::{HeldRequest, LegRequest, Requests};
-use byteorder::{BigEndian, ByteOrder};
-use rtcp_compound::{RTPFB, SOURCE_BYTES, WORD_BYTES};
-use rtcp_feedback::FRONT_BYTES;
+use members::RoomView;
 use tmmbr_tuple::Ssrc;
+
+/// A request for a greatest rate that is heard once more (RFC 5104, section 4.2.1).
+#[derive(Clone, Copy, PartialEq, Eq)]
+pub struct Again {
+    /// The number of the endpoint that asks.
+    pub endpoint: u16,
+    /// Its source.
+    pub speaker: Ssrc,
+    /// The source of which it asks.
+    pub media: Ssrc,
+    /// What it asks for (RFC 5104, section 4.2.1.1).
+    pub word: u32,
+}
 
 /// What is held by now, and who is there.
 #[derive(Clone, Copy)]
 pub(crate) struct Holdings<'a> {
     pub(crate) requests: &'a Requests,
-    pub(crate) presence: &'a Presence,
+    pub(crate) view: RoomView<'a>,
     /// The age at which a request is given up, in milliseconds; 0 if it never is.
     pub(crate) request_ms: u64,
     /// The moment, in milliseconds.
@@ -24,7 +33,7 @@ pub(crate) struct Holdings<'a> {
 }
 
 /// What is held for a leg, if its subscriber is there and it isn't too old.
-pub(crate) fn held_on(holdings: Holdings<'_>, leg: u16) -> Option<HeldRequest>
+fn held_on(holdings: Holdings<'_>, leg: u16) -> Option<HeldRequest>
     ensures { result ≡ still_held (terms holdings.entry) leg }
 {
     match holdings.requests.at(leg) {
@@ -37,11 +46,7 @@ fn held_in(holdings: Holdings<'_>, place: LegRequest) -> Option<HeldRequest>
     ensures { result ≡ held_in (terms holdings.entry) place }
 {
     let request = place.request?;
-    if is_young(holdings, request)
-        && holdings
-            .presence
-            .is_there(place.subscriber, holdings.moment)
-    {
+    if is_young(holdings, request) && is_there(holdings.view, place.subscriber, holdings.moment) {
         Some(request)
     } else {
         None
@@ -56,37 +61,44 @@ fn is_young(holdings: Holdings<'_>, request: HeldRequest) -> bool
     holdings.request_ms == 0 || age < holdings.request_ms
 }
 
-/// Of these legs, which are given by their numbers, the place of the first from this one on for which a request is held.
-pub(crate) fn next_held(holdings: Holdings<'_>, legs: &[u16], from: usize) -> Option<usize>
-    ensures found { result ≡ next_held (terms holdings.entry) from 0 legs.now }
-    ensures within { IfSome result (λ place. place < length legs.now) }
+/// What is held for a leg, as its subscriber asks for it.
+fn asked_again(holdings: Holdings<'_>, number: u16) -> Option<Again>
+    ensures { result ≡ asked_again (terms holdings.entry) number }
+{
+    let request = held_on(holdings, number)?;
+    let leg = holdings.view.links.leg(number).copied()?;
+    let speaker = holdings.view.links.ssrc_of(leg.subscriber)?;
+    Some(Again {
+        endpoint: leg.subscriber,
+        speaker,
+        media: leg.out_ssrc,
+        word: request.word,
+    })
+}
+
+/// The same, if the leg's place is looked at from `from` on.
+fn again_from(holdings: Holdings<'_>, leg: u16, place: usize, from: usize) -> Option<Again>
+    ensures { result ≡ again_from (terms holdings.entry) from place leg }
+{
+    if place < from {
+        return None;
+    }
+    asked_again(holdings, leg)
+}
+
+/// Of these legs, which are given by their numbers, the first from this place on for which a request is held: its place, and what is asked for.
+pub(crate) fn next_again(
+    holdings: Holdings<'_>,
+    legs: &[u16],
+    from: usize,
+) -> Option<(usize, Again)>
+    ensures found { result ≡ next_again (terms holdings.entry) from 0 legs.now }
+    ensures within { IfSome result (λ next. next.0 < length legs.now) }
 {
     for (place, leg) in legs.iter().enumerate() {
-        if has_turn(holdings, *leg, place, from) {
-            return Some(place);
+        if let Some(again) = again_from(holdings, *leg, place, from) {
+            return Some((place, again));
         }
     }
     None
-}
-
-/// Whether a leg at this place is looked at from `from` on, and a request is held for it.
-fn has_turn(holdings: Holdings<'_>, leg: u16, place: usize, from: usize) -> bool
-    ensures { result ≡ (nat_le from place && is_some (still_held (terms holdings.entry) leg)) }
-{
-    from <= place && held_on(holdings, leg).is_some()
-}
-
-/// The TMMBR by which the subscriber with this source asks the publisher of the leg with that source for this word
-/// (RFC 5104, section 4.2.1).
-pub(crate) fn request_again(subscriber: Ssrc, leg: Ssrc, word: u32) -> [u8; REQUEST_BYTES]
-    ensures { result
-        ≡ packet_bytes 3 205 (tmmb_body subscriber.0 (record { ssrc = leg; word = word } ∷ [])) }
-{
-    let mut request = [
-        TMMBR, RTPFB, 0, 4, 0, 0, 0, 0, 0, 0, 0, 0, 0, 0, 0, 0, 0, 0, 0, 0,
-    ];
-    BigEndian::write_u32(&mut request[WORD_BYTES..], subscriber.0);
-    BigEndian::write_u32(&mut request[FRONT_BYTES..], leg.0);
-    BigEndian::write_u32(&mut request[FRONT_BYTES + SOURCE_BYTES..], word);
-    request
 }

@@ -1,147 +1,175 @@
-//! Publishers that came, and from when on what is held for their legs is heard again.
+//! Publishers that came, and how far what is held for their legs was heard again.
 
-ghost use Rattle.std.specs.Prelude.{◌≡◌, map};
-ghost use Rattle.repeats.specs.Comings.{first_due, looked_from, noted_in, wait_by};
+ghost use Rattle.std.specs.Prelude.{◌≡◌, ◌≤◌, ◌^◌, length, map};
+ghost use Rattle.std.specs.List.{list_any};
+ghost use Rattle.repeats.specs.Comings.{first_coming, first_due, is_due, ticked_in};
 
 use std::alloc::{AllocError, Global};
+use std::marker::Model;
 
-/// A publisher that came.
+/// What of a publisher's legs is heard again.
 #[derive(Clone, Copy)]
-pub(crate) struct Coming {
-    pub(crate) publisher: u16,
-    /// The place among its legs from which on they weren't looked at yet.
-    pub(crate) from: usize,
-    /// The moment of the turn in which it came; `None` until that is over.
-    pub(crate) since: Option<u64>,
+pub(crate) enum Coming {
+    /// Nothing: it didn't come, or left, or all of them were looked at.
+    Over,
+    /// Nothing until a tick is made, after which it is due.
+    Waits,
+    /// What is held for them, from this place among them on.
+    Due { from: usize },
 }
 
-/// Publishers that came, each once, the latest last.
-#[derive(Drop)]
-pub(crate) struct Comings {
-    list: Vec<Coming>,
-    /// How long what is held for a publisher's legs waits after it came, in milliseconds.
-    wait_ms: u64,
-}
-
-/// How long what is held waits, if requests of this age are given up and the moment rises so far from one tick to the next: a desk
-/// counts the age of a request from the last moment that it was told, and a tick tells it of who is present.
-pub(crate) fn wait_by(request_ms: u64, tick_ms: u64) -> u64
-    ensures { result ≡ wait_by request_ms tick_ms }
+/// How a publisher comes. If requests of this age are given up it waits for a tick: a desk counts the age of a request from the last moment that
+/// it was told, and a tick tells it of who is present.
+pub(crate) fn first_coming(request_ms: u64) -> Coming
+    ensures { result ≡ first_coming request_ms }
 {
-    if request_ms == 0 { 0 } else { tick_ms }
+    if request_ms == 0 {
+        Coming::Due { from: 0 }
+    } else {
+        Coming::Waits
+    }
 }
 
 impl Coming {
     ghost use Rattle.std.specs.Prelude.{◌≡◌};
-    ghost use Rattle.repeats.specs.Comings.{is_due, noted_in};
+    ghost use Rattle.repeats.specs.Comings.{due_from, is_due, ticked_in};
 
-    /// Notes that the last turn was at this moment.
-    fn note(&mut self, moment: u64)
-        ensures { self.new ≡ noted_in moment self.old }
+    fn is_due(&self) -> bool
+        ensures { result ≡ is_due self.now }
     {
-        if self.since.is_none() {
-            self.since = Some(moment);
+        match self {
+            Coming::Due { .. } => true,
+            Coming::Over | Coming::Waits => false,
         }
     }
 
-    /// Whether it has waited so long at this moment.
-    fn is_due(&self, wait_ms: u64, moment: u64) -> bool
-        ensures { result ≡ is_due wait_ms moment self.now.since }
+    /// From which place on its legs are looked at, if it is due.
+    fn due_from(&self) -> Option<usize>
+        ensures { result ≡ due_from self.now }
     {
-        match self.since {
-            Some(since) => wait_ms <= moment.saturating_sub(since),
-            None => false,
+        match self {
+            Coming::Due { from } => Some(*from),
+            Coming::Over | Coming::Waits => None,
         }
     }
+
+    /// A tick was made.
+    fn ticked(self) -> Coming
+        ensures { result ≡ ticked_in self }
+    {
+        match self {
+            Coming::Waits => Coming::Due { from: 0 },
+            Coming::Over | Coming::Due { .. } => self,
+        }
+    }
+}
+
+/// Which publishers came, by their numbers.
+#[derive(Drop)]
+pub(crate) struct Comings {
+    list: Vec<Coming>,
+    /// Whether any is due.
+    is_waiting: bool,
+}
+
+impl Model for Comings {
+    ghost use Rattle.std.specs.Prelude.{◌≡◌, ◌≤◌, ◌^◌, List, length};
+    ghost use Rattle.std.specs.List.{list_any};
+    ghost use Rattle.repeats.specs.Comings.{is_due};
+    ghost use Rattle.repeats.specs.declared.comings.Coming.{Coming as Comer};
+
+    ghost Value = { List Comer };
+
+    ghost view = { λ c. c.list.items };
+
+    ghost invariant = { λ c. (c.is_waiting ≡ list_any is_due c.list.items)
+        × (length c.list.items ≤ 2 ^ 16) };
 }
 
 impl Comings {
-    ghost use Rattle.std.specs.Prelude.{◌≡◌, [], None, map, IfOk, OnOk, OnErr};
-    ghost use Rattle.repeats.specs.Comings.{first_due, looked_from, noted_in, with_comer, without};
+    ghost use Rattle.std.specs.Prelude.{◌≡◌, ◌≤◌, ◌^◌, false, None, IfOk, map, replicate, slice_set};
+    ghost use Rattle.std.specs.List.{list_any};
+    ghost use Rattle.repeats.specs.Comings.{first_due, is_due, ticked_in};
 
     /// None of so many endpoints came.
-    pub(crate) fn new(alloc: Global, endpoints: usize, wait_ms: u64) -> Result<Comings, AllocError>
-        ensures nobody { IfOk result (λ comings. comings.list.items ≡ []) }
-        ensures wait { IfOk result (λ comings. comings.wait_ms ≡ wait_ms) }
+    pub(crate) fn new(alloc: Global, endpoints: usize) -> Result<Comings, AllocError>
+        requires { endpoints ≤ 2 ^ 16 }
+        ensures { IfOk result (λ c. c ≡ replicate endpoints Coming.Over) }
     {
-        Ok(Comings {
-            list: Vec::with_capacity(alloc, endpoints)?,
-            wait_ms,
-        })
+        let list = vec![in alloc; Coming::Over; endpoints]?;
+        let is_waiting = any_due(list.as_slice());
+        Ok(Comings { list, is_waiting })
     }
 
-    /// A publisher comes in the turn that begins.
-    pub(crate) fn add(&mut self, publisher: u16) -> Result<(), AllocError>
-        ensures ok { OnOk result (self.new.list.items ≡ with_comer publisher self.old.list.items) }
-        ensures err { OnErr result (self.new.list.items ≡ without publisher self.old.list.items) }
-        ensures wait { self.new.wait_ms ≡ self.old.wait_ms }
+    /// Whether any is due.
+    pub(crate) fn is_waiting(&self) -> bool
+        ensures { result ≡ list_any is_due self.now }
     {
-        self.end(publisher);
-        self.list.push(Coming {
-            publisher,
-            from: 0,
-            since: None,
-        })?;
-        Ok(())
+        self.is_waiting
     }
 
-    /// The first who has waited long enough, if the last turn was at this moment.
-    pub(crate) fn due(&mut self, moment: u64) -> Option<Coming>
-        ensures due { result
-            ≡ first_due self.old.wait_ms moment (map (noted_in moment) self.old.list.items) }
-        ensures noted { self.new.list.items ≡ map (noted_in moment) self.old.list.items }
-        ensures wait { self.new.wait_ms ≡ self.old.wait_ms }
-        ensures nobody { self.old.list.items ≡ [] → result ≡ None }
+    /// So it is with this publisher from now on.
+    pub(crate) fn note(&mut self, publisher: u16, coming: Coming)
+        ensures { self.new ≡ slice_set self.old publisher coming }
     {
-        note_all(self.list.as_mut_slice(), moment);
-        first_due(self.list.as_slice(), self.wait_ms, moment)
+        let at = usize::from(publisher);
+        if at < self.list.len() {
+            self.list[at] = coming;
+            self.is_waiting = any_due(self.list.as_slice());
+        }
     }
 
-    /// The legs of a publisher are looked at from this place on.
-    pub(crate) fn go_on(&mut self, publisher: u16, from: usize)
-        ensures list { self.new.list.items ≡ map (looked_from publisher from) self.old.list.items }
-        ensures wait { self.new.wait_ms ≡ self.old.wait_ms }
+    /// A tick was made.
+    pub(crate) fn ticked(&mut self)
+        ensures { self.new ≡ map ticked_in self.old }
     {
-        look_from(self.list.as_mut_slice(), publisher, from);
+        tick_all(self.list.as_mut_slice());
+        self.is_waiting = any_due(self.list.as_slice());
     }
 
-    /// All legs of a publisher were looked at.
-    pub(crate) fn end(&mut self, publisher: u16)
-        ensures list { self.new.list.items ≡ without publisher self.old.list.items }
-        ensures wait { self.new.wait_ms ≡ self.old.wait_ms }
+    /// The first that is due, and from which place on its legs are looked at.
+    #[tactic(auto, using(crate::proofs::ComingLemmas::nobody_due))]
+    pub(crate) fn first_due(&self) -> Option<(u16, usize)>
+        ensures due { result ≡ first_due 0 self.now }
+        ensures nobody { list_any is_due self.now ≡ false → result ≡ None }
     {
-        self.list.retain(|coming| coming.publisher != publisher);
+        if !self.is_waiting {
+            return None;
+        }
+        first_due(self.list.as_slice())
     }
 }
 
-/// Notes that the last turn was at this moment.
-fn note_all(comings: &mut [Coming], moment: u64)
-    ensures { comings.new ≡ map (noted_in moment) comings.old }
+/// Whether any is due.
+fn any_due(list: &[Coming]) -> bool
+    ensures { result ≡ list_any is_due list.now }
 {
-    for coming in comings.iter_mut() {
-        coming.note(moment);
+    for coming in list {
+        if coming.is_due() {
+            return true;
+        }
+    }
+    false
+}
+
+/// A tick was made.
+fn tick_all(list: &mut [Coming])
+    ensures { list.new ≡ map ticked_in list.old }
+{
+    for coming in list.iter_mut() {
+        *coming = coming.ticked();
     }
 }
 
-/// The first who has waited so long at this moment.
-fn first_due(comings: &[Coming], wait_ms: u64, moment: u64) -> Option<Coming>
-    ensures { result ≡ first_due wait_ms moment comings.now }
+/// The first that is due, and from which place on its legs are looked at.
+fn first_due(list: &[Coming]) -> Option<(u16, usize)>
+    requires { length list.now ≤ 2 ^ 16 }
+    ensures { result ≡ first_due 0 list.now }
 {
-    for coming in comings {
-        if coming.is_due(wait_ms, moment) {
-            return Some(*coming);
+    for (publisher, coming) in list.iter().enumerate() {
+        if let Some(from) = coming.due_from() {
+            return Some((publisher as u16, from));
         }
     }
     None
-}
-
-/// The legs of a publisher are looked at from this place on.
-fn look_from(comings: &mut [Coming], publisher: u16, from: usize)
-    ensures { comings.new ≡ map (looked_from publisher from) comings.old }
-{
-    for coming in comings.iter_mut() {
-        if coming.publisher == publisher {
-            coming.from = from;
-        }
-    }
 }

@@ -4,19 +4,13 @@ ghost use Rattle.std.specs.Prelude.{◌≡◌, ◌+◌, ◌<◌, ◌∷◌, ◌+
 ghost use Rattle.rtcp_feedback.specs.Reading.{entries_in};
 
 use byteorder::{BigEndian, ByteOrder};
-use rtcp_feedback::{ENTRY_BYTES, FRONT_BYTES, TmmbrEntry};
+use rtcp_feedback::{ENTRY_BYTES, TmmbrEntry};
 use std::alloc::AllocError;
 use tmmbr_tuple::Ssrc;
 
-/// The first byte of a TMMBR without padding: the version 2 and the FMT 3 (RFC 5104, section 4.2.1.1).
-pub(crate) const TMMBR: u8 = 0x83;
-
-/// How many bytes a TMMBR with one entry has.
-pub(crate) const REQUEST_BYTES: usize = FRONT_BYTES + ENTRY_BYTES;
-
 /// The entry that bytes begin with, and those after it.
 #[tactic(auto, using(rtcp_feedback::proofs::EntryLemmas::entries_next, rtcp_feedback::proofs::EntryLemmas::entries_end))]
-pub(crate) fn first_entry(bytes: &[u8]) -> Option<(TmmbrEntry, &[u8])>
+fn first_entry(bytes: &[u8]) -> Option<(TmmbrEntry, &[u8])>
     ensures entries { MatchOption result (entries_in bytes.now ≡ [])
         (λ r. entries_in bytes.now ≡ r.0 ∷ entries_in r.1.now) }
     ensures shorter { MatchOption result (length bytes.now < 8)

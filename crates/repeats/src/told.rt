@@ -5,33 +5,31 @@ ghost use Rattle.rtcp_compound.specs.Content.{content_of};
 ghost use Rattle.rtcp_compound.specs.Left.{contents_left};
 ghost use Rattle.repeats.specs.Told.{later_notice, notice_body, notice_in};
 
-use byteorder::{BigEndian, ByteOrder};
 use rtcp_compound::{Packets, RTPFB, RtcpView};
 use rtcp_feedback::{FMT_TMMBN, SOURCES_BYTES};
-use tmmbr_tuple::Ssrc;
 
-/// The entries' bytes of the last TMMBN of this source among packets.
-pub(crate) fn last_notice(packets: Packets<'_>, own: Ssrc) -> Option<&[u8]>
+/// The entries' bytes of the last TMMBN among packets.
+pub(crate) fn last_notice(packets: Packets<'_>) -> Option<&[u8]>
     ensures { option_map (λ s. s.now) result
-        ≡ fold (later_notice own.0) None (contents_left packets.entry) }
+        ≡ fold later_notice None (contents_left packets.entry) }
 {
     let mut found = None;
     for packet in packets {
-        if let Some(notice) = notice_in(packet, own) {
+        if let Some(notice) = notice_in(packet) {
             found = Some(notice);
         }
     }
     found
 }
 
-/// The entries' bytes of a packet, if it is a TMMBN of this source.
-fn notice_in(packet: RtcpView<'_>, own: Ssrc) -> Option<&[u8]>
-    ensures { option_map (λ s. s.now) result ≡ notice_in own.0 (content_of packet.entry) }
+/// The entries' bytes of a packet, if it is a TMMBN.
+fn notice_in(packet: RtcpView<'_>) -> Option<&[u8]>
+    ensures { option_map (λ s. s.now) result ≡ notice_in (content_of packet.entry) }
 {
     match packet {
         RtcpView::Feedback { fmt, kind, body } => {
             if fmt == FMT_TMMBN && kind == RTPFB {
-                notice_body(body, own)
+                notice_body(body)
             } else {
                 None
             }
@@ -44,11 +42,11 @@ fn notice_in(packet: RtcpView<'_>, own: Ssrc) -> Option<&[u8]>
     }
 }
 
-/// The bytes of a body after its sources, if the first of these is this one.
-fn notice_body(body: &[u8], own: Ssrc) -> Option<&[u8]>
-    ensures { option_map (λ s. s.now) result ≡ notice_body own.0 body.now }
+/// The bytes of a body after its sources.
+fn notice_body(body: &[u8]) -> Option<&[u8]>
+    ensures { option_map (λ s. s.now) result ≡ notice_body body.now }
 {
-    if body.len() >= SOURCES_BYTES && BigEndian::read_u32(body) == own.0 {
+    if body.len() >= SOURCES_BYTES {
         Some(&body[SOURCES_BYTES..])
     } else {
         None

@@ -1,26 +1,30 @@
 //! Requests that are held until their publisher comes, and sets that are asked for again.
 
 use crate::expected::{is_text, same};
-use outside::{Feed, ReceiveFault, Received};
+use datagram::{Ask, Reading, Sent, What, read};
+use members::{Order, Room, RoomView};
 use repeats::{Holding, Sets};
 use rtcp_feedback::TmmbrEntry;
-use settings::Settings;
+use settings::{Links, Settings};
 use settings_toml::read_settings;
 use std::alloc::Global;
-use std::cell::{Cell, RefCell};
+use std::cell::RefCell;
 use std::fmt::Write;
 use std::process::Abort;
 use std::test::Fail;
 use tmmbr_tuple::Ssrc;
 
-/// Endpoint 1 is sent what 0 publishes as 257, and what 2 publishes as 258. Who is silent for more than 1,500 milliseconds is gone.
+/// Endpoint 1 is sent what 0 publishes as 257, and what 2 publishes as 258. Who is silent for 1,000 milliseconds is gone.
 const ROOM: &str =
     "workers = 1\nring = 8\nhistory = 128\ntimeout_ms = 1000\nreport_ms = 1000\npli_gap_ms = 0\nunit_ssrc = 9\n\
 cname = \"sfu\"\n[[endpoint]]\nssrc = 16\n[[endpoint]]\nssrc = 17\n[[endpoint]]\nssrc = 18\n\
 [[leg]]\nsubscriber = 1\npublisher = 0\nout_ssrc = 257\n[[leg]]\nsubscriber = 1\npublisher = 2\nout_ssrc = 258\n";
 
-/// The moment rises so far from one tick to the next.
-const TICK_MS: u64 = 50;
+/// The same, and a request is given up after a minute.
+const AGING_ROOM: &str =
+    "workers = 1\nring = 8\nhistory = 128\ntimeout_ms = 1000\nreport_ms = 1000\npli_gap_ms = 0\nrequest_ms = 60000\nunit_ssrc = 9\n\
+cname = \"sfu\"\n[[endpoint]]\nssrc = 16\n[[endpoint]]\nssrc = 17\n[[endpoint]]\nssrc = 18\n\
+[[leg]]\nsubscriber = 1\npublisher = 0\nout_ssrc = 257\n[[leg]]\nsubscriber = 1\npublisher = 2\nout_ssrc = 258\n";
 
 /// An RTP packet of source 16 (RFC 3550, section 5.1).
 const MEDIA: &[u8] = &[0x80, 0x60, 0, 7, 0, 0, 0, 0, 0, 0, 0, 16, 0xaa];
@@ -35,168 +39,254 @@ const ASK: &[u8] = &[
     0x83, 205, 0, 4, 0, 0, 0, 17, 0, 0, 0, 0, 0, 0, 1, 1, 0, 7, 0xd0, 0x28,
 ];
 
-/// The same of what it is sent as 258, in a compound with a report.
-const REPORT_AND_ASK: &[u8] = &[
-    0x80, 201, 0, 1, 0, 0, 0, 17, 0x83, 205, 0, 4, 0, 0, 0, 17, 0, 0, 0, 0, 0, 0, 1, 2, 0, 7, 0xd0,
-    0x28,
+/// The same of what it is sent as 258 and as 257, in a compound with a report.
+const REPORT_AND_ASKS: &[u8] = &[
+    0x80, 201, 0, 1, 0, 0, 0, 17, 0x83, 205, 0, 6, 0, 0, 0, 17, 0, 0, 0, 0, 0, 0, 1, 2, 0, 7, 0xd0,
+    0x28, 0, 0, 1, 1, 0, 7, 0xd0, 0x28,
 ];
 
-/// A datagram of an endpoint, at a moment in milliseconds, and what is given by then, as `given` has it.
+/// A datagram of an endpoint, or a tick, at a moment in milliseconds, and what it comes to, as `Played::comes_to` has it.
 struct Cue {
     moment: u64,
     endpoint: u16,
+    /// Of a tick there are none.
     bytes: &'static [u8],
-    given: &'static str,
+    comes_to: &'static str,
 }
 
-const MEDIA_GIVEN: &str = "0 806000070000000000000010aa\n";
+const LEFT: &str = "257 for 7d028\n";
 
-const REPORT_GIVEN: &str = "1 80c9000100000011\n";
-
-const ASK_GIVEN: &str = "1 83cd00040000001100000000000001010007d028\n";
-
-const MEDIA_AND_ASK_GIVEN: &str =
-    "0 806000070000000000000010aa\n1 83cd00040000001100000000000001010007d028\n";
+const AGAIN: &str = "again 1 as 17, 257 for 7d028\n";
 
 /// What a subscriber asks for before its publisher is there, and as that comes again and again.
-const CUES: [Cue; 10] = [
-    // The request isn't given on, but that its sender is there is.
+const CUES: [Cue; 12] = [
+    // The request is left out: its publisher isn't there.
     Cue {
         moment: 0,
         endpoint: 1,
         bytes: ASK,
-        given: REPORT_GIVEN,
+        comes_to: "",
     },
     // The publisher comes, and the request is heard after its packet; once.
     Cue {
         moment: 10,
         endpoint: 0,
         bytes: MEDIA,
-        given: MEDIA_AND_ASK_GIVEN,
+        comes_to: AGAIN,
     },
     Cue {
         moment: 20,
         endpoint: 0,
         bytes: MEDIA,
-        given: MEDIA_GIVEN,
+        comes_to: "",
     },
-    // A request of a publisher that is there is given on.
-    Cue {
-        moment: 30,
-        endpoint: 1,
-        bytes: ASK,
-        given: ASK_GIVEN,
-    },
-    // Of a compound the rest is.
+    // Of two entries that one is left whose publisher is there.
     Cue {
         moment: 40,
         endpoint: 1,
-        bytes: REPORT_AND_ASK,
-        given: REPORT_GIVEN,
+        bytes: REPORT_AND_ASKS,
+        comes_to: LEFT,
     },
     // The publisher leaves and comes.
     Cue {
         moment: 50,
         endpoint: 0,
         bytes: BYE_16,
-        given: "0 81cb000100000010\n",
+        comes_to: "",
     },
     Cue {
         moment: 60,
         endpoint: 0,
         bytes: MEDIA,
-        given: MEDIA_AND_ASK_GIVEN,
+        comes_to: AGAIN,
     },
-    // It comes after a silence of half the timeout, since it may have been gone; its subscriber is there.
     Cue {
-        moment: 560,
+        moment: 1_000,
+        endpoint: 1,
+        bytes: ASK,
+        comes_to: LEFT,
+    },
+    // It was silent for a millisecond less than the timeout: it is still there.
+    Cue {
+        moment: 1_059,
         endpoint: 0,
         bytes: MEDIA,
-        given: MEDIA_AND_ASK_GIVEN,
+        comes_to: "",
+    },
+    Cue {
+        moment: 1_500,
+        endpoint: 1,
+        bytes: ASK,
+        comes_to: LEFT,
+    },
+    // It comes after a silence of the timeout; its subscriber is there.
+    Cue {
+        moment: 2_059,
+        endpoint: 0,
+        bytes: MEDIA,
+        comes_to: AGAIN,
     },
     // The subscriber leaves, and nothing is held for it.
     Cue {
-        moment: 570,
+        moment: 2_070,
         endpoint: 1,
         bytes: BYE_17,
-        given: "1 81cb000100000011\n",
+        comes_to: "",
     },
     Cue {
         moment: 5_000,
         endpoint: 0,
         bytes: MEDIA,
-        given: MEDIA_GIVEN,
+        comes_to: "",
     },
 ];
 
-/// A source that gives a datagram once it is put there.
+/// The same, if requests grow too old.
+const AGING_CUES: [Cue; 5] = [
+    Cue {
+        moment: 0,
+        endpoint: 1,
+        bytes: ASK,
+        comes_to: "",
+    },
+    // The publisher comes, and the request waits for a tick.
+    Cue {
+        moment: 10,
+        endpoint: 0,
+        bytes: MEDIA,
+        comes_to: "",
+    },
+    Cue {
+        moment: 59,
+        endpoint: 0,
+        bytes: MEDIA,
+        comes_to: "",
+    },
+    Cue {
+        moment: 60,
+        endpoint: 0,
+        bytes: &[],
+        comes_to: AGAIN,
+    },
+    Cue {
+        moment: 110,
+        endpoint: 0,
+        bytes: &[],
+        comes_to: "",
+    },
+];
+
+/// A room, and what is held of its legs.
 #[derive(Drop)]
-struct Put<'a> {
-    endpoint: &'a Cell<u16>,
-    bytes: &'a Cell<&'static [u8]>,
+struct Played<'a> {
+    links: Links,
+    room: Room,
+    held: Holding<'a>,
+    reading: Reading,
+    orders: Vec<Order>,
 }
 
-impl Feed for Put<'_> {
-    ghost use Rattle.std.specs.Prelude.{None};
-
-    ghost failures = { λ _. 0 };
-
-    ghost given = { λ _. None };
-
-    fn receive(&mut self, out: &mut [u8]) -> Result<Received, ReceiveFault> {
-        let bytes = self.bytes.get();
-        self.bytes.set(&[]);
-        if bytes.is_empty() || bytes.len() > out.len() {
-            return Ok(Received::Nothing);
+impl Played<'_> {
+    /// Plays a cue. What it comes to: a line for each rate that is left of what is asked for, and one for each that is heard again.
+    fn comes_to(&mut self, alloc: Global, cue: &Cue) -> Result<String, Fail> {
+        let mut text = String::new(alloc);
+        if cue.bytes.is_empty() {
+            self.tick(cue.moment)?;
+        } else {
+            self.hear(cue)?;
+            push_left(&mut text, self.reading.asks.as_slice())?;
         }
-        out[..bytes.len()].copy_from_slice(bytes);
-        Ok(Received::Datagram {
-            endpoint: self.endpoint.get(),
-            length: bytes.len(),
-        })
+        self.push_again(&mut text, cue.moment)?;
+        Ok(text)
+    }
+
+    fn tick(&mut self, moment: u64) -> Result<(), Fail> {
+        self.room.tick_or_no_memory(moment, &mut self.orders)?;
+        self.held.ticked();
+        Ok(())
+    }
+
+    /// A datagram is read, heard, and taken into the room.
+    fn hear(&mut self, cue: &Cue) -> Result<(), Fail> {
+        let sent = Sent {
+            moment: cue.moment,
+            endpoint: cue.endpoint,
+            own: self.links.ssrc_of(cue.endpoint).unwrap_or(Ssrc(0)),
+        };
+        read(cue.bytes, sent.own, None, &mut self.reading)?;
+        let view = RoomView {
+            links: &self.links,
+            room: &self.room,
+        };
+        self.held.hear(sent, view, &mut self.reading, cue.bytes);
+        self.take(sent)
+    }
+
+    fn take(&mut self, sent: Sent) -> Result<(), Fail> {
+        let (moment, orders) = (sent.moment, &mut self.orders);
+        let taken = match self.reading.what {
+            What::Goodbye => self.room.bye(moment, sent.endpoint, orders),
+            _ => self.room.hear(moment, sent.endpoint, sent.own, orders),
+        };
+        match taken {
+            Ok(()) => Ok(()),
+            Err(_) => Err(Fail::from("refused")),
+        }
+    }
+
+    fn push_again(&mut self, text: &mut String, moment: u64) -> Result<(), Fail> {
+        let view = RoomView {
+            links: &self.links,
+            room: &self.room,
+        };
+        for _look in 0..4 {
+            if !self.held.is_waiting() {
+                return Ok(());
+            }
+            if let Some(again) = self.held.next_held(view, moment) {
+                write!(text, "again {} as {}, ", again.endpoint, again.speaker.0)?;
+                push_rate(text, again.media, again.word)?;
+            }
+        }
+        Ok(())
     }
 }
 
-fn room(alloc: Global) -> Result<Settings, Fail> {
-    match read_settings(alloc, ROOM.as_bytes()) {
+fn push_left(text: &mut String, asks: &[Ask]) -> Result<(), Fail> {
+    for ask in asks {
+        if let Ask::Rate { media, word } = ask {
+            push_rate(text, *media, *word)?;
+        }
+    }
+    Ok(())
+}
+
+fn push_rate(text: &mut String, media: Ssrc, word: u32) -> Result<(), Fail> {
+    write!(text, "{} for {:x}\n", media.0, word)?;
+    Ok(())
+}
+
+fn room(alloc: Global, text: &str) -> Result<Settings, Fail> {
+    match read_settings(alloc, text.as_bytes()) {
         Ok(file) => Ok(file.settings),
         Err(_) => Err(Fail::from("settings")),
     }
 }
 
-/// What the next four receives give: a line for each datagram, its endpoint and its bytes in hexadecimal digits.
-fn given(alloc: Global, source: &mut Holding<'_, Put<'_>>) -> Result<String, Fail> {
-    let mut buffer = [0; 64];
-    let mut text = String::new(alloc);
-    for _receive in 0..4 {
-        if let Received::Datagram { endpoint, length } = source.receive(&mut buffer)? {
-            write!(text, "{endpoint} ")?;
-            for byte in &buffer[..length] {
-                write!(text, "{byte:02x}")?;
-            }
-            text.push('\n')?;
-        }
-    }
-    Ok(text)
-}
-
-/// Plays the cues in the room.
-fn play(rt: &impl Abort, alloc: Global, cues: &[Cue]) -> Result<(), Fail> {
-    let settings = room(alloc)?;
-    let (endpoint, moment_ms) = (Cell::new(0), Cell::new(0));
-    let bytes: Cell<&'static [u8]> = Cell::new(&[]);
+/// Plays the cues in the room of these settings.
+fn play(rt: &impl Abort, alloc: Global, text: &str, cues: &[Cue]) -> Result<(), Fail> {
+    let settings = room(alloc, text)?;
     let sets = RefCell::new(Sets::new(alloc, 3, 100)?);
-    let put = Put {
-        endpoint: &endpoint,
-        bytes: &bytes,
+    let mut played = Played {
+        held: Holding::new(alloc, &settings, &sets)?,
+        reading: Reading::new(alloc),
+        orders: Vec::new(alloc),
+        links: Links::new(alloc, &settings)?,
+        room: Room::new(alloc, &settings)?,
     };
-    let mut source = Holding::new(alloc, put, &settings, 100, TICK_MS, &moment_ms, &sets)?;
     for cue in cues {
-        moment_ms.set(cue.moment);
-        endpoint.set(cue.endpoint);
-        bytes.set(cue.bytes);
-        let text = given(alloc, &mut source)?;
-        is_text(rt, Ok(text), cue.given)?;
+        let text = played.comes_to(alloc, cue)?;
+        is_text(rt, Ok(text), cue.comes_to)?;
     }
     Ok(())
 }
@@ -204,7 +294,13 @@ fn play(rt: &impl Abort, alloc: Global, cues: &[Cue]) -> Result<(), Fail> {
 /// What is asked for is held until the publisher comes, and heard again each time that it does, until the subscriber leaves.
 #[test]
 fn heard_once_the_publisher_comes(rt: HostRuntime) -> Result<(), Fail> {
-    play(&rt, rt.alloc(), &CUES)
+    play(&rt, rt.alloc(), ROOM, &CUES)
+}
+
+/// If requests grow too old, it is heard again once a tick was made.
+#[test]
+fn heard_after_a_tick_if_requests_age(rt: HostRuntime) -> Result<(), Fail> {
+    play(&rt, rt.alloc(), AGING_ROOM, &AGING_CUES)
 }
 
 /// The request of owner 17 for the word of `ASK`, as a set and as the entry of a TMMBN (RFC 5104, section 4.2.2.1).

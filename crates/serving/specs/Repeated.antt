@@ -1,5 +1,5 @@
 -- What a publisher is asked for again.
-use Rattle.std.specs.Prelude.{◌≡◌, ℕ, List, [], ◌++◌, None, false}
+use Rattle.std.specs.Prelude.{◌≡◌, ℕ, Bool, true, false, List, [], ◌++◌, None}
 use Rattle.rate_cert.specs.declared.request.Request.{Request}
 use Rattle.desk.specs.declared.effect.Effect.{Effect}
 use Rattle.events.specs.declared.output.Out.{Out}
@@ -16,3 +16,8 @@ pub record AsksForAll (table : LinkTable) (unit : Identity) (publisher : ℕ) (s
   pub fresh_is : effect.fresh.items ≡ set
   pub behind : new ≡ old ++ notification_datagrams table unit []
       (record { publisher = publisher; asked_by = None; pli = false }) effect
+
+-- all of it if it is asked for again, else nothing
+abbrev pub AsksIf : Bool → LinkTable → Identity → ℕ → List Request → List Out → List Out → Type 0
+AsksIf true table unit publisher set old new = AsksForAll table unit publisher set old new
+AsksIf false table unit publisher set old new = new ≡ old

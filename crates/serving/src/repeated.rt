@@ -1,8 +1,10 @@
 //! What is asked of publishers again, while a unit is served.
 
-ghost use Rattle.std.specs.Prelude.{[], OnOk};
+ghost use Rattle.std.specs.Prelude.{◌≡◌, [], OnOk, slice_get};
+ghost use Rattle.announcement.specs.Entries.{entries_of};
 ghost use Rattle.bounding_set.specs.State.{announced_of};
-ghost use Rattle.serving.specs.Repeated.{AsksForAll};
+ghost use Rattle.repeats.specs.Sets.{asks_of, set_seen, with_set};
+ghost use Rattle.serving.specs.Repeated.{AsksForAll, AsksIf};
 
 use announcement::entries_of;
 use desk::{Desk, Effect};
@@ -74,26 +76,27 @@ impl<'a, W: Watch + Drop> RepeatingWatch<'a, W> {
 
     /// Asks the publisher for the members of its announced set again, if that is due. If memory is wanting it isn't asked this time.
     fn ask_again(&mut self, publisher: u16, desk: &Desk) -> Result<(), AllocError> {
-        let set = desk.announced();
-        let entries = entries_of(self.repeater.alloc, set.as_slice())?;
         let Ok(mut sets) = self.sets.try_borrow_mut() else {
             return Ok(());
         };
-        if sets.look(publisher, entries.as_slice())? {
-            self.repeater.ask(publisher, desk)?;
-        }
-        Ok(())
+        self.repeater.ask_again(&mut sets, publisher, desk)
     }
 }
 
 impl Repeater<'_> {
-    /// Sends the publisher a TMMBR for each member of what is announced to it.
-    fn ask(&mut self, publisher: u16, desk: &Desk) -> Result<(), AllocError> {
+    /// Sends the publisher a TMMBR for each member of what is announced to it, if it is to be asked again.
+    fn ask_again(
+        &mut self,
+        sets: &mut Sets,
+        publisher: u16,
+        desk: &Desk,
+    ) -> Result<(), AllocError> {
         self.outs.clear();
-        ask_for_all(
+        ask_again(
             self.alloc,
             &self.links,
             &self.head,
+            sets,
             publisher,
             desk,
             &mut self.outs,
@@ -106,6 +109,31 @@ impl Repeater<'_> {
         self.outs.clear();
         Ok(())
     }
+}
+
+/// Appends what a publisher is sent if its announced set is asked for again: if that isn't empty, was seen at the last look, and what the publisher
+/// notified of last doesn't list all of it; else nothing. From now on the set is the one that was seen last.
+fn ask_again(
+    alloc: Global,
+    links: &Links,
+    head: &Head,
+    sets: &mut Sets,
+    publisher: u16,
+    desk: &Desk,
+    outs: &mut Vec<Out>,
+) -> Result<(), AllocError>
+    ensures seen { OnOk result (sets.new
+        ≡ with_set sets.old publisher (set_seen (entries_of (announced_of desk.now.bounds)))) }
+    ensures asks { OnOk result (AsksIf (asks_of (slice_get sets.old.publishers publisher)
+        (entries_of (announced_of desk.now.bounds))) links.now head.now publisher
+        (announced_of desk.now.bounds) outs.old.items outs.new.items) }
+{
+    let set = desk.announced();
+    let entries = entries_of(alloc, set.as_slice())?;
+    if !sets.look(publisher, entries.as_slice())? {
+        return Ok(());
+    }
+    ask_for_all(alloc, links, head, publisher, desk, outs)
 }
 
 /// Appends what a publisher is sent if its whole announced set is fresh, and nobody asked.

@@ -2,6 +2,5 @@ use Rattle.std.proofs.Common.{◌≡◌, drop}
 use Rattle.repeats.specs.Comings.{first_due}
 use Rattle.repeats.proofs.comings.first_due.Given as goal
 
-abbrev pub invariant-loop-coming : goal.invariant-loop-coming
-invariant-loop-coming l =
-    first_due l.wait_ms l.moment (drop l.coming-index l.comings) ≡ first_due l.wait_ms l.moment l.comings
+abbrev pub invariant-loop-publisher : goal.invariant-loop-publisher
+invariant-loop-publisher l = first_due l.publisher (drop l.publisher l.list) ≡ first_due 0 l.list

@@ -6,5 +6,5 @@ use Rattle.repeats.proofs.told.last_notice.Given as goal
 
 abbrev pub invariant-loop-packet : goal.invariant-loop-packet
 invariant-loop-packet l =
-    fold (later_notice l.own.0) (option_map (λ s. s.now) l.found) (contents_left l.packet-iterator)
-    ≡ fold (later_notice l.own.0) None (contents_left l.fn.packets)
+    fold later_notice (option_map (λ s. s.now) l.found) (contents_left l.packet-iterator)
+    ≡ fold later_notice None (contents_left l.fn.packets)
