@@ -156,4 +156,6 @@ impl<'f, 'c, 'k, F: Feed, C: Timekeeper> Entrance for Direct<'f, 'c, 'k, F, C> {
     fn taking(&self) -> Taking<'_> {
         self.kept.taking()
     }
+
+    fn ticked(&mut self, _moment: u64) {}
 }

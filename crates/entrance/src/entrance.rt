@@ -26,7 +26,7 @@ pub struct Came {
 }
 
 /// Where what comes to a unit is let in. It waits, asks the clock, and reads what came; then it may look at the room as it is, to say what of it is
-/// taken in.
+/// taken in. It is told of each tick.
 pub trait Entrance {
     ghost use Rattle.std.specs.Prelude.{◌≡◌, ◌∷◌, [], List, Option, ℕ, IfOk, OnErr};
     ghost use Rattle.std.specs.Borrow.{GName};
@@ -64,4 +64,12 @@ pub trait Entrance {
     /// What was let in last, if it is to be taken in.
     fn taking(&self) -> Taking<'_>
         ensures { admission_of result ≡ current self.now };
+
+    /// A tick was made at this moment, after what came then was taken in.
+    fn ticked(&mut self, moment: u64)
+        ensures given { given self.new ≡ given self.old }
+        ensures told { told self.new ≡ told self.old }
+        ensures current { current self.new ≡ current self.old }
+        ensures datagram { datagram self.new ≡ datagram self.old }
+        ensures names { names self.new ≡ names self.old };
 }

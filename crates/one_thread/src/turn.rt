@@ -7,7 +7,7 @@ ghost use Rattle.datagram.specs.Reads.{IsPacketRead, admission_of};
 ghost use Rattle.core_steps.specs.Hearing.{SaysTaken};
 ghost use Rattle.outside.specs.Outside.{is_stop};
 ghost use Rattle.entrance.specs.Entrance.{IfTaken, arrival_by};
-ghost use Rattle.outside.specs.Ticks.{ticks_after};
+ghost use Rattle.outside.specs.Ticks.{is_due, ticks_after};
 ghost use Rattle.outside.specs.declared.source.TheConstants.{MAX_FAULTS};
 ghost use Rattle.one_thread.specs.Driving.{Drives, DrivesSome, DrivesBoth, IsIdle};
 ghost use Rattle.one_thread.specs.Turns.{BreaksOff, SendsCounted, MakesTurn, Raises, faults_with, brought_at, heard_count, tick_at, view_of, who_came};
@@ -72,16 +72,17 @@ fn take_admitted(
     }
 }
 
-/// A tick is made if one is due.
+/// A tick is made if one is due. Says whether it was.
 #[tactic(auto, using(crate::proofs::DrivingLemmas::drives_nothing))]
 fn tick(
     world: &mut World,
     moment: u64,
     ticks: &mut Ticks,
     outs: &mut Vec<Out>,
-) -> Result<(), AllocError>
+) -> Result<bool, AllocError>
     requires one { length world.old.workers ≡ 1 }
     requires idle { IsIdle world.old }
+    ensures due { IfOk result (λ is_made. is_made ≡ is_due ticks.old moment) }
     ensures ok { OnOk result (Drives (tick_at ticks.old moment)
         world.old outs.old.items world.new outs.new.items) }
     ensures err { OnErr result (DrivesSome (tick_at ticks.old moment)
@@ -91,9 +92,10 @@ fn tick(
     ensures one { length world.new.workers ≡ 1 }
 {
     if !ticks.take(moment) {
-        return Ok(());
+        return Ok(false);
     }
-    take_in(world, Event::Tick(moment), outs)
+    take_in(world, Event::Tick(moment), outs)?;
+    Ok(true)
 }
 
 /// How many receives in a row failed, with this one.
@@ -130,7 +132,16 @@ fn is_stop(admitted: Receipt) -> bool
     }
 }
 
-/// What came is taken in, then a tick is made if one is due. Says how much of what is given out by then came before the tick.
+/// What was done in a turn.
+#[derive(Clone, Copy)]
+struct Done {
+    /// How much of what is given out by then came before the tick.
+    before: usize,
+    /// Whether a tick was made.
+    is_ticked: bool,
+}
+
+/// What came is taken in, then a tick is made if one is due.
 #[tactic(auto, using(crate::proofs::DrivingLemmas::drives_on, crate::proofs::DrivingLemmas::drives_both, crate::proofs::DrivingLemmas::some_first, crate::proofs::DrivingLemmas::some_after))]
 fn take_turn(
     world: &mut World,
@@ -138,7 +149,7 @@ fn take_turn(
     came: Came,
     taking: Taking<'_>,
     outs: &mut Vec<Out>,
-) -> Result<usize, AllocError>
+) -> Result<Done, AllocError>
     requires read { IfTaken came.admitted (IsPacketRead taking.bytes.now taking.what) }
     requires said { IfTaken came.admitted
         ((bytes : List ℕ) × SaysTaken world.old (admission_of taking) bytes) }
@@ -151,9 +162,11 @@ fn take_turn(
         ++ tick_at ticks.old came.moment) world.old outs.old.items world.new outs.new.items) }
     ensures before { (datagram : List ℕ)
         → IfTaken came.admitted (SaysTaken world.old (admission_of taking.entry) datagram)
-        → IfOk result (DrivesBoth
+        → IfOk result (λ done. DrivesBoth
         (brought_at came.moment (arrival_by came.admitted taking.entry.endpoint datagram))
-        (tick_at ticks.old came.moment) world.old outs.old.items world.new outs.new.items) }
+        (tick_at ticks.old came.moment) world.old outs.old.items world.new outs.new.items
+        done.before) }
+    ensures due { IfOk result (λ done. done.is_ticked ≡ is_due ticks.old came.moment) }
     ensures err { (datagram : List ℕ)
         → IfTaken came.admitted (SaysTaken world.old (admission_of taking.entry) datagram)
         → OnErr result (DrivesSome
@@ -165,8 +178,8 @@ fn take_turn(
 {
     take_admitted(world, came.moment, came.admitted, taking, outs)?;
     let before = outs.as_slice().len();
-    tick(world, came.moment, ticks, outs)?;
-    Ok(before)
+    let is_ticked = tick(world, came.moment, ticks, outs)?;
+    Ok(Done { before, is_ticked })
 }
 
 /// Whose datagram came.
@@ -299,6 +312,17 @@ fn count_present(world: &World) -> u64 {
     present
 }
 
+/// Tells the entrance of a tick that was made at this moment, if one was.
+fn tell<E: Entrance>(entrance: &mut E, moment: u64, is_ticked: bool)
+    ensures given { E.given entrance.new ≡ E.given entrance.old }
+    ensures told { E.told entrance.new ≡ E.told entrance.old }
+    ensures names { E.names entrance.new ≡ E.names entrance.old }
+{
+    if is_ticked {
+        entrance.ticked(moment);
+    }
+}
+
 /// Takes in what the entrance lets in next and ticks if a tick is due, with all that follows, and hands what comes out to
 /// the sink. For want of memory it stops; then what the machine gave out in this turn isn't handed over.
 pub(crate) fn turn<E: Entrance, Snk: Sink, W: Watch>(
@@ -326,7 +350,7 @@ pub(crate) fn turn<E: Entrance, Snk: Sink, W: Watch>(
 {
     let came = entrance.receive(engine.world.view())?;
     let taking = entrance.taking();
-    let before = take_turn(
+    let done = take_turn(
         &mut engine.world,
         &mut engine.ticks,
         came,
@@ -335,7 +359,11 @@ pub(crate) fn turn<E: Entrance, Snk: Sink, W: Watch>(
     )?;
     let Came { moment, admitted } = came;
     let endpoint = who_came(admitted, taking.endpoint);
-    let origin = Origin { endpoint, before };
+    tell(entrance, moment, done.is_ticked);
+    let origin = Origin {
+        endpoint,
+        before: done.before,
+    };
     engine.faults = faults_with(engine.faults, admitted);
     engine.is_stopped = is_stop(admitted);
     engine.tally.heard = heard_with(engine.tally.heard, admitted);

@@ -1,7 +1,8 @@
 //! The ingress: it takes in what comes, and does what follows, in the thread that runs the unit.
 
-ghost use Rattle.std.specs.Prelude.{◌≡◌, ◌<◌, ◌++◌, [], ℕ, List, OnOk, OnErr};
+ghost use Rattle.std.specs.Prelude.{◌≡◌, ◌<◌, ◌++◌, [], ℕ, List, IfOk, OnOk, OnErr};
 ghost use Rattle.datagram.specs.Reads.{IsPacketRead, admission_of};
+ghost use Rattle.outside.specs.Ticks.{is_due};
 ghost use Rattle.core_steps.specs.Hearing.{SaysTaken};
 ghost use Rattle.desk.specs.Call.{HasStay};
 ghost use Rattle.events.specs.declared.event.Event.TheVariants.{Hear, Select, Tick};
@@ -104,17 +105,19 @@ impl<'a, D: DeskCalls, C: SeatCalls, J: Naming, S: Sink + Drop> Ingress<'a, D, C
         self.do_duties(rt)
     }
 
-    /// It is this moment: if a tick is due it is made, and what follows is done.
-    pub(crate) fn tick<R: Wait>(&mut self, rt: &R, moment: u64) -> Result<(), AllocError> {
+    /// It is this moment: if a tick is due it is made, and what follows is done. Says whether it was.
+    pub(crate) fn tick<R: Wait>(&mut self, rt: &R, moment: u64) -> Result<bool, AllocError>
+        ensures { IfOk result (λ is_made. is_made ≡ is_due self.old.ticks moment) }
+    {
         if !self.ticks.take(moment) {
-            return Ok(());
+            return Ok(false);
         }
         self.present = 0;
         self.endpoint = None;
         tick_once(&mut self.core, moment, &mut self.refusals)?;
         self.do_duties(rt)?;
         self.counts.note_present(self.present);
-        Ok(())
+        Ok(true)
     }
 
     /// What is wanted of the room. Who calls a desk that is shown waits until it has been.

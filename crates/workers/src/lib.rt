@@ -28,4 +28,4 @@ pub use outside::{
     Clock, Datagram, Fed, Feed, Gate, Look, MAX_DATAGRAM, MAX_FAULTS, Open, Pace, ReceiveFault,
     Received, SendFault, Sink, Source, Status, Timed, Timekeeper, Unwatched, Watch,
 };
-pub use unit::{Report, run_unit, run_watched};
+pub use unit::{Report, run_through, run_unit, run_watched};

@@ -5,16 +5,15 @@ ghost use Rattle.std.specs.Prelude.{◌≡◌, IfErr, OnOk, MatchResult};
 use crate::counts::{Counts, Station};
 use crate::fault::UnitFault;
 use crate::gear::{Gear, gears_of};
-use crate::given::Outside;
 use crate::ingress::{Ingress, core_and_notifier};
 use crate::lane::{Crew, Lane, RingEnds, new_ring};
 use crate::settling::Patience;
 use crate::turns::Inlet;
 use crate::worker::WorkerThread;
 use core_steps::IngressCore;
-use entrance::{Direct, Entrance, Kept};
+use entrance::Entrance;
 use forwarding::{Forwarder, Notifier};
-use outside::{Feed, Gate, Pace, Sink, Ticks, Timekeeper, Watch};
+use outside::{Gate, Pace, Sink, Ticks, Watch};
 use rate_desk::{DeskCalls, DeskSeat, House, SeatCalls};
 use routes::{Blank, Naming, RouteReader, RouteWriter, routes};
 use settings::Settings;
@@ -40,9 +39,8 @@ pub(crate) fn run_scoped<
     C: SeatCalls + Send + Sync + 'a,
     J: Naming + Send + Sync + 'a,
     R: Threads + Wait + Sync + 'a,
-    F: Feed + Drop,
+    E: Entrance + Drop,
     S: Sink + Send + Drop + 'a,
-    Clk: Timekeeper + Drop,
     W: Watch + Drop,
     G: Gate + Sync + 'a,
 >(
@@ -50,7 +48,8 @@ pub(crate) fn run_scoped<
     shared: &'a Shared<'a, D, C, G>,
     table: Blank,
     seats: Vec<DeskSeat<C>>,
-    outside: Outside<F, S, Clk, W>,
+    sinks: Vec<S>,
+    inlet: Inlet<E, W>,
     pace: Pace,
 ) -> Result<Vec<DeskSeat<C>>, UnitFault>
     requires table { (table.book ≡ J.book) × (table.legs ≡ J.legs) }
@@ -61,8 +60,8 @@ pub(crate) fn run_scoped<
         move |scope| -> Result<Vec<DeskSeat<C>>, UnitFault>
             requires { (table.book ≡ J.book) × (table.legs ≡ J.legs) }
         {
-            run_in_scope::<D, C, J, R, F, S, Clk, W, G>(
-                scope, rt, shared, table, seats, outside, pace,
+            run_in_scope::<D, C, J, R, E, S, W, G>(
+                scope, rt, shared, table, seats, sinks, inlet, pace,
             )
         },
     )
@@ -76,9 +75,8 @@ fn run_in_scope<
     C: SeatCalls + Send + Sync + 'a,
     J: Naming + Send + Sync + 'a,
     R: Threads + Wait + Sync + 'a,
-    F: Feed + Drop,
+    E: Entrance + Drop,
     S: Sink + Send + Drop + 'a,
-    Clk: Timekeeper + Drop,
     W: Watch + Drop,
     G: Gate + Sync + 'a,
 >(
@@ -87,7 +85,8 @@ fn run_in_scope<
     shared: &'a Shared<'a, D, C, G>,
     table: Blank,
     seats: Vec<DeskSeat<C>>,
-    outside: Outside<F, S, Clk, W>,
+    sinks: Vec<S>,
+    inlet: Inlet<E, W>,
     pace: Pace,
 ) -> Result<Vec<DeskSeat<C>>, UnitFault>
     requires table { (table.book ≡ J.book) × (table.legs ≡ J.legs) }
@@ -101,7 +100,8 @@ fn run_in_scope<
         &mut writer,
         readers,
         seats,
-        outside,
+        sinks,
+        inlet,
         pace,
     );
     writer.end(rt);
@@ -116,9 +116,8 @@ fn run_equipped<
     C: SeatCalls + Send + Sync + 'a,
     J: Naming + Send + Sync + 'a,
     R: Threads + Wait + Sync + 'a,
-    F: Feed + Drop,
+    E: Entrance + Drop,
     S: Sink + Send + Drop + 'a,
-    Clk: Timekeeper + Drop,
     W: Watch + Drop,
     G: Gate + Sync + 'a,
 >(
@@ -128,19 +127,11 @@ fn run_equipped<
     writer: &mut RouteWriter<J>,
     readers: Vec<RouteReader<J>>,
     seats: Vec<DeskSeat<C>>,
-    outside: Outside<F, S, Clk, W>,
+    sinks: Vec<S>,
+    inlet: Inlet<E, W>,
     pace: Pace,
 ) -> Result<Vec<DeskSeat<C>>, UnitFault> {
-    let Outside {
-        feed,
-        sinks,
-        clock,
-        watch,
-    } = outside;
     let gears = gears_of(shared.alloc, seats, readers, sinks)?;
-    let (mut feed, mut clock) = (feed, clock);
-    let mut kept = Kept::new(shared.alloc)?;
-    let inlet = Inlet::new(Direct::new(&mut feed, &mut clock, &mut kept), watch);
     run_beside(scope, rt, shared, writer, gears, inlet, pace)
 }
 

@@ -56,7 +56,7 @@ impl<E: Entrance + Drop, W: Watch + Drop> Inlet<E, W> {
         Ok(())
     }
 
-    /// Takes in what the entrance lets in, then ticks. Says whether a stop came.
+    /// Takes in what the entrance lets in, then ticks if a tick is due, and tells the entrance of it. Says whether a stop came.
     fn turn<D: DeskCalls, C: SeatCalls, J: Naming, S: Sink + Drop, R: Wait>(
         &mut self,
         rt: &R,
@@ -69,7 +69,9 @@ impl<E: Entrance + Drop, W: Watch + Drop> Inlet<E, W> {
             Ok(Admitted::Select { leg, on }) => ingress.select(rt, moment, leg, on)?,
             Ok(Admitted::Nothing | Admitted::Stop) | Err(_) => {}
         }
-        ingress.tick(rt, moment)?;
+        if ingress.tick(rt, moment)? {
+            self.entrance.ticked(moment);
+        }
         if self.watch.is_due(moment) {
             self.watch.show(moment, &ingress.counts.status());
         }

@@ -7,7 +7,9 @@ use crate::counts::Counts;
 use crate::fault::UnitFault;
 use crate::given::Outside;
 use crate::scope::{Shared, run_scoped};
+use crate::turns::Inlet;
 use desk::Desk;
+use entrance::{Direct, Entrance, Kept};
 use outside::{
     Clock, Fed, Feed, Gate, Pace, Sink, Source, Status, Timed, Timekeeper, Unwatched, Watch,
 };
@@ -101,18 +103,53 @@ pub fn run_watched<
     ensures { IfOk result (λ r. AreDesksOf settings.now.pli_gap_ms settings.now.request_ms
         (length settings.now.endpoints) r.desks.items) }
 {
+    let Outside {
+        feed,
+        sinks,
+        clock,
+        watch,
+    } = outside;
+    let (mut feed, mut clock) = (feed, clock);
+    let mut kept = Kept::new(alloc)?;
+    let entrance = Direct::new(&mut feed, &mut clock, &mut kept);
+    run_through(rt, alloc, settings, entrance, sinks, watch, gate, pace)
+}
+
+/// The same, with all that an entrance lets in. There is a sink for each worker, by its number, and last one for the ingress, which runs in
+/// this thread, with the entrance and the watch.
+pub fn run_through<
+    R: Threads + Wait + Sync,
+    E: Entrance + Drop,
+    Snk: Sink + Send + Drop,
+    W: Watch + Drop,
+    G: Gate + Sync,
+>(
+    rt: &R,
+    alloc: Global,
+    settings: &Settings,
+    entrance: E,
+    sinks: Vec<Snk>,
+    watch: W,
+    gate: &G,
+    pace: Pace,
+) -> Result<Report, UnitFault>
+    requires { vec_len sinks ≡ settings.now.workers + 1 }
+    ensures { IfOk result (λ r. AreDesksOf settings.now.pli_gap_ms settings.now.request_ms
+        (length settings.now.endpoints) r.desks.items) }
+{
     let endpoints = settings.endpoints().len();
     let workers = settings.workers();
     let legs = settings.legs().len() as u16;
     let counts = Counts::new(alloc, workers as u16)?;
-    run_named::<Brand, Brand, Brand, R, F, Snk, Clk, W, G>(
+    run_named::<Brand, Brand, Brand, R, E, Snk, W, G>(
         rt,
         alloc,
         settings,
         Blank::new(endpoints as u64),
         Blank::new(workers + 1),
         routes::Blank::new(legs),
-        outside,
+        sinks,
+        Inlet::new(entrance, watch),
         gate,
         &counts,
         pace,
@@ -125,9 +162,8 @@ fn run_named<
     C: SeatCalls + Send + Sync,
     J: Naming + Send + Sync,
     R: Threads + Wait + Sync,
-    F: Feed + Drop,
+    E: Entrance + Drop,
     Snk: Sink + Send + Drop,
-    Clk: Timekeeper + Drop,
     W: Watch + Drop,
     G: Gate + Sync,
 >(
@@ -137,7 +173,8 @@ fn run_named<
     recorded: Blank,
     made: Blank,
     table: routes::Blank,
-    outside: Outside<F, Snk, Clk, W>,
+    sinks: Vec<Snk>,
+    inlet: Inlet<E, W>,
     gate: &G,
     counts: &Counts,
     pace: Pace,
@@ -151,7 +188,7 @@ fn run_named<
     requires periods { (D.gap ≡ settings.now.pli_gap_ms)
         × (D.request_ms ≡ settings.now.request_ms) }
     requires table { (table.book ≡ J.book) × (table.legs ≡ J.legs) }
-    requires sinks { vec_len outside.sinks ≡ settings.now.workers + 1 }
+    requires sinks { vec_len sinks ≡ settings.now.workers + 1 }
     ensures { IfOk result (λ r. AreDesksOf settings.now.pli_gap_ms settings.now.request_ms
         (length settings.now.endpoints) r.desks.items) }
 {
@@ -171,8 +208,8 @@ fn run_named<
         gate,
         counts,
     };
-    let seats = run_scoped::<D, C, J, R, F, Snk, Clk, W, G>(
-        rt, &shared, table, seats, outside, pace,
+    let seats = run_scoped::<D, C, J, R, E, Snk, W, G>(
+        rt, &shared, table, seats, sinks, inlet, pace,
     )?;
     let desks = house.gather(seats, &[])?;
     Ok(report_of(&counts.status(), desks))

@@ -1,4 +1,4 @@
-//! The tests of `workers`, `one_thread`, `routes` and `conference`, in a crate of their own so that none of them is proved a second time.
+//! The tests of `workers`, `one_thread`, `entrance`, `routes` and `conference`, in a crate of their own so that none of them is proved a second time.
 //!
 //! `doubles` and `turn_doubles` stand for what is outside the unit; `rooms` has settings; `random_turns` draws
 //! what endpoints send, and `machine_turns` is the one-thread machine on the same; `told` is what sinks are told.
@@ -30,6 +30,8 @@ mod rooms;
 mod route_tests;
 #[cfg(test)]
 mod route_thread_tests;
+#[cfg(test)]
+mod tick_tests;
 #[cfg(test)]
 mod told;
 #[cfg(test)]

@@ -1,5 +1,5 @@
 use Rattle.std.proofs.Common.{◌+◌, length}
-use Rattle.workers.proofs.unit.run_watched.Given as goal
+use Rattle.workers.proofs.unit.run_through.Given as goal
 
 -- the ledger of the desks' calls, with a part for each publisher
 abbrev pub ghosts-run_named-D-Ledger : goal.ghosts-run_named-D-Ledger
