@@ -231,8 +231,7 @@ fn set_noted<R: AllocGlobal + Files<File = File> + Net + Threads + time::Clock>(
     gauges.log_time.set(paths.log_time);
     if let Some(Record { path, limit }) = paths.record {
         let limit = limit.unwrap_or(RECORD_LIMIT);
-        let tick_ms = file.settings.tick_ms;
-        gauges.set_recorder(open_record(rt, path, limit, file.digest.as_slice(), tick_ms)?);
+        gauges.set_recorder(open_record(rt, path, limit, file.digest.as_slice())?);
     }
     Ok(())
 }

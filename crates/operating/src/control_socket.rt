@@ -40,7 +40,7 @@ pub fn open_control<R: AllocGlobal + Files + Net + Threads + time::Clock>(
     let Ok(legs) = legs_of(rt.alloc(), &file.settings) else {
         return Err(ControlFault::NoMemory);
     };
-    let recorder = idle_record(rt, digest, file.tick_ms)?;
+    let recorder = idle_record(rt, digest)?;
     match Steering::new(rt.alloc(), listener, legs, endpoints) {
         Ok(steering) => Ok(Gauges::steered(steering, recorder)),
         Err(_) => Err(ControlFault::NoMemory),

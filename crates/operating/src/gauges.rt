@@ -1,6 +1,6 @@
 //! What a run shows while it goes on, who steers it, and who records it.
 
-ghost use Rattle.std.specs.Prelude.{◌≡◌, None, IsNone, IsSome};
+ghost use Rattle.std.specs.Prelude.{◌≡◌, false, None, IsNone, IsSome};
 ghost use Rattle.outside.specs.declared.feed.Received.TheVariants.{Nothing};
 
 use crate::recorder::Recorder;
@@ -15,7 +15,7 @@ use std::sync::Arc;
 use std::sync::atomic::{AtomicU64, Ordering};
 use std::thread::Threads;
 
-/// What a source and a clock show of a run while it goes on.
+/// What is shown of a run while it goes on.
 #[derive(Drop)]
 pub struct Gauges {
     /// How many datagrams, or packets of one, came from nobody; they are let go.
@@ -32,8 +32,6 @@ pub struct Gauges {
     pub moment_ms: Cell<u64>,
     /// Whether lines of counts begin with the time.
     pub log_time: Cell<bool>,
-    /// Whether what was received last is a report that was made in the name of an endpoint that only listens.
-    pub made: Cell<bool>,
     /// One more than what the system dropped at the sockets, and 0 while that isn't known; nothing if nobody looks.
     unread: RefCell<Option<Arc<AtomicU64, Global>>>,
     /// Who steers the run, if anybody may.
@@ -58,7 +56,6 @@ impl Gauges {
             beyond: Cell::new(0),
             moment_ms: Cell::new(0),
             log_time: Cell::new(false),
-            made: Cell::new(false),
             unread: RefCell::new(None),
             steering: None,
             recorder: None,
@@ -84,8 +81,10 @@ impl Gauges {
         self.recorder = Some(RefCell::new(recorder));
     }
 
-    /// Who records the run.
-    pub(crate) fn recorder(&self) -> Option<RefMut<'_, Recorder>> {
+    /// Who records the run, if anybody may.
+    pub fn recorder(&self) -> Option<RefMut<'_, Recorder>>
+        ensures { self.now.recorder ≡ None → IsNone result }
+    {
         let Some(recorder) = &self.recorder else {
             return None;
         };
@@ -107,7 +106,9 @@ impl Gauges {
     }
 
     /// Whether the run is being recorded.
-    fn is_recorded(&self) -> bool {
+    pub fn is_recorded(&self) -> bool
+        ensures { self.now.recorder ≡ None → result ≡ false }
+    {
         match self.recorder() {
             Some(recorder) => recorder.is_on(),
             None => false,
@@ -138,8 +139,9 @@ impl Gauges {
         }
     }
 
-    /// What peers want of the unit by now. What they want of its record is done here.
-    pub(crate) fn wished(&self) -> Received
+    /// What peers want of the unit by now: that a leg is switched, or that it stops; nothing, if nobody may steer it. What they want of its
+    /// record is done here.
+    pub fn wished(&self) -> Received
         ensures { self.now.steering ≡ None → result ≡ Nothing }
     {
         let (moment, is_recorded) = (self.moment_ms.get(), self.is_recorded());

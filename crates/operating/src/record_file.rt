@@ -27,13 +27,12 @@ const BLOCKS: usize = 256;
 const VERSION: &str = "0.1.0";
 
 /// Makes a file at the path, which isn't there yet, and records there what a unit takes in, at most so many bytes. The settings that the
-/// unit has come from a file with this SHA-256, and it ticks as often as every so many milliseconds.
+/// unit has come from a file with this SHA-256.
 pub fn open_record<R: AllocGlobal + Files<File = File> + Net + Threads + time::Clock>(
     rt: &R,
     path: &str,
     limit: u64,
     settings: &[u8],
-    tick_ms: u64,
 ) -> Result<Recorder, RecordFault>
     ensures begun { IfOk result (λ r. (r.has_begun ≡ true) × (r.is_open ≡ true)) }
     ensures head { IfOk result (λ r. BeginsRecord limit settings.now r.tape) }
@@ -41,7 +40,7 @@ pub fn open_record<R: AllocGlobal + Files<File = File> + Net + Threads + time::C
     let head = head_of(rt, settings)?;
     let file = create(rt, path)?;
     let (outlet, thread) = start_courier(rt, BLOCKS, Scroll::File(file))?;
-    let mut recorder = Recorder::new(rt.alloc(), tick_ms, head, outlet, thread);
+    let mut recorder = Recorder::new(rt.alloc(), head, outlet, thread);
     recorder.begin(limit);
     Ok(recorder)
 }
@@ -50,13 +49,12 @@ pub fn open_record<R: AllocGlobal + Files<File = File> + Net + Threads + time::C
 pub(crate) fn idle_record<R: AllocGlobal + Net + Threads + time::Clock>(
     rt: &R,
     settings: &[u8],
-    tick_ms: u64,
 ) -> Result<Recorder, RecordFault>
     ensures { IfOk result (λ r. (r.has_begun ≡ false) × (r.is_open ≡ false)) }
 {
     let head = head_of(rt, settings)?;
     let (outlet, thread) = start_courier(rt, BLOCKS, Scroll::Nobody)?;
-    Ok(Recorder::new(rt.alloc(), tick_ms, head, outlet, thread))
+    Ok(Recorder::new(rt.alloc(), head, outlet, thread))
 }
 
 /// The head of a record of a unit that begins now.

@@ -2,13 +2,16 @@
 
 ghost use Rattle.std.specs.Prelude.{◌≡◌, true, false};
 ghost use Rattle.std.specs.String.{string_bytes};
-ghost use Rattle.recording.specs.Tapes.{IsPut, new_tape};
+ghost use Rattle.events.specs.declared.event.Event.TheVariants.{Tick};
+ghost use Rattle.recording.specs.Lines.{event_lines};
+ghost use Rattle.recording.specs.Taken.{taken_lines};
+ghost use Rattle.recording.specs.Tapes.{IsMadeAndPut, IsPut, new_tape};
+ghost use Rattle.operating.specs.Records.{IsHandedOn, IsWritten};
 
 use crate::courier::Outlet;
 use crate::scroll::Scroll;
-use outside::{ReceiveFault, Received, Ticks};
-use recording::{End, Tape, begun_line, made_lines, selected_lines, ticked_lines};
-use std::alloc::{AllocError, Global};
+use recording::{End, Taken, Tape, begun_line};
+use std::alloc::Global;
 use std::os::unix::net::UnixStream;
 use std::thread::{JoinHandle, Threads};
 use std::time::Duration;
@@ -25,21 +28,6 @@ const FLUSH_MS: u64 = 1000;
 
 /// Who asked for a record may leave it unread for so many seconds; then it ends.
 const PATIENCE_S: u64 = 10;
-
-/// What came in this turn and wasn't written down yet, since its moment isn't told.
-#[derive(Clone, Copy)]
-enum Came {
-    Nothing,
-    Datagram {
-        endpoint: u16,
-        /// Whether the unit made it, in the endpoint's name.
-        made: bool,
-    },
-    Select {
-        leg: u16,
-        on: bool,
-    },
-}
 
 /// A leg that is sent on or not, unlike at the start of its unit.
 #[derive(Clone, Copy, PartialEq, Eq)]
@@ -59,11 +47,6 @@ pub struct Recorder {
     has_begun: bool,
     /// Whether what is handed on is written to somewhere.
     is_open: bool,
-    came: Came,
-    /// The bytes of a datagram that came.
-    bytes: Vec<u8>,
-    /// When the unit makes ticks.
-    ticks: Ticks,
     /// The moment from which on what waits is handed on.
     due_ms: u64,
     /// The way to the thread that writes: blocks of whole lines.
@@ -72,10 +55,9 @@ pub struct Recorder {
 }
 
 impl Recorder {
-    /// Of a unit that ticks with this step in milliseconds, for which nobody wants a record yet. Each record begins with these lines.
+    /// Of a unit for which nobody wants a record yet. Each record begins with these lines.
     pub(crate) fn new(
         alloc: Global,
-        tick_ms: u64,
         head: String,
         outlet: Outlet<Scroll>,
         thread: JoinHandle<()>,
@@ -91,9 +73,6 @@ impl Recorder {
             tape: nothing,
             has_begun: false,
             is_open: false,
-            came: Came::Nothing,
-            bytes: Vec::new(alloc),
-            ticks: Ticks::new(tick_ms),
             due_ms: 0,
             outlet,
             thread,
@@ -123,13 +102,14 @@ impl Recorder {
         }
         self.hand_on_done();
         self.begin(RECORD_LIMIT);
-        let line = begun_line(self.alloc, moment);
-        self.put(line);
-        for Switched { leg, on } in switched {
-            let lines = selected_lines(self.alloc, moment, *leg, *on);
-            self.put(lines);
+        match begun_line(self.alloc, moment) {
+            Ok(line) => self.tape.put(line.as_str()),
+            Err(_) => self.tape.end(End::Memory),
         }
-        self.came = Came::Nothing;
+        for Switched { leg, on } in switched {
+            let (leg, on) = (*leg, *on);
+            self.tape.put_taken(moment, Taken::Select { leg, on });
+        }
     }
 
     /// Tells the peer that its request is done; what comes after that is its record.
@@ -145,59 +125,23 @@ impl Recorder {
         self.tape.end(End::Off);
     }
 
-    /// Whether a record is being made.
-    pub(crate) fn is_on(&self) -> bool {
+    /// Whether a record is being made. One that has ended is until the next turn.
+    pub fn is_on(&self) -> bool
+        ensures { result ≡ self.now.is_open }
+    {
         self.is_open
     }
 
-    /// A receive gave this; the bytes of a datagram are the beginning of `out`. The unit made it itself, or not.
-    pub(crate) fn note(
-        &mut self,
-        received: &Result<Received, ReceiveFault>,
-        out: &[u8],
-        made: bool,
-    ) {
-        if self.tape.why_ended().is_some() {
+    /// In a turn this was taken in at this moment, in milliseconds since the run began. What waits is handed on if it is due.
+    pub fn note(&mut self, moment: u64, taken: Taken<'_>)
+        ensures off { self.old.is_open ≡ false → self.new.tape ≡ self.old.tape }
+        ensures on { self.old.is_open ≡ true
+            → IsWritten self.old.tape (taken_lines moment taken.entry) self.new.tape }
+    {
+        if !self.is_open {
             return;
         }
-        self.came = match received {
-            Ok(Received::Datagram { endpoint, length }) => match out.get(..*length) {
-                Some(bytes) => self.keep(*endpoint, bytes, made),
-                None => Came::Nothing,
-            },
-            Ok(Received::Select { leg, on }) => Came::Select { leg: *leg, on: *on },
-            Ok(Received::Nothing | Received::Stop) | Err(_) => Came::Nothing,
-        };
-    }
-
-    /// A copy of a datagram is kept until the moment is told.
-    fn keep(&mut self, endpoint: u16, bytes: &[u8], made: bool) -> Came {
-        self.bytes.clear();
-        match self.bytes.extend_from_slice(bytes) {
-            Ok(()) => Came::Datagram { endpoint, made },
-            Err(_) => {
-                self.tape.end(End::Memory);
-                Came::Nothing
-            }
-        }
-    }
-
-    /// What came is taken in at this moment, and then a tick is made if one is due.
-    pub(crate) fn take_in(&mut self, moment: u64) {
-        // Ticks go on while nobody wants a record: one that begins later has those that the unit makes.
-        let is_tick = self.ticks.take(moment);
-        if self.is_open {
-            self.put_event(moment, is_tick);
-        }
-    }
-
-    /// Puts the lines of what came and of a tick, and hands on what waits if it is due.
-    fn put_event(&mut self, moment: u64, is_tick: bool) {
-        self.put_came(moment);
-        if is_tick {
-            let lines = ticked_lines(self.alloc, moment);
-            self.put(lines);
-        }
+        self.tape.put_taken(moment, taken);
         if self.tape.why_ended().is_some() {
             self.close();
         } else if self.tape.waiting() >= BLOCK || moment >= self.due_ms {
@@ -206,46 +150,30 @@ impl Recorder {
         }
     }
 
+    /// The unit made a tick at this moment.
+    pub fn ticked(&mut self, moment: u64)
+        ensures off { self.old.is_open ≡ false → self.new.tape ≡ self.old.tape }
+        ensures on { self.old.is_open ≡ true
+            → IsMadeAndPut self.old.tape (event_lines (Tick moment)) self.new.tape }
+    {
+        if self.is_open {
+            self.tape.put_ticked(moment);
+        }
+    }
+
     /// The record has ended: hands on what waits, and lets go of where it is written. If the thread has no room to be told so, the
     /// next turn tries again.
-    fn close(&mut self) {
+    fn close(&mut self)
+        ensures { IsHandedOn self.old.tape self.new.tape }
+    {
         self.hand_on();
         self.is_open = !self.outlet.turn_to(Scroll::Nobody);
     }
 
-    /// Puts the lines of what came.
-    fn put_came(&mut self, moment: u64) {
-        let came = self.came;
-        self.came = Came::Nothing;
-        match came {
-            Came::Nothing => {}
-            Came::Datagram { endpoint, made } => self.put_datagram(moment, endpoint, made),
-            Came::Select { leg, on } => {
-                let lines = selected_lines(self.alloc, moment, leg, on);
-                self.put(lines);
-            }
-        }
-    }
-
-    /// Puts the lines of the datagram that is kept. Most are heard: those are made where they wait.
-    fn put_datagram(&mut self, moment: u64, endpoint: u16, made: bool) {
-        if made {
-            let lines = made_lines(self.alloc, moment, endpoint, self.bytes.as_slice());
-            self.put(lines);
-        } else {
-            self.tape.put_heard(moment, endpoint, self.bytes.as_slice());
-        }
-    }
-
-    fn put(&mut self, lines: Result<String, AllocError>) {
-        match lines {
-            Ok(lines) => self.tape.put(lines.as_str()),
-            Err(_) => self.tape.end(End::Memory),
-        }
-    }
-
     /// Hands on what waits. Nobody is waited for: if the ring is full, who writes is too slow, and the record ends.
-    fn hand_on(&mut self) {
+    fn hand_on(&mut self)
+        ensures { IsHandedOn self.old.tape self.new.tape }
+    {
         if self.outlet.has_failed() {
             self.tape.end(End::Failed);
             return;

@@ -1,46 +1,9 @@
-//! A feed and a watch of a unit that may be steered.
+//! A watch of a unit that may be steered.
 
 use crate::gauges::Gauges;
 use desk::Desk;
-use outside::{Feed, Look, ReceiveFault, Received, Status, Watch};
+use outside::{Look, Status, Watch};
 use traffic::Traffic;
-
-/// A feed, and what peers want beside.
-#[derive(Drop)]
-pub struct SteeredFeed<'a, F: Drop> {
-    pub feed: F,
-    pub gauges: &'a Gauges,
-}
-
-impl<F: Feed + Drop> Feed for SteeredFeed<'_, F> {
-    ghost use Rattle.std.specs.Prelude.{◌≡◌, ◌⊎◌, ◌+◌, ◌∷◌, [], None, length, IfOk, OnOk, OnErr};
-    ghost use Rattle.outside.specs.Outside.{FitsIn, Grows, arrival_of};
-    ghost use Rattle.operating.specs.Steered.{IsWish};
-
-    ghost failures = { λ s. F.failures s.feed };
-
-    ghost given = { λ _. None };
-
-    fn receive(&mut self, out: &mut [u8]) -> Result<Received, ReceiveFault>
-        ensures within { IfOk result (FitsIn (length out.new)) }
-        ensures given { Grows None (arrival_of out.new result ∷ []) None }
-        ensures ok { OnOk result (F.failures self.new.feed ≡ F.failures self.old.feed) }
-        ensures err { OnErr result
-            (F.failures self.new.feed ≡ F.failures self.old.feed + 1) }
-        ensures steered { (IsWish result × (self.new.feed ≡ self.old.feed))
-            ⊎ Grows (F.given self.old.feed) (arrival_of out.new result ∷ [])
-            (F.given self.new.feed) }
-        ensures alone { self.old.gauges.now.steering ≡ None
-            → Grows (F.given self.old.feed) (arrival_of out.new result ∷ [])
-            (F.given self.new.feed) }
-    {
-        match self.gauges.wished() {
-            Received::Select { leg, on } => Ok(Received::Select { leg, on }),
-            Received::Stop => Ok(Received::Stop),
-            Received::Nothing | Received::Datagram { .. } => self.feed.receive(out),
-        }
-    }
-}
 
 /// A watch, and what peers are shown beside.
 #[derive(Drop)]

@@ -38,6 +38,10 @@ heard_head moment endpoint =
 abbrev pub made_mark : List ℕ
 made_mark = codes "# made in its name\n"
 
+-- lines of a datagram after the comment with what came of which a policy made it
+abbrev pub after_came : List ℕ → List ℕ → List ℕ
+after_came came lines = codes "# came " ++ (encode_lower came ++ (codes "\n" ++ lines))
+
 -- the comment after the head of a record that begins in the middle of a run
 abbrev pub begun_line : ℕ → List ℕ
 begun_line moment = codes "# begins in the middle of a run, at moment " ++ (decimal moment ++ codes "\n")

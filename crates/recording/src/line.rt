@@ -3,14 +3,14 @@
 ghost use Rattle.std.specs.Prelude.{◌≡◌, ◌++◌, IfOk, OnOk};
 ghost use Rattle.std.specs.String.{string_bytes};
 ghost use Rattle.events.specs.declared.event.Event.TheVariants.{Hear, Tick, Select};
-ghost use Rattle.recording.specs.Lines.{begun_line, event_lines, heard_head, made_mark, switch_word};
+ghost use Rattle.recording.specs.Lines.{after_came, begun_line, event_lines, heard_head, made_mark, switch_word};
 
 use std::alloc::{AllocError, Global};
 use std::fmt::Write;
 
 /// The lines of a datagram that an endpoint's number sent, heard at this moment in milliseconds; none of one without bytes, which does
 /// nothing. Refused for want of memory alone.
-pub fn heard_lines(
+pub(crate) fn heard_lines(
     alloc: Global,
     moment: u64,
     endpoint: u16,
@@ -40,7 +40,7 @@ pub(crate) fn write_heard_head(
 
 /// The lines of a report that the unit made in the name of an endpoint that only listens: those of a datagram that it sent, after a
 /// comment that says so. Refused for want of memory alone.
-pub fn made_lines(
+pub(crate) fn made_lines(
     alloc: Global,
     moment: u64,
     endpoint: u16,
@@ -53,6 +53,23 @@ pub fn made_lines(
     format!(in alloc; "# made in its name\n{heard}")
 }
 
+/// The lines of a datagram that a policy made of what an endpoint sent: its own, after a comment with what came. Refused for want of memory
+/// alone.
+pub(crate) fn changed_lines(
+    alloc: Global,
+    moment: u64,
+    endpoint: u16,
+    bytes: &[u8],
+    came: &[u8],
+) -> Result<String, AllocError>
+    ensures { IfOk result (λ text. string_bytes text
+        ≡ after_came came.now (event_lines (Hear moment endpoint bytes.now))) }
+{
+    let heard = heard_lines(alloc, moment, endpoint, bytes)?;
+    let hex = hex::encode(alloc, came)?;
+    format!(in alloc; "# came {hex}\n{heard}")
+}
+
 /// The comment after the head of a record that begins at this moment in milliseconds, in the middle of a run. Refused for want of memory
 /// alone.
 pub fn begun_line(alloc: Global, moment: u64) -> Result<String, AllocError>
@@ -62,14 +79,19 @@ pub fn begun_line(alloc: Global, moment: u64) -> Result<String, AllocError>
 }
 
 /// The lines of a tick at this moment in milliseconds. Refused for want of memory alone.
-pub fn ticked_lines(alloc: Global, moment: u64) -> Result<String, AllocError>
+pub(crate) fn ticked_lines(alloc: Global, moment: u64) -> Result<String, AllocError>
     ensures { IfOk result (λ text. string_bytes text ≡ event_lines (Tick moment)) }
 {
     format!(in alloc; "tick {moment}\nfollow\n")
 }
 
 /// The lines of a leg that is selected or not from this moment in milliseconds on. Refused for want of memory alone.
-pub fn selected_lines(alloc: Global, moment: u64, leg: u16, on: bool) -> Result<String, AllocError>
+pub(crate) fn selected_lines(
+    alloc: Global,
+    moment: u64,
+    leg: u16,
+    on: bool,
+) -> Result<String, AllocError>
     ensures { IfOk result (λ text. string_bytes text ≡ event_lines (Select moment leg on)) }
 {
     let switch = switch_word(on);

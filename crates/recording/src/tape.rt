@@ -1,13 +1,17 @@
 //! What is written of a record, and when it ends.
 
-ghost use Rattle.std.specs.Prelude.{◌≡◌, ◌<◌, ◌≤◌, ◌+◌, ◌++◌, length, take, MatchOption, OnOk, OnErr};
-ghost use Rattle.events.specs.declared.event.Event.TheVariants.{Hear};
+ghost use Rattle.std.specs.Prelude.{◌≡◌, ◌<◌, ◌≤◌, ◌+◌, ◌++◌, length, take, MatchOption, MatchResult, OnOk, OnErr};
+ghost use Rattle.std.specs.String.{string_bytes};
+ghost use Rattle.events.specs.declared.event.Event.TheVariants.{Hear, Tick};
 ghost use Rattle.hex.specs.Hex.{encode_lower};
 ghost use Rattle.recording.specs.Lines.{event_lines, follow_line};
+ghost use Rattle.recording.specs.Taken.{taken_lines, with_origin};
+ghost use Rattle.recording.specs.declared.tape.End.TheVariants.{Memory};
 ghost use Rattle.recording.specs.Tapes.{IsMadeAndPut, IsPut, end_name, ended, new_tape, taken};
 
 use crate::digits::append_digits;
-use crate::line::write_heard_head;
+use crate::line::{changed_lines, made_lines, selected_lines, ticked_lines, write_heard_head};
+use crate::taken::{Origin, Taken};
 use std::alloc::{AllocError, Global};
 use std::marker::Model;
 use std::mem;
@@ -81,9 +85,65 @@ impl Tape {
         }
     }
 
+    /// Puts the lines of what a unit took in at this moment in milliseconds, as `put` puts lines; none of a datagram without bytes, which does
+    /// nothing. If there is no memory to make them the record ends.
+    pub fn put_taken(&mut self, moment: u64, taken: Taken<'_>)
+        ensures { IsMadeAndPut self.old (taken_lines moment taken.entry) self.new }
+    {
+        match taken {
+            Taken::Nothing => self.put(""),
+            Taken::Select { leg, on } => {
+                let lines = selected_lines(self.alloc, moment, leg, on);
+                self.put_made(lines)
+            }
+            Taken::Datagram {
+                endpoint,
+                bytes,
+                origin,
+            } => self.put_datagram(moment, endpoint, bytes, origin),
+        }
+    }
+
+    /// Puts the lines of a tick that a unit made at this moment in milliseconds, in the same way.
+    pub fn put_ticked(&mut self, moment: u64)
+        ensures { IsMadeAndPut self.old (event_lines (Tick moment)) self.new }
+    {
+        let lines = ticked_lines(self.alloc, moment);
+        self.put_made(lines)
+    }
+
+    /// Puts the lines of a datagram. Most are what came: those are made where they wait.
+    fn put_datagram(&mut self, moment: u64, endpoint: u16, bytes: &[u8], origin: Origin<'_>)
+        ensures { IsMadeAndPut self.old
+            (with_origin origin.entry (event_lines (Hear moment endpoint bytes.now))) self.new }
+    {
+        match origin {
+            Origin::Came => self.put_heard(moment, endpoint, bytes),
+            Origin::Made => {
+                let lines = made_lines(self.alloc, moment, endpoint, bytes);
+                self.put_made(lines)
+            }
+            Origin::Changed(came) => {
+                let lines = changed_lines(self.alloc, moment, endpoint, bytes, came);
+                self.put_made(lines)
+            }
+        }
+    }
+
+    /// Puts these lines. If there was no memory to make them the record ends.
+    fn put_made(&mut self, lines: Result<String, AllocError>)
+        ensures { MatchResult lines (λ text. IsPut self.old (string_bytes text) self.new)
+            (λ _. self.new ≡ ended Memory self.old) }
+    {
+        match lines {
+            Ok(lines) => self.put(lines.as_str()),
+            Err(_) => self.end(End::Memory),
+        }
+    }
+
     /// Puts the lines of a datagram that an endpoint's number sent, heard at this moment in milliseconds, as `heard_lines` makes them, and
     /// as `put` puts them. If there is no memory to make them the record ends.
-    pub fn put_heard(&mut self, moment: u64, endpoint: u16, bytes: &[u8])
+    fn put_heard(&mut self, moment: u64, endpoint: u16, bytes: &[u8])
         ensures { IsMadeAndPut self.old (event_lines (Hear moment endpoint bytes.now)) self.new }
     {
         if bytes.is_empty() {
