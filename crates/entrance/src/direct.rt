@@ -103,8 +103,8 @@ impl Kept {
     }
 }
 
-/// The source of an endpoint.
-fn own_source(links: &Links, endpoint: u16) -> Ssrc
+/// The source of an endpoint; 0 if there is none with this number.
+pub fn own_source(links: &Links, endpoint: u16) -> Ssrc
     ensures { result ≡ source_of links.now endpoint }
 {
     links.ssrc_of(endpoint).unwrap_or(Ssrc(0))

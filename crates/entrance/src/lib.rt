@@ -6,5 +6,5 @@
 mod direct;
 mod entrance;
 
-pub use direct::{Direct, Kept};
+pub use direct::{Direct, Kept, own_source};
 pub use entrance::{Admitted, Came, Entrance};

@@ -150,6 +150,11 @@ impl Recorder {
         }
     }
 
+    /// What was taken in can't be written down, for want of memory: the record ends.
+    pub fn lacks_memory(&mut self) {
+        self.tape.end(End::Memory);
+    }
+
     /// The unit made a tick at this moment.
     pub fn ticked(&mut self, moment: u64)
         ensures off { self.old.is_open ≡ false → self.new.tape ≡ self.old.tape }

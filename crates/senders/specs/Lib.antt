@@ -2,7 +2,6 @@ pub mod Occupancy
 pub mod Naming
 pub mod Senders
 pub mod Listeners
-pub mod Reports
 pub mod Network
 pub mod Seat
 pub mod Learners

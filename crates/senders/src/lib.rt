@@ -2,7 +2,7 @@
 //! they only listen.
 //!
 //! Read `senders` first. It stands on `occupancy`, who is at a key, and `naming`, which source a datagram names. `listeners` are the
-//! endpoints that are present whatever they say; `reports` are the packets that tell of them: goodbyes, and the report that is made.
+//! endpoints that are present whatever they say.
 #![tactic(auto)]
 
 mod learners;
@@ -10,7 +10,6 @@ mod listeners;
 mod naming;
 mod network;
 mod occupancy;
-mod reports;
 mod seat;
 mod senders;
 
@@ -19,6 +18,5 @@ pub use listeners::{Listeners, Standing};
 pub use naming::{first_size, source_named};
 pub use network::{Network, read_network};
 pub use occupancy::{Occupancy, Occupants};
-pub use reports::{EMPTY_REPORT, empty_report, says_goodbye};
 pub use seat::{Kind, Seat};
 pub use senders::{Front, Origin, Senders};

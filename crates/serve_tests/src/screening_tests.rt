@@ -121,7 +121,10 @@ fn starts_of_a_source(rt: HostRuntime) -> Result<(), Fail> {
         ..Rules::none()
     };
     let text = judged(rt.alloc(), rules, &ODD)?;
-    assert_eq!(rt; text.as_str(), "take, take, put by, take, put by, anew, take, 2 far");
+    assert_eq!(rt;
+        text.as_str(),
+        "take, take, put by, take, put by, anew, take, 2 far"
+    );
     Ok(())
 }
 

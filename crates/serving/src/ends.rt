@@ -3,23 +3,22 @@
 use crate::repeated::RepeatingWatch;
 use crate::serve_fault::ServeFault;
 use addressing::{Client, Directory};
-use operating::{ControlHeard, Gauges, SteeredWatch};
-use outside::Fed;
-use repeats::{Holding, Sets};
-use screening::{Rules, Screen};
+use operating::{Gauges, SteeredWatch};
+use repeats::Sets;
+use screening::Rules;
 use settings::Settings;
-use sockets::{Arrivals, SocketSink, SocketSource, Sockets};
+use sockets::{Door, Outlook, SocketSink, Sockets};
 use std::alloc::{AllocError, Global};
 use std::cell::RefCell;
+use std::time;
 use traffic::Traffic;
 use workers::Watch;
 
-/// What all threads of a run look at: where endpoints are, and what came and went; and what the receiving one keeps through a turn.
+/// What all threads of a run look at: where endpoints are, and what came and went.
 #[derive(Drop)]
 pub(crate) struct Common {
     pub(crate) directory: Directory,
     pub(crate) traffic: Traffic,
-    pub(crate) control: ControlHeard,
     /// What publishers are asked for again.
     pub(crate) sets: RefCell<Sets>,
 }
@@ -36,14 +35,10 @@ impl Common {
         Ok(Common {
             directory: Directory::new(alloc, clients)?,
             traffic: Traffic::new(alloc, settings)?,
-            control: ControlHeard::new(alloc)?,
             sets: RefCell::new(sets),
         })
     }
 }
-
-/// What comes to the sockets, screened by these rules, and what is to be heard once more.
-pub(crate) type RunFeed<'a> = Holding<'a, Screen<'a, Fed<SocketSource<'a>>>>;
 
 /// What a run stands between: sockets, and the clients there; and by which rules what comes is looked at.
 #[derive(Clone, Copy)]
@@ -54,14 +49,13 @@ pub(crate) struct Ends<'a> {
     pub(crate) common: &'a Common,
 }
 
-/// What comes to the sockets, screened and held, of a unit in which the moment rises by so much between two ticks.
-pub(crate) fn feed_on<'a>(
-    alloc: Global,
+/// Where what comes to the sockets is let in, by these rules.
+pub(crate) fn door_on<'a, R: AllocGlobal + time::Clock>(
+    rt: &'a R,
     ends: Ends<'a>,
     settings: &'a Settings,
-    tick_ms: u64,
     gauges: &'a Gauges,
-) -> Result<RunFeed<'a>, ServeFault> {
+) -> Result<Door<'a, R>, ServeFault> {
     let Ends {
         sockets,
         clients,
@@ -75,33 +69,24 @@ pub(crate) fn feed_on<'a>(
         directory,
         traffic,
         sets,
-        ..
     } = common;
-    let flood_limit = rules.flood_limit;
-    let arrivals = Arrivals::new(
-        alloc,
-        listening,
-        settings,
-        clients,
-        flood_limit,
+    let outlook = Outlook {
         directory,
         gauges,
         traffic,
-    )?;
-    let datagrams = Fed::by(SocketSource::new(sockets, arrivals, gauges));
-    let screen = Screen::new(alloc, datagrams, settings.endpoints(), rules, &gauges.far)?;
-    let moment_ms = &gauges.moment_ms;
-    let screen = screen.bounding(alloc, settings, traffic, moment_ms, &gauges.held)?;
-    let feed = Holding::new(
-        alloc,
-        screen,
-        settings,
-        rules.repeat_ms,
-        tick_ms,
-        moment_ms,
         sets,
+    };
+    let door = Door::new(
+        rt.alloc(),
+        rt,
+        sockets,
+        listening,
+        settings,
+        clients,
+        rules,
+        outlook,
     )?;
-    Ok(feed)
+    Ok(door)
 }
 
 /// Who looks at the run: this watch, what peers are shown beside, and who looks at desks so that publishers are asked again.

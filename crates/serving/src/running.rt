@@ -5,20 +5,19 @@ ghost use Rattle.settings.specs.Settings.{IsInRange};
 ghost use Rattle.rate_desk.specs.Gathered.{AreDesksOf};
 ghost use Rattle.serving.specs.DrivenReport.{IsDrivenReport};
 
-use crate::ends::{Common, Ends, feed_on, watch_on};
+use crate::ends::{Common, Ends, door_on, watch_on};
 use crate::serve_fault::ServeFault;
 use addressing::Client;
-use one_thread::run_one_thread;
-use operating::{ControlHeard, Gauges, RecordedClock, RecordedFeed, SteeredFeed};
-use outside::{Feed, Sink, Timed};
+use entrance::Entrance;
+use operating::Gauges;
 use screening::Rules;
 use settings::Settings;
-use sockets::{RunClock, SocketSink, Sockets, say_goodbyes, socket_sinks};
+use sockets::{SocketSink, Sockets, say_goodbyes, socket_sinks};
 use std::alloc::Global;
 use std::sync::Wait;
 use std::thread::Threads;
 use std::time;
-use workers::{Open, Outside, Pace, Report, Watch, run_watched};
+use workers::{Open, Pace, Report, Watch};
 
 /// Runs the unit on the sockets for so many turns: in this thread if there is one worker, else with a thread for each. If somebody has it
 /// stopped, each endpoint that is present is sent a goodbye of the unit and of the legs to it (`goodbye_of`), which isn't counted in the
@@ -123,18 +122,17 @@ fn run_watched_here<R: AllocGlobal + time::Clock, W: Watch + Drop>(
         (length settings.now.endpoints) r.desks.items) }
     ensures driven { IfOk result (IsDrivenReport settings.now pace.tick_ms pace.turns) }
 {
-    let feed = feed_on(rt.alloc(), ends, settings, pace.tick_ms, gauges)?;
-    drive(rt, ends, settings, pace, gauges, feed, watch)
+    let mut door = door_on(rt, ends, settings, gauges)?;
+    drive(rt.alloc(), ends, settings, pace, &mut door, watch)
 }
 
-/// Drives the machine over this feed and this watch.
-fn drive<R: AllocGlobal + time::Clock, F: Feed + Drop, W: Watch + Drop>(
-    rt: &R,
+/// Drives the machine through this entrance, with this watch.
+fn drive<E: Entrance, W: Watch + Drop>(
+    alloc: Global,
     ends: Ends<'_>,
     settings: &Settings,
     pace: Pace,
-    gauges: &Gauges,
-    feed: F,
+    entrance: &mut E,
     watch: W,
 ) -> Result<Report, ServeFault>
     requires { settings.now.workers ≡ 1 }
@@ -145,44 +143,13 @@ fn drive<R: AllocGlobal + time::Clock, F: Feed + Drop, W: Watch + Drop>(
     let Common {
         directory,
         traffic,
-        control,
         ..
     } = ends.common;
     let mut watch = watch;
-    let mut feed = recorded(feed, gauges, control);
     let mut sink = SocketSink::new(ends.sockets, directory, traffic);
-    let clock = Timed::by(RunClock::new(rt, &gauges.moment_ms));
-    let mut clock = RecordedClock {
-        clock,
-        gauges,
-        control,
-        traffic,
-    };
-    match run_one_thread(
-        rt.alloc(),
-        settings,
-        &mut feed,
-        &mut sink,
-        &mut clock,
-        &mut watch,
-        pace,
-    ) {
+    match one_thread::run_through(alloc, settings, entrance, &mut sink, &mut watch, pace) {
         Ok(report) => Ok(report_of(report)),
         Err(fault) => Err(ServeFault::from(fault)),
-    }
-}
-
-/// This feed, steered and recorded.
-fn recorded<'a, F: Feed + Drop>(
-    feed: F,
-    gauges: &'a Gauges,
-    control: &'a ControlHeard,
-) -> RecordedFeed<'a, SteeredFeed<'a, F>> {
-    let feed = SteeredFeed { feed, gauges };
-    RecordedFeed {
-        feed,
-        gauges,
-        control,
     }
 }
 
@@ -242,47 +209,8 @@ fn run_watched_on_threads<R: AllocGlobal + Threads + Wait + Sync + time::Clock, 
         ..
     } = ends.common;
     let sinks = socket_sinks(alloc, ends.sockets, directory, traffic, count)?;
-    let feed = feed_on(alloc, ends, settings, pace.tick_ms, gauges)?;
-    spread(rt, ends.common, settings, pace, gauges, feed, sinks, watch)
-}
-
-/// Runs threads over this feed, these sinks and this watch.
-fn spread<
-    R: AllocGlobal + Threads + Wait + Sync + time::Clock,
-    F: Feed + Drop,
-    Snk: Sink + Send + Drop,
-    W: Watch + Drop,
->(
-    rt: &R,
-    common: &Common,
-    settings: &Settings,
-    pace: Pace,
-    gauges: &Gauges,
-    feed: F,
-    sinks: Vec<Snk>,
-    watch: W,
-) -> Result<Report, ServeFault>
-    requires { vec_len sinks ≡ settings.now.workers + 1 }
-    ensures { IfOk result (λ r. AreDesksOf settings.now.pli_gap_ms settings.now.request_ms
-        (length settings.now.endpoints) r.desks.items) }
-{
-    let Common {
-        traffic,
-        control,
-        ..
-    } = common;
-    let outside = Outside {
-        feed: recorded(feed, gauges, control),
-        sinks,
-        clock: RecordedClock {
-            clock: Timed::by(RunClock::new(rt, &gauges.moment_ms)),
-            gauges,
-            control,
-            traffic,
-        },
-        watch,
-    };
-    match run_watched(rt, rt.alloc(), settings, outside, &Open, pace) {
+    let door = door_on(rt, ends, settings, gauges)?;
+    match workers::run_through(rt, alloc, settings, door, sinks, watch, &Open, pace) {
         Ok(report) => Ok(report),
         Err(fault) => Err(ServeFault::from(fault)),
     }

@@ -1,3 +1,5 @@
-pub mod Arrivals
+pub mod Kept
+pub mod Door
 pub mod Goodbyes
 pub mod Sockets
+pub mod Who

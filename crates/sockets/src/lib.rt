@@ -1,15 +1,21 @@
 //! What a unit needs from outside, on UDP sockets: what comes, where what it sends goes, what time it is.
 //!
-//! Read `socket` first, the `Source`, `Sink` and `Clock` of a unit on one socket or two. `arrivals` says who sent what came, and makes
-//! reports for who only listens; `drops` reads what the system dropped; `goodbyes` are said when a unit is stopped.
+//! Read `socket` first, the sockets and what is sent by them, then `door`, where what comes is let in: `inbox` receives it, `who` says who sent
+//! it, `kept` is what was read of it, `scribe` tells who records the run, `clock` the moment. `drops` reads what the system dropped;
+//! `goodbyes` are said when a unit is stopped.
 #![tactic(auto)]
 
-mod arrivals;
+mod clock;
+mod door;
 mod drops;
 mod goodbyes;
+mod inbox;
+mod kept;
+mod scribe;
 mod socket;
+mod who;
 
-pub use arrivals::Arrivals;
+pub use door::{Door, Outlook};
 pub use drops::{DropWatch, watch_drops};
 pub use goodbyes::say_goodbyes;
-pub use socket::{RunClock, SocketSink, SocketSource, Sockets, socket_sinks};
+pub use socket::{SocketSink, Sockets, socket_sinks};

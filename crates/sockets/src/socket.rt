@@ -1,20 +1,16 @@
-//! The unit's outside on UDP sockets.
+//! The sockets of a unit, and what is sent by them.
 
-ghost use Rattle.std.specs.Prelude.{◌≡◌, ◌≤◌, ◌+◌, None, length, vec_len, is_some, map, replicate, IfOk, IfSome};
-ghost use Rattle.sockets.specs.Sockets.{is_silence, later_moment};
+ghost use Rattle.std.specs.Prelude.{◌≡◌, None, vec_len, is_some, map, replicate, IfOk};
 
-use crate::arrivals::Arrivals;
 use addressing::{Directory, Listening};
 use events::Refusal;
-use operating::Gauges;
-use outside::{Clock, ReceiveFault, SendFault, Sink, Source};
+use outside::{SendFault, Sink};
 use rtcp_compound::is_rtcp;
 use senders::Kind;
 use std::alloc::{AllocError, Global};
-use std::cell::Cell;
-use std::io::{self, ErrorKind};
-use std::net::{SocketAddr, UdpSocket};
-use std::time::{self, Duration, Instant};
+use std::io;
+use std::net::UdpSocket;
+use std::time::Duration;
 use traffic::Traffic;
 
 /// How long a receive waits, in milliseconds, so that time goes on while nothing comes.
@@ -22,9 +18,6 @@ const RECEIVE_MS: u64 = 10;
 
 /// How long it waits if RTCP comes to a socket of its own, which is asked when the moment has changed.
 const SHORT_RECEIVE_MS: u64 = 2;
-
-/// How many receives in a row are from the socket of RTCP if both have something.
-const CONTROL_TURNS: u32 = 16;
 
 /// The sockets of a unit: one for all (RFC 5761), or one for RTP and one for RTCP (RFC 3550, section 11).
 #[derive(Clone, Copy)]
@@ -76,103 +69,6 @@ impl<'a> Sockets<'a> {
 fn waits(socket: &UdpSocket, wait_ms: u64) -> bool {
     let wait = Duration::from_millis(wait_ms);
     socket.set_read_timeout(Some(wait)).is_ok()
-}
-
-/// The datagrams that come to the sockets, and the reports that are made for who only listens. A receive waits no longer than the
-/// read timeout of the socket for media.
-#[derive(Drop)]
-pub struct SocketSource<'a> {
-    sockets: Sockets<'a>,
-    arrivals: Arrivals<'a>,
-    moment_ms: &'a Cell<u64>,
-    /// The moment at which the socket for RTCP was asked last, and how many times it may be asked still.
-    asked_ms: Option<u64>,
-    control_turns: u32,
-    /// How many receives failed.
-    failures: u64,
-}
-
-impl<'a> SocketSource<'a> {
-    /// The datagrams that come to these sockets from now on.
-    pub fn new(sockets: Sockets<'a>, arrivals: Arrivals<'a>, gauges: &'a Gauges) -> SocketSource<'a>
-        ensures failures { result.failures ≡ 0 }
-        ensures sockets { result.sockets ≡ sockets.entry }
-        ensures arrivals { result.arrivals ≡ arrivals.entry }
-        ensures asked { (result.asked_ms ≡ None) × (result.control_turns ≡ 0) }
-    {
-        SocketSource {
-            sockets,
-            arrivals,
-            moment_ms: &gauges.moment_ms,
-            asked_ms: None,
-            control_turns: 0,
-            failures: 0,
-        }
-    }
-
-    /// The next datagram of either socket.
-    fn come(&mut self, out: &mut [u8]) -> io::Result<(usize, SocketAddr)>
-        ensures within { IfOk result (λ came. came.0 ≤ length out.new) }
-        ensures failures { self.new.failures ≡ self.old.failures }
-    {
-        match self.control_come(out) {
-            Some(came) => came,
-            None => self.sockets.media.recv_from(out),
-        }
-    }
-
-    /// The next datagram of the socket for RTCP, if it is its turn and there is one.
-    fn control_come(&mut self, out: &mut [u8]) -> Option<io::Result<(usize, SocketAddr)>>
-        ensures within { IfSome result (λ r. IfOk r (λ came. came.0 ≤ length out.new)) }
-        ensures failures { self.new.failures ≡ self.old.failures }
-    {
-        let control = self.sockets.control?;
-        let moment = self.moment_ms.get();
-        if self.asked_ms != Some(moment) {
-            self.asked_ms = Some(moment);
-            self.control_turns = CONTROL_TURNS;
-        }
-        self.control_turns = self.control_turns.checked_sub(1)?;
-        match control.recv_from(out) {
-            Ok(came) => Some(Ok(came)),
-            Err(error) if is_silence(error.kind()) => {
-                self.control_turns = 0;
-                None
-            }
-            Err(error) => Some(Err(error)),
-        }
-    }
-}
-
-impl Source for SocketSource<'_> {
-    ghost failures = { λ s. s.failures };
-
-    fn receive(&mut self, out: &mut [u8]) -> Result<Option<(u16, usize)>, ReceiveFault> {
-        if let Some(waiting) = self.arrivals.waiting(out) {
-            return Ok(Some(waiting));
-        }
-        if self.arrivals.has_rest() {
-            return Ok(None);
-        }
-        match self.come(out) {
-            Ok((size, from)) => Ok(self.arrivals.heard(from, size, out)),
-            Err(error) if is_silence(error.kind()) || self.failures == u64::MAX => Ok(None),
-            Err(_) => {
-                self.failures += 1;
-                Err(ReceiveFault)
-            }
-        }
-    }
-}
-
-/// Whether a receive ended so since nothing came in time, or since a signal came meanwhile.
-fn is_silence(kind: ErrorKind) -> bool
-    ensures { result ≡ is_silence kind }
-{
-    matches!(
-        kind,
-        ErrorKind::WouldBlock | ErrorKind::TimedOut | ErrorKind::Interrupted
-    )
 }
 
 /// Sends datagrams to the endpoints' clients, and counts them.
@@ -271,52 +167,4 @@ pub fn socket_sinks<'a>(
         sinks.push(SocketSink::new(sockets, directory, traffic))?;
     }
     Ok(sinks)
-}
-
-/// The system's monotonic clock, in milliseconds since it was asked first. It shows others the last moment that it told.
-#[derive(Drop)]
-pub struct RunClock<'a, R: time::Clock> {
-    rt: &'a R,
-    start: Option<Instant>,
-    shown: &'a Cell<u64>,
-}
-
-impl<'a, R: time::Clock> RunClock<'a, R> {
-    /// A clock that wasn't asked yet.
-    pub fn new(rt: &'a R, shown: &'a Cell<u64>) -> RunClock<'a, R>
-        ensures start { result.start ≡ None }
-        ensures shown { result.shown ≡ shown.entry }
-    {
-        RunClock {
-            rt,
-            start: None,
-            shown,
-        }
-    }
-
-    /// How many milliseconds went by since the clock was asked first, if the system says so.
-    fn elapsed_ms(&mut self) -> Option<u64> {
-        let now = Instant::now(self.rt).ok()?;
-        let start = *self.start.get_or_insert(now);
-        u64::try_from(now.saturating_duration_since(start).as_millis()).ok()
-    }
-}
-
-impl<R: time::Clock> Clock for RunClock<'_, R> {
-    fn moment(&mut self) -> u64 {
-        let elapsed_ms = self.elapsed_ms();
-        let moment = later_moment(self.shown.get(), elapsed_ms);
-        self.shown.set(moment);
-        moment
-    }
-}
-
-/// The moment that a clock tells which told this one last, when so many milliseconds went by if the system says so: none before it.
-fn later_moment(told: u64, elapsed_ms: Option<u64>) -> u64
-    ensures { result ≡ later_moment told elapsed_ms }
-{
-    match elapsed_ms {
-        Some(elapsed_ms) => elapsed_ms.max(told),
-        None => told,
-    }
 }
