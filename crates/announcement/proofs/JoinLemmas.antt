@@ -1,5 +1,5 @@
 -- Feedback packets as packets of a compound datagram.
-use Rattle.std.proofs.Common.{◌≡◌, ◌∙◌, ℕ, ◌+◌, ◌*◌, ◌/◌, ◌%◌, ◌<◌, ◌≤◌, List, [], ◌∷◌, ◌++◌, length, refl, sym, subst, arith, append-nil}
+use Rattle.std.proofs.Common.{◌≡◌, ◌∙◌, ℕ, ◌/◌, ◌%◌, ◌<◌, ◌≤◌, List, [], ◌∷◌, length, refl, sym, subst, arith, append-nil}
 use Rattle.rtcp_compound.specs.Content.{feedback, packet_content}
 use Rattle.rtcp_compound.specs.Grammar.{ReadsRtcp}
 use Rattle.rtcp_compound.specs.Written.{Appends, plain_packet}

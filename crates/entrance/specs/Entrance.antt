@@ -1,5 +1,5 @@
 -- What an entrance lets in.
-use Rattle.std.specs.Prelude.{◌≡◌, ℕ, List, [], ◌∷◌, Option, Result, Ok, Err}
+use Rattle.std.specs.Prelude.{ℕ, List, [], ◌∷◌, Option, Result, Ok, Err}
 use Rattle.settings.specs.Links.{LinkTable}
 use Rattle.notices.specs.DeskCalls.{source_of}
 use Rattle.datagram.specs.Reads.{Admission, IsPacketRead, IsSaidBy}

@@ -1,9 +1,9 @@
 -- What is written, and what its body is read as.
-use Rattle.std.proofs.Common.{◌≡◌, ◌∙◌, ℕ, ◌+◌, ◌*◌, ◌/◌, ◌%◌, ◌^◌, ◌<◌, ◌≤◌, List, ◌∷◌, ◌++◌, length, refl, ap, arith, append_assoc}
+use Rattle.std.proofs.Common.{◌≡◌, ◌∙◌, ℕ, ◌+◌, ◌*◌, ◌/◌, ◌^◌, ◌<◌, ◌≤◌, List, ◌++◌, length, refl, ap, arith, append_assoc}
 use Rattle.std.specs.List.{flat_map, All}
 use Rattle.rtcp_feedback.specs.declared.tmmb.TmmbrEntry.{TmmbrEntry}
 use Rattle.rtcp_feedback.specs.Grammar.{entry_bytes, IsEntry, tmmbr, tmmbn, IsBody}
-use Rattle.rtcp_feedback.specs.Writing.{packet_bytes, front_bytes, tmmb_body, pli_body, IsReadAs}
+use Rattle.rtcp_feedback.specs.Writing.{packet_bytes, front_bytes, tmmb_body, IsReadAs}
 use Rattle.rtcp_feedback.proofs.EntryLemmas.{length-entries}
 
 -- a body with entries is two words and two for each entry

@@ -1,4 +1,3 @@
-use Rattle.std.proofs.Common.{sym}
 use Rattle.datagram.specs.Reads.{admission_of}
 use Rattle.core_steps.specs.Machine.{whole}
 use Rattle.core_steps.proofs.FrontLemmas.{not_busy}

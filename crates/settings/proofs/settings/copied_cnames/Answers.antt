@@ -1,4 +1,4 @@
-use Rattle.std.proofs.Common.{◌≡◌, ◌∙◌, ◌+◌, ◌<◌, List, ℕ, [], ◌∷◌, ◌++◌, length, drop, sym, ap, arith, append_assoc}
+use Rattle.std.proofs.Common.{◌∙◌, ◌+◌, ◌<◌, List, ℕ, [], ◌∷◌, ◌++◌, length, drop, sym, ap, arith, append_assoc}
 use Rattle.settings.specs.Settings.{additions_of, said_names}
 use Rattle.settings.proofs.SettingsLemmas.{names_more}
 use Rattle.settings.proofs.settings.copied_cnames.Goals as goal
