@@ -4,8 +4,8 @@ use Rattle.std.proofs.lemmas.List.{drop_all, drop_more}
 use Rattle.std.proofs.lemmas.Option.{get_or_from_slice_get, slice_get_within}
 use Rattle.events.specs.declared.output.Out.{Out}
 use Rattle.events.specs.declared.output.Out.TheVariants.{Send, Refused, Busy, Lost, Skip, Miss, Idle}
-use Rattle.outside.specs.declared.datagram.Datagram.{Datagram}
-use Rattle.outside.specs.Outside.{datagram_in, datagrams_of}
+use Rattle.ports.specs.declared.datagram.Datagram.{Datagram}
+use Rattle.ports.specs.Outside.{datagram_in, datagrams_of}
 use Rattle.conference.specs.Conference.{is_datagram}
 
 no_datagram : (o : Out) → is_datagram o ≡ false → datagram_in o ≡ []

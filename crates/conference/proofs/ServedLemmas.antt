@@ -5,8 +5,8 @@ use Rattle.std.proofs.lemmas.List.{drop-append-le}
 use Rattle.settings.specs.Settings.{Configuration, IsInRange}
 use Rattle.events.specs.declared.event.Event.{Event}
 use Rattle.events.specs.declared.output.Out.{Out}
-use Rattle.outside.specs.declared.datagram.Datagram.{Datagram}
-use Rattle.outside.specs.Outside.{datagram_in, datagrams_of}
+use Rattle.ports.specs.declared.datagram.Datagram.{Datagram}
+use Rattle.ports.specs.Outside.{datagram_in, datagrams_of}
 use Rattle.core_steps.specs.Happening.{Happening}
 use Rattle.core_steps.specs.Opening.{IsNewWorld}
 use Rattle.core_steps.specs.Run.{Runs, outs_of}

@@ -7,8 +7,8 @@ use Rattle.events.specs.declared.event.Event.{Event}
 use Rattle.events.specs.declared.output.Out.{Out}
 use Rattle.events.specs.declared.output.Out.TheVariants.{Send, Refused, Lost, Skip, Miss, Idle}
 use Rattle.events.specs.declared.output.Out.TheVariants as out
-use Rattle.outside.specs.declared.datagram.Datagram.{Datagram}
-use Rattle.outside.specs.Outside.{datagrams_of}
+use Rattle.ports.specs.declared.datagram.Datagram.{Datagram}
+use Rattle.ports.specs.Outside.{datagrams_of}
 use Rattle.core_steps.specs.Opening.{IsNewWorld}
 use Rattle.core_steps.specs.OverRuns.{Announces, EndsStays}
 use Rattle.core_steps.specs.Run.{Stays}

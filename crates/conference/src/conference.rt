@@ -35,7 +35,7 @@ pub struct Conference {
 
 impl Model for Conference {
     ghost use Rattle.std.specs.Prelude.{◌≡◌, ◌≤◌, drop, length};
-    ghost use Rattle.outside.specs.Outside.{datagrams_of};
+    ghost use Rattle.ports.specs.Outside.{datagrams_of};
     ghost use Rattle.conference.specs.Conference.{ConferenceState};
 
     ghost Value = { ConferenceState };

@@ -2,7 +2,7 @@
 
 ghost use Rattle.std.specs.Prelude.{◌≡◌, ◌≤◌, ◌<◌, [], true, length, drop, slice_get, slice_index_or, option_map};
 ghost use Rattle.events.specs.declared.output.Out.{Out as OutValue};
-ghost use Rattle.outside.specs.Outside.{datagram_in, datagrams_of};
+ghost use Rattle.ports.specs.Outside.{datagram_in, datagrams_of};
 ghost use Rattle.conference.specs.Conference.{datagram_of, is_datagram};
 
 use events::Out;

@@ -2,7 +2,7 @@
 
 ghost use Rattle.std.specs.Prelude.{◌≡◌, ◌∷◌, List};
 ghost use Rattle.events.specs.declared.event.Event.{Event};
-ghost use Rattle.outside.specs.declared.datagram.Datagram.{Datagram};
+ghost use Rattle.ports.specs.declared.datagram.Datagram.{Datagram};
 ghost use Rattle.conference.specs.Conference.{ConferenceState, HandsNext, Serves, ServesOn};
 
 /// Whatever a conference has served since it was opened, with what a call serves it has served that, too, after it: so the

@@ -3,7 +3,7 @@ use Rattle.std.specs.Prelude.{◌++◌, ℕ, Bool, true, false, Option, None, So
 use Rattle.std.specs.Fmt.{decimal}
 use Rattle.std.specs.Net.Text.{socket_text}
 use Rattle.std.specs.declared.net.socket_addr.SocketAddr.{SocketAddr}
-use Rattle.outside.specs.declared.watch.Status.{Status}
+use Rattle.ports.specs.declared.watch.Status.{Status}
 use Rattle.control.specs.declared.answer.Refused.{Refused}
 use Rattle.control.specs.declared.answer.Unheard.{Unheard}
 use Rattle.control.specs.declared.answer.Refused.TheVariants.{Unknown, Leg, Publisher, Recorded, Unrecorded, Long, Full, Memory}

@@ -1,7 +1,7 @@
 -- What a request leads to.
 use Rattle.std.specs.Prelude.{ℕ, Bool, nat_lt, if◌then◌else◌}
-use Rattle.outside.specs.declared.feed.Received.TheVariants as received
-use Rattle.outside.specs.declared.watch.Look.TheVariants.{Presence, Desk}
+use Rattle.ports.specs.declared.feed.Received.TheVariants as received
+use Rattle.ports.specs.declared.watch.Look.TheVariants.{Presence, Desk}
 use Rattle.control.specs.declared.answer.Refused.TheVariants.{Leg, Publisher, Recorded, Unrecorded}
 use Rattle.control.specs.declared.request.Request.{Request}
 use Rattle.control.specs.declared.request.Request.TheVariants.{Select, Present, Legs as AskLegs, Counts as AskCounts, Metrics as AskMetrics, Reports as AskReports, Refusals as AskRefusals, Strangers as AskStrangers, Record as AskRecord, EndRecord as AskEndRecord, Show, Stop}

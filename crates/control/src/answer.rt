@@ -4,7 +4,7 @@ ghost use Rattle.std.specs.Prelude.{◌≡◌, ◌++◌, codes, IfOk, OnOk};
 ghost use Rattle.std.specs.String.{string_bytes};
 ghost use Rattle.control.specs.Answers.{counts_lines, flow_part, heard_part, loss_part, presence_line, refusal_text, refused_part, stranger_line, unheard_part, unread_part, who_part};
 
-use outside::Status;
+use ports::Status;
 use std::alloc::{AllocError, Global};
 use std::net::SocketAddr;
 use tmmbr_tuple::Ssrc;

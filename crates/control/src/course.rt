@@ -5,7 +5,7 @@ ghost use Rattle.control.specs.Courses.{course_for};
 
 use crate::answer::Refused;
 use crate::request::Request;
-use outside::{Look, Received};
+use ports::{Look, Received};
 
 /// What a request leads to.
 #[derive(Clone, Copy, Debug, PartialEq, Eq)]

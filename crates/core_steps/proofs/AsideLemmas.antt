@@ -6,7 +6,7 @@ use Rattle.desk.specs.State.{DeskState}
 use Rattle.events.specs.declared.event.Event.TheVariants.{Work}
 use Rattle.events.specs.declared.job.Job.{Job}
 use Rattle.events.specs.declared.job.Job.TheVariants.{Packet, Request, Resend, Pli, Report, Goodbye}
-use Rattle.notices.specs.DeskCalls.{stay_call, picture_call}
+use Rattle.desk_calls.specs.DeskCalls.{stay_call, picture_call}
 use Rattle.core_steps.specs.Happening.{Happening, RecordedCall, world_after}
 use Rattle.core_steps.specs.Rule.{Does, DoesJob, JobAsks, WorkerAsks, Works, WorksOn, worker_asked}
 use Rattle.core_steps.specs.Settling.{ingress_left}

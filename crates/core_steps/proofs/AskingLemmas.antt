@@ -9,11 +9,11 @@ use Rattle.desk.specs.declared.call.Answer.{Answer}
 use Rattle.desk.specs.declared.effect.Effect.{Effect}
 use Rattle.desk.specs.Effect.{IsEffect}
 use Rattle.desk.specs.State.{DeskState, HoldsLegalDesk, Records, IsOverLimit}
-use Rattle.notices.specs.declared.notification.Notification.{Notification}
+use Rattle.desk_calls.specs.declared.notification.Notification.{Notification}
 use Rattle.events.specs.declared.output.Out.{Out}
 use Rattle.core_steps.specs.Asking.{desk_after, desks_after, Replied, HasReply, IsNobody, Asked}
-use Rattle.notices.specs.declared.calls.Question.{Question}
-use Rattle.notices.specs.Notification.{told_of, pending_with, tells, Pending}
+use Rattle.desk_calls.specs.declared.calls.Question.{Question}
+use Rattle.desk_calls.specs.Notification.{told_of, pending_with, tells, Pending}
 use Rattle.core_steps.specs.Happening.{RecordedCall}
 use Rattle.core_steps.specs.Rule.{Replies, refusals, unrecorded_out}
 

@@ -21,7 +21,7 @@ use Rattle.desk.specs.State.{DeskState}
 use Rattle.datagram.specs.declared.reading.Ask.{Ask}
 use Rattle.events.specs.declared.job.Job.{Job}
 use Rattle.events.specs.declared.job.Job.TheVariants.{Packet, Request, Resend, Pli, Report, Goodbye}
-use Rattle.notices.specs.DeskCalls.{stay_call, picture_call}
+use Rattle.desk_calls.specs.DeskCalls.{stay_call, picture_call}
 use Rattle.core_steps.specs.Happening.{Happening, RecordedCall, Worked}
 use Rattle.core_steps.specs.Hearing.{receptions, jobs_of, is_left, task_after, tasks_after, task_on, task_for, owner_of, job_by, leg_stay, media_of, serving, expires, reports, is_report_due, leg_report, present_endpoints}
 use Rattle.datagram.specs.Saying.{Said, media, leaves, control}

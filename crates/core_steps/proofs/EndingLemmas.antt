@@ -23,7 +23,7 @@ use Rattle.desk.specs.State.{DeskState, HoldsLegalDesk}
 use Rattle.events.specs.declared.event.Event.{Event}
 use Rattle.events.specs.declared.job.Job.{Job}
 use Rattle.events.specs.declared.job.Job.TheVariants.{Packet, Request, Resend, Pli, Report, Goodbye}
-use Rattle.notices.specs.DeskCalls.{source_of, stay_call, picture_call}
+use Rattle.desk_calls.specs.DeskCalls.{source_of, stay_call, picture_call}
 use Rattle.core_steps.specs.Happening.{Happening, RecordedCall, world_after, desks_by}
 use Rattle.settings.specs.Links.{LinkTable, table_of}
 use Rattle.core_steps.specs.Opening.{IsNewWorld, setup_by}

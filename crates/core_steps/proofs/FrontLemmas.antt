@@ -6,7 +6,7 @@ use Rattle.core_steps.specs.Duties.{Reports}
 use Rattle.core_steps.specs.Machine.{Rest, IsIdle, no_rest, alone, whole, tasks_of}
 use Rattle.core_steps.specs.Rule.{is_busy, is_empty}
 use Rattle.core_steps.specs.World.{WorldState}
-use Rattle.notices.specs.Notification.{Pending}
+use Rattle.desk_calls.specs.Notification.{Pending}
 
 -- the world with this beside its front
 abbrev beside : WorldState → Rest → WorldState

@@ -20,7 +20,7 @@ use Rattle.events.specs.declared.output.Out.{Out}
 use Rattle.events.specs.declared.output.Out.TheVariants.{Refused}
 use Rattle.events.specs.declared.output.Refusal.{Refusal}
 use Rattle.core_steps.specs.declared.tasks.FollowUp.{FollowUp}
-use Rattle.notices.specs.DeskCalls.{source_of}
+use Rattle.desk_calls.specs.DeskCalls.{source_of}
 use Rattle.core_steps.specs.FollowUps.{AddsTasks, room_with_report, tasks_due}
 use Rattle.core_steps.specs.Happening.{giving, capped_count}
 use Rattle.datagram.specs.Reads.{Admission, HasBytes, IsSaidIn, WasRead, what_of, asks_of}

@@ -19,7 +19,7 @@ use Rattle.core_steps.specs.Machine.{task_of}
 use Rattle.core_steps.specs.Rule.{is_busy, is_empty}
 use Rattle.core_steps.specs.Run.{Leaves}
 use Rattle.core_steps.specs.World.{WorldState, Task, order}
-use Rattle.notices.specs.Notification.{Pending}
+use Rattle.desk_calls.specs.Notification.{Pending}
 
 -- ---- the room
 

@@ -25,9 +25,9 @@ use Rattle.core_steps.specs.declared.machine.Worker.{Worker}
 use Rattle.core_steps.specs.Machine.{worker_state}
 use Rattle.core_steps.specs.Asking.{desks_after, pending_after, refusals_after, Asked}
 use Rattle.core_steps.specs.Duties.{Reports}
-use Rattle.notices.specs.Head.{upstream_report}
+use Rattle.desk_calls.specs.Head.{upstream_report}
 use Rattle.core_steps.specs.World.{WorldState, WorkerState, Task, order, report}
-use Rattle.notices.specs.Notification.{Pending}
+use Rattle.desk_calls.specs.Notification.{Pending}
 use Rattle.core_steps.specs.Happening.{RecordedCall, no_worker, giving, capped_count, world_after, workers_by}
 use Rattle.core_steps.specs.Pushing.{Pushed}
 use Rattle.core_steps.specs.Rule.{Replies, IngressAsks, AsksDesk, OrderAsks, DoesTask, DoesNext, IsReporting, done_task, ingress_asked, putting, pending_datagrams}

@@ -29,7 +29,7 @@ use Rattle.datagram.specs.Saying.{Said}
 use Rattle.legs.specs.Legs.{legs_after}
 use Rattle.core_steps.specs.Rule.{Does, DoesNext, DoesTask, DoesJob, Works, WorksOn, is_busy, Replies, IngressAsks, OrderAsks, JobAsks, WorkerAsks, ingress_asked, worker_asked, pushing, putting, done_task, taking, working, with_hand, forwarding, hand_of}
 use Rattle.core_steps.specs.World.{WorldState, WorkerState, Task, order, push, pulse, expire, report, Hand, free, doing, telling}
-use Rattle.notices.specs.Notification.{pending_of, Pending}
+use Rattle.desk_calls.specs.Notification.{pending_of, Pending}
 use Rattle.core_steps.proofs.CauseLemmas.{AsksAsDone, AsksThere, AskedByJob, Causes, asked_by_task, finished_in, in_hand, orders_in, orders_first, orders_ticked, none_after, none_append, none_heard, none_received}
 
 -- What was done at a worker: it is there, it took its oldest jobs, and there was room for those that it was given; it finished what

@@ -31,7 +31,7 @@ use Rattle.events.specs.declared.output.Out.{Out}
 use Rattle.events.specs.declared.run_fault.RunFault.{RunFault}
 use Rattle.events.specs.RunFaults.{done_of}
 use Rattle.events.specs.declared.job.Job.{Job}
-use Rattle.notices.specs.DeskCalls.{source_of}
+use Rattle.desk_calls.specs.DeskCalls.{source_of}
 use Rattle.core_steps.specs.EveryRun.{tasks_done}
 use Rattle.core_steps.specs.Happening.{Happening, RecordedCall, desks_by, world_after}
 use Rattle.core_steps.specs.Opening.{IsNewWorld}

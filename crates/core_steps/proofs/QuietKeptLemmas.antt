@@ -30,7 +30,7 @@ use Rattle.desk.specs.State.{DeskState, now_of}
 use Rattle.desk.specs.Trace.{base_after, empty_base}
 use Rattle.events.specs.declared.job.Job.{Job}
 use Rattle.events.specs.declared.job.Job.TheVariants.{Packet, Request, Resend, Pli, Report, Goodbye}
-use Rattle.notices.specs.DeskCalls.{source_of, stay_call}
+use Rattle.desk_calls.specs.DeskCalls.{source_of, stay_call}
 use Rattle.core_steps.specs.Happening.{RecordedCall, Worked, desks_by, workers_by, worker_after, no_worker}
 use Rattle.core_steps.specs.Hearing.{owner_of}
 use Rattle.settings.specs.Links.{table_of, worker_of}

@@ -33,7 +33,7 @@ use Rattle.desk.specs.State.{DeskState, HoldsLegalDesk, Records, now_of}
 use Rattle.desk.proofs.PresenceLemmas.{presence_of-place}
 use Rattle.desk.proofs.SinceLemmas.{known_in, Was, Step, arrives, asks, departs, expires, rests, arrived, requested, stay_on}
 use Rattle.desk.proofs.TraceLemmas.{IsBase-with, answer_follows, base_after-push}
-use Rattle.notices.specs.DeskCalls.{source_of}
+use Rattle.desk_calls.specs.DeskCalls.{source_of}
 use Rattle.core_steps.specs.Happening.{RecordedCall}
 use Rattle.settings.specs.Links.{table_of}
 use Rattle.core_steps.specs.Rule.{IsRecordedCall}

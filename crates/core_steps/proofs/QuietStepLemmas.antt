@@ -25,7 +25,7 @@ use Rattle.events.specs.declared.job.Job.TheVariants.{Packet, Request, Resend, P
 use Rattle.events.specs.declared.output.Out.TheVariants.{Busy}
 use Rattle.events.specs.declared.output.Refusal.{Refusal}
 use Rattle.core_steps.specs.declared.ring.TheConstants.{JOB_LIMIT}
-use Rattle.notices.specs.DeskCalls.{stay_call}
+use Rattle.desk_calls.specs.DeskCalls.{stay_call}
 use Rattle.core_steps.specs.Happening.{Happening, RecordedCall, Worked, giving, world_after, worker_after, workers_by, desks_by}
 use Rattle.datagram.specs.Reads.{asks_of}
 use Rattle.core_steps.specs.Hearing.{IsHearing, hearing, hearing_by, room_call, receptions, jobs_of, tasks_after, ticking, selecting_by, present_endpoints, expires, reports}
@@ -36,7 +36,7 @@ use Rattle.core_steps.specs.Opening.{setup_by}
 use Rattle.core_steps.specs.Quiet.{HeardRate, HearsRates, IsHeardOf, rates_said, rates_in, rate_of}
 use Rattle.core_steps.specs.Rule.{Does, DoesNext, DoesTask, DoesJob, Works, WorksOn, is_busy, is_empty, Replies, IngressAsks, OrderAsks, JobAsks, WorkerAsks, ingress_asked, worker_asked, pushing, putting, done_task, taking, working, with_hand, hand_of, forwarding}
 use Rattle.core_steps.specs.World.{Setup, WorldState, WorkerState, Task, order, push, pulse, expire, report, Hand, free, doing, telling}
-use Rattle.notices.specs.Notification.{pending_of, Pending}
+use Rattle.desk_calls.specs.Notification.{pending_of, Pending}
 use Rattle.datagram.proofs.OneSaidLemmas.{says_one}
 use Rattle.core_steps.proofs.QuietDeskLemmas.{NotBy}
 use Rattle.core_steps.proofs.QuietLegLemmas.{asker, IsByLeg}

@@ -19,7 +19,7 @@ use Rattle.desk.specs.Call.{is_done}
 use Rattle.desk.specs.State.{DeskState}
 use Rattle.events.specs.declared.job.Job.{Job}
 use Rattle.events.specs.declared.job.Job.TheVariants.{Packet, Request, Resend, Pli, Report, Goodbye}
-use Rattle.notices.specs.DeskCalls.{source_of}
+use Rattle.desk_calls.specs.DeskCalls.{source_of}
 use Rattle.core_steps.specs.Happening.{RecordedCall, desks_by, workers_by}
 use Rattle.core_steps.specs.Hearing.{owner_of}
 use Rattle.settings.specs.Links.{table_of, worker_of}

@@ -19,7 +19,7 @@ use Rattle.desk.specs.Presence.{asked_in}
 use Rattle.desk.specs.State.{DeskState, now_of}
 use Rattle.events.specs.declared.job.Job.{Job}
 use Rattle.events.specs.declared.job.Job.TheVariants.{Request}
-use Rattle.notices.specs.DeskCalls.{source_of}
+use Rattle.desk_calls.specs.DeskCalls.{source_of}
 use Rattle.core_steps.specs.Happening.{RecordedCall, Worked, desks_by, workers_by, worker_after}
 use Rattle.core_steps.specs.Hearing.{owner_of}
 use Rattle.settings.specs.Links.{table_of, worker_of}

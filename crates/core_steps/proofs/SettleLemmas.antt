@@ -16,13 +16,13 @@ use Rattle.events.specs.declared.job.Job.TheVariants.{Packet, Request, Resend, P
 use Rattle.events.specs.declared.output.Out.{Out}
 use Rattle.events.specs.declared.output.Out.TheVariants.{Lost}
 use Rattle.core_steps.specs.declared.ring.TheConstants.{JOB_LIMIT}
-use Rattle.notices.specs.DeskCalls.{stay_call, picture_call}
+use Rattle.desk_calls.specs.DeskCalls.{stay_call, picture_call}
 use Rattle.core_steps.specs.Happening.{Happening, RecordedCall, Worked, desks_by, no_worker, worker_after, workers_by, world_after}
 use Rattle.core_steps.specs.Rule.{Does, DoesJob, DoesNext, DoesTask, IngressAsks, JobAsks, OrderAsks, WorkerAsks, Works, WorksOn, done_task, hand_of, ingress_asked, is_busy, is_empty, pushing, putting, worker_asked}
 use Rattle.core_steps.specs.Run.{HasRun, Runs, worlds_after}
 use Rattle.core_steps.specs.Waits.{has_work, pending_count, worker_has_work, works_more}
 use Rattle.core_steps.specs.World.{Hand, Task, WorkerState, WorldState, doing, expire, free, order, pulse, push, report, telling}
-use Rattle.notices.specs.Notification.{pending_of, Pending}
+use Rattle.desk_calls.specs.Notification.{pending_of, Pending}
 use Rattle.core_steps.specs.Settling.{hand_left, ingress_left, state_left, work_left}
 
 -- ---- a run of one event

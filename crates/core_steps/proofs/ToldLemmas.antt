@@ -22,7 +22,7 @@ use Rattle.core_steps.specs.declared.ring.TheConstants.{JOB_LIMIT}
 use Rattle.core_steps.specs.Happening.{Happening, RecordedCall, Worked, giving, world_after, workers_by, worker_after, no_worker}
 use Rattle.core_steps.specs.Hearing.{IsHearing, hearing, hearing_by, ticking, room_call, selecting_by}
 use Rattle.datagram.specs.Saying.{Said}
-use Rattle.notices.specs.Notification.{pending_of, Pending}
+use Rattle.desk_calls.specs.Notification.{pending_of, Pending}
 use Rattle.core_steps.specs.Opening.{IsNewWorld}
 use Rattle.core_steps.specs.OverRuns.{IsOfCall, TellsOf}
 use Rattle.core_steps.specs.Rule.{Does, DoesNext, DoesTask, DoesJob, Works, WorksOn, is_busy, IngressAsks, OrderAsks, JobAsks, WorkerAsks, pushing, hand_of, ingress_asked, worker_asked}

@@ -13,15 +13,15 @@ use Rattle.events.specs.declared.job.Job.TheVariants.{Packet, Request, Resend, P
 use Rattle.core_steps.specs.declared.machine.Worker.{Worker}
 use Rattle.events.specs.declared.output.Out.{Out}
 use Rattle.events.specs.declared.output.Out.TheVariants.{Idle}
-use Rattle.notices.specs.declared.calls.Asks.{Asks}
-use Rattle.notices.specs.declared.calls.Asks.TheVariants.{Desk, Nobody, Legs}
-use Rattle.notices.specs.declared.calls.Question.{Question}
+use Rattle.desk_calls.specs.declared.calls.Asks.{Asks}
+use Rattle.desk_calls.specs.declared.calls.Asks.TheVariants.{Desk, Nobody, Legs}
+use Rattle.desk_calls.specs.declared.calls.Question.{Question}
 use Rattle.core_steps.specs.Asking.{Asked, desks_after, pending_after, refusals_after}
-use Rattle.notices.specs.DeskCalls.{stay_call, picture_call, asks_by, AsksOf}
+use Rattle.desk_calls.specs.DeskCalls.{stay_call, picture_call, asks_by, AsksOf}
 use Rattle.core_steps.specs.Happening.{RecordedCall, Worked, Happening, giving, no_worker, worker_after, workers_by, desks_by}
 use Rattle.legs.specs.Legs.{job_datagrams, legs_after}
 use Rattle.core_steps.specs.Machine.{worker_state}
-use Rattle.notices.specs.Notification.{notification_datagrams, Pending}
+use Rattle.desk_calls.specs.Notification.{notification_datagrams, Pending}
 use Rattle.core_steps.specs.Rule.{WorksOn, Works, DoesJob, JobAsks, WorkerAsks, Replies, pending_datagrams, working, with_hand, taking, hand_of, forwarding, worker_asked}
 use Rattle.core_steps.specs.Run.{Leaves, Stays}
 use Rattle.core_steps.specs.WorkerSteps.{with_new_hand, IsDeskTold, world_with, world_after_step, StepsWorker}

@@ -2,8 +2,8 @@
 use Rattle.std.specs.Prelude.{◌≡◌, ℕ, List, ◌++◌, Option, None, Some}
 use Rattle.desk.specs.State.{DeskState}
 use Rattle.events.specs.declared.output.Out.{Out}
-use Rattle.notices.specs.declared.calls.Question.{Question}
-use Rattle.notices.specs.Notification.{Pending, pending_of}
+use Rattle.desk_calls.specs.declared.calls.Question.{Question}
+use Rattle.desk_calls.specs.Notification.{Pending, pending_of}
 use Rattle.core_steps.specs.Happening.{RecordedCall, desks_by}
 use Rattle.core_steps.specs.Rule.{Replies, refusals, unrecorded_out}
 

@@ -7,7 +7,7 @@ use Rattle.settings.specs.Settings.{Configuration}
 use Rattle.members.specs.Stream.{IsBlockAnswer}
 use Rattle.core_steps.specs.declared.duties.Duty.{Duty}
 use Rattle.core_steps.specs.declared.duties.Duty.TheVariants.{Order, Push, Pulse, Expire, Report}
-use Rattle.notices.specs.Head.{blocks_of, report_bytes}
+use Rattle.desk_calls.specs.Head.{blocks_of, report_bytes}
 use Rattle.core_steps.specs.Opening.{setup_by}
 use Rattle.core_steps.specs.World.{Task, order, push, pulse, expire, report, WorldState}
 

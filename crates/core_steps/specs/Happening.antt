@@ -11,7 +11,7 @@ use Rattle.events.specs.declared.job.Job.{Job}
 use Rattle.events.specs.declared.output.Out.{Out}
 use Rattle.legs.specs.declared.leg.LegState.{LegState}
 use Rattle.core_steps.specs.World.{WorldState, WorkerState, Task, Hand, free}
-use Rattle.notices.specs.Notification.{Pending}
+use Rattle.desk_calls.specs.Notification.{Pending}
 
 -- a recorded call of a publisher's desk with its number, its answer and its effect, and the desk from then on
 pub record RecordedCall : Type 0 where

@@ -20,7 +20,7 @@ use Rattle.events.specs.declared.output.Out.TheVariants.{Refused}
 use Rattle.events.specs.declared.output.Refusal.{Refusal}
 use Rattle.events.specs.declared.output.Refusal.TheVariants.{Room}
 use Rattle.settings.specs.Links.{LinkTable, legs_of, leg_to, worker_of}
-use Rattle.notices.specs.DeskCalls.{source_of}
+use Rattle.desk_calls.specs.DeskCalls.{source_of}
 use Rattle.datagram.specs.Reads.{Admission, IsSaidBy, asks_of}
 use Rattle.datagram.specs.Saying.{Said, media, leaves, control, Says}
 use Rattle.core_steps.specs.World.{Setup, Task, order, push, pulse, expire, report, WorldState}

@@ -16,7 +16,7 @@ use Rattle.core_steps.specs.declared.tasks.NextTask.TheVariants.{Order as AnOrde
 use Rattle.core_steps.specs.declared.tasks.FollowUp.TheVariants.{Push, Pulse, Expire, Report}
 use Rattle.core_steps.specs.Seed.{job_of}
 use Rattle.core_steps.specs.World.{Setup, Task, order, push, pulse, expire, report, Hand, free, doing, telling, WorkerState, WorldState}
-use Rattle.notices.specs.Notification.{Pending, pending_with}
+use Rattle.desk_calls.specs.Notification.{Pending, pending_with}
 
 -- the task that follows, if the datagram has these bytes
 abbrev pub task_of : List ℕ → FollowUp → Task

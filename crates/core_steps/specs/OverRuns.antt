@@ -15,8 +15,8 @@ use Rattle.events.specs.declared.event.Event.{Event}
 use Rattle.events.specs.declared.output.Out.{Out}
 use Rattle.events.specs.declared.run_fault.RunFault.{RunFault}
 use Rattle.events.specs.RunFaults.{done_of}
-use Rattle.notices.specs.DeskCalls.{source_of}
-use Rattle.notices.specs.Notification.{pending_of, Pending}
+use Rattle.desk_calls.specs.DeskCalls.{source_of}
+use Rattle.desk_calls.specs.Notification.{pending_of, Pending}
 use Rattle.core_steps.specs.EveryRun.{tasks_done}
 use Rattle.core_steps.specs.Happening.{Happening, RecordedCall}
 use Rattle.core_steps.specs.Opening.{IsNewWorld}

@@ -18,7 +18,7 @@ use Rattle.events.specs.declared.event.Event.TheVariants.{Hear, Tick, Select, In
 use Rattle.datagram.specs.declared.reading.Ask.{Ask}
 use Rattle.datagram.specs.declared.reading.Ask.TheVariants.{Rate, Resend as Again, Picture}
 use Rattle.events.specs.declared.output.Refusal.{Refusal}
-use Rattle.notices.specs.DeskCalls.{source_of}
+use Rattle.desk_calls.specs.DeskCalls.{source_of}
 use Rattle.core_steps.specs.Happening.{Happening, world_after}
 use Rattle.datagram.specs.Reads.{asks_of}
 use Rattle.core_steps.specs.Hearing.{room_call, leg_stay}

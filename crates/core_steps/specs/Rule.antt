@@ -27,10 +27,10 @@ use Rattle.events.specs.declared.output.Out.TheVariants.{Refused, Busy, Idle, Lo
 use Rattle.events.specs.declared.output.Refusal.TheVariants.{Desk}
 use Rattle.events.specs.declared.output.DeskRefusal.TheVariants as desk
 use Rattle.core_steps.specs.declared.ring.TheConstants.{JOB_LIMIT}
-use Rattle.notices.specs.DeskCalls.{stay_call, picture_call}
+use Rattle.desk_calls.specs.DeskCalls.{stay_call, picture_call}
 use Rattle.legs.specs.Legs.{job_datagrams, legs_after}
-use Rattle.notices.specs.Head.{upstream_report}
-use Rattle.notices.specs.Notification.{notification_datagrams, pending_of, Pending}
+use Rattle.desk_calls.specs.Head.{upstream_report}
+use Rattle.desk_calls.specs.Notification.{notification_datagrams, pending_of, Pending}
 use Rattle.core_steps.specs.World.{WorldState, WorkerState, Task, order, push, pulse, expire, report, Hand, free, doing, telling}
 use Rattle.core_steps.specs.Happening.{RecordedCall, Happening, Worked, giving}
 use Rattle.core_steps.specs.Hearing.{IsHearing, ticking, selecting}

@@ -3,7 +3,7 @@ use Rattle.std.specs.Prelude.{ℕ, ◌+◌, ◌-◌, ◌^◌, min, Bool, true, f
 use Rattle.events.specs.declared.job.Job.{Job}
 use Rattle.core_steps.specs.declared.world.Waiting.{Waiting}
 use Rattle.core_steps.specs.World.{WorldState, WorkerState, Hand, free, doing, telling}
-use Rattle.notices.specs.Notification.{Pending}
+use Rattle.desk_calls.specs.Notification.{Pending}
 
 abbrev pub pending_count : Option Pending → ℕ
 pending_count None = 0

@@ -7,8 +7,8 @@ use Rattle.core_steps.specs.Asking.{Asked}
 use Rattle.core_steps.specs.Rule.{WorksOn, hand_of}
 use Rattle.core_steps.specs.Run.{Leaves}
 use Rattle.core_steps.specs.World.{Setup, Hand, WorkerState, WorldState}
-use Rattle.notices.specs.declared.calls.Question.{Question}
-use Rattle.notices.specs.Notification.{Pending}
+use Rattle.desk_calls.specs.declared.calls.Question.{Question}
+use Rattle.desk_calls.specs.Notification.{Pending}
 
 abbrev pub with_new_hand : WorkerState → Hand → WorkerState
 with_new_hand s hand = record s { hand = hand }

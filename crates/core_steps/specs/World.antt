@@ -5,11 +5,11 @@ use Rattle.members.specs.declared.order.Row.{Row}
 use Rattle.members.specs.Room.{RoomState}
 use Rattle.desk.specs.State.{DeskState}
 use Rattle.events.specs.declared.job.Job.{Job}
-use Rattle.notices.specs.Head.{Identity}
+use Rattle.desk_calls.specs.Head.{Identity}
 use Rattle.settings.specs.Links.{LinkTable}
 use Rattle.settings.specs.declared.rules.LegRules.{LegRules}
 use Rattle.legs.specs.declared.leg.LegState.{LegState}
-use Rattle.notices.specs.Notification.{Pending}
+use Rattle.desk_calls.specs.Notification.{Pending}
 
 -- what the settings say once and for all: the legs, the unit's own source and name, the times in milliseconds, and what is done of
 -- its own accord as legs begin and end

@@ -3,12 +3,12 @@
 ghost use Rattle.std.specs.Prelude.{◌≡◌, ◌<◌, ◌++◌, slice_get, option_map, vec_len, vec_capacity};
 ghost use Rattle.desk.specs.Call.{HasStay};
 ghost use Rattle.core_steps.specs.Asking.{Replied, Asked};
-ghost use Rattle.notices.specs.Notification.{pending_with};
+ghost use Rattle.desk_calls.specs.Notification.{pending_with};
 ghost use Rattle.core_steps.specs.Rule.{refusals};
 
 use desk::{Answer, Desk, Effect, HistoryFull, Recorded};
+use desk_calls::{Notification, Question, notification_of, waiting};
 use events::{DeskRefusal, Out, Refusal};
-use notices::{Notification, Question, notification_of, waiting};
 
 /// Says why the call wasn't done, where it wasn't.
 fn refuse(answer: &Answer, outs: &mut Vec<Out>)

@@ -6,9 +6,9 @@ ghost use Rattle.core_steps.specs.Machine.{setup_of};
 ghost use Rattle.core_steps.specs.Opening.{setup_by};
 
 use crate::tasks::Tasks;
+use desk_calls::Head;
 use legs::Plan;
 use members::Room;
-use notices::Head;
 use settings::{LegRules, Links, Settings};
 use std::alloc::{AllocError, Global};
 

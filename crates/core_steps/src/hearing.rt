@@ -6,7 +6,7 @@ ghost use Rattle.std.specs.List.{last_or};
 ghost use Rattle.events.specs.declared.output.Out.TheVariants.{Refused};
 ghost use Rattle.events.specs.declared.output.Refusal.TheVariants.{Room as ByRoom};
 ghost use Rattle.core_steps.specs.Machine.{alone};
-ghost use Rattle.notices.specs.DeskCalls.{source_of};
+ghost use Rattle.desk_calls.specs.DeskCalls.{source_of};
 ghost use Rattle.core_steps.specs.FollowUps.{room_with_report};
 ghost use Rattle.core_steps.specs.Hearing.{IsHearing, SaysTaken, hearing, selecting};
 ghost use Rattle.shared_packet.specs.Rtp.{IsReadAs};

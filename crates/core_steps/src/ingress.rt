@@ -3,10 +3,10 @@
 ghost use Rattle.std.specs.Prelude.{◌≡◌, ◌<◌, ◌++◌, ◌∷◌, [], None, Some, nat_le, length, if◌then◌else◌, map, slice_get, slice_set, vec_len, vec_capacity, IfOk, OnOk, OnErr};
 ghost use Rattle.desk.specs.Call.{HasStay};
 ghost use Rattle.desk.specs.declared.call.Call.TheVariants.{Time};
-ghost use Rattle.notices.specs.DeskCalls.{stay_call};
+ghost use Rattle.desk_calls.specs.DeskCalls.{stay_call};
 ghost use Rattle.core_steps.specs.Duties.{Reports};
 ghost use Rattle.core_steps.specs.Machine.{state_of, alone, task_of, task_in, worker_state};
-ghost use Rattle.notices.specs.Notification.{pending_with};
+ghost use Rattle.desk_calls.specs.Notification.{pending_with};
 ghost use Rattle.core_steps.specs.Pushing.{Pushed};
 ghost use Rattle.core_steps.specs.Rule.{AsksDesk, OrderAsks, DoesTask, DoesNext, IsReporting, pushing};
 ghost use Rattle.core_steps.specs.Run.{Leaves, Stays};
@@ -20,9 +20,9 @@ use crate::ring::{JOB_LIMIT, JobRing};
 use crate::seed::{Seed, job_of};
 use crate::tasks::{FollowUp, NextTask};
 use desk::{Call, Change, Signal};
+use desk_calls::{Notification, Question, notify, stay_call};
 use events::{Bytes, Job, Out};
 use members::{Order, Row};
-use notices::{Notification, Question, notify, stay_call};
 use std::alloc::AllocError;
 
 /// One step of the ingress.

@@ -4,7 +4,7 @@
 //! Read the crate `events` first, what goes in and what comes out, then `world` and `runner`. `hearing` and `ticking`, `ingress` and
 //! `working` are the three kinds of step; `duties` is the ingress for a driver of its own, `front` what it and the machine both hold,
 //! `laws` what holds of every run, `quiet` what is live once nothing waits. What a datagram says (`datagram`), what a job does on legs (`legs`), which desk it asks and what
-//! follows from the answer (`notices`), and how legs are found (`settings`) are crates of their own, whose names are handed on.
+//! follows from the answer (`desk_calls`), and how legs are found (`settings`) are crates of their own, whose names are handed on.
 #![tactic(auto)]
 
 mod asking;
@@ -27,13 +27,13 @@ mod world;
 
 pub use announcement::entries_of;
 pub use datagram::{Ask, Control, Media, Reading, Taking, What, read, says_one_thing};
-pub use duties::{Duty, IngressCore};
-pub use events::{Bytes, DeskRefusal, Event, Job, Out, Refusal, RunFault};
-pub use legs::{LegState, Legs, Plan};
-pub use notices::{
+pub use desk_calls::{
     Asks, Head, Notification, Question, asked_by, notification_of, notify, picture_call, stay_call,
     tells_each_change, waiting,
 };
+pub use duties::{Duty, IngressCore};
+pub use events::{Bytes, DeskRefusal, Event, Job, Out, Refusal, RunFault};
+pub use legs::{LegState, Legs, Plan};
 pub use ring::JOB_LIMIT;
 pub use runner::{hear, run, take};
 pub use settings::Links;

@@ -5,10 +5,10 @@ ghost use Rattle.std.specs.Prelude.{◌≡◌, ◌<◌, ◌^◌, false};
 use crate::front::Front;
 use crate::ring::JobRing;
 use desk::{Desk, Effect};
+use desk_calls::Notification;
 use events::Job;
 use legs::Legs;
 use members::Row;
-use notices::Notification;
 
 /// The machine's parts. Contracts see them as `state_of` says.
 #[derive(Drop)]

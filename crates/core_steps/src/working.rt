@@ -11,10 +11,10 @@ use crate::asking::ask;
 use crate::front::Setup;
 use crate::machine::{Hand, Machine, Worker};
 use desk::Desk;
+use desk_calls::{Asks, Question, asked_by, notify};
 use events::Out;
 use legs::Plan;
 use members::Row;
-use notices::{Asks, Question, asked_by, notify};
 use std::alloc::{AllocError, Global};
 
 /// One step of the worker of this number.

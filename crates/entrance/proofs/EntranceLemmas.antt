@@ -3,7 +3,7 @@ use Rattle.std.proofs.Common.{◌≡◌, ℕ, List, None, Result, Ok, Err, refl,
 use Rattle.std.specs.Prelude.{OnOk}
 use Rattle.tmmbr_tuple.specs.declared.ssrc.Ssrc.{Ssrc}
 use Rattle.settings.specs.Links.{LinkTable}
-use Rattle.notices.specs.DeskCalls.{source_of}
+use Rattle.desk_calls.specs.DeskCalls.{source_of}
 use Rattle.datagram.specs.declared.reading.What.{What}
 use Rattle.datagram.specs.declared.reading.What.TheVariants.{Media, Goodbye, Control, Refused}
 use Rattle.datagram.specs.Reads.{HasBytes, IsPacketRead, IsReadUpTo, IsSaidIn, was_read}

@@ -1,10 +1,10 @@
 -- What an entrance lets in.
 use Rattle.std.specs.Prelude.{ℕ, List, [], ◌∷◌, Option, Result, Ok, Err}
 use Rattle.settings.specs.Links.{LinkTable}
-use Rattle.notices.specs.DeskCalls.{source_of}
+use Rattle.desk_calls.specs.DeskCalls.{source_of}
 use Rattle.datagram.specs.Reads.{Admission, IsPacketRead, IsSaidBy}
-use Rattle.outside.specs.declared.source.ReceiveFault.{ReceiveFault}
-use Rattle.outside.specs.Outside.{Arrival, came, chosen, stop, silence, failure, Grows}
+use Rattle.ports.specs.declared.source.ReceiveFault.{ReceiveFault}
+use Rattle.ports.specs.Outside.{Arrival, came, chosen, stop, silence, failure, Grows}
 use Rattle.entrance.specs.declared.entrance.Admitted.{Admitted}
 use Rattle.entrance.specs.declared.entrance.Admitted.TheVariants.{Nothing, Taking, Select, Stop}
 

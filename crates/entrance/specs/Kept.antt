@@ -2,10 +2,10 @@
 use Rattle.std.specs.Prelude.{ℕ, List, take, Result, Ok, Err}
 use Rattle.datagram.specs.Reads.{Admission}
 use Rattle.entrance.specs.declared.direct.Kept.{Kept}
-use Rattle.outside.specs.declared.source.ReceiveFault.{ReceiveFault}
-use Rattle.outside.specs.declared.feed.Received.{Received}
-use Rattle.outside.specs.declared.feed.Received.TheVariants.{Nothing, Datagram, Select, Stop}
-use Rattle.outside.specs.Outside.{Arrival, came, chosen, stop, silence, failure}
+use Rattle.ports.specs.declared.source.ReceiveFault.{ReceiveFault}
+use Rattle.ports.specs.declared.feed.Received.{Received}
+use Rattle.ports.specs.declared.feed.Received.TheVariants.{Nothing, Datagram, Select, Stop}
+use Rattle.ports.specs.Outside.{Arrival, came, chosen, stop, silence, failure}
 
 -- the datagram that came last
 abbrev pub datagram_in : Kept → List ℕ

@@ -1,12 +1,12 @@
 //! The entrance of a feed and a timekeeper, which lets in all that comes, as it is.
 
 ghost use Rattle.std.specs.Prelude.{◌≡◌, ◌≤◌, length};
-ghost use Rattle.notices.specs.DeskCalls.{source_of};
+ghost use Rattle.desk_calls.specs.DeskCalls.{source_of};
 
 use crate::entrance::{Admitted, Came, Entrance};
 use datagram::{Reading, Taking, read};
 use members::RoomView;
-use outside::{Feed, MAX_DATAGRAM, ReceiveFault, Received, Timekeeper};
+use ports::{Feed, MAX_DATAGRAM, ReceiveFault, Received, Timekeeper};
 use settings::Links;
 use std::alloc::{AllocError, Global};
 use tmmbr_tuple::Ssrc;
@@ -25,7 +25,7 @@ pub struct Kept {
 impl Kept {
     ghost use Rattle.std.specs.Prelude.{◌≡◌, ◌∷◌, [], length, IfOk, OnOk};
     ghost use Rattle.datagram.specs.Reads.{admission_of};
-    ghost use Rattle.outside.specs.Outside.{Grows};
+    ghost use Rattle.ports.specs.Outside.{Grows};
     ghost use Rattle.entrance.specs.Entrance.{IfTaken, IsTakenFrom, arrival_by};
     ghost use Rattle.entrance.specs.Kept.{admission_in, arrival_kept, datagram_in};
 

@@ -2,7 +2,7 @@
 
 use datagram::Taking;
 use members::RoomView;
-use outside::ReceiveFault;
+use ports::ReceiveFault;
 use std::alloc::AllocError;
 
 /// What was let in.
@@ -31,7 +31,7 @@ pub trait Entrance {
     ghost use Rattle.std.specs.Prelude.{◌≡◌, ◌∷◌, [], List, Option, ℕ, IfOk, OnErr};
     ghost use Rattle.std.specs.Borrow.{GName};
     ghost use Rattle.datagram.specs.Reads.{Admission, admission_of};
-    ghost use Rattle.outside.specs.Outside.{Arrival, Grows};
+    ghost use Rattle.ports.specs.Outside.{Arrival, Grows};
     ghost use Rattle.entrance.specs.Entrance.{ComesInVain, IfTaken, IsTakenFrom, arrival_by};
 
     /// What came, in order, if that is known; of a datagram one that says what was taken in.

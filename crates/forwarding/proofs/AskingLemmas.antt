@@ -12,12 +12,12 @@ use Rattle.rate_desk.specs.declared.receipt.HouseFault.{HouseFault}
 use Rattle.desk.specs.State.{DeskState}
 use Rattle.rate_desk.specs.Shares.{HoldState, IsLastCall, SeatState, Counts, IsReceiptOf, IsFaultOf, IsTold}
 use Rattle.events.specs.declared.job.Job.{Job}
-use Rattle.notices.specs.declared.notification.Notification.{Notification}
+use Rattle.desk_calls.specs.declared.notification.Notification.{Notification}
 use Rattle.events.specs.declared.output.Out.{Out}
-use Rattle.notices.specs.declared.calls.Question.{Question}
-use Rattle.notices.specs.Notification.{told_of, pending_of, pending_with, tells, is_changed, notification_datagrams, requests_upstream, requests_bytes, to_publisher, notices_to_others, notice_to, others_of, picture_upstream, Pending}
+use Rattle.desk_calls.specs.declared.calls.Question.{Question}
+use Rattle.desk_calls.specs.Notification.{told_of, pending_of, pending_with, tells, is_changed, notification_datagrams, requests_upstream, requests_bytes, to_publisher, notices_to_others, notice_to, others_of, picture_upstream, Pending}
 use Rattle.announcement.specs.Entries.{entries_of}
-use Rattle.notices.specs.Head.{Identity}
+use Rattle.desk_calls.specs.Head.{Identity}
 use Rattle.settings.specs.Links.{LinkTable}
 use Rattle.forwarding.specs.declared.done.Forwarded.{Forwarded}
 use Rattle.forwarding.specs.declared.done.ForwardFault.{ForwardFault}

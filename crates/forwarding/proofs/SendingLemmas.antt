@@ -5,8 +5,8 @@ use Rattle.std.proofs.lemmas.List.{length-append, take_more}
 use Rattle.std.proofs.lemmas.List.Elements.{filter-append}
 use Rattle.std.specs.Prelude.{filter}
 use Rattle.events.specs.declared.output.Out.{Out}
-use Rattle.outside.specs.Outside.{SinkView, Grows, datagram_in, datagrams_of}
-use Rattle.outside.proofs.GrowsLemmas.{grows_more}
+use Rattle.ports.specs.Outside.{SinkView, Grows, datagram_in, datagrams_of}
+use Rattle.ports.proofs.GrowsLemmas.{grows_more}
 use Rattle.forwarding.specs.declared.done.Forwarded.{Forwarded}
 use Rattle.forwarding.specs.Sending.{Adds, Sends, nothing_done, is_skip, is_miss}
 

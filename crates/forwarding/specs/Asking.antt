@@ -11,16 +11,16 @@ use Rattle.rate_desk.specs.Shares.{HoldState, IsLastCall, SeatState, Counts, IsR
 use Rattle.routes.specs.Views.{ReaderView}
 use Rattle.events.specs.declared.job.Job.{Job}
 use Rattle.events.specs.Jobs.{leg_asking}
-use Rattle.notices.specs.declared.notification.Notification.{Notification}
-use Rattle.notices.specs.declared.calls.Asks.{Asks}
-use Rattle.notices.specs.declared.calls.Asks.TheVariants.{Desk, Nobody}
-use Rattle.notices.specs.declared.calls.Question.{Question}
-use Rattle.notices.specs.Notification.{told_of, pending_of, notification_datagrams, Pending}
+use Rattle.desk_calls.specs.declared.notification.Notification.{Notification}
+use Rattle.desk_calls.specs.declared.calls.Asks.{Asks}
+use Rattle.desk_calls.specs.declared.calls.Asks.TheVariants.{Desk, Nobody}
+use Rattle.desk_calls.specs.declared.calls.Question.{Question}
+use Rattle.desk_calls.specs.Notification.{told_of, pending_of, notification_datagrams, Pending}
 use Rattle.settings.specs.Links.{worker_of}
-use Rattle.notices.specs.DeskCalls.{AsksOf}
+use Rattle.desk_calls.specs.DeskCalls.{AsksOf}
 use Rattle.forwarding.specs.declared.done.Forwarded.{Forwarded}
 use Rattle.forwarding.specs.declared.done.ForwardFault.{ForwardFault}
-use Rattle.outside.specs.Outside.{SinkView}
+use Rattle.ports.specs.Outside.{SinkView}
 use Rattle.forwarding.specs.Sending.{Sends, nothing_done}
 use Rattle.forwarding.specs.Forwarding.{NotifierState, ForwarderState, IsView, LeavesRows}
 

@@ -7,7 +7,7 @@ use Rattle.routes.specs.Views.{ReaderView}
 use Rattle.events.specs.declared.job.Job.{Job}
 use Rattle.legs.specs.declared.leg.LegState.{LegState}
 use Rattle.events.specs.declared.output.Out.{Out}
-use Rattle.notices.specs.Head.{Identity}
+use Rattle.desk_calls.specs.Head.{Identity}
 use Rattle.legs.specs.Legs.{new_legs, job_datagrams, legs_after}
 use Rattle.settings.specs.Links.{LinkTable, table_of}
 use Rattle.forwarding.specs.declared.done.ForwardFault.{ForwardFault}

@@ -2,7 +2,7 @@
 use Rattle.std.specs.Prelude.{◌≡◌, ◌+◌, ℕ, Bool, true, false, List, length, filter}
 use Rattle.events.specs.declared.output.Out.{Out}
 use Rattle.events.specs.declared.output.Out.TheVariants.{Send, Refused, Busy, Lost, Skip, Miss, Idle}
-use Rattle.outside.specs.Outside.{SinkView, Grows, datagrams_of}
+use Rattle.ports.specs.Outside.{SinkView, Grows, datagrams_of}
 use Rattle.forwarding.specs.declared.done.Forwarded.{Forwarded}
 
 abbrev pub is_skip : Out → Bool

@@ -2,7 +2,7 @@
 
 ghost use Rattle.std.specs.Prelude.{◌≡◌, ◌<◌, IfSome, option_map};
 ghost use Rattle.desk.specs.Call.{HasStay};
-ghost use Rattle.notices.specs.Notification.{pending_with};
+ghost use Rattle.desk_calls.specs.Notification.{pending_with};
 ghost use Rattle.forwarding.specs.Asking.{IsAsked, IsOfLastCall, IsTelling, telling};
 ghost use mathlib.Core.List.{IsPrefix};
 
@@ -10,8 +10,8 @@ use crate::done::{ForwardFault, Forwarded};
 use crate::refusing::{refusal_by, refusal_in, tell_refusal};
 use crate::sending::send_all;
 use desk::Effect;
-use notices::{Head, Notification, Question, notification_of, notify, waiting};
-use outside::Sink;
+use desk_calls::{Head, Notification, Question, notification_of, notify, waiting};
+use ports::Sink;
 use rate_desk::{DeskCalls, DeskSeat, Hold, House, SeatCalls};
 use routes::{Naming, RouteNote, RouteReader};
 use settings::{Links, Settings};
@@ -40,7 +40,7 @@ impl Model for Notifier {
 impl Notifier {
     ghost use Rattle.std.specs.Prelude.{◌≡◌, ◌<◌, Some, IfOk, MatchResult};
     ghost use mathlib.Core.List.{IsPrefix};
-    ghost use Rattle.notices.specs.Notification.{picture_upstream};
+    ghost use Rattle.desk_calls.specs.Notification.{picture_upstream};
     ghost use Rattle.forwarding.specs.Sending.{Sends};
     ghost use Rattle.forwarding.specs.Asking.{Notifies, GivesUp, asking, picture_of, telling, terms};
     ghost use Rattle.forwarding.specs.Forwarding.{new_notifier};

@@ -5,7 +5,7 @@ ghost use Rattle.forwarding.specs.Refusing.{refusal_by, refusal_in};
 
 use desk::Answer;
 use events::{DeskRefusal, Refusal};
-use outside::Sink;
+use ports::Sink;
 use rate_desk::HouseFault;
 
 /// Why a desk that answered this refused the call, if it did.

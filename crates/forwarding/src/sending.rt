@@ -6,7 +6,7 @@ ghost use Rattle.forwarding.specs.Sending.{Adds, Sends, total_of};
 
 use crate::done::Forwarded;
 use events::Out;
-use outside::Sink;
+use ports::Sink;
 
 /// Hands a datagram to the sink, and counts it.
 fn hand_over<S: Sink>(sink: &mut S, endpoint: u16, bytes: &[u8], done: &mut Forwarded)
@@ -22,7 +22,7 @@ fn hand_over<S: Sink>(sink: &mut S, endpoint: u16, bytes: &[u8], done: &mut Forw
 }
 
 /// Does one thing that is given out; what is no datagram is counted alone.
-#[tactic(auto, using(outside::proofs::GrowsLemmas::grows_nothing))]
+#[tactic(auto, using(ports::proofs::GrowsLemmas::grows_nothing))]
 fn give<S: Sink>(out: &Out, sink: &mut S, done: &mut Forwarded)
     requires room { total_of done.old < 2 ^ 64 - 1 }
     ensures adds { Adds (out.now ∷ []) (S.shown sink.old) (S.shown sink.new) done.old done.new }

@@ -7,8 +7,8 @@ use Rattle.settings.specs.Settings.{Configuration, IsInRange}
 use Rattle.desk.specs.State.{DeskState, HoldsLegalDesk}
 use Rattle.rate_desk.specs.Gathered.{AreDesksOf}
 use Rattle.rate_desk.specs.Shares.{IsDeskOf}
-use Rattle.outside.specs.declared.source.TheConstants.{MAX_FAULTS}
-use Rattle.outside.specs.Ticks.{TicksState, new_ticks}
+use Rattle.ports.specs.declared.source.TheConstants.{MAX_FAULTS}
+use Rattle.ports.specs.Ticks.{TicksState, new_ticks}
 use Rattle.events.specs.declared.event.Event.{Event}
 use Rattle.core_steps.specs.Happening.{Happening}
 use Rattle.core_steps.specs.Opening.{IsNewDesk, IsNewWorld}

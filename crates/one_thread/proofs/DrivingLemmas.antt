@@ -16,7 +16,7 @@ use Rattle.core_steps.specs.Settling.{ingress_left}
 use Rattle.core_steps.specs.Waits.{as_counted, hand_count, has_work, pending_count, worker_has_work, works_more}
 use Rattle.core_steps.specs.World.{Hand, Task, WorkerState, WorldState, doing, free, telling}
 use Rattle.core_steps.specs.declared.world.Waiting.{Waiting}
-use Rattle.notices.specs.Notification.{Pending}
+use Rattle.desk_calls.specs.Notification.{Pending}
 use Rattle.settings.specs.Settings.{Configuration}
 use Rattle.core_steps.proofs.AsideLemmas.{work_aside, ingress_same}
 use Rattle.core_steps.proofs.HistoryLemmas.{runs_join}

@@ -5,14 +5,14 @@ use Rattle.std.proofs.lemmas.List.{map-append, take_more}
 use Rattle.std.specs.Prelude.{Result, Ok, Err, OnErr}
 use Rattle.events.specs.declared.event.Event.{Event}
 use Rattle.events.specs.declared.output.Out.{Out}
-use Rattle.outside.specs.declared.datagram.Datagram.{Datagram}
-use Rattle.outside.specs.declared.source.TheConstants.{MAX_FAULTS}
-use Rattle.outside.specs.Outside.{Arrival, came, chosen, stop, silence, failure, is_stop, Grows, SinkView, datagram_in, datagrams_of}
-use Rattle.outside.specs.Ticks.{TicksState, ticks_after}
-use Rattle.outside.proofs.GrowsLemmas.{grows_more, grows_nothing}
-use Rattle.outside.specs.declared.source.ReceiveFault.{ReceiveFault}
+use Rattle.ports.specs.declared.datagram.Datagram.{Datagram}
+use Rattle.ports.specs.declared.source.TheConstants.{MAX_FAULTS}
+use Rattle.ports.specs.Outside.{Arrival, came, chosen, stop, silence, failure, is_stop, Grows, SinkView, datagram_in, datagrams_of}
+use Rattle.ports.specs.Ticks.{TicksState, ticks_after}
+use Rattle.ports.proofs.GrowsLemmas.{grows_more, grows_nothing}
+use Rattle.ports.specs.declared.source.ReceiveFault.{ReceiveFault}
 use Rattle.settings.specs.Links.{LinkTable}
-use Rattle.notices.specs.DeskCalls.{source_of}
+use Rattle.desk_calls.specs.DeskCalls.{source_of}
 use Rattle.datagram.specs.Reads.{Admission, IsSaidBy}
 use Rattle.entrance.specs.declared.entrance.Admitted.{Admitted}
 use Rattle.entrance.specs.declared.entrance.Admitted.TheVariants.{Nothing, Taking, Select, Stop}

@@ -2,8 +2,8 @@
 use Rattle.std.specs.Prelude.{◌≡◌, ◌⊎◌, ℕ, ◌<◌, List, [], ◌++◌}
 use Rattle.std.specs.List.{flat_map}
 use Rattle.settings.specs.Settings.{Configuration}
-use Rattle.outside.specs.declared.source.TheConstants.{MAX_FAULTS}
-use Rattle.outside.specs.Ticks.{TicksState, new_ticks}
+use Rattle.ports.specs.declared.source.TheConstants.{MAX_FAULTS}
+use Rattle.ports.specs.Ticks.{TicksState, new_ticks}
 use Rattle.events.specs.declared.event.Event.{Event}
 use Rattle.core_steps.specs.Happening.{Happening}
 use Rattle.core_steps.specs.Opening.{IsNewWorld}

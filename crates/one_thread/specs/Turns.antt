@@ -3,10 +3,10 @@ use Rattle.std.specs.Prelude.{◌≡◌, ◌⊎◌, ℕ, ◌+◌, ◌<◌, ◌�
 use Rattle.events.specs.declared.event.Event.{Event}
 use Rattle.events.specs.declared.event.Event.TheVariants.{Hear, Tick, Select}
 use Rattle.events.specs.declared.output.Out.{Out}
-use Rattle.outside.specs.declared.datagram.Datagram.{Datagram}
-use Rattle.outside.specs.declared.source.TheConstants.{MAX_FAULTS}
-use Rattle.outside.specs.Outside.{Arrival, came, chosen, stop, silence, failure, is_stop, Grows, SinkView, datagrams_of}
-use Rattle.outside.specs.Ticks.{TicksState, is_due, ticks_after}
+use Rattle.ports.specs.declared.datagram.Datagram.{Datagram}
+use Rattle.ports.specs.declared.source.TheConstants.{MAX_FAULTS}
+use Rattle.ports.specs.Outside.{Arrival, came, chosen, stop, silence, failure, is_stop, Grows, SinkView, datagrams_of}
+use Rattle.ports.specs.Ticks.{TicksState, is_due, ticks_after}
 use Rattle.core_steps.specs.Waits.{as_counted}
 use Rattle.core_steps.specs.World.{WorldState}
 use Rattle.one_thread.specs.declared.tally.Tally.{Tally}

@@ -2,8 +2,8 @@
 
 ghost use Rattle.std.specs.Prelude.{◌≡◌, ◌<◌, length, [], IfErr, IfOk, OnOk};
 ghost use Rattle.rate_desk.specs.Gathered.{AreDesksOf};
-ghost use Rattle.outside.specs.Ticks.{new_ticks};
-ghost use Rattle.outside.specs.declared.source.TheConstants.{MAX_FAULTS};
+ghost use Rattle.ports.specs.Ticks.{new_ticks};
+ghost use Rattle.ports.specs.declared.source.TheConstants.{MAX_FAULTS};
 ghost use Rattle.core_steps.specs.Opening.{IsNewWorld};
 ghost use Rattle.settings.specs.Settings.{IsInRange};
 ghost use Rattle.one_thread.specs.declared.driver.DriveFault.TheVariants.{NoMemory};
@@ -16,7 +16,7 @@ use crate::turn::{Engine, turn};
 use core_steps::World;
 use desk::Desk;
 use entrance::{Direct, Entrance, Kept};
-use outside::{Feed, MAX_FAULTS, Pace, Sink, Ticks, Timekeeper, Watch};
+use ports::{Feed, MAX_FAULTS, Pace, Sink, Ticks, Timekeeper, Watch};
 use settings::Settings;
 use std::alloc::{AllocError, Global};
 use thiserror::Error;

@@ -11,5 +11,5 @@ mod tally;
 mod turn;
 
 pub use driver::{DriveFault, Report, run_one_thread, run_through};
-pub use outside::Pace;
+pub use ports::Pace;
 pub use tally::Tally;

@@ -5,10 +5,10 @@ ghost use Rattle.events.specs.declared.event.Event.TheVariants.{Select};
 ghost use Rattle.events.specs.declared.output.Out.TheVariants.{Send};
 ghost use Rattle.datagram.specs.Reads.{IsPacketRead, admission_of};
 ghost use Rattle.core_steps.specs.Hearing.{SaysTaken};
-ghost use Rattle.outside.specs.Outside.{is_stop};
+ghost use Rattle.ports.specs.Outside.{is_stop};
 ghost use Rattle.entrance.specs.Entrance.{IfTaken, arrival_by};
-ghost use Rattle.outside.specs.Ticks.{is_due, ticks_after};
-ghost use Rattle.outside.specs.declared.source.TheConstants.{MAX_FAULTS};
+ghost use Rattle.ports.specs.Ticks.{is_due, ticks_after};
+ghost use Rattle.ports.specs.declared.source.TheConstants.{MAX_FAULTS};
 ghost use Rattle.one_thread.specs.Driving.{Drives, DrivesSome, DrivesBoth, IsIdle};
 ghost use Rattle.one_thread.specs.Turns.{BreaksOff, SendsCounted, MakesTurn, Raises, faults_with, brought_at, heard_count, tick_at, view_of, who_came};
 
@@ -18,7 +18,7 @@ use core_steps::{Taking, World};
 use desk::Desk;
 use entrance::{Admitted, Came, Entrance};
 use events::{Event, Out};
-use outside::{Look, ReceiveFault, Sink, Status, Ticks, Watch};
+use ports::{Look, ReceiveFault, Sink, Status, Ticks, Watch};
 use std::alloc::AllocError;
 
 /// What was let in, or that a receive failed.

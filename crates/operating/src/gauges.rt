@@ -1,12 +1,12 @@
 //! What a run shows while it goes on, who steers it, and who records it.
 
 ghost use Rattle.std.specs.Prelude.{◌≡◌, false, None, IsNone, IsSome};
-ghost use Rattle.outside.specs.declared.feed.Received.TheVariants.{Nothing};
+ghost use Rattle.ports.specs.declared.feed.Received.TheVariants.{Nothing};
 
 use crate::recorder::Recorder;
 use crate::steering::{Steering, Wish};
 use control::{Screened, Unheard};
-use outside::{Look, Received, Status};
+use ports::{Look, Received, Status};
 use recording::End;
 use std::alloc::Global;
 use std::cell::{Cell, RefCell, RefMut};

@@ -4,7 +4,7 @@ ghost use Rattle.std.specs.Prelude.{◌≡◌};
 
 use crate::gauges::Gauges;
 use control::Screened;
-use outside::{Status, Watch};
+use ports::{Status, Watch};
 use recording::end_name;
 use std::alloc::{AllocError, Global};
 use std::io::Write;

@@ -2,7 +2,7 @@
 
 use crate::gauges::Gauges;
 use desk::Desk;
-use outside::{Look, Status, Watch};
+use ports::{Look, Status, Watch};
 use traffic::Traffic;
 
 /// A watch, and what peers are shown beside.

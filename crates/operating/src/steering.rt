@@ -8,7 +8,7 @@ use control::{
     refused_text, screened_text, stranger_line,
 };
 use desk::Desk;
-use outside::{Look, Received, Status};
+use ports::{Look, Received, Status};
 use request_text::desk_text;
 use std::alloc::{AllocError, Global};
 use std::net::SocketAddr;

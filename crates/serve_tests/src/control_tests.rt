@@ -2,7 +2,7 @@
 
 use crate::expected::same;
 use control::{MAX_PEERS, Peers, Request, Unheard, counts_text};
-use outside::Status;
+use ports::Status;
 use std::alloc::{AllocError, Global};
 use std::io::{self, ErrorKind, Read, Write};
 use std::process::Abort;

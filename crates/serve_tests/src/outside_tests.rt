@@ -1,6 +1,6 @@
 //! What nobody does.
 
-use outside::{Gate, Look, Open, Status, Unwatched, Watch};
+use ports::{Gate, Look, Open, Status, Unwatched, Watch};
 use std::test::Fail;
 
 /// Nobody looks, and nobody is held.

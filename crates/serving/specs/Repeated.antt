@@ -4,8 +4,8 @@ use Rattle.rate_cert.specs.declared.request.Request.{Request}
 use Rattle.desk.specs.declared.effect.Effect.{Effect}
 use Rattle.events.specs.declared.output.Out.{Out}
 use Rattle.settings.specs.Links.{LinkTable}
-use Rattle.notices.specs.Head.{Identity}
-use Rattle.notices.specs.Notification.{notification_datagrams}
+use Rattle.desk_calls.specs.Head.{Identity}
+use Rattle.desk_calls.specs.Notification.{notification_datagrams}
 
 -- After what was there stands what follows if nobody asked and this whole set is fresh (RFC 5104, section 4.2.1).
 pub record AsksForAll (table : LinkTable) (unit : Identity) (publisher : ℕ) (set : List Request) (old new : List Out)

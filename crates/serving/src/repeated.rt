@@ -8,9 +8,9 @@ ghost use Rattle.serving.specs.Repeated.{AsksForAll, AsksIf};
 
 use announcement::entries_of;
 use desk::{Desk, Effect};
+use desk_calls::{Head, Notification, notify};
 use events::Out;
-use notices::{Head, Notification, notify};
-use outside::{Look, Sink, Status, Watch};
+use ports::{Look, Sink, Status, Watch};
 use repeats::Sets;
 use settings::{Links, Settings};
 use sockets::SocketSink;

@@ -1,6 +1,6 @@
 -- What is answered for the oldest datagram that waits.
 use Rattle.std.proofs.Common.{◌≡◌, ◌∙◌, ℕ, List, [], ◌∷◌, drop, refl, sym, ap, subst, Option, None, Some, slice_get}
-use Rattle.outside.specs.declared.datagram.Datagram.{Datagram}
+use Rattle.ports.specs.declared.datagram.Datagram.{Datagram}
 use Rattle.conference.specs.Conference.{ConferenceState, HandsNext}
 use Rattle.conference.proofs.ServedLemmas.{hands_out}
 use Rattle.sfu_c.specs.declared.numbers.SfuNext.{SfuNext}

@@ -1,6 +1,6 @@
 -- The datagram that is handed to C.
 use Rattle.std.specs.Prelude.{◌≡◌, ◌≢◌, ◌↔◌, ◌⊎◌, ◌≤◌, ◌∷◌, ℕ, List, [], length, take, drop}
-use Rattle.outside.specs.declared.datagram.Datagram.{Datagram}
+use Rattle.ports.specs.declared.datagram.Datagram.{Datagram}
 use Rattle.conference.specs.Conference.{ConferenceState, HandsNext}
 use Rattle.sfu_c.specs.declared.faults.TheConstants.{DONE, NOTHING, NO_ROOM}
 use Rattle.sfu_c.specs.declared.numbers.SfuNext.{SfuNext}

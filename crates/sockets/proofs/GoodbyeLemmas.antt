@@ -2,9 +2,9 @@
 use Rattle.std.proofs.Common.{◌≡◌, ◌++◌, ◌∷◌, [], refl, ℕ, Bool, List, Option, Some, true, slice_get, sym, ap, ◌∙◌}
 use Rattle.std.proofs.lemmas.List.Elements.{All-append, All-cons, All-nil}
 use Rattle.settings.specs.Settings.{Configuration}
-use Rattle.outside.specs.Outside.{Grows}
-use Rattle.outside.specs.declared.datagram.Datagram.{Datagram}
-use Rattle.outside.proofs.GrowsLemmas.{grows_more, grows_nothing}
+use Rattle.ports.specs.Outside.{Grows}
+use Rattle.ports.specs.declared.datagram.Datagram.{Datagram}
+use Rattle.ports.proofs.GrowsLemmas.{grows_more, grows_nothing}
 use Rattle.sockets.specs.Goodbyes.{IsGoodbyeOf, IsGoodbyeToPresent, LeavesEndpoint, LeavesPresent, goodbye_bytes}
 
 pub says_nothing : (c : Configuration) (present : List Bool) (known : Option (List Datagram)) → LeavesPresent c present known known

@@ -5,9 +5,9 @@ use Rattle.rtcp_compound.specs.Grammar.{packet_bytes}
 use Rattle.rtcp_compound.specs.Written.{bye_packet}
 use Rattle.settings.specs.Settings.{Configuration}
 use Rattle.settings.specs.declared.settings.LegSettings.{LegSettings}
-use Rattle.notices.specs.Head.{report_head}
-use Rattle.outside.specs.Outside.{Grows}
-use Rattle.outside.specs.declared.datagram.Datagram.{Datagram}
+use Rattle.desk_calls.specs.Head.{report_head}
+use Rattle.ports.specs.Outside.{Grows}
+use Rattle.ports.specs.declared.datagram.Datagram.{Datagram}
 
 abbrev pub goodbye_packet : ℕ → List ℕ
 goodbye_packet source = packet_bytes (bye_packet (source ∷ []))

@@ -2,7 +2,7 @@
 use Rattle.std.specs.Prelude.{◌≡◌, ℕ, List, None, slice_range}
 use Rattle.tmmbr_tuple.specs.declared.ssrc.Ssrc.{Ssrc}
 use Rattle.settings.specs.Links.{LinkTable}
-use Rattle.notices.specs.DeskCalls.{source_of}
+use Rattle.desk_calls.specs.DeskCalls.{source_of}
 use Rattle.datagram.specs.Reads.{Admission, IsPacketRead}
 use Rattle.datagram.specs.Spelling.{IsAsHeard, spelling}
 use Rattle.datagram.specs.declared.reading.Ask.{Ask}

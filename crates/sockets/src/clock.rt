@@ -3,7 +3,7 @@
 ghost use Rattle.std.specs.Prelude.{◌≡◌, None};
 ghost use Rattle.sockets.specs.Sockets.{later_moment};
 
-use outside::Clock;
+use ports::Clock;
 use std::cell::Cell;
 use std::time::{self, Instant};
 

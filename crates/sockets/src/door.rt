@@ -2,7 +2,7 @@
 
 ghost use Rattle.std.specs.Prelude.{◌≡◌, ◌≤◌, ◌+◌, ℕ, false, true, None, Some, Ok, Err, IfOk, IfSome, OnOk, length, replicate, slice_get, slice_range, take};
 ghost use Rattle.entrance.specs.Entrance.{IfTaken};
-ghost use Rattle.notices.specs.DeskCalls.{source_of};
+ghost use Rattle.desk_calls.specs.DeskCalls.{source_of};
 ghost use Rattle.screening.specs.Floods.{is_within, tallies_with};
 ghost use Rattle.senders.specs.Naming.{source_named};
 ghost use Rattle.senders.specs.Senders.{front_length, sender_of};
@@ -21,7 +21,7 @@ use datagram::{Taking, What};
 use entrance::{Admitted, Came, Entrance};
 use members::RoomView;
 use operating::Gauges;
-use outside::{Clock, MAX_DATAGRAM, ReceiveFault, Received};
+use ports::{Clock, MAX_DATAGRAM, ReceiveFault, Received};
 use repeats::{Holding, Sets};
 use rtcp_compound::is_rtcp;
 use screening::{Floods, Judged, PutBy, Rules, Screen};

@@ -2,10 +2,10 @@
 
 ghost use Rattle.std.specs.Prelude.{◌≡◌, ◌++◌, [], IfOk, OnOk};
 ghost use Rattle.std.specs.List.{flat_map};
-ghost use Rattle.notices.specs.Head.{report_head};
+ghost use Rattle.desk_calls.specs.Head.{report_head};
 ghost use Rattle.sockets.specs.Goodbyes.{LeavesEndpoint, LeavesPresent, goodbye_bytes, goodbye_packet, leg_goodbye};
 
-use outside::Sink;
+use ports::Sink;
 use rtcp_compound::{write_bye, write_rr, write_sdes_cname};
 use settings::{LegSettings, Settings};
 use std::alloc::{AllocError, Global};

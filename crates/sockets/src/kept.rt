@@ -6,7 +6,7 @@ use crate::inbox::Inbox;
 use datagram::{Ask, Control, Reading, Sent, Taking, What, is_sayable, read};
 use entrance::own_source;
 use members::RoomView;
-use outside::MAX_DATAGRAM;
+use ports::MAX_DATAGRAM;
 use repeats::{Again, Holding};
 use screening::{Judged, Screen};
 use settings::Links;
@@ -35,7 +35,7 @@ pub(crate) struct Kept {
 
 impl Kept {
     ghost use Rattle.std.specs.Prelude.{◌≡◌, ◌≤◌, ◌∷◌, [], IfOk, IfSome, OnOk, length, slice_range};
-    ghost use Rattle.notices.specs.DeskCalls.{source_of};
+    ghost use Rattle.desk_calls.specs.DeskCalls.{source_of};
     ghost use Rattle.datagram.specs.Reads.{IsReadUpTo, admission_of};
     ghost use Rattle.datagram.specs.Spelling.{IsAsHeard};
     ghost use Rattle.entrance.specs.Entrance.{IsTakenFrom};

@@ -4,7 +4,7 @@ ghost use Rattle.std.specs.Prelude.{◌≡◌, None, vec_len, is_some, map, repl
 
 use addressing::{Directory, Listening};
 use events::Refusal;
-use outside::{SendFault, Sink};
+use ports::{SendFault, Sink};
 use rtcp_compound::is_rtcp;
 use senders::Kind;
 use std::alloc::{AllocError, Global};

@@ -7,7 +7,7 @@ ghost use Rattle.workers.specs.Counted.{outcome_of};
 use crate::recess::Recess;
 use crossbeam_utils::CachePadded;
 use forwarding::{ForwardFault, Forwarded};
-use outside::Status;
+use ports::Status;
 use std::alloc::{AllocError, Global};
 use std::sync::atomic::{AtomicU64, Ordering};
 use std::thread::Parker;

@@ -1,7 +1,7 @@
 //! How many receives failed in a row.
 
 use entrance::Admitted;
-use outside::{MAX_FAULTS, ReceiveFault};
+use ports::{MAX_FAULTS, ReceiveFault};
 use std::marker::Model;
 
 /// How many receives failed since the last one that didn't. Contracts see it as that number.

@@ -2,7 +2,7 @@
 
 ghost use Rattle.std.specs.Prelude.{◌≡◌, ◌<◌, ◌++◌, [], ℕ, List, IfOk, OnOk, OnErr};
 ghost use Rattle.datagram.specs.Reads.{IsPacketRead, admission_of};
-ghost use Rattle.outside.specs.Ticks.{is_due};
+ghost use Rattle.ports.specs.Ticks.{is_due};
 ghost use Rattle.core_steps.specs.Hearing.{SaysTaken};
 ghost use Rattle.desk.specs.Call.{HasStay};
 ghost use Rattle.events.specs.declared.event.Event.TheVariants.{Hear, Select, Tick};
@@ -19,11 +19,11 @@ use crate::lane::Crew;
 use crate::settling::{Patience, settle};
 use core_steps::{Duty, IngressCore, Taking};
 use desk::{Answer, Call, Change, Signal};
+use desk_calls::{Question, stay_call};
 use events::{DeskRefusal, Job, Out, Refusal};
 use forwarding::{ForwardFault, Forwarded, Notifier, send_all};
 use members::Order;
-use notices::{Question, stay_call};
-use outside::{Look, Sink, Ticks, Watch};
+use ports::{Look, Sink, Ticks, Watch};
 use rate_desk::{DeskCalls, DeskSeat, House, HouseFault, SeatCalls};
 use routes::{Naming, RouteWriter};
 use settings::Settings;

@@ -2,7 +2,7 @@
 //! subscribers (RFC 7667, section 3.7).
 //!
 //! Read `unit` first, which runs it all, by `scope` (the threads), `turns` and `ingress` (what comes in) and `worker`. What one
-//! worker does with its jobs is the crate `forwarding`, and what the unit needs from outside the crate `outside`; their names are handed
+//! worker does with its jobs is the crate `forwarding`, and what the unit needs from outside the crate `ports`; their names are handed
 //! on.
 #![tactic(auto)]
 
@@ -24,7 +24,7 @@ mod worker;
 pub use fault::UnitFault;
 pub use forwarding::{ForwardFault, Forwarded, Forwarder, NoMemory, Notifier};
 pub use given::Outside;
-pub use outside::{
+pub use ports::{
     Clock, Datagram, Fed, Feed, Gate, Look, MAX_DATAGRAM, MAX_FAULTS, Open, Pace, ReceiveFault,
     Received, SendFault, Sink, Source, Status, Timed, Timekeeper, Unwatched, Watch,
 };

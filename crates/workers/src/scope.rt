@@ -13,7 +13,7 @@ use crate::worker::WorkerThread;
 use core_steps::IngressCore;
 use entrance::Entrance;
 use forwarding::{Forwarder, Notifier};
-use outside::{Gate, Pace, Sink, Ticks, Watch};
+use ports::{Gate, Pace, Sink, Ticks, Watch};
 use rate_desk::{DeskCalls, DeskSeat, House, SeatCalls};
 use routes::{Blank, Naming, RouteReader, RouteWriter, routes};
 use settings::Settings;

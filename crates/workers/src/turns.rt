@@ -4,7 +4,7 @@ use crate::fault::UnitFault;
 use crate::faults::Faults;
 use crate::ingress::Ingress;
 use entrance::{Admitted, Came, Entrance};
-use outside::{Sink, Watch};
+use ports::{Sink, Watch};
 use rate_desk::{DeskCalls, SeatCalls};
 use routes::Naming;
 use std::sync::Wait;

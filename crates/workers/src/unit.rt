@@ -10,7 +10,7 @@ use crate::scope::{Shared, run_scoped};
 use crate::turns::Inlet;
 use desk::Desk;
 use entrance::{Direct, Entrance, Kept};
-use outside::{
+use ports::{
     Clock, Fed, Feed, Gate, Pace, Sink, Source, Status, Timed, Timekeeper, Unwatched, Watch,
 };
 use rate_desk::{DeskCalls, House, SeatCalls};

@@ -6,7 +6,7 @@ use crate::item::Item;
 use crate::recess::Recess;
 use events::Job;
 use forwarding::{ForwardFault, Forwarded, Forwarder};
-use outside::{Gate, Sink};
+use ports::{Gate, Sink};
 use rate_desk::{DeskCalls, DeskSeat, House, SeatCalls};
 use routes::{Naming, RouteNote};
 use rtrb::Consumer;

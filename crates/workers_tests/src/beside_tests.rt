@@ -8,7 +8,7 @@ use crate::random_turns::{Plan, Turn, WORKERS, make_turns, room, room_with};
 use crate::told::Told;
 use crate::turn_doubles::{Counting, ROOM, RingSink, Stage, Turned, sink_and_end};
 use one_thread::{Pace, run_one_thread};
-use outside::{Timed, Unwatched};
+use ports::{Timed, Unwatched};
 use rtrb::Consumer;
 use settings::Settings;
 use std::alloc::{AllocError, Global};

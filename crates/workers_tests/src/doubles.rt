@@ -1,12 +1,12 @@
 //! What stands for the outside of a unit in tests: a script of arrivals, clocks, gates, sinks in memory, and a watch.
 
 ghost use Rattle.std.specs.Prelude.{◌≡◌, ◌<◌, length, vec_len, IfOk};
-ghost use Rattle.outside.specs.Outside.{FitsIn};
+ghost use Rattle.ports.specs.Outside.{FitsIn};
 
 use crate::rooms::{media_packet, receiver_report};
 use desk::Desk;
 use events::{Bytes, Refusal};
-use outside::written;
+use ports::written;
 use std::alloc::{AllocError, Global};
 use std::sync::atomic::{AtomicBool, AtomicU64, Ordering};
 use std::thread;

@@ -4,7 +4,7 @@ use crate::random_turns::{Coming, Turn, WORKERS};
 use crate::told::Told;
 use core_steps::{World, run};
 use events::{Bytes, Event};
-use outside::Ticks;
+use ports::Ticks;
 use settings::Settings;
 use std::alloc::{AllocError, Global};
 use std::test::Fail;

@@ -5,7 +5,7 @@ use crate::expected::same;
 use crate::rooms::{Link, ONE_WORKER, Room, is, rtp};
 use events::Refusal;
 use one_thread::{Pace, run_one_thread};
-use outside::{Look, Status, Timed, Unwatched};
+use ports::{Look, Status, Timed, Unwatched};
 use rtp_packet::RtpFault;
 use settings::RoomFault;
 use std::alloc::Global;

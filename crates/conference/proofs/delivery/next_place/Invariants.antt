@@ -1,5 +1,5 @@
 use Rattle.std.proofs.Common.{◌≡◌, ◌≤◌, ◌-◌, length, drop}
-use Rattle.outside.specs.Outside.{datagrams_of}
+use Rattle.ports.specs.Outside.{datagrams_of}
 use Rattle.conference.proofs.delivery.next_place.Given as goal
 
 abbrev pub invariant-loop-at : goal.invariant-loop-at

@@ -3,11 +3,11 @@ use Rattle.std.proofs.lemmas.List.{with_items_is}
 use Rattle.std.specs.Vec.{with_items}
 use Rattle.std.specs.Prelude.{Option, slice_get, option_map}
 use Rattle.desk.specs.State.{DeskState}
-use Rattle.notices.specs.declared.notification.Notification.{Notification}
+use Rattle.desk_calls.specs.declared.notification.Notification.{Notification}
 use Rattle.core_steps.specs.Asking.{Asked}
 use Rattle.core_steps.specs.Machine.{state_of, tasks_of}
-use Rattle.notices.specs.declared.calls.Question.{Question}
-use Rattle.notices.specs.Notification.{pending_with}
+use Rattle.desk_calls.specs.declared.calls.Question.{Question}
+use Rattle.desk_calls.specs.Notification.{pending_with}
 use Rattle.core_steps.proofs.AskingLemmas.{asking_of}
 use Rattle.core_steps.proofs.IngressLemmas.{desk_asked}
 use Rattle.core_steps.proofs.ingress.ask_desk.Goals as goal

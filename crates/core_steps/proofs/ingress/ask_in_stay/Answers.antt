@@ -1,5 +1,5 @@
 use Rattle.std.proofs.Common.{sym, ◌∙◌}
-use Rattle.notices.specs.DeskCalls.{stay_call}
+use Rattle.desk_calls.specs.DeskCalls.{stay_call}
 use Rattle.core_steps.specs.Machine.{state_of, tasks_of}
 use Rattle.core_steps.proofs.IngressLemmas.{order_asks, order_asks_nobody, nobody_left}
 use Rattle.core_steps.proofs.ingress.ask_in_stay.Goals as goal

@@ -2,7 +2,7 @@ use Rattle.std.proofs.Common.{List, ap, refl, sym, ◌∙◌}
 use Rattle.events.specs.declared.job.Job.{Job}
 use Rattle.legs.specs.declared.leg.LegState.{LegState}
 use Rattle.core_steps.specs.Machine.{setup_of, worker_state, hand_in}
-use Rattle.notices.specs.Notification.{pending_with}
+use Rattle.desk_calls.specs.Notification.{pending_with}
 use Rattle.core_steps.specs.World.{free, WorkerState}
 use Rattle.core_steps.proofs.WorkingLemmas.{idle-steps, taking-steps, telling-steps, nobody-steps, forwarding-steps, asked-steps}
 use Rattle.core_steps.proofs.working.step.Goals as goal

@@ -1,5 +1,5 @@
 use Rattle.std.proofs.Common.{ℕ, sym, ap, ◌∙◌}
-use Rattle.notices.specs.Notification.{told_of}
+use Rattle.desk_calls.specs.Notification.{told_of}
 use Rattle.forwarding.proofs.AskingLemmas.{told_of_last}
 use Rattle.forwarding.proofs.notifier.ask_desk.Goals as goal
 

@@ -1,5 +1,5 @@
 use Rattle.std.proofs.Common.{◌≡◌, ◌<◌, [], length}
-use Rattle.outside.specs.declared.source.TheConstants.{MAX_FAULTS}
+use Rattle.ports.specs.declared.source.TheConstants.{MAX_FAULTS}
 use Rattle.one_thread.specs.Driving.{IsIdle}
 use Rattle.one_thread.specs.Turns.{HasMade, view_of}
 use Rattle.one_thread.proofs.driver.run_turns.Given as goal

@@ -3,7 +3,7 @@ use Rattle.core_steps.specs.World.{WorldState}
 use Rattle.datagram.specs.Reads.{Admission, admission_of}
 use Rattle.events.specs.declared.event.Event.{Event}
 use Rattle.events.specs.declared.output.Out.{Out}
-use Rattle.outside.specs.Outside.{Arrival, Grows}
+use Rattle.ports.specs.Outside.{Arrival, Grows}
 use Rattle.entrance.specs.Entrance.{arrival_by}
 use Rattle.one_thread.specs.declared.tally.Tally.{Tally}
 use Rattle.one_thread.specs.Driving.{Drives}
