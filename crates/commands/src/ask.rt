@@ -8,7 +8,7 @@ ghost use Rattle.commands.specs.Asking.{asking_line, spaced};
 use crate::ask_record::{print_record, write_record};
 use crate::connection::{AskFault, connect, print_answer, say_fault};
 use cli::Status;
-use control::read_answer;
+use control_protocol::read_answer;
 use std::alloc::{AllocError, Global};
 use std::convert::AsStr;
 use std::fs::File;

@@ -5,7 +5,7 @@ ghost use Rattle.std.specs.Io.KnownBytes.{Appends, Keeps};
 
 use crate::connection::{AskFault, connect, print_answer, say_fault};
 use cli::{Status, say};
-use control::{Answered, read_answer};
+use control_protocol::{Answered, read_answer};
 use std::alloc::Global;
 use std::fs::{self, File, OpenOptions};
 use std::io::{self, ErrorKind, Read, Write};

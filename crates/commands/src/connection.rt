@@ -2,10 +2,10 @@
 
 ghost use Rattle.std.specs.Prelude.{◌≡◌, ◌≢◌, ℕ, List, Some, codes};
 ghost use Rattle.std.specs.Io.KnownBytes.{Appends, Keeps};
-ghost use Rattle.control.specs.Asking.{answered_by, done};
+ghost use Rattle.control_protocol.specs.Asking.{answered_by, done};
 
 use cli::{Status, say, say_no_memory};
-use control::{Answered, read_answer};
+use control_protocol::{Answered, read_answer};
 use std::alloc::AllocError;
 use std::io::Write;
 use std::net::Net;

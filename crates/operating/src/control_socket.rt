@@ -8,6 +8,7 @@ use crate::steering::{Listed, Steering};
 use addressing::{Location, ServedSettings};
 use recording::ControlFault;
 use settings::Settings;
+use stats::LegLine;
 use std::alloc::{AllocError, Global};
 use std::fs::{self, Permissions};
 use std::io::ErrorKind;
@@ -17,7 +18,6 @@ use std::os::unix::net::{UnixListener, UnixStream};
 use std::rt::Files;
 use std::thread::Threads;
 use std::time;
-use traffic::LegLine;
 
 /// Only its owner may connect to the socket.
 const MODE: u32 = 0o600;

@@ -5,7 +5,7 @@ ghost use Rattle.ports.specs.declared.feed.Received.TheVariants.{Nothing};
 
 use crate::recorder::Recorder;
 use crate::steering::{Steering, Wish};
-use control::{Screened, Unheard};
+use control_protocol::{Screened, Unheard};
 use ports::{Look, Received, Status};
 use recording::End;
 use std::alloc::Global;

@@ -3,7 +3,7 @@
 ghost use Rattle.std.specs.Prelude.{◌≡◌};
 
 use crate::gauges::Gauges;
-use control::Screened;
+use control_protocol::Screened;
 use ports::{Status, Watch};
 use recording::end_name;
 use std::alloc::{AllocError, Global};

@@ -3,7 +3,7 @@
 use crate::gauges::Gauges;
 use desk::Desk;
 use ports::{Look, Status, Watch};
-use traffic::Traffic;
+use stats::Traffic;
 
 /// A watch, and what peers are shown beside.
 #[derive(Drop)]

@@ -3,22 +3,22 @@
 ghost use Rattle.std.specs.Prelude.{◌≡◌, None, IfOk, length, map, replicate};
 
 use crate::recorder::Switched;
-use control::{
+use control_protocol::{
     Course, Peers, Refused, Screened, Unheard, counts_text, course_for, done_text, present_line,
     refused_text, screened_text, stranger_line,
 };
 use desk::Desk;
 use ports::{Look, Received, Status};
 use request_text::desk_text;
+use stats::{
+    LegLine, Metric, MetricType, Sample, Traffic, leg_line, leg_report_line, publisher_report_line,
+    push_figures, push_metric, push_refusal_figures, push_refusal_lines, push_report_figures,
+};
 use std::alloc::{AllocError, Global};
 use std::net::SocketAddr;
 use std::os::unix::net::{UnixListener, UnixStream};
 use strangers::Strangers;
 use tmmbr_tuple::Ssrc;
-use traffic::{
-    LegLine, Metric, MetricType, Sample, Traffic, leg_line, leg_report_line, publisher_report_line,
-    push_figures, push_metric, push_refusal_figures, push_refusal_lines, push_report_figures,
-};
 
 /// So many milliseconds lie at least between two looks at the peers.
 const LOOK_MS: u64 = 10;

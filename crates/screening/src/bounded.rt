@@ -11,11 +11,11 @@ use crate::trips::note_trips;
 use datagram::{Ask, Sent};
 use rtcp_feedback::Nack;
 use settings::{LegSettings, Links, Settings};
+use stats::Traffic;
 use std::alloc::{AllocError, Global};
 use std::cell::Cell;
 use std::marker::Model;
 use tmmbr_tuple::Ssrc;
-use traffic::Traffic;
 
 /// What came of each endpoint, and what was let through on each leg.
 #[derive(Drop)]

@@ -12,10 +12,10 @@ use crate::run::{Placement, Stamp};
 use crate::starts::Starts;
 use datagram::{Ask, Control, Media, Reading, Sent, What};
 use settings::Settings;
+use stats::Traffic;
 use std::alloc::{AllocError, Global};
 use std::cell::Cell;
 use tmmbr_tuple::Ssrc;
-use traffic::Traffic;
 
 /// What becomes of what was read of a datagram.
 #[derive(Clone, Copy, PartialEq, Eq)]

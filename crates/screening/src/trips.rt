@@ -4,7 +4,7 @@ ghost use Rattle.std.specs.Prelude.{◌≡◌, slice_set};
 
 use datagram::Ask;
 use settings::Links;
-use traffic::Traffic;
+use stats::Traffic;
 
 /// Notes the round trip, as it is known by now, on each leg to the endpoint of which it asks for packets again.
 pub(crate) fn note_trips(

@@ -1,7 +1,7 @@
 //! Requests, answers and lines, as docs/FORMATS.md has them.
 
 use crate::expected::same;
-use control::{MAX_PEERS, Peers, Request, Unheard, counts_text};
+use control_protocol::{MAX_PEERS, Peers, Request, Unheard, counts_text};
 use ports::Status;
 use std::alloc::{AllocError, Global};
 use std::io::{self, ErrorKind, Read, Write};

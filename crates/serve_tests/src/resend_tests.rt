@@ -6,12 +6,12 @@ use rtcp_feedback::Nack;
 use screening::{ResendBounds, Rules, Screen};
 use settings::Settings;
 use settings_toml::read_settings;
+use stats::Traffic;
 use std::alloc::Global;
 use std::cell::Cell;
 use std::process::Abort;
 use std::test::Fail;
 use tmmbr_tuple::Ssrc;
-use traffic::Traffic;
 
 /// Endpoint 1 is sent what 0 publishes as 257, and what 2 publishes as 258.
 const ROOM: &str =

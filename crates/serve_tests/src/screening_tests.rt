@@ -3,12 +3,12 @@
 use crate::resend_tests::room;
 use datagram::{Reading, Sent, What, read};
 use screening::{Judged, Rules, Screen};
+use stats::Traffic;
 use std::alloc::{AllocError, Global};
 use std::cell::Cell;
 use std::fmt::Write;
 use std::test::Fail;
 use tmmbr_tuple::Ssrc;
-use traffic::Traffic;
 
 /// A datagram of endpoint 1.
 #[derive(Clone, Copy)]

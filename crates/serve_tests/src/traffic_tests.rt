@@ -6,10 +6,10 @@ use rtcp_compound::{Block, RtcpFault, write_rr, write_sr};
 use rtp_packet::RtpFault;
 use settings::{RoomFault, Settings};
 use settings_toml::read_settings;
+use stats::{NumberedReport, ReceptionReport, Traffic, push_refusal_figures, push_refusal_lines};
 use std::alloc::Global;
 use std::test::Fail;
 use tmmbr_tuple::Ssrc;
-use traffic::{NumberedReport, ReceptionReport, Traffic, push_refusal_figures, push_refusal_lines};
 
 /// The report block of RFC 3550, section 6.4.1, figure 2: of what was sent at 46,853.125 s, it came at 46,864.5 s from who had had that for
 /// 5.25 s.

@@ -8,10 +8,10 @@ use repeats::Sets;
 use screening::Rules;
 use settings::Settings;
 use sockets::{Door, Outlook, SocketSink, Sockets};
+use stats::Traffic;
 use std::alloc::{AllocError, Global};
 use std::cell::RefCell;
 use std::time;
-use traffic::Traffic;
 use workers::Watch;
 
 /// What all threads of a run look at: where endpoints are, and what came and went.

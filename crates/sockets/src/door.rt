@@ -27,11 +27,11 @@ use rtcp_compound::is_rtcp;
 use screening::{Floods, Judged, PutBy, Rules, Screen};
 use senders::{Front, Origin};
 use settings::Settings;
+use stats::Traffic;
 use std::alloc::{AllocError, Global};
 use std::cell::RefCell;
 use std::net::SocketAddr;
 use std::time;
-use traffic::Traffic;
 
 /// How many entries of one datagram there is room for from the beginning.
 const ENTRIES: usize = 256;

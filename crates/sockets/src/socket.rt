@@ -7,11 +7,11 @@ use events::Refusal;
 use ports::{SendFault, Sink};
 use rtcp_compound::is_rtcp;
 use senders::Kind;
+use stats::Traffic;
 use std::alloc::{AllocError, Global};
 use std::io;
 use std::net::UdpSocket;
 use std::time::Duration;
-use traffic::Traffic;
 
 /// How long a receive waits, in milliseconds, so that time goes on while nothing comes.
 const RECEIVE_MS: u64 = 10;

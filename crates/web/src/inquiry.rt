@@ -5,7 +5,7 @@ ghost use Rattle.std.specs.Prelude.{◌≡◌, ◌≤◌, ◌+◌, ◌-◌, ◌^
 use crate::endpoints::numbers_in;
 use crate::said::Said;
 use crate::sets::AnnouncedSet;
-use control::{Answered, read_answer};
+use control_protocol::{Answered, read_answer};
 use std::alloc::Global;
 use std::io::{ErrorKind, Read, Write};
 use std::mem;

@@ -1,0 +1,73 @@
+-- The texts of answers: lines, of which the last is `ok`, or `refused` and why.
+use Rattle.std.specs.Prelude.{◌++◌, ℕ, Bool, true, false, Option, None, Some, List, codes}
+use Rattle.std.specs.Fmt.{decimal}
+use Rattle.std.specs.Net.Text.{socket_text}
+use Rattle.std.specs.declared.net.socket_addr.SocketAddr.{SocketAddr}
+use Rattle.ports.specs.declared.watch.Status.{Status}
+use Rattle.control_protocol.specs.declared.answer.Refused.{Refused}
+use Rattle.control_protocol.specs.declared.answer.Unheard.{Unheard}
+use Rattle.control_protocol.specs.declared.answer.Refused.TheVariants.{Unknown, Leg, Publisher, Recorded, Unrecorded, Long, Full, Memory}
+
+abbrev pub refusal_text : Refused → List ℕ
+refusal_text Unknown = codes "refused unknown\n"
+refusal_text Leg = codes "refused leg\n"
+refusal_text Publisher = codes "refused publisher\n"
+refusal_text Recorded = codes "refused recorded\n"
+refusal_text Unrecorded = codes "refused unrecorded\n"
+refusal_text Long = codes "refused long\n"
+refusal_text Full = codes "refused full\n"
+refusal_text Memory = codes "refused memory\n"
+
+-- who is present, what came, what was sent, and what couldn't be
+abbrev pub flow_part : Status → List ℕ
+flow_part s =
+    codes "present "
+    ++ (decimal s.present ++ (codes " heard " ++ (decimal s.heard
+    ++ (codes " sent " ++ (decimal s.sent ++ (codes " failed " ++ decimal s.failed))))))
+
+-- what was lost or given up
+abbrev pub loss_part : Status → List ℕ
+loss_part s = codes " lost " ++ (decimal s.lost ++ (codes " dropped " ++ decimal s.dropped))
+
+-- what came from strangers
+abbrev pub unheard_part : Unheard → List ℕ
+unheard_part u = codes " strangers " ++ decimal u.strangers
+
+-- what the system dropped, if it says so
+abbrev pub unread_part : Option ℕ → List ℕ
+unread_part None = codes "\n"
+unread_part (Some dropped) = codes " unread " ++ (decimal dropped ++ codes "\n")
+
+-- the totals of a unit
+abbrev pub counts_lines : Status → Unheard → List ℕ
+counts_lines s u = flow_part s ++ (loss_part s ++ (unheard_part u ++ unread_part u.unread))
+
+-- a stranger: its address, how many datagrams came from there, and how many milliseconds ago the last did
+abbrev pub stranger_line : SocketAddr → ℕ → ℕ → List ℕ
+stranger_line address count ago_ms =
+    socket_text address
+    ++ (codes " datagrams " ++ (decimal count ++ (codes " heard " ++ (decimal ago_ms ++ codes " ms ago\n"))))
+
+abbrev pub presence_word : Bool → List ℕ
+presence_word true = codes "present"
+presence_word false = codes "absent"
+
+-- an endpoint: its number, its source, its address, and whether it is present
+abbrev pub who_part : ℕ → ℕ → SocketAddr → Bool → List ℕ
+who_part endpoint source address is_present =
+    decimal endpoint
+    ++ (codes " ssrc " ++ (decimal source ++ (codes " at " ++ (socket_text address
+    ++ (codes " " ++ presence_word is_present)))))
+
+-- how many milliseconds ago it was heard last
+abbrev pub heard_part : Option ℕ → List ℕ
+heard_part None = codes " never heard"
+heard_part (Some ago_ms) = codes " heard " ++ (decimal ago_ms ++ codes " ms ago")
+
+-- how often something was refused of what came from it
+abbrev pub refused_part : ℕ → List ℕ
+refused_part refused = codes " refused " ++ (decimal refused ++ codes "\n")
+
+abbrev pub presence_line : ℕ → ℕ → SocketAddr → Bool → Option ℕ → ℕ → List ℕ
+presence_line endpoint source address is_present heard_ago_ms refused =
+    who_part endpoint source address is_present ++ (heard_part heard_ago_ms ++ refused_part refused)

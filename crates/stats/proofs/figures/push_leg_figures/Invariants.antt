@@ -1,0 +1,9 @@
+use Rattle.std.proofs.Common.{◌≡◌, ◌++◌, take}
+use Rattle.std.specs.Prelude.{flat_map}
+use Rattle.std.specs.String.{string_bytes}
+use Rattle.stats.specs.declared.figures.LegFigure.{LegFigure}
+use Rattle.stats.specs.Figures.{leg_text}
+use Rattle.stats.proofs.figures.push_leg_figures.Given as goal
+
+abbrev pub invariant-loop-figure : goal.invariant-loop-figure
+invariant-loop-figure l = string_bytes l.text ≡ string_bytes l.fn.text ++ flat_map (λ (f : LegFigure). leg_text f l.legs) (take l.figure-index l.figures)

@@ -1,0 +1,281 @@
+//! What reports say, as metrics.
+
+ghost use Rattle.std.specs.Prelude.{◌≡◌, ◌++◌, flat_map, option_map, OnOk};
+ghost use Rattle.std.specs.String.{string_bytes};
+ghost use Rattle.stats.specs.ReportFigures.{four_digits, ratio_text, reading_line, reading_of, reading_start, reading_text, report_figure_help, report_figure_label, report_figure_name, report_figure_text, report_figures_text, report_line, seconds_text, three_digits};
+ghost use Rattle.stats.specs.declared.report_figures.Reading.TheVariants.{Milliseconds};
+
+use crate::metrics::{Metric, MetricType, push_help, push_type};
+use crate::reports::ReceptionReport;
+use std::alloc::AllocError;
+
+/// A figure of a report: of a leg, by its subscriber; or of a publisher, by the unit.
+#[derive(Clone, Copy, PartialEq, Eq)]
+pub enum ReportFigure {
+    LegLossRatio,
+    LegLostPackets,
+    LegJitter,
+    LegRoundTrip,
+    PublisherLossRatio,
+    PublisherLostPackets,
+    PublisherJitter,
+}
+
+/// A value of a figure.
+#[derive(Clone, Copy, Debug, PartialEq, Eq)]
+pub enum Reading {
+    /// So many 256ths of 1.
+    Parts(u8),
+    /// So many packets; below 0 if more came than were expected.
+    Packets(i32),
+    /// So many units of the RTP timestamp.
+    Units(u32),
+    /// So many milliseconds, told in seconds.
+    Milliseconds(u32),
+}
+
+/// What was last reported of the leg, or of the publisher, with this number.
+#[derive(Clone, Copy, PartialEq, Eq)]
+pub struct NumberedReport {
+    pub number: u16,
+    pub report: ReceptionReport,
+}
+
+/// The figures of a leg, in the order in which they are told.
+const LEG_FIGURES: [ReportFigure; 4] = [
+    ReportFigure::LegLossRatio,
+    ReportFigure::LegLostPackets,
+    ReportFigure::LegJitter,
+    ReportFigure::LegRoundTrip,
+];
+
+/// Those of a publisher.
+const PUBLISHER_FIGURES: [ReportFigure; 3] = [
+    ReportFigure::PublisherLossRatio,
+    ReportFigure::PublisherLostPackets,
+    ReportFigure::PublisherJitter,
+];
+
+impl ReportFigure {
+    /// What it is by this report; `None` if the report doesn't say it.
+    pub fn of(self, report: &ReceptionReport) -> Option<Reading>
+        ensures { result ≡ reading_of self report.now }
+    {
+        match self {
+            ReportFigure::LegLossRatio => Some(Reading::Parts(report.fraction)),
+            ReportFigure::LegLostPackets => Some(Reading::Packets(report.lost)),
+            ReportFigure::LegJitter => Some(Reading::Units(report.jitter)),
+            ReportFigure::LegRoundTrip => trip_reading(report.round_trip_ms),
+            ReportFigure::PublisherLossRatio => Some(Reading::Parts(report.fraction)),
+            ReportFigure::PublisherLostPackets => Some(Reading::Packets(report.lost)),
+            ReportFigure::PublisherJitter => Some(Reading::Units(report.jitter)),
+        }
+    }
+
+    /// The metric's name.
+    pub fn name(self) -> &'static str
+        ensures { result.now ≡ report_figure_name self }
+    {
+        match self {
+            ReportFigure::LegLossRatio => "sfu_leg_reported_loss_ratio",
+            ReportFigure::LegLostPackets => "sfu_leg_reported_lost_packets",
+            ReportFigure::LegJitter => "sfu_leg_reported_jitter_timestamp_units",
+            ReportFigure::LegRoundTrip => "sfu_leg_round_trip_seconds",
+            ReportFigure::PublisherLossRatio => "sfu_publisher_reported_loss_ratio",
+            ReportFigure::PublisherLostPackets => "sfu_publisher_reported_lost_packets",
+            ReportFigure::PublisherJitter => "sfu_publisher_reported_jitter_timestamp_units",
+        }
+    }
+
+    /// What the metric is.
+    pub fn help(self) -> &'static str
+        ensures { result.now ≡ report_figure_help self }
+    {
+        match self {
+            ReportFigure::LegLossRatio => {
+                "The share of packets lost that the subscriber reported last."
+            }
+            ReportFigure::LegLostPackets => "The packets lost that the subscriber reported last.",
+            ReportFigure::LegJitter => "The jitter that the subscriber reported last.",
+            ReportFigure::LegRoundTrip => "The round trip to the subscriber, by its reports.",
+            ReportFigure::PublisherLossRatio => {
+                "The share of packets lost that the unit reported last."
+            }
+            ReportFigure::PublisherLostPackets => "The packets lost that the unit reported last.",
+            ReportFigure::PublisherJitter => "The jitter that the unit reported last.",
+        }
+    }
+
+    /// Of whom it is: the name of the label.
+    fn label(self) -> &'static str
+        ensures { result.now ≡ report_figure_label self }
+    {
+        match self {
+            ReportFigure::LegLossRatio => "leg",
+            ReportFigure::LegLostPackets => "leg",
+            ReportFigure::LegJitter => "leg",
+            ReportFigure::LegRoundTrip => "leg",
+            ReportFigure::PublisherLossRatio => "endpoint",
+            ReportFigure::PublisherLostPackets => "endpoint",
+            ReportFigure::PublisherJitter => "endpoint",
+        }
+    }
+}
+
+/// A round trip as a value.
+fn trip_reading(trip_ms: Option<u32>) -> Option<Reading>
+    ensures { result ≡ option_map Milliseconds trip_ms }
+{
+    match trip_ms {
+        Some(trip) => Some(Reading::Milliseconds(trip)),
+        None => None,
+    }
+}
+
+/// Appends every figure of these reports as a metric: what subscribers report of legs, and what the unit reports of publishers. Refused for
+/// want of memory alone; then part of them may stand there.
+pub fn push_report_figures(
+    text: &mut String,
+    legs: &[NumberedReport],
+    publishers: &[NumberedReport],
+) -> Result<(), AllocError>
+    ensures { OnOk result (string_bytes text.new
+        ≡ string_bytes text.old ++ report_figures_text legs.now publishers.now) }
+{
+    push_each_figure(text, &LEG_FIGURES, legs)?;
+    push_each_figure(text, &PUBLISHER_FIGURES, publishers)
+}
+
+/// These figures of these reports.
+fn push_each_figure(
+    text: &mut String,
+    figures: &[ReportFigure],
+    reports: &[NumberedReport],
+) -> Result<(), AllocError>
+    ensures { OnOk result (string_bytes text.new ≡ string_bytes text.old
+        ++ flat_map (λ f. report_figure_text f reports.now) figures.now) }
+{
+    for figure in figures {
+        push_figure(text, *figure, reports)?;
+    }
+    Ok(())
+}
+
+/// A figure of these reports.
+fn push_figure(
+    text: &mut String,
+    figure: ReportFigure,
+    reports: &[NumberedReport],
+) -> Result<(), AllocError>
+    ensures { OnOk result (string_bytes text.new
+        ≡ string_bytes text.old ++ report_figure_text figure reports.now) }
+{
+    let metric = Metric {
+        name: figure.name(),
+        help: figure.help(),
+        kind: MetricType::Gauge,
+    };
+    push_help(text, &metric)?;
+    push_type(text, &metric)?;
+    push_readings(text, figure, reports)
+}
+
+/// Its values.
+fn push_readings(
+    text: &mut String,
+    figure: ReportFigure,
+    reports: &[NumberedReport],
+) -> Result<(), AllocError>
+    ensures { OnOk result (string_bytes text.new
+        ≡ string_bytes text.old ++ flat_map (report_line figure) reports.now) }
+{
+    for numbered in reports {
+        push_line(text, figure, numbered.number, figure.of(&numbered.report))?;
+    }
+    Ok(())
+}
+
+/// Its value of one leg, or of one publisher.
+fn push_line(
+    text: &mut String,
+    figure: ReportFigure,
+    number: u16,
+    reading: Option<Reading>,
+) -> Result<(), AllocError>
+    ensures { OnOk result (string_bytes text.new
+        ≡ string_bytes text.old ++ reading_line figure number reading) }
+{
+    match reading {
+        Some(reading) => {
+            push_start(text, figure, number)?;
+            push_reading(text, reading)?;
+            text.push_str("\n")
+        }
+        None => Ok(()),
+    }
+}
+
+/// The metric, and of whom it is.
+fn push_start(text: &mut String, figure: ReportFigure, number: u16) -> Result<(), AllocError>
+    ensures { OnOk result
+        (string_bytes text.new ≡ string_bytes text.old ++ reading_start figure number) }
+{
+    write!(
+        text,
+        "{}{{{}=\"{number}\"}} ",
+        figure.name(),
+        figure.label()
+    )
+}
+
+/// A value.
+fn push_reading(text: &mut String, reading: Reading) -> Result<(), AllocError>
+    ensures { OnOk result
+        (string_bytes text.new ≡ string_bytes text.old ++ reading_text reading) }
+{
+    match reading {
+        Reading::Parts(parts) => push_ratio(text, parts),
+        Reading::Packets(packets) => write!(text, "{packets}"),
+        Reading::Units(units) => write!(text, "{units}"),
+        Reading::Milliseconds(ms) => push_seconds(text, ms),
+    }
+}
+
+/// So many 256ths of 1.
+fn push_ratio(text: &mut String, parts: u8) -> Result<(), AllocError>
+    ensures { OnOk result (string_bytes text.new ≡ string_bytes text.old ++ ratio_text parts) }
+{
+    let digits = u32::from(parts) * 390_625;
+    text.push_str("0.")?;
+    push_four(text, digits / 10_000)?;
+    push_four(text, digits % 10_000)
+}
+
+/// So many milliseconds in seconds.
+fn push_seconds(text: &mut String, ms: u32) -> Result<(), AllocError>
+    ensures { OnOk result (string_bytes text.new ≡ string_bytes text.old ++ seconds_text ms) }
+{
+    write!(text, "{}.", ms / 1000)?;
+    push_three(text, ms)
+}
+
+/// The last four digits of a number.
+fn push_four(text: &mut String, number: u32) -> Result<(), AllocError>
+    ensures { OnOk result (string_bytes text.new ≡ string_bytes text.old ++ four_digits number) }
+{
+    write!(text, "{}", number / 1000 % 10)?;
+    push_three(text, number)
+}
+
+/// The last three digits of a number.
+fn push_three(text: &mut String, number: u32) -> Result<(), AllocError>
+    ensures { OnOk result (string_bytes text.new ≡ string_bytes text.old ++ three_digits number) }
+{
+    write!(
+        text,
+        "{}{}{}",
+        number / 100 % 10,
+        number / 10 % 10,
+        number % 10
+    )
+}

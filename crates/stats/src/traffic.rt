@@ -1,0 +1,518 @@
+//! The counts of a unit's endpoints and legs, which the threads of the unit raise.
+
+ghost use Rattle.std.specs.Prelude.{◌≡◌, length, vec_len, IfOk};
+
+use crate::endpoint_count::EndpointCount;
+use crate::figures::Numbered;
+use crate::kinds::{Kinds, kinds_of};
+use crate::leg_count::LegCount;
+use crate::refusal_cells::RefusalCells;
+use crate::refusals::RefusedCount;
+use crate::report_cells::{ReportCells, SentCell};
+use crate::report_figures::NumberedReport;
+use crate::reports::{ReceptionReport, SentReport, WORD_VALUES, blocks_of, lsr_of};
+use events::Refusal;
+use rtcp_compound::{Block, RtcpView, is_rtcp, split};
+use rtp_packet::RtpView;
+use settings::{LegSettings, Settings};
+use std::alloc::{AllocError, Global};
+use std::sync::atomic::{AtomicU64, Ordering};
+use tmmbr_tuple::Ssrc;
+
+/// The counts of a unit, by endpoint and by leg, and what reports say. What comes is counted by one thread, which tells the moment of each
+/// turn, too; what is sent by any.
+#[derive(Drop)]
+pub struct Traffic {
+    /// The moment of the last turn, in milliseconds.
+    moment_ms: AtomicU64,
+    endpoints: Vec<EndpointCells>,
+    /// What was refused of no datagram.
+    refused: RefusalCells,
+    legs: Vec<LegCells>,
+    /// The SSRC that each leg's subscriber sees, rising, and the leg's number.
+    sources: Vec<(Ssrc, u16)>,
+}
+
+/// The cells of an endpoint's counts.
+#[derive(Drop)]
+struct EndpointCells {
+    /// The source that it sends with.
+    source: Ssrc,
+    heard_rtp: AtomicU64,
+    heard_rtcp: AtomicU64,
+    heard_octets: AtomicU64,
+    /// One more than the moment; 0 before the first.
+    heard_after_ms: AtomicU64,
+    asked: KindCells,
+    sent: AtomicU64,
+    sent_octets: AtomicU64,
+    failed: AtomicU64,
+    told: KindCells,
+    /// What was refused of what came from it.
+    refused: RefusalCells,
+    /// What the unit reported of it.
+    reported: ReportCells,
+}
+
+/// The cells of counts of feedback.
+#[derive(Drop)]
+struct KindCells {
+    nacks: AtomicU64,
+    plis: AtomicU64,
+    tmmbrs: AtomicU64,
+    tmmbns: AtomicU64,
+}
+
+/// The cells of a leg's counts, which the worker that owns the leg raises, and of what its subscriber reported.
+#[derive(Drop)]
+struct LegCells {
+    /// The endpoint that it is sent to.
+    subscriber: u16,
+    packets: AtomicU64,
+    octets: AtomicU64,
+    resent: AtomicU64,
+    missed: AtomicU64,
+    skipped: AtomicU64,
+    /// One more than the next number; 0 before the first packet.
+    after_next: AtomicU64,
+    /// The last sender report on it.
+    sent_report: SentCell,
+    reported: ReportCells,
+}
+
+impl Traffic {
+    ghost use Rattle.std.specs.Prelude.{◌≡◌, ◌≤◌, ◌<◌, length, vec_len, IfOk, IfSome, MatchOption};
+    ghost use Rattle.stats.specs.Refusals.{AreCounted};
+
+    /// Nothing came or went yet in a unit of these settings. Refused for want of memory alone.
+    pub fn new(alloc: Global, settings: &Settings) -> Result<Traffic, AllocError>
+        ensures endpoints { IfOk result
+            (λ t. vec_len t.endpoints ≡ length settings.now.endpoints) }
+        ensures legs { IfOk result (λ t. vec_len t.legs ≡ length settings.now.legs) }
+    {
+        Ok(Traffic {
+            moment_ms: AtomicU64::new(0),
+            endpoints: endpoint_cells(alloc, settings.endpoints())?,
+            refused: RefusalCells::new(),
+            legs: leg_cells(alloc, settings.legs())?,
+            sources: sources_of(alloc, settings.legs())?,
+        })
+    }
+
+    /// A datagram came from this endpoint at this moment, in milliseconds.
+    pub fn heard(&self, endpoint: u16, datagram: &[u8], moment: u64) {
+        let Some(cells) = self.endpoints.get(usize::from(endpoint)) else {
+            return;
+        };
+        add(&cells.heard_octets, octets_of(datagram));
+        cells
+            .heard_after_ms
+            .store(moment.saturating_add(1), Ordering::SeqCst);
+        if is_rtcp(datagram) {
+            add(&cells.heard_rtcp, 1);
+            cells.asked.add(kinds_of(datagram));
+        } else {
+            add(&cells.heard_rtp, 1);
+        }
+    }
+
+    /// It is this moment by now, in milliseconds.
+    pub fn turned(&self, moment: u64) {
+        if self.moment_ms.load(Ordering::SeqCst) != moment {
+            self.moment_ms.store(moment, Ordering::SeqCst);
+        }
+    }
+
+    /// Notes what a datagram of RTCP that came from this endpoint by now reports of the legs to it.
+    pub fn heard_reports(&self, endpoint: u16, datagram: &[u8]) {
+        let Ok(packets) = split(datagram) else {
+            return;
+        };
+        for packet in packets {
+            if let Some(blocks) = blocks_of(&packet) {
+                for block in blocks {
+                    self.heard_block(endpoint, &block);
+                }
+            }
+        }
+    }
+
+    /// An endpoint reported this. About a leg that isn't its own it says nothing.
+    fn heard_block(&self, endpoint: u16, block: &Block) {
+        if let Some(cells) = self.cells_by(block.source) {
+            if cells.subscriber == endpoint {
+                let moment = self.moment_ms.load(Ordering::SeqCst);
+                cells.reported.note(block, cells.sent_report.seen(), moment);
+            }
+        }
+    }
+
+    /// A datagram was sent to this endpoint.
+    pub fn sent(&self, endpoint: u16, datagram: &[u8]) {
+        let Some(cells) = self.endpoints.get(usize::from(endpoint)) else {
+            return;
+        };
+        add(&cells.sent, 1);
+        add(&cells.sent_octets, octets_of(datagram));
+        if is_rtcp(datagram) {
+            cells.told.add(kinds_of(datagram));
+            self.sent_reports(cells, datagram);
+        } else {
+            self.sent_media(datagram);
+        }
+    }
+
+    /// Notes what a datagram of RTCP reports of the endpoint that it was sent to, and the sender reports of legs in it.
+    fn sent_reports(&self, cells: &EndpointCells, datagram: &[u8]) {
+        let Ok(packets) = split(datagram) else {
+            return;
+        };
+        let moment = self.moment_ms.load(Ordering::SeqCst);
+        for packet in packets {
+            self.sent_report(packet, moment);
+            if let Some(blocks) = blocks_of(&packet) {
+                for block in blocks {
+                    if block.source == cells.source {
+                        cells.reported.note(&block, None, moment);
+                    }
+                }
+            }
+        }
+    }
+
+    /// A packet was sent: if it is the sender report of a leg, it is the leg's last one.
+    fn sent_report(&self, packet: RtcpView<'_>, moment: u64) {
+        if let RtcpView::Sr { sender, ntp, .. } = packet {
+            if let Some(cells) = self.cells_by(sender) {
+                cells.sent_report.set(SentReport {
+                    lsr: lsr_of(ntp),
+                    moment: (moment % WORD_VALUES) as u32,
+                });
+            }
+        }
+    }
+
+    /// An RTP packet was sent.
+    fn sent_media(&self, datagram: &[u8]) {
+        let Ok(packet) = RtpView::parse(datagram) else {
+            return;
+        };
+        if let Some(cells) = self.cells_by(packet.ssrc) {
+            let octets = octets_of(packet.payload);
+            let before = cells.seen();
+            cells.set(before, before.with(packet.sequence_number, octets));
+        }
+    }
+
+    /// The cells of the leg whose subscriber sees this source.
+    fn cells_by(&self, source: Ssrc) -> Option<&LegCells> {
+        let place = self
+            .sources
+            .as_slice()
+            .binary_search_by_key(&source.0, |it| it.0.0)
+            .ok()?;
+        let (_, leg) = self.sources.get(place)?;
+        self.legs.get(usize::from(*leg))
+    }
+
+    /// A packet was asked for again on this leg, and isn't kept any more.
+    pub fn missed(&self, leg: u16) {
+        if let Some(cells) = self.legs.get(usize::from(leg)) {
+            add(&cells.missed, 1);
+        }
+    }
+
+    /// A packet isn't sent on on this leg: it is too old for it, or the leg's numbers are spent.
+    pub fn skipped(&self, leg: u16) {
+        if let Some(cells) = self.legs.get(usize::from(leg)) {
+            add(&cells.skipped, 1);
+        }
+    }
+
+    /// Something was refused of a datagram of this endpoint, or, if it is `None`, of none.
+    pub fn refused(&self, endpoint: Option<u16>, refusal: Refusal) {
+        let Some(number) = endpoint else {
+            return self.refused.add(refusal);
+        };
+        if let Some(cells) = self.endpoints.get(usize::from(number)) {
+            cells.refused.add(refusal);
+        }
+    }
+
+    /// A datagram couldn't be sent to this endpoint.
+    pub fn failed(&self, endpoint: u16) {
+        if let Some(cells) = self.endpoints.get(usize::from(endpoint)) {
+            add(&cells.failed, 1);
+        }
+    }
+
+    /// The counts of this endpoint now. `None` exactly if there is no such endpoint.
+    pub fn endpoint(&self, endpoint: u16) -> Option<EndpointCount>
+        ensures { MatchOption result (vec_len self.now.endpoints ≤ endpoint)
+            (λ _. endpoint < vec_len self.now.endpoints) }
+    {
+        let cells = self.endpoints.get(usize::from(endpoint))?;
+        Some(cells.seen())
+    }
+
+    /// The counts of this leg now. `None` exactly if there is no such leg.
+    pub fn leg(&self, leg: u16) -> Option<LegCount>
+        ensures { MatchOption result (vec_len self.now.legs ≤ leg) (λ _. leg < vec_len self.now.legs) }
+    {
+        let cells = self.legs.get(usize::from(leg))?;
+        Some(cells.seen())
+    }
+
+    /// What this leg's subscriber reported last; `None` if it has reported nothing, or there is no such leg.
+    pub fn leg_report(&self, leg: u16) -> Option<ReceptionReport>
+        ensures { IfSome result (λ _. leg < vec_len self.now.legs) }
+    {
+        self.legs.get(usize::from(leg))?.reported.seen()
+    }
+
+    /// What the unit reported of this endpoint last; `None` if it has reported nothing, or there is no such endpoint.
+    pub fn publisher_report(&self, endpoint: u16) -> Option<ReceptionReport>
+        ensures { IfSome result (λ _. endpoint < vec_len self.now.endpoints) }
+    {
+        self.endpoints.get(usize::from(endpoint))?.reported.seen()
+    }
+
+    /// What was reported last of each leg of which anything was, by rising number.
+    pub fn leg_reports(&self, alloc: Global) -> Result<Vec<NumberedReport>, AllocError>
+        ensures { IfOk result (λ all. length all.items ≤ vec_len self.now.legs) }
+    {
+        let mut all = Vec::new(alloc);
+        for number in 0..self.legs.len() {
+            if let Some(report) = self.legs[number].reported.seen() {
+                all.push(numbered(number, report))?;
+            }
+        }
+        Ok(all)
+    }
+
+    /// What the unit reported last of each endpoint of which it reported anything, by rising number.
+    pub fn publisher_reports(&self, alloc: Global) -> Result<Vec<NumberedReport>, AllocError>
+        ensures { IfOk result (λ all. length all.items ≤ vec_len self.now.endpoints) }
+    {
+        let mut all = Vec::new(alloc);
+        for place in 0..self.endpoints.len() {
+            if let Some(report) = self.endpoints[place].reported.seen() {
+                all.push(numbered(place, report))?;
+            }
+        }
+        Ok(all)
+    }
+
+    /// The counts of each endpoint now, by rising number. Those that one thread raises may be older than those of another.
+    pub fn endpoints(&self, alloc: Global) -> Result<Vec<Numbered<EndpointCount>>, AllocError>
+        ensures { IfOk result (λ all. length all.items ≡ vec_len self.now.endpoints) }
+    {
+        let mut all = Vec::new(alloc);
+        for number in 0..self.endpoints.len() {
+            all.push(Numbered {
+                number: u16::try_from(number).unwrap_or(u16::MAX),
+                count: self.endpoints[number].seen(),
+            })?;
+        }
+        Ok(all)
+    }
+
+    /// How often each reason refused what came of each endpoint, and then of no datagram, of those that did; by the endpoint, by what
+    /// refuses, and by the reason's number, each rising.
+    pub fn refusals(&self, alloc: Global) -> Result<Vec<RefusedCount>, AllocError>
+        ensures { IfOk result (λ all. AreCounted all.items) }
+    {
+        let mut all = Vec::new(alloc);
+        for place in 0..self.endpoints.len() {
+            let number = u16::try_from(place).unwrap_or(u16::MAX);
+            self.endpoints[place]
+                .refused
+                .push_counts(Some(number), &mut all)?;
+        }
+        self.refused.push_counts(None, &mut all)?;
+        Ok(all)
+    }
+
+    /// The counts of each leg now, by rising number.
+    pub fn legs(&self, alloc: Global) -> Result<Vec<Numbered<LegCount>>, AllocError>
+        ensures { IfOk result (λ all. length all.items ≡ vec_len self.now.legs) }
+    {
+        let mut all = Vec::new(alloc);
+        for number in 0..self.legs.len() {
+            all.push(Numbered {
+                number: u16::try_from(number).unwrap_or(u16::MAX),
+                count: self.legs[number].seen(),
+            })?;
+        }
+        Ok(all)
+    }
+}
+
+impl EndpointCells {
+    fn new(source: Ssrc) -> EndpointCells {
+        EndpointCells {
+            source,
+            heard_rtp: AtomicU64::new(0),
+            heard_rtcp: AtomicU64::new(0),
+            heard_octets: AtomicU64::new(0),
+            heard_after_ms: AtomicU64::new(0),
+            asked: KindCells::new(),
+            sent: AtomicU64::new(0),
+            sent_octets: AtomicU64::new(0),
+            failed: AtomicU64::new(0),
+            told: KindCells::new(),
+            refused: RefusalCells::new(),
+            reported: ReportCells::new(),
+        }
+    }
+
+    fn seen(&self) -> EndpointCount {
+        EndpointCount {
+            heard_rtp: self.heard_rtp.load(Ordering::SeqCst),
+            heard_rtcp: self.heard_rtcp.load(Ordering::SeqCst),
+            heard_octets: self.heard_octets.load(Ordering::SeqCst),
+            heard_ms: self.heard_after_ms.load(Ordering::SeqCst).checked_sub(1),
+            asked: self.asked.seen(),
+            sent: self.sent.load(Ordering::SeqCst),
+            sent_octets: self.sent_octets.load(Ordering::SeqCst),
+            failed: self.failed.load(Ordering::SeqCst),
+            told: self.told.seen(),
+            refused: self.refused.total(),
+        }
+    }
+}
+
+impl KindCells {
+    fn new() -> KindCells {
+        KindCells {
+            nacks: AtomicU64::new(0),
+            plis: AtomicU64::new(0),
+            tmmbrs: AtomicU64::new(0),
+            tmmbns: AtomicU64::new(0),
+        }
+    }
+
+    fn add(&self, kinds: Kinds) {
+        add(&self.nacks, kinds.nacks);
+        add(&self.plis, kinds.plis);
+        add(&self.tmmbrs, kinds.tmmbrs);
+        add(&self.tmmbns, kinds.tmmbns);
+    }
+
+    fn seen(&self) -> Kinds {
+        Kinds {
+            nacks: self.nacks.load(Ordering::SeqCst),
+            plis: self.plis.load(Ordering::SeqCst),
+            tmmbrs: self.tmmbrs.load(Ordering::SeqCst),
+            tmmbns: self.tmmbns.load(Ordering::SeqCst),
+        }
+    }
+}
+
+impl LegCells {
+    fn new(subscriber: u16) -> LegCells {
+        LegCells {
+            subscriber,
+            packets: AtomicU64::new(0),
+            octets: AtomicU64::new(0),
+            resent: AtomicU64::new(0),
+            missed: AtomicU64::new(0),
+            skipped: AtomicU64::new(0),
+            after_next: AtomicU64::new(0),
+            sent_report: SentCell::new(),
+            reported: ReportCells::new(),
+        }
+    }
+
+    fn seen(&self) -> LegCount {
+        LegCount {
+            packets: self.packets.load(Ordering::SeqCst),
+            octets: self.octets.load(Ordering::SeqCst),
+            resent: self.resent.load(Ordering::SeqCst),
+            missed: self.missed.load(Ordering::SeqCst),
+            skipped: self.skipped.load(Ordering::SeqCst),
+            next: number_before(self.after_next.load(Ordering::SeqCst)),
+        }
+    }
+
+    /// Shows what changed.
+    fn set(&self, before: LegCount, after: LegCount) {
+        show(&self.packets, before.packets, after.packets);
+        show(&self.octets, before.octets, after.octets);
+        show(&self.resent, before.resent, after.resent);
+        let (next, former) = (number_after(after.next), number_after(before.next));
+        show(&self.after_next, former, next);
+    }
+}
+
+/// Cells for these endpoints.
+fn endpoint_cells(alloc: Global, sources: &[Ssrc]) -> Result<Vec<EndpointCells>, AllocError>
+    ensures { IfOk result (λ all. vec_len all ≡ length sources.now) }
+{
+    let mut all = Vec::with_capacity(alloc, sources.len())?;
+    for source in sources {
+        all.push(EndpointCells::new(*source))?;
+    }
+    Ok(all)
+}
+
+/// Cells for these legs.
+fn leg_cells(alloc: Global, legs: &[LegSettings]) -> Result<Vec<LegCells>, AllocError>
+    ensures { IfOk result (λ all. vec_len all ≡ length legs.now) }
+{
+    let mut all = Vec::with_capacity(alloc, legs.len())?;
+    for leg in legs {
+        all.push(LegCells::new(leg.subscriber))?;
+    }
+    Ok(all)
+}
+
+/// A report, of the leg or endpoint with this number.
+fn numbered(number: usize, report: ReceptionReport) -> NumberedReport {
+    NumberedReport {
+        number: u16::try_from(number).unwrap_or(u16::MAX),
+        report,
+    }
+}
+
+/// Shows a count. One that stays as it was isn't written, which costs more than a look.
+fn show(count: &AtomicU64, before: u64, after: u64) {
+    if before != after {
+        count.store(after, Ordering::SeqCst);
+    }
+}
+
+/// Raises a count.
+fn add(count: &AtomicU64, more: u64) {
+    if more > 0 {
+        let _ = count.fetch_add(more, Ordering::SeqCst);
+    }
+}
+
+/// The number of which this is one more; `None` of 0.
+fn number_before(after: u64) -> Option<u16> {
+    u16::try_from(after.checked_sub(1)?).ok()
+}
+
+/// One more than a number; 0 of none.
+fn number_after(number: Option<u16>) -> u64 {
+    match number {
+        Some(number) => u64::from(number) + 1,
+        None => 0,
+    }
+}
+
+/// How many bytes these are.
+fn octets_of(bytes: &[u8]) -> u64 {
+    bytes.len() as u64
+}
+
+/// The source that each leg's subscriber sees, rising, and the leg's number.
+fn sources_of(alloc: Global, legs: &[LegSettings]) -> Result<Vec<(Ssrc, u16)>, AllocError> {
+    let mut sources = Vec::new(alloc);
+    for (number, leg) in legs.iter().enumerate() {
+        sources.push((leg.out_ssrc, u16::try_from(number).unwrap_or(u16::MAX)))?;
+    }
+    sources.sort_unstable_by_key(|it| it.0.0);
+    Ok(sources)
+}

@@ -1,6 +1,0 @@
-use Rattle.std.proofs.Common.{◌≡◌, map, take}
-use Rattle.traffic.specs.Figures.{leg_sample}
-use Rattle.traffic.proofs.figures.leg_samples.Given as goal
-
-abbrev pub invariant-loop-seen : goal.invariant-loop-seen
-invariant-loop-seen l = l.samples.items ≡ map (leg_sample l.figure) (take l.seen-index l.legs)

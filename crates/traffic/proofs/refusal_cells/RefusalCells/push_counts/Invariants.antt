@@ -1,5 +1,0 @@
-use Rattle.traffic.specs.Refusals.{AreCounted}
-use Rattle.traffic.proofs.refusal_cells.RefusalCells.push_counts.Given as goal
-
-abbrev pub invariant-loop-refusal : goal.invariant-loop-refusal
-invariant-loop-refusal l = AreCounted l.all.items
