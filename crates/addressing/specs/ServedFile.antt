@@ -6,7 +6,7 @@ use Rattle.std.specs.Net.Addr.{is_ipv4}
 use Rattle.std.specs.Net.Socket.{socket_ip}
 use Rattle.std.specs.String.{string_bytes}
 use Rattle.std.specs.declared.string.String.{String}
-use Rattle.screening.specs.declared.rules.Rules.{Rules}
+use Rattle.policy.specs.declared.rules.Rules.{Rules}
 use Rattle.settings_toml.specs.declared.bound_keys.BoundKeys.{BoundKeys}
 use Rattle.std.specs.declared.net.socket_addr.SocketAddr.{SocketAddr}
 use Rattle.addressing.specs.Clients.{AreSpelled, Spells}

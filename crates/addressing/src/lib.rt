@@ -14,5 +14,5 @@ pub use clients::{
 };
 pub use directory::Directory;
 pub use known::{learners_of, listeners_of, senders_of};
-pub use screening::Rules;
+pub use policy::Rules;
 pub use served_file::{ServedSettings, read_served};

@@ -6,7 +6,7 @@ ghost use Rattle.addressing.specs.ServedFile.{GivesPlaces, IsPlacedFault, IsPlac
 use crate::clients::{
     AddressKey, Client, ClientFault, Listening, address_in, client_in, read_clients,
 };
-use screening::{ResendBounds, Rules};
+use policy::{ResendBounds, Rules};
 use settings::Settings;
 use settings_toml::{
     BoundKeys, ClientText, FileSettings, Place, SettingsProblem, items_at, problem_at,

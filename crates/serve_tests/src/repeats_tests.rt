@@ -3,7 +3,7 @@
 use crate::expected::{is_text, same};
 use datagram::{Ask, Reading, Sent, What, read};
 use members::{Order, Room, RoomView};
-use repeats::{Holding, Sets};
+use policy::{Holding, Sets};
 use rtcp_feedback::TmmbrEntry;
 use settings::{Links, Settings};
 use settings_toml::read_settings;

@@ -1,9 +1,9 @@
 //! What of NACKs is let through on a leg.
 
 use datagram::{Ask, Control, Reading, Sent, What};
+use policy::{ResendBounds, Rules, Screen};
 use rtcp_compound::{Block, write_rr, write_sr};
 use rtcp_feedback::Nack;
-use screening::{ResendBounds, Rules, Screen};
 use settings::Settings;
 use settings_toml::read_settings;
 use stats::Traffic;

@@ -2,7 +2,7 @@
 
 use crate::resend_tests::room;
 use datagram::{Reading, Sent, What, read};
-use screening::{Judged, Rules, Screen};
+use policy::{Judged, Rules, Screen};
 use stats::Traffic;
 use std::alloc::{AllocError, Global};
 use std::cell::Cell;

@@ -3,15 +3,15 @@
 ghost use Rattle.std.specs.Prelude.{◌≡◌, [], OnOk, slice_get};
 ghost use Rattle.announcement.specs.Entries.{entries_of};
 ghost use Rattle.bounding_set.specs.State.{announced_of};
-ghost use Rattle.repeats.specs.Sets.{asks_of, set_seen, with_set};
+ghost use Rattle.policy.specs.Sets.{asks_of, set_seen, with_set};
 ghost use Rattle.serving.specs.Repeated.{AsksForAll, AsksIf};
 
 use announcement::entries_of;
 use desk::{Desk, Effect};
 use desk_calls::{Head, Notification, notify};
 use events::Out;
+use policy::Sets;
 use ports::{Look, Sink, Status, Watch};
-use repeats::Sets;
 use settings::{Links, Settings};
 use sockets::SocketSink;
 use std::alloc::{AllocError, Global};

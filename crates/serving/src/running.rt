@@ -10,7 +10,7 @@ use crate::serve_fault::ServeFault;
 use addressing::Client;
 use entrance::Entrance;
 use operating::Gauges;
-use screening::Rules;
+use policy::Rules;
 use settings::Settings;
 use sockets::{SocketSink, Sockets, say_goodbyes, socket_sinks};
 use std::alloc::Global;

@@ -13,7 +13,7 @@ use crate::serve_fault::ServeFault;
 use addressing::{Client, ServedSettings};
 use cli::{Status, say, say_no_memory, unsaid};
 use operating::{ErrorOutput, Gauges, Lines, StatusLines, TimedLines};
-use screening::Rules;
+use policy::Rules;
 use settings::Settings;
 use sockets::{Sockets, watch_drops};
 use std::alloc::{AllocError, Global};

@@ -1,0 +1,25 @@
+-- What is left of what was asked for is still as it was heard.
+use Rattle.std.proofs.Common.{◌≡◌, ◌∙◌, ℕ, List, [], refl, ap}
+use Rattle.datagram.specs.Spelling.{IsAsHeard}
+use Rattle.datagram.specs.declared.reading.Ask.{Ask}
+use Rattle.datagram.specs.declared.reading.What.{What}
+use Rattle.datagram.specs.declared.reading.What.TheVariants.{Media, Goodbye, Control, Refused}
+use Rattle.policy.specs.Asking.{Asking}
+use Rattle.policy.specs.Holding.{asks_left}
+use Rattle.policy.specs.declared.word.Word.{Word}
+use Rattle.policy.specs.declared.word.Word.TheVariants.{Nothing, Speaks, Leaves}
+
+nothing_left : (word : Word) (a : Asking) → asks_left word a [] ≡ []
+nothing_left Nothing a = refl
+nothing_left Leaves a = refl
+nothing_left (Speaks notifies) a = refl
+
+none_left : (word : Word) (a : Asking) (asks left : List Ask) → left ≡ asks_left word a asks → asks ≡ [] → left ≡ []
+none_left word a asks left is none = is ∙ ap (asks_left word a) none ∙ nothing_left word a
+
+pub left_as_heard : (own : ℕ) (what : What) (word : Word) (a : Asking) (asks left : List Ask) (came : List ℕ) → left ≡ asks_left word a asks
+    → IsAsHeard own what asks came → IsAsHeard own what left came
+left_as_heard own (Media packet) word a asks left came is (none, says) = (none_left word a asks left is none, says)
+left_as_heard own Goodbye word a asks left came is none = none_left word a asks left is none
+left_as_heard own (Control c) word a asks left came is h = h
+left_as_heard own (Refused refusal) word a asks left came is (none, says) = (none_left word a asks left is none, says)

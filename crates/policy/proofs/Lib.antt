@@ -1,0 +1,7 @@
+pub mod EntryLemmas
+pub mod PutByLemmas
+pub mod StartLemmas
+pub mod ComingLemmas
+pub mod HearingLemmas
+pub mod RequestLemmas
+pub mod SetLemmas

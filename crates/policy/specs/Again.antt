@@ -1,0 +1,83 @@
+-- What is heard once more as a publisher comes (RFC 5104, section 4.2.1).
+use Rattle.std.specs.Prelude.{◌==◌, ◌&&◌, ◌||◌, ℕ, ◌+◌, ◌-◌, nat_lt, Bool, List, [], ◌∷◌, Option, None, Some, slice_get, if◌then◌else◌}
+use Rattle.tmmbr_tuple.specs.declared.ssrc.Ssrc.{Ssrc}
+use Rattle.members.specs.Room.{RoomState}
+use Rattle.settings.specs.Links.{LinkTable}
+use Rattle.settings.specs.declared.settings.LegSettings.{LegSettings}
+use Rattle.policy.specs.Presence.{is_there}
+use Rattle.policy.specs.declared.again.Again.{Again}
+use Rattle.policy.specs.declared.again.Holdings.{Holdings}
+use Rattle.policy.specs.declared.requests.HeldRequest.{HeldRequest}
+use Rattle.policy.specs.declared.requests.LegRequest.{LegRequest}
+
+-- what is held for each leg, who is sent what, who is there, after how long a request is given up, and the moment
+pub record HoldTerms : Type 0 where
+  pub requests : List LegRequest
+  pub table : LinkTable
+  pub room : RoomState
+  pub request_ms : ℕ
+  pub moment : ℕ
+
+abbrev pub terms : Holdings → HoldTerms
+terms h = record {
+  requests = h.requests.now;
+  table = h.view.links.now;
+  room = h.view.room.now;
+  request_ms = h.request_ms;
+  moment = h.moment;
+}
+
+-- it isn't given up for its age
+abbrev pub is_young : HoldTerms → HeldRequest → Bool
+is_young t request = (t.request_ms == 0) || nat_lt (t.moment - request.moment) t.request_ms
+
+abbrev pub held_of : HoldTerms → ℕ → Option HeldRequest → Option HeldRequest
+held_of t subscriber None = None
+held_of t subscriber (Some request) =
+    if is_young t request && is_there t.room subscriber t.moment then Some request else None
+
+abbrev pub held_in : HoldTerms → LegRequest → Option HeldRequest
+held_in t place = held_of t place.subscriber place.request
+
+abbrev pub held_at : HoldTerms → Option LegRequest → Option HeldRequest
+held_at t None = None
+held_at t (Some place) = held_in t place
+
+-- what is held for a leg whose subscriber is there
+abbrev pub still_held : HoldTerms → ℕ → Option HeldRequest
+still_held t leg = held_at t (slice_get t.requests leg)
+
+abbrev pub asked_by_source : LegSettings → HeldRequest → Option Ssrc → Option Again
+asked_by_source leg request None = None
+asked_by_source leg request (Some own) = Some (record {
+  endpoint = leg.subscriber;
+  speaker = own;
+  media = leg.out_ssrc;
+  word = request.word;
+})
+
+abbrev pub asked_on_leg : HoldTerms → HeldRequest → Option LegSettings → Option Again
+asked_on_leg t request None = None
+asked_on_leg t request (Some leg) =
+    asked_by_source leg request (slice_get t.table.endpoints leg.subscriber)
+
+abbrev pub asked_for : HoldTerms → ℕ → Option HeldRequest → Option Again
+asked_for t number None = None
+asked_for t number (Some request) = asked_on_leg t request (slice_get t.table.legs number)
+
+-- the subscriber of the leg with this number asks, of what it is sent on it, for the word that is held for it
+abbrev pub asked_again : HoldTerms → ℕ → Option Again
+asked_again t number = asked_for t number (still_held t number)
+
+-- the same, if the leg's place is looked at from this one on
+abbrev pub again_from : HoldTerms → ℕ → ℕ → ℕ → Option Again
+again_from t from place leg = if nat_lt place from then None else asked_again t leg
+
+abbrev pub or_next : ℕ → Option Again → Option (ℕ × Again) → Option (ℕ × Again)
+or_next place None next = next
+or_next place (Some again) next = Some (place, again)
+
+-- of legs of which the first has place n the first from this place on for which a request is held: its place, and what is asked for
+abbrev pub next_again : HoldTerms → ℕ → ℕ → List ℕ → Option (ℕ × Again)
+next_again t from n [] = None
+next_again t from n (leg ∷ legs) = or_next n (again_from t from n leg) (next_again t from (n + 1) legs)

@@ -1,0 +1,16 @@
+pub mod Bounded
+pub mod Floods
+pub mod Nacks
+pub mod PutBy
+pub mod Resends
+pub mod Screened
+pub mod Starts
+pub mod Again
+pub mod Asking
+pub mod Comings
+pub mod Holding
+pub mod Presence
+pub mod Requests
+pub mod Sets
+pub mod Told
+pub mod Word

@@ -1,0 +1,148 @@
+-- What becomes of what was read of a datagram, and what is known then: under whose source it is heard, where its source stands, and what of it is
+-- let through (RFC 3550, appendix A.1; RFC 4585, section 6.2.1).
+use Rattle.std.specs.Prelude.{◌≡◌, ◌==◌, ◌&&◌, ℕ, Bool, true, false, List, Option, None, Some, if◌then◌else◌}
+use Rattle.datagram.specs.declared.reading.Ask.{Ask}
+use Rattle.datagram.specs.declared.reading.Control.{Control}
+use Rattle.datagram.specs.declared.reading.Media.{Media}
+use Rattle.datagram.specs.declared.reading.Reading.{Reading}
+use Rattle.datagram.specs.declared.reading.Sent.{Sent}
+use Rattle.datagram.specs.declared.reading.What.{What}
+use Rattle.datagram.specs.declared.reading.What.TheVariants.{Media as media_of, Goodbye, Control as control_of, Refused}
+use Rattle.settings.specs.Settings.{Configuration}
+use Rattle.tmmbr_tuple.specs.declared.ssrc.Ssrc.{Ssrc}
+use Rattle.policy.specs.Bounded.{LetsThrough, ResendState, counted_by, idle_resends}
+use Rattle.policy.specs.Starts.{placement_at, runs_with, stamp_of}
+use Rattle.policy.specs.declared.resends.ResendBounds.{ResendBounds}
+use Rattle.policy.specs.declared.rules.Rules.{Rules}
+use Rattle.policy.specs.declared.run.Run.{Run}
+use Rattle.policy.specs.declared.run.Stamp.{Stamp}
+use Rattle.policy.specs.declared.run.Placement.{Placement}
+use Rattle.policy.specs.declared.run.Placement.TheVariants.{Near, Far, Anew}
+use Rattle.policy.specs.declared.screen.Judged.{Judged}
+use Rattle.policy.specs.declared.screen.Judged.TheVariants.{Take, PutBy, Anew as begun_anew}
+use Rattle.policy.specs.declared.screen.Screen.{Screen}
+
+-- by which rules it judges, where round trips are known, and where it counts stays
+pub record Stays (s t : Screen) : Type 0 where
+  pub rules : t.rules ≡ s.rules
+  pub traffic : t.traffic ≡ s.traffic
+  pub far : t.far ≡ s.far
+  pub held : t.held ≡ s.held
+
+-- resends are bounded if a gap is wanted, or a share
+abbrev pub resends_by : Configuration → ResendBounds → Option ResendState
+resends_by c bounds =
+    if (bounds.gap_ms == 0) && (bounds.share == 0) then None else Some (idle_resends c bounds)
+
+-- ---- a packet
+
+-- its number and timestamp, if it is of this source
+abbrev pub stamp_in : Ssrc → Media → Option Stamp
+stamp_in own packet =
+    if packet.ssrc.0 == own.0 then Some (stamp_of packet.parts.sequence_number packet.timestamp)
+    else None
+
+-- where it stands by that, if new starts are looked for, and what is noted of each endpoint then
+abbrev pub placement_by : Bool → List (Option Run) → ℕ → Stamp → Placement
+placement_by true runs endpoint stamp = placement_at runs endpoint stamp
+placement_by false runs endpoint stamp = Near
+
+abbrev pub runs_by : Bool → List (Option Run) → ℕ → Stamp → List (Option Run)
+runs_by true runs endpoint stamp = runs_with runs endpoint stamp
+runs_by false runs endpoint stamp = runs
+
+abbrev pub judged_by : Placement → Judged
+judged_by Near = Take
+judged_by Far = PutBy
+judged_by Anew = begun_anew
+
+-- once a packet of the endpoint came
+abbrev pub counted_in : Option ResendState → ℕ → ℕ → Option ResendState
+counted_in None endpoint moment = None
+counted_in (Some r) endpoint moment = Some (counted_by r endpoint moment)
+
+-- a far packet is counted only if it is taken in after all
+abbrev pub counted_unless_far : Placement → Option ResendState → Sent → Option ResendState
+counted_unless_far Near r sent = counted_in r sent.endpoint sent.moment
+counted_unless_far Far r sent = r
+counted_unless_far Anew r sent = counted_in r sent.endpoint sent.moment
+
+-- A packet of the own source is placed, noted, and counted.
+pub record PlacesOwn (s t : Screen) (sent : Sent) (stamp : Stamp) (judged : Judged) : Type 0 where
+  pub is_judged : judged
+      ≡ judged_by (placement_by s.rules.new_starts s.starts sent.endpoint stamp)
+  pub noted : t.starts ≡ runs_by s.rules.new_starts s.starts sent.endpoint stamp
+  pub counted : t.resends
+      ≡ counted_unless_far (placement_by s.rules.new_starts s.starts sent.endpoint stamp)
+      s.resends sent
+
+-- one of another source is taken in, and nothing is known of it
+abbrev pub JudgesPacket : Screen → Screen → Sent → Option Stamp → Judged → Type 0
+JudgesPacket s t sent None judged = (judged ≡ Take) × (t ≡ s)
+JudgesPacket s t sent (Some stamp) judged = PlacesOwn s t sent stamp judged
+
+-- ---- RTCP packets
+
+-- under whom they are heard: under this source, unless the rules are strict
+abbrev pub control_heard : Rules → Control → Ssrc → Control
+control_heard rules c clocked = record {
+  speaker = if rules.strict_ssrc then c.speaker else clocked;
+  report = c.report;
+  tmmbns = c.tmmbns;
+}
+
+-- if resends aren't bounded all that is asked for is let through
+abbrev pub LetsThroughIf : Sent → Option ResendState → Option ResendState → List Ask → List Ask → Type 0
+LetsThroughIf sent None after asks left = (after ≡ None) × (left ≡ asks)
+LetsThroughIf sent (Some r) None asks left = ⊥
+LetsThroughIf sent (Some r) (Some after) asks left = LetsThrough sent r after asks left
+
+-- what another source than the own one asks for stays as it is
+abbrev pub IsLeft : Bool → Sent → Option ResendState → Option ResendState → List Ask → List Ask → Type 0
+IsLeft true sent before after asks left = LetsThroughIf sent before after asks left
+IsLeft false sent before after asks left = (after ≡ before) × (left ≡ asks)
+
+-- They are taken in, heard so, with what is left of what they ask for.
+pub record JudgesControl (s t : Screen) (sent : Sent) (heard : Control) (old new : Reading) (judged : Judged) : Type 0 where
+  pub is_judged : judged ≡ Take
+  pub what : new.what ≡ control_of heard
+  pub asks : IsLeft (heard.speaker.0 == sent.own.0) sent s.resends t.resends old.asks.items new.asks.items
+  pub clocked : new.clocked ≡ old.clocked
+  pub beyond : new.beyond ≡ old.beyond
+  pub starts : t.starts ≡ s.starts
+
+-- ---- anything
+
+-- it is taken in as it was read
+abbrev pub PassesOn : Screen → Screen → Reading → Reading → Judged → Type 0
+PassesOn s t old new judged = (judged ≡ Take) × (t ≡ s) × (new ≡ old)
+
+abbrev pub JudgesAs : What → Screen → Screen → Sent → Reading → Reading → Judged → Type 0
+JudgesAs (media_of packet) s t sent old new judged =
+    JudgesPacket s t sent (stamp_in sent.own packet) judged × (new ≡ old)
+JudgesAs Goodbye s t sent old new judged = PassesOn s t old new judged
+JudgesAs (control_of c) s t sent old new judged =
+    JudgesControl s t sent (control_heard s.rules c old.clocked) old new judged
+JudgesAs (Refused refusal) s t sent old new judged = PassesOn s t old new judged
+
+-- What becomes of what was read of a datagram.
+abbrev pub Judges : Screen → Screen → Sent → Reading → Reading → Judged → Type 0
+Judges s t sent old new judged = JudgesAs old.what s t sent old new judged
+
+-- ---- if nothing is asked of it
+
+-- no start is looked for, who speaks has to be the own source, and resends aren't bounded
+pub record LooksForNothing (s : Screen) : Type 0 where
+  pub new_starts : s.rules.new_starts ≡ false
+  pub strict_ssrc : s.rules.strict_ssrc ≡ true
+  pub unbounded : s.resends ≡ None
+
+-- it is taken in as it was read, and nothing is known but what was
+pub record IsAsItWas (s t : Screen) (old new : Reading) (judged : Judged) : Type 0 where
+  pub is_judged : judged ≡ Take
+  pub starts : t.starts ≡ s.starts
+  pub resends : t.resends ≡ s.resends
+  pub what : new.what ≡ old.what
+  pub asks : new.asks.items ≡ old.asks.items
+  pub clocked : new.clocked ≡ old.clocked
+  pub beyond : new.beyond ≡ old.beyond

@@ -1,0 +1,105 @@
+-- Whether a packet goes on where its source was, or the source began anew (RFC 3550, appendix A.1).
+use Rattle.std.specs.Prelude.{◌≡◌, ◌==◌, ℕ, ◌+◌, ◌-◌, ◌%◌, ◌^◌, nat_lt, Bool, false, ◌&&◌, ◌||◌, List, [], ◌∷◌, ◌++◌, Option, None, Some, slice_get, slice_set, if◌then◌else◌}
+use Rattle.std.specs.Option.{option_map_or}
+use Rattle.rewrite.specs.declared.sequence.TheConstants.{SEQ_CYCLE}
+use Rattle.policy.specs.declared.run.Run.{Run}
+use Rattle.policy.specs.declared.run.Stamp.{Stamp}
+use Rattle.policy.specs.declared.run.Placement.{Placement}
+use Rattle.policy.specs.declared.run.Placement.TheVariants.{Near, Far, Anew}
+use Rattle.policy.specs.declared.run.TheConstants.{MAX_DROPOUT, MAX_LATE_TICKS, MAX_MISORDER}
+
+-- how far a number is ahead of the highest, across the wrap
+abbrev pub ahead_of : ℕ → ℕ → ℕ
+ahead_of highest seq = (seq + (SEQ_CYCLE - highest)) % SEQ_CYCLE
+
+-- the number after this one, across the wrap
+abbrev pub successor_of : ℕ → ℕ
+successor_of seq = (seq + 1) % SEQ_CYCLE
+
+-- how far a timestamp is after another one, across the wrap
+abbrev pub ticks_ahead_of : ℕ → ℕ → ℕ
+ticks_ahead_of highest timestamp = (timestamp + (2 ^ 32 - highest)) % 2 ^ 32
+
+-- it is fewer than MAX_LATE_TICKS after or before the one of the highest number
+abbrev pub is_close : ℕ → ℕ → Bool
+is_close highest timestamp =
+    nat_lt (ticks_ahead_of highest timestamp) MAX_LATE_TICKS
+    || nat_lt (2 ^ 32 - MAX_LATE_TICKS) (ticks_ahead_of highest timestamp)
+
+-- Fewer than MAX_DROPOUT are left out before it, whatever its timestamp is: its source may have been silent. Or it comes fewer than
+-- MAX_MISORDER behind the highest, and its timestamp is close: if it isn't, the source began anew with a number behind.
+abbrev pub is_near : Stamp → Stamp → Bool
+is_near highest stamp =
+    nat_lt (ahead_of highest.seq stamp.seq) MAX_DROPOUT
+    || (nat_lt (SEQ_CYCLE - MAX_MISORDER) (ahead_of highest.seq stamp.seq)
+    && is_close highest.timestamp stamp.timestamp)
+
+-- this number is awaited
+abbrev pub is_awaited : Option ℕ → ℕ → Bool
+is_awaited awaited seq = option_map_or (λ number. number == seq) awaited false
+
+abbrev pub placement_in : Run → Stamp → Placement
+placement_in run stamp =
+    if is_near run.highest stamp then Near
+    else if is_awaited run.awaited stamp.seq then Anew else Far
+
+-- a source begins with this packet
+abbrev pub run_from : Stamp → Run
+run_from stamp = record { highest = stamp; awaited = None }
+
+abbrev pub highest_with : Stamp → Stamp → Stamp
+highest_with highest stamp =
+    if nat_lt (ahead_of highest.seq stamp.seq) MAX_DROPOUT then stamp else highest
+
+-- the numbers with that of this packet, which stands so
+abbrev pub run_placed : Run → Stamp → Placement → Run
+run_placed run stamp Near =
+    record { highest = highest_with run.highest stamp; awaited = run.awaited }
+run_placed run stamp Far =
+    record { highest = run.highest; awaited = Some (successor_of stamp.seq) }
+run_placed run stamp Anew = run_from stamp
+
+abbrev pub run_with : Run → Stamp → Run
+run_with run stamp = run_placed run stamp (placement_in run stamp)
+
+-- ---- each endpoint
+
+-- a packet with this number and timestamp
+abbrev pub stamp_of : ℕ → ℕ → Stamp
+stamp_of seq timestamp = record { seq = seq; timestamp = timestamp }
+
+abbrev pub first_or_placed : Option Run → Stamp → Placement
+first_or_placed None stamp = Near
+first_or_placed (Some run) stamp = placement_in run stamp
+
+abbrev pub begun_or_with : Option Run → Stamp → Run
+begun_or_with None stamp = run_from stamp
+begun_or_with (Some run) stamp = run_with run stamp
+
+-- where this packet of the endpoint stands; an endpoint that isn't there has no place to go on from
+abbrev pub placement_at : List (Option Run) → ℕ → Stamp → Placement
+placement_at runs endpoint stamp =
+    option_map_or (λ run. first_or_placed run stamp) (slice_get runs endpoint) Near
+
+abbrev pub runs_of : List (Option Run) → ℕ → Stamp → Option (Option Run) → List (Option Run)
+runs_of runs endpoint stamp None = runs
+runs_of runs endpoint stamp (Some run) =
+    slice_set runs endpoint (Some (begun_or_with run stamp))
+
+abbrev pub runs_with : List (Option Run) → ℕ → Stamp → List (Option Run)
+runs_with runs endpoint stamp = runs_of runs endpoint stamp (slice_get runs endpoint)
+
+-- ---- the whole list of a source's packets, the latest first
+
+abbrev pub run_of : List Stamp → Option Run
+run_of [] = None
+run_of (stamp ∷ earlier) = Some (begun_or_with (run_of earlier) stamp)
+
+-- a packet that is far from the highest came before, and this number is the one after its number
+pub record FollowsFar (packets : List Stamp) (seq : ℕ) : Type 0 where
+  pub later : List Stamp
+  pub far : Stamp
+  pub earlier : List Stamp
+  pub stood : packets ≡ later ++ far ∷ earlier
+  pub was_far : first_or_placed (run_of earlier) far ≡ Far
+  pub next : seq ≡ successor_of far.seq

@@ -1,0 +1,104 @@
+//! What is heard once more as a publisher comes.
+
+ghost use Rattle.std.specs.Prelude.{◌≡◌, ◌<◌, IfSome, length};
+ghost use Rattle.policy.specs.Again.{asked_again, again_from, held_in, is_young, next_again, still_held, terms};
+
+use crate::presence::is_there;
+use crate::requests::{HeldRequest, LegRequest, Requests};
+use members::RoomView;
+use tmmbr_tuple::Ssrc;
+
+/// A request for a greatest rate that is heard once more (RFC 5104, section 4.2.1).
+#[derive(Clone, Copy, PartialEq, Eq)]
+pub struct Again {
+    /// The number of the endpoint that asks.
+    pub endpoint: u16,
+    /// Its source.
+    pub speaker: Ssrc,
+    /// The source of which it asks.
+    pub media: Ssrc,
+    /// What it asks for (RFC 5104, section 4.2.1.1).
+    pub word: u32,
+}
+
+/// What is held by now, and who is there.
+#[derive(Clone, Copy)]
+pub(crate) struct Holdings<'a> {
+    pub(crate) requests: &'a Requests,
+    pub(crate) view: RoomView<'a>,
+    /// The age at which a request is given up, in milliseconds; 0 if it never is.
+    pub(crate) request_ms: u64,
+    /// The moment, in milliseconds.
+    pub(crate) moment: u64,
+}
+
+/// What is held for a leg, if its subscriber is there and it isn't too old.
+fn held_on(holdings: Holdings<'_>, leg: u16) -> Option<HeldRequest>
+    ensures { result ≡ still_held (terms holdings.entry) leg }
+{
+    match holdings.requests.at(leg) {
+        Some(place) => held_in(holdings, place),
+        None => None,
+    }
+}
+
+fn held_in(holdings: Holdings<'_>, place: LegRequest) -> Option<HeldRequest>
+    ensures { result ≡ held_in (terms holdings.entry) place }
+{
+    let request = place.request?;
+    if is_young(holdings, request) && is_there(holdings.view, place.subscriber, holdings.moment) {
+        Some(request)
+    } else {
+        None
+    }
+}
+
+/// Whether a request isn't too old.
+fn is_young(holdings: Holdings<'_>, request: HeldRequest) -> bool
+    ensures { result ≡ is_young (terms holdings.entry) request }
+{
+    let age = holdings.moment.saturating_sub(request.moment);
+    holdings.request_ms == 0 || age < holdings.request_ms
+}
+
+/// What is held for a leg, as its subscriber asks for it.
+fn asked_again(holdings: Holdings<'_>, number: u16) -> Option<Again>
+    ensures { result ≡ asked_again (terms holdings.entry) number }
+{
+    let request = held_on(holdings, number)?;
+    let leg = holdings.view.links.leg(number).copied()?;
+    let speaker = holdings.view.links.ssrc_of(leg.subscriber)?;
+    Some(Again {
+        endpoint: leg.subscriber,
+        speaker,
+        media: leg.out_ssrc,
+        word: request.word,
+    })
+}
+
+/// The same, if the leg's place is looked at from `from` on.
+fn again_from(holdings: Holdings<'_>, leg: u16, place: usize, from: usize) -> Option<Again>
+    ensures { result ≡ again_from (terms holdings.entry) from place leg }
+{
+    if place < from {
+        return None;
+    }
+    asked_again(holdings, leg)
+}
+
+/// Of these legs, which are given by their numbers, the first from this place on for which a request is held: its place, and what is asked for.
+pub(crate) fn next_again(
+    holdings: Holdings<'_>,
+    legs: &[u16],
+    from: usize,
+) -> Option<(usize, Again)>
+    ensures found { result ≡ next_again (terms holdings.entry) from 0 legs.now }
+    ensures within { IfSome result (λ next. next.0 < length legs.now) }
+{
+    for (place, leg) in legs.iter().enumerate() {
+        if let Some(again) = again_from(holdings, *leg, place, from) {
+            return Some((place, again));
+        }
+    }
+    None
+}

@@ -1,0 +1,175 @@
+//! Publishers that came, and how far what is held for their legs was heard again.
+
+ghost use Rattle.std.specs.Prelude.{◌≡◌, ◌≤◌, ◌^◌, length, map};
+ghost use Rattle.std.specs.List.{list_any};
+ghost use Rattle.policy.specs.Comings.{first_coming, first_due, is_due, ticked_in};
+
+use std::alloc::{AllocError, Global};
+use std::marker::Model;
+
+/// What of a publisher's legs is heard again.
+#[derive(Clone, Copy)]
+pub(crate) enum Coming {
+    /// Nothing: it didn't come, or left, or all of them were looked at.
+    Over,
+    /// Nothing until a tick is made, after which it is due.
+    Waits,
+    /// What is held for them, from this place among them on.
+    Due { from: usize },
+}
+
+/// How a publisher comes. If requests of this age are given up it waits for a tick: a desk counts the age of a request from the last moment that
+/// it was told, and a tick tells it of who is present.
+pub(crate) fn first_coming(request_ms: u64) -> Coming
+    ensures { result ≡ first_coming request_ms }
+{
+    if request_ms == 0 {
+        Coming::Due { from: 0 }
+    } else {
+        Coming::Waits
+    }
+}
+
+impl Coming {
+    ghost use Rattle.std.specs.Prelude.{◌≡◌};
+    ghost use Rattle.policy.specs.Comings.{due_from, is_due, ticked_in};
+
+    fn is_due(&self) -> bool
+        ensures { result ≡ is_due self.now }
+    {
+        match self {
+            Coming::Due { .. } => true,
+            Coming::Over | Coming::Waits => false,
+        }
+    }
+
+    /// From which place on its legs are looked at, if it is due.
+    fn due_from(&self) -> Option<usize>
+        ensures { result ≡ due_from self.now }
+    {
+        match self {
+            Coming::Due { from } => Some(*from),
+            Coming::Over | Coming::Waits => None,
+        }
+    }
+
+    /// A tick was made.
+    fn ticked(self) -> Coming
+        ensures { result ≡ ticked_in self }
+    {
+        match self {
+            Coming::Waits => Coming::Due { from: 0 },
+            Coming::Over | Coming::Due { .. } => self,
+        }
+    }
+}
+
+/// Which publishers came, by their numbers.
+#[derive(Drop)]
+pub(crate) struct Comings {
+    list: Vec<Coming>,
+    /// Whether any is due.
+    is_waiting: bool,
+}
+
+impl Model for Comings {
+    ghost use Rattle.std.specs.Prelude.{◌≡◌, ◌≤◌, ◌^◌, List, length};
+    ghost use Rattle.std.specs.List.{list_any};
+    ghost use Rattle.policy.specs.Comings.{is_due};
+    ghost use Rattle.policy.specs.declared.comings.Coming.{Coming as Comer};
+
+    ghost Value = { List Comer };
+
+    ghost view = { λ c. c.list.items };
+
+    ghost invariant = { λ c. (c.is_waiting ≡ list_any is_due c.list.items)
+        × (length c.list.items ≤ 2 ^ 16) };
+}
+
+impl Comings {
+    ghost use Rattle.std.specs.Prelude.{◌≡◌, ◌≤◌, ◌^◌, false, None, IfOk, map, replicate, slice_set};
+    ghost use Rattle.std.specs.List.{list_any};
+    ghost use Rattle.policy.specs.Comings.{first_due, is_due, ticked_in};
+
+    /// None of so many endpoints came.
+    pub(crate) fn new(alloc: Global, endpoints: usize) -> Result<Comings, AllocError>
+        requires { endpoints ≤ 2 ^ 16 }
+        ensures { IfOk result (λ c. c ≡ replicate endpoints Coming.Over) }
+    {
+        let list = vec![in alloc; Coming::Over; endpoints]?;
+        let is_waiting = any_due(list.as_slice());
+        Ok(Comings { list, is_waiting })
+    }
+
+    /// Whether any is due.
+    pub(crate) fn is_waiting(&self) -> bool
+        ensures { result ≡ list_any is_due self.now }
+    {
+        self.is_waiting
+    }
+
+    /// So it is with this publisher from now on.
+    pub(crate) fn note(&mut self, publisher: u16, coming: Coming)
+        ensures { self.new ≡ slice_set self.old publisher coming }
+    {
+        let at = usize::from(publisher);
+        if at < self.list.len() {
+            self.list[at] = coming;
+            self.is_waiting = any_due(self.list.as_slice());
+        }
+    }
+
+    /// A tick was made.
+    pub(crate) fn ticked(&mut self)
+        ensures { self.new ≡ map ticked_in self.old }
+    {
+        tick_all(self.list.as_mut_slice());
+        self.is_waiting = any_due(self.list.as_slice());
+    }
+
+    /// The first that is due, and from which place on its legs are looked at.
+    #[tactic(auto, using(crate::proofs::ComingLemmas::nobody_due))]
+    pub(crate) fn first_due(&self) -> Option<(u16, usize)>
+        ensures due { result ≡ first_due 0 self.now }
+        ensures nobody { list_any is_due self.now ≡ false → result ≡ None }
+    {
+        if !self.is_waiting {
+            return None;
+        }
+        first_due(self.list.as_slice())
+    }
+}
+
+/// Whether any is due.
+fn any_due(list: &[Coming]) -> bool
+    ensures { result ≡ list_any is_due list.now }
+{
+    for coming in list {
+        if coming.is_due() {
+            return true;
+        }
+    }
+    false
+}
+
+/// A tick was made.
+fn tick_all(list: &mut [Coming])
+    ensures { list.new ≡ map ticked_in list.old }
+{
+    for coming in list.iter_mut() {
+        *coming = coming.ticked();
+    }
+}
+
+/// The first that is due, and from which place on its legs are looked at.
+fn first_due(list: &[Coming]) -> Option<(u16, usize)>
+    requires { length list.now ≤ 2 ^ 16 }
+    ensures { result ≡ first_due 0 list.now }
+{
+    for (publisher, coming) in list.iter().enumerate() {
+        if let Some(from) = coming.due_from() {
+            return Some((publisher as u16, from));
+        }
+    }
+    None
+}

@@ -1,0 +1,53 @@
+//! What is so of every list of a source's packets, of every list of numbers, and of every list of happenings. These functions do nothing: their contracts are the laws.
+
+ghost use Rattle.std.specs.Prelude.{◌≡◌, ℕ, List, Option, None, Some, true, false, slice_get};
+ghost use Rattle.policy.specs.Nacks.{NamesJust};
+ghost use Rattle.policy.specs.Starts.{FollowsFar, first_or_placed, run_of};
+ghost use Rattle.policy.specs.declared.run.Stamp.{Stamp};
+ghost use Rattle.policy.specs.declared.run.Placement.TheVariants.{Anew};
+ghost use Rattle.std.specs.List.{list_any};
+ghost use Rattle.rtcp_feedback.specs.declared.tmmb.TmmbrEntry.{TmmbrEntry};
+ghost use Rattle.settings.specs.declared.settings.LegSettings.{LegSettings};
+ghost use Rattle.policy.specs.Again.{HoldTerms};
+ghost use Rattle.policy.specs.Comings.{is_due};
+ghost use Rattle.policy.specs.Holding.{HearsAgain};
+ghost use Rattle.policy.specs.Requests.{Happening, HoldsLast};
+ghost use Rattle.policy.specs.Sets.{IsUntold, SetHappening, asks_again, set_after};
+ghost use Rattle.policy.specs.declared.again.Again.{Again};
+ghost use Rattle.policy.specs.declared.holding.Holding.{Holding};
+
+/// A source begins anew only with a packet that comes after another one which was far from the highest, too, and whose number is
+/// the one before: one odd packet never suffices.
+#[tactic(auto, using(crate::proofs::StartLemmas::anew_follows))]
+pub fn anew_follows_far()
+    ensures { (packets : List Stamp) (stamp : Stamp)
+        → first_or_placed (run_of packets) stamp ≡ Anew → FollowsFar packets stamp.seq }
+{}
+
+/// An entry of a NACK that is written for some numbers names just these (RFC 4585, section 6.2.1): the first of them is PID, and each bit of
+/// BLP is set exactly if the number so far after it is among the others.
+#[tactic(auto, using(crate::proofs::EntryLemmas::names_just))]
+pub fn entries_name_numbers()
+    ensures { (seq : ℕ) (seqs : List ℕ) → NamesJust seq seqs }
+{}
+
+/// What is held for a leg is what its subscriber asked for last on it since it left last, whatever else was asked for and whoever else left.
+#[tactic(auto, using(crate::proofs::RequestLemmas::holds_last))]
+pub fn holds_what_was_asked_last()
+    ensures { (legs : List LegSettings) (happenings : List Happening) (leg : ℕ) (s : LegSettings)
+        → slice_get legs leg ≡ Some s → HoldsLast legs happenings leg s }
+{}
+
+/// A set is asked for again only if it isn't empty and what its publisher notified of last, since it came, doesn't list all of it.
+#[tactic(auto, using(crate::proofs::SetLemmas::asks_untold))]
+pub fn asks_for_what_was_not_told()
+    ensures { (happenings : List SetHappening) (set : List TmmbrEntry)
+        → asks_again (set_after happenings) set ≡ true → IsUntold happenings set }
+{}
+
+/// While nobody is due, nothing is heard once more.
+#[tactic(auto, using(crate::proofs::ComingLemmas::hears_of_nobody))]
+pub fn nothing_is_heard_of_nobody()
+    ensures { (h k : Holding) (t : HoldTerms) (again : Option Again)
+        → list_any is_due h.comings ≡ false → HearsAgain h k t again → again ≡ None }
+{}

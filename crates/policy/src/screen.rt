@@ -1,0 +1,226 @@
+//! What was read of a datagram, judged before the machine takes it in.
+
+ghost use Rattle.std.specs.Prelude.{◌≡◌, ℕ, List, None, IfOk, length, replicate};
+ghost use Rattle.datagram.specs.Reads.{IsPacketRead};
+ghost use Rattle.datagram.specs.Spelling.{IsAsHeard};
+ghost use Rattle.policy.specs.Screened.{IsAsItWas, Judges, JudgesControl, JudgesPacket, LetsThroughIf, LooksForNothing, PlacesOwn, Stays, control_heard, counted_in, placement_by, resends_by, runs_by, stamp_in};
+
+use crate::bounded::Resends;
+use crate::resends::ResendBounds;
+use crate::rules::Rules;
+use crate::run::{Placement, Stamp};
+use crate::starts::Starts;
+use datagram::{Ask, Control, Media, Reading, Sent, What};
+use settings::Settings;
+use stats::Traffic;
+use std::alloc::{AllocError, Global};
+use std::cell::Cell;
+use tmmbr_tuple::Ssrc;
+
+/// What becomes of what was read of a datagram.
+#[derive(Clone, Copy, PartialEq, Eq)]
+pub enum Judged {
+    /// It is taken in.
+    Take,
+    /// It is a packet that is far from the highest number of its endpoint: it is put by, since it may be an odd one.
+    PutBy,
+    /// It is a packet with which its endpoint began anew: a goodbye of it is taken in first (RFC 3550, section 6.6), then the packet that
+    /// was put by, then this one.
+    Anew,
+}
+
+/// By which rules what was read is judged, and what is known of the endpoints.
+#[derive(Drop)]
+pub struct Screen<'a> {
+    rules: Rules,
+    starts: Starts,
+    /// What is known of resends, if they are bounded.
+    resends: Option<Resends>,
+    /// What is known of the round trips on legs.
+    traffic: &'a Traffic,
+    /// How many packets were far from the highest number.
+    far: &'a Cell<u64>,
+    /// How many packets that were asked for again weren't let through.
+    held: &'a Cell<u64>,
+}
+
+impl<'a> Screen<'a> {
+    /// Nothing came and nothing was let through in a unit of these settings. `traffic` says the round trips there; `far` is raised for each
+    /// far packet, `held` for each packet that is asked for again and isn't let through.
+    pub fn new(
+        alloc: Global,
+        settings: &Settings,
+        rules: Rules,
+        traffic: &'a Traffic,
+        far: &'a Cell<u64>,
+        held: &'a Cell<u64>,
+    ) -> Result<Screen<'a>, AllocError>
+        ensures rules { IfOk result (λ screen. screen.rules ≡ rules) }
+        ensures starts { IfOk result
+            (λ screen. screen.starts ≡ replicate (length settings.now.endpoints) None) }
+        ensures resends { IfOk result
+            (λ screen. screen.resends ≡ resends_by settings.now rules.resends) }
+        ensures looks { IfOk result (λ screen. screen.traffic ≡ traffic.entry) }
+        ensures counts { IfOk result
+            (λ screen. (screen.far ≡ far.entry) × (screen.held ≡ held.entry)) }
+    {
+        Ok(Screen {
+            rules,
+            starts: Starts::new(alloc, settings.endpoints().len())?,
+            resends: resends_by(alloc, settings, rules.resends)?,
+            traffic,
+            far,
+            held,
+        })
+    }
+
+    /// Judges what was read of a datagram. RTCP is heard under the endpoint's own source, unless the rules are strict: who speaks is then whom
+    /// its sender reports name, if they name another one. Of what that source asks for is left what may be sent again by now. A packet of
+    /// the own source is placed and noted, and unless it is far it is counted of the endpoint.
+    pub fn judge(&mut self, sent: Sent, reading: &mut Reading) -> Judged
+        ensures judged { Judges self.old self.new sent reading.old reading.new result }
+        ensures stays { Stays self.old self.new }
+        ensures as_heard { (came : List ℕ)
+            → IsAsHeard sent.own.0 reading.old.what reading.old.asks.items came
+            → IsAsHeard sent.own.0 reading.new.what reading.new.asks.items came }
+        ensures packet { (bytes : List ℕ) → IsPacketRead bytes reading.old.what
+            → IsPacketRead bytes reading.new.what }
+        ensures off { LooksForNothing self.old
+            → IsAsItWas self.old self.new reading.old reading.new result }
+    {
+        match reading.what {
+            What::Media(packet) => self.judge_packet(sent, packet),
+            What::Control(control) => self.judge_control(sent, control, reading),
+            What::Goodbye | What::Refused(_) => Judged::Take,
+        }
+    }
+
+    /// A packet of the endpoint that was put by is taken in.
+    pub fn count(&mut self, endpoint: u16, moment: u64)
+        ensures counted { self.new.resends ≡ counted_in self.old.resends endpoint moment }
+        ensures starts { self.new.starts ≡ self.old.starts }
+        ensures stays { Stays self.old self.new }
+    {
+        if let Some(resends) = &mut self.resends {
+            resends.count(endpoint, moment);
+        }
+    }
+
+    /// What becomes of a packet.
+    fn judge_packet(&mut self, sent: Sent, packet: Media) -> Judged
+        ensures judged { JudgesPacket self.old self.new sent (stamp_in sent.own packet) result }
+        ensures stays { Stays self.old self.new }
+    {
+        match stamp_in(sent.own, packet) {
+            Some(stamp) => self.judge_own(sent, stamp),
+            None => Judged::Take,
+        }
+    }
+
+    /// What becomes of a packet of the endpoint's own source.
+    fn judge_own(&mut self, sent: Sent, stamp: Stamp) -> Judged
+        ensures judged { PlacesOwn self.old self.new sent stamp result }
+        ensures stays { Stays self.old self.new }
+    {
+        match self.place(sent.endpoint, stamp) {
+            Placement::Near => {
+                self.count(sent.endpoint, sent.moment);
+                Judged::Take
+            }
+            Placement::Far => {
+                self.far.set(self.far.get().saturating_add(1));
+                Judged::PutBy
+            }
+            Placement::Anew => {
+                self.count(sent.endpoint, sent.moment);
+                Judged::Anew
+            }
+        }
+    }
+
+    /// Where a packet of the endpoint's own source stands, which is noted if new starts are looked for.
+    fn place(&mut self, endpoint: u16, stamp: Stamp) -> Placement
+        ensures placement { result
+            ≡ placement_by self.old.rules.new_starts self.old.starts endpoint stamp }
+        ensures noted { self.new.starts
+            ≡ runs_by self.old.rules.new_starts self.old.starts endpoint stamp }
+        ensures resends { self.new.resends ≡ self.old.resends }
+        ensures stays { Stays self.old self.new }
+    {
+        if self.rules.new_starts {
+            self.starts.note(endpoint, stamp)
+        } else {
+            Placement::Near
+        }
+    }
+
+    /// What becomes of RTCP packets.
+    fn judge_control(&mut self, sent: Sent, control: Control, reading: &mut Reading) -> Judged
+        ensures judged { JudgesControl self.old self.new sent
+            (control_heard self.old.rules control reading.old.clocked) reading.old reading.new
+            result }
+        ensures stays { Stays self.old self.new }
+    {
+        let heard = control_heard(self.rules, control, reading.clocked);
+        reading.what = What::Control(heard);
+        if heard.speaker == sent.own {
+            self.let_through(sent, &mut reading.asks);
+        }
+        Judged::Take
+    }
+
+    /// Keeps of what the endpoint's own source asks for what is let through, if resends are bounded.
+    fn let_through(&mut self, sent: Sent, asks: &mut Vec<Ask>)
+        ensures left { LetsThroughIf sent self.old.resends self.new.resends asks.old.items
+            asks.new.items }
+        ensures starts { self.new.starts ≡ self.old.starts }
+        ensures stays { Stays self.old self.new }
+    {
+        if let Some(resends) = &mut self.resends {
+            resends.let_through(sent, asks, self.traffic, self.held);
+        }
+    }
+}
+
+/// What is known of resends in a unit of these settings, if they are bounded.
+fn resends_by(
+    alloc: Global,
+    settings: &Settings,
+    bounds: ResendBounds,
+) -> Result<Option<Resends>, AllocError>
+    ensures { IfOk result (λ r. r ≡ resends_by settings.now bounds) }
+{
+    if bounds.gap_ms == 0 && bounds.share == 0 {
+        return Ok(None);
+    }
+    Ok(Some(Resends::new(alloc, settings, bounds)?))
+}
+
+/// The number and timestamp of a packet, if it is of this source.
+fn stamp_in(own: Ssrc, packet: Media) -> Option<Stamp>
+    ensures { result ≡ stamp_in own packet }
+{
+    if packet.ssrc == own {
+        Some(Stamp {
+            seq: packet.parts.sequence_number,
+            timestamp: packet.timestamp,
+        })
+    } else {
+        None
+    }
+}
+
+/// What RTCP packets say as it is heard: under this source, unless the rules are strict.
+fn control_heard(rules: Rules, control: Control, clocked: Ssrc) -> Control
+    ensures { result ≡ control_heard rules control clocked }
+{
+    Control {
+        speaker: if rules.strict_ssrc {
+            control.speaker
+        } else {
+            clocked
+        },
+        report: control.report,
+        tmmbns: control.tmmbns,
+    }
+}

@@ -1,4 +1,0 @@
-pub mod ComingLemmas
-pub mod HearingLemmas
-pub mod RequestLemmas
-pub mod SetLemmas

@@ -1,6 +1,0 @@
-use Rattle.std.proofs.Common.{◌≡◌, ◌++◌, take, drop, map}
-use Rattle.repeats.specs.Requests.{place_without}
-use Rattle.repeats.proofs.requests.forget_all.Given as goal
-
-abbrev pub invariant-loop-leg : goal.invariant-loop-leg
-invariant-loop-leg l = map (place_without l.subscriber) l.initial.legs ≡ take l.leg-index l.legs ++ map (place_without l.subscriber) (drop l.leg-index l.legs)

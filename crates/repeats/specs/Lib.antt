@@ -1,9 +1,0 @@
-pub mod Again
-pub mod Asking
-pub mod Comings
-pub mod Holding
-pub mod Presence
-pub mod Requests
-pub mod Sets
-pub mod Told
-pub mod Word
