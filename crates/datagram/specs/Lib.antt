@@ -1,3 +1,4 @@
 pub mod Saying
 pub mod Reads
 pub mod Spelling
+pub mod Naming

@@ -10,7 +10,7 @@ use Rattle.events.specs.declared.output.Out.{Out}
 use Rattle.replay.specs.Printing.{PrintsGiven}
 use Rattle.replay.specs.Shown.{Cause, Given, Told, an_out, given_at, heading, is_named, is_shown, lines_behind, names_source, said_behind, shown_of, told_line}
 use Rattle.rtcp_compound.specs.Mux.{is_rtcp}
-use Rattle.senders.specs.Naming.{heard_size, source_named}
+use Rattle.datagram.specs.Naming.{heard_size, source_named}
 use Rattle.replay.specs.declared.shown.Shown.{Shown}
 
 lines_joined : (s : Shown) (said : ℕ) (xs ys : List Given)

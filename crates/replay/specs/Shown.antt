@@ -7,7 +7,7 @@ use Rattle.events.specs.declared.event.Event.TheVariants.{Hear, Tick, Select, In
 use Rattle.events.specs.declared.output.Out.{Out}
 use Rattle.events.specs.declared.output.Out.TheVariants.{Send, Refused, Busy, Lost, Skip, Miss, Idle}
 use Rattle.rtcp_compound.specs.Mux.{is_rtcp}
-use Rattle.senders.specs.Naming.{heard_size, source_named}
+use Rattle.datagram.specs.Naming.{heard_size, source_named}
 use Rattle.replay.specs.declared.latest.Latest.{Latest}
 use Rattle.replay.specs.declared.script.Command.{Command}
 use Rattle.replay.specs.declared.script.Command.TheVariants.{Do, Settle, Follow, Show}

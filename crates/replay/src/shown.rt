@@ -3,9 +3,9 @@
 ghost use Rattle.std.specs.Prelude.{◌≡◌, length};
 ghost use Rattle.replay.specs.Shown.{all_shown, an_out, is_chosen, is_missing, is_named, is_on_chosen, is_on_leg, is_to_chosen, names_source, unknown_in};
 
+use datagram::{first_size, source_named};
 use events::Out;
 use rtcp_compound::is_rtcp;
-use senders::{first_size, source_named};
 use settings::{LegSettings, Settings};
 
 /// What is printed of what a script gives. The script is played to its end whatever this is.

@@ -1,5 +1,4 @@
 pub mod Occupancy
-pub mod Naming
 pub mod Senders
 pub mod Listeners
 pub mod Network

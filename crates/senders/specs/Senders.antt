@@ -5,7 +5,7 @@ use Rattle.senders.specs.declared.occupancy.Occupants.{Occupants}
 use Rattle.senders.specs.declared.occupancy.Occupants.TheVariants.{Alone, Several}
 use Rattle.senders.specs.declared.senders.Origin.{Origin}
 use Rattle.rtcp_compound.specs.Mux.{is_rtcp}
-use Rattle.senders.specs.Naming.{heard_size}
+use Rattle.datagram.specs.Naming.{heard_size}
 use Rattle.senders.specs.Occupancy.{occupants_of}
 
 abbrev pub addresses_of : List (Origin × ℕ) → List (SocketAddr × ℕ)

@@ -3,10 +3,10 @@
 ghost use Rattle.std.specs.Prelude.{◌≡◌, ◌≤◌, ◌<◌, length, IfOk};
 ghost use Rattle.senders.specs.Senders.{addresses_of, alone_in, endpoint_named, front_length, is_shared, sender_of};
 ghost use Rattle.senders.specs.Occupancy.{occupants_of};
-ghost use Rattle.senders.specs.Naming.{source_named};
+ghost use Rattle.datagram.specs.Naming.{source_named};
 
-use crate::naming::{first_size, source_named};
 use crate::occupancy::{Occupancy, Occupants};
+use datagram::{first_size, source_named};
 use rtcp_compound::is_rtcp;
 use std::alloc::{AllocError, Global};
 use std::marker::Model;

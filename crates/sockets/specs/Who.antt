@@ -13,7 +13,7 @@ use Rattle.senders.specs.declared.senders.Origin.{Origin}
 use Rattle.senders.specs.Learners.{LearnersState, after_word, claim_of, learner_at, with_seat}
 use Rattle.senders.specs.Listeners.{ListenersState, after_hearing, new_listeners}
 use Rattle.rtcp_compound.specs.Mux.{is_rtcp}
-use Rattle.senders.specs.Naming.{source_named}
+use Rattle.datagram.specs.Naming.{source_named}
 use Rattle.sockets.specs.declared.who.Who.{Who}
 use Rattle.settings.specs.Settings.{Configuration}
 use Rattle.addressing.specs.declared.clients.Client.{Client}

@@ -4,7 +4,7 @@ ghost use Rattle.std.specs.Prelude.{◌≡◌, ◌≤◌, ◌+◌, ℕ, false, t
 ghost use Rattle.entrance.specs.Entrance.{IfTaken};
 ghost use Rattle.desk_calls.specs.DeskCalls.{source_of};
 ghost use Rattle.policy.specs.Floods.{is_within, tallies_with};
-ghost use Rattle.senders.specs.Naming.{source_named};
+ghost use Rattle.datagram.specs.Naming.{source_named};
 ghost use Rattle.senders.specs.Senders.{front_length, sender_of};
 ghost use Rattle.sockets.specs.Door.{IsNoted, LooksAt, anew_after, is_goodbye, most_by, packets_in, rest_behind};
 ghost use Rattle.sockets.specs.Kept.{MayBeTaken, bytes_of};

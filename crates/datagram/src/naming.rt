@@ -1,7 +1,7 @@
 //! Which source a datagram names.
 
 ghost use Rattle.std.specs.Prelude.{◌≡◌, ◌+◌, ◌^◌, ◌<◌, ◌≤◌, length};
-ghost use Rattle.senders.specs.Naming.{heard_size, number_at, source_named};
+ghost use Rattle.datagram.specs.Naming.{heard_size, number_at, source_named};
 
 use byteorder::{BigEndian, ByteOrder};
 use rtcp_compound::{WORD_BYTES, is_rtcp};
