@@ -6,7 +6,7 @@ ghost use Rattle.cli.specs.Endings.{SaysWhy};
 ghost use Rattle.settings_toml.specs.SettingsText.{SaysProblem};
 
 use crate::served::served_in;
-use addressing::{Location, ServedSettings};
+use addresses::{Location, ServedSettings};
 use cli::{Session, Status, Stream, report_settings, say, say_no_memory, session_text};
 use settings::LegSettings;
 use settings_toml::{Place, SettingsProblem, problem_at};

@@ -1,6 +1,6 @@
 //! What is said to people beside the line that scripts read, if a command had no settings or no socket.
 
-use addressing::{ServedSettings, read_served};
+use addresses::{ServedSettings, read_served};
 use cli::{Action, Status, bytes_in, explain_replay, read_words, settings_line};
 use settings_toml::{SettingsProblem, bind_advice};
 use std::alloc::{AllocError, Global};

@@ -5,7 +5,7 @@ ghost use Rattle.std.specs.Prelude.{IfOk, IsSome};
 use crate::gauges::Gauges;
 use crate::record_file::idle_record;
 use crate::steering::{Listed, Steering};
-use addressing::{Location, ServedSettings};
+use addresses::{Location, ServedSettings};
 use recording::ControlFault;
 use settings::Settings;
 use stats::LegLine;

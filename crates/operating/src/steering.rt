@@ -3,6 +3,7 @@
 ghost use Rattle.std.specs.Prelude.{◌≡◌, None, IfOk, length, map, replicate};
 
 use crate::recorder::Switched;
+use addresses::Strangers;
 use control_protocol::{
     Course, Peers, Refused, Screened, Unheard, counts_text, course_for, done_text, present_line,
     refused_text, screened_text, stranger_line,
@@ -17,7 +18,6 @@ use stats::{
 use std::alloc::{AllocError, Global};
 use std::net::SocketAddr;
 use std::os::unix::net::{UnixListener, UnixStream};
-use strangers::Strangers;
 use tmmbr_tuple::Ssrc;
 
 /// So many milliseconds lie at least between two looks at the peers.

@@ -2,7 +2,7 @@
 
 use crate::repeated::RepeatingWatch;
 use crate::serve_fault::ServeFault;
-use addressing::{Client, Directory};
+use addresses::{Client, Directory};
 use operating::{Gauges, SteeredWatch};
 use policy::{Rules, Sets};
 use settings::Settings;

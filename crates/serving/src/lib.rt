@@ -12,7 +12,7 @@ mod running;
 mod serve;
 mod serve_fault;
 
-pub use addressing::{
+pub use addresses::{
     AddressKey, Addresses, Client, ClientFault, Listening, Location, Rules, ServedSettings,
     read_clients, read_served,
 };

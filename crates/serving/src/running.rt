@@ -7,7 +7,7 @@ ghost use Rattle.serving.specs.DrivenReport.{IsDrivenReport};
 
 use crate::ends::{Common, Ends, door_on, watch_on};
 use crate::serve_fault::ServeFault;
-use addressing::Client;
+use addresses::Client;
 use entrance::Entrance;
 use operating::Gauges;
 use policy::Rules;

@@ -2,7 +2,7 @@
 
 ghost use Rattle.std.specs.Prelude.{◌≡◌, Option, None, MatchResult, length, map, string_bytes, IfErr, IfOk, OnOk};
 ghost use Rattle.std.specs.Io.KnownBytes.{Appends};
-ghost use Rattle.addressing.specs.Clients.{client_at};
+ghost use Rattle.addresses.specs.Clients.{client_at};
 ghost use Rattle.serving.specs.ReportText.{PrintsReport, report_text};
 ghost use Rattle.cli.specs.Endings.{SaysWhy};
 ghost use Rattle.serving.specs.Serving.{EndsServe, FailsServe, FailsToStart, SaysFault, SaysWhyServing, serving_line, turns_by};
@@ -10,7 +10,7 @@ ghost use Rattle.serving.specs.Serving.{EndsServe, FailsServe, FailsToStart, Say
 use crate::report_text::report_text;
 use crate::running::run_on;
 use crate::serve_fault::ServeFault;
-use addressing::{Client, ServedSettings};
+use addresses::{Client, ServedSettings};
 use cli::{Status, say, say_no_memory, unsaid};
 use operating::{ErrorOutput, Gauges, Lines, StatusLines, TimedLines};
 use policy::Rules;

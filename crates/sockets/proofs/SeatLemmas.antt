@@ -1,8 +1,8 @@
 -- A seat that is taken and given back.
 use Rattle.std.proofs.Common.{◌≡◌, ◌∙◌, ap, refl, ℕ, zero, suc, List, [], ◌∷◌, Option, None, Some, slice_get, slice_set}
-use Rattle.senders.specs.declared.learners.Learner.{Learner}
-use Rattle.senders.specs.declared.seat.Seat.{Seat}
-use Rattle.senders.specs.Learners.{LearnersState, learner_at, seated, some_learner, with_seat}
+use Rattle.addresses.specs.declared.learners.Learner.{Learner}
+use Rattle.addresses.specs.declared.seat.Seat.{Seat}
+use Rattle.addresses.specs.Learners.{LearnersState, learner_at, seated, some_learner, with_seat}
 
 -- what is set stands there
 set_there : {X : Type 0} (xs : List X) (i : ℕ) (x y : X) → slice_get xs i ≡ Some x → slice_get (slice_set xs i y) i ≡ Some y

@@ -4,22 +4,22 @@ use Rattle.std.specs.Option.{option_eq}
 use Rattle.std.specs.declared.net.ip_addr.IpAddr.{IpAddr}
 use Rattle.std.specs.declared.net.socket_addr.SocketAddr.{SocketAddr}
 use Rattle.tmmbr_tuple.specs.declared.ssrc.Ssrc.{Ssrc}
-use Rattle.senders.specs.declared.learners.Arrived.{Arrived}
-use Rattle.senders.specs.declared.learners.Learner.{Learner}
-use Rattle.senders.specs.declared.seat.Kind.{Kind}
-use Rattle.senders.specs.declared.seat.Kind.TheVariants.{Rtp, Rtcp}
-use Rattle.senders.specs.declared.seat.Seat.{Seat}
-use Rattle.senders.specs.declared.senders.Origin.{Origin}
-use Rattle.senders.specs.Learners.{LearnersState, after_word, claim_of, learner_at, with_seat}
-use Rattle.senders.specs.Listeners.{ListenersState, after_hearing, new_listeners}
+use Rattle.addresses.specs.declared.learners.Arrived.{Arrived}
+use Rattle.addresses.specs.declared.learners.Learner.{Learner}
+use Rattle.addresses.specs.declared.seat.Kind.{Kind}
+use Rattle.addresses.specs.declared.seat.Kind.TheVariants.{Rtp, Rtcp}
+use Rattle.addresses.specs.declared.seat.Seat.{Seat}
+use Rattle.addresses.specs.declared.senders.Origin.{Origin}
+use Rattle.addresses.specs.Learners.{LearnersState, after_word, claim_of, learner_at, with_seat}
+use Rattle.addresses.specs.Listeners.{ListenersState, after_hearing, new_listeners}
 use Rattle.rtcp_compound.specs.Mux.{is_rtcp}
 use Rattle.datagram.specs.Naming.{source_named}
 use Rattle.sockets.specs.declared.who.Who.{Who}
 use Rattle.settings.specs.Settings.{Configuration}
-use Rattle.addressing.specs.declared.clients.Client.{Client}
-use Rattle.addressing.specs.declared.clients.Listening.{Listening}
-use Rattle.addressing.specs.Clients.{IsReachable}
-use Rattle.addressing.specs.Known.{learners_of, senders_of}
+use Rattle.addresses.specs.declared.clients.Client.{Client}
+use Rattle.addresses.specs.declared.clients.Listening.{Listening}
+use Rattle.addresses.specs.Clients.{IsReachable}
+use Rattle.addresses.specs.Known.{learners_of, senders_of}
 
 -- whose address is learned
 abbrev pub first_learners : Configuration → List Client → LearnersState

@@ -2,11 +2,10 @@
 
 ghost use Rattle.std.specs.Prelude.{◌≡◌, None, vec_len, is_some, map, replicate, IfOk};
 
-use addressing::{Directory, Listening};
+use addresses::{Directory, Kind, Listening};
 use events::Refusal;
 use ports::{SendFault, Sink};
 use rtcp_compound::is_rtcp;
-use senders::Kind;
 use stats::Traffic;
 use std::alloc::{AllocError, Global};
 use std::io;

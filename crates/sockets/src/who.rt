@@ -2,20 +2,20 @@
 //! since they only listen.
 
 ghost use Rattle.std.specs.Prelude.{◌≡◌, ◌≤◌, ◌<◌, ◌⊎◌, ℕ, None, Some, length, slice_get, IfNone, IfOk, IfSome};
-ghost use Rattle.addressing.specs.Known.{senders_of};
-ghost use Rattle.senders.specs.Learners.{with_seat};
-ghost use Rattle.senders.specs.Listeners.{listeners_after, report_due};
+ghost use Rattle.addresses.specs.Known.{senders_of};
+ghost use Rattle.addresses.specs.Learners.{with_seat};
+ghost use Rattle.addresses.specs.Listeners.{listeners_after, report_due};
 ghost use Rattle.datagram.specs.Naming.{source_named};
-ghost use Rattle.senders.specs.Senders.{front_length, sender_of};
+ghost use Rattle.addresses.specs.Senders.{front_length, sender_of};
 ghost use Rattle.sockets.specs.Who.{MayLearn, after_note, first_learners, first_listeners, first_senders, is_same_place, kind_heard, known_by, setup_of};
 
-use addressing::{
-    Client, Directory, Listening, is_reachable, learners_of, listeners_of, senders_of,
+use addresses::{
+    Arrived, Client, Directory, Front, Kind, Learners, Listeners, Listening, Origin, Seat, Senders,
+    is_reachable, learners_of, listeners_of, senders_of,
 };
 use datagram::source_named;
 use operating::Gauges;
 use rtcp_compound::is_rtcp;
-use senders::{Arrived, Front, Kind, Learners, Listeners, Origin, Seat, Senders};
 use settings::Settings;
 use std::alloc::{AllocError, Global};
 use std::net::{IpAddr, SocketAddr};

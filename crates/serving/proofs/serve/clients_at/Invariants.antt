@@ -1,5 +1,5 @@
 use Rattle.std.proofs.Common.{◌≡◌, map, take}
-use Rattle.addressing.specs.Clients.{client_at}
+use Rattle.addresses.specs.Clients.{client_at}
 use Rattle.serving.proofs.serve.clients_at.Given as goal
 
 abbrev pub invariant-loop-address : goal.invariant-loop-address

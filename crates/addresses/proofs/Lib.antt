@@ -1,0 +1,5 @@
+mod OccupancyLemmas
+mod NetworkLemmas
+pub mod ClientLemmas
+pub mod KnownLemmas
+pub mod ServedLemmas

@@ -1,0 +1,11 @@
+pub mod Occupancy
+pub mod Senders
+pub mod Listeners
+pub mod Network
+pub mod Seat
+pub mod Learners
+pub mod Clients
+pub mod Known
+pub mod Places
+pub mod ServedFile
+pub mod Strangers

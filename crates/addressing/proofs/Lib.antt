@@ -1,3 +1,0 @@
-pub mod ClientLemmas
-pub mod KnownLemmas
-pub mod ServedLemmas

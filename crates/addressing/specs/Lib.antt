@@ -1,4 +1,0 @@
-pub mod Clients
-pub mod Known
-pub mod Places
-pub mod ServedFile

@@ -1,2 +1,0 @@
-mod OccupancyLemmas
-mod NetworkLemmas

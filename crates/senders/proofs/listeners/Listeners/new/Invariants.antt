@@ -1,6 +1,0 @@
-use Rattle.std.proofs.Common.{◌≡◌, map, take}
-use Rattle.senders.specs.Listeners.{standing_at_first}
-use Rattle.senders.proofs.listeners.Listeners.new.Given as goal
-
-abbrev pub invariant-loop-only_listens : goal.invariant-loop-only_listens
-invariant-loop-only_listens l = l.standings.items ≡ map standing_at_first (take l.only_listens-index l.receive_only)
