@@ -3,11 +3,10 @@
 ghost use Rattle.std.specs.Prelude.{◌≡◌, false, None, IsNone, IsSome};
 ghost use Rattle.ports.specs.declared.feed.Received.TheVariants.{Nothing};
 
-use crate::recorder::Recorder;
 use crate::steering::{Steering, Wish};
 use control_protocol::{Screened, Unheard};
 use ports::{Look, Received, Status};
-use recording::End;
+use recording::{End, Recorder};
 use std::alloc::Global;
 use std::cell::{Cell, RefCell, RefMut};
 use std::net::SocketAddr;

@@ -1,7 +1,6 @@
 //! Lines for people, which a thread of its own writes: nobody waits for who reads them.
 
-use crate::courier::{Outlet, start_courier};
-use recording::CourierFault;
+use recording::{CourierFault, Outlet, start_courier};
 use std::alloc::{AllocError, Global};
 use std::io::{self, ErrorKind, Stderr, Write};
 use std::net::Net;

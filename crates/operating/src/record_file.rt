@@ -4,11 +4,8 @@ ghost use Rattle.std.specs.Prelude.{◌≡◌, true, false, IfOk};
 ghost use Rattle.std.specs.String.{string_bytes};
 ghost use Rattle.operating.specs.Records.{BeginsRecord, IsHead};
 
-use crate::courier::start_courier;
 use crate::gauges::Gauges;
-use crate::recorder::Recorder;
-use crate::scroll::Scroll;
-use recording::{Header, RecordFault, header_text};
+use recording::{Header, RecordFault, Recorder, Scroll, header_text, start_courier};
 use std::fs::{File, OpenOptions};
 use std::io::ErrorKind;
 use std::net::Net;

@@ -2,7 +2,6 @@
 
 ghost use Rattle.std.specs.Prelude.{◌≡◌, None, IfOk, length, map, replicate};
 
-use crate::recorder::Switched;
 use addresses::Strangers;
 use control_protocol::{
     Course, Peers, Refused, Screened, Unheard, counts_text, course_for, done_text, present_line,
@@ -10,6 +9,7 @@ use control_protocol::{
 };
 use desk::Desk;
 use ports::{Look, Received, Status};
+use recording::Switched;
 use request_text::desk_text;
 use stats::{
     LegLine, Metric, MetricType, Sample, Traffic, leg_line, leg_report_line, publisher_report_line,

@@ -2,3 +2,4 @@ pub mod Faults
 pub mod Lines
 pub mod Taken
 pub mod Tapes
+pub mod HandedOn

@@ -6,11 +6,13 @@ ghost use Rattle.events.specs.declared.event.Event.TheVariants.{Tick};
 ghost use Rattle.recording.specs.Lines.{event_lines};
 ghost use Rattle.recording.specs.Taken.{taken_lines};
 ghost use Rattle.recording.specs.Tapes.{IsMadeAndPut, IsPut, new_tape};
-ghost use Rattle.operating.specs.Records.{IsHandedOn, IsWritten};
+ghost use Rattle.recording.specs.HandedOn.{IsHandedOn, IsWritten};
 
 use crate::courier::Outlet;
+use crate::line::begun_line;
 use crate::scroll::Scroll;
-use recording::{End, Taken, Tape, begun_line};
+use crate::taken::Taken;
+use crate::tape::{End, Tape};
 use std::alloc::Global;
 use std::os::unix::net::UnixStream;
 use std::thread::{JoinHandle, Threads};
@@ -31,9 +33,9 @@ const PATIENCE_S: u64 = 10;
 
 /// A leg that is sent on or not, unlike at the start of its unit.
 #[derive(Clone, Copy, PartialEq, Eq)]
-pub(crate) struct Switched {
-    pub(crate) leg: u16,
-    pub(crate) on: bool,
+pub struct Switched {
+    pub leg: u16,
+    pub on: bool,
 }
 
 /// Writes down what a unit takes in, each event with the moment at which the unit takes it in, while somebody wants it.
@@ -56,7 +58,7 @@ pub struct Recorder {
 
 impl Recorder {
     /// Of a unit for which nobody wants a record yet. Each record begins with these lines.
-    pub(crate) fn new(
+    pub fn new(
         alloc: Global,
         head: String,
         outlet: Outlet<Scroll>,
@@ -80,7 +82,7 @@ impl Recorder {
     }
 
     /// A record of at most so many bytes begins.
-    pub(crate) fn begin(&mut self, limit: u64)
+    pub fn begin(&mut self, limit: u64)
         ensures tape { IsPut (new_tape limit) (string_bytes self.old.head) self.new.tape }
         ensures begun { (self.new.has_begun ≡ true) × (self.new.is_open ≡ true) }
     {
@@ -92,7 +94,7 @@ impl Recorder {
 
     /// A record begins at this moment in the middle of a run, for this peer, with these legs as they are. A peer for whom it can't begin is
     /// let go.
-    pub(crate) fn begin_for(&mut self, peer: UnixStream, moment: u64, switched: &[Switched]) {
+    pub fn begin_for(&mut self, peer: UnixStream, moment: u64, switched: &[Switched]) {
         let patience = Some(Duration::from_secs(PATIENCE_S));
         if peer.set_nonblocking(false).is_err()
             || peer.set_write_timeout(patience).is_err()
@@ -121,7 +123,7 @@ impl Recorder {
     }
 
     /// The record ends, since somebody wants it to.
-    pub(crate) fn end(&mut self) {
+    pub fn end(&mut self) {
         self.tape.end(End::Off);
     }
 
@@ -194,7 +196,7 @@ impl Recorder {
     }
 
     /// How many bytes were written down, and why the record ended, if it did; `None` if nobody wanted one so far.
-    pub(crate) fn state(&self) -> Option<(u64, Option<End>)> {
+    pub fn state(&self) -> Option<(u64, Option<End>)> {
         if !self.has_begun {
             return None;
         }
@@ -202,7 +204,7 @@ impl Recorder {
     }
 
     /// The unit has ended: hands on what waits, and waits until it is written.
-    pub(crate) fn finish<R: Threads>(self, rt: &R) {
+    pub fn finish<R: Threads>(self, rt: &R) {
         let mut last = self;
         if last.is_open {
             last.hand_on();

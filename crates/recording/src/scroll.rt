@@ -6,7 +6,7 @@ use std::os::unix::net::UnixStream;
 
 /// Where a record is written.
 #[derive(Drop)]
-pub(crate) enum Scroll {
+pub enum Scroll {
     /// Nobody wants one.
     Nobody,
     File(File),
@@ -18,7 +18,7 @@ impl Write for Scroll {
     ghost use Rattle.std.specs.Prelude.{◌≡◌, None, Ok, length};
     ghost use Rattle.std.specs.Io.{WritesAtMost};
     ghost use Rattle.std.specs.Io.KnownBytes.{WriteAppends};
-    ghost use Rattle.operating.specs.declared.scroll.Scroll.TheVariants.{Nobody};
+    ghost use Rattle.recording.specs.declared.scroll.Scroll.TheVariants.{Nobody};
 
     fn write(&mut self, buf: &[u8]) -> io::Result<usize>
         ensures bound { WritesAtMost result buf.now }

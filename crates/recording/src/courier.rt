@@ -1,6 +1,6 @@
 //! Blocks of bytes that nobody waits for: one thread hands them on, and one of its own writes them.
 
-use recording::CourierFault;
+use crate::faults::CourierFault;
 use rtrb::{Consumer, Producer, RingBuffer};
 use std::alloc::Global;
 use std::io::{ErrorKind, Read, Write};
@@ -24,7 +24,7 @@ enum Parcel<W: Drop> {
 
 /// Where blocks are handed on. Once it is closed or dropped, what waits is written and the thread ends.
 #[derive(Drop)]
-pub(crate) struct Outlet<W: Drop> {
+pub struct Outlet<W: Drop> {
     parcels: Producer<Parcel<W>, Global>,
     spares: Consumer<Vec<u8>, Global>,
     /// Rings there for each parcel.
@@ -48,7 +48,7 @@ struct Inlet<W: Drop> {
 }
 
 /// Starts a thread that writes what is handed on; at most so many parcels wait for it.
-pub(crate) fn start_courier<R: AllocGlobal + Net + Threads, W: Write + Send + Drop + 'static>(
+pub fn start_courier<R: AllocGlobal + Net + Threads, W: Write + Send + Drop + 'static>(
     rt: &R,
     most: usize,
     writer: W,
@@ -105,12 +105,12 @@ fn way<R: AllocGlobal + Net, W: Drop>(
 
 impl<W: Drop> Outlet<W> {
     /// Hands on a block; whether there was room for it.
-    pub(crate) fn hand_on(&mut self, block: Vec<u8>) -> bool {
+    pub fn hand_on(&mut self, block: Vec<u8>) -> bool {
         self.push(Parcel::Block(block))
     }
 
     /// What is handed on from now on is written there; whether there was room to say so.
-    pub(crate) fn turn_to(&mut self, writer: W) -> bool {
+    pub fn turn_to(&mut self, writer: W) -> bool {
         let has_room = self.push(Parcel::SwitchTo(writer));
         if has_room {
             self.turns = self.turns.saturating_add(1);
@@ -125,22 +125,22 @@ impl<W: Drop> Outlet<W> {
     }
 
     /// A list whose bytes were written, if one is there: its memory serves for the next block.
-    pub(crate) fn spare(&mut self) -> Option<Vec<u8>> {
+    pub fn spare(&mut self) -> Option<Vec<u8>> {
         self.spares.pop().ok()
     }
 
     /// Nothing more is handed on.
-    pub(crate) fn close(&self) {
+    pub fn close(&self) {
         let _ = self.bell.shutdown(Shutdown::Write);
     }
 
     /// Whether the thread has ended.
-    pub(crate) fn is_done(&mut self) -> bool {
+    pub fn is_done(&mut self) -> bool {
         self.parcels.is_abandoned()
     }
 
     /// Whether a block couldn't be written where blocks are written now. Nothing more is written there then.
-    pub(crate) fn has_failed(&self) -> bool {
+    pub fn has_failed(&self) -> bool {
         self.failed.load(Ordering::SeqCst) == self.turns.saturating_add(1)
     }
 }
