@@ -1,7 +1,7 @@
 //! Known moments as text.
 
+use operations::time_text;
 use std::test::Fail;
-use wall_time::time_text;
 
 /// The beginning of 1970, a leap day, the ends of two years, one without a leap day, and the last that the calendar has.
 #[test]

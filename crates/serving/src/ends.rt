@@ -3,7 +3,7 @@
 use crate::repeated::RepeatingWatch;
 use crate::serve_fault::ServeFault;
 use addresses::{Client, Directory};
-use operating::{Gauges, SteeredWatch};
+use operations::{Gauges, SteeredWatch};
 use policy::{Rules, Sets};
 use settings::Settings;
 use sockets::{Door, Outlook, SocketSink, Sockets};

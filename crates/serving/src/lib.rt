@@ -16,7 +16,7 @@ pub use addresses::{
     AddressKey, Addresses, Client, ClientFault, Listening, Location, Rules, ServedSettings,
     read_clients, read_served,
 };
-pub use operating::{
+pub use operations::{
     ControlFault, ErrorOutput, Gauges, Listed, RECORD_LIMIT, RecordFault, Recorder, Steering,
     close_control, close_record, open_control, open_record,
 };

@@ -9,7 +9,7 @@ use crate::ends::{Common, Ends, door_on, watch_on};
 use crate::serve_fault::ServeFault;
 use addresses::Client;
 use entrance::Entrance;
-use operating::Gauges;
+use operations::Gauges;
 use policy::Rules;
 use settings::Settings;
 use sockets::{SocketSink, Sockets, say_goodbyes, socket_sinks};

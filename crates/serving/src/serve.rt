@@ -12,7 +12,7 @@ use crate::running::run_on;
 use crate::serve_fault::ServeFault;
 use addresses::{Client, ServedSettings};
 use cli::{Status, say, say_no_memory, unsaid};
-use operating::{ErrorOutput, Gauges, Lines, StatusLines, TimedLines};
+use operations::{ErrorOutput, Gauges, Lines, StatusLines, TimedLines};
 use policy::Rules;
 use settings::Settings;
 use sockets::{Sockets, watch_drops};

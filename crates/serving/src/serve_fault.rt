@@ -1,7 +1,7 @@
 //! Why a unit isn't served, or not to its end.
 
 use one_thread::DriveFault;
-use operating::CourierFault;
+use operations::CourierFault;
 use std::alloc::AllocError;
 use std::io;
 use thiserror::Error;

@@ -20,7 +20,7 @@ use addresses::{Client, Directory, Front, Listening, Origin};
 use datagram::{Taking, What};
 use entrance::{Admitted, Came, Entrance};
 use members::RoomView;
-use operating::Gauges;
+use operations::Gauges;
 use policy::{Floods, Holding, Judged, PutBy, Rules, Screen, Sets};
 use ports::{Clock, MAX_DATAGRAM, ReceiveFault, Received};
 use rtcp_compound::is_rtcp;

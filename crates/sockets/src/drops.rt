@@ -1,7 +1,7 @@
 //! What the system dropped at the unit's sockets: a thread reads it once a second, and nobody waits for that.
 
 use crate::socket::Sockets;
-use operating::Gauges;
+use operations::Gauges;
 use std::alloc::Global;
 use std::fs::File;
 use std::io::{ErrorKind, Read, Seek};

@@ -3,7 +3,7 @@
 use crate::kept::Kept;
 use datagram::{Reading, What, read, spell};
 use entrance::{Admitted, Came};
-use operating::{Gauges, Recorder};
+use operations::{Gauges, Recorder};
 use recording::{Origin, Taken};
 use std::alloc::{AllocError, Global};
 

@@ -14,7 +14,7 @@ use addresses::{
     is_reachable, learners_of, listeners_of, senders_of,
 };
 use datagram::source_named;
-use operating::Gauges;
+use operations::Gauges;
 use rtcp_compound::is_rtcp;
 use settings::Settings;
 use std::alloc::{AllocError, Global};

@@ -2,7 +2,7 @@
 use Rattle.std.specs.Prelude.{◌≡◌, ℕ, List}
 use Rattle.recording.specs.Lines.{header_text}
 use Rattle.recording.specs.Tapes.{IsPut, TapeState, new_tape}
-use Rattle.operating.specs.declared.record_file.TheConstants.{VERSION}
+use Rattle.operations.specs.declared.record_file.TheConstants.{VERSION}
 
 -- the head of a record of this program, by settings from a file with this SHA-256, whenever it began
 abbrev pub IsHead : List ℕ → List ℕ → Type 0

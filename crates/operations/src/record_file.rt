@@ -2,7 +2,7 @@
 
 ghost use Rattle.std.specs.Prelude.{◌≡◌, true, false, IfOk};
 ghost use Rattle.std.specs.String.{string_bytes};
-ghost use Rattle.operating.specs.Records.{BeginsRecord, IsHead};
+ghost use Rattle.operations.specs.Records.{BeginsRecord, IsHead};
 
 use crate::gauges::Gauges;
 use recording::{Header, RecordFault, Recorder, Scroll, header_text, start_courier};

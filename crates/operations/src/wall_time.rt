@@ -1,5 +1,4 @@
 //! The time of day as text for people.
-#![tactic(auto)]
 
 use jiff::Timestamp;
 use std::alloc::{AllocError, Global};

@@ -1,12 +1,12 @@
 //! Lines for people, which a thread of its own writes: nobody waits for who reads them.
 
+use crate::wall_time::time_text;
 use recording::{CourierFault, Outlet, start_courier};
 use std::alloc::{AllocError, Global};
 use std::io::{self, ErrorKind, Stderr, Write};
 use std::net::Net;
 use std::thread::{self, Threads};
 use std::time::{self, Duration, SystemTime};
-use wall_time::time_text;
 
 /// So many lines may wait to be read.
 const LINES: usize = 64;

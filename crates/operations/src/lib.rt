@@ -2,7 +2,7 @@
 //!
 //! Read `gauges` first, what a run shows, and what peers want of it. `control_socket` is where a unit is steered, `steering` who does that,
 //! `steered` how they see the room. `record_file` opens what a record of the unit goes to (`recording`). `status_lines` are the lines of counts,
-//! and `lines` are written by a thread for which nobody waits.
+//! and `lines` are written by a thread for which nobody waits, after the time of day (`operations`).
 #![tactic(auto)]
 
 mod control_socket;
@@ -12,6 +12,7 @@ mod record_file;
 mod status_lines;
 mod steered;
 mod steering;
+mod wall_time;
 
 pub use control_socket::{close_control, open_control};
 pub use gauges::Gauges;
@@ -23,3 +24,4 @@ pub use recording::{
 pub use status_lines::StatusLines;
 pub use steered::SteeredWatch;
 pub use steering::{Listed, Steering};
+pub use wall_time::time_text;

@@ -81,7 +81,7 @@ enum Asked {
 
 impl Steering {
     ghost use Rattle.std.specs.Prelude.{◌≡◌, None, IfOk, length, map, replicate};
-    ghost use Rattle.operating.specs.declared.steering.Asked.TheVariants.{Nothing};
+    ghost use Rattle.operations.specs.declared.steering.Asked.TheVariants.{Nothing};
 
     /// Steers a unit with these legs and these endpoints, by those who come to the listener.
     pub fn new(
