@@ -6,11 +6,11 @@ use addresses::{Client, Directory};
 use operations::{Gauges, SteeredWatch};
 use policy::{Rules, Sets};
 use settings::Settings;
-use sockets::{Door, Outlook, SocketSink, Sockets};
 use stats::Traffic;
 use std::alloc::{AllocError, Global};
 use std::cell::RefCell;
 use std::time;
+use udp::{Door, Outlook, SocketSink, Sockets};
 use workers::Watch;
 
 /// What all threads of a run look at: where endpoints are, and what came and went.

@@ -23,5 +23,5 @@ pub use operations::{
 pub use running::run_on;
 pub use serve::{Term, serve_file, serve_on, serve_socket, serve_watched};
 pub use serve_fault::ServeFault;
-pub use sockets::Sockets;
+pub use udp::Sockets;
 pub use workers::Pace;

@@ -13,9 +13,9 @@ use events::Out;
 use policy::Sets;
 use ports::{Look, Sink, Status, Watch};
 use settings::{Links, Settings};
-use sockets::SocketSink;
 use std::alloc::{AllocError, Global};
 use std::cell::{Cell, RefCell};
+use udp::SocketSink;
 
 /// A watch that looks at desks for itself while nobody else looks, and asks publishers again for what they didn't notify of.
 #[derive(Drop)]

@@ -12,11 +12,11 @@ use entrance::Entrance;
 use operations::Gauges;
 use policy::Rules;
 use settings::Settings;
-use sockets::{SocketSink, Sockets, say_goodbyes, socket_sinks};
 use std::alloc::Global;
 use std::sync::Wait;
 use std::thread::Threads;
 use std::time;
+use udp::{SocketSink, Sockets, say_goodbyes, socket_sinks};
 use workers::{Open, Pace, Report, Watch};
 
 /// Runs the unit on the sockets for so many turns: in this thread if there is one worker, else with a thread for each. If somebody has it

@@ -15,7 +15,6 @@ use cli::{Status, say, say_no_memory, unsaid};
 use operations::{ErrorOutput, Gauges, Lines, StatusLines, TimedLines};
 use policy::Rules;
 use settings::Settings;
-use sockets::{Sockets, watch_drops};
 use std::alloc::{AllocError, Global};
 use std::fs::File;
 use std::io::{self, Write};
@@ -24,6 +23,7 @@ use std::rt::Files;
 use std::sync::Wait;
 use std::thread::Threads;
 use std::time;
+use udp::{Sockets, watch_drops};
 use workers::{Pace, Report, Unwatched};
 
 /// How long the unit is served, and how often it says how it goes.

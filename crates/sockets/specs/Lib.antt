@@ -1,5 +1,0 @@
-pub mod Kept
-pub mod Door
-pub mod Goodbyes
-pub mod Sockets
-pub mod Who

@@ -1,0 +1,244 @@
+//! What came last, and what of it is taken in.
+
+ghost use Rattle.std.specs.Prelude.{◌≤◌, length};
+
+use crate::inbox::Inbox;
+use datagram::{Ask, Control, Reading, Sent, Taking, What, is_sayable, read};
+use entrance::own_source;
+use members::RoomView;
+use policy::{Again, Holding, Judged, Screen};
+use ports::MAX_DATAGRAM;
+use settings::Links;
+use std::alloc::{AllocError, Global};
+use std::io;
+use std::net::SocketAddr;
+use tmmbr_tuple::Ssrc;
+
+/// How many bytes there is room for: the longest datagram that came, and behind it the longest packet that was put by.
+const ROOM: usize = 2 * MAX_DATAGRAM;
+
+/// The bytes that came, which of them are heard, whose they are, and what was read of them.
+#[derive(Drop)]
+pub(crate) struct Kept {
+    pub(crate) buffer: Vec<u8>,
+    from: usize,
+    to: usize,
+    pub(crate) endpoint: u16,
+    /// Its source.
+    pub(crate) own: Ssrc,
+    pub(crate) reading: Reading,
+    /// Whether the unit itself says it, in the endpoint's name.
+    pub(crate) is_made: bool,
+    ghost fits: { (from ≤ to) × (to ≤ length buffer.items) },
+}
+
+impl Kept {
+    ghost use Rattle.std.specs.Prelude.{◌≡◌, ◌≤◌, ◌∷◌, [], IfOk, IfSome, OnOk, length, slice_range};
+    ghost use Rattle.desk_calls.specs.DeskCalls.{source_of};
+    ghost use Rattle.datagram.specs.Reads.{IsReadUpTo, admission_of};
+    ghost use Rattle.datagram.specs.Spelling.{IsAsHeard};
+    ghost use Rattle.entrance.specs.Entrance.{IsTakenFrom};
+    ghost use Rattle.settings.specs.Links.{LinkTable};
+    ghost use Rattle.udp.specs.Kept.{IsSpokenBy, MayBeTaken, admission_in, bytes_of, datagram_in};
+
+    /// Nothing came yet. There is room for what is asked for in so many entries.
+    pub(crate) fn new(alloc: Global, entries: usize) -> Result<Kept, AllocError>
+        ensures { IfOk result (λ k. length k.buffer.items ≡ 131070) }
+    {
+        Ok(Kept {
+            buffer: vec![in alloc; 0; ROOM]?,
+            from: 0,
+            to: 0,
+            endpoint: 0,
+            own: Ssrc(0),
+            reading: Reading::with_room(alloc, entries)?,
+            is_made: false,
+        })
+    }
+
+    /// The bytes that are heard.
+    pub(crate) fn bytes(&self) -> &[u8]
+        ensures { result.now ≡ bytes_of self.now }
+    {
+        &self.buffer.as_slice()[self.from..self.to]
+    }
+
+    /// Reads the bytes from a place to another, which are the endpoint's: what they ask for in so many entries at most.
+    pub(crate) fn read(
+        &mut self,
+        links: &Links,
+        endpoint: u16,
+        from: usize,
+        to: usize,
+        most: Option<usize>,
+    ) -> Result<(), AllocError>
+        requires { (from ≤ to) × (to ≤ length self.old.buffer.items) }
+        ensures taken { OnOk result (MayBeTaken links.now self.new) }
+        ensures read { OnOk result (IsReadUpTo (source_of links.now endpoint).0
+            (slice_range self.old.buffer.items from to) most self.new.reading) }
+        ensures bytes { bytes_of self.new ≡ slice_range self.old.buffer.items from to }
+        ensures endpoint { self.new.endpoint ≡ endpoint }
+    {
+        self.from = from;
+        self.to = to;
+        self.stand_for(links, endpoint);
+        self.is_made = false;
+        read(
+            &self.buffer.as_slice()[from..to],
+            self.own,
+            most,
+            &mut self.reading,
+        )
+    }
+
+    /// Judges what was read, which came at this moment.
+    pub(crate) fn judge(&mut self, screen: &mut Screen<'_>, moment: u64) -> Judged
+        ensures taken { (table : LinkTable) → MayBeTaken table self.old → MayBeTaken table self.new }
+        ensures bytes { bytes_of self.new ≡ bytes_of self.old }
+        ensures endpoint { self.new.endpoint ≡ self.old.endpoint }
+    {
+        screen.judge(self.sent(moment), &mut self.reading)
+    }
+
+    /// Holds what is asked for in what was read, and leaves out what is moot.
+    pub(crate) fn hold(&mut self, holding: &mut Holding<'_>, view: RoomView<'_>, moment: u64)
+        ensures taken { (table : LinkTable) → MayBeTaken table self.old → MayBeTaken table self.new }
+        ensures bytes { bytes_of self.new ≡ bytes_of self.old }
+        ensures endpoint { self.new.endpoint ≡ self.old.endpoint }
+    {
+        holding.hear(
+            self.sent(moment),
+            view,
+            &mut self.reading,
+            &self.buffer.as_slice()[self.from..self.to],
+        );
+    }
+
+    /// Receives the next datagram of an inbox: how long it is, and where it came from. The last moment that was told was this one.
+    pub(crate) fn receive(
+        &mut self,
+        inbox: &mut Inbox<'_>,
+        moment: u64,
+    ) -> io::Result<(usize, SocketAddr)>
+        ensures within { IfOk result (λ came. came.0 ≤ length self.new.buffer.items) }
+    {
+        inbox.receive(moment, self.buffer.as_mut_slice())
+    }
+
+    /// What is read is of this endpoint.
+    fn stand_for(&mut self, links: &Links, endpoint: u16)
+        ensures endpoint { self.new.endpoint ≡ endpoint }
+        ensures own { self.new.own ≡ source_of links.now endpoint }
+        ensures bytes { bytes_of self.new ≡ bytes_of self.old }
+        ensures buffer { self.new.buffer ≡ self.old.buffer }
+    {
+        self.endpoint = endpoint;
+        self.own = own_source(links, endpoint);
+    }
+
+    /// Who sent it, and when it came.
+    pub(crate) fn sent(&self, moment: u64) -> Sent
+        ensures { result ≡ record {
+          moment = moment;
+          endpoint = self.now.endpoint;
+          own = self.now.own;
+        } }
+    {
+        Sent {
+            moment,
+            endpoint: self.endpoint,
+            own: self.own,
+        }
+    }
+
+    /// Copies a packet that was put by behind where datagrams come, and says where it ends. `None` if there is none.
+    pub(crate) fn copy_behind(&mut self, packet: &[u8]) -> Option<usize>
+        ensures within { IfSome result (λ to. (65535 ≤ to) × (to ≤ length self.new.buffer.items)) }
+        ensures length { length self.new.buffer.items ≡ length self.old.buffer.items }
+    {
+        let to = MAX_DATAGRAM.checked_add(packet.len())?;
+        if packet.is_empty() || to > self.buffer.len() {
+            return None;
+        }
+        self.buffer.as_mut_slice()[MAX_DATAGRAM..to].copy_from_slice(packet);
+        Some(to)
+    }
+
+    /// The endpoint says goodbye, in place of what was read.
+    pub(crate) fn say_goodbye(&mut self)
+        ensures taken { (table : LinkTable) → MayBeTaken table self.old → MayBeTaken table self.new }
+        ensures bytes { bytes_of self.new ≡ bytes_of self.old }
+        ensures endpoint { self.new.endpoint ≡ self.old.endpoint }
+    {
+        self.reading.what = What::Goodbye;
+        self.reading.asks.clear();
+        self.is_made = true;
+    }
+
+    /// The endpoint says that it is there, and nothing more.
+    pub(crate) fn say_present(&mut self, links: &Links, endpoint: u16)
+        ensures taken { MayBeTaken links.now self.new }
+        ensures says { IsSpokenBy (source_of links.now endpoint) [] self.new }
+        ensures endpoint { self.new.endpoint ≡ endpoint }
+    {
+        self.stand_for(links, endpoint);
+        let own = self.own;
+        self.speak(own);
+    }
+
+    /// A subscriber asks for a rate once more. Refused for want of memory alone.
+    pub(crate) fn ask_again(&mut self, links: &Links, again: Again) -> Result<(), AllocError>
+        ensures taken { OnOk result (MayBeTaken links.now self.new) }
+        ensures says { OnOk result (IsSpokenBy again.speaker
+            (Ask.Rate again.media again.word ∷ []) self.new) }
+        ensures endpoint { self.new.endpoint ≡ again.endpoint }
+    {
+        self.stand_for(links, again.endpoint);
+        self.speak(again.speaker);
+        self.reading.asks.push(Ask::Rate {
+            media: again.media,
+            word: again.word,
+        })?;
+        Ok(())
+    }
+
+    /// Who speaks says nothing more.
+    fn speak(&mut self, speaker: Ssrc)
+        ensures taken { (table : LinkTable) → self.old.own ≡ source_of table self.old.endpoint
+            → MayBeTaken table self.new }
+        ensures says { IsSpokenBy speaker [] self.new }
+        ensures own { self.new.own ≡ self.old.own }
+        ensures endpoint { self.new.endpoint ≡ self.old.endpoint }
+    {
+        self.reading.what = What::Control(Control {
+            speaker,
+            report: None,
+            tmmbns: 0,
+        });
+        self.reading.asks.clear();
+        self.is_made = true;
+    }
+
+    /// What is to be taken in.
+    pub(crate) fn taking(&self) -> Taking<'_>
+        ensures { admission_of result ≡ admission_in self.now }
+    {
+        self.reading.taking(self.endpoint, self.bytes())
+    }
+
+    /// What may be taken in is said by a datagram. This compiles to nothing.
+    #[tactic(auto, unfolding(datagram::specs::Spelling::spelling))]
+    pub(crate) fn is_said(&self)
+        requires { IsAsHeard self.now.own.0 self.now.reading.what self.now.reading.asks.items
+            (bytes_of self.now) }
+        ensures { (table : LinkTable) → MayBeTaken table self.now
+            → IsTakenFrom table (admission_in self.now) (datagram_in self.now) }
+    {
+        is_sayable(
+            self.own,
+            self.reading.what,
+            self.reading.asks.as_slice(),
+            self.bytes(),
+        );
+    }
+}
