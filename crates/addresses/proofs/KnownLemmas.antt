@@ -5,7 +5,7 @@ use Rattle.std.specs.Prelude.{slice_get}
 use Rattle.std.specs.declared.net.socket_addr.SocketAddr.{SocketAddr}
 use Rattle.tmmbr_tuple.specs.declared.ssrc.Ssrc.{Ssrc}
 use Rattle.addresses.specs.declared.learners.Learner.{Learner}
-use Rattle.addresses.specs.declared.senders.Origin.{Origin}
+use Rattle.addresses.specs.declared.senders.SourceAddress.{SourceAddress}
 use Rattle.addresses.specs.Learners.{LearnersState, learner_at}
 use Rattle.addresses.specs.declared.clients.Client.{Client}
 use Rattle.addresses.specs.Known.{endpoint_at, kept_ms, learners_of, learning_source, new_learner, numbered_learner, numbered_origins, numbered_source, origins_at, places_of, senders_of, with_client}
@@ -48,11 +48,11 @@ map_passed h i xs d before after all below is left =
     (ap (map h) (rest_at xs i d below)) left
 
 -- where those of the clients from here on come from, put after these, are all
-abbrev pub OriginsLeft : List Ssrc → List Client → LearnersState → ℕ → List (Origin × ℕ) → Type 0
+abbrev pub OriginsLeft : List Ssrc → List Client → LearnersState → ℕ → List (SourceAddress × ℕ) → Type 0
 OriginsLeft sources clients learners i before =
     before ++ flat_map (numbered_origins sources learners) (enumerate_from i (drop i clients)) ≡ senders_of sources clients learners
 
-pub origins_passed : (sources : List Ssrc) (clients : List Client) (learners : LearnersState) (i : ℕ) (d : Client) (before after : List (Origin × ℕ)) (endpoint : ℕ)
+pub origins_passed : (sources : List Ssrc) (clients : List Client) (learners : LearnersState) (i : ℕ) (d : Client) (before after : List (SourceAddress × ℕ)) (endpoint : ℕ)
     (source : Option Ssrc) (learner : Option Learner) (places : Option SocketAddr × Option SocketAddr) → endpoint ≡ endpoint_at i → source ≡ slice_get sources i
     → learner ≡ learner_at learners endpoint → places ≡ places_of (get_or clients i d).location learner → after ≡ before ++ origins_at endpoint source places
     → i < length clients → OriginsLeft sources clients learners i before → OriginsLeft sources clients learners (i + 1) after

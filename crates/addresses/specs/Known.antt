@@ -4,9 +4,9 @@ use Rattle.std.specs.List.{enumerate_from, filter_map, flat_map}
 use Rattle.std.specs.declared.net.socket_addr.SocketAddr.{SocketAddr}
 use Rattle.tmmbr_tuple.specs.declared.ssrc.Ssrc.{Ssrc}
 use Rattle.addresses.specs.declared.learners.Learner.{Learner}
-use Rattle.addresses.specs.declared.senders.Origin.{Origin}
+use Rattle.addresses.specs.declared.senders.SourceAddress.{SourceAddress}
 use Rattle.addresses.specs.Learners.{LearnersState, learner_at}
-use Rattle.addresses.specs.Seat.{empty_seat}
+use Rattle.addresses.specs.LearnedAddress.{empty_seat}
 use Rattle.addresses.specs.declared.clients.Client.{Client}
 use Rattle.addresses.specs.declared.clients.Location.{Location}
 use Rattle.addresses.specs.declared.clients.Location.TheVariants.{Fixed, Learned}
@@ -68,23 +68,23 @@ places_of (Fixed places) learner = (Some places.media, Some places.rtcp)
 places_of (Learned within) learner = seat_places learner
 
 -- where datagrams of an endpoint with this source come from, if that is known
-abbrev pub origin_at : ℕ → Ssrc → Option SocketAddr → List (Origin × ℕ)
+abbrev pub origin_at : ℕ → Ssrc → Option SocketAddr → List (SourceAddress × ℕ)
 origin_at endpoint source None = []
 origin_at endpoint source (Some address) =
     (record { address = address; ssrc = source.0 }, endpoint) ∷ []
 
 abbrev pub origins_at : ℕ → Option Ssrc → Option SocketAddr × Option SocketAddr
-    → List (Origin × ℕ)
+    → List (SourceAddress × ℕ)
 origins_at endpoint None places = []
 origins_at endpoint (Some source) places =
     origin_at endpoint source places.0 ++ origin_at endpoint source places.1
 
-abbrev pub numbered_origins : List Ssrc → LearnersState → ℕ × Client → List (Origin × ℕ)
+abbrev pub numbered_origins : List Ssrc → LearnersState → ℕ × Client → List (SourceAddress × ℕ)
 numbered_origins sources learners e =
     origins_at (endpoint_at e.0) (slice_get sources e.0)
     (places_of e.1.location (learner_at learners (endpoint_at e.0)))
 
 -- Where datagrams of each endpoint that has a source come from: the addresses of its client, or of its seat if these are learned.
-abbrev pub senders_of : List Ssrc → List Client → LearnersState → List (Origin × ℕ)
+abbrev pub senders_of : List Ssrc → List Client → LearnersState → List (SourceAddress × ℕ)
 senders_of sources clients learners =
     flat_map (numbered_origins sources learners) (enumerate_from 0 clients)

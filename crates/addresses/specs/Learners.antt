@@ -6,11 +6,11 @@ use Rattle.std.specs.declared.net.socket_addr.SocketAddr.{SocketAddr}
 use Rattle.addresses.specs.declared.learners.Arrived.{Arrived}
 use Rattle.addresses.specs.declared.learners.Learner.{Learner}
 use Rattle.addresses.specs.declared.network.Network.{Network}
-use Rattle.addresses.specs.declared.seat.Seat.{Seat}
+use Rattle.addresses.specs.declared.seat.LearnedAddress.{LearnedAddress}
 use Rattle.addresses.specs.Network.{is_within}
 use Rattle.addresses.specs.Occupancy.{occupants_of}
-use Rattle.addresses.specs.Seat.{claimed}
-use Rattle.addresses.specs.Senders.{alone_in}
+use Rattle.addresses.specs.LearnedAddress.{claimed}
+use Rattle.addresses.specs.SenderTable.{alone_in}
 
 -- the source of each endpoint that learns; what is known of each endpoint by its number, if it learns; and for how many milliseconds
 -- a seat is kept after its endpoint was heard
@@ -34,7 +34,7 @@ may_come (Some network) from = is_within network (socket_ip from)
 
 -- the seat of an endpoint once a datagram with its source arrived
 abbrev pub claim_at : (SocketAddr → SocketAddr → Bool) → (IpAddr → IpAddr → Bool) → Learner
-    → Arrived → ℕ → Option Seat
+    → Arrived → ℕ → Option LearnedAddress
 claim_at same same_host learner arrived until_ms =
     if may_come learner.within arrived.from
     then claimed same same_host learner.seat arrived.kind arrived.from arrived.moment until_ms
@@ -48,18 +48,18 @@ named_in same_source sources (Some ssrc) = alone_in (occupants_of same_source so
 abbrev pub until : ℕ → ℕ → ℕ
 until moment keep_ms = min (moment + keep_ms) 18446744073709551615
 
-abbrev pub seat_claimed : ℕ → Option Seat → Option (ℕ × Seat)
+abbrev pub seat_claimed : ℕ → Option LearnedAddress → Option (ℕ × LearnedAddress)
 seat_claimed endpoint None = None
 seat_claimed endpoint (Some seat) = Some (endpoint, seat)
 
 abbrev pub claim_with : (SocketAddr → SocketAddr → Bool) → (IpAddr → IpAddr → Bool) → ℕ → Arrived
-    → ℕ → Option Learner → Option (ℕ × Seat)
+    → ℕ → Option Learner → Option (ℕ × LearnedAddress)
 claim_with same same_host endpoint arrived until_ms None = None
 claim_with same same_host endpoint arrived until_ms (Some learner) =
     seat_claimed endpoint (claim_at same same_host learner arrived until_ms)
 
 abbrev pub claim_named : (SocketAddr → SocketAddr → Bool) → (IpAddr → IpAddr → Bool)
-    → LearnersState → Arrived → Option ℕ → Option (ℕ × Seat)
+    → LearnersState → Arrived → Option ℕ → Option (ℕ × LearnedAddress)
 claim_named same same_host s arrived None = None
 claim_named same same_host s arrived (Some endpoint) =
     claim_with same same_host endpoint arrived (until arrived.moment s.keep_ms)
@@ -68,22 +68,22 @@ claim_named same same_host s arrived (Some endpoint) =
 -- The endpoint whose datagram this is, by its source, and its seat from then on; none if no endpoint that learns has the source,
 -- and for a stranger.
 abbrev pub claim_of : (ℕ → ℕ → Bool) → (SocketAddr → SocketAddr → Bool) → (IpAddr → IpAddr → Bool)
-    → LearnersState → Arrived → Option (ℕ × Seat)
+    → LearnersState → Arrived → Option (ℕ × LearnedAddress)
 claim_of same_source same same_host s arrived =
     claim_named same same_host s arrived (named_in same_source s.sources arrived.source)
 
-abbrev pub seated : List (Option Learner) → ℕ → Option Learner → Seat → List (Option Learner)
+abbrev pub seated : List (Option Learner) → ℕ → Option Learner → LearnedAddress → List (Option Learner)
 seated learners endpoint None seat = learners
 seated learners endpoint (Some learner) seat =
     slice_set learners endpoint (Some (record { within = learner.within; seat = seat }))
 
 -- the seat of this endpoint is this, if its address is learned
-abbrev pub with_seat : LearnersState → ℕ → Seat → LearnersState
+abbrev pub with_seat : LearnersState → ℕ → LearnedAddress → LearnersState
 with_seat s endpoint seat = record s {
   learners = seated s.learners endpoint (learner_at s endpoint) seat;
 }
 
-abbrev pub kept_until : Seat → ℕ → Seat
+abbrev pub kept_until : LearnedAddress → ℕ → LearnedAddress
 kept_until seat until_ms = record {
   rtp = seat.rtp;
   rtcp = seat.rtcp;

@@ -1,8 +1,8 @@
 pub mod Occupancy
-pub mod Senders
+pub mod SenderTable
 pub mod Listeners
 pub mod Network
-pub mod Seat
+pub mod LearnedAddress
 pub mod Learners
 pub mod Clients
 pub mod Known

@@ -6,7 +6,7 @@ ghost use Rattle.addresses.specs.declared.clients.Addresses.{Addresses as Places
 ghost use Rattle.addresses.specs.declared.directory.Entry.TheVariants.{Fixed};
 
 use crate::clients::{Addresses, Client, Location};
-use crate::seat::{Kind, Seat};
+use crate::seat::{Kind, LearnedAddress};
 use std::alloc::{AllocError, Global};
 use std::net::SocketAddr;
 use std::sync::RwLock;
@@ -25,7 +25,7 @@ pub struct Directory {
 #[derive(Drop)]
 enum Entry {
     Fixed(Addresses),
-    Learned(RwLock<Seat>),
+    Learned(RwLock<LearnedAddress>),
 }
 
 impl Directory {
@@ -61,7 +61,7 @@ impl Directory {
     }
 
     /// The endpoint is there from now on, if its address is learned. Whether all see that: else somebody looked just now.
-    pub fn sit(&self, endpoint: u16, seat: Seat) -> bool
+    pub fn sit(&self, endpoint: u16, seat: LearnedAddress) -> bool
         ensures fixed { (places : Places)
             → slice_get self.now.entries.items endpoint ≡ Some (Fixed places) → result ≡ false }
         ensures absent { length self.now.entries.items ≤ endpoint → result ≡ false }
@@ -96,12 +96,12 @@ fn entry_of(client: Client) -> Entry
 {
     match client.location {
         Location::Fixed(addresses) => Entry::Fixed(addresses),
-        Location::Learned(_) => Entry::Learned(RwLock::new(Seat::empty())),
+        Location::Learned(_) => Entry::Learned(RwLock::new(LearnedAddress::empty())),
     }
 }
 
 /// What is known of a seat.
-fn seat_in(lock: &RwLock<Seat>) -> Option<Seat> {
+fn seat_in(lock: &RwLock<LearnedAddress>) -> Option<LearnedAddress> {
     for _look in 0..LOOKS {
         if let Some(seat) = lock.try_read() {
             return Some(*seat);

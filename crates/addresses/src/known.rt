@@ -7,7 +7,7 @@ ghost use Rattle.addresses.specs.Known.{endpoint_at, learners_of, origin_at, ori
 use crate::clients::{Addresses, Client, Location};
 use crate::learners::{Learner, Learners};
 use crate::listeners::Listeners;
-use crate::senders::{Origin, Senders};
+use crate::senders::{SenderTable, SourceAddress};
 use std::alloc::{AllocError, Global};
 use std::net::SocketAddr;
 use tmmbr_tuple::Ssrc;
@@ -22,11 +22,11 @@ pub fn senders_of(
     sources: &[Ssrc],
     clients: &[Client],
     learners: &Learners,
-) -> Result<Senders, AllocError>
+) -> Result<SenderTable, AllocError>
     ensures { IfOk result (λ senders. senders ≡ senders_of sources.now clients.now learners.now) }
 {
     let origins = origins_of(alloc, sources, clients, learners)?;
-    Senders::new(alloc, origins.as_slice())
+    SenderTable::new(alloc, origins.as_slice())
 }
 
 /// Where datagrams of each endpoint come from, with its number.
@@ -35,7 +35,7 @@ fn origins_of(
     sources: &[Ssrc],
     clients: &[Client],
     learners: &Learners,
-) -> Result<Vec<(Origin, u16)>, AllocError>
+) -> Result<Vec<(SourceAddress, u16)>, AllocError>
     ensures { IfOk result (λ origins. origins.items
         ≡ senders_of sources.now clients.now learners.now) }
 {
@@ -77,7 +77,7 @@ fn places_of(client: &Client, learner: Option<Learner>) -> (Option<SocketAddr>, 
 
 /// Appends where datagrams of an endpoint come from, if it has a source.
 fn push_origins(
-    origins: &mut Vec<(Origin, u16)>,
+    origins: &mut Vec<(SourceAddress, u16)>,
     endpoint: u16,
     source: Option<Ssrc>,
     places: (Option<SocketAddr>, Option<SocketAddr>),
@@ -94,7 +94,7 @@ fn push_origins(
 
 /// Appends where datagrams with this source come from, if that is known.
 fn push_origin(
-    origins: &mut Vec<(Origin, u16)>,
+    origins: &mut Vec<(SourceAddress, u16)>,
     endpoint: u16,
     source: Ssrc,
     place: Option<SocketAddr>,
@@ -105,7 +105,7 @@ fn push_origin(
     let Some(address) = place else {
         return Ok(());
     };
-    let origin = Origin {
+    let origin = SourceAddress {
         address,
         ssrc: source.0,
     };

@@ -2,11 +2,11 @@
 
 ghost use Rattle.std.specs.Prelude.{◌≡◌, ◌∷◌, ◌++◌, [], Some, None, OnOk};
 ghost use Rattle.addresses.specs.Learners.{after_word, claim_at, claim_of, learner_at, may_come, named_in, with_seat};
-ghost use Rattle.addresses.specs.Seat.{empty_seat};
+ghost use Rattle.addresses.specs.LearnedAddress.{empty_seat};
 
 use crate::network::Network;
 use crate::occupancy::{Occupancy, Occupants};
-use crate::seat::{Kind, Seat};
+use crate::seat::{Kind, LearnedAddress};
 use std::alloc::{AllocError, Global};
 use std::marker::Model;
 use std::net::{IpAddr, SocketAddr};
@@ -16,7 +16,7 @@ use std::net::{IpAddr, SocketAddr};
 pub struct Learner {
     /// Where its datagrams may come from; from anywhere if there is no network.
     pub within: Option<Network>,
-    pub seat: Seat,
+    pub seat: LearnedAddress,
 }
 
 /// What came from where: datagrams are told apart by the source that they name, and by their kind.
@@ -85,7 +85,7 @@ impl Learners {
         self.sources.push(ssrc, endpoint)?;
         self.learners.push(Some(Learner {
             within,
-            seat: Seat::empty(),
+            seat: LearnedAddress::empty(),
         }))?;
         Ok(())
     }
@@ -114,7 +114,7 @@ impl Learners {
 
     /// The endpoint whose datagram this is, by its source, and its seat from then on. `None` if no endpoint that learns has the
     /// source, and for a stranger: who comes from outside of the network, or while somebody else has the seat.
-    pub fn claim(&self, arrived: Arrived) -> Option<(u16, Seat)>
+    pub fn claim(&self, arrived: Arrived) -> Option<(u16, LearnedAddress)>
         ensures { result ≡ claim_of ⟦<u32 as PartialEq>⟧.eq ⟦<SocketAddr as PartialEq>⟧.eq
             ⟦<IpAddr as PartialEq>⟧.eq self.now arrived }
     {
@@ -135,7 +135,7 @@ impl Learners {
     }
 
     /// The seat of the endpoint with this number is this, if its address is learned.
-    pub fn sit(&mut self, endpoint: u16, seat: Seat)
+    pub fn sit(&mut self, endpoint: u16, seat: LearnedAddress)
         ensures { self.new ≡ with_seat self.old endpoint seat }
     {
         let Some(learner) = self.learner(endpoint) else {
@@ -157,10 +157,10 @@ impl Learners {
         } else {
             moment.saturating_add(self.keep_ms)
         };
-        let Seat { rtp, rtcp, .. } = learner.seat;
+        let LearnedAddress { rtp, rtcp, .. } = learner.seat;
         self.sit(
             endpoint,
-            Seat {
+            LearnedAddress {
                 rtp,
                 rtcp,
                 until_ms,
@@ -184,7 +184,7 @@ impl Learners {
 }
 
 /// The seat of an endpoint once a datagram with its source arrived; it is then kept until `until_ms`.
-fn claim_at(learner: Learner, arrived: Arrived, until_ms: u64) -> Option<Seat>
+fn claim_at(learner: Learner, arrived: Arrived, until_ms: u64) -> Option<LearnedAddress>
     ensures { result ≡ claim_at ⟦<SocketAddr as PartialEq>⟧.eq ⟦<IpAddr as PartialEq>⟧.eq learner
         arrived until_ms }
 {

@@ -30,6 +30,6 @@ pub use listeners::{Listeners, Standing};
 pub use network::{Network, read_network};
 pub use occupancy::{Occupancy, Occupants};
 pub use policy::Rules;
-pub use seat::{Kind, Seat};
-pub use senders::{Front, Origin, Senders};
+pub use seat::{Kind, LearnedAddress};
+pub use senders::{FirstPacket, SenderTable, SourceAddress};
 pub use served_file::{ServedSettings, read_served};

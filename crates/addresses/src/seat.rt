@@ -1,7 +1,7 @@
 //! The seat of an endpoint whose address is learned: who has it, and who takes it.
 
 ghost use Rattle.std.specs.Prelude.{◌≡◌};
-ghost use Rattle.addresses.specs.Seat.{first_known, may_take};
+ghost use Rattle.addresses.specs.LearnedAddress.{first_known, may_take};
 
 use std::net::{IpAddr, SocketAddr};
 
@@ -14,7 +14,7 @@ pub enum Kind {
 
 /// The addresses that are known of an endpoint, and until when they are kept.
 #[derive(Clone, Copy, Debug, PartialEq, Eq)]
-pub struct Seat {
+pub struct LearnedAddress {
     /// Where its RTP comes from; all, if both share a port.
     pub rtp: Option<SocketAddr>,
     /// Where its RTCP comes from.
@@ -23,15 +23,15 @@ pub struct Seat {
     pub until_ms: u64,
 }
 
-impl Seat {
+impl LearnedAddress {
     ghost use Rattle.std.specs.Prelude.{◌≡◌};
-    ghost use Rattle.addresses.specs.Seat.{address_of, claimed, empty_seat, kept_at, taken};
+    ghost use Rattle.addresses.specs.LearnedAddress.{address_of, claimed, empty_seat, kept_at, taken};
 
     /// Nobody has it.
-    pub fn empty() -> Seat
+    pub fn empty() -> LearnedAddress
         ensures { result ≡ empty_seat }
     {
-        Seat {
+        LearnedAddress {
             rtp: None,
             rtcp: None,
             until_ms: 0,
@@ -51,7 +51,13 @@ impl Seat {
     /// The seat once a datagram of this kind with its source came from this address at this moment; it is then kept until `until_ms`.
     /// `None` if a stranger sent it, since somebody else has the seat: another address is known of this kind, or one of the other
     /// kind on another host.
-    pub fn claimed(self, kind: Kind, from: SocketAddr, moment: u64, until_ms: u64) -> Option<Seat>
+    pub fn claimed(
+        self,
+        kind: Kind,
+        from: SocketAddr,
+        moment: u64,
+        until_ms: u64,
+    ) -> Option<LearnedAddress>
         ensures { result
             ≡ claimed ⟦<SocketAddr as PartialEq>⟧.eq ⟦<IpAddr as PartialEq>⟧.eq self kind from
             moment until_ms }
@@ -69,27 +75,27 @@ impl Seat {
     }
 
     /// What is left of it at this moment.
-    fn kept_at(self, moment: u64) -> Seat
+    fn kept_at(self, moment: u64) -> LearnedAddress
         ensures { result ≡ kept_at self moment }
     {
         if moment < self.until_ms {
             self
         } else {
-            Seat::empty()
+            LearnedAddress::empty()
         }
     }
 
     /// The seat with this address of this kind.
-    fn taken(self, kind: Kind, from: SocketAddr, until_ms: u64) -> Seat
+    fn taken(self, kind: Kind, from: SocketAddr, until_ms: u64) -> LearnedAddress
         ensures { result ≡ taken self kind from until_ms }
     {
         match kind {
-            Kind::Rtp => Seat {
+            Kind::Rtp => LearnedAddress {
                 rtp: Some(from),
                 rtcp: self.rtcp,
                 until_ms,
             },
-            Kind::Rtcp => Seat {
+            Kind::Rtcp => LearnedAddress {
                 rtp: self.rtp,
                 rtcp: Some(from),
                 until_ms,

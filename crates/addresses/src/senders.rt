@@ -1,7 +1,7 @@
 //! Who sent a datagram.
 
 ghost use Rattle.std.specs.Prelude.{◌≡◌, ◌≤◌, ◌<◌, length, IfOk};
-ghost use Rattle.addresses.specs.Senders.{addresses_of, alone_in, endpoint_named, front_length, is_shared, sender_of};
+ghost use Rattle.addresses.specs.SenderTable.{addresses_of, alone_in, endpoint_named, front_length, is_shared, sender_of};
 ghost use Rattle.addresses.specs.Occupancy.{occupants_of};
 ghost use Rattle.datagram.specs.Naming.{source_named};
 
@@ -14,14 +14,14 @@ use std::net::SocketAddr;
 
 /// Where datagrams of an endpoint come from: an address, and the source that they name, any 32 bits.
 #[derive(Clone, Copy, PartialEq, Eq, Hash)]
-pub struct Origin {
+pub struct SourceAddress {
     pub address: SocketAddr,
     pub ssrc: u32,
 }
 
 /// What is heard at once at the front of a datagram.
 #[derive(Clone, Copy, Debug, PartialEq, Eq)]
-pub struct Front {
+pub struct FirstPacket {
     /// Who sent it; `None` for a stranger.
     pub endpoint: Option<u16>,
     /// How many bytes it has. What stands after them is heard by itself.
@@ -30,15 +30,15 @@ pub struct Front {
 
 /// The endpoints by where their datagrams come from. Who sent one is found without a pass over all.
 #[derive(Drop)]
-pub struct Senders {
-    origins: Occupancy<Origin>,
+pub struct SenderTable {
+    origins: Occupancy<SourceAddress>,
     addresses: Occupancy<SocketAddr>,
 }
 
-impl Model for Senders {
+impl Model for SenderTable {
     ghost use Rattle.std.specs.Prelude.{◌≡◌, List, ℕ};
-    ghost use Rattle.addresses.specs.Senders.{addresses_of};
-    ghost use Rattle.addresses.specs.declared.senders.Origin.{Origin as SentFrom};
+    ghost use Rattle.addresses.specs.SenderTable.{addresses_of};
+    ghost use Rattle.addresses.specs.declared.senders.SourceAddress.{SourceAddress as SentFrom};
 
     ghost Value = { List (SentFrom × ℕ) };
 
@@ -47,9 +47,9 @@ impl Model for Senders {
     ghost invariant = { λ s. s.addresses ≡ addresses_of s.origins };
 }
 
-impl Senders {
+impl SenderTable {
     /// Those whose datagrams come from these origins, each with the number of its endpoint. Refused for want of memory alone.
-    pub fn new(alloc: Global, entries: &[(Origin, u16)]) -> Result<Senders, AllocError>
+    pub fn new(alloc: Global, entries: &[(SourceAddress, u16)]) -> Result<SenderTable, AllocError>
         ensures { IfOk result (λ senders. senders ≡ entries.now) }
     {
         let mut origins = Occupancy::new(alloc);
@@ -58,13 +58,13 @@ impl Senders {
             origins.push(entry.0, entry.1)?;
             addresses.push(entry.0.address, entry.1)?;
         }
-        Ok(Senders { origins, addresses })
+        Ok(SenderTable { origins, addresses })
     }
 
     /// Who sent a datagram that came from this address and names this source: the endpoint with that origin; else the one that is
     /// alone at the address, whatever it names.
     pub fn sender(&self, address: SocketAddr, source: Option<u32>) -> Option<u16>
-        ensures { result ≡ sender_of ⟦<Origin as PartialEq>⟧.eq ⟦<SocketAddr as PartialEq>⟧.eq
+        ensures { result ≡ sender_of ⟦<SourceAddress as PartialEq>⟧.eq ⟦<SocketAddr as PartialEq>⟧.eq
             self.now address source }
     {
         match self.named(address, source) {
@@ -75,16 +75,16 @@ impl Senders {
 
     /// What is heard at once at the front of a datagram from this address, and who sent it. RTCP from an address that several
     /// endpoints share is heard packet by packet, since each may be of another one; anything else as a whole.
-    pub fn front(&self, address: SocketAddr, datagram: &[u8]) -> Front
+    pub fn front(&self, address: SocketAddr, datagram: &[u8]) -> FirstPacket
         ensures sender { result.endpoint
-            ≡ sender_of ⟦<Origin as PartialEq>⟧.eq ⟦<SocketAddr as PartialEq>⟧.eq self.now address
+            ≡ sender_of ⟦<SourceAddress as PartialEq>⟧.eq ⟦<SocketAddr as PartialEq>⟧.eq self.now address
             (source_named datagram.now) }
         ensures size { result.length
             ≡ front_length ⟦<SocketAddr as PartialEq>⟧.eq self.now address datagram.now }
         ensures within { result.length ≤ length datagram.now }
         ensures goes_on { 0 < length datagram.now → 0 < result.length }
     {
-        Front {
+        FirstPacket {
             endpoint: self.sender(address, source_named(datagram)),
             length: self.front_length(address, datagram),
         }
@@ -114,10 +114,10 @@ impl Senders {
 
     /// The endpoint with this origin.
     fn named(&self, address: SocketAddr, source: Option<u32>) -> Option<u16>
-        ensures { result ≡ endpoint_named ⟦<Origin as PartialEq>⟧.eq self.now address source }
+        ensures { result ≡ endpoint_named ⟦<SourceAddress as PartialEq>⟧.eq self.now address source }
     {
         match source {
-            Some(ssrc) => alone(self.origins.at(Origin { address, ssrc })),
+            Some(ssrc) => alone(self.origins.at(SourceAddress { address, ssrc })),
             None => None,
         }
     }

@@ -5,7 +5,7 @@ ghost use Rattle.std.specs.String.{string_bytes};
 ghost use Rattle.operations.specs.Records.{BeginsRecord, IsHead};
 
 use crate::gauges::Gauges;
-use recording::{Header, RecordFault, Recorder, Scroll, header_text, start_courier};
+use recording::{Header, RecordFault, RecordTarget, Recorder, header_text, start_courier};
 use std::fs::{File, OpenOptions};
 use std::io::ErrorKind;
 use std::net::Net;
@@ -36,7 +36,7 @@ pub fn open_record<R: AllocGlobal + Files<File = File> + Net + Threads + time::C
 {
     let head = head_of(rt, settings)?;
     let file = create(rt, path)?;
-    let (outlet, thread) = start_courier(rt, BLOCKS, Scroll::File(file))?;
+    let (outlet, thread) = start_courier(rt, BLOCKS, RecordTarget::File(file))?;
     let mut recorder = Recorder::new(rt.alloc(), head, outlet, thread);
     recorder.begin(limit);
     Ok(recorder)
@@ -50,7 +50,7 @@ pub(crate) fn idle_record<R: AllocGlobal + Net + Threads + time::Clock>(
     ensures { IfOk result (λ r. (r.has_begun ≡ false) × (r.is_open ≡ false)) }
 {
     let head = head_of(rt, settings)?;
-    let (outlet, thread) = start_courier(rt, BLOCKS, Scroll::Nobody)?;
+    let (outlet, thread) = start_courier(rt, BLOCKS, RecordTarget::Nobody)?;
     Ok(Recorder::new(rt.alloc(), head, outlet, thread))
 }
 

@@ -2,7 +2,7 @@
 use Rattle.std.proofs.Common.{◌≡◌, ℕ, ◌+◌, false, List, [], ◌∷◌, Option, None, refl, subst}
 use Rattle.std.specs.List.{list_any}
 use Rattle.policy.specs.Again.{HoldTerms}
-use Rattle.policy.specs.Comings.{first_due, is_due}
+use Rattle.policy.specs.JoinedPublishers.{first_due, is_due}
 use Rattle.policy.specs.Holding.{HearsAgain, HearsDue}
 use Rattle.policy.specs.declared.again.Again.{Again}
 use Rattle.policy.specs.declared.holding.Holding.{Holding}

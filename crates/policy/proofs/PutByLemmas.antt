@@ -3,7 +3,7 @@ use Rattle.std.proofs.Common.{◌≡◌, ◌∙◌, ℕ, List, ap}
 use Rattle.std.proofs.lemmas.List.{map-set}
 use Rattle.std.specs.Global.{Vec}
 use Rattle.std.specs.Prelude.{slice_set}
-use Rattle.policy.specs.PutBy.{packets_of}
+use Rattle.policy.specs.HeldPackets.{packets_of}
 
 -- these bytes stand where the vector was put
 pub kept : (packets : List (Vec ℕ)) (at k : ℕ) (v : Vec ℕ) (before : List (List ℕ)) (bytes : List ℕ) → packets_of packets ≡ before → at ≡ k

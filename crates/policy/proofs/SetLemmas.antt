@@ -3,7 +3,7 @@ use Rattle.std.proofs.Common.{◌≡◌, ◌≢◌, ◌∙◌, Bool, true, false
 use Rattle.std.specs.Prelude.{◌&&◌, not}
 use Rattle.std.specs.Cmp.Lexicographic.{pointwise}
 use Rattle.rtcp_feedback.specs.declared.tmmb.TmmbrEntry.{TmmbrEntry}
-use Rattle.policy.specs.Sets.{IsUntold, SetHappening, SetState, are_told, asked_for, asks_again, came_anew, is_same, is_some_set, looked_at, notified, set_after, told_last}
+use Rattle.policy.specs.AnnouncedSets.{IsUntold, SetHappening, SetState, are_told, asked_for, asks_again, came_anew, is_same, is_some_set, looked_at, notified, set_after, told_last}
 
 told_is : (happenings : List SetHappening) → (set_after happenings).told ≡ told_last happenings
 told_is [] = refl

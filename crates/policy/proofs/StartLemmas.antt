@@ -4,11 +4,11 @@ use Rattle.std.specs.Prelude.{Option, None, Some, if◌then◌else◌}
 use Rattle.std.proofs.lemmas.Bool.{cases_Bool, cond-true, cond-false}
 use Rattle.std.proofs.lemmas.Option.{same_Some}
 use borrow.Author.Tests.{eqb-true}
-use Rattle.policy.specs.declared.run.Run.{Run}
+use Rattle.policy.specs.declared.run.SequenceTracker.{SequenceTracker}
 use Rattle.policy.specs.declared.run.Stamp.{Stamp}
 use Rattle.policy.specs.declared.run.Placement.{Placement}
-use Rattle.policy.specs.declared.run.Placement.TheVariants.{Near, Far, Anew}
-use Rattle.policy.specs.Starts.{FollowsFar, begun_or_with, first_or_placed, is_awaited, is_near, placement_in, run_from, run_of, run_placed, run_with, successor_of}
+use Rattle.policy.specs.declared.run.Placement.TheVariants.{InSequence, Jump, Restart}
+use Rattle.policy.specs.SequenceTrackers.{FollowsFar, begun_or_with, first_or_placed, is_awaited, is_near, placement_in, run_from, run_of, run_placed, run_with, successor_of}
 
 -- what follows a far packet does so after one more packet, too
 one_later : (packets : List Stamp) (p : Stamp) (seq : ℕ) → FollowsFar packets seq → FollowsFar (p ∷ packets) seq
@@ -16,68 +16,68 @@ one_later packets p seq f =
     record { later = p ∷ f.later; far = f.far; earlier = f.earlier; stood = ap (λ (l : List Stamp). p ∷ l) f.stood; was_far = f.was_far; next = f.next }
 
 -- the number that is awaited is the one after a far packet's
-awaited_with : (packets : List Stamp) (run : Run) (p : Stamp) (seq : ℕ) (placed : Placement) → run_of packets ≡ Some run
+awaited_with : (packets : List Stamp) (run : SequenceTracker) (p : Stamp) (seq : ℕ) (placed : Placement) → run_of packets ≡ Some run
     → placement_in run p ≡ placed → ((w : ℕ) → run.awaited ≡ Some w → FollowsFar packets w)
     → (run_placed run p placed).awaited ≡ Some seq → FollowsFar (p ∷ packets) seq
-awaited_with packets run p seq Near is placed before awaits = one_later packets p seq (before seq awaits)
-awaited_with packets run p seq Far is placed before awaits =
+awaited_with packets run p seq InSequence is placed before awaits = one_later packets p seq (before seq awaits)
+awaited_with packets run p seq Jump is placed before awaits =
     record {
       later = [];
       far = p;
       earlier = packets;
       stood = refl;
-      was_far = ap (λ (r : Option Run). first_or_placed r p) is ∙ placed;
+      was_far = ap (λ (r : Option SequenceTracker). first_or_placed r p) is ∙ placed;
       next = sym (same_Some (successor_of p.seq) seq awaits);
     }
-awaited_with packets run p seq Anew is placed before awaits = absurd (nothing awaits)
+awaited_with packets run p seq Restart is placed before awaits = absurd (nothing awaits)
   where
     nothing : (run_from p).awaited ≡ Some seq → ⊥
     nothing none = cc
 
-awaited_of : (packets : List Stamp) (run : Run) (seq : ℕ) → run_of packets ≡ Some run → run.awaited ≡ Some seq → FollowsFar packets seq
+awaited_of : (packets : List Stamp) (run : SequenceTracker) (seq : ℕ) → run_of packets ≡ Some run → run.awaited ≡ Some seq → FollowsFar packets seq
 awaited_of [] run seq is awaits = absurd (cc)
 awaited_of (p ∷ packets) run seq is awaits = here (run_of packets) refl (λ former w some so. awaited_of packets former w some so)
   where
-    here : (before : Option Run) → run_of packets ≡ before
-        → ((former : Run) (w : ℕ) → run_of packets ≡ Some former → former.awaited ≡ Some w → FollowsFar packets w)
+    here : (before : Option SequenceTracker) → run_of packets ≡ before
+        → ((former : SequenceTracker) (w : ℕ) → run_of packets ≡ Some former → former.awaited ≡ Some w → FollowsFar packets w)
         → FollowsFar (p ∷ packets) seq
     here None none earlier =
-        let same : run_from p ≡ run = same_Some (run_from p) run (sym (ap (λ (r : Option Run). Some (begun_or_with r p)) none) ∙ is) in
-        absurd (nothing (ap (λ (r : Run). r.awaited) same ∙ awaits))
+        let same : run_from p ≡ run = same_Some (run_from p) run (sym (ap (λ (r : Option SequenceTracker). Some (begun_or_with r p)) none) ∙ is) in
+        absurd (nothing (ap (λ (r : SequenceTracker). r.awaited) same ∙ awaits))
       where
         nothing : (run_from p).awaited ≡ Some seq → ⊥
         nothing never = cc
     here (Some former) some earlier =
-        let same : run_with former p ≡ run = same_Some (run_with former p) run (sym (ap (λ (r : Option Run). Some (begun_or_with r p)) some) ∙ is) in
+        let same : run_with former p ≡ run = same_Some (run_with former p) run (sym (ap (λ (r : Option SequenceTracker). Some (begun_or_with r p)) some) ∙ is) in
         awaited_with packets former p seq (placement_in former p) some refl
         (λ w so. earlier former w some so)
-        (ap (λ (r : Run). r.awaited) same ∙ awaits)
+        (ap (λ (r : SequenceTracker). r.awaited) same ∙ awaits)
 
 -- who begins anew with this packet awaited its number
-anew_awaited : (run : Run) (stamp : Stamp) → placement_in run stamp ≡ Anew → run.awaited ≡ Some stamp.seq
+anew_awaited : (run : SequenceTracker) (stamp : Stamp) → placement_in run stamp ≡ Restart → run.awaited ≡ Some stamp.seq
 anew_awaited run stamp anew =
     elim (cases_Bool (is_near run.highest stamp)) [
-      | inl near ↦ absurd (not_near (sym (cond-true (is_near run.highest stamp) Near (if is_awaited run.awaited stamp.seq then Anew else Far) near) ∙ anew))
+      | inl near ↦ absurd (not_near (sym (cond-true (is_near run.highest stamp) InSequence (if is_awaited run.awaited stamp.seq then Restart else Jump) near) ∙ anew))
       | inr far ↦ elim (cases_Bool (is_awaited run.awaited stamp.seq)) [
         | inl awaited ↦ is_number run.awaited awaited
-        | inr odd ↦ absurd (not_far (sym (cond-false (is_near run.highest stamp) Near (if is_awaited run.awaited stamp.seq then Anew else Far) far
-            ∙ cond-false (is_awaited run.awaited stamp.seq) Anew Far odd) ∙ anew))
+        | inr odd ↦ absurd (not_far (sym (cond-false (is_near run.highest stamp) InSequence (if is_awaited run.awaited stamp.seq then Restart else Jump) far
+            ∙ cond-false (is_awaited run.awaited stamp.seq) Restart Jump odd) ∙ anew))
       ]
     ]
   where
-    not_near : Near ≡ Anew → ⊥
+    not_near : InSequence ≡ Restart → ⊥
     not_near same = cc
 
-    not_far : Far ≡ Anew → ⊥
+    not_far : Jump ≡ Restart → ⊥
     not_far same = cc
 
     is_number : (awaited : Option ℕ) → is_awaited awaited stamp.seq ≡ true → awaited ≡ Some stamp.seq
     is_number None never = absurd (cc)
     is_number (Some number) same = ap (λ (n : ℕ). Some n) (eqb-true number stamp.seq same)
 
-pub anew_follows : (packets : List Stamp) (stamp : Stamp) → first_or_placed (run_of packets) stamp ≡ Anew → FollowsFar packets stamp.seq
+pub anew_follows : (packets : List Stamp) (stamp : Stamp) → first_or_placed (run_of packets) stamp ≡ Restart → FollowsFar packets stamp.seq
 anew_follows packets stamp anew = here (run_of packets) refl anew
   where
-    here : (run : Option Run) → run_of packets ≡ run → first_or_placed run stamp ≡ Anew → FollowsFar packets stamp.seq
+    here : (run : Option SequenceTracker) → run_of packets ≡ run → first_or_placed run stamp ≡ Restart → FollowsFar packets stamp.seq
     here None none near = absurd (cc)
     here (Some run) some same = awaited_of packets run stamp.seq some (anew_awaited run stamp same)

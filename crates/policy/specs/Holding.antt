@@ -7,7 +7,7 @@ use Rattle.datagram.specs.declared.reading.Ask.{Ask}
 use Rattle.datagram.specs.declared.reading.Sent.{Sent}
 use Rattle.policy.specs.Again.{HoldTerms, next_again}
 use Rattle.policy.specs.Asking.{Asking, is_left}
-use Rattle.policy.specs.Comings.{first_coming, first_due, ticked_in}
+use Rattle.policy.specs.JoinedPublishers.{first_coming, first_due, ticked_in}
 use Rattle.policy.specs.Presence.{is_there}
 use Rattle.policy.specs.Requests.{ask_in, place_without, unasked}
 use Rattle.policy.specs.declared.again.Again.{Again}

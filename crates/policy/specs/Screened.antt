@@ -11,13 +11,13 @@ use Rattle.datagram.specs.declared.reading.What.TheVariants.{Media as media_of, 
 use Rattle.settings.specs.Settings.{Configuration}
 use Rattle.tmmbr_tuple.specs.declared.ssrc.Ssrc.{Ssrc}
 use Rattle.policy.specs.Bounded.{LetsThrough, ResendState, counted_by, idle_resends}
-use Rattle.policy.specs.Starts.{placement_at, runs_with, stamp_of}
+use Rattle.policy.specs.SequenceTrackers.{placement_at, runs_with, stamp_of}
 use Rattle.policy.specs.declared.resends.ResendBounds.{ResendBounds}
 use Rattle.policy.specs.declared.rules.Rules.{Rules}
-use Rattle.policy.specs.declared.run.Run.{Run}
+use Rattle.policy.specs.declared.run.SequenceTracker.{SequenceTracker}
 use Rattle.policy.specs.declared.run.Stamp.{Stamp}
 use Rattle.policy.specs.declared.run.Placement.{Placement}
-use Rattle.policy.specs.declared.run.Placement.TheVariants.{Near, Far, Anew}
+use Rattle.policy.specs.declared.run.Placement.TheVariants.{InSequence, Jump, Restart}
 use Rattle.policy.specs.declared.screen.Judged.{Judged}
 use Rattle.policy.specs.declared.screen.Judged.TheVariants.{Take, PutBy, Anew as begun_anew}
 use Rattle.policy.specs.declared.screen.Screen.{Screen}
@@ -43,18 +43,18 @@ stamp_in own packet =
     else None
 
 -- where it stands by that, if new starts are looked for, and what is noted of each endpoint then
-abbrev pub placement_by : Bool → List (Option Run) → ℕ → Stamp → Placement
+abbrev pub placement_by : Bool → List (Option SequenceTracker) → ℕ → Stamp → Placement
 placement_by true runs endpoint stamp = placement_at runs endpoint stamp
-placement_by false runs endpoint stamp = Near
+placement_by false runs endpoint stamp = InSequence
 
-abbrev pub runs_by : Bool → List (Option Run) → ℕ → Stamp → List (Option Run)
+abbrev pub runs_by : Bool → List (Option SequenceTracker) → ℕ → Stamp → List (Option SequenceTracker)
 runs_by true runs endpoint stamp = runs_with runs endpoint stamp
 runs_by false runs endpoint stamp = runs
 
 abbrev pub judged_by : Placement → Judged
-judged_by Near = Take
-judged_by Far = PutBy
-judged_by Anew = begun_anew
+judged_by InSequence = Take
+judged_by Jump = PutBy
+judged_by Restart = begun_anew
 
 -- once a packet of the endpoint came
 abbrev pub counted_in : Option ResendState → ℕ → ℕ → Option ResendState
@@ -63,9 +63,9 @@ counted_in (Some r) endpoint moment = Some (counted_by r endpoint moment)
 
 -- a far packet is counted only if it is taken in after all
 abbrev pub counted_unless_far : Placement → Option ResendState → Sent → Option ResendState
-counted_unless_far Near r sent = counted_in r sent.endpoint sent.moment
-counted_unless_far Far r sent = r
-counted_unless_far Anew r sent = counted_in r sent.endpoint sent.moment
+counted_unless_far InSequence r sent = counted_in r sent.endpoint sent.moment
+counted_unless_far Jump r sent = r
+counted_unless_far Restart r sent = counted_in r sent.endpoint sent.moment
 
 -- A packet of the own source is placed, noted, and counted.
 pub record PlacesOwn (s t : Screen) (sent : Sent) (stamp : Stamp) (judged : Judged) : Type 0 where

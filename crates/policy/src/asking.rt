@@ -6,7 +6,7 @@ ghost use Rattle.policy.specs.Requests.{ask_in, asked_by};
 
 use crate::presence::is_there;
 use crate::requests::{HeldRequest, Requests};
-use crate::sets::Sets;
+use crate::sets::AnnouncedSets;
 use datagram::Ask;
 use members::RoomView;
 use settings::{LegSettings, Links};
@@ -57,13 +57,13 @@ fn hold_one(requests: &mut Requests, asker: Asker<'_>, ask: Ask)
 }
 
 /// Says which publishers were asked for a rate.
-pub(crate) fn tell_all(sets: &RefCell<Sets>, asker: Asker<'_>, asks: &[Ask]) {
+pub(crate) fn tell_all(sets: &RefCell<AnnouncedSets>, asker: Asker<'_>, asks: &[Ask]) {
     for ask in asks {
         tell_one(sets, asker, *ask);
     }
 }
 
-fn tell_one(sets: &RefCell<Sets>, asker: Asker<'_>, ask: Ask) {
+fn tell_one(sets: &RefCell<AnnouncedSets>, asker: Asker<'_>, ask: Ask) {
     let Some((leg, _word)) = asked_by(asker.view.links, asker.endpoint, ask) else {
         return;
     };
@@ -73,7 +73,7 @@ fn tell_one(sets: &RefCell<Sets>, asker: Asker<'_>, ask: Ask) {
 }
 
 /// Says that the publisher was asked for a rate.
-pub(crate) fn tell_asked(sets: &RefCell<Sets>, publisher: u16) {
+pub(crate) fn tell_asked(sets: &RefCell<AnnouncedSets>, publisher: u16) {
     if let Ok(mut sets) = sets.try_borrow_mut() {
         sets.ask(publisher);
     }

@@ -6,7 +6,7 @@ ghost use Rattle.settings.specs.Links.{leg_to};
 ghost use Rattle.policy.specs.Nacks.{allowance_on, ask_left, asks_left, book_noted_on, books_after, books_on, books_with, entry_left, entry_on, most_by, most_on, trip_on};
 
 use crate::nacks::let_through;
-use crate::resends::{Allowance, Flow, LegBook, REMEMBERED, ResendBounds, gap_by};
+use crate::resends::{Allowance, Flow, LegResends, REMEMBERED, ResendBounds, gap_by};
 use crate::trips::note_trips;
 use datagram::{Ask, Sent};
 use rtcp_feedback::Nack;
@@ -25,7 +25,7 @@ pub(crate) struct Resends {
     /// What came of each endpoint, by its number.
     flows: Vec<Flow>,
     /// What was let through on each leg, by its number.
-    books: Vec<LegBook>,
+    books: Vec<LegResends>,
     /// The round trip on each leg in milliseconds, by its number, as it was known when it was looked up last.
     trips: Vec<Option<u32>>,
 }
@@ -122,18 +122,18 @@ fn remembered_by(bounds: ResendBounds) -> usize
 }
 
 /// Books of so many legs, of each of which so many numbers will be remembered.
-fn books_of(alloc: Global, legs: usize, remembered: usize) -> Result<Vec<LegBook>, AllocError>
+fn books_of(alloc: Global, legs: usize, remembered: usize) -> Result<Vec<LegResends>, AllocError>
     ensures { IfOk result (λ books. books.items ≡ replicate legs (empty_book remembered)) }
 {
     let mut books = Vec::with_capacity(alloc, legs)?;
     for _leg in 0..legs {
-        books.push(LegBook::new(alloc, remembered)?)?;
+        books.push(LegResends::new(alloc, remembered)?)?;
     }
     Ok(books)
 }
 
 /// Moves what is left of what is asked for to the front, in its order, and says how much that is.
-fn keep_asks(asks: &mut [Ask], books: &mut [LegBook], known: Known<'_>, sent: Sent) -> usize
+fn keep_asks(asks: &mut [Ask], books: &mut [LegResends], known: Known<'_>, sent: Sent) -> usize
     ensures left { take result asks.new
         ≡ asks_left (terms_of known.entry) sent books.old asks.old }
     ensures noted { books.new ≡ books_after (terms_of known.entry) sent books.old asks.old }
@@ -151,7 +151,7 @@ fn keep_asks(asks: &mut [Ask], books: &mut [LegBook], known: Known<'_>, sent: Se
 }
 
 /// What is left of an ask, by what is known of the leg on which who asks is sent that source.
-fn ask_left(books: &mut [LegBook], known: Known<'_>, sent: Sent, ask: Ask) -> Option<Ask>
+fn ask_left(books: &mut [LegResends], known: Known<'_>, sent: Sent, ask: Ask) -> Option<Ask>
     ensures left { result ≡ ask_left (terms_of known.entry) sent books.old ask }
     ensures noted { books.new ≡ books_with (terms_of known.entry) sent books.old ask }
 {
@@ -166,7 +166,7 @@ fn ask_left(books: &mut [LegBook], known: Known<'_>, sent: Sent, ask: Ask) -> Op
 
 /// What is left of an entry that asks for packets of this source.
 fn entry_to(
-    books: &mut [LegBook],
+    books: &mut [LegResends],
     known: Known<'_>,
     sent: Sent,
     media: Ssrc,
@@ -191,7 +191,7 @@ fn entry_to(
 
 /// What is left of an entry for this leg.
 fn entry_on(
-    books: &mut [LegBook],
+    books: &mut [LegResends],
     leg: u16,
     allowance: Allowance,
     entry: Nack,

@@ -2,7 +2,7 @@
 
 ghost use Rattle.std.specs.Prelude.{◌≡◌, ◌≤◌, ◌^◌, length, map};
 ghost use Rattle.std.specs.List.{list_any};
-ghost use Rattle.policy.specs.Comings.{first_coming, first_due, is_due, ticked_in};
+ghost use Rattle.policy.specs.JoinedPublishers.{first_coming, first_due, is_due, ticked_in};
 
 use std::alloc::{AllocError, Global};
 use std::marker::Model;
@@ -32,7 +32,7 @@ pub(crate) fn first_coming(request_ms: u64) -> Coming
 
 impl Coming {
     ghost use Rattle.std.specs.Prelude.{◌≡◌};
-    ghost use Rattle.policy.specs.Comings.{due_from, is_due, ticked_in};
+    ghost use Rattle.policy.specs.JoinedPublishers.{due_from, is_due, ticked_in};
 
     fn is_due(&self) -> bool
         ensures { result ≡ is_due self.now }
@@ -66,16 +66,16 @@ impl Coming {
 
 /// Which publishers came, by their numbers.
 #[derive(Drop)]
-pub(crate) struct Comings {
+pub(crate) struct JoinedPublishers {
     list: Vec<Coming>,
     /// Whether any is due.
     is_waiting: bool,
 }
 
-impl Model for Comings {
+impl Model for JoinedPublishers {
     ghost use Rattle.std.specs.Prelude.{◌≡◌, ◌≤◌, ◌^◌, List, length};
     ghost use Rattle.std.specs.List.{list_any};
-    ghost use Rattle.policy.specs.Comings.{is_due};
+    ghost use Rattle.policy.specs.JoinedPublishers.{is_due};
     ghost use Rattle.policy.specs.declared.comings.Coming.{Coming as Comer};
 
     ghost Value = { List Comer };
@@ -86,19 +86,19 @@ impl Model for Comings {
         × (length c.list.items ≤ 2 ^ 16) };
 }
 
-impl Comings {
+impl JoinedPublishers {
     ghost use Rattle.std.specs.Prelude.{◌≡◌, ◌≤◌, ◌^◌, false, None, IfOk, map, replicate, slice_set};
     ghost use Rattle.std.specs.List.{list_any};
-    ghost use Rattle.policy.specs.Comings.{first_due, is_due, ticked_in};
+    ghost use Rattle.policy.specs.JoinedPublishers.{first_due, is_due, ticked_in};
 
     /// None of so many endpoints came.
-    pub(crate) fn new(alloc: Global, endpoints: usize) -> Result<Comings, AllocError>
+    pub(crate) fn new(alloc: Global, endpoints: usize) -> Result<JoinedPublishers, AllocError>
         requires { endpoints ≤ 2 ^ 16 }
         ensures { IfOk result (λ c. c ≡ replicate endpoints Coming.Over) }
     {
         let list = vec![in alloc; Coming::Over; endpoints]?;
         let is_waiting = any_due(list.as_slice());
-        Ok(Comings { list, is_waiting })
+        Ok(JoinedPublishers { list, is_waiting })
     }
 
     /// Whether any is due.

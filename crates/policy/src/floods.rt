@@ -1,7 +1,7 @@
 //! How many datagrams of one endpoint are heard in a millisecond.
 
 ghost use Rattle.std.specs.Prelude.{◌≡◌, Some};
-ghost use Rattle.policy.specs.Floods.{came_in, tally_with};
+ghost use Rattle.policy.specs.FloodLimiter.{came_in, tally_with};
 
 use std::alloc::{AllocError, Global};
 use std::marker::Model;
@@ -15,12 +15,12 @@ pub(crate) struct Tally {
 
 /// How many datagrams of each endpoint came in the millisecond in which its last one came.
 #[derive(Drop)]
-pub struct Floods {
+pub struct FloodLimiter {
     limit: u32,
     tallies: Vec<Tally>,
 }
 
-impl Model for Floods {
+impl Model for FloodLimiter {
     ghost use Rattle.std.specs.Prelude.{ℕ, List};
     ghost use Rattle.policy.specs.declared.floods.Tally.{Tally};
 
@@ -29,12 +29,12 @@ impl Model for Floods {
     ghost view = { λ f. (f.limit, f.tallies.items) };
 }
 
-impl Floods {
+impl FloodLimiter {
     ghost use Rattle.std.specs.Prelude.{◌≡◌, IfOk, replicate, slice_get};
-    ghost use Rattle.policy.specs.Floods.{is_within, tallies_with};
+    ghost use Rattle.policy.specs.FloodLimiter.{is_within, tallies_with};
 
     /// Nothing came of any of so many endpoints. So many datagrams of each will be heard in a millisecond; any number if that is 0.
-    pub fn new(alloc: Global, endpoints: usize, limit: u32) -> Result<Floods, AllocError>
+    pub fn new(alloc: Global, endpoints: usize, limit: u32) -> Result<FloodLimiter, AllocError>
         ensures { IfOk result
             (λ f. f ≡ (limit, replicate endpoints (record { moment = 0; count = 0 }))) }
     {
@@ -42,7 +42,7 @@ impl Floods {
             moment: 0,
             count: 0,
         };
-        Ok(Floods {
+        Ok(FloodLimiter {
             limit,
             tallies: vec![in alloc; tally; endpoints]?,
         })

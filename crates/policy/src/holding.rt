@@ -6,17 +6,17 @@ ghost use Rattle.settings.specs.Links.{legs_of};
 ghost use Rattle.datagram.specs.Spelling.{IsAsHeard};
 ghost use Rattle.policy.specs.Again.{next_again};
 ghost use Rattle.policy.specs.Asking.{asking};
-ghost use Rattle.policy.specs.Comings.{is_due};
+ghost use Rattle.policy.specs.JoinedPublishers.{is_due};
 ghost use Rattle.policy.specs.Holding.{HasLeft, HearsAgain, HearsWord, HoldsNothing, IsThere, Stays, Ticks, asks_left, comings_as_comes, asking_of, hold_terms, requests_as_comes};
 ghost use Rattle.policy.specs.Requests.{ask_in};
 ghost use Rattle.policy.specs.Word.{word_in};
 
 use crate::again::{Again, Holdings, next_again};
 use crate::asking::{Asker, hold_all, leave_out, tell_all, tell_asked};
-use crate::comings::{Coming, Comings, first_coming};
+use crate::comings::{Coming, JoinedPublishers, first_coming};
 use crate::presence::is_there;
 use crate::requests::Requests;
-use crate::sets::Sets;
+use crate::sets::AnnouncedSets;
 use crate::told::last_notice;
 use crate::word::{Word, word_in};
 use datagram::{Ask, Reading, Sent, What};
@@ -31,11 +31,11 @@ use std::cell::RefCell;
 #[derive(Drop)]
 pub struct Holding<'a> {
     requests: Requests,
-    comings: Comings,
+    comings: JoinedPublishers,
     /// The age at which a request is given up, in milliseconds; 0 if it never is.
     request_ms: u64,
     /// Is told who is asked, who notifies of what, and who comes anew.
-    sets: &'a RefCell<Sets>,
+    sets: &'a RefCell<AnnouncedSets>,
 }
 
 impl<'a> Holding<'a> {
@@ -43,14 +43,14 @@ impl<'a> Holding<'a> {
     pub fn new(
         alloc: Global,
         settings: &Settings,
-        sets: &'a RefCell<Sets>,
+        sets: &'a RefCell<AnnouncedSets>,
     ) -> Result<Holding<'a>, AllocError>
         ensures begins { IfOk result (HoldsNothing settings.now) }
         ensures tells { IfOk result (λ held. held.sets ≡ sets.entry) }
     {
         Ok(Holding {
             requests: Requests::new(alloc, settings.legs())?,
-            comings: Comings::new(alloc, settings.endpoints().len())?,
+            comings: JoinedPublishers::new(alloc, settings.endpoints().len())?,
             request_ms: settings.request_ms(),
             sets,
         })

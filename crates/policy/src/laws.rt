@@ -2,17 +2,17 @@
 
 ghost use Rattle.std.specs.Prelude.{◌≡◌, ℕ, List, Option, None, Some, true, false, slice_get};
 ghost use Rattle.policy.specs.Nacks.{NamesJust};
-ghost use Rattle.policy.specs.Starts.{FollowsFar, first_or_placed, run_of};
+ghost use Rattle.policy.specs.SequenceTrackers.{FollowsFar, first_or_placed, run_of};
 ghost use Rattle.policy.specs.declared.run.Stamp.{Stamp};
-ghost use Rattle.policy.specs.declared.run.Placement.TheVariants.{Anew};
+ghost use Rattle.policy.specs.declared.run.Placement.TheVariants.{Restart};
 ghost use Rattle.std.specs.List.{list_any};
 ghost use Rattle.rtcp_feedback.specs.declared.tmmb.TmmbrEntry.{TmmbrEntry};
 ghost use Rattle.settings.specs.declared.settings.LegSettings.{LegSettings};
 ghost use Rattle.policy.specs.Again.{HoldTerms};
-ghost use Rattle.policy.specs.Comings.{is_due};
+ghost use Rattle.policy.specs.JoinedPublishers.{is_due};
 ghost use Rattle.policy.specs.Holding.{HearsAgain};
 ghost use Rattle.policy.specs.Requests.{Happening, HoldsLast};
-ghost use Rattle.policy.specs.Sets.{IsUntold, SetHappening, asks_again, set_after};
+ghost use Rattle.policy.specs.AnnouncedSets.{IsUntold, SetHappening, asks_again, set_after};
 ghost use Rattle.policy.specs.declared.again.Again.{Again};
 ghost use Rattle.policy.specs.declared.holding.Holding.{Holding};
 
@@ -21,7 +21,7 @@ ghost use Rattle.policy.specs.declared.holding.Holding.{Holding};
 #[tactic(auto, using(crate::proofs::StartLemmas::anew_follows))]
 pub fn anew_follows_far()
     ensures { (packets : List Stamp) (stamp : Stamp)
-        → first_or_placed (run_of packets) stamp ≡ Anew → FollowsFar packets stamp.seq }
+        → first_or_placed (run_of packets) stamp ≡ Restart → FollowsFar packets stamp.seq }
 {}
 
 /// An entry of a NACK that is written for some numbers names just these (RFC 4585, section 6.2.1): the first of them is PID, and each bit of

@@ -37,12 +37,12 @@ mod trips;
 mod word;
 
 pub use again::Again;
-pub use floods::Floods;
+pub use floods::FloodLimiter;
 pub use holding::Holding;
-pub use put_by::PutBy;
+pub use put_by::HeldPackets;
 pub use resends::{MAX_TRIP_MS, REMEMBERED, ResendBounds};
 pub use rules::Rules;
-pub use run::{MAX_DROPOUT, MAX_LATE_TICKS, MAX_MISORDER, Placement, Run, Stamp};
+pub use run::{MAX_DROPOUT, MAX_LATE_TICKS, MAX_MISORDER, Placement, SequenceTracker, Stamp};
 pub use screen::{Judged, Screen};
-pub use sets::Sets;
-pub use starts::Starts;
+pub use sets::AnnouncedSets;
+pub use starts::SequenceTrackers;

@@ -6,31 +6,31 @@ use std::marker::Model;
 
 /// The last far packet of each endpoint, by its number; empty if there is none, or no memory for it.
 #[derive(Drop)]
-pub struct PutBy {
+pub struct HeldPackets {
     odd: Vec<Vec<u8>>,
 }
 
-impl Model for PutBy {
+impl Model for HeldPackets {
     ghost use Rattle.std.specs.Prelude.{ℕ, List};
-    ghost use Rattle.policy.specs.PutBy.{packets_of};
+    ghost use Rattle.policy.specs.HeldPackets.{packets_of};
 
     ghost Value = { List (List ℕ) };
 
     ghost view = { λ p. packets_of p.odd.items };
 }
 
-impl PutBy {
+impl HeldPackets {
     ghost use Rattle.std.specs.Prelude.{◌≡◌, ◌⊎◌, [], IfOk, replicate, slice_get, slice_set, unwrap_or};
 
     /// Nothing of so many endpoints.
-    pub fn new(alloc: Global, endpoints: usize) -> Result<PutBy, AllocError>
+    pub fn new(alloc: Global, endpoints: usize) -> Result<HeldPackets, AllocError>
         ensures { IfOk result (λ p. p ≡ replicate endpoints []) }
     {
         let mut odd = Vec::with_capacity(alloc, endpoints)?;
         for _endpoint in 0..endpoints {
             odd.push(Vec::new(alloc))?;
         }
-        Ok(PutBy { odd })
+        Ok(HeldPackets { odd })
     }
 
     /// Puts a far packet of the endpoint by, in place of the one before; if there is no memory for it, there is none.

@@ -150,7 +150,7 @@ fn second_of(moment: u64) -> u64
 
 /// What was let through on a leg.
 #[derive(Drop)]
-pub(crate) struct LegBook {
+pub(crate) struct LegResends {
     /// By number modulo `REMEMBERED` the last one that was let through; no places if nothing is remembered.
     last: Vec<Option<Passed>>,
     /// In which second the last one was let through, and how many in it.
@@ -160,7 +160,7 @@ pub(crate) struct LegBook {
     held: u64,
 }
 
-impl Model for LegBook {
+impl Model for LegResends {
     ghost use Rattle.policy.specs.Resends.{Book};
 
     ghost Value = { Book };
@@ -169,16 +169,16 @@ impl Model for LegBook {
         record { last = b.last.items; second = b.second; count = b.count; held = b.held } };
 }
 
-impl LegBook {
+impl LegResends {
     ghost use Rattle.std.specs.Prelude.{◌≡◌, IfOk, None, replicate};
     ghost use Rattle.policy.specs.Resends.{book_noted, count_at, is_let_through};
 
     /// Nothing was let through; so many numbers will be remembered.
-    pub(crate) fn new(alloc: Global, remembered: usize) -> Result<LegBook, AllocError>
+    pub(crate) fn new(alloc: Global, remembered: usize) -> Result<LegResends, AllocError>
         ensures { IfOk result (λ b. b
             ≡ record { last = replicate remembered None; second = 0; count = 0; held = 0 }) }
     {
-        Ok(LegBook {
+        Ok(LegResends {
             last: vec![in alloc; None; remembered]?,
             second: 0,
             count: 0,

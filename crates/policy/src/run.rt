@@ -1,7 +1,7 @@
 //! Whether a packet goes on where its source was, or begins anew (RFC 3550, appendix A.1).
 
 ghost use Rattle.std.specs.Prelude.{◌≡◌};
-ghost use Rattle.policy.specs.Starts.{ahead_of, is_close, is_near, successor_of};
+ghost use Rattle.policy.specs.SequenceTrackers.{ahead_of, is_close, is_near, successor_of};
 
 /// A packet goes on where its source was if fewer numbers than this were left out before it.
 pub const MAX_DROPOUT: u16 = 3000;
@@ -17,11 +17,11 @@ pub const MAX_LATE_TICKS: u32 = 1 << 24;
 #[derive(Clone, Copy, Debug, PartialEq, Eq)]
 pub enum Placement {
     /// The source goes on with it, or begins.
-    Near,
+    InSequence,
     /// It is far from the highest number. It may be an odd packet, or the first one of a source that begins anew.
-    Far,
+    Jump,
     /// It is far from the highest number and follows the last far one: the source began anew.
-    Anew,
+    Restart,
 }
 
 /// What the header of a packet says of its place in its source (RFC 3550, section 5.1).
@@ -35,22 +35,22 @@ pub struct Stamp {
 
 /// The numbers of a source since it began.
 #[derive(Clone, Copy, PartialEq, Eq)]
-pub struct Run {
+pub struct SequenceTracker {
     /// The number that is highest, and the timestamp of the last packet with it.
     pub highest: Stamp,
     /// The number after that of the last packet that was far from the highest; `None` before any.
     pub awaited: Option<u16>,
 }
 
-impl Run {
+impl SequenceTracker {
     ghost use Rattle.std.specs.Prelude.{◌≡◌, None};
-    ghost use Rattle.policy.specs.Starts.{placement_in, run_with};
+    ghost use Rattle.policy.specs.SequenceTrackers.{placement_in, run_with};
 
     /// A source begins with this packet.
-    pub fn new(stamp: Stamp) -> Run
+    pub fn new(stamp: Stamp) -> SequenceTracker
         ensures { result ≡ record { highest = stamp; awaited = None } }
     {
-        Run {
+        SequenceTracker {
             highest: stamp,
             awaited: None,
         }
@@ -61,21 +61,21 @@ impl Run {
         ensures { result ≡ placement_in self stamp }
     {
         if is_near(self.highest, stamp) {
-            return Placement::Near;
+            return Placement::InSequence;
         }
         if self.awaited == Some(stamp.seq) {
-            Placement::Anew
+            Placement::Restart
         } else {
-            Placement::Far
+            Placement::Jump
         }
     }
 
     /// The numbers, that of this packet too.
-    pub fn with(self, stamp: Stamp) -> Run
+    pub fn with(self, stamp: Stamp) -> SequenceTracker
         ensures { result ≡ run_with self stamp }
     {
         match self.placement(stamp) {
-            Placement::Near => Run {
+            Placement::InSequence => SequenceTracker {
                 highest: if ahead_of(self.highest.seq, stamp.seq) < MAX_DROPOUT {
                     stamp
                 } else {
@@ -83,11 +83,11 @@ impl Run {
                 },
                 awaited: self.awaited,
             },
-            Placement::Far => Run {
+            Placement::Jump => SequenceTracker {
                 highest: self.highest,
                 awaited: Some(successor_of(stamp.seq)),
             },
-            Placement::Anew => Run::new(stamp),
+            Placement::Restart => SequenceTracker::new(stamp),
         }
     }
 }

@@ -9,7 +9,7 @@ use crate::bounded::Resends;
 use crate::resends::ResendBounds;
 use crate::rules::Rules;
 use crate::run::{Placement, Stamp};
-use crate::starts::Starts;
+use crate::starts::SequenceTrackers;
 use datagram::{Ask, Control, Media, Reading, Sent, What};
 use settings::Settings;
 use stats::Traffic;
@@ -33,7 +33,7 @@ pub enum Judged {
 #[derive(Drop)]
 pub struct Screen<'a> {
     rules: Rules,
-    starts: Starts,
+    starts: SequenceTrackers,
     /// What is known of resends, if they are bounded.
     resends: Option<Resends>,
     /// What is known of the round trips on legs.
@@ -66,7 +66,7 @@ impl<'a> Screen<'a> {
     {
         Ok(Screen {
             rules,
-            starts: Starts::new(alloc, settings.endpoints().len())?,
+            starts: SequenceTrackers::new(alloc, settings.endpoints().len())?,
             resends: resends_by(alloc, settings, rules.resends)?,
             traffic,
             far,
@@ -123,15 +123,15 @@ impl<'a> Screen<'a> {
         ensures stays { Stays self.old self.new }
     {
         match self.place(sent.endpoint, stamp) {
-            Placement::Near => {
+            Placement::InSequence => {
                 self.count(sent.endpoint, sent.moment);
                 Judged::Take
             }
-            Placement::Far => {
+            Placement::Jump => {
                 self.far.set(self.far.get().saturating_add(1));
                 Judged::PutBy
             }
-            Placement::Anew => {
+            Placement::Restart => {
                 self.count(sent.endpoint, sent.moment);
                 Judged::Anew
             }
@@ -150,7 +150,7 @@ impl<'a> Screen<'a> {
         if self.rules.new_starts {
             self.starts.note(endpoint, stamp)
         } else {
-            Placement::Near
+            Placement::InSequence
         }
     }
 

@@ -3,7 +3,7 @@
 ghost use Rattle.std.specs.Prelude.{◌≡◌, ◌<◌, IfOk, IfSome, length, replicate};
 ghost use Rattle.std.specs.Cmp.Lexicographic.{pointwise};
 ghost use Rattle.std.specs.List.{list_all, list_any};
-ghost use Rattle.policy.specs.Sets.{is_same, new_set, next_asked};
+ghost use Rattle.policy.specs.AnnouncedSets.{is_same, new_set, next_asked};
 
 use crate::entries::push_entries;
 use rtcp_feedback::TmmbrEntry;
@@ -22,7 +22,7 @@ pub(crate) struct PublisherSet {
 }
 
 impl Model for PublisherSet {
-    ghost use Rattle.policy.specs.Sets.{SetState};
+    ghost use Rattle.policy.specs.AnnouncedSets.{SetState};
 
     ghost Value = { SetState };
 
@@ -36,7 +36,7 @@ impl Model for PublisherSet {
 impl PublisherSet {
     ghost use Rattle.std.specs.Prelude.{◌≡◌, OnOk, IfOk};
     ghost use Rattle.rtcp_feedback.specs.Reading.{entries_in};
-    ghost use Rattle.policy.specs.Sets.{asks_again, new_set, set_asked, set_seen, set_told};
+    ghost use Rattle.policy.specs.AnnouncedSets.{asks_again, new_set, set_asked, set_seen, set_told};
 
     /// Nobody asked it yet.
     fn new(alloc: Global) -> PublisherSet
@@ -150,7 +150,7 @@ fn is_told(told: &[TmmbrEntry], entry: TmmbrEntry) -> bool
 /// What is known of each publisher, by its number, and whose desk is to be looked at. Looks are made in rounds: one at each publisher
 /// that was asked for a rate, by rising number, one in each call.
 #[derive(Drop)]
-pub struct Sets {
+pub struct AnnouncedSets {
     publishers: Vec<PublisherSet>,
     /// How far rounds are apart, in milliseconds; there are none if that is 0.
     every_ms: u64,
@@ -160,8 +160,8 @@ pub struct Sets {
     next: Option<usize>,
 }
 
-impl Model for Sets {
-    ghost use Rattle.policy.specs.Sets.{SetsState};
+impl Model for AnnouncedSets {
+    ghost use Rattle.policy.specs.AnnouncedSets.{SetsState};
 
     ghost Value = { SetsState };
 
@@ -173,14 +173,14 @@ impl Model for Sets {
     } };
 }
 
-impl Sets {
+impl AnnouncedSets {
     ghost use Rattle.std.specs.Prelude.{◌≡◌, None, IfOk, OnOk, replicate, slice_get};
     ghost use Rattle.rtcp_feedback.specs.Reading.{entries_in};
-    ghost use Rattle.policy.specs.Sets.{asks_of, look_due, new_set, set_asked, set_seen, set_told, sets_after, with_set};
+    ghost use Rattle.policy.specs.AnnouncedSets.{asks_of, look_due, new_set, set_asked, set_seen, set_told, sets_after, with_set};
 
     /// Nobody asked any of so many endpoints yet. Rounds of looks are so many milliseconds apart, and the first is due at once; there are
     /// none if that is 0. Refused for want of memory alone.
-    pub fn new(alloc: Global, endpoints: usize, every_ms: u64) -> Result<Sets, AllocError>
+    pub fn new(alloc: Global, endpoints: usize, every_ms: u64) -> Result<AnnouncedSets, AllocError>
         ensures { IfOk result (λ s. s ≡ record {
           publishers = replicate endpoints new_set;
           every_ms = every_ms;
@@ -188,7 +188,7 @@ impl Sets {
           next = None;
         }) }
     {
-        Ok(Sets {
+        Ok(AnnouncedSets {
             publishers: new_sets(alloc, endpoints)?,
             every_ms,
             due_ms: 0,

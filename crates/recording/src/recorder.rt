@@ -10,7 +10,7 @@ ghost use Rattle.recording.specs.HandedOn.{IsHandedOn, IsWritten};
 
 use crate::courier::Outlet;
 use crate::line::begun_line;
-use crate::scroll::Scroll;
+use crate::scroll::RecordTarget;
 use crate::taken::Taken;
 use crate::tape::{End, Tape};
 use std::alloc::Global;
@@ -52,7 +52,7 @@ pub struct Recorder {
     /// The moment from which on what waits is handed on.
     due_ms: u64,
     /// The way to the thread that writes: blocks of whole lines.
-    outlet: Outlet<Scroll>,
+    outlet: Outlet<RecordTarget>,
     thread: JoinHandle<()>,
 }
 
@@ -61,7 +61,7 @@ impl Recorder {
     pub fn new(
         alloc: Global,
         head: String,
-        outlet: Outlet<Scroll>,
+        outlet: Outlet<RecordTarget>,
         thread: JoinHandle<()>,
     ) -> Recorder
         ensures head { result.head ≡ head }
@@ -98,7 +98,7 @@ impl Recorder {
         let patience = Some(Duration::from_secs(PATIENCE_S));
         if peer.set_nonblocking(false).is_err()
             || peer.set_write_timeout(patience).is_err()
-            || !self.outlet.turn_to(Scroll::Peer(peer))
+            || !self.outlet.turn_to(RecordTarget::Peer(peer))
         {
             return;
         }
@@ -174,7 +174,7 @@ impl Recorder {
         ensures { IsHandedOn self.old.tape self.new.tape }
     {
         self.hand_on();
-        self.is_open = !self.outlet.turn_to(Scroll::Nobody);
+        self.is_open = !self.outlet.turn_to(RecordTarget::Nobody);
     }
 
     /// Hands on what waits. Nobody is waited for: if the ring is full, who writes is too slow, and the record ends.

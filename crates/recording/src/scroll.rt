@@ -6,7 +6,7 @@ use std::os::unix::net::UnixStream;
 
 /// Where a record is written.
 #[derive(Drop)]
-pub enum Scroll {
+pub enum RecordTarget {
     /// Nobody wants one.
     Nobody,
     File(File),
@@ -14,11 +14,11 @@ pub enum Scroll {
     Peer(UnixStream),
 }
 
-impl Write for Scroll {
+impl Write for RecordTarget {
     ghost use Rattle.std.specs.Prelude.{◌≡◌, None, Ok, length};
     ghost use Rattle.std.specs.Io.{WritesAtMost};
     ghost use Rattle.std.specs.Io.KnownBytes.{WriteAppends};
-    ghost use Rattle.recording.specs.declared.scroll.Scroll.TheVariants.{Nobody};
+    ghost use Rattle.recording.specs.declared.scroll.RecordTarget.TheVariants.{Nobody};
 
     fn write(&mut self, buf: &[u8]) -> io::Result<usize>
         ensures bound { WritesAtMost result buf.now }
@@ -26,17 +26,17 @@ impl Write for Scroll {
         ensures nobody { self.old ≡ Nobody → result ≡ Ok (length buf.now) }
     {
         match self {
-            Scroll::Nobody => Ok(buf.len()),
-            Scroll::File(file) => file.write(buf),
-            Scroll::Peer(stream) => stream.write(buf),
+            RecordTarget::Nobody => Ok(buf.len()),
+            RecordTarget::File(file) => file.write(buf),
+            RecordTarget::Peer(stream) => stream.write(buf),
         }
     }
 
     fn flush(&mut self) -> io::Result<()> {
         match self {
-            Scroll::Nobody => Ok(()),
-            Scroll::File(file) => file.flush(),
-            Scroll::Peer(stream) => stream.flush(),
+            RecordTarget::Nobody => Ok(()),
+            RecordTarget::File(file) => file.flush(),
+            RecordTarget::Peer(stream) => stream.flush(),
         }
     }
 }

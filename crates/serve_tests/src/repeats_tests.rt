@@ -3,7 +3,7 @@
 use crate::expected::{is_text, same};
 use datagram::{Ask, Reading, Sent, What, read};
 use members::{Order, Room, RoomView};
-use policy::{Holding, Sets};
+use policy::{AnnouncedSets, Holding};
 use rtcp_feedback::TmmbrEntry;
 use settings::{Links, Settings};
 use settings_toml::read_settings;
@@ -276,7 +276,7 @@ fn room(alloc: Global, text: &str) -> Result<Settings, Fail> {
 /// Plays the cues in the room of these settings.
 fn play(rt: &impl Abort, alloc: Global, text: &str, cues: &[Cue]) -> Result<(), Fail> {
     let settings = room(alloc, text)?;
-    let sets = RefCell::new(Sets::new(alloc, 3, 100)?);
+    let sets = RefCell::new(AnnouncedSets::new(alloc, 3, 100)?);
     let mut played = Played {
         held: Holding::new(alloc, &settings, &sets)?,
         reading: Reading::new(alloc),
@@ -316,7 +316,7 @@ const OTHER_NOTICE: [u8; 8] = [0, 0, 0, 17, 0, 7, 0xd0, 0x29];
 /// A set that was seen before is asked for again until its publisher notifies of it, and after it came anew.
 #[test]
 fn asks_until_it_is_told(rt: HostRuntime) -> Result<(), Fail> {
-    let mut sets = Sets::new(rt.alloc(), 3, 100)?;
+    let mut sets = AnnouncedSets::new(rt.alloc(), 3, 100)?;
     same(&rt, &sets.look(1, &SET)?, &false);
     same(&rt, &sets.look(1, &SET)?, &true);
     sets.tell(1, &OTHER_NOTICE)?;

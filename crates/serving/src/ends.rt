@@ -4,7 +4,7 @@ use crate::repeated::RepeatingWatch;
 use crate::serve_fault::ServeFault;
 use addresses::{Client, Directory};
 use operations::{Gauges, SteeredWatch};
-use policy::{Rules, Sets};
+use policy::{AnnouncedSets, Rules};
 use settings::Settings;
 use stats::Traffic;
 use std::alloc::{AllocError, Global};
@@ -19,7 +19,7 @@ pub(crate) struct Common {
     pub(crate) directory: Directory,
     pub(crate) traffic: Traffic,
     /// What publishers are asked for again.
-    pub(crate) sets: RefCell<Sets>,
+    pub(crate) sets: RefCell<AnnouncedSets>,
 }
 
 impl Common {
@@ -30,7 +30,7 @@ impl Common {
         clients: &[Client],
         rules: Rules,
     ) -> Result<Common, AllocError> {
-        let sets = Sets::new(alloc, settings.endpoints().len(), rules.repeat_ms)?;
+        let sets = AnnouncedSets::new(alloc, settings.endpoints().len(), rules.repeat_ms)?;
         Ok(Common {
             directory: Directory::new(alloc, clients)?,
             traffic: Traffic::new(alloc, settings)?,

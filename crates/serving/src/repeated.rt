@@ -3,14 +3,14 @@
 ghost use Rattle.std.specs.Prelude.{◌≡◌, [], OnOk, slice_get};
 ghost use Rattle.announcement.specs.Entries.{entries_of};
 ghost use Rattle.bounding_set.specs.State.{announced_of};
-ghost use Rattle.policy.specs.Sets.{asks_of, set_seen, with_set};
+ghost use Rattle.policy.specs.AnnouncedSets.{asks_of, set_seen, with_set};
 ghost use Rattle.serving.specs.Repeated.{AsksForAll, AsksIf};
 
 use announcement::entries_of;
 use desk::{Desk, Effect};
 use desk_calls::{Head, Notification, notify};
 use events::Out;
-use policy::Sets;
+use policy::AnnouncedSets;
 use ports::{Look, Sink, Status, Watch};
 use settings::{Links, Settings};
 use std::alloc::{AllocError, Global};
@@ -22,7 +22,7 @@ use udp::SocketSink;
 pub(crate) struct RepeatingWatch<'a, W: Drop> {
     watch: W,
     repeater: Repeater<'a>,
-    sets: &'a RefCell<Sets>,
+    sets: &'a RefCell<AnnouncedSets>,
     /// The moment of the last turn, in milliseconds.
     moment_ms: &'a Cell<u64>,
     /// Whether the desk that is looked at is looked at for itself.
@@ -46,7 +46,7 @@ impl<'a, W: Watch + Drop> RepeatingWatch<'a, W> {
         alloc: Global,
         settings: &Settings,
         sink: SocketSink<'a>,
-        sets: &'a RefCell<Sets>,
+        sets: &'a RefCell<AnnouncedSets>,
         moment_ms: &'a Cell<u64>,
         watch: W,
     ) -> Result<RepeatingWatch<'a, W>, AllocError> {
@@ -87,7 +87,7 @@ impl Repeater<'_> {
     /// Sends the publisher a TMMBR for each member of what is announced to it, if it is to be asked again.
     fn ask_again(
         &mut self,
-        sets: &mut Sets,
+        sets: &mut AnnouncedSets,
         publisher: u16,
         desk: &Desk,
     ) -> Result<(), AllocError> {
@@ -117,7 +117,7 @@ fn ask_again(
     alloc: Global,
     links: &Links,
     head: &Head,
-    sets: &mut Sets,
+    sets: &mut AnnouncedSets,
     publisher: u16,
     desk: &Desk,
     outs: &mut Vec<Out>,

@@ -1,7 +1,7 @@
 -- A seat that is taken and given back.
 use Rattle.std.proofs.Common.{◌≡◌, ◌∙◌, ap, refl, ℕ, zero, suc, List, [], ◌∷◌, Option, None, Some, slice_get, slice_set}
 use Rattle.addresses.specs.declared.learners.Learner.{Learner}
-use Rattle.addresses.specs.declared.seat.Seat.{Seat}
+use Rattle.addresses.specs.declared.seat.LearnedAddress.{LearnedAddress}
 use Rattle.addresses.specs.Learners.{LearnersState, learner_at, seated, some_learner, with_seat}
 
 -- what is set stands there
@@ -21,7 +21,7 @@ learns_there None learner e = cc
 learns_there (Some o) learner e = ap Some e
 
 -- who takes a seat and then the one that it had is where it was
-pub sits_back : (s : LearnersState) (endpoint : ℕ) (seat : Seat) (learner : Learner) → learner_at s endpoint ≡ Some learner
+pub sits_back : (s : LearnersState) (endpoint : ℕ) (seat : LearnedAddress) (learner : Learner) → learner_at s endpoint ≡ Some learner
     → with_seat (with_seat s endpoint seat) endpoint learner.seat ≡ s
 sits_back s endpoint seat learner e =
     let there = learns_there (slice_get s.learners endpoint) learner e in

@@ -8,8 +8,8 @@ use Rattle.addresses.specs.declared.learners.Arrived.{Arrived}
 use Rattle.addresses.specs.declared.learners.Learner.{Learner}
 use Rattle.addresses.specs.declared.seat.Kind.{Kind}
 use Rattle.addresses.specs.declared.seat.Kind.TheVariants.{Rtp, Rtcp}
-use Rattle.addresses.specs.declared.seat.Seat.{Seat}
-use Rattle.addresses.specs.declared.senders.Origin.{Origin}
+use Rattle.addresses.specs.declared.seat.LearnedAddress.{LearnedAddress}
+use Rattle.addresses.specs.declared.senders.SourceAddress.{SourceAddress}
 use Rattle.addresses.specs.Learners.{LearnersState, after_word, claim_of, learner_at, with_seat}
 use Rattle.addresses.specs.Listeners.{ListenersState, after_hearing, new_listeners}
 use Rattle.rtcp_compound.specs.Mux.{is_rtcp}
@@ -26,7 +26,7 @@ abbrev pub first_learners : Configuration → List Client → LearnersState
 first_learners settings clients = learners_of settings.endpoints clients settings.timeout_ms
 
 -- who is known by an address
-abbrev pub first_senders : Configuration → List Client → List (Origin × ℕ)
+abbrev pub first_senders : Configuration → List Client → List (SourceAddress × ℕ)
 first_senders settings clients =
     senders_of settings.endpoints clients (first_learners settings clients)
 
@@ -39,7 +39,7 @@ first_listeners settings clients =
 
 -- who is known by an address, whose address is learned, and who only listens
 pub record Known : Type 0 where
-  pub senders : List (Origin × ℕ)
+  pub senders : List (SourceAddress × ℕ)
   pub learners : LearnersState
   pub listeners : ListenersState
 
@@ -82,7 +82,7 @@ arrived_by rtcp from datagram moment = record {
   moment = moment;
 }
 
-abbrev pub is_same_place : (SocketAddr → SocketAddr → Bool) → Seat → Seat → Bool
+abbrev pub is_same_place : (SocketAddr → SocketAddr → Bool) → LearnedAddress → LearnedAddress → Bool
 is_same_place same seat other = option_eq same seat.rtp other.rtp && option_eq same seat.rtcp other.rtcp
 
 -- An address is learned: the endpoint whose source the datagram of this moment names may take this seat, and has it from then on. Either
@@ -90,7 +90,7 @@ is_same_place same seat other = option_eq same seat.rtp other.rtp && option_eq s
 pub record Learns (unit : Setup) (from : SocketAddr) (datagram : List ℕ) (moment : ℕ)
     (known later : Known) : Type 0 where
   pub endpoint : ℕ
-  pub seat : Seat
+  pub seat : LearnedAddress
   pub claims : claim_of unit.same_source unit.same unit.same_host known.learners
       (arrived_by unit.listening.rtcp from datagram moment) ≡ Some (endpoint, seat)
   pub learner : Learner
@@ -104,7 +104,7 @@ pub record Learns (unit : Setup) (from : SocketAddr) (datagram : List ℕ) (mome
 -- Nothing is learned: no endpoint may take a seat by the datagram of this moment that has the addresses which it had.
 pub record LearnsNothing (unit : Setup) (from : SocketAddr) (datagram : List ℕ) (moment : ℕ)
     (known later : Known) : Type 0 where
-  pub moves : (endpoint : ℕ) (seat : Seat) (learner : Learner)
+  pub moves : (endpoint : ℕ) (seat : LearnedAddress) (learner : Learner)
       → claim_of unit.same_source unit.same unit.same_host known.learners
       (arrived_by unit.listening.rtcp from datagram moment) ≡ Some (endpoint, seat)
       → learner_at known.learners endpoint ≡ Some learner

@@ -3,9 +3,9 @@
 ghost use Rattle.std.specs.Prelude.{◌≡◌, ◌≤◌, ◌+◌, ℕ, false, true, None, Some, Ok, Err, IfOk, IfSome, OnOk, length, replicate, slice_get, slice_range, take};
 ghost use Rattle.entrance.specs.Entrance.{IfTaken};
 ghost use Rattle.desk_calls.specs.DeskCalls.{source_of};
-ghost use Rattle.policy.specs.Floods.{is_within, tallies_with};
+ghost use Rattle.policy.specs.FloodLimiter.{is_within, tallies_with};
 ghost use Rattle.datagram.specs.Naming.{source_named};
-ghost use Rattle.addresses.specs.Senders.{front_length, sender_of};
+ghost use Rattle.addresses.specs.SenderTable.{front_length, sender_of};
 ghost use Rattle.udp.specs.Door.{IsNoted, LooksAt, anew_after, is_goodbye, most_by, packets_in, rest_behind};
 ghost use Rattle.udp.specs.Kept.{MayBeTaken, bytes_of};
 ghost use Rattle.udp.specs.Who.{after_note, known_by};
@@ -16,12 +16,12 @@ use crate::kept::Kept;
 use crate::scribe::Scribe;
 use crate::socket::Sockets;
 use crate::who::Who;
-use addresses::{Client, Directory, Front, Listening, Origin};
+use addresses::{Client, Directory, FirstPacket, Listening, SourceAddress};
 use datagram::{Taking, What};
 use entrance::{Admitted, Came, Entrance};
 use members::RoomView;
 use operations::Gauges;
-use policy::{Floods, Holding, Judged, PutBy, Rules, Screen, Sets};
+use policy::{AnnouncedSets, FloodLimiter, HeldPackets, Holding, Judged, Rules, Screen};
 use ports::{Clock, MAX_DATAGRAM, ReceiveFault, Received};
 use rtcp_compound::is_rtcp;
 use settings::Settings;
@@ -40,7 +40,7 @@ pub struct Outlook<'a> {
     pub directory: &'a Directory,
     pub gauges: &'a Gauges,
     pub traffic: &'a Traffic,
-    pub sets: &'a RefCell<Sets>,
+    pub sets: &'a RefCell<AnnouncedSets>,
 }
 
 /// The packets of a datagram after those that were heard.
@@ -75,9 +75,9 @@ pub struct Door<'a, R: time::Clock> {
     inbox: Inbox<'a>,
     clock: RunClock<'a, R>,
     who: Who<'a>,
-    floods: Floods,
+    floods: FloodLimiter,
     screen: Screen<'a>,
-    put_by: PutBy,
+    put_by: HeldPackets,
     /// What is held of requests, if they are.
     holding: Option<Holding<'a>>,
     /// How many entries of a datagram count, if that is bounded.
@@ -128,9 +128,9 @@ impl<'a, R: time::Clock> Door<'a, R> {
             inbox: Inbox::new(sockets),
             clock: RunClock::new(rt, &gauges.moment_ms),
             who: Who::new(alloc, listening, settings, clients, directory, gauges)?,
-            floods: Floods::new(alloc, endpoints, rules.flood_limit)?,
+            floods: FloodLimiter::new(alloc, endpoints, rules.flood_limit)?,
             screen: Screen::new(alloc, settings, rules, traffic, &gauges.far, &gauges.held)?,
-            put_by: PutBy::new(alloc, endpoints)?,
+            put_by: HeldPackets::new(alloc, endpoints)?,
             holding,
             most,
             kept: Kept::new(alloc, most.unwrap_or(ENTRIES))?,
@@ -249,7 +249,7 @@ impl<'a, R: time::Clock> Door<'a, R> {
             (λ admitted. IfTaken (Ok admitted) (MayBeTaken view.entry.links.now self.new.kept)) }
         ensures sender { (endpoint : ℕ)
             → rest.from ≤ rest.to → rest.to ≤ length self.old.kept.buffer.items
-            → sender_of ⟦<Origin as PartialEq>⟧.eq ⟦<SocketAddr as PartialEq>⟧.eq self.old.who.senders
+            → sender_of ⟦<SourceAddress as PartialEq>⟧.eq ⟦<SocketAddr as PartialEq>⟧.eq self.old.who.senders
             rest.address (source_named (packets_in self.old.kept rest)) ≡ Some endpoint
             → OnOk result (LooksAt self.old.kept self.new.kept rest (front_length
             ⟦<SocketAddr as PartialEq>⟧.eq self.old.who.senders rest.address
@@ -300,7 +300,7 @@ impl<'a, R: time::Clock> Door<'a, R> {
         view: RoomView<'_>,
         moment: u64,
         whole: Rest,
-        front: Front,
+        front: FirstPacket,
     ) -> Receipt
         requires { (whole.from + front.length ≤ whole.to)
             × (whole.to ≤ length self.old.kept.buffer.items) }
@@ -361,7 +361,7 @@ impl<'a, R: time::Clock> Door<'a, R> {
         view: RoomView<'_>,
         moment: u64,
         packets: Rest,
-        front: Front,
+        front: FirstPacket,
     ) -> Receipt
         requires { (packets.from + front.length ≤ packets.to)
             × (packets.to ≤ length self.old.kept.buffer.items) }

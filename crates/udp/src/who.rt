@@ -6,12 +6,12 @@ ghost use Rattle.addresses.specs.Known.{senders_of};
 ghost use Rattle.addresses.specs.Learners.{with_seat};
 ghost use Rattle.addresses.specs.Listeners.{listeners_after, report_due};
 ghost use Rattle.datagram.specs.Naming.{source_named};
-ghost use Rattle.addresses.specs.Senders.{front_length, sender_of};
+ghost use Rattle.addresses.specs.SenderTable.{front_length, sender_of};
 ghost use Rattle.udp.specs.Who.{MayLearn, after_note, first_learners, first_listeners, first_senders, is_same_place, kind_heard, known_by, setup_of};
 
 use addresses::{
-    Arrived, Client, Directory, Front, Kind, Learners, Listeners, Listening, Origin, Seat, Senders,
-    is_reachable, learners_of, listeners_of, senders_of,
+    Arrived, Client, Directory, FirstPacket, Kind, LearnedAddress, Learners, Listeners, Listening,
+    SenderTable, SourceAddress, is_reachable, learners_of, listeners_of, senders_of,
 };
 use datagram::source_named;
 use operations::Gauges;
@@ -26,7 +26,7 @@ use tmmbr_tuple::Ssrc;
 pub struct Who<'a> {
     alloc: Global,
     listening: Listening,
-    senders: Senders,
+    senders: SenderTable,
     learners: Learners,
     listeners: Listeners,
     /// Where threads that send see what is learned.
@@ -72,8 +72,8 @@ impl<'a> Who<'a> {
 
     /// A datagram came from this address at this moment, in milliseconds: an address may be learned of it. Who sent what is at its
     /// front, and how much of it is heard at once.
-    pub fn arrive(&mut self, from: SocketAddr, datagram: &[u8], moment: u64) -> Front
-        ensures sender { result.endpoint ≡ sender_of ⟦<Origin as PartialEq>⟧.eq
+    pub fn arrive(&mut self, from: SocketAddr, datagram: &[u8], moment: u64) -> FirstPacket
+        ensures sender { result.endpoint ≡ sender_of ⟦<SourceAddress as PartialEq>⟧.eq
             ⟦<SocketAddr as PartialEq>⟧.eq self.new.senders from (source_named datagram.now) }
         ensures size { result.length
             ≡ front_length ⟦<SocketAddr as PartialEq>⟧.eq self.new.senders from datagram.now }
@@ -90,8 +90,8 @@ impl<'a> Who<'a> {
     }
 
     /// Who sent what is at the front of these packets, the rest of a datagram from this address, and how much of it is heard at once.
-    pub fn front(&self, from: SocketAddr, packets: &[u8]) -> Front
-        ensures sender { result.endpoint ≡ sender_of ⟦<Origin as PartialEq>⟧.eq
+    pub fn front(&self, from: SocketAddr, packets: &[u8]) -> FirstPacket
+        ensures sender { result.endpoint ≡ sender_of ⟦<SourceAddress as PartialEq>⟧.eq
             ⟦<SocketAddr as PartialEq>⟧.eq self.now.senders from (source_named packets.now) }
         ensures size { result.length
             ≡ front_length ⟦<SocketAddr as PartialEq>⟧.eq self.now.senders from packets.now }
@@ -131,7 +131,7 @@ impl<'a> Who<'a> {
 
     /// An endpoint is at this seat from now on. If memory is wanting, or a thread looks at its seat just now, it stays where it was
     /// and is learned from a later datagram.
-    fn move_to(&mut self, endpoint: u16, seat: Seat, before: Seat)
+    fn move_to(&mut self, endpoint: u16, seat: LearnedAddress, before: LearnedAddress)
         ensures listeners { self.new.listeners ≡ self.old.listeners }
         ensures stays { (self.new.sources ≡ self.old.sources) × (self.new.clients ≡ self.old.clients)
             × (self.new.listening ≡ self.old.listening) }
@@ -195,7 +195,7 @@ impl<'a> Who<'a> {
 }
 
 /// Whether these seats have the same addresses.
-fn is_same_place(seat: Seat, other: Seat) -> bool
+fn is_same_place(seat: LearnedAddress, other: LearnedAddress) -> bool
     ensures { result ≡ is_same_place ⟦<SocketAddr as PartialEq>⟧.eq seat other }
 {
     seat.rtp == other.rtp && seat.rtcp == other.rtcp
@@ -206,7 +206,7 @@ fn known_of(
     alloc: Global,
     settings: &Settings,
     clients: &[Client],
-) -> Result<(Senders, Learners), AllocError>
+) -> Result<(SenderTable, Learners), AllocError>
     ensures senders { IfOk result (λ known. known.0 ≡ first_senders settings.now clients.now) }
     ensures learners { IfOk result (λ known. known.1 ≡ first_learners settings.now clients.now) }
 {

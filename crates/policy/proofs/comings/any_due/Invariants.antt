@@ -1,6 +1,6 @@
 use Rattle.std.proofs.Common.{◌≡◌, drop}
 use Rattle.std.specs.List.{list_any}
-use Rattle.policy.specs.Comings.{is_due}
+use Rattle.policy.specs.JoinedPublishers.{is_due}
 use Rattle.policy.proofs.comings.any_due.Given as goal
 
 abbrev pub invariant-loop-coming : goal.invariant-loop-coming

@@ -1,5 +1,5 @@
 use Rattle.std.proofs.Common.{◌≡◌, drop}
-use Rattle.policy.specs.Comings.{first_due}
+use Rattle.policy.specs.JoinedPublishers.{first_due}
 use Rattle.policy.proofs.comings.first_due.Given as goal
 
 abbrev pub invariant-loop-publisher : goal.invariant-loop-publisher

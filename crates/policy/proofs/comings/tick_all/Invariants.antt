@@ -1,5 +1,5 @@
 use Rattle.std.proofs.Common.{◌≡◌, ◌++◌, take, drop, map}
-use Rattle.policy.specs.Comings.{ticked_in}
+use Rattle.policy.specs.JoinedPublishers.{ticked_in}
 use Rattle.policy.proofs.comings.tick_all.Given as goal
 
 abbrev pub invariant-loop-coming : goal.invariant-loop-coming

@@ -1,6 +1,6 @@
 use Rattle.std.proofs.Common.{◌≡◌, length}
 use Rattle.std.specs.Cmp.Lexicographic.{pointwise}
-use Rattle.policy.specs.Sets.{is_same}
+use Rattle.policy.specs.AnnouncedSets.{is_same}
 use Rattle.policy.proofs.sets.are_same.Given as goal
 
 abbrev pub invariant-loop-left : goal.invariant-loop-left

@@ -1,5 +1,5 @@
 use Rattle.std.proofs.Common.{◌≡◌, drop}
-use Rattle.policy.specs.Sets.{are_told}
+use Rattle.policy.specs.AnnouncedSets.{are_told}
 use Rattle.policy.proofs.sets.are_told.Given as goal
 
 abbrev pub invariant-loop-entry : goal.invariant-loop-entry

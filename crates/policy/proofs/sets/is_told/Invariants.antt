@@ -1,6 +1,6 @@
 use Rattle.std.proofs.Common.{◌≡◌, drop}
 use Rattle.std.specs.List.{list_any}
-use Rattle.policy.specs.Sets.{is_same}
+use Rattle.policy.specs.AnnouncedSets.{is_same}
 use Rattle.policy.proofs.sets.is_told.Given as goal
 
 abbrev pub invariant-loop-other : goal.invariant-loop-other

@@ -1,5 +1,5 @@
 use Rattle.std.proofs.Common.{◌≡◌, drop}
-use Rattle.policy.specs.Sets.{next_asked}
+use Rattle.policy.specs.AnnouncedSets.{next_asked}
 use Rattle.policy.proofs.sets.next_asked.Given as goal
 
 abbrev pub invariant-loop-number : goal.invariant-loop-number

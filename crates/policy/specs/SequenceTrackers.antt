@@ -2,10 +2,10 @@
 use Rattle.std.specs.Prelude.{◌≡◌, ◌==◌, ℕ, ◌+◌, ◌-◌, ◌%◌, ◌^◌, nat_lt, Bool, false, ◌&&◌, ◌||◌, List, [], ◌∷◌, ◌++◌, Option, None, Some, slice_get, slice_set, if◌then◌else◌}
 use Rattle.std.specs.Option.{option_map_or}
 use Rattle.rewrite.specs.declared.sequence.TheConstants.{SEQ_CYCLE}
-use Rattle.policy.specs.declared.run.Run.{Run}
+use Rattle.policy.specs.declared.run.SequenceTracker.{SequenceTracker}
 use Rattle.policy.specs.declared.run.Stamp.{Stamp}
 use Rattle.policy.specs.declared.run.Placement.{Placement}
-use Rattle.policy.specs.declared.run.Placement.TheVariants.{Near, Far, Anew}
+use Rattle.policy.specs.declared.run.Placement.TheVariants.{InSequence, Jump, Restart}
 use Rattle.policy.specs.declared.run.TheConstants.{MAX_DROPOUT, MAX_LATE_TICKS, MAX_MISORDER}
 
 -- how far a number is ahead of the highest, across the wrap
@@ -38,13 +38,13 @@ is_near highest stamp =
 abbrev pub is_awaited : Option ℕ → ℕ → Bool
 is_awaited awaited seq = option_map_or (λ number. number == seq) awaited false
 
-abbrev pub placement_in : Run → Stamp → Placement
+abbrev pub placement_in : SequenceTracker → Stamp → Placement
 placement_in run stamp =
-    if is_near run.highest stamp then Near
-    else if is_awaited run.awaited stamp.seq then Anew else Far
+    if is_near run.highest stamp then InSequence
+    else if is_awaited run.awaited stamp.seq then Restart else Jump
 
 -- a source begins with this packet
-abbrev pub run_from : Stamp → Run
+abbrev pub run_from : Stamp → SequenceTracker
 run_from stamp = record { highest = stamp; awaited = None }
 
 abbrev pub highest_with : Stamp → Stamp → Stamp
@@ -52,14 +52,14 @@ highest_with highest stamp =
     if nat_lt (ahead_of highest.seq stamp.seq) MAX_DROPOUT then stamp else highest
 
 -- the numbers with that of this packet, which stands so
-abbrev pub run_placed : Run → Stamp → Placement → Run
-run_placed run stamp Near =
+abbrev pub run_placed : SequenceTracker → Stamp → Placement → SequenceTracker
+run_placed run stamp InSequence =
     record { highest = highest_with run.highest stamp; awaited = run.awaited }
-run_placed run stamp Far =
+run_placed run stamp Jump =
     record { highest = run.highest; awaited = Some (successor_of stamp.seq) }
-run_placed run stamp Anew = run_from stamp
+run_placed run stamp Restart = run_from stamp
 
-abbrev pub run_with : Run → Stamp → Run
+abbrev pub run_with : SequenceTracker → Stamp → SequenceTracker
 run_with run stamp = run_placed run stamp (placement_in run stamp)
 
 -- ---- each endpoint
@@ -68,30 +68,30 @@ run_with run stamp = run_placed run stamp (placement_in run stamp)
 abbrev pub stamp_of : ℕ → ℕ → Stamp
 stamp_of seq timestamp = record { seq = seq; timestamp = timestamp }
 
-abbrev pub first_or_placed : Option Run → Stamp → Placement
-first_or_placed None stamp = Near
+abbrev pub first_or_placed : Option SequenceTracker → Stamp → Placement
+first_or_placed None stamp = InSequence
 first_or_placed (Some run) stamp = placement_in run stamp
 
-abbrev pub begun_or_with : Option Run → Stamp → Run
+abbrev pub begun_or_with : Option SequenceTracker → Stamp → SequenceTracker
 begun_or_with None stamp = run_from stamp
 begun_or_with (Some run) stamp = run_with run stamp
 
 -- where this packet of the endpoint stands; an endpoint that isn't there has no place to go on from
-abbrev pub placement_at : List (Option Run) → ℕ → Stamp → Placement
+abbrev pub placement_at : List (Option SequenceTracker) → ℕ → Stamp → Placement
 placement_at runs endpoint stamp =
-    option_map_or (λ run. first_or_placed run stamp) (slice_get runs endpoint) Near
+    option_map_or (λ run. first_or_placed run stamp) (slice_get runs endpoint) InSequence
 
-abbrev pub runs_of : List (Option Run) → ℕ → Stamp → Option (Option Run) → List (Option Run)
+abbrev pub runs_of : List (Option SequenceTracker) → ℕ → Stamp → Option (Option SequenceTracker) → List (Option SequenceTracker)
 runs_of runs endpoint stamp None = runs
 runs_of runs endpoint stamp (Some run) =
     slice_set runs endpoint (Some (begun_or_with run stamp))
 
-abbrev pub runs_with : List (Option Run) → ℕ → Stamp → List (Option Run)
+abbrev pub runs_with : List (Option SequenceTracker) → ℕ → Stamp → List (Option SequenceTracker)
 runs_with runs endpoint stamp = runs_of runs endpoint stamp (slice_get runs endpoint)
 
 -- ---- the whole list of a source's packets, the latest first
 
-abbrev pub run_of : List Stamp → Option Run
+abbrev pub run_of : List Stamp → Option SequenceTracker
 run_of [] = None
 run_of (stamp ∷ earlier) = Some (begun_or_with (run_of earlier) stamp)
 
@@ -101,5 +101,5 @@ pub record FollowsFar (packets : List Stamp) (seq : ℕ) : Type 0 where
   pub far : Stamp
   pub earlier : List Stamp
   pub stood : packets ≡ later ++ far ∷ earlier
-  pub was_far : first_or_placed (run_of earlier) far ≡ Far
+  pub was_far : first_or_placed (run_of earlier) far ≡ Jump
   pub next : seq ≡ successor_of far.seq

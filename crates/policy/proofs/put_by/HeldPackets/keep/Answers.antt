@@ -1,6 +1,6 @@
 use Rattle.std.proofs.Common.{inl, inr}
 use Rattle.policy.proofs.PutByLemmas.{kept}
-use Rattle.policy.proofs.put_by.PutBy.keep.Goals as goal
+use Rattle.policy.proofs.put_by.HeldPackets.keep.Goals as goal
 
 pub returns-then-at-len : goal.returns-then-at-len
 returns-then-at-len c =

@@ -5,9 +5,9 @@ use Rattle.std.specs.declared.net.ip_addr.IpAddr.{IpAddr}
 use Rattle.std.specs.declared.net.socket_addr.SocketAddr.{SocketAddr}
 use Rattle.addresses.specs.declared.seat.Kind.{Kind}
 use Rattle.addresses.specs.declared.seat.Kind.TheVariants.{Rtp, Rtcp}
-use Rattle.addresses.specs.declared.seat.Seat.{Seat}
+use Rattle.addresses.specs.declared.seat.LearnedAddress.{LearnedAddress}
 
-abbrev pub empty_seat : Seat
+abbrev pub empty_seat : LearnedAddress
 empty_seat = record {
   rtp = None;
   rtcp = None;
@@ -19,12 +19,12 @@ first_known (Some address) other = Some address
 first_known None other = other
 
 -- where what is of this kind goes: to the address of its kind, or to the other one while none of its kind is known
-abbrev pub address_of : Seat → Kind → Option SocketAddr
+abbrev pub address_of : LearnedAddress → Kind → Option SocketAddr
 address_of seat Rtp = first_known seat.rtp seat.rtcp
 address_of seat Rtcp = first_known seat.rtcp seat.rtp
 
 -- what is left of it at this moment
-abbrev pub kept_at : Seat → ℕ → Seat
+abbrev pub kept_at : LearnedAddress → ℕ → LearnedAddress
 kept_at seat moment = if nat_lt moment seat.until_ms then seat else empty_seat
 
 -- A datagram from this address may take the place of its kind: nobody has it, and the other place is nobody's or one of the same
@@ -35,13 +35,13 @@ may_take same same_host (Some address) other from = same address from
 may_take same same_host None (Some address) from = same_host (socket_ip address) (socket_ip from)
 may_take same same_host None None from = true
 
-abbrev pub is_free : (SocketAddr → SocketAddr → Bool) → (IpAddr → IpAddr → Bool) → Seat → Kind
+abbrev pub is_free : (SocketAddr → SocketAddr → Bool) → (IpAddr → IpAddr → Bool) → LearnedAddress → Kind
     → SocketAddr → Bool
 is_free same same_host seat Rtp from = may_take same same_host seat.rtp seat.rtcp from
 is_free same same_host seat Rtcp from = may_take same same_host seat.rtcp seat.rtp from
 
 -- the seat with this address of this kind
-abbrev pub taken : Seat → Kind → SocketAddr → ℕ → Seat
+abbrev pub taken : LearnedAddress → Kind → SocketAddr → ℕ → LearnedAddress
 taken seat Rtp from until_ms = record {
   rtp = Some from;
   rtcp = seat.rtcp;
@@ -54,8 +54,8 @@ taken seat Rtcp from until_ms = record {
 }
 
 -- The seat once a datagram of this kind with its source came from this address; none for a stranger, since somebody else has it.
-abbrev pub claimed : (SocketAddr → SocketAddr → Bool) → (IpAddr → IpAddr → Bool) → Seat → Kind
-    → SocketAddr → ℕ → ℕ → Option Seat
+abbrev pub claimed : (SocketAddr → SocketAddr → Bool) → (IpAddr → IpAddr → Bool) → LearnedAddress → Kind
+    → SocketAddr → ℕ → ℕ → Option LearnedAddress
 claimed same same_host seat kind from moment until_ms =
     if is_free same same_host (kept_at seat moment) kind from
     then Some (taken (kept_at seat moment) kind from until_ms) else None
