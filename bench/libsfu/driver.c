@@ -45,6 +45,7 @@ static void closed(sfu_conference *slot) {
     assert(sfu_announced(slot, 0, &request, 1).fault == SFU_IS_CLOSED && request.ssrc == 1);
     assert(sfu_certified(slot, 0, &request, 1, &kept, 1, &implied, 1).fault == SFU_IS_CLOSED && request.ssrc == 1);
     assert(kept.place == 7 && implied.place == 7);
+    assert(sfu_beyond(slot).fault == SFU_IS_CLOSED && sfu_beyond(slot).entries == 0);
     assert(sfu_waiting(slot).fault == SFU_IS_CLOSED && sfu_close(slot) == SFU_IS_CLOSED);
 }
 

@@ -17,6 +17,8 @@ enum { COMPOUND = 44 };
     "out_ssrc = " OUT "\nfirst_seq = 100\n"
 
 static const char THIS[] = ROOM("1", "ring = 8\n", "ssrc", "0", "257");
+/* The same, of which one entry of a datagram is heard. */
+static const char LIMITED[] = ROOM("1", "ring = 8\nentry_limit = 1\n", "ssrc", "0", "257");
 
 static const uint8_t PACKET[14] = {0x80, 0x60, 0, 7, 0, 0, 0x0b, 0xb8, 0, 0, 0, 16, 0xaa, 0xbb};
 /* The same under the leg's source and number. */
@@ -96,6 +98,31 @@ static void serves_a_conference(void) {
     assert(sfu_close(&slot) == SFU_DONE && sfu_close(&slot) == SFU_IS_CLOSED);
 }
 
+/* The next datagram is the packet under this number of the leg, and goes to 17; there may be none. */
+static int is_sent_on(sfu_conference *slot, uint8_t number) {
+    uint8_t room[sizeof SENT_ON];
+    sfu_next next = sfu_next_out(slot, room, sizeof room);
+    return next.fault == SFU_DONE && next.endpoint == 1 && next.size == sizeof room && room[1] == 0x60 && room[3] == number;
+}
+
+/* Two packets go on to 17, which asks for both again: how much of that is heard the settings say. */
+static void hears_so_many_entries(const char *text, int is_limited) {
+    static const uint8_t AGAIN[20] = {0x81, 0xcd, 0, 4, 0, 0, 0, 17, 0, 0, 1, 1, 0, 100, 0, 0, 0, 101, 0, 0};
+    sfu_conference slot = SFU_CLOSED;
+    uint8_t packet[sizeof PACKET];
+    sfu_entries beyond;
+    memcpy(packet, PACKET, sizeof packet);
+    assert(sfu_open(&slot, (const uint8_t *)text, strlen(text)).fault == SFU_DONE);
+    assert(sfu_hear(&slot, 0, 0, PACKET, sizeof PACKET) == SFU_DONE && sfu_hear(&slot, 0, 1, REPORT, sizeof REPORT) == SFU_DONE);
+    assert(sfu_hear(&slot, 10, 0, packet, sizeof packet) == SFU_DONE && is_sent_on(&slot, 100));
+    packet[3] = 8;
+    assert(sfu_hear(&slot, 10, 0, packet, sizeof packet) == SFU_DONE && is_sent_on(&slot, 101));
+    assert(sfu_hear(&slot, 20, 1, AGAIN, sizeof AGAIN) == SFU_DONE && is_sent_on(&slot, 100));
+    assert(is_sent_on(&slot, 101) == !is_limited);
+    beyond = sfu_beyond(&slot);
+    assert(beyond.fault == SFU_DONE && beyond.entries == (uint64_t)is_limited && sfu_close(&slot) == SFU_DONE);
+}
+
 static void refuses_where_none_is_open(void) {
     sfu_conference slot = SFU_CLOSED;
     sfu_request request;
@@ -106,7 +133,7 @@ static void refuses_where_none_is_open(void) {
     assert(sfu_tick(&slot, 0) == SFU_IS_CLOSED && sfu_select(&slot, 0, 0, true) == SFU_IS_CLOSED && sfu_settle(&slot) == SFU_IS_CLOSED);
     assert(sfu_next_out(&slot, room, 1).fault == SFU_IS_CLOSED && sfu_announced(&slot, 0, &request, 1).fault == SFU_IS_CLOSED);
     assert(sfu_certified(&slot, 0, &request, 1, &kept, 1, &implied, 1).fault == SFU_IS_CLOSED);
-    assert(sfu_waiting(&slot).fault == SFU_IS_CLOSED);
+    assert(sfu_waiting(&slot).fault == SFU_IS_CLOSED && sfu_beyond(&slot).fault == SFU_IS_CLOSED);
 }
 
 /* The text opens none, for this reason. */
@@ -127,6 +154,8 @@ static void opens_no_conference(void) {
 
 int main(void) {
     serves_a_conference();
+    hears_so_many_entries(LIMITED, 1);
+    hears_so_many_entries(THIS, 0);
     refuses_where_none_is_open();
     opens_no_conference();
     printf("as the examples say\n");

@@ -4,7 +4,7 @@
  *     cc -O2 forwarder.c $(pkg-config --cflags --libs sfu) -o forwarder
  *     ./forwarder SETTINGS IP:PORT IP:PORT..
  *
- * SETTINGS are a room's, with one worker, as `sfu replay` reads them. The first address is where it listens, the others are those of
+ * SETTINGS are a room's, with one worker, as `sfu replay` reads them; `entry_limit` bounds what one datagram may ask for. The first address is where it listens, the others are those of
  * the endpoints, by their numbers (IPv4). It says `serving` once it listens. An empty datagram from endpoint 0 ends it: then it prints
  * what is announced for each endpoint and what it did. A server has ICE, DTLS and SRTP where this has recvfrom and sendto; the calls of the library are the same.
  */

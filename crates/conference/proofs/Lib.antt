@@ -1,3 +1,4 @@
 pub mod DeliveryLemmas
 pub mod ServedLemmas
+pub mod LimitedLemmas
 pub mod OpeningLemmas

@@ -17,6 +17,7 @@ use Rattle.one_thread.proofs.DrivingLemmas.{drives_after, drives_nothing, drives
 use Rattle.one_thread.proofs.DriverLemmas.{last_heard}
 use Rattle.conference.specs.declared.fault.EventFault.{EventFault}
 use Rattle.conference.specs.declared.fault.EventFault.TheVariants.{Busy, NoMemory, Unsettled}
+use Rattle.conference.specs.Limited.{EntryLimit}
 use Rattle.conference.specs.Conference.{ConferenceState, HandsNext, HasServed, IsNewConference, LeavesEvents, Serves, ServesOn, StopsAfter, conference_state}
 
 -- ---- one call
@@ -32,9 +33,9 @@ by_itself xs w next outs all d = record {
   kept = d.kept;
 }
 
-pub serves_of : (xs : List Event) (w next : WorldState) (outs all : List Out) (taken : ℕ) → taken ≤ length outs → Drives xs w outs next all
-    → Serves xs (conference_state w outs taken) (conference_state next all taken)
-serves_of xs w next outs all taken within d = record {
+pub serves_of : (xs : List Event) (w next : WorldState) (outs all : List Out) (taken : ℕ) (limit later : EntryLimit) → taken ≤ length outs
+    → Drives xs w outs next all → Serves xs (conference_state w outs taken limit) (conference_state next all taken later)
+serves_of xs w next outs all taken limit later within d = record {
   outs = outs_of d.run.history;
   drives = by_itself xs w next outs all d;
   waiting = ap (λ (l : List Out). datagrams_of (drop taken l)) d.run.given
@@ -48,11 +49,12 @@ still_within xs w next outs all taken within d =
     let size = ap length d.run.given ∙ length-append outs (outs_of d.run.history) in
     omega (arith, within, size)
 
-pub leaves_of : (xs : List Event) (w next : WorldState) (outs all : List Out) (taken : ℕ) (fault : EventFault) → taken ≤ length outs
-    → StopsAfter xs w outs next all fault → LeavesEvents xs (conference_state w outs taken) (conference_state next all taken) fault
-leaves_of xs w next outs all taken Busy within stops = absurd stops
-leaves_of xs w next outs all taken NoMemory within stops = λ i. conference_state (stops.0 i) (stops.1 i) taken
-leaves_of xs w next outs all taken Unsettled within stops = serves_of xs w next outs all taken within stops
+pub leaves_of : (xs : List Event) (w next : WorldState) (outs all : List Out) (taken : ℕ) (limit : EntryLimit) (fault : EventFault)
+    → taken ≤ length outs → StopsAfter xs w outs next all fault
+    → LeavesEvents xs (conference_state w outs taken limit) (conference_state next all taken limit) fault
+leaves_of xs w next outs all taken limit Busy within stops = absurd stops
+leaves_of xs w next outs all taken limit NoMemory within stops = λ i. conference_state (stops.0 i) (stops.1 i) taken limit
+leaves_of xs w next outs all taken limit Unsettled within stops = serves_of xs w next outs all taken limit limit within stops
 
 -- ---- since it was opened
 
@@ -77,13 +79,13 @@ served c outside taken start s outs range new d datagrams =
       quiet = λ idle. last_heard c start s.world d.events d.run.history range new d.run.runs d.run.leads idle lost;
     }
 
-pub new_conference : (c : Configuration) (w : WorldState) → IsInRange c → IsNewWorld c w → c.workers ≡ 1
-    → IsNewConference c (conference_state w [] 0)
-new_conference c w range new one = record {
+pub new_conference : (c : Configuration) (w : WorldState) (limit : EntryLimit) → IsInRange c → IsNewWorld c w → c.workers ≡ 1
+    → IsNewConference c (conference_state w [] 0 limit)
+new_conference c w limit range new one = record {
   world = new;
   idle = new_idle c w new (new.worker_count ∙ one);
   waiting = refl;
-  served = served c [] [] w (conference_state w [] 0) [] range new (drives_nothing w []) refl;
+  served = served c [] [] w (conference_state w [] 0 limit) [] range new (drives_nothing w []) refl;
 }
 
 pub serves_on : (xs : List Event) (old new : ConferenceState) → Serves xs old new → ServesOn xs old new

@@ -4,9 +4,11 @@ use Rattle.settings.specs.Settings.{Configuration, IsInRange}
 use Rattle.settings_toml.specs.declared.settings_file.FileSettings.{FileSettings}
 use Rattle.settings_toml.specs.SettingsFaults.{TextGives}
 use Rattle.events.specs.declared.event.Event.{Event}
+use Rattle.events.specs.declared.event.Event.TheVariants.{Hear}
 use Rattle.events.specs.declared.output.Out.{Out}
 use Rattle.events.specs.declared.output.Out.TheVariants.{Send, Refused, Lost, Skip, Miss, Idle}
 use Rattle.events.specs.declared.output.Out.TheVariants as out
+use Rattle.desk_calls.specs.DeskCalls.{source_of}
 use Rattle.ports.specs.declared.datagram.Datagram.{Datagram}
 use Rattle.ports.specs.Outside.{datagrams_of}
 use Rattle.core_steps.specs.Opening.{IsNewWorld}
@@ -20,15 +22,18 @@ use Rattle.conference.specs.declared.fault.OpenFault.{OpenFault}
 use Rattle.conference.specs.declared.fault.OpenFault.TheVariants as open_fault
 use Rattle.conference.specs.declared.fault.EventFault.{EventFault}
 use Rattle.conference.specs.declared.fault.EventFault.TheVariants.{Busy, NoMemory, Unsettled}
+use Rattle.conference.specs.Limited.{EntryLimit, IsHeardFor, limit_by, passing}
 
--- the machine's world, and the datagrams that weren't taken yet, oldest first
+-- the machine's world, the datagrams that weren't taken yet, oldest first, and how many entries of a datagram `hear_limited` hears
 pub record ConferenceState : Type 0 where
   pub world : WorldState
   pub waiting : List Datagram
+  pub limit : EntryLimit
 
 -- of this world, which gave this out, of which the first so many are done with
-abbrev pub conference_state : WorldState → List Out → ℕ → ConferenceState
-conference_state w outs done = record { world = w; waiting = datagrams_of (drop done outs) }
+abbrev pub conference_state : WorldState → List Out → ℕ → EntryLimit → ConferenceState
+conference_state w outs done limit =
+    record { world = w; waiting = datagrams_of (drop done outs); limit = limit }
 
 abbrev pub datagram_of : Delivery → Datagram
 datagram_of d = record { endpoint = d.endpoint; bytes = d.bytes.now }
@@ -58,12 +63,42 @@ LeavesEvents outside old new Busy = (¬ IsIdle old.world) × (new ≡ old)
 LeavesEvents outside old new NoMemory = new ≡ old
 LeavesEvents outside old new Unsettled = Serves outside old new
 
+-- A datagram was heard up to the limit, as an event from outside, and the entries beyond are counted. With no limit it is the datagram itself.
+pub record HearsLimited (moment endpoint : ℕ) (bytes : List ℕ) (old new : ConferenceState)
+    : Type 0 where
+  pub heard : List ℕ
+  pub beyond : ℕ
+  pub is_heard : IsHeardFor old.limit.most (source_of old.world.setup.table endpoint).0 bytes heard beyond
+  pub serves : Serves (Hear moment endpoint heard ∷ []) old new
+  pub limit : new.limit ≡ passing old.limit beyond
+
+abbrev pub LeavesLimited : ℕ → ℕ → List ℕ → ConferenceState → ConferenceState → EventFault → Type 0
+LeavesLimited moment endpoint bytes old new Busy = (¬ IsIdle old.world) × (new ≡ old)
+LeavesLimited moment endpoint bytes old new NoMemory = new ≡ old
+LeavesLimited moment endpoint bytes old new Unsettled = HearsLimited moment endpoint bytes old new
+
 -- the same of the machine and what it gave out, if nothing waited
 abbrev pub StopsAfter : List Event → WorldState → List Out → WorldState → List Out → EventFault
     → Type 0
 StopsAfter outside old outs new all Busy = ⊥
 StopsAfter outside old outs new all NoMemory = Stays old outs new all
 StopsAfter outside old outs new all Unsettled = Drives outside old outs new all
+
+pub record DrivesLimited (moment endpoint : ℕ) (bytes : List ℕ) (limit next : EntryLimit)
+    (old : WorldState) (outs : List Out) (new : WorldState) (all : List Out) : Type 0 where
+  pub heard : List ℕ
+  pub beyond : ℕ
+  pub is_heard : IsHeardFor limit.most (source_of old.setup.table endpoint).0 bytes heard beyond
+  pub drives : Drives (Hear moment endpoint heard ∷ []) old outs new all
+  pub passes : next ≡ passing limit beyond
+
+abbrev pub StopsLimited : ℕ → ℕ → List ℕ → EntryLimit → EntryLimit → WorldState → List Out
+    → WorldState → List Out → EventFault → Type 0
+StopsLimited moment endpoint bytes limit next old outs new all Busy = ⊥
+StopsLimited moment endpoint bytes limit next old outs new all NoMemory =
+    Stays old outs new all × (next ≡ limit)
+StopsLimited moment endpoint bytes limit next old outs new all Unsettled =
+    DrivesLimited moment endpoint bytes limit next old outs new all
 
 -- ---- what was served since it was opened
 
@@ -105,12 +140,13 @@ pub record IsNewConference (c : Configuration) (s : ConferenceState) : Type 0 wh
   pub waiting : s.waiting ≡ []
   pub served : HasServed c [] [] s
 
--- the text gives these settings, and they have one worker
+-- the text gives these settings, and they have one worker; its key says how many entries of a datagram `hear_limited` hears
 pub record OpensBy (text : List ℕ) (s : ConferenceState) : Type 0 where
   pub file : FileSettings
   pub gives : TextGives text (Ok file)
   pub one : file.settings.workers ≡ 1
   pub is_new : IsNewConference file.settings s
+  pub limit : s.limit ≡ limit_by file.bounds.entry_limit
 
 -- the settings that the text gives have so many workers, and not one
 pub record HasWorkers (text : List ℕ) (count : ℕ) : Type 0 where

@@ -1,2 +1,3 @@
+pub mod Limited
 pub mod Conference
 pub mod Certified

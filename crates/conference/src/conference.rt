@@ -8,11 +8,13 @@ ghost use Rattle.core_steps.specs.Waits.{waiting_in};
 ghost use Rattle.one_thread.specs.Driving.{Drives, IsIdle, is_from_outside};
 ghost use Rattle.conference.specs.declared.fault.EventFault.TheVariants.{Busy, Unsettled};
 ghost use Rattle.conference.specs.Certified.{Shows};
-ghost use Rattle.conference.specs.Conference.{IsNewConference, LeavesEvents, Serves, StopsAfter, datagram_of, conference_state};
+ghost use Rattle.conference.specs.Conference.{HearsLimited, IsNewConference, LeavesEvents, LeavesLimited, Serves, StopsAfter, datagram_of, conference_state};
+ghost use Rattle.conference.specs.Limited.{EntryLimit, limit_by};
 
 use crate::certified::{Certified, certified_by};
 use crate::delivery::{Delivery, let_go, next_delivery, place_after};
 use crate::fault::EventFault;
+use crate::limited::{Limit, do_limited};
 use arrayvec::ArrayVec;
 use core_steps::{Waiting, World, hear};
 use events::{Event, Out};
@@ -31,17 +33,23 @@ pub struct Conference {
     outs: Vec<Out>,
     /// How many of these are done with.
     taken: usize,
+    /// How much of a datagram is heard, if that is bounded.
+    limit: Limit,
 }
 
 impl Model for Conference {
     ghost use Rattle.std.specs.Prelude.{◌≡◌, ◌≤◌, drop, length};
     ghost use Rattle.ports.specs.Outside.{datagrams_of};
     ghost use Rattle.conference.specs.Conference.{ConferenceState};
+    ghost use Rattle.conference.specs.Limited.{limit_of};
 
     ghost Value = { ConferenceState };
 
-    ghost view = { λ c.
-        record { world = c.world; waiting = datagrams_of (drop c.taken c.outs.items) } };
+    ghost view = { λ c. record {
+      world = c.world;
+      waiting = datagrams_of (drop c.taken c.outs.items);
+      limit = limit_of c.limit;
+    } };
 
     ghost invariant = { λ c. (c.taken ≤ length c.outs.items) × (length c.world.workers ≡ 1) };
 }
@@ -57,7 +65,8 @@ fn is_idle(world: &World) -> bool
 /// The world of these settings, in which nothing waits if they have one worker.
 fn new_world(alloc: Global, settings: &Settings) -> Result<World, AllocError>
     requires one { settings.now.workers ≡ 1 }
-    ensures is_new { IfOk result (λ w. IsNewConference settings.now (conference_state w [] 0)) }
+    ensures is_new { IfOk result (λ w. (limit : EntryLimit)
+        → IsNewConference settings.now (conference_state w [] 0 limit)) }
     ensures one { IfOk result (λ w. length w.workers ≡ 1) }
 {
     let _workers = settings.workers();
@@ -65,20 +74,21 @@ fn new_world(alloc: Global, settings: &Settings) -> Result<World, AllocError>
     Ok(world)
 }
 
-/// A conference of a world that has given out nothing yet.
-fn conference_of(alloc: Global, world: World) -> Conference
+/// A conference of a world that has given out nothing yet, by this key of its settings.
+fn conference_of(alloc: Global, world: World, entry_limit: u32) -> Conference
     requires one { length world.workers ≡ 1 }
-    ensures { result ≡ conference_state world [] 0 }
+    ensures { result ≡ conference_state world [] 0 (limit_by entry_limit) }
 {
     Conference {
         world,
         outs: Vec::new(alloc),
         taken: 0,
+        limit: Limit::by(alloc, entry_limit),
     }
 }
 
 /// All that follows from what was done is done.
-fn finish(world: &mut World, outs: &mut Vec<Out>) -> Result<(), EventFault>
+pub(crate) fn finish(world: &mut World, outs: &mut Vec<Out>) -> Result<(), EventFault>
     requires one { length world.old.workers ≡ 1 }
     ensures drives { Drives [] world.old outs.old.items world.new outs.new.items }
     ensures idle { OnOk result (IsIdle world.new) }
@@ -138,10 +148,25 @@ impl Conference {
     /// The conference of these settings, which have one worker. Refused for want of memory alone.
     pub fn new(alloc: Global, settings: &Settings) -> Result<Conference, AllocError>
         requires one { settings.now.workers ≡ 1 }
-        ensures { IfOk result (IsNewConference settings.now) }
+        ensures is_new { IfOk result (IsNewConference settings.now) }
+        ensures unlimited { IfOk result (λ c. c.limit ≡ limit_by 0) }
+    {
+        let made = Conference::with_entry_limit(alloc, settings, 0)?;
+        Ok(made)
+    }
+
+    /// The same, of which `hear_limited` hears so many entries of one datagram's feedback, the first; 0 for all.
+    pub fn with_entry_limit(
+        alloc: Global,
+        settings: &Settings,
+        entry_limit: u32,
+    ) -> Result<Conference, AllocError>
+        requires one { settings.now.workers ≡ 1 }
+        ensures is_new { IfOk result (IsNewConference settings.now) }
+        ensures limit { IfOk result (λ c. c.limit ≡ limit_by entry_limit) }
     {
         let world = new_world(alloc, settings)?;
-        Ok(conference_of(alloc, world))
+        Ok(conference_of(alloc, world, entry_limit))
     }
 
     /// Lets go of what was given out, once none of it waits to be taken: what is no datagram doesn't pile up.
@@ -159,6 +184,7 @@ impl Conference {
         ensures ok { OnOk result (Serves (event ∷ []) self.old self.new) }
         ensures settled { OnOk result (IsIdle self.new.world) }
         ensures err { IfErr result (LeavesEvents (event ∷ []) self.old self.new) }
+        ensures limit { self.new.limit ≡ self.old.limit }
     {
         self.forget_taken();
         do_event(&mut self.world, event, &mut self.outs)
@@ -172,13 +198,14 @@ impl Conference {
         ensures settled { OnOk result (IsIdle self.new.world) }
         ensures err { IfErr result
             (LeavesEvents (Hear moment endpoint bytes.now ∷ []) self.old self.new) }
+        ensures limit { self.new.limit ≡ self.old.limit }
     {
         self.forget_taken();
         do_hear(&mut self.world, moment, endpoint, bytes, &mut self.outs)
     }
 
     /// A datagram came from this endpoint at this moment, in milliseconds: it is heard, with all that follows. What is to be sent
-    /// waits after what was to be sent before.
+    /// waits after what was to be sent before. All that its feedback asks for is done, whatever `hear_limited` would hear of it.
     ///
     /// Refused as `Busy`, exactly if something waits, and as `NoMemory`: then nothing was done. As `Unsettled` if there is no
     /// memory for all that follows: then it was heard, and the rest waits for `settle`.
@@ -188,11 +215,52 @@ impl Conference {
         ensures busy { ¬ IsIdle self.old.world → result ≡ Err Busy }
         ensures err { IfErr result
             (LeavesEvents (Hear moment endpoint bytes.now ∷ []) self.old self.new) }
+        ensures limit { self.new.limit ≡ self.old.limit }
     {
         if !is_idle(&self.world) {
             return Err(EventFault::Busy);
         }
         self.take_datagram(moment, endpoint, bytes)
+    }
+
+    /// A datagram is heard up to the limit, which finds nothing waiting.
+    #[tactic(auto, using(crate::proofs::LimitedLemmas::hears_of, crate::proofs::LimitedLemmas::limited_within, crate::proofs::LimitedLemmas::leaves_limited))]
+    fn take_limited(&mut self, moment: u64, endpoint: u16, bytes: &[u8]) -> Result<(), EventFault>
+        requires idle { IsIdle self.old.world }
+        ensures ok { OnOk result (HearsLimited moment endpoint bytes.now self.old self.new) }
+        ensures settled { OnOk result (IsIdle self.new.world) }
+        ensures err { IfErr result (LeavesLimited moment endpoint bytes.now self.old self.new) }
+    {
+        self.forget_taken();
+        do_limited(
+            &mut self.world,
+            moment,
+            endpoint,
+            bytes,
+            &mut self.limit,
+            &mut self.outs,
+        )
+    }
+
+    /// A datagram came, as `hear` has it. Of its feedback no more entries are heard than the conference was opened with, the first in the order of
+    /// packets and entries, a PLI as one; the others are passed over, and counted (`entries_beyond`). All of the datagram is read first, so that a
+    /// fault refuses it wherever that stands. What is done is what `hear` does of a datagram with the first entries alone (`HearsLimited`): with no
+    /// limit, and of one that has no more, of the datagram itself. Refused as `hear` is.
+    pub fn hear_limited(
+        &mut self,
+        moment: u64,
+        endpoint: u16,
+        bytes: &[u8],
+    ) -> Result<(), EventFault>
+        ensures ok { OnOk result (HearsLimited moment endpoint bytes.now self.old self.new) }
+        ensures settled { OnOk result (IsIdle self.new.world) }
+        ensures busy { ¬ IsIdle self.old.world → result ≡ Err Busy }
+        ensures err { IfErr result (LeavesLimited moment endpoint bytes.now self.old self.new) }
+    {
+        if !is_idle(&self.world) {
+            return Err(EventFault::Busy);
+        }
+        self.take_limited(moment, endpoint, bytes)
     }
 
     /// It is this moment, in milliseconds: what has come with time is done, with all that follows. Refused as `hear` is.
@@ -201,6 +269,7 @@ impl Conference {
         ensures settled { OnOk result (IsIdle self.new.world) }
         ensures busy { ¬ IsIdle self.old.world → result ≡ Err Busy }
         ensures err { IfErr result (LeavesEvents (Tick moment ∷ []) self.old self.new) }
+        ensures limit { self.new.limit ≡ self.old.limit }
     {
         if !is_idle(&self.world) {
             return Err(EventFault::Busy);
@@ -214,6 +283,7 @@ impl Conference {
         ensures settled { OnOk result (IsIdle self.new.world) }
         ensures busy { ¬ IsIdle self.old.world → result ≡ Err Busy }
         ensures err { IfErr result (LeavesEvents (Select moment leg on ∷ []) self.old self.new) }
+        ensures limit { self.new.limit ≡ self.old.limit }
     {
         if !is_idle(&self.world) {
             return Err(EventFault::Busy);
@@ -226,6 +296,7 @@ impl Conference {
     pub fn settle(&mut self) -> Result<(), AllocError>
         ensures serves { Serves [] self.old self.new }
         ensures settled { OnOk result (IsIdle self.new.world) }
+        ensures limit { self.new.limit ≡ self.old.limit }
     {
         self.forget_taken();
         settle(&mut self.world, &mut self.outs)
@@ -242,6 +313,7 @@ impl Conference {
     pub fn take_next(&mut self)
         ensures waiting { self.new.waiting ≡ drop 1 self.old.waiting }
         ensures world { self.new.world ≡ self.old.world }
+        ensures limit { self.new.limit ≡ self.old.limit }
     {
         self.taken = place_after(self.outs.as_slice(), self.taken);
     }
@@ -272,6 +344,13 @@ impl Conference {
         } else {
             None
         }
+    }
+
+    /// How many entries `hear_limited` passed over since the opening; it stays at `u64::MAX` once there.
+    pub fn entries_beyond(&self) -> u64
+        ensures { result ≡ self.now.limit.beyond }
+    {
+        self.limit.beyond
     }
 
     /// What waits: nothing, unless a call met no memory.

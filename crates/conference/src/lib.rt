@@ -2,7 +2,8 @@
 //! clock.
 //!
 //! Read `conference` first, then `specs/Conference.antt`, what a conference has served since it was opened. `opening` makes one
-//! of a settings text, `delivery` finds what is to be sent, `laws` says what holds over several calls.
+//! of a settings text, `limited` hears no more of a datagram than the settings say, `delivery` finds what is to be sent, `laws` says what
+//! holds over several calls.
 #![tactic(auto)]
 
 mod certified;
@@ -10,6 +11,7 @@ mod conference;
 mod delivery;
 mod fault;
 pub mod laws;
+mod limited;
 mod opening;
 
 pub use certified::Certified;

@@ -9,7 +9,8 @@ use settings_toml::{SettingsProblem, read_settings};
 use std::alloc::Global;
 
 impl Conference {
-    /// The conference of the settings that a text spells, as `sfu replay` reads them.
+    /// The conference of the settings that a text spells, as `sfu replay` reads them. By the key `entry_limit` `hear_limited` hears so many entries
+    /// of one datagram's feedback, as `sfu serve` does.
     ///
     /// Refused as `NoMemory`; as `Settings`, if the text isn't settings, with its first fault; as `Workers`, if they have more
     /// workers than one.
@@ -26,7 +27,7 @@ impl Conference {
         if workers != 1 {
             return Err(OpenFault::Workers(workers));
         }
-        match Conference::new(alloc, &file.settings) {
+        match Conference::with_entry_limit(alloc, &file.settings, file.bounds.entry_limit) {
             Ok(conference) => Ok(conference),
             Err(_) => Err(OpenFault::NoMemory),
         }

@@ -153,6 +153,12 @@ typedef struct sfu_certificate {
     size_t implied;
 } sfu_certificate;
 
+/* What sfu_beyond answers. */
+typedef struct sfu_entries {
+    uint32_t fault;   /* SFU_DONE or SFU_IS_CLOSED */
+    uint64_t entries; /* how many entries of feedback were passed over since the opening; it stays at UINT64_MAX once there */
+} sfu_entries;
+
 /* What sfu_waiting answers. */
 typedef struct sfu_wait {
     uint32_t fault; /* SFU_DONE or SFU_IS_CLOSED */
@@ -164,7 +170,9 @@ typedef struct sfu_wait {
 /*
  * Opens a conference in a slot that holds none.
  *
- *   text, text_size   its settings, as `sfu replay` reads them (docs/FORMATS.md, "Settings"), with one worker; text_size bytes
+ *   text, text_size   its settings, as `sfu replay` reads them (docs/FORMATS.md, "Settings"), with one worker; text_size bytes. Of the keys
+ *                     that bound what one client may cost the others `entry_limit` counts here (sfu_hear); 256 is more than an honest
+ *                     client sends
  *
  * Refused as SFU_OPEN; as SFU_NO_MEMORY; by the first fault of the text: SFU_NOT_TOML, SFU_BAD_KEY, SFU_BAD_ENDPOINT, SFU_BAD_LEG,
  * SFU_SAME_SSRC; as SFU_WORKERS. Then the slot is as it was.
@@ -181,8 +189,11 @@ sfu_opened sfu_open(sfu_conference *conference, const uint8_t *text, size_t text
  *
  * Refused as SFU_IS_CLOSED; as SFU_BUSY, exactly if something waits, and as SFU_NO_MEMORY: then nothing was done. SFU_UNSETTLED: it
  * was heard, and the rest of what follows waits for sfu_settle. A datagram that is no RTP or RTCP, or isn't the endpoint's to send, is
- * SFU_DONE, too: nothing follows from it. All that its feedback asks for is done, however much that is: a NACK of 64 KB has 16,000 entries, so
- * whoever doesn't trust its clients doesn't hand on what is longer than a path carries in one piece, which has some 370.
+ * SFU_DONE, too: nothing follows from it.
+ *
+ * Of its feedback the first `entry_limit` entries are heard, in the order of packets and entries, a PLI as one; those beyond are passed over,
+ * and counted (sfu_beyond). All of it is read first, so that a fault refuses it wherever that stands. Without that key, or with 0, all that is asked
+ * for is done, however much that is: a NACK of 64 KB has 16,000 entries, and each is a job; one that a path carries in one piece has some 370.
  */
 uint32_t sfu_hear(sfu_conference *conference, uint64_t moment, uint16_t endpoint, const uint8_t *bytes, size_t bytes_size);
 
@@ -241,6 +252,12 @@ sfu_set sfu_announced(sfu_conference *conference, uint16_t endpoint, sfu_request
  */
 sfu_certificate sfu_certified(sfu_conference *conference, uint16_t endpoint, sfu_request *live, size_t live_room, sfu_kept *kept,
                               size_t kept_room, sfu_implied *implied, size_t implied_room);
+
+/*
+ * Tells how many entries of feedback sfu_hear passed over since the opening, since their datagrams had more than `entry_limit`. Refused as
+ * SFU_IS_CLOSED.
+ */
+sfu_entries sfu_beyond(sfu_conference *conference);
 
 /* Tells what waits: nothing, unless a call met no memory. Refused as SFU_IS_CLOSED. */
 sfu_wait sfu_waiting(sfu_conference *conference);

@@ -86,6 +86,15 @@ pub struct SfuCertified {
     pub implied: usize,
 }
 
+/// What `sfu_beyond` answers.
+#[repr(C)]
+#[derive(Clone, Copy, PartialEq, Eq)]
+pub struct SfuBeyond {
+    pub fault: u32,
+    /// How many entries were passed over; 0 if the slot holds no conference.
+    pub entries: u64,
+}
+
 /// What `sfu_waiting` answers.
 #[repr(C)]
 #[derive(Clone, Copy, PartialEq, Eq)]

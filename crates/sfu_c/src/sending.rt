@@ -2,7 +2,7 @@
 
 ghost use Rattle.std.specs.Prelude.{◌≡◌, ◌≢◌, ◌↔◌, ◌≤◌, None, length};
 ghost use Rattle.conference.specs.Conference.{datagram_of};
-ghost use Rattle.sfu_c.specs.Serving.{OnHeld};
+ghost use Rattle.sfu_c.specs.Serving.{OnHeld, limit_in};
 ghost use Rattle.sfu_c.specs.Sending.{AnswersNext, HandsOut, PutsInFront, WritesDatagram};
 
 use crate::faults::{CLOSED, DONE, NO_ROOM, NOTHING};
@@ -52,7 +52,8 @@ fn write_next(conference: &Conference, room: &mut [u8]) -> SfuNext
 
 /// Writes the oldest datagram that waits, and takes it if it was written.
 fn hand_out(conference: &mut Conference, room: &mut [u8]) -> SfuNext
-    ensures { HandsOut room.old room.new result conference.old conference.new }
+    ensures answers { HandsOut room.old room.new result conference.old conference.new }
+    ensures limit { conference.new.limit ≡ conference.old.limit }
 {
     let answer = write_next(conference, room);
     if answer.fault == DONE {
@@ -77,6 +78,7 @@ pub extern "C" fn sfu_next_out(
     ensures unchanged { result.fault ≡ CLOSED
         → (conference.new.handle.held ≡ None) × (room.new ≡ room.old) }
     ensures none { result.fault ≡ CLOSED → (result.endpoint ≡ 0) × (result.size ≡ 0) }
+    ensures limit { limit_in conference.new.handle.held ≡ limit_in conference.old.handle.held }
 {
     let Some(mut held) = conference.take(alloc) else {
         return SfuNext {

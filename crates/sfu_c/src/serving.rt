@@ -1,8 +1,8 @@
 //! What comes from outside is given to a conference.
 
 ghost use Rattle.std.specs.Prelude.{◌≡◌, ◌≢◌, ◌↔◌, ◌∷◌, [], None};
-ghost use Rattle.events.specs.declared.event.Event.TheVariants.{Hear, Select, Tick};
-ghost use Rattle.sfu_c.specs.Serving.{AnswersEvents, AnswersSettle, OnHeld, event_answer};
+ghost use Rattle.events.specs.declared.event.Event.TheVariants.{Select, Tick};
+ghost use Rattle.sfu_c.specs.Serving.{AnswersEvents, AnswersHearing, AnswersSettle, OnHeld, event_answer, limit_in};
 
 use crate::faults::{BUSY, CLOSED, DONE, NO_MEMORY, UNSETTLED};
 use crate::slot::SfuConference;
@@ -21,31 +21,34 @@ fn event_answer(done: Result<(), EventFault>) -> u32
     }
 }
 
-#[tactic(auto, using(crate::proofs::ServingLemmas::answers_events))]
+#[tactic(auto, using(crate::proofs::ServingLemmas::answers_hearing))]
 fn hear(conference: &mut Conference, moment: u64, endpoint: u16, bytes: &[u8]) -> u32
-    ensures { AnswersEvents (Hear moment endpoint bytes.now ∷ []) result
-        conference.old conference.new }
+    ensures { AnswersHearing moment endpoint bytes.now result conference.old conference.new }
 {
-    event_answer(conference.hear(moment, endpoint, bytes))
+    event_answer(conference.hear_limited(moment, endpoint, bytes))
 }
 
 #[tactic(auto, using(crate::proofs::ServingLemmas::answers_events))]
 fn tick(conference: &mut Conference, moment: u64) -> u32
-    ensures { AnswersEvents (Tick moment ∷ []) result conference.old conference.new }
+    ensures answers { AnswersEvents (Tick moment ∷ []) result conference.old conference.new }
+    ensures limit { conference.new.limit ≡ conference.old.limit }
 {
     event_answer(conference.tick(moment))
 }
 
 #[tactic(auto, using(crate::proofs::ServingLemmas::answers_events))]
 fn select(conference: &mut Conference, moment: u64, leg: u16, on: bool) -> u32
-    ensures { AnswersEvents (Select moment leg on ∷ []) result conference.old conference.new }
+    ensures answers { AnswersEvents (Select moment leg on ∷ []) result
+        conference.old conference.new }
+    ensures limit { conference.new.limit ≡ conference.old.limit }
 {
     event_answer(conference.select(moment, leg, on))
 }
 
 #[tactic(auto, using(conference::proofs::ServedLemmas::serves_on))]
 fn settle(conference: &mut Conference) -> u32
-    ensures { AnswersSettle result conference.old conference.new }
+    ensures answers { AnswersSettle result conference.old conference.new }
+    ensures limit { conference.new.limit ≡ conference.old.limit }
 {
     match conference.settle() {
         Ok(()) => DONE,
@@ -54,7 +57,8 @@ fn settle(conference: &mut Conference) -> u32
 }
 
 /// A datagram came from this endpoint at this moment, in milliseconds: it is heard, with all that follows. What is to be sent waits
-/// after what was to be sent before.
+/// after what was to be sent before. Of its feedback no more entries are heard than the settings' `entry_limit` says, the first; the others
+/// are passed over, and counted (`sfu_beyond`).
 ///
 /// Refused as `CLOSED`; as `BUSY`, exactly if something waits, and as `NO_MEMORY`: then nothing was done. As `UNSETTLED` if there
 /// is no memory for all that follows: then it was heard, and the rest waits for `sfu_settle`.
@@ -67,7 +71,7 @@ pub extern "C" fn sfu_hear(
     bytes: &[u8],
 ) -> u32
     ensures answers { result ≢ CLOSED → OnHeld
-        (AnswersEvents (Hear moment endpoint bytes.now ∷ []) result)
+        (AnswersHearing moment endpoint bytes.now result)
         conference.old.handle.held conference.new.handle.held }
     ensures closed { (result ≡ CLOSED) ↔ (conference.old.handle.held ≡ None) }
     ensures unchanged { result ≡ CLOSED → conference.new.handle.held ≡ None }
@@ -87,6 +91,7 @@ pub extern "C" fn sfu_tick(alloc: Global, conference: &mut SfuConference, moment
         conference.old.handle.held conference.new.handle.held }
     ensures closed { (result ≡ CLOSED) ↔ (conference.old.handle.held ≡ None) }
     ensures unchanged { result ≡ CLOSED → conference.new.handle.held ≡ None }
+    ensures limit { limit_in conference.new.handle.held ≡ limit_in conference.old.handle.held }
 {
     let Some(mut held) = conference.take(alloc) else {
         return CLOSED;
@@ -109,6 +114,7 @@ pub extern "C" fn sfu_select(
         conference.old.handle.held conference.new.handle.held }
     ensures closed { (result ≡ CLOSED) ↔ (conference.old.handle.held ≡ None) }
     ensures unchanged { result ≡ CLOSED → conference.new.handle.held ≡ None }
+    ensures limit { limit_in conference.new.handle.held ≡ limit_in conference.old.handle.held }
 {
     let Some(mut held) = conference.take(alloc) else {
         return CLOSED;
@@ -125,6 +131,7 @@ pub extern "C" fn sfu_settle(alloc: Global, conference: &mut SfuConference) -> u
         conference.old.handle.held conference.new.handle.held }
     ensures closed { (result ≡ CLOSED) ↔ (conference.old.handle.held ≡ None) }
     ensures unchanged { result ≡ CLOSED → conference.new.handle.held ≡ None }
+    ensures limit { limit_in conference.new.handle.held ≡ limit_in conference.old.handle.held }
 {
     let Some(mut held) = conference.take(alloc) else {
         return CLOSED;

@@ -15,8 +15,14 @@ const HEAD: [u8; 24] = [
     0x80, 0xc9, 0, 1, 0, 0, 0, 9, 0x81, 0xca, 0, 3, 0, 0, 0, 9, 1, 3, 0x73, 0x66, 0x75, 0, 0, 0,
 ];
 
-fn open_room(alloc: Global) -> Result<Conference, Fail> {
-    match Conference::open(alloc, ROOM.as_bytes()) {
+/// The same, of which one entry of a datagram is heard.
+const LIMITED: &str =
+    "workers = 1\nring = 8\nhistory = 128\ntimeout_ms = 1000\nreport_ms = 60000\npli_gap_ms = 500\n\
+    unit_ssrc = 9\ncname = \"sfu\"\nentry_limit = 1\n[[endpoint]]\nssrc = 16\n[[endpoint]]\nssrc = 17\n\
+    [[leg]]\nsubscriber = 1\npublisher = 0\nout_ssrc = 257\nfirst_seq = 100\n";
+
+fn open_room(alloc: Global, text: &str) -> Result<Conference, Fail> {
+    match Conference::open(alloc, text.as_bytes()) {
         Ok(conference) => Ok(conference),
         Err(_) => Err("open".into()),
     }
@@ -26,6 +32,16 @@ const PACKET: [u8; 14] = [0x80, 0x60, 0, 7, 0, 0, 0x0b, 0xb8, 0, 0, 0, 16, 0xaa,
 
 /// The same under the leg's source and number.
 const SENT_ON: [u8; 14] = [0x80, 0x60, 0, 100, 0, 0, 0x0b, 0xb8, 0, 0, 1, 1, 0xaa, 0xbb];
+
+/// The packet after it, and that under the leg's source and number.
+const SECOND: [u8; 14] = [0x80, 0x60, 0, 8, 0, 0, 0x0b, 0xb8, 0, 0, 0, 16, 0xaa, 0xbb];
+
+const SECOND_SENT_ON: [u8; 14] = [0x80, 0x60, 0, 101, 0, 0, 0x0b, 0xb8, 0, 0, 1, 1, 0xaa, 0xbb];
+
+/// 17 asks for both again, in an entry each.
+const AGAIN: [u8; 20] = [
+    0x81, 0xcd, 0, 4, 0, 0, 0, 17, 0, 0, 1, 1, 0, 100, 0, 0, 0, 101, 0, 0,
+];
 
 const REPORT: [u8; 8] = [0x80, 0xc9, 0, 1, 0, 0, 0, 17];
 
@@ -111,8 +127,60 @@ fn sends_on(conference: &mut Conference) -> bool {
 
 #[test]
 fn serves_a_conference(rt: HostRuntime) -> Result<(), Fail> {
-    let mut conference = open_room(rt.alloc())?;
+    let mut conference = open_room(rt.alloc(), ROOM)?;
     let is_so = asks(&mut conference) && sends_on(&mut conference) && ends(&mut conference);
+    assert!(rt; is_so);
+    Ok(())
+}
+
+/// Whether the first packet is what goes to 17 next, and is taken.
+fn takes_first(conference: &mut Conference) -> bool {
+    takes(conference, 1, SENT_ON.as_slice(), SENT_ON.as_slice())
+}
+
+/// The same of the second.
+fn takes_second(conference: &mut Conference) -> bool {
+    takes(
+        conference,
+        1,
+        SECOND_SENT_ON.as_slice(),
+        SECOND_SENT_ON.as_slice(),
+    )
+}
+
+/// Both come, and two packets go on to 17.
+fn sends_two(conference: &mut Conference) -> bool {
+    hears(conference, 0, 0, PACKET.as_slice())
+        && hears(conference, 0, 1, REPORT.as_slice())
+        && hears(conference, 10, 0, PACKET.as_slice())
+        && takes_first(conference)
+        && hears(conference, 10, 0, SECOND.as_slice())
+        && takes_second(conference)
+}
+
+/// Of a datagram with two entries the first is heard, and the second counted.
+fn hears_one_entry(conference: &mut Conference) -> bool {
+    conference.hear_limited(20, 1, AGAIN.as_slice()).is_ok()
+        && takes_first(conference)
+        && conference.next().is_none()
+        && conference.entries_beyond() == 1
+}
+
+/// Both are heard.
+fn hears_both(conference: &mut Conference) -> bool {
+    takes_first(conference) && takes_second(conference) && conference.next().is_none()
+}
+
+#[test]
+fn hears_so_many_entries(rt: HostRuntime) -> Result<(), Fail> {
+    let mut limited = open_room(rt.alloc(), LIMITED)?;
+    let is_limited = sends_two(&mut limited) && hears_one_entry(&mut limited);
+    assert!(rt; is_limited);
+    let is_whole = hears(&mut limited, 30, 1, AGAIN.as_slice()) && hears_both(&mut limited);
+    assert!(rt; is_whole);
+    let mut room = open_room(rt.alloc(), ROOM)?;
+    let is_heard = sends_two(&mut room) && room.hear_limited(20, 1, AGAIN.as_slice()).is_ok();
+    let is_so = is_heard && hears_both(&mut room) && room.entries_beyond() == 0;
     assert!(rt; is_so);
     Ok(())
 }

@@ -111,6 +111,12 @@ pub struct Certificate {
 }
 
 #[repr(C)]
+pub struct Entries {
+    pub fault: u32,
+    pub entries: u64,
+}
+
+#[repr(C)]
 pub struct Wait {
     pub fault: u32,
     pub tasks: usize,
@@ -136,6 +142,7 @@ extern "C" {
         implied: *mut Implied,
         implied_room: usize,
     ) -> Certificate;
+    pub fn sfu_beyond(conference: *mut Slot) -> Entries;
     pub fn sfu_waiting(conference: *mut Slot) -> Wait;
     pub fn sfu_close(conference: *mut Slot) -> u32;
 }

@@ -203,6 +203,11 @@ impl Conference {
         Ok(Certified { live, kept, implied })
     }
 
+    /// How many entries of feedback were passed over, since their datagrams had more than the settings' `entry_limit`.
+    pub fn beyond(&mut self) -> u64 {
+        unsafe { ffi::sfu_beyond(&mut self.slot) }.entries
+    }
+
     /// What waits.
     pub fn waiting(&mut self) -> Waiting {
         let wait = unsafe { ffi::sfu_waiting(&mut self.slot) };
