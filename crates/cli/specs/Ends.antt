@@ -1,9 +1,10 @@
 -- How the commands end that need no machine: what each printed, and what it said on the error output, by the status that it ends with.
 -- `input` is what there was to read, `old` and `new` what was printed before the command and is after it, `errors_old` and `errors_new` what
 -- was said.
-use Rattle.std.specs.Prelude.{◌≡◌, ◌≢◌, ℕ, List, Option, IfSome, codes}
+use Rattle.std.specs.Prelude.{◌≡◌, ◌≢◌, ℕ, List, Option, Ok, IfSome, codes}
 use Rattle.std.specs.Io.KnownBytes.{Appends, Keeps}
-use Rattle.cli.specs.Sheet.{SaysNo}
+use Rattle.cli.specs.Endings.{SaysWhy}
+use Rattle.cli.specs.Sheet.{AnswersFile, RefusesFile, SaysNo}
 use Rattle.cli.specs.declared.words.Offline.{Offline}
 use Rattle.cli.specs.declared.words.Offline.TheVariants as offline
 use Rattle.cli.specs.declared.status.Status.{Status}
@@ -34,6 +35,20 @@ pub record EndsCheck (old new errors_old errors_new : Option (List ℕ)) (s : St
   pub done : s ≡ status.Done → Appends old new (codes "yes\n")
   -- if it is refused, a no is printed; or nothing is, and the line that can't be read is said
   pub refused : s ≡ status.Refused → SaysNo old new errors_old errors_new
+
+-- How the check of a certificate ends whose text is the input.
+pub record EndsCertificate (input old new errors_old errors_new : Option (List ℕ)) (s : Status)
+    : Type 0 where
+  -- whatever there was to read, it ends as `sfu check` does
+  pub ends : EndsCheck old new errors_old errors_new s
+  -- if it is done, the text's lines spell a certificate that holds
+  pub certified : s ≡ status.Done → IfSome input (λ text. AnswersFile text old new (Ok tt))
+  -- if it is refused, they spell one that doesn't, or a line can't be read
+  pub refused : s ≡ status.Refused → RefusesFile input old new errors_old errors_new
+  -- neither words nor settings are at fault
+  pub understood : (s ≢ status.CommandLine) × (s ≢ status.Settings)
+  -- what any command says of how it ends is said
+  pub said : SaysWhy errors_old errors_new s
 
 -- How `sfu --version` ends.
 pub record EndsVersion (old new : Option (List ℕ)) (s : Status) : Type 0 where

@@ -8,26 +8,25 @@ use Rattle.request_text.specs.Lines.{Asked, Refused, AreRowsOf, HoldsLastWords, 
 use Rattle.cli.specs.declared.status.Failure.{Failure}
 use Rattle.cli.specs.declared.status.Failure.TheVariants.{NoMemory, Refused as RefusedLine, Io}
 
--- What is printed is the text of the set, and of its certificate, that is announced for the requests which the input
--- leaves, the last word of each owner: the canonical choice of them, which is smallest.
-pub record PrintsBound (media : ℕ) (input : List ℕ) (old new : Option (List ℕ)) : Type 0 where
+-- The state holds the requests that the input leaves, the last word of each owner, and announces the canonical choice of them,
+-- which is smallest.
+pub record AnnouncesInput (media : ℕ) (input : List ℕ) (state : State) : Type 0 where
   pub live : List Asked
-  pub state : State
   pub left : TextLeaves media input (Ok live)
   pub rows : AreRowsOf live state.rows
   pub last : HoldsLastWords media input state.rows
   pub announced : AnnouncesSmallest state
+
+-- What is printed is the text of the set, and of its certificate, that is announced for the input.
+pub record PrintsBound (media : ℕ) (input : List ℕ) (old new : Option (List ℕ)) : Type 0 where
+  pub state : State
+  pub announces : AnnouncesInput media input state
   pub printed : Appends old new (bound_text media state)
 
--- What is printed is the picture of the requests that the input leaves, the last word of each owner, and of the set that is
--- announced for them.
+-- What is printed is the picture of what the input asks for, and of the set that is announced for it.
 pub record PrintsPicture (media : ℕ) (input : List ℕ) (old new : Option (List ℕ)) : Type 0 where
-  pub live : List Asked
   pub state : State
-  pub left : TextLeaves media input (Ok live)
-  pub rows : AreRowsOf live state.rows
-  pub last : HoldsLastWords media input state.rows
-  pub announced : AnnouncesSmallest state
+  pub announces : AnnouncesInput media input state
   pub printed : Appends old new (picture_text media state)
 
 -- What goes to the error output is the stated line for the first fault of the input.

@@ -1,12 +1,11 @@
 //! `sfu check`: whether the lines of a file certify that their kept requests are a smallest choice.
 
-ghost use Rattle.std.specs.Prelude.{◌≡◌, ◌≢◌, ◌≤◌, ◌<◌, ◌++◌, List, [], ◌∷◌, Ok, Err, IfErr, IfOk, OnOk, IfSome, MatchResult, codes, length, map, vec_len};
+ghost use Rattle.std.specs.Prelude.{◌≡◌, ◌≤◌, ◌<◌, ◌++◌, List, [], ◌∷◌, Ok, IfErr, IfOk, OnOk, IfSome, MatchResult, length, map, vec_len};
 ghost use Rattle.std.specs.Io.KnownBytes.{Appends};
 ghost use Rattle.request_text.specs.BoundText.{answer_text};
 ghost use Rattle.request_text.specs.CheckFile.{FileSpells, IsCheckAnswer, TextAnswers, implied_by, place_for, entries_after};
-ghost use Rattle.cli.specs.Sheet.{SaysNo};
-ghost use Rattle.cli.specs.Endings.{SaysWhy};
-ghost use Rattle.cli.specs.Sheet.{AnswersFile, FailsFile, IsSheetOf, RefusesFile, RefusesSheet, Takes, TakesLine};
+ghost use Rattle.cli.specs.Ends.{EndsCertificate};
+ghost use Rattle.cli.specs.Sheet.{AnswersFile, FailsFile, IsSheetOf, RefusesSheet, Takes, TakesLine};
 
 use crate::saying::report;
 use crate::status::{Failure, Status, unreadable};
@@ -41,19 +40,8 @@ pub fn check_lines<I: Read, O: Write, E: Write>(
     writer: &mut O,
     errors: &mut E,
 ) -> Status
-    ensures yes { result ≡ Status.Done
-        → Appends (O.contents writer.old) (O.contents writer.new) (codes "yes\n") }
-    ensures certified { result ≡ Status.Done
-        → IfSome (I.remaining file.old)
-        (λ text. AnswersFile text (O.contents writer.old) (O.contents writer.new) (Ok tt)) }
-    ensures no { result ≡ Status.Refused
-        → SaysNo (O.contents writer.old) (O.contents writer.new) (E.contents errors.old)
-        (E.contents errors.new) }
-    ensures refused { result ≡ Status.Refused
-        → RefusesFile (I.remaining file.old) (O.contents writer.old) (O.contents writer.new)
-        (E.contents errors.old) (E.contents errors.new) }
-    ensures understood { (result ≢ Status.CommandLine) × (result ≢ Status.Settings) }
-    ensures said { SaysWhy (E.contents errors.old) (E.contents errors.new) result }
+    ensures { EndsCertificate (I.remaining file.old) (O.contents writer.old) (O.contents writer.new)
+        (E.contents errors.old) (E.contents errors.new) result }
 {
     check_metered(alloc, &Meter::hidden(), file, writer, errors)
 }
@@ -66,19 +54,8 @@ pub(crate) fn check_metered<I: Read, O: Write, E: Write>(
     writer: &mut O,
     errors: &mut E,
 ) -> Status
-    ensures yes { result ≡ Status.Done
-        → Appends (O.contents writer.old) (O.contents writer.new) (codes "yes\n") }
-    ensures certified { result ≡ Status.Done
-        → IfSome (I.remaining file.old)
-        (λ text. AnswersFile text (O.contents writer.old) (O.contents writer.new) (Ok tt)) }
-    ensures no { result ≡ Status.Refused
-        → SaysNo (O.contents writer.old) (O.contents writer.new) (E.contents errors.old)
-        (E.contents errors.new) }
-    ensures refused { result ≡ Status.Refused
-        → RefusesFile (I.remaining file.old) (O.contents writer.old) (O.contents writer.new)
-        (E.contents errors.old) (E.contents errors.new) }
-    ensures understood { (result ≢ Status.CommandLine) × (result ≢ Status.Settings) }
-    ensures said { SaysWhy (E.contents errors.old) (E.contents errors.new) result }
+    ensures { EndsCertificate (I.remaining file.old) (O.contents writer.old) (O.contents writer.new)
+        (E.contents errors.old) (E.contents errors.new) result }
 {
     match answer_lines(alloc, meter, file, writer) {
         Ok(Ok(())) => Status::Done,

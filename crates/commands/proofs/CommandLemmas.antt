@@ -1,7 +1,7 @@
 -- How commands end.
 use Rattle.std.proofs.Common.{◌≡◌, ◌≢◌, ◌∙◌, ℕ, Bool, List, Option, Some, subst, sym, unwrap_or}
 use Rattle.std.proofs.KnownBytes.{Keeps-refl}
-use Rattle.cli.specs.CommandLine.{Request, ask, bound, check, draw, offline_request, page, replay, sdp, serve, version}
+use Rattle.cli.specs.CommandLine.{AsksOfUnit, Request, ask, bound, check, draw, offline_request, page, replay, sdp, serve, version}
 use Rattle.cli.specs.Ends.{EndsOffline}
 use Rattle.cli.specs.declared.words.Offline.{Offline}
 use Rattle.cli.specs.declared.words.Offline.TheVariants as offline
@@ -58,6 +58,11 @@ unread (ask path words) input printed errors_old errors_new s fails read set_up 
 unread (page path address anyone host) input printed errors_old errors_new s fails read set_up heard says = record { never = fails; read = read }
 unread (sdp file endpoints) input printed errors_old errors_new s fails read set_up heard says =
     record { refused = λ is. absurd (read is); settings = λ is. absurd (set_up is) }
+
+-- the words ask of a unit
+pub of_unit : (words : Option Request) (known : Request) (errors_old errors_new : Option (List ℕ)) (s : Status) → words ≡ Some known
+    → AsksOfUnit (Some known) → ¬ (AsksOfUnit words) → SaysWhy errors_old errors_new s
+of_unit words known errors_old errors_new s here asks rests = absurd (rests (subst (λ (w : Option Request). AsksOfUnit w) (sym here) asks))
 
 -- what needs no unit
 pub offline_ends : (what : Offline) (input old new errors_old errors_new : Option (List ℕ)) (s : Status)

@@ -1,15 +1,17 @@
 -- What a command comes to that the words ask for: `input` is what there was to read, `old` and `new` what was printed before the command and
 -- is after it, `errors_old` and `errors_new` what was said on the error output.
-use Rattle.std.specs.Prelude.{◌≡◌, ◌≢◌, ℕ, List, Option, codes}
+use Rattle.std.specs.Prelude.{◌≡◌, ◌≢◌, ℕ, List, Option, Some, codes}
 use Rattle.std.specs.Io.KnownBytes.{Appends, Keeps}
-use Rattle.cli.specs.CommandLine.{Request, ask, bound, check, draw, page, replay, sdp, serve, version}
+use Rattle.cli.specs.CommandLine.{AsksOfUnit, Request, Types, ask, asked_for, bound, check, draw, page, replay, sdp, serve, version}
 use Rattle.cli.specs.declared.status.Status.{Status}
 use Rattle.cli.specs.declared.status.Status.TheVariants as status
+use Rattle.cli.specs.Endings.{SaysWhy}
 use Rattle.cli.specs.Ends.{EndsBound, EndsCheck, EndsDraw, EndsVersion}
 use Rattle.replay.specs.ByFile.{EndsReplay, shown_by}
 use Rattle.serving.specs.ReportText.{PrintsReport}
 use Rattle.serving.specs.Serving.{SaysWhyServing, turns_by}
 use Rattle.settings.specs.Settings.{Configuration}
+use Rattle.settings_toml.specs.SettingsText.{SaysProblem}
 
 -- How `sfu serve` ends, with `--ticks N` or without.
 pub record EndsUnit (ticks : Option ℕ) (old new errors_old errors_new : Option (List ℕ)) (s : Status)
@@ -58,3 +60,17 @@ Ends version input old new errors_old errors_new s = EndsVersion old new s
 Ends (ask path words) input old new errors_old errors_new s = EndsAsk old new errors_old errors_new s
 Ends (page path address anyone host) input old new errors_old errors_new s = EndsPage s
 Ends (sdp file endpoints) input old new errors_old errors_new s = EndsSdp old new s
+
+-- How a command ends of which these are the words, the program's name first.
+pub record EndsCommand (words : List (List ℕ))
+    (input old new errors_old errors_new : Option (List ℕ)) (s : Status) : Type 0 where
+  -- what they ask for ends so
+  pub ends : (asked : Request) → asked_for words ≡ Some asked
+      → Ends asked input old new errors_old errors_new s
+  -- if settings are at fault, nothing is printed, and the line of a fault is said
+  pub settings : s ≡ status.Settings → Keeps old new × SaysProblem errors_old errors_new
+  -- the words of `bound --sender N` ask for that, and are never refused as words
+  pub asks : (media : ℕ) → Types words media → asked_for words ≡ Some (bound media)
+  pub understood : (media : ℕ) → Types words media → s ≢ status.CommandLine
+  -- what any command says of how it ends is said, unless a unit is asked for
+  pub said : ¬ (AsksOfUnit (asked_for words)) → SaysWhy errors_old errors_new s

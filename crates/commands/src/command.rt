@@ -1,9 +1,8 @@
 //! The commands of the program, over a reader and writers.
 
-ghost use Rattle.std.specs.Prelude.{◌≡◌, ◌≢◌, ℕ, map, Some, codes};
+ghost use Rattle.std.specs.Prelude.{◌≡◌, ◌≢◌, map, codes};
 ghost use Rattle.std.specs.Io.KnownBytes.{Appends, Keeps};
-ghost use Rattle.cli.specs.CommandLine.{AsksOfUnit, Request, Types, asked_for, bound};
-ghost use Rattle.commands.specs.Commands.{Ends, EndsUnit};
+ghost use Rattle.commands.specs.Commands.{EndsCommand, EndsUnit};
 ghost use Rattle.cli.specs.Endings.{SaysWhy};
 ghost use Rattle.settings_toml.specs.SettingsText.{SaysProblem};
 
@@ -58,18 +57,8 @@ pub fn run_command<
     O: Write,
     E: Write,
 >(rt: &R, words: &[S], reader: &mut I, writer: &mut O, errors: &mut E) -> Status
-    ensures ends { (asked : Request) → asked_for (map S.text words.now) ≡ Some asked
-        → Ends asked (I.remaining reader.old) (O.contents writer.old) (O.contents writer.new)
-        (E.contents errors.old) (E.contents errors.new) result }
-    ensures settings { result ≡ Status.Settings
-        → Keeps (O.contents writer.old) (O.contents writer.new)
-        × SaysProblem (E.contents errors.old) (E.contents errors.new) }
-    ensures asks { (media : ℕ) → Types (map S.text words.now) media
-        → asked_for (map S.text words.now) ≡ Some (bound media) }
-    ensures understood { (media : ℕ) → Types (map S.text words.now) media
-        → result ≢ Status.CommandLine }
-    ensures said { ¬ (AsksOfUnit (asked_for (map S.text words.now)))
-        → SaysWhy (E.contents errors.old) (E.contents errors.new) result }
+    ensures { EndsCommand (map S.text words.now) (I.remaining reader.old) (O.contents writer.old)
+        (O.contents writer.new) (E.contents errors.old) (E.contents errors.new) result }
 {
     run_metered(rt, words, &Meter::hidden(), reader, writer, errors)
 }
@@ -90,18 +79,8 @@ pub fn run_metered<
     O: Write,
     E: Write,
 >(rt: &R, words: &[S], meter: &Meter, reader: &mut I, writer: &mut O, errors: &mut E) -> Status
-    ensures ends { (asked : Request) → asked_for (map S.text words.now) ≡ Some asked
-        → Ends asked (I.remaining reader.old) (O.contents writer.old) (O.contents writer.new)
-        (E.contents errors.old) (E.contents errors.new) result }
-    ensures settings { result ≡ Status.Settings
-        → Keeps (O.contents writer.old) (O.contents writer.new)
-        × SaysProblem (E.contents errors.old) (E.contents errors.new) }
-    ensures asks { (media : ℕ) → Types (map S.text words.now) media
-        → asked_for (map S.text words.now) ≡ Some (bound media) }
-    ensures understood { (media : ℕ) → Types (map S.text words.now) media
-        → result ≢ Status.CommandLine }
-    ensures said { ¬ (AsksOfUnit (asked_for (map S.text words.now)))
-        → SaysWhy (E.contents errors.old) (E.contents errors.new) result }
+    ensures { EndsCommand (map S.text words.now) (I.remaining reader.old) (O.contents writer.old)
+        (O.contents writer.new) (E.contents errors.old) (E.contents errors.new) result }
 {
     match read_words(rt.alloc(), words) {
         Ok(Action::Offline(what)) => run_offline(rt, what, meter, reader, writer, errors),

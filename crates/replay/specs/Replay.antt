@@ -1,5 +1,5 @@
 -- What a script of `sfu replay` prints: its lines are played from a new world, one after the other.
-use Rattle.std.specs.Prelude.{◌≡◌, ◌⊎◌, ℕ, ◌+◌, zero, suc, Bool, true, false, List, [], ◌∷◌, ◌++◌, length, map, slice_get, Option, None, Some, IfSome, string_bytes}
+use Rattle.std.specs.Prelude.{◌≡◌, ◌≢◌, ◌⊎◌, ℕ, ◌+◌, zero, suc, Bool, true, false, List, [], ◌∷◌, ◌++◌, length, map, slice_get, Option, None, Some, IfSome, string_bytes}
 use Rattle.std.specs.Io.KnownBytes.{Appends, Keeps}
 use Rattle.tmmbr_tuple.specs.declared.ssrc.Ssrc.{Ssrc}
 use Rattle.settings.specs.Settings.{Configuration}
@@ -13,6 +13,9 @@ use Rattle.core_steps.specs.Opening.{IsNewWorld}
 use Rattle.core_steps.specs.Rule.{is_busy}
 use Rattle.core_steps.specs.Run.{HasRun}
 use Rattle.core_steps.specs.Waits.{has_work}
+use Rattle.cli.specs.Endings.{SaysWhy}
+use Rattle.cli.specs.declared.status.Status.{Status}
+use Rattle.cli.specs.declared.status.Status.TheVariants as status
 use Rattle.cli.specs.declared.status.Failure.{Failure}
 use Rattle.cli.specs.declared.status.Failure.TheVariants.{NoMemory, Refused as RefusedLine, Io}
 use Rattle.request_text.specs.declared.fault.LineFault.TheVariants.{Text}
@@ -204,3 +207,17 @@ pub record RefusesReplay (c : Configuration) (s : Shown) (script : List ℕ)
   pub line : ℕ
   pub stops : StopsReplay c s script line old new
   pub shown : Appends errors_old errors_new (refused_text (record { line = line; fault = Text }))
+
+-- How a script is replayed by settings: `input` is what there was to read of it, `old` and `new` what was printed before and is after it,
+-- `errors_old` and `errors_new` what was said on the error output.
+pub record EndsScript (c : Configuration) (shown : Shown)
+    (input old new errors_old errors_new : Option (List ℕ)) (s : Status) : Type 0 where
+  -- if it is done, what is to be shown of what the script gives is printed
+  pub done : s ≡ status.Done → IfSome input (λ script. PrintsReplay c shown script old new)
+  -- if it is refused, so is what comes before the first line that can't be read, and that line's number is said
+  pub refused : s ≡ status.Refused
+      → IfSome input (λ script. RefusesReplay c shown script old new errors_old errors_new)
+  -- neither words nor settings are at fault
+  pub understood : (s ≢ status.CommandLine) × (s ≢ status.Settings)
+  -- what any command says of how it ends is said
+  pub said : SaysWhy errors_old errors_new s

@@ -1,13 +1,12 @@
 //! `sfu replay`: plays a script through the machine.
 
-ghost use Rattle.std.specs.Prelude.{◌≡◌, ◌≢◌, ◌∷◌, ◌<◌, [], Some, length, string_bytes, IfErr, IfOk, IfSome, OnOk};
+ghost use Rattle.std.specs.Prelude.{◌≡◌, ◌∷◌, ◌<◌, [], Some, length, string_bytes, IfErr, IfOk, IfSome, OnOk};
 ghost use Rattle.core_steps.specs.Run.{HasRun};
 ghost use Rattle.core_steps.specs.Settling.{ingress_left};
-ghost use Rattle.cli.specs.Endings.{SaysWhy};
 ghost use Rattle.replay.specs.Printing.{PrintsGiven};
 ghost use Rattle.replay.specs.Script.{IsAmong};
 ghost use Rattle.replay.specs.Shown.{all_shown, cause_of, given_at};
-ghost use Rattle.replay.specs.Replay.{CommandPlays, FailsLine, FailsReplay, Follows, GivesOut, IngressDrains, IsOutside, IsShown, PrintsLine, PrintsReplay, RefusesReplay, Rounds, Settles, WorkerDrains, WorkersDrain, numbers_of, told_in};
+ghost use Rattle.replay.specs.Replay.{CommandPlays, EndsScript, FailsLine, FailsReplay, Follows, GivesOut, IngressDrains, IsOutside, IsShown, PrintsLine, PrintsReplay, Rounds, Settles, WorkerDrains, WorkersDrain, numbers_of, told_in};
 
 use crate::latest::Latest;
 use crate::printing::{Choice, print_outs, print_set};
@@ -46,14 +45,8 @@ pub fn replay_lines<I: Read, O: Write, E: Write>(
     writer: &mut O,
     errors: &mut E,
 ) -> Status
-    ensures done { result ≡ Status.Done → IfSome (I.remaining script.old)
-        (λ text. PrintsReplay settings.now all_shown text (O.contents writer.old)
-        (O.contents writer.new)) }
-    ensures refused { result ≡ Status.Refused → IfSome (I.remaining script.old)
-        (λ text. RefusesReplay settings.now all_shown text (O.contents writer.old)
-        (O.contents writer.new) (E.contents errors.old) (E.contents errors.new)) }
-    ensures understood { (result ≢ Status.CommandLine) × (result ≢ Status.Settings) }
-    ensures said { SaysWhy (E.contents errors.old) (E.contents errors.new) result }
+    ensures { EndsScript settings.now all_shown (I.remaining script.old) (O.contents writer.old)
+        (O.contents writer.new) (E.contents errors.old) (E.contents errors.new) result }
 {
     replay_metered(
         alloc,
@@ -76,14 +69,8 @@ pub(crate) fn replay_metered<I: Read, O: Write, E: Write>(
     writer: &mut O,
     errors: &mut E,
 ) -> Status
-    ensures done { result ≡ Status.Done → IfSome (I.remaining script.old)
-        (λ text. PrintsReplay settings.now shown text (O.contents writer.old)
-        (O.contents writer.new)) }
-    ensures refused { result ≡ Status.Refused → IfSome (I.remaining script.old)
-        (λ text. RefusesReplay settings.now shown text (O.contents writer.old)
-        (O.contents writer.new) (E.contents errors.old) (E.contents errors.new)) }
-    ensures understood { (result ≢ Status.CommandLine) × (result ≢ Status.Settings) }
-    ensures said { SaysWhy (E.contents errors.old) (E.contents errors.new) result }
+    ensures { EndsScript settings.now shown (I.remaining script.old) (O.contents writer.old)
+        (O.contents writer.new) (E.contents errors.old) (E.contents errors.new) result }
 {
     match play(alloc, Choice { settings, shown }, meter, script, writer) {
         Ok(()) => Status::Done,
