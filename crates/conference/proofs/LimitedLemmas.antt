@@ -20,7 +20,7 @@ use Rattle.one_thread.proofs.DrivingLemmas.{same_count, taken_in}
 use Rattle.conference.specs.declared.fault.EventFault.{EventFault}
 use Rattle.conference.specs.declared.fault.EventFault.TheVariants.{Busy, NoMemory, Unsettled}
 use Rattle.conference.specs.Conference.{ConferenceState, DrivesLimited, HearsLimited, LeavesLimited, StopsLimited, conference_state}
-use Rattle.conference.specs.Limited.{EntryLimit, IsTakenFor, RunsLimited, admitted, passing}
+use Rattle.conference.specs.Limited.{EntryLimit, IsTakenFor, RunsLimited, TakesLimited, admitted, passing}
 use Rattle.conference.proofs.ServedLemmas.{serves_of, still_within}
 
 -- ---- what is heard
@@ -93,22 +93,29 @@ runs_limited moment bytes most beyond w new outs all (Ok x) t u taken is runs = 
 }
 runs_limited moment bytes most beyond w new outs all (Err e) t u taken is runs = tt
 
+pub takes_limited : (moment endpoint : ℕ) (bytes : List ℕ) (limit same next : EntryLimit) (w new : WorldState) (outs all : List Out)
+    (beyond : ℕ) → same ≡ limit → RunsLimited moment endpoint bytes same.most beyond w outs new all → next ≡ passing same beyond
+    → TakesLimited moment endpoint bytes limit next w outs new all
+takes_limited moment endpoint bytes limit same next w new outs all beyond is runs passes =
+    subst (λ (l : EntryLimit). TakesLimited moment endpoint bytes l next w outs new all) is
+    (record { beyond = beyond; runs = runs; passes = passes })
+
 pub drives_limited : (moment endpoint : ℕ) (bytes : List ℕ) (limit next : EntryLimit) (w mid new : WorldState) (outs some all : List Out)
-    (beyond : ℕ) → length w.workers ≡ 1 → IsIdle w → RunsLimited moment endpoint bytes limit.most beyond w outs mid some
-    → Drives [] mid some new all → next ≡ passing limit beyond → DrivesLimited moment endpoint bytes limit next w outs new all
-drives_limited moment endpoint bytes limit next w mid new outs some all beyond one idle taken last passes = record {
-  heard = taken.heard;
-  beyond = beyond;
-  is_heard = taken.is_heard;
-  drives = taken_in (Hear moment endpoint taken.heard) w mid new outs some all refl one idle taken.run last;
-  passes = passes;
+    → length w.workers ≡ 1 → IsIdle w → TakesLimited moment endpoint bytes limit next w outs mid some
+    → Drives [] mid some new all → DrivesLimited moment endpoint bytes limit next w outs new all
+drives_limited moment endpoint bytes limit next w mid new outs some all one idle taken last = record {
+  heard = taken.runs.heard;
+  beyond = taken.beyond;
+  is_heard = taken.runs.is_heard;
+  drives = taken_in (Hear moment endpoint taken.runs.heard) w mid new outs some all refl one idle taken.runs.run last;
+  passes = taken.passes;
 }
 
 -- as many workers as before
-pub limited_count : (moment endpoint : ℕ) (bytes : List ℕ) (most : Option ℕ) (beyond : ℕ) (w mid : WorldState) (outs some : List Out)
-    → RunsLimited moment endpoint bytes most beyond w outs mid some → length mid.workers ≡ length w.workers
-limited_count moment endpoint bytes most beyond w mid outs some taken =
-    same_count w (Hear moment endpoint taken.heard) mid outs some taken.run
+pub limited_count : (moment endpoint : ℕ) (bytes : List ℕ) (limit next : EntryLimit) (w mid : WorldState) (outs some : List Out)
+    → TakesLimited moment endpoint bytes limit next w outs mid some → length mid.workers ≡ length w.workers
+limited_count moment endpoint bytes limit next w mid outs some taken =
+    same_count w (Hear moment endpoint taken.runs.heard) mid outs some taken.runs.run
 
 pub hears_of : (moment endpoint : ℕ) (bytes : List ℕ) (limit later : EntryLimit) (w next : WorldState) (outs all : List Out) (taken : ℕ)
     → taken ≤ length outs → DrivesLimited moment endpoint bytes limit later w outs next all

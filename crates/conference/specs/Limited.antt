@@ -65,3 +65,10 @@ pub record RunsLimited (moment endpoint : ℕ) (bytes : List ℕ) (most : Option
   pub heard : List ℕ
   pub is_heard : IsHeardFor most (source_of old.setup.table endpoint).0 bytes heard beyond
   pub run : HasRun (Hear moment endpoint heard ∷ []) old outs new all
+
+-- and what was passed over is counted
+pub record TakesLimited (moment endpoint : ℕ) (bytes : List ℕ) (limit next : EntryLimit)
+    (old : WorldState) (outs : List Out) (new : WorldState) (all : List Out) : Type 0 where
+  pub beyond : ℕ
+  pub runs : RunsLimited moment endpoint bytes limit.most beyond old outs new all
+  pub passes : next ≡ passing limit beyond

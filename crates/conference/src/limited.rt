@@ -6,7 +6,7 @@ ghost use Rattle.datagram.specs.Reads.{IsPacketRead};
 ghost use Rattle.core_steps.specs.Run.{Stays};
 ghost use Rattle.one_thread.specs.Driving.{IsIdle};
 ghost use Rattle.conference.specs.Conference.{DrivesLimited, StopsLimited};
-ghost use Rattle.conference.specs.Limited.{IsTakenFor, RunsLimited, admitted, limit_of, most_by};
+ghost use Rattle.conference.specs.Limited.{IsTakenFor, RunsLimited, TakesLimited, admitted, limit_of, most_by};
 
 use crate::conference::finish;
 use crate::fault::EventFault;
@@ -101,6 +101,29 @@ fn take_read(
     take(world, moment, limit.reading.taking(endpoint, bytes), outs)
 }
 
+/// A datagram is read up to the limit and taken in, and the entries that are passed over are counted.
+#[tactic(auto, using(crate::proofs::LimitedLemmas::takes_limited))]
+fn take_counted(
+    world: &mut World,
+    moment: u64,
+    endpoint: u16,
+    bytes: &[u8],
+    limit: &mut Limit,
+    outs: &mut Vec<Out>,
+) -> Result<(), AllocError>
+    ensures ok { OnOk result (TakesLimited moment endpoint bytes.now (limit_of limit.old)
+        (limit_of limit.new) world.old outs.old.items world.new outs.new.items) }
+    ensures err { OnErr result (Stays world.old outs.old.items world.new outs.new.items
+        × (limit_of limit.new ≡ limit_of limit.old)) }
+{
+    let own = own_source(world.view().links, endpoint);
+    limit.read(own, bytes)?;
+    limit.is_said(own, endpoint, bytes);
+    take_read(world, moment, endpoint, bytes, limit, outs)?;
+    limit.count();
+    Ok(())
+}
+
 /// A datagram of this endpoint is heard up to the limit, which finds nothing waiting, and all that follows from it is done.
 #[tactic(auto, using(crate::proofs::LimitedLemmas::drives_limited, crate::proofs::LimitedLemmas::limited_count))]
 pub(crate) fn do_limited(
@@ -120,14 +143,8 @@ pub(crate) fn do_limited(
     ensures err { IfErr result (StopsLimited moment endpoint bytes.now (limit_of limit.old)
         (limit_of limit.new) world.old outs.old.items world.new outs.new.items) }
 {
-    let own = own_source(world.view().links, endpoint);
-    if limit.read(own, bytes).is_err() {
+    if take_counted(world, moment, endpoint, bytes, limit, outs).is_err() {
         return Err(EventFault::NoMemory);
     }
-    limit.is_said(own, endpoint, bytes);
-    if take_read(world, moment, endpoint, bytes, limit, outs).is_err() {
-        return Err(EventFault::NoMemory);
-    }
-    limit.count();
     finish(world, outs)
 }

@@ -14,7 +14,7 @@ use crate::steps::{
     Hear, PACKET, REPORT, bytes_of, do_events, do_step, refusal_parts, settings, settle,
 };
 use core_steps::*;
-use datagram::spell;
+use datagram::{Kinds, Notes, read_noting, spell};
 use std::alloc::{AllocError, Global};
 use std::fmt::{self, Write};
 use std::process::Abort;
@@ -41,6 +41,15 @@ fn packet(word: &str) -> &str {
         "NACK" => "81cd0003000000110000010100640001",
         // A PLI of 17 about source 257.
         "PLI" => "81ce00020000001100000101",
+        // Receiver reports of 17 with a block about 257, and with two about 257 and 258.
+        "BLOCK" => "81c9000700000011000001010000000000000000000000000000000000000000",
+        "BLOCKS" => {
+            "82c9000d0000001100000101000000000000000000000000000000000000000000000102\
+0000000000000000000000000000000000000000"
+        }
+        // TMMBNs of 17 with an entry of 17, and with two of 17 and 18.
+        "TOLD" => "84cd00040000001100000000000000110007d028",
+        "TOLDS" => "84cd00060000001100000000000000110007d028000000120007d00a",
         // A TMMBN of 17 without entries.
         "TMMBN" => "84cd00020000001100000000",
         // A goodbye of 17.
@@ -219,6 +228,56 @@ const ASKED: [Case; 11] = [
 #[test]
 fn what_is_asked_for(rt: HostRuntime) -> Result<(), Fail> {
     all_say(&rt, &ASKED)
+}
+
+/// Packets, and what is noted of them where there is room for two blocks and one entry: how many NACKs, PLIs, TMMBRs and TMMBNs there are, the
+/// sources of blocks, and the owners of entries. At the end a faulty packet among them, no RTCP, and no compound.
+const NOTED: [(&str, &str); 7] = [
+    ("RR NACK PLI NACK TWO", "2 1 1 0"),
+    ("BLOCK RR BLOCKS", "0 0 0 0\nblock 257\nblock 257"),
+    ("TOLD TMMBN", "0 0 0 2"),
+    ("TMMBN TOLDS", "0 0 0 2\nentry 17"),
+    ("BLOCKS ODD TOLD", "0 0 1 1\nblock 257\nblock 258\nentry 17"),
+    ("RTP", "0 0 0 0"),
+    ("BLOCK 80c9", "0 0 0 0"),
+];
+
+/// Writes what is noted.
+fn write_notes(text: &mut String, notes: &Notes) -> Result<(), fmt::Error> {
+    let Kinds {
+        nacks,
+        plis,
+        tmmbrs,
+        tmmbns,
+    } = notes.kinds;
+    write!(text, "{nacks} {plis} {tmmbrs} {tmmbns}")?;
+    for block in notes.blocks.as_slice() {
+        write!(text, "\nblock {}", block.source.0)?;
+    }
+    for entry in notes.notice.as_slice() {
+        write!(text, "\nentry {}", entry.ssrc.0)?;
+    }
+    Ok(())
+}
+
+/// Reads a datagram of 17 and notes it, and promises nothing.
+fn note_one(datagram: &[u8], reading: &mut Reading, notes: &mut Notes) -> Result<(), AllocError> {
+    read_noting(datagram, Ssrc(17), None, reading, notes)
+}
+
+#[test]
+fn what_is_noted(rt: HostRuntime) -> Result<(), Fail> {
+    let alloc = rt.alloc();
+    let mut reading = Reading::new(alloc);
+    let mut notes = Notes::with_room(alloc, 2, 1)?;
+    for (packets, wanted) in &NOTED {
+        let mut text = String::new(alloc);
+        let datagram = joined(alloc, packets)?;
+        note_one(datagram.as_slice(), &mut reading, &mut notes)?;
+        write_notes(&mut text, &notes)?;
+        assert_eq!(rt; text.as_str(), *wanted);
+    }
+    Ok(())
 }
 
 /// A NACK of 17 about source 257 that has so many entries, from packet 0 on.

@@ -4,3 +4,4 @@ pub mod PacketLemmas
 pub mod SpellingLemmas
 pub mod SpelledLengthLemmas
 pub mod ReadAgainLemmas
+pub mod NoteLemmas

@@ -1,5 +1,5 @@
 -- What packets say one after the other, and what is kept of it.
-use Rattle.std.proofs.Common.{◌≡◌, ◌∙◌, ℕ, ◌+◌, ◌-◌, ◌^◌, ◌<◌, ◌≤◌, inr, Bool, true, false, List, [], ◌∷◌, ◌++◌, length, map, take, min, Option, None, Some, Result, Ok, Err, refl, sym, ap, ap₂, subst, arith, append_assoc, add_assoc, add-zero, eqb}
+use Rattle.std.proofs.Common.{◌≡◌, ◌∙◌, ℕ, ◌+◌, ◌-◌, ◌^◌, ◌<◌, ◌≤◌, inl, inr, Bool, true, false, List, [], ◌∷◌, ◌++◌, length, map, take, min, Option, None, Some, Result, Ok, Err, refl, sym, ap, ap₂, subst, arith, append_assoc, add_assoc, add-zero, eqb}
 use Rattle.std.specs.Prelude.{◌==◌, ◌||◌, not, cond}
 use Rattle.std.specs.List.{flat_map, last_or}
 use Rattle.std.specs.Option.{option_or}
@@ -20,6 +20,9 @@ use Rattle.datagram.specs.Saying.{Gist, PacketSays, PacketsSay, control, joint_g
 
 -- ---- gists
 
+ok_same : (a b : Gist) → ◌≡◌ {A = Result Gist FbFault} (Ok a) (Ok b) → a ≡ b
+ok_same a b e = cc
+
 pub joined_nothing : (a : Gist) → joint_gist a empty_gist ≡ a
 joined_nothing a = λ i. record {
   senders = append-nil a.senders i;
@@ -28,6 +31,19 @@ joined_nothing a = λ i. record {
   reports = append-nil a.reports i;
   tmmbns = add-zero a.tmmbns i;
   asks = append-nil a.asks i;
+}
+
+zero_and : (n : ℕ) → 0 + n ≡ n
+zero_and n = omega arith
+
+nothing_joined : (a : Gist) → joint_gist empty_gist a ≡ a
+nothing_joined a = λ i. record {
+  senders = a.senders;
+  clocks = a.clocks;
+  goodbyes = a.goodbyes;
+  reports = a.reports;
+  tmmbns = zero_and a.tmmbns i;
+  asks = a.asks;
 }
 
 pub joined_assoc : (a b c : Gist) → joint_gist a (joint_gist b c) ≡ joint_gist (joint_gist a b) c
@@ -53,6 +69,25 @@ pub say_more : (c : Content) (cs : List Content) (first : Gist) (said : Result G
     → PacketSays c (Ok first) → PacketsSay cs said → PacketsSay (c ∷ cs) (behind first said)
 say_more c cs first (Ok others) one rest = (first, others, one, rest, refl)
 say_more c cs first (Err fault) one rest = inr (first, one, rest)
+
+-- what is said of one packet more
+pub said_behind : (cs : List Content) (c : Content) (g : Gist) (said : Result Gist FbFault)
+    → PacketsSay cs (Ok g) → PacketSays c said → PacketsSay (cs ++ c ∷ []) (behind g said)
+said_behind [] c g (Ok s) none one =
+    (s, empty_gist, one, refl, ap (λ (a : Gist). joint_gist a s) (ok_same g empty_gist none) ∙ nothing_joined s ∙ sym (joined_nothing s))
+said_behind [] c g (Err fault) none one = inl one
+said_behind (d ∷ cs) c g said (first, others, here, rest, both) one =
+    let say : Gist → Type 0 = λ a. PacketsSay (d ∷ (cs ++ c ∷ [])) (behind a said) in
+    let all : Result Gist FbFault → Type 0 = λ r. PacketsSay (d ∷ (cs ++ c ∷ [])) r in
+    subst say (sym both)
+    (subst all (behind_both first others said)
+    (say_more d (cs ++ c ∷ []) first (behind others said) here (said_behind cs c others said rest one)))
+
+-- the first fault stays the first
+pub fault_stays : (cs ds : List Content) (fault : FbFault) → PacketsSay cs (Err fault) → PacketsSay (cs ++ ds) (Err fault)
+fault_stays [] ds fault say = cc
+fault_stays (c ∷ cs) ds fault (inl here) = inl here
+fault_stays (c ∷ cs) ds fault (inr (first, here, rest)) = inr (first, here, fault_stays cs ds fault rest)
 
 -- ---- what is kept of both
 

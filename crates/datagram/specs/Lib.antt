@@ -2,3 +2,8 @@ pub mod Saying
 pub mod Reads
 pub mod Spelling
 pub mod Naming
+pub mod Counts
+pub mod Kinds
+pub mod Blocks
+pub mod Notice
+pub mod Notes

@@ -2,15 +2,22 @@
 //! section 6; RFC 4585, section 6; RFC 5104, section 4.2); or the first fault in it.
 //!
 //! Read `reading` first, the value, then `read`. All of a datagram is read before anything that it asks for is listed. Which source a
-//! datagram names, `naming` says before it is read.
+//! datagram names, `naming` says before it is read; what is noted of it with reading it, `notes`: `kinds`, `blocks` and `notice` are the parts.
 #![tactic(auto)]
 
+mod blocks;
+mod kinds;
 mod naming;
+mod notes;
+mod notice;
 mod reader;
 mod reading;
 mod spelling;
 
+pub use blocks::blocks_of;
+pub use kinds::{Kinds, kinds_of};
 pub use naming::{first_size, source_named};
-pub use reader::{read, says_one_thing};
+pub use notes::Notes;
+pub use reader::{read, read_noting, says_one_thing};
 pub use reading::{Ask, Control, Media, Reading, Sent, Taking, What};
 pub use spelling::{is_sayable, read_one_way, sayable, spell, spelled_in_so_much, stays_as_heard};

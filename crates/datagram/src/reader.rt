@@ -1,15 +1,17 @@
 //! Reads a datagram of an endpoint.
 
-ghost use Rattle.std.specs.Prelude.{◌≡◌, ◌==◌, ℕ, ◌+◌, ◌^◌, ◌<◌, ◌≤◌, List, [], ◌∷◌, length, map, OnErr, OnOk, IfOk, Result, Ok, if◌then◌else◌};
+ghost use Rattle.std.specs.Prelude.{◌≡◌, ◌==◌, ℕ, ◌+◌, ◌^◌, ◌<◌, ◌≤◌, List, [], ◌∷◌, ◌++◌, length, map, OnErr, OnOk, IfOk, Result, Ok, if◌then◌else◌};
 ghost use Rattle.std.specs.List.{list_any};
-ghost use Rattle.rtcp_compound.specs.Content.{content_of, sources_left};
+ghost use Rattle.rtcp_compound.specs.Content.{Content, content_of, sources_left};
 ghost use Rattle.rtcp_compound.specs.Left.{contents_left};
 ghost use Rattle.rtcp_feedback.specs.Reading.{entries_left, message_of, nacks_left};
+ghost use Rattle.datagram.specs.Notes.{AreNoted, HasSameRoom, IsNoted, IsRtcpNoted};
 ghost use Rattle.datagram.specs.Reads.{AsksFor, IsClocked, IsListed, IsPacketRead, IsReadUpTo, IsSurveyOf, Lists, PacketsMean, ReadsBy, ReadsOr, Surveys, is_full};
 ghost use Rattle.datagram.specs.Saying.{Gist, JoinsPackets, PacketSays, PacketsSay, Said, Says, SaysRtcp, SaysRtp, gist_of, joint_gist, empty_gist, sent_by};
 ghost use Rattle.datagram.specs.declared.reading.Ask.{Ask as Asked};
 ghost use Rattle.events.specs.declared.output.Refusal.{Refusal as RefusedBy};
 
+use crate::notes::Notes;
 use crate::reading::{Ask, Control, Media, Reading, What};
 use events::Refusal;
 use rtcp_compound::{Packets, RtcpView, Sources, is_rtcp, split};
@@ -43,6 +45,30 @@ pub fn read(
     Ok(())
 }
 
+/// Reads a datagram as `read` does, and notes it, be its feedback faulty or not.
+pub fn read_noting(
+    datagram: &[u8],
+    own: Ssrc,
+    most: Option<usize>,
+    reading: &mut Reading,
+    notes: &mut Notes,
+) -> Result<(), AllocError>
+    ensures ok { OnOk result (IsReadUpTo own.0 datagram.now most reading.new) }
+    ensures clocked { OnOk result (IsClocked own.0 (λ gist. JoinsPackets datagram.now (Ok gist))
+        reading.new.what reading.new.clocked.0) }
+    ensures packet { OnOk result (IsPacketRead datagram.now reading.new.what) }
+    ensures err { OnErr result (AsksFor own.0 datagram.now most) }
+    ensures noted { IsNoted datagram.now notes.new }
+    ensures room { HasSameRoom notes.old notes.new }
+{
+    reading.asks.clear();
+    reading.beyond = 0;
+    let heard = note_into(datagram, own, most, reading, notes)?;
+    reading.what = heard.what;
+    reading.clocked = heard.clocked;
+    Ok(())
+}
+
 /// What a datagram says, but for what it asks for.
 #[derive(Clone, Copy)]
 struct Heard {
@@ -66,6 +92,30 @@ fn read_into(
     if is_rtcp(datagram) {
         read_rtcp(datagram, own, most, reading)
     } else {
+        let what = read_rtp(datagram);
+        Ok(Heard { what, clocked: own })
+    }
+}
+
+/// Reads a datagram, lists what it asks for, and notes it.
+fn note_into(
+    datagram: &[u8],
+    own: Ssrc,
+    most: Option<usize>,
+    reading: &mut Reading,
+    notes: &mut Notes,
+) -> Result<Heard, AllocError>
+    requires { IsListed most [] reading.old }
+    ensures heard { ReadsOr (Says own.0 datagram.now) most reading.new result }
+    ensures clocked { IfOk result (λ h. IsClocked own.0
+        (λ gist. JoinsPackets datagram.now (Ok gist)) h.what h.clocked.0) }
+    ensures noted { IsNoted datagram.now notes.new }
+    ensures room { HasSameRoom notes.old notes.new }
+{
+    if is_rtcp(datagram) {
+        note_rtcp(datagram, own, most, reading, notes)
+    } else {
+        notes.clear();
         let what = read_rtp(datagram);
         Ok(Heard { what, clocked: own })
     }
@@ -110,7 +160,7 @@ fn read_rtcp(
         (λ gist. JoinsPackets datagram.now (Ok gist)) h.what h.clocked.0) }
 {
     match split(datagram) {
-        Ok(packets) => read_packets(packets, own, most, reading),
+        Ok(packets) => read_packets(packets, survey_packets(packets, own), own, most, reading),
         Err(fault) => Ok(Heard {
             what: What::Refused(Refusal::Rtcp(fault)),
             clocked: own,
@@ -118,21 +168,52 @@ fn read_rtcp(
     }
 }
 
-/// Reads the packets of a datagram: all of them first, and those that ask for something once more.
+/// Reads RTCP packets, and notes them.
+fn note_rtcp(
+    datagram: &[u8],
+    own: Ssrc,
+    most: Option<usize>,
+    reading: &mut Reading,
+    notes: &mut Notes,
+) -> Result<Heard, AllocError>
+    requires { IsListed most [] reading.old }
+    ensures heard { ReadsOr (SaysRtcp own.0 datagram.now) most reading.new result }
+    ensures clocked { IfOk result (λ h. IsClocked own.0
+        (λ gist. JoinsPackets datagram.now (Ok gist)) h.what h.clocked.0) }
+    ensures noted { IsRtcpNoted datagram.now notes.new }
+    ensures room { HasSameRoom notes.old notes.new }
+{
+    match split(datagram) {
+        Ok(packets) => {
+            let surveyed = note_packets(packets, own, notes);
+            read_packets(packets, surveyed, own, most, reading)
+        }
+        Err(fault) => {
+            notes.clear();
+            Ok(Heard {
+                what: What::Refused(Refusal::Rtcp(fault)),
+                clocked: own,
+            })
+        }
+    }
+}
+
+/// Reads the packets of a datagram, of which this was read first: those that ask for something are read once more.
 fn read_packets(
     packets: Packets<'_>,
+    surveyed: Result<Survey, FbFault>,
     own: Ssrc,
     most: Option<usize>,
     reading: &mut Reading,
 ) -> Result<Heard, AllocError>
-    requires count { length (contents_left packets) < 2 ^ 64 }
+    requires surveyed { Surveys own.0 (PacketsSay (contents_left packets)) surveyed }
     requires listed { IsListed most [] reading.old }
     ensures heard { ReadsOr (PacketsMean own.0 (contents_left packets.entry)) most reading.new
         result }
     ensures clocked { IfOk result (λ h. IsClocked own.0
         (λ gist. PacketsSay (contents_left packets.entry) (Ok gist)) h.what h.clocked.0) }
 {
-    match survey_packets(packets, own) {
+    match surveyed {
         Ok(survey) => {
             if survey.goodbye {
                 return Ok(Heard {
@@ -210,8 +291,9 @@ impl Survey {
     /// Of the packets before, then of these.
     fn then(self, next: Survey, own: Ssrc) -> Survey
         requires { self.control.tmmbns + next.control.tmmbns < 2 ^ 64 }
-        ensures { (a b : Gist) → IsSurveyOf own.0 self a → IsSurveyOf own.0 next b
+        ensures joined { (a b : Gist) → IsSurveyOf own.0 self a → IsSurveyOf own.0 next b
             → IsSurveyOf own.0 result (joint_gist a b) }
+        ensures counted { result.control.tmmbns ≡ self.control.tmmbns + next.control.tmmbns }
     {
         Survey {
             goodbye: self.goodbye || next.goodbye,
@@ -243,6 +325,54 @@ fn survey_packets(packets: Packets<'_>, own: Ssrc) -> Result<Survey, FbFault>
         all = all.then(survey_packet(packet, own)?, own);
     }
     Ok(all)
+}
+
+/// Reads packets, up to the first fault, and notes all of them.
+fn note_packets(packets: Packets<'_>, own: Ssrc, notes: &mut Notes) -> Result<Survey, FbFault>
+    requires { length (contents_left packets) < 2 ^ 64 }
+    ensures surveyed { Surveys own.0 (PacketsSay (contents_left packets.entry)) result }
+    ensures noted { AreNoted notes.new (contents_left packets.entry) }
+    ensures room { HasSameRoom notes.old notes.new }
+{
+    notes.clear();
+    let mut all = Ok(Survey::silent(own));
+    for packet in packets {
+        notes.note(packet);
+        all = survey_further(all, packet, own);
+    }
+    all
+}
+
+/// What packets say, of which this was read, with one packet more.
+fn survey_further(
+    before: Result<Survey, FbFault>,
+    packet: RtcpView<'_>,
+    own: Ssrc,
+) -> Result<Survey, FbFault>
+    requires { IfOk before (λ s. s.control.tmmbns + 1 < 2 ^ 64) }
+    ensures said { (done : List Content) → Surveys own.0 (PacketsSay done) before
+        → Surveys own.0 (PacketsSay (done ++ content_of packet.entry ∷ [])) result }
+    ensures counted { (most : ℕ) → IfOk before (λ s. s.control.tmmbns ≤ most)
+        → IfOk result (λ s. s.control.tmmbns ≤ most + 1) }
+{
+    match before {
+        Ok(survey) => survey_next(survey, packet, own),
+        Err(fault) => Err(fault),
+    }
+}
+
+/// What packets say that have no fault, with one packet more.
+fn survey_next(before: Survey, packet: RtcpView<'_>, own: Ssrc) -> Result<Survey, FbFault>
+    requires { before.control.tmmbns + 1 < 2 ^ 64 }
+    ensures said { (done : List Content) (g : Gist) → PacketsSay done (Ok g)
+        → IsSurveyOf own.0 before g
+        → Surveys own.0 (PacketsSay (done ++ content_of packet.entry ∷ [])) result }
+    ensures counted { IfOk result (λ s. s.control.tmmbns ≤ before.control.tmmbns + 1) }
+{
+    match survey_packet(packet, own) {
+        Ok(next) => Ok(before.then(next, own)),
+        Err(fault) => Err(fault),
+    }
 }
 
 /// Reads a packet.

@@ -12,5 +12,4 @@ pub mod Holding
 pub mod Presence
 pub mod Requests
 pub mod AnnouncedSets
-pub mod Told
 pub mod Word

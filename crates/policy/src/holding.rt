@@ -17,11 +17,10 @@ use crate::comings::{Coming, JoinedPublishers, first_coming};
 use crate::presence::is_there;
 use crate::requests::Requests;
 use crate::sets::AnnouncedSets;
-use crate::told::last_notice;
 use crate::word::{Word, word_in};
 use datagram::{Ask, Reading, Sent, What};
 use members::RoomView;
-use rtcp_compound::split;
+use rtcp_feedback::TmmbrEntry;
 use settings::Settings;
 use std::alloc::{AllocError, Global};
 use std::cell::RefCell;
@@ -56,9 +55,15 @@ impl<'a> Holding<'a> {
         })
     }
 
-    /// Notes what was read of a datagram that was sent into a room that is so, and leaves out of it each request for a rate whose publisher isn't there, since
-    /// the unit would refuse it.
-    pub fn hear(&mut self, sent: Sent, view: RoomView<'_>, reading: &mut Reading, datagram: &[u8])
+    /// Notes what was read of a datagram that was sent into a room that is so, with the entries of its last TMMBN, and leaves out of it each request for a
+    /// rate whose publisher isn't there, since the unit would refuse it.
+    pub fn hear(
+        &mut self,
+        sent: Sent,
+        view: RoomView<'_>,
+        reading: &mut Reading,
+        notice: &[TmmbrEntry],
+    )
         ensures hears { HearsWord (word_in sent.own.0 reading.old.what) self.old self.new
             (asking_of view.entry sent) reading.old.asks.items }
         ensures asks { reading.new.asks.items ≡ asks_left (word_in sent.own.0 reading.old.what)
@@ -80,12 +85,12 @@ impl<'a> Holding<'a> {
             word_in(reading.what, sent.own),
             asker,
             &mut reading.asks,
-            datagram,
+            notice,
         );
     }
 
     /// Notes what is said of who sent a datagram, and leaves out of what it asks for what can't be asked for.
-    fn note(&mut self, word: Word, asker: Asker<'_>, asks: &mut Vec<Ask>, datagram: &[u8])
+    fn note(&mut self, word: Word, asker: Asker<'_>, asks: &mut Vec<Ask>, notice: &[TmmbrEntry])
         ensures hears { HearsWord word self.old self.new (asking asker.entry) asks.old.items }
         ensures asks { asks.new.items ≡ asks_left word (asking asker.entry) asks.old.items }
         ensures stays { Stays self.old self.new }
@@ -96,7 +101,7 @@ impl<'a> Holding<'a> {
             Word::Speaks { notifies } => {
                 self.come(asker);
                 if notifies {
-                    self.note_notice(asker.endpoint, datagram);
+                    self.note_notice(asker.endpoint, notice);
                 }
                 self.hold(asker, asks.as_slice());
                 leave_out(asks, asker);
@@ -137,14 +142,8 @@ impl<'a> Holding<'a> {
         }
     }
 
-    /// The endpoint notifies of requests.
-    fn note_notice(&self, endpoint: u16, datagram: &[u8]) {
-        let Ok(packets) = split(datagram) else {
-            return;
-        };
-        let Some(notice) = last_notice(packets) else {
-            return;
-        };
+    /// The endpoint notifies of these requests.
+    fn note_notice(&self, endpoint: u16, notice: &[TmmbrEntry]) {
         if let Ok(mut sets) = self.sets.try_borrow_mut() {
             let _ = sets.tell(endpoint, notice);
         }

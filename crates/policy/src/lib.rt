@@ -9,7 +9,7 @@
 //! `holding` has requests for a greatest rate that come before their publisher is there or that it didn't keep (RFC 5104, section 4.2.1): what is held as
 //! what endpoints say is heard, and what is heard once more. `requests` is what is held for each leg, `asking` who asks for what and what of it is
 //! left out, `comings` which publishers came, `again` what of their legs is heard again, and `presence` who is there, by the room as it is. `sets` is
-//! by itself: which announced set is asked for again, since its publisher doesn't notify of it (RFC 5104, section 4.2.2), and `told` what a publisher notified of.
+//! by itself: which announced set is asked for again, since its publisher doesn't notify of it (RFC 5104, section 4.2.2).
 //!
 //! `rules` says what of it is wanted. What is so of every list of packets, and of happenings, stands in `laws`.
 #![tactic(auto)]
@@ -18,7 +18,6 @@ mod again;
 mod asking;
 mod bounded;
 mod comings;
-mod entries;
 mod floods;
 mod holding;
 pub mod laws;
@@ -32,7 +31,6 @@ mod run;
 mod screen;
 mod sets;
 mod starts;
-mod told;
 mod trips;
 mod word;
 

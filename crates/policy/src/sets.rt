@@ -5,7 +5,6 @@ ghost use Rattle.std.specs.Cmp.Lexicographic.{pointwise};
 ghost use Rattle.std.specs.List.{list_all, list_any};
 ghost use Rattle.policy.specs.AnnouncedSets.{is_same, new_set, next_asked};
 
-use crate::entries::push_entries;
 use rtcp_feedback::TmmbrEntry;
 use std::alloc::{AllocError, Global};
 use std::marker::Model;
@@ -35,7 +34,6 @@ impl Model for PublisherSet {
 
 impl PublisherSet {
     ghost use Rattle.std.specs.Prelude.{◌≡◌, OnOk, IfOk};
-    ghost use Rattle.rtcp_feedback.specs.Reading.{entries_in};
     ghost use Rattle.policy.specs.AnnouncedSets.{asks_again, new_set, set_asked, set_seen, set_told};
 
     /// Nobody asked it yet.
@@ -72,12 +70,12 @@ impl PublisherSet {
         self.told.clear();
     }
 
-    /// It notified of the entries that these bytes are.
-    fn tell(&mut self, notice: &[u8]) -> Result<(), AllocError>
-        ensures { OnOk result (self.new ≡ set_told (entries_in notice.now) self.old) }
+    /// It notified of these entries.
+    fn tell(&mut self, notice: &[TmmbrEntry]) -> Result<(), AllocError>
+        ensures { OnOk result (self.new ≡ set_told notice.now self.old) }
     {
         self.told.clear();
-        push_entries(&mut self.told, notice)
+        self.told.extend_from_slice(notice)
     }
 
     /// Whether this announced set is asked for again: it isn't empty, it was seen before, and the publisher didn't notify of all of it. Then
@@ -175,7 +173,6 @@ impl Model for AnnouncedSets {
 
 impl AnnouncedSets {
     ghost use Rattle.std.specs.Prelude.{◌≡◌, None, IfOk, OnOk, replicate, slice_get};
-    ghost use Rattle.rtcp_feedback.specs.Reading.{entries_in};
     ghost use Rattle.policy.specs.AnnouncedSets.{asks_of, look_due, new_set, set_asked, set_seen, set_told, sets_after, with_set};
 
     /// Nobody asked any of so many endpoints yet. Rounds of looks are so many milliseconds apart, and the first is due at once; there are
@@ -216,11 +213,9 @@ impl AnnouncedSets {
         }
     }
 
-    /// The publisher notified of the entries that these bytes are (RFC 5104, section 4.2.2.1). Refused for want of memory alone; then it
-    /// notified of some of them.
-    pub fn tell(&mut self, publisher: u16, notice: &[u8]) -> Result<(), AllocError>
-        ensures { OnOk result
-            (self.new ≡ with_set self.old publisher (set_told (entries_in notice.now))) }
+    /// The publisher notified of these entries (RFC 5104, section 4.2.2). Refused for want of memory alone; then it notified of some of them.
+    pub fn tell(&mut self, publisher: u16, notice: &[TmmbrEntry]) -> Result<(), AllocError>
+        ensures { OnOk result (self.new ≡ with_set self.old publisher (set_told notice.now)) }
     {
         let at = usize::from(publisher);
         if at >= self.publishers.len() {

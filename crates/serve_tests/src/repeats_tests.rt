@@ -218,7 +218,7 @@ impl Played<'_> {
             links: &self.links,
             room: &self.room,
         };
-        self.held.hear(sent, view, &mut self.reading, cue.bytes);
+        self.held.hear(sent, view, &mut self.reading, &[]);
         self.take(sent)
     }
 
@@ -303,15 +303,17 @@ fn heard_after_a_tick_if_requests_age(rt: HostRuntime) -> Result<(), Fail> {
     play(&rt, rt.alloc(), AGING_ROOM, &AGING_CUES)
 }
 
-/// The request of owner 17 for the word of `ASK`, as a set and as the entry of a TMMBN (RFC 5104, section 4.2.2.1).
+/// The request of owner 17 for the word of `ASK`, as a set and as what a TMMBN lists (RFC 5104, section 4.2.2.1).
 const SET: [TmmbrEntry; 1] = [TmmbrEntry {
     ssrc: Ssrc(17),
     word: 0x0007_d028,
 }];
 
-const NOTICE: [u8; 8] = [0, 0, 0, 17, 0, 7, 0xd0, 0x28];
-
-const OTHER_NOTICE: [u8; 8] = [0, 0, 0, 17, 0, 7, 0xd0, 0x29];
+/// The same owner with another word.
+const OTHER_SET: [TmmbrEntry; 1] = [TmmbrEntry {
+    ssrc: Ssrc(17),
+    word: 0x0007_d029,
+}];
 
 /// A set that was seen before is asked for again until its publisher notifies of it, and after it came anew.
 #[test]
@@ -319,9 +321,9 @@ fn asks_until_it_is_told(rt: HostRuntime) -> Result<(), Fail> {
     let mut sets = AnnouncedSets::new(rt.alloc(), 3, 100)?;
     same(&rt, &sets.look(1, &SET)?, &false);
     same(&rt, &sets.look(1, &SET)?, &true);
-    sets.tell(1, &OTHER_NOTICE)?;
+    sets.tell(1, &OTHER_SET)?;
     same(&rt, &sets.look(1, &SET)?, &true);
-    sets.tell(1, &NOTICE)?;
+    sets.tell(1, &SET)?;
     same(&rt, &sets.look(1, &SET)?, &false);
     same(&rt, &sets.look(1, &[])?, &false);
     same(&rt, &sets.look(1, &[])?, &false);

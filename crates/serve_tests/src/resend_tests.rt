@@ -1,5 +1,6 @@
 //! What of NACKs is let through on a leg.
 
+use crate::traffic_tests::notes_of;
 use datagram::{Ask, Control, Reading, Sent, What};
 use policy::{ResendBounds, Rules, Screen};
 use rtcp_compound::{Block, write_rr, write_sr};
@@ -86,7 +87,8 @@ fn report(alloc: Global, traffic: &Traffic, sent: u64, heard: u64) -> Result<(),
     let mut bytes = Vec::new(alloc);
     write_rr(&mut bytes, Ssrc(17), &[block])?;
     traffic.turned(heard);
-    traffic.heard_reports(1, bytes.as_slice());
+    let notes = notes_of(alloc, bytes.as_slice())?;
+    traffic.heard_control(1, bytes.len(), &notes, heard);
     Ok(())
 }
 

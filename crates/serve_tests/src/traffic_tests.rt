@@ -1,6 +1,7 @@
 //! Numbers across the wrap, feedback of a compound, what reports say, and what is told of it all.
 
 use crate::expected::same;
+use datagram::{Notes, Reading, read_noting};
 use events::{DeskRefusal, Refusal};
 use rtcp_compound::{Block, RtcpFault, write_rr, write_sr};
 use rtp_packet::RtpFault;
@@ -67,6 +68,19 @@ fn room(alloc: Global) -> Result<Settings, Fail> {
     }
 }
 
+/// What is noted of a datagram of an endpoint.
+pub(super) fn notes_of(alloc: Global, datagram: &[u8]) -> Result<Notes, Fail> {
+    let mut notes = Notes::with_room(alloc, 1, 1)?;
+    read_noting(
+        datagram,
+        Ssrc(17),
+        None,
+        &mut Reading::new(alloc),
+        &mut notes,
+    )?;
+    Ok(notes)
+}
+
 /// A receiver report of this sender with this block.
 fn receiver_report(alloc: Global, sender: u32, block: Block) -> Result<Vec<u8>, Fail> {
     let mut bytes = Vec::new(alloc);
@@ -87,9 +101,10 @@ fn reports_of_a_room(rt: HostRuntime) -> Result<(), Fail> {
     traffic.turned(6300);
     let block = block_of_the_figure();
     let answer = receiver_report(alloc, 17, block)?;
-    traffic.heard_reports(2, answer.as_slice());
+    let notes = notes_of(alloc, answer.as_slice())?;
+    traffic.heard_control(2, answer.len(), &notes, 6300);
     same(&rt, &traffic.leg_report(1), &None);
-    traffic.heard_reports(1, answer.as_slice());
+    traffic.heard_control(1, answer.len(), &notes, 6300);
     let wanted = ReceptionReport {
         fraction: 64,
         lost: -2,

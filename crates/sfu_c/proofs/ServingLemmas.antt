@@ -68,7 +68,7 @@ heard_answer : (moment endpoint : ℕ) (bytes : List ℕ) (fault : ℕ) (old new
 heard_answer moment endpoint bytes fault old new h answers = record {
   heard = h.heard;
   answers = answers;
-  limited = λ _. (h.beyond, (h.is_heard, h.limit));
+  limited = λ _. (h.beyond, h.is_heard, h.limit);
   whole = none_passed (source_of old.world.setup.table endpoint).0 bytes h.heard old.limit.most h.beyond h.is_heard;
 }
 
@@ -76,8 +76,9 @@ hearing_as : (moment endpoint : ℕ) (bytes : List ℕ) (old new : ConferenceSta
     → OnOk r (HearsLimited moment endpoint bytes old new) → OnOk r (IsIdle new.world) → (¬ IsIdle old.world → r ≡ Err Busy)
     → IfErr r (LeavesLimited moment endpoint bytes old new) → AnswersHearing moment endpoint bytes (event_answer r) old new
 hearing_as moment endpoint bytes old new (Ok done) h idle busy err =
-    heard_answer moment endpoint bytes DONE old new h
-    (answers_as (Hear moment endpoint h.heard ∷ []) old new (Ok done) h.serves idle busy err)
+    let heard : HearsLimited moment endpoint bytes old new = h in
+    heard_answer moment endpoint bytes DONE old new heard
+    (answers_as (Hear moment endpoint heard.heard ∷ []) old new (Ok done) heard.serves idle busy err)
 hearing_as moment endpoint bytes old new (Err Busy) h idle busy err = record {
   heard = bytes;
   answers = answers_as (Hear moment endpoint bytes ∷ []) old new (Err Busy) h idle busy err;
@@ -91,8 +92,9 @@ hearing_as moment endpoint bytes old new (Err NoMemory) h idle busy err = record
   whole = λ _. refl;
 }
 hearing_as moment endpoint bytes old new (Err Unsettled) h idle busy err =
-    heard_answer moment endpoint bytes UNSETTLED old new err
-    (answers_as (Hear moment endpoint err.heard ∷ []) old new (Err Unsettled) h idle busy err.serves)
+    let heard : HearsLimited moment endpoint bytes old new = err in
+    heard_answer moment endpoint bytes UNSETTLED old new heard
+    (answers_as (Hear moment endpoint heard.heard ∷ []) old new (Err Unsettled) h idle busy heard.serves)
 
 pub answers_hearing : (moment endpoint : ℕ) (bytes : List ℕ) (old new : ConferenceState) (r : Result (Unit {0}) EventFault) (fault : ℕ)
     → fault ≡ event_answer r → OnOk r (HearsLimited moment endpoint bytes old new) → OnOk r (IsIdle new.world)

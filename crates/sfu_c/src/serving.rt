@@ -21,7 +21,6 @@ fn event_answer(done: Result<(), EventFault>) -> u32
     }
 }
 
-#[tactic(auto, using(crate::proofs::ServingLemmas::answers_hearing))]
 fn hear(conference: &mut Conference, moment: u64, endpoint: u16, bytes: &[u8]) -> u32
     ensures { AnswersHearing moment endpoint bytes.now result conference.old conference.new }
 {

@@ -1,6 +1,6 @@
 -- What went out on a leg.
 use Rattle.std.specs.Prelude.{ℕ, ◌+◌, ◌-◌, ◌%◌, nat_lt, Bool, true, Option, None, Some, if◌then◌else◌}
-use Rattle.stats.specs.Counts.{risen}
+use Rattle.datagram.specs.Counts.{risen}
 use Rattle.stats.specs.declared.leg_count.LegCount.{LegCount}
 
 -- a number is the next one or newer: it is ahead by fewer than half of the numbers, across the wrap (RFC 3550, section 5.1)

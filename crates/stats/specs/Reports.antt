@@ -1,18 +1,8 @@
 -- What report blocks say of the reception of a stream, and the round trip by them (RFC 3550, section 6.4.1).
-use Rattle.std.specs.Prelude.{ℕ, ◌+◌, ◌-◌, ◌*◌, ◌/◌, ◌%◌, ◌^◌, ◌==◌, ◌&&◌, nat_lt, not, Bool, List, [], Option, None, Some, if◌then◌else◌}
-use Rattle.rtcp_compound.specs.Content.{Content, sender_report, receiver_report, description, goodbye, feedback, other}
+use Rattle.std.specs.Prelude.{ℕ, ◌+◌, ◌-◌, ◌*◌, ◌/◌, ◌%◌, ◌^◌, ◌==◌, ◌&&◌, nat_lt, not, Bool, Option, None, Some, if◌then◌else◌}
 use Rattle.rtcp_compound.specs.Report.{ReportBlock}
 use Rattle.stats.specs.declared.reports.ReceptionReport.{ReceptionReport}
 use Rattle.stats.specs.declared.reports.SentReport.{SentReport}
-
--- the report blocks of a packet: those of a sender report or a receiver report
-abbrev pub blocks_said : Content → List ReportBlock
-blocks_said (sender_report sender ntp rtp packets octets blocks) = blocks
-blocks_said (receiver_report sender blocks) = blocks
-blocks_said (description count chunks) = []
-blocks_said (goodbye sources) = []
-blocks_said (feedback fmt kind body) = []
-blocks_said (other count kind body) = []
 
 -- by what blocks name a sender report, as LSR: the middle 32 bits of its NTP timestamp
 abbrev pub lsr_of : ℕ → ℕ

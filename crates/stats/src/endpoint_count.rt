@@ -1,6 +1,6 @@
 //! What was counted of an endpoint.
 
-use crate::kinds::Kinds;
+use datagram::Kinds;
 
 /// What went in from an endpoint and out to it so far. Each count goes round at 2^64.
 #[derive(Clone, Copy, PartialEq, Eq)]

@@ -1,15 +1,14 @@
 //! What went in and out of a unit, by endpoint and by leg, and how it is told: lines for people, and metrics in the text format of
 //! Prometheus.
 //!
-//! Read `traffic` first, the counts that threads raise. It stands on `endpoint_count` and `leg_count`, what was counted of an endpoint and on a leg, `kinds`, what a datagram of
-//! RTCP holds, and `reports`, what report blocks say; `report_cells` is where threads leave that. `refusals` says why what came was refused,
+//! Read `traffic` first, the counts that threads raise. It stands on `endpoint_count` and `leg_count`, what was counted of an endpoint and on a leg, and
+//! `reports`, what report blocks say; `report_cells` is where threads leave that. `refusals` says why what came was refused,
 //! `refusal_cells` is where threads count it. `lines`, `report_lines` and `refusal_texts` are texts for people, `metrics` those for
 //! Prometheus, `figures` and `report_figures` which metrics there are.
 #![tactic(auto)]
 
 mod endpoint_count;
 mod figures;
-mod kinds;
 mod leg_count;
 mod lines;
 mod metrics;
@@ -24,7 +23,6 @@ mod traffic;
 
 pub use endpoint_count::EndpointCount;
 pub use figures::{EndpointFigure, LegFigure, Numbered, push_figures};
-pub use kinds::{Kinds, kinds_of};
 pub use leg_count::LegCount;
 pub use lines::{LegLine, leg_line};
 pub use metrics::{Metric, MetricType, Sample, push_metric};

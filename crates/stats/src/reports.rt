@@ -1,11 +1,10 @@
 //! What report blocks say of the reception of a stream, and the round trip by them (RFC 3550, section 6.4.1).
 
-ghost use Rattle.std.specs.Prelude.{◌≡◌, [], MatchOption};
-ghost use Rattle.rtcp_compound.specs.Content.{content_of};
-ghost use Rattle.rtcp_compound.specs.Report.{block_of, blocks_left};
-ghost use Rattle.stats.specs.Reports.{blocks_said, held_ms, lsr_of, newer_trip, round_trip, trip_by, trip_in};
+ghost use Rattle.std.specs.Prelude.{◌≡◌};
+ghost use Rattle.rtcp_compound.specs.Report.{block_of};
+ghost use Rattle.stats.specs.Reports.{held_ms, lsr_of, newer_trip, round_trip, trip_by, trip_in};
 
-use rtcp_compound::{Block, Blocks, RtcpView};
+use rtcp_compound::Block;
 
 /// So many values has a word of 32 bits.
 pub(crate) const WORD_VALUES: u64 = 1 << 32;
@@ -114,19 +113,4 @@ pub(crate) fn lsr_of(ntp: u64) -> u32
     ensures { result ≡ lsr_of ntp }
 {
     (ntp / (1 << 16) % WORD_VALUES) as u32
-}
-
-/// The report blocks of a packet, if it is a report.
-pub(crate) fn blocks_of<'a>(packet: &RtcpView<'a>) -> Option<Blocks<'a>>
-    ensures { MatchOption result (blocks_said (content_of packet.now) ≡ [])
-        (λ blocks. blocks_left blocks ≡ blocks_said (content_of packet.now)) }
-{
-    match *packet {
-        RtcpView::Sr { blocks, .. } => Some(blocks),
-        RtcpView::Rr { blocks, .. } => Some(blocks),
-        RtcpView::Sdes { .. } => None,
-        RtcpView::Bye { .. } => None,
-        RtcpView::Feedback { .. } => None,
-        RtcpView::Other { .. } => None,
-    }
 }

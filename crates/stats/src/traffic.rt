@@ -4,13 +4,13 @@ ghost use Rattle.std.specs.Prelude.{◌≡◌, length, vec_len, IfOk};
 
 use crate::endpoint_count::EndpointCount;
 use crate::figures::Numbered;
-use crate::kinds::{Kinds, kinds_of};
 use crate::leg_count::LegCount;
 use crate::refusal_cells::RefusalCells;
 use crate::refusals::RefusedCount;
 use crate::report_cells::{ReportCells, SentCell};
 use crate::report_figures::NumberedReport;
-use crate::reports::{ReceptionReport, SentReport, WORD_VALUES, blocks_of, lsr_of};
+use crate::reports::{ReceptionReport, SentReport, WORD_VALUES, lsr_of};
+use datagram::{Kinds, Notes, blocks_of, kinds_of};
 use events::Refusal;
 use rtcp_compound::{Block, RtcpView, is_rtcp, split};
 use rtp_packet::RtpView;
@@ -99,20 +99,23 @@ impl Traffic {
         })
     }
 
-    /// A datagram came from this endpoint at this moment, in milliseconds.
-    pub fn heard(&self, endpoint: u16, datagram: &[u8], moment: u64) {
-        let Some(cells) = self.endpoints.get(usize::from(endpoint)) else {
-            return;
-        };
-        add(&cells.heard_octets, octets_of(datagram));
-        cells
-            .heard_after_ms
-            .store(moment.saturating_add(1), Ordering::SeqCst);
-        if is_rtcp(datagram) {
-            add(&cells.heard_rtcp, 1);
-            cells.asked.add(kinds_of(datagram));
-        } else {
+    /// An RTP packet of so many bytes came from this endpoint at this moment, in milliseconds.
+    pub fn heard_packet(&self, endpoint: u16, size: usize, moment: u64) {
+        if let Some(cells) = self.endpoints.get(usize::from(endpoint)) {
+            cells.heard(size, moment);
             add(&cells.heard_rtp, 1);
+        }
+    }
+
+    /// RTCP of so many bytes, of which this was noted, came from this endpoint at this moment, in milliseconds, which is that of this turn.
+    pub fn heard_control(&self, endpoint: u16, size: usize, notes: &Notes, moment: u64) {
+        if let Some(cells) = self.endpoints.get(usize::from(endpoint)) {
+            cells.heard(size, moment);
+            add(&cells.heard_rtcp, 1);
+            cells.asked.add(notes.kinds);
+        }
+        for block in notes.blocks.as_slice() {
+            self.heard_block(endpoint, block);
         }
     }
 
@@ -120,20 +123,6 @@ impl Traffic {
     pub fn turned(&self, moment: u64) {
         if self.moment_ms.load(Ordering::SeqCst) != moment {
             self.moment_ms.store(moment, Ordering::SeqCst);
-        }
-    }
-
-    /// Notes what a datagram of RTCP that came from this endpoint by now reports of the legs to it.
-    pub fn heard_reports(&self, endpoint: u16, datagram: &[u8]) {
-        let Ok(packets) = split(datagram) else {
-            return;
-        };
-        for packet in packets {
-            if let Some(blocks) = blocks_of(&packet) {
-                for block in blocks {
-                    self.heard_block(endpoint, &block);
-                }
-            }
         }
     }
 
@@ -170,7 +159,7 @@ impl Traffic {
         let moment = self.moment_ms.load(Ordering::SeqCst);
         for packet in packets {
             self.sent_report(packet, moment);
-            if let Some(blocks) = blocks_of(&packet) {
+            if let Some(blocks) = blocks_of(packet) {
                 for block in blocks {
                     if block.source == cells.source {
                         cells.reported.note(&block, None, moment);
@@ -364,6 +353,13 @@ impl EndpointCells {
             refused: RefusalCells::new(),
             reported: ReportCells::new(),
         }
+    }
+
+    /// So many bytes came from it at this moment.
+    fn heard(&self, size: usize, moment: u64) {
+        add(&self.heard_octets, size as u64);
+        self.heard_after_ms
+            .store(moment.saturating_add(1), Ordering::SeqCst);
     }
 
     fn seen(&self) -> EndpointCount {

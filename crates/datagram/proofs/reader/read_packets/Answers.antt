@@ -1,7 +1,10 @@
-use Rattle.std.proofs.Common.{List, [], refl, sym, subst}
+use Rattle.std.proofs.Common.{List, [], Result, refl, sym, subst}
+use Rattle.rtcp_compound.specs.Left.{contents_left}
+use Rattle.rtcp_feedback.specs.declared.fault.FbFault.{FbFault}
+use Rattle.datagram.specs.declared.reader.Survey.{Survey}
 use Rattle.datagram.specs.declared.reading.Ask.{Ask}
-use Rattle.datagram.specs.Reads.{IsListed}
-use Rattle.datagram.specs.Saying.{control, speaker_of}
+use Rattle.datagram.specs.Reads.{IsListed, Surveys}
+use Rattle.datagram.specs.Saying.{PacketsSay, control, speaker_of}
 use Rattle.datagram.proofs.ReaderLemmas.{control_heard, control_said, not_true, some_listed}
 use Rattle.datagram.proofs.reader.read_packets.Goals as goal
 
@@ -9,13 +12,12 @@ pub returns-then-not-survey-clause-heard : goal.returns-then-not-survey-clause-h
 returns-then-not-survey-clause-heard c =
     let own = c.args.own.0 in
     let survey = c.in-Ok.survey in
-    let g = c.in-Ok.ensures.0 in
-    let is = c.in-Ok.ensures.2 in
+    let (g, say, is) = subst (λ (r : Result Survey FbFault). Surveys own (PacketsSay (contents_left c.args.packets)) r) c.in-Ok.is c.requires.surveyed in
     let lists : List Ask → Type 0 = λ asks. IsListed c.args.most asks c.args.reading.now in (
       g.asks,
       (
         control (speaker_of own g.senders) g.reports g.tmmbns g.asks,
-        (g, c.in-Ok.ensures.1, control_said own survey g is c.if-survey.false),
+        (g, say, control_said own survey g is c.if-survey.false),
         control_heard own survey g is,
         refl,
       ),
@@ -26,26 +28,24 @@ pub returns-in-Ok-collect-clause-heard : goal.returns-in-Ok-collect-clause-heard
 returns-in-Ok-collect-clause-heard c =
     let own = c.args.own.0 in
     let survey = c.in-Ok.survey in
-    let g = c.in-Ok.ensures.0 in
-    let is = c.in-Ok.ensures.2 in (
+    let (g, say, is) = subst (λ (r : Result Survey FbFault). Surveys own (PacketsSay (contents_left c.args.packets)) r) c.in-Ok.is c.requires.surveyed in (
       g.asks,
       (
         control (speaker_of own g.senders) g.reports g.tmmbns g.asks,
-        (g, c.in-Ok.ensures.1, control_said own survey g is c.if-survey.false),
+        (g, say, control_said own survey g is c.if-survey.false),
         control_heard own survey g is,
         refl,
       ),
-      c.in-Ok-collect.ensures g c.in-Ok.ensures.1 [] c.requires.listed,
+      c.in-Ok-collect.ensures g say [] c.requires.listed,
     )
 
 pub returns-in-Err-collect-clause-heard : goal.returns-in-Err-collect-clause-heard
 returns-in-Err-collect-clause-heard c =
     let own = c.args.own.0 in
     let survey = c.in-Ok.survey in
-    let g = c.in-Ok.ensures.0 in
-    let is = c.in-Ok.ensures.2 in
-    let wants = c.in-Err-collect.ensures g c.in-Ok.ensures.1 in (
+    let (g, say, is) = subst (λ (r : Result Survey FbFault). Surveys own (PacketsSay (contents_left c.args.packets)) r) c.in-Ok.is c.requires.surveyed in
+    let wants = c.in-Err-collect.ensures g say in (
       control (speaker_of own g.senders) g.reports g.tmmbns g.asks,
-      (g, c.in-Ok.ensures.1, control_said own survey g is c.if-survey.false),
+      (g, say, control_said own survey g is c.if-survey.false),
       some_listed c.args.most g.asks wants.1 wants.0,
     )

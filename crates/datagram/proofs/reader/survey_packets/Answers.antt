@@ -11,7 +11,7 @@ pub loop-packet-preserved : goal.loop-packet-preserved
 loop-packet-preserved c =
     let before = c.loop-packet.invariant in
     let said = c.in_ok-survey_packet.ensures.said in
-    let is = c.then-all.ensures before.0 said.0 before.1 said.2 in
+    let is = c.then-all.ensures.joined before.0 said.0 before.1 said.2 in
     let left = ap length c.in-Some.ensures.steps in
     let fits = before.2 in
     let old = before.1.tmmbns in

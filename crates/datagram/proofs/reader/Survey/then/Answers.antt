@@ -4,8 +4,8 @@ use Rattle.datagram.proofs.ReaderLemmas.{kept_of_both}
 use Rattle.datagram.proofs.reader.Survey.then.Goals as goal
 use Rattle.datagram.proofs.reader.Survey.then.Goals.{then-self, else-self, then-self-2, else-self-2}
 
-pub returns : goal.returns
-returns c = λ a b sx sy.
+pub returns-clause-joined : goal.returns-clause-joined
+returns-clause-joined c = λ a b sx sy.
     let x = c.args.self in
     let y = c.args.next in
     let own = c.args.own.0 in
