@@ -1,2 +1,3 @@
 pub mod GoodbyeLemmas
 pub mod SeatLemmas
+pub mod PolicyLemmas

@@ -1,5 +1,6 @@
 pub mod Kept
-pub mod Door
+pub mod Hearing
+pub mod Policies
 pub mod Goodbyes
 pub mod Sockets
 pub mod Who

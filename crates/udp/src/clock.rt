@@ -1,6 +1,6 @@
 //! What time it is.
 
-ghost use Rattle.std.specs.Prelude.{◌≡◌, None};
+ghost use Rattle.std.specs.Prelude.{◌≡◌, ◌≤◌, None};
 ghost use Rattle.udp.specs.Sockets.{later_moment};
 
 use ports::Clock;
@@ -12,24 +12,47 @@ use std::time::{self, Instant};
 pub struct RunClock<'a, R: time::Clock> {
     rt: &'a R,
     start: Option<Instant>,
+    /// The last moment that it told.
+    told: u64,
     shown: &'a Cell<u64>,
 }
 
 impl<'a, R: time::Clock> RunClock<'a, R> {
     /// A clock that wasn't asked yet.
     pub fn new(rt: &'a R, shown: &'a Cell<u64>) -> RunClock<'a, R>
-        ensures start { result.start ≡ None }
+        ensures begins { (result.start ≡ None) × (result.told ≡ 0) }
         ensures shown { result.shown ≡ shown.entry }
     {
         RunClock {
             rt,
             start: None,
+            told: 0,
             shown,
         }
     }
 
+    /// The last moment that it told.
+    pub fn told(&self) -> u64
+        ensures { result ≡ self.now.told }
+    {
+        self.told
+    }
+
+    /// What time it is.
+    pub fn ask(&mut self) -> u64
+        ensures told { self.new.told ≡ result }
+        ensures later { self.old.told ≤ result }
+    {
+        let elapsed_ms = self.elapsed_ms();
+        self.told = later_moment(self.told, elapsed_ms);
+        self.shown.set(self.told);
+        self.told
+    }
+
     /// How many milliseconds went by since the clock was asked first, if the system says so.
-    fn elapsed_ms(&mut self) -> Option<u64> {
+    fn elapsed_ms(&mut self) -> Option<u64>
+        ensures { self.new.told ≡ self.old.told }
+    {
         let now = Instant::now(self.rt).ok()?;
         let start = *self.start.get_or_insert(now);
         u64::try_from(now.saturating_duration_since(start).as_millis()).ok()
@@ -38,10 +61,7 @@ impl<'a, R: time::Clock> RunClock<'a, R> {
 
 impl<R: time::Clock> Clock for RunClock<'_, R> {
     fn moment(&mut self) -> u64 {
-        let elapsed_ms = self.elapsed_ms();
-        let moment = later_moment(self.shown.get(), elapsed_ms);
-        self.shown.set(moment);
-        moment
+        self.ask()
     }
 }
 

@@ -3,7 +3,7 @@
 ghost use Rattle.std.specs.Prelude.{◌≤◌, length};
 
 use crate::inbox::Inbox;
-use datagram::{Ask, Control, Reading, Sent, Taking, What, is_sayable, read};
+use datagram::{Ask, Control, Notes, Reading, Sent, Taking, What, is_sayable, read_noting};
 use entrance::own_source;
 use members::RoomView;
 use policy::{Again, Holding, Judged, Screen};
@@ -17,16 +17,22 @@ use tmmbr_tuple::Ssrc;
 /// How many bytes there is room for: the longest datagram that came, and behind it the longest packet that was put by.
 const ROOM: usize = 2 * MAX_DATAGRAM;
 
-/// The bytes that came, which of them are heard, whose they are, and what was read of them.
+/// How many report blocks there is room for: as many as the longest datagram has (RFC 3550, section 6.4.1).
+const BLOCKS: usize = MAX_DATAGRAM / 24;
+
+/// How many entries of a TMMBN: the same (RFC 5104, section 4.2.2.1).
+const NOTICES: usize = MAX_DATAGRAM / 8;
+
+/// The bytes that came, which of them are heard, who sent them, and what was read of them.
 #[derive(Drop)]
 pub(crate) struct Kept {
     pub(crate) buffer: Vec<u8>,
     from: usize,
     to: usize,
-    pub(crate) endpoint: u16,
-    /// Its source.
-    pub(crate) own: Ssrc,
+    pub(crate) sent: Sent,
     pub(crate) reading: Reading,
+    /// What was noted of them beside.
+    pub(crate) notes: Notes,
     /// Whether the unit itself says it, in the endpoint's name.
     pub(crate) is_made: bool,
     ghost fits: { (from ≤ to) × (to ≤ length buffer.items) },
@@ -39,7 +45,12 @@ impl Kept {
     ghost use Rattle.datagram.specs.Spelling.{IsAsHeard};
     ghost use Rattle.entrance.specs.Entrance.{IsTakenFrom};
     ghost use Rattle.settings.specs.Links.{LinkTable};
-    ghost use Rattle.udp.specs.Kept.{IsSpokenBy, MayBeTaken, admission_in, bytes_of, datagram_in};
+    ghost use Rattle.policy.specs.Holding.{HearsWord, asks_left, asking_of};
+    ghost use Rattle.policy.specs.Word.{word_in};
+    ghost use Rattle.policy.specs.Screened.{Judges};
+    ghost use Rattle.udp.specs.Kept.{IsOfSame, IsReadFrom, IsSpokenBy, MayBeTaken, SaysGoodbye, admission_in, bytes_of, datagram_in, sent_by};
+    ghost use Rattle.udp.specs.Hearing.{is_goodbye};
+    ghost use Rattle.udp.specs.Policies.{Holds};
 
     /// Nothing came yet. There is room for what is asked for in so many entries.
     pub(crate) fn new(alloc: Global, entries: usize) -> Result<Kept, AllocError>
@@ -49,9 +60,13 @@ impl Kept {
             buffer: vec![in alloc; 0; ROOM]?,
             from: 0,
             to: 0,
-            endpoint: 0,
-            own: Ssrc(0),
+            sent: Sent {
+                moment: 0,
+                endpoint: 0,
+                own: Ssrc(0),
+            },
             reading: Reading::with_room(alloc, entries)?,
+            notes: Notes::with_room(alloc, BLOCKS, NOTICES)?,
             is_made: false,
         })
     }
@@ -63,10 +78,11 @@ impl Kept {
         &self.buffer.as_slice()[self.from..self.to]
     }
 
-    /// Reads the bytes from a place to another, which are the endpoint's: what they ask for in so many entries at most.
+    /// Reads the bytes from a place to another, which are the endpoint's of this moment: what they ask for in so many entries at most.
     pub(crate) fn read(
         &mut self,
         links: &Links,
+        moment: u64,
         endpoint: u16,
         from: usize,
         to: usize,
@@ -76,41 +92,54 @@ impl Kept {
         ensures taken { OnOk result (MayBeTaken links.now self.new) }
         ensures read { OnOk result (IsReadUpTo (source_of links.now endpoint).0
             (slice_range self.old.buffer.items from to) most self.new.reading) }
+        ensures from { OnOk result (IsReadFrom (sent_by links.now endpoint moment)
+            (slice_range self.old.buffer.items from to) most self.new) }
         ensures bytes { bytes_of self.new ≡ slice_range self.old.buffer.items from to }
-        ensures endpoint { self.new.endpoint ≡ endpoint }
+        ensures sent { self.new.sent ≡ sent_by links.now endpoint moment }
+        ensures buffer { self.new.buffer ≡ self.old.buffer }
     {
         self.from = from;
         self.to = to;
-        self.stand_for(links, endpoint);
+        self.stand_for(links, moment, endpoint);
         self.is_made = false;
-        read(
+        read_noting(
             &self.buffer.as_slice()[from..to],
-            self.own,
+            self.sent.own,
             most,
             &mut self.reading,
+            &mut self.notes,
         )
     }
 
-    /// Judges what was read, which came at this moment.
-    pub(crate) fn judge(&mut self, screen: &mut Screen<'_>, moment: u64) -> Judged
-        ensures taken { (table : LinkTable) → MayBeTaken table self.old → MayBeTaken table self.new }
-        ensures bytes { bytes_of self.new ≡ bytes_of self.old }
-        ensures endpoint { self.new.endpoint ≡ self.old.endpoint }
+    /// Whether its endpoint says goodbye.
+    pub(crate) fn is_goodbye(&self) -> bool
+        ensures { result ≡ is_goodbye self.now.reading.what }
     {
-        screen.judge(self.sent(moment), &mut self.reading)
+        matches!(self.reading.what, What::Goodbye)
+    }
+
+    /// Judges what was read.
+    pub(crate) fn judge(&mut self, screen: &mut Screen<'_>) -> Judged
+        ensures judged { Judges screen.old screen.new self.old.sent self.old.reading
+            self.new.reading result }
+        ensures taken { (table : LinkTable) → MayBeTaken table self.old → MayBeTaken table self.new }
+        ensures same { IsOfSame self.old self.new }
+    {
+        screen.judge(self.sent, &mut self.reading)
     }
 
     /// Holds what is asked for in what was read, and leaves out what is moot.
-    pub(crate) fn hold(&mut self, holding: &mut Holding<'_>, view: RoomView<'_>, moment: u64)
+    pub(crate) fn hold(&mut self, holding: &mut Holding<'_>, view: RoomView<'_>)
+        ensures holds { Holds holding.old holding.new self.old.sent.own.0
+            (asking_of view.entry self.old.sent) self.old.reading self.new.reading }
         ensures taken { (table : LinkTable) → MayBeTaken table self.old → MayBeTaken table self.new }
-        ensures bytes { bytes_of self.new ≡ bytes_of self.old }
-        ensures endpoint { self.new.endpoint ≡ self.old.endpoint }
+        ensures same { IsOfSame self.old self.new }
     {
         holding.hear(
-            self.sent(moment),
+            self.sent,
             view,
             &mut self.reading,
-            &self.buffer.as_slice()[self.from..self.to],
+            self.notes.notice.as_slice(),
         );
     }
 
@@ -125,30 +154,17 @@ impl Kept {
         inbox.receive(moment, self.buffer.as_mut_slice())
     }
 
-    /// What is read is of this endpoint.
-    fn stand_for(&mut self, links: &Links, endpoint: u16)
-        ensures endpoint { self.new.endpoint ≡ endpoint }
-        ensures own { self.new.own ≡ source_of links.now endpoint }
+    /// What is read is of this endpoint and moment.
+    fn stand_for(&mut self, links: &Links, moment: u64, endpoint: u16)
+        ensures sent { self.new.sent ≡ sent_by links.now endpoint moment }
         ensures bytes { bytes_of self.new ≡ bytes_of self.old }
         ensures buffer { self.new.buffer ≡ self.old.buffer }
     {
-        self.endpoint = endpoint;
-        self.own = own_source(links, endpoint);
-    }
-
-    /// Who sent it, and when it came.
-    pub(crate) fn sent(&self, moment: u64) -> Sent
-        ensures { result ≡ record {
-          moment = moment;
-          endpoint = self.now.endpoint;
-          own = self.now.own;
-        } }
-    {
-        Sent {
+        self.sent = Sent {
             moment,
-            endpoint: self.endpoint,
-            own: self.own,
-        }
+            endpoint,
+            own: own_source(links, endpoint),
+        };
     }
 
     /// Copies a packet that was put by behind where datagrams come, and says where it ends. `None` if there is none.
@@ -166,9 +182,9 @@ impl Kept {
 
     /// The endpoint says goodbye, in place of what was read.
     pub(crate) fn say_goodbye(&mut self)
+        ensures says { SaysGoodbye self.new.reading }
         ensures taken { (table : LinkTable) → MayBeTaken table self.old → MayBeTaken table self.new }
-        ensures bytes { bytes_of self.new ≡ bytes_of self.old }
-        ensures endpoint { self.new.endpoint ≡ self.old.endpoint }
+        ensures same { IsOfSame self.old self.new }
     {
         self.reading.what = What::Goodbye;
         self.reading.asks.clear();
@@ -176,24 +192,29 @@ impl Kept {
     }
 
     /// The endpoint says that it is there, and nothing more.
-    pub(crate) fn say_present(&mut self, links: &Links, endpoint: u16)
+    pub(crate) fn say_present(&mut self, links: &Links, moment: u64, endpoint: u16)
         ensures taken { MayBeTaken links.now self.new }
-        ensures says { IsSpokenBy (source_of links.now endpoint) [] self.new }
-        ensures endpoint { self.new.endpoint ≡ endpoint }
+        ensures says { IsSpokenBy (source_of links.now endpoint) [] self.new.reading }
+        ensures sent { self.new.sent ≡ sent_by links.now endpoint moment }
     {
-        self.stand_for(links, endpoint);
-        let own = self.own;
+        self.stand_for(links, moment, endpoint);
+        let own = self.sent.own;
         self.speak(own);
     }
 
     /// A subscriber asks for a rate once more. Refused for want of memory alone.
-    pub(crate) fn ask_again(&mut self, links: &Links, again: Again) -> Result<(), AllocError>
+    pub(crate) fn ask_again(
+        &mut self,
+        links: &Links,
+        moment: u64,
+        again: Again,
+    ) -> Result<(), AllocError>
         ensures taken { OnOk result (MayBeTaken links.now self.new) }
         ensures says { OnOk result (IsSpokenBy again.speaker
-            (Ask.Rate again.media again.word ∷ []) self.new) }
-        ensures endpoint { self.new.endpoint ≡ again.endpoint }
+            (Ask.Rate again.media again.word ∷ []) self.new.reading) }
+        ensures sent { self.new.sent ≡ sent_by links.now again.endpoint moment }
     {
-        self.stand_for(links, again.endpoint);
+        self.stand_for(links, moment, again.endpoint);
         self.speak(again.speaker);
         self.reading.asks.push(Ask::Rate {
             media: again.media,
@@ -204,11 +225,11 @@ impl Kept {
 
     /// Who speaks says nothing more.
     fn speak(&mut self, speaker: Ssrc)
-        ensures taken { (table : LinkTable) → self.old.own ≡ source_of table self.old.endpoint
+        ensures taken { (table : LinkTable)
+            → self.old.sent.own ≡ source_of table self.old.sent.endpoint
             → MayBeTaken table self.new }
-        ensures says { IsSpokenBy speaker [] self.new }
-        ensures own { self.new.own ≡ self.old.own }
-        ensures endpoint { self.new.endpoint ≡ self.old.endpoint }
+        ensures says { IsSpokenBy speaker [] self.new.reading }
+        ensures sent { self.new.sent ≡ self.old.sent }
     {
         self.reading.what = What::Control(Control {
             speaker,
@@ -223,19 +244,19 @@ impl Kept {
     pub(crate) fn taking(&self) -> Taking<'_>
         ensures { admission_of result ≡ admission_in self.now }
     {
-        self.reading.taking(self.endpoint, self.bytes())
+        self.reading.taking(self.sent.endpoint, self.bytes())
     }
 
     /// What may be taken in is said by a datagram. This compiles to nothing.
     #[tactic(auto, unfolding(datagram::specs::Spelling::spelling))]
     pub(crate) fn is_said(&self)
-        requires { IsAsHeard self.now.own.0 self.now.reading.what self.now.reading.asks.items
+        requires { IsAsHeard self.now.sent.own.0 self.now.reading.what self.now.reading.asks.items
             (bytes_of self.now) }
         ensures { (table : LinkTable) → MayBeTaken table self.now
             → IsTakenFrom table (admission_in self.now) (datagram_in self.now) }
     {
         is_sayable(
-            self.own,
+            self.sent.own,
             self.reading.what,
             self.reading.asks.as_slice(),
             self.bytes(),

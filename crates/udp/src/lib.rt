@@ -1,8 +1,8 @@
 //! What a unit needs from outside, on UDP sockets: what comes, where what it sends goes, what time it is.
 //!
-//! Read `socket` first, the sockets and what is sent by them, then `door`, where what comes is let in: `inbox` receives it, `who` says who sent
-//! it, `kept` is what was read of it, `scribe` tells who records the run, `clock` the moment. `drops` reads what the system dropped, of
-//! whose `table` it sums what the rows of an `address` say. `goodbyes` are said when a unit is stopped.
+//! Read `socket` first, the sockets and what is sent by them, then `door`, where what comes is let in: `inbox` receives it, `hearing` hears it, as
+//! `who` sent it, `kept` is what was read of it, `policies` say what becomes of that, `scribe` tells who records the run, `clock` the moment. `drops`
+//! reads what the system dropped, of whose `table` it sums what the rows of an `address` say. `goodbyes` are said when a unit is stopped.
 #![tactic(auto)]
 
 mod address;
@@ -10,8 +10,10 @@ mod clock;
 mod door;
 mod drops;
 mod goodbyes;
+mod hearing;
 mod inbox;
 mod kept;
+mod policies;
 mod scribe;
 mod socket;
 mod table;

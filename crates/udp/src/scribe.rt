@@ -59,7 +59,7 @@ impl Scribe {
             Origin::Came => kept.bytes(),
             Origin::Made | Origin::Changed(_) => self.spelled.as_slice(),
         };
-        let endpoint = kept.endpoint;
+        let endpoint = kept.sent.endpoint;
         recorder.note(
             moment,
             Taken::Datagram {
@@ -82,7 +82,7 @@ impl Scribe {
         self.spelled.clear();
         let Reading { what, asks, .. } = &kept.reading;
         spell(
-            kept.own,
+            kept.sent.own,
             *what,
             asks.as_slice(),
             kept.bytes(),
@@ -97,7 +97,7 @@ impl Scribe {
         let What::Control(control) = *what else {
             return Ok(true);
         };
-        read(kept.bytes(), kept.own, None, &mut self.heard)?;
+        read(kept.bytes(), kept.sent.own, None, &mut self.heard)?;
         Ok(match self.heard.what {
             What::Control(heard) => {
                 heard == control && self.heard.asks.as_slice() == asks.as_slice()

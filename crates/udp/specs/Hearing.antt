@@ -1,0 +1,178 @@
+-- What is heard of a datagram that came, packet by packet, and what is left.
+use Rattle.std.specs.Prelude.{◌≡◌, ◌+◌, ◌∷◌, ℕ, nat_lt, Bool, true, false, List, [], slice_get, slice_range, Option, None, Some, if◌then◌else◌}
+use Rattle.std.specs.declared.net.socket_addr.SocketAddr.{SocketAddr}
+use Rattle.tmmbr_tuple.specs.declared.ssrc.Ssrc.{Ssrc}
+use Rattle.datagram.specs.Reads.{IsSaidIn}
+use Rattle.datagram.specs.declared.reading.Ask.{Ask}
+use Rattle.datagram.specs.declared.reading.Ask.TheVariants.{Rate}
+use Rattle.datagram.specs.declared.reading.Sent.{Sent}
+use Rattle.datagram.specs.declared.reading.What.{What}
+use Rattle.datagram.specs.declared.reading.What.TheVariants.{Media, Goodbye, Control, Refused}
+use Rattle.entrance.specs.declared.entrance.Admitted.{Admitted}
+use Rattle.entrance.specs.declared.entrance.Admitted.TheVariants.{Nothing, Taking}
+use Rattle.members.specs.declared.view.RoomView.{RoomView}
+use Rattle.policy.specs.FloodLimiter.{is_within, tallies_with}
+use Rattle.policy.specs.declared.screen.Judged.{Judged}
+use Rattle.policy.specs.declared.screen.Judged.TheVariants.{Take, PutBy, Anew as BegunAnew}
+use Rattle.datagram.specs.Naming.{source_named}
+use Rattle.addresses.specs.SenderTable.{front_length, sender_of}
+use Rattle.addresses.specs.declared.senders.SourceAddress.{SourceAddress}
+use Rattle.udp.specs.declared.hearing.Anew.{Anew}
+use Rattle.udp.specs.declared.hearing.Hearing.{Hearing}
+use Rattle.udp.specs.declared.hearing.Rest.{Rest}
+use Rattle.udp.specs.declared.kept.Kept.{Kept}
+use Rattle.udp.specs.declared.policies.Policies.{Policies}
+use Rattle.policy.specs.declared.again.Again.{Again}
+use Rattle.policy.specs.declared.holding.Holding.{Holding}
+use Rattle.udp.specs.Kept.{IsOfSame, IsReadFrom, IsSpokenBy, SaysGoodbye, bytes_of}
+use Rattle.udp.specs.Policies.{HearsHeld, IsHeld, IsJudged}
+use Rattle.udp.specs.Who.{Known, MayLearn, Setup, after_note, known_by}
+
+-- the packets of a rest
+abbrev pub packets_in : Kept → Rest → List ℕ
+packets_in k rest = slice_range k.buffer.items rest.from rest.to
+
+-- what is behind so many bytes of it, if anything is
+abbrev pub rest_behind : Rest → ℕ → Option Rest
+rest_behind rest count =
+    if nat_lt (rest.from + count) rest.to then Some (record rest { from = rest.from + count }) else None
+
+-- after a goodbye of an endpoint that began anew its far packet is heard, and then the one that followed that
+abbrev pub anew_after : Anew → Option Anew
+anew_after a = if a.is_far_heard then None else Some (record a { is_far_heard = true })
+
+-- this endpoint's is looked at, so many bytes at the front of these packets
+abbrev pub LooksAt : Kept → Kept → Rest → ℕ → ℕ → Type 0
+LooksAt old new packets count endpoint =
+    (new.sent.endpoint ≡ endpoint)
+    × (bytes_of new ≡ slice_range old.buffer.items packets.from (packets.from + count))
+
+-- ---- who was heard
+
+abbrev pub is_goodbye : What → Bool
+is_goodbye (Media packet) = false
+is_goodbye Goodbye = true
+is_goodbye (Control c) = false
+is_goodbye (Refused refusal) = false
+
+-- By these bytes their endpoint was heard at this moment, and said goodbye if they say it.
+pub record IsNoted (own endpoint moment : ℕ) (bytes : List ℕ) (known later : Known) : Type 0 where
+  pub what : What
+  pub asks : List Ask
+  pub says : IsSaidIn own bytes (record { what = what; asks = asks })
+  pub after : later ≡ after_note known endpoint moment (is_goodbye what)
+
+-- ---- what was read is judged
+
+-- a goodbye is taken in in its place
+pub record SaysInstead (held later : Option Holding) (k l : Kept) (view : RoomView) : Type 0 where
+  pub said : Kept
+  pub same : IsOfSame k said
+  pub goodbye : SaysGoodbye said.reading
+  pub holds : IsHeld held later said.sent view said.reading l.reading
+
+-- What is taken in of what the rules left, and what is heard later: it, once what it asks for is held; nothing of a packet that is put by; and a
+-- goodbye of who began anew, after which the packets from one place to another are heard.
+abbrev pub Follows : Judged → Option Holding → Option Holding → Kept → Kept → RoomView → Option Anew → Option Anew → ℕ → ℕ → Admitted → Type 0
+Follows Take held later k l view anew next from to admitted =
+    (admitted ≡ Taking) × (next ≡ anew) × IsHeld held later k.sent view k.reading l.reading
+Follows PutBy held later k l view anew next from to admitted =
+    (admitted ≡ Nothing) × (next ≡ anew) × (later ≡ held)
+Follows BegunAnew held later k l view anew next from to admitted =
+    (admitted ≡ Taking)
+    × (next
+    ≡ Some (record { endpoint = k.sent.endpoint; is_far_heard = false; from = from; to = to }))
+    × SaysInstead held later k l view
+
+-- This is let in of what was judged so.
+pub record LetsIn (judged : Judged) (p q : Policies) (k l : Kept) (view : RoomView)
+    (anew next : Option Anew) (from to : ℕ) (admitted : Admitted) : Type 0 where
+  pub follows : Follows judged p.holding q.holding k l view anew next from to admitted
+  pub same : IsOfSame k l
+  pub floods : q.floods ≡ p.floods
+  pub screen : q.screen ≡ p.screen
+  pub put_by : q.put_by ≡ p.put_by
+
+-- What this client sent, from a place to another among the bytes that are kept, is read, judged, and let in as it was judged.
+pub record HearsRead (sent : Sent) (h k : Hearing) (view : RoomView) (from to : ℕ)
+    (admitted : Admitted) : Type 0 where
+  pub read : Kept
+  pub left : Kept
+  pub between : Policies
+  pub judged : Judged
+  pub reads : IsReadFrom sent (slice_range h.kept.buffer.items from to) h.policies.most read
+  pub judges : IsJudged h.policies between read left judged
+  pub lets : LetsIn judged between k.policies left k.kept view h.anew k.anew from to admitted
+
+-- ---- a datagram that came
+
+-- How origins and addresses are compared, and the source of each endpoint.
+pub record Bearings : Type 0 where
+  pub setup : Setup
+  pub same_origin : SourceAddress → SourceAddress → Bool
+  pub source : ℕ → Ssrc
+
+-- who sent it, and how much of it is heard at once, by those who are known
+abbrev pub sender_by : Bearings → Known → SocketAddr → List ℕ → Option ℕ
+sender_by unit known address datagram =
+    sender_of unit.same_origin unit.setup.same known.senders address (source_named datagram)
+
+abbrev pub front_by : Bearings → Known → SocketAddr → List ℕ → ℕ
+front_by unit known address datagram =
+    front_length unit.setup.same known.senders address datagram
+
+-- fewer of this endpoint came in its millisecond than may be heard
+abbrev pub is_admitted : Hearing → ℕ → ℕ → Bool
+is_admitted h endpoint moment =
+    is_within h.policies.floods.0 (slice_get h.policies.floods.1 endpoint) moment
+
+-- Once a datagram of this moment, all of these packets, came from this address: what is learned of it; and then, by those who are known from
+-- then on, whose it is, and how much of it is heard at once. One more is counted of who sent it, who is noted by what is heard, and what is behind
+-- that is left. A stranger's is passed over, and one that is too many is gone.
+pub record HearsDatagram (unit : Bearings) (h k : Hearing) (moment : ℕ) (whole : Rest) (admitted : Admitted)
+    : Type 0 where
+  pub between : Known
+  pub learned : MayLearn unit.setup whole.address (packets_in h.kept whole) moment (known_by h.who) between
+  pub stranger : sender_by unit between whole.address (packets_in h.kept whole) ≡ None
+      → (admitted ≡ Nothing) × (known_by k.who ≡ between) × (k.policies.floods ≡ h.policies.floods)
+      × (k.rest
+      ≡ rest_behind whole (front_by unit between whole.address (packets_in h.kept whole)))
+  pub counted : (endpoint : ℕ)
+      → sender_by unit between whole.address (packets_in h.kept whole) ≡ Some endpoint
+      → k.policies.floods
+      ≡ (h.policies.floods.0, tallies_with h.policies.floods.1 endpoint moment)
+  pub flood : (endpoint : ℕ)
+      → sender_by unit between whole.address (packets_in h.kept whole) ≡ Some endpoint
+      → is_admitted h endpoint moment ≡ false
+      → (admitted ≡ Nothing) × (known_by k.who ≡ between) × (k.rest ≡ None)
+  pub noted : (endpoint : ℕ)
+      → sender_by unit between whole.address (packets_in h.kept whole) ≡ Some endpoint
+      → is_admitted h endpoint moment ≡ true
+      → IsNoted (unit.source endpoint).0 endpoint moment
+      (slice_range h.kept.buffer.items whole.from
+      (whole.from + front_by unit between whole.address (packets_in h.kept whole)))
+      between (known_by k.who)
+  pub looks : (endpoint : ℕ)
+      → sender_by unit between whole.address (packets_in h.kept whole) ≡ Some endpoint
+      → is_admitted h endpoint moment ≡ true
+      → LooksAt h.kept k.kept whole
+      (front_by unit between whole.address (packets_in h.kept whole)) endpoint
+  pub rest : (endpoint : ℕ)
+      → sender_by unit between whole.address (packets_in h.kept whole) ≡ Some endpoint
+      → is_admitted h endpoint moment ≡ true
+      → k.rest
+      ≡ rest_behind whole (front_by unit between whole.address (packets_in h.kept whole))
+
+-- ---- what is said in a client's name
+
+abbrev pub SaysAgain : Option Again → Kept → Bool → Type 0
+SaysAgain None kept asked = asked ≡ false
+SaysAgain (Some again) kept asked =
+    (asked ≡ true) × (kept.sent.endpoint ≡ again.endpoint)
+    × IsSpokenBy again.speaker (Rate again.media again.word ∷ []) kept.reading
+
+-- What is found of what is held is asked for once more, in the subscriber's name.
+pub record AsksAgain (h k : Hearing) (view : RoomView) (moment : ℕ) (asked : Bool) : Type 0 where
+  pub again : Option Again
+  pub found : HearsHeld h.policies.holding k.policies.holding view moment again
+  pub says : SaysAgain again k.kept asked

@@ -1,0 +1,62 @@
+-- What becomes of what was read of an endpoint's packets, by the rules of a unit.
+use Rattle.std.specs.Prelude.{◌≡◌, ◌⊎◌, ◌==◌, ℕ, List, [], Option, None, Some, slice_set, if◌then◌else◌}
+use Rattle.datagram.specs.declared.reading.Reading.{Reading}
+use Rattle.datagram.specs.declared.reading.Sent.{Sent}
+use Rattle.members.specs.declared.view.RoomView.{RoomView}
+use Rattle.policy.specs.Asking.{Asking}
+use Rattle.policy.specs.Holding.{HearsAgain, HearsWord, asks_left, asking_of, hold_terms}
+use Rattle.policy.specs.Word.{word_in}
+use Rattle.policy.specs.declared.again.Again.{Again}
+use Rattle.policy.specs.declared.holding.Holding.{Holding}
+use Rattle.policy.specs.Screened.{Judges}
+use Rattle.policy.specs.declared.screen.Judged.{Judged}
+use Rattle.policy.specs.declared.screen.Judged.TheVariants.{Take, PutBy, Anew}
+use Rattle.udp.specs.Kept.{IsOfSame, bytes_of}
+use Rattle.udp.specs.declared.kept.Kept.{Kept}
+use Rattle.udp.specs.declared.policies.Policies.{Policies}
+
+-- how many entries of a datagram count, if that is bounded
+abbrev pub most_by : ℕ → Option ℕ
+most_by limit = if limit == 0 then None else Some limit
+
+-- a packet that is far is put by, in place of the one before, unless there is no memory for it
+abbrev pub PutsBy : Judged → List (List ℕ) → List (List ℕ) → ℕ → List ℕ → Type 0
+PutsBy Take before after endpoint packet = after ≡ before
+PutsBy PutBy before after endpoint packet =
+    (after ≡ slice_set before endpoint packet) ⊎ (after ≡ slice_set before endpoint [])
+PutsBy Anew before after endpoint packet = after ≡ before
+
+-- ---- what is held of requests, if they are
+
+-- who sent this is noted, and of what it asks for what is moot is left out
+pub record Holds (h k : Holding) (own : ℕ) (asker : Asking) (old new : Reading) : Type 0 where
+  pub word : HearsWord (word_in own old.what) h k asker old.asks.items
+  pub what : new.what ≡ old.what
+  pub asks : new.asks.items ≡ asks_left (word_in own old.what) asker old.asks.items
+
+abbrev pub HoldsIf : Option Holding → Option Holding → Sent → RoomView → Reading → Reading → Type 0
+HoldsIf None after sent view old new = (after ≡ None) × (new ≡ old)
+HoldsIf (Some h) None sent view old new = ⊥
+HoldsIf (Some h) (Some k) sent view old new = Holds h k sent.own.0 (asking_of view sent) old new
+
+pub record IsHeld (before after : Option Holding) (sent : Sent) (view : RoomView) (old new : Reading)
+    : Type 0 where
+  pub held : HoldsIf before after sent view old new
+
+-- ---- judged
+
+-- What was read is judged, and this is left of it; a packet that is far is put by.
+pub record IsJudged (p q : Policies) (k l : Kept) (judged : Judged) : Type 0 where
+  pub judges : Judges p.screen q.screen k.sent k.reading l.reading judged
+  pub put_by : PutsBy judged p.put_by q.put_by k.sent.endpoint (bytes_of k)
+  pub same : IsOfSame k l
+  pub floods : q.floods ≡ p.floods
+  pub holding : q.holding ≡ p.holding
+  pub most : q.most ≡ p.most
+
+-- what is heard once more, if anything is
+abbrev pub HearsHeld : Option Holding → Option Holding → RoomView → ℕ → Option Again → Type 0
+HearsHeld None after view moment again = (after ≡ None) × (again ≡ None)
+HearsHeld (Some h) None view moment again = ⊥
+HearsHeld (Some h) (Some k) view moment again =
+    HearsAgain h k (hold_terms h.requests h.request_ms view moment) again
