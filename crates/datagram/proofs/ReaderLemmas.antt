@@ -11,7 +11,7 @@ use Rattle.rtcp_compound.specs.Content.{Content, packet_content}
 use Rattle.rtcp_compound.specs.Grammar.{RtcpPacket, packet_bytes, ReadsRtcp}
 use Rattle.rtcp_feedback.specs.declared.fault.FbFault.{FbFault}
 use Rattle.datagram.specs.declared.reading.Ask.{Ask}
-use Rattle.datagram.specs.declared.reader.Survey.{Survey}
+use Rattle.datagram.specs.declared.survey.Survey.{Survey}
 use Rattle.datagram.specs.declared.reading.What.{What}
 use Rattle.datagram.specs.declared.reading.What.TheVariants.{Control}
 use Rattle.datagram.specs.declared.reading.Reading.{Reading}

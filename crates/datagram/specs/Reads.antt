@@ -12,7 +12,7 @@ use Rattle.datagram.specs.declared.reading.What.TheVariants.{Media, Goodbye, Con
 use Rattle.datagram.specs.declared.reading.Taking.{Taking}
 use Rattle.datagram.specs.declared.reading.Reading.{Reading}
 use Rattle.datagram.specs.declared.reader.Heard.{Heard}
-use Rattle.datagram.specs.declared.reader.Survey.{Survey}
+use Rattle.datagram.specs.declared.survey.Survey.{Survey}
 use Rattle.events.specs.declared.output.Refusal.{Refusal}
 use Rattle.events.specs.declared.output.Refusal.TheVariants.{Rtp, Feedback}
 use Rattle.datagram.specs.Saying.{Gist, PacketsSay, Said, Says, media, leaves, control, said_by, speaker_of}

@@ -5,6 +5,7 @@
 //! datagram names, `naming` says before it is read; what is noted of it with reading it, `notes`: `kinds`, `blocks` and `notice` are the parts.
 #![tactic(auto)]
 
+mod asks;
 mod blocks;
 mod kinds;
 mod naming;
@@ -13,6 +14,7 @@ mod notice;
 mod reader;
 mod reading;
 mod spelling;
+mod survey;
 
 pub use blocks::blocks_of;
 pub use kinds::{Kinds, kinds_of};

@@ -1,12 +1,13 @@
 //! What went in and out of a unit, by endpoint and by leg, and how it is told: lines for people, and metrics in the text format of
 //! Prometheus.
 //!
-//! Read `traffic` first, the counts that threads raise. It stands on `endpoint_count` and `leg_count`, what was counted of an endpoint and on a leg, and
+//! Read `traffic` first, the counts that threads raise, in `cells`. It stands on `endpoint_count` and `leg_count`, what was counted of an endpoint and on a leg, and
 //! `reports`, what report blocks say; `report_cells` is where threads leave that. `refusals` says why what came was refused,
 //! `refusal_cells` is where threads count it. `lines`, `report_lines` and `refusal_texts` are texts for people, `metrics` those for
 //! Prometheus, `figures` and `report_figures` which metrics there are.
 #![tactic(auto)]
 
+mod cells;
 mod endpoint_count;
 mod figures;
 mod leg_count;

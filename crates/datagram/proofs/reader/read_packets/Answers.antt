@@ -1,7 +1,7 @@
 use Rattle.std.proofs.Common.{List, [], Result, refl, sym, subst}
 use Rattle.rtcp_compound.specs.Left.{contents_left}
 use Rattle.rtcp_feedback.specs.declared.fault.FbFault.{FbFault}
-use Rattle.datagram.specs.declared.reader.Survey.{Survey}
+use Rattle.datagram.specs.declared.survey.Survey.{Survey}
 use Rattle.datagram.specs.declared.reading.Ask.{Ask}
 use Rattle.datagram.specs.Reads.{IsListed, Surveys}
 use Rattle.datagram.specs.Saying.{PacketsSay, control, speaker_of}
