@@ -10,7 +10,7 @@ use crate::slow::canonical_places;
 use crate::slow_certificate::certificate;
 use arrayvec::ArrayVec;
 use bounding_set::Bounds;
-use bounding_set::laws::walk;
+use bounding_set::laws::{implies, walk};
 use rate_cert::{MAX_REQUESTS, Request};
 use std::alloc::Global;
 use std::process::Abort;
@@ -124,6 +124,16 @@ fn in_place_equals_plain(rt: HostRuntime) -> Result<(), Fail> {
     assert_eq!(rt; most_live, 256);
     assert!(rt; most_kept > 100, "{most_kept} were kept");
     Ok(())
+}
+
+/// In example 4 owners 18 and 17 imply what 19 asks for; in example 5 it is one bit per second less, and they don't. Each test counts.
+#[test]
+fn implied_as_in_examples_4_and_5(rt: HostRuntime) {
+    let (first, second) = (Tuple::from_word(0x01d4_c014), Tuple::from_word(0x01f4_0028));
+    let mut count = 7;
+    let touches = implies(&first, &Tuple::from_word(0x01e4_601e), &second, &mut count);
+    let cuts_off = implies(&first, &Tuple::from_word(0x01e4_5e1e), &second, &mut count);
+    assert!(rt; (touches, cuts_off, count) == (true, false, 9));
 }
 
 /// How the certificate of 64 owners begins if owner 64 hides all but the farthest of the others.
