@@ -1,8 +1,15 @@
-//! `sfu bound --sender 1` by the worked examples 1 to 13 and 30 to 33 of docs/EXAMPLES.md.
-use crate::row::{Row, assert_ends};
+//! `sfu bound --sender 1` by the worked examples 1 to 13 and 30 to 33 of docs/EXAMPLES.md, and over streams that fail.
+use crate::row::{Ended, Row, assert_ends};
 use crate::stream::Stream;
-use commands::run_command;
+use commands::{ErrorOutput, run_command};
+use std::fs::File;
+use std::net::{Net, TcpListener, TcpStream};
+use std::random::RandomSource;
+use std::rt::Files;
+use std::sync::Wait;
 use std::test::Fail;
+use std::thread::Threads;
+use std::time::Clock;
 
 /// Lines of datagrams.
 const ROWS: [Row; 21] = [
@@ -199,16 +206,42 @@ const ROWS: [Row; 21] = [
     },
 ];
 
+/// How the command ends that reads and prints by these streams.
+pub(crate) fn bound<
+    R: AllocGlobal
+        + ErrorOutput
+        + Files<File = File>
+        + Net<Listener = TcpListener, Stream = TcpStream>
+        + RandomSource
+        + Threads
+        + Wait
+        + Sync
+        + Clock,
+>(rt: &R, lines: Stream<'_>, printed: Stream<'_>) -> Result<Ended, Fail> {
+    let (mut lines, mut printed) = (lines, printed);
+    let mut said = Stream::new(rt.alloc(), "");
+    let words = ["sfu", "bound", "--sender", "1"];
+    let status = run_command(rt, words.as_slice(), &mut lines, &mut printed, &mut said);
+    Ended::with(status, printed, said)
+}
+
 #[test]
 fn rows_of_bound(rt: HostRuntime) -> Result<(), Fail> {
     let alloc = rt.alloc();
-    let words = ["sfu", "bound", "--sender", "1"];
     for row in ROWS.iter() {
-        let mut lines = Stream::new(alloc, row.read);
-        let mut printed = Stream::new(alloc, "");
-        let mut said = Stream::new(alloc, "");
-        let status = run_command(&rt, words.as_slice(), &mut lines, &mut printed, &mut said);
-        assert_ends(&rt, row, status, printed, said)?;
+        let ended = bound(&rt, Stream::new(alloc, row.read), Stream::new(alloc, ""))?;
+        assert_ends(&rt, row, &ended);
     }
+    Ok(())
+}
+
+/// A reader that fails behind the lines of example 1, and a writer that takes nothing.
+#[test]
+fn broken_streams_of_bound(rt: HostRuntime) -> Result<(), Fail> {
+    let (alloc, lines) = (rt.alloc(), ROWS[0].read);
+    let unread = bound(&rt, Stream::broken(alloc, lines), Stream::new(alloc, ""))?;
+    let unwritten = bound(&rt, Stream::new(alloc, lines), Stream::broken(alloc, ""))?;
+    assert_eq!(rt; (unread.why(), unwritten.why()), (("io\n", 5), ("io\n", 5)));
+    assert_eq!(rt; unread.printed.as_str(), "");
     Ok(())
 }

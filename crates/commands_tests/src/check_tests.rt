@@ -1,5 +1,5 @@
 //! `sfu check` by the worked example 26 of docs/EXAMPLES.md.
-use crate::row::{Row, assert_ends};
+use crate::row::{Ended, Row, assert_ends};
 use crate::stream::Stream;
 use commands::check_lines;
 use std::test::Fail;
@@ -52,7 +52,7 @@ fn rows_of_check(rt: HostRuntime) -> Result<(), Fail> {
         let mut printed = Stream::new(alloc, "");
         let mut said = Stream::new(alloc, "");
         let status = check_lines(alloc, &mut file, &mut printed, &mut said);
-        assert_ends(&rt, row, status, printed, said)?;
+        assert_ends(&rt, row, &Ended::with(status, printed, said)?);
     }
     Ok(())
 }

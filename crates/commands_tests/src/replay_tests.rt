@@ -1,9 +1,9 @@
-//! Scripts of `sfu replay` by the worked examples 20 to 24, 42 to 45 and 47 of docs/EXAMPLES.md.
-use crate::row::{Row, assert_ends};
+//! Scripts of `sfu replay` by the worked examples 20 to 24 and 42 to 47 of docs/EXAMPLES.md.
+use crate::row::{Ended, Row, assert_ends};
 use crate::stream::Stream;
 use commands::{FileSettings, read_settings, replay_lines};
 use settings::Settings;
-use std::alloc::Global;
+use std::alloc::{AllocError, Global};
 use std::test::Fail;
 
 /// The keys of `examples/room.toml` that some examples change.
@@ -197,17 +197,54 @@ const ROWS: [(&str, Row); 9] = [
     ),
 ];
 
+/// How a script ends in this room.
+fn replayed(alloc: Global, room: &Settings, script: &str) -> Result<Ended, Fail> {
+    let mut script = Stream::new(alloc, script);
+    let mut printed = Stream::new(alloc, "");
+    let mut said = Stream::new(alloc, "");
+    let status = replay_lines(alloc, room, &mut script, &mut printed, &mut said);
+    Ended::with(status, printed, said)
+}
+
 #[test]
 fn rows_of_replay(rt: HostRuntime) -> Result<(), Fail> {
     let alloc = rt.alloc();
     for (keys, row) in ROWS.iter() {
         let room = room(alloc, keys)?;
-        let mut script = Stream::new(alloc, row.read);
-        let mut printed = Stream::new(alloc, "");
-        let mut said = Stream::new(alloc, "");
-        let status = replay_lines(alloc, &room, &mut script, &mut printed, &mut said);
-        assert_ends(&rt, row, status, printed, said)?;
+        let ended = replayed(alloc, &room, row.read)?;
+        assert_ends(&rt, row, &ended);
     }
+    Ok(())
+}
+
+/// These texts, the second of them so many times.
+fn repeated(alloc: Global, once: &str, again: &str, times: u32) -> Result<String, AllocError> {
+    let mut text = String::new(alloc);
+    text.push_str(once)?;
+    for _ in 0..times {
+        text.push_str(again)?;
+    }
+    Ok(text)
+}
+
+/// The script of example 46: both come, and then 1,025 packets for worker 1, in whose ring 1,024 have room.
+fn flood(alloc: Global) -> Result<String, AllocError> {
+    let both = "hear 0 0 8060000700000bb800000010aabb\nsettle\nhear 0 1 80c9000100000011\nsettle\n";
+    let packet = "hear 0 0 8060000700000bb800000010aabb\ningress\n";
+    let mut script = repeated(alloc, both, packet, 1_025)?;
+    script.push_str("settle\n")?;
+    Ok(script)
+}
+
+/// Example 46.
+#[test]
+fn flood_of_replay(rt: HostRuntime) -> Result<(), Fail> {
+    let alloc = rt.alloc();
+    let ended = replayed(alloc, &room(alloc, PLAIN)?, flood(alloc)?.as_str())?;
+    let sent = "send 1 8060006400000bb800000101aabb\n";
+    let wanted = repeated(alloc, "lost 1\n", sent, 1_024)?;
+    assert!(rt; ended.printed.as_str() == wanted.as_str());
+    assert_eq!(rt; ended.why(), ("", 0));
     Ok(())
 }
 

@@ -12,18 +12,36 @@ pub(crate) struct Row {
     pub(crate) code: u8,
 }
 
-/// That a call which ended so ended as the row has it.
-pub(crate) fn assert_ends(
-    rt: &(impl AllocGlobal + Abort),
-    row: &Row,
-    status: Status,
-    printed: Stream<'_>,
-    said: Stream<'_>,
-) -> Result<(), Fail> {
-    let printed = printed.text()?;
-    let said = said.text()?;
-    assert_eq!(rt; printed.as_str(), row.printed);
-    assert_eq!(rt; said.as_str(), row.said);
-    assert_eq!(rt; status.code(), row.code);
-    Ok(())
+/// What a call printed and said, and the number that a process exits with.
+#[derive(Drop)]
+pub(crate) struct Ended {
+    pub(crate) printed: String,
+    pub(crate) said: String,
+    pub(crate) code: u8,
+}
+
+impl Ended {
+    /// A call ended with this status, and wrote to these streams.
+    pub(crate) fn with(
+        status: Status,
+        printed: Stream<'_>,
+        said: Stream<'_>,
+    ) -> Result<Ended, Fail> {
+        Ok(Ended {
+            printed: printed.text()?,
+            said: said.text()?,
+            code: status.code(),
+        })
+    }
+
+    /// What was said, and the number.
+    pub(crate) fn why(&self) -> (&str, u8) {
+        (self.said.as_str(), self.code)
+    }
+}
+
+/// That a call ended as the row has it.
+pub(crate) fn assert_ends(rt: &impl Abort, row: &Row, ended: &Ended) {
+    assert_eq!(rt; ended.printed.as_str(), row.printed);
+    assert_eq!(rt; ended.why(), (row.said, row.code));
 }
