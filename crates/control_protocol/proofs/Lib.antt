@@ -1,1 +1,2 @@
 pub mod InboxLemmas
+pub mod PlaceLemmas

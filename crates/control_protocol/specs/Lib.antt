@@ -1,6 +1,7 @@
 pub mod Requests
 pub mod Answers
 pub mod Inboxes
+pub mod Places
 pub mod Courses
 pub mod Asking
 pub mod Screened

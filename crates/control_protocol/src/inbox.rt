@@ -26,7 +26,7 @@ impl Model for Inbox {
 }
 
 impl Inbox {
-    ghost use Rattle.std.specs.Prelude.{◌≡◌, ◌≤◌, ◌<◌, ◌+◌, ◌++◌, [], length, IfOk, MatchOption, OnErr, OnOk};
+    ghost use Rattle.std.specs.Prelude.{◌≡◌, ◌≤◌, ◌<◌, ◌+◌, ◌++◌, ℕ, List, [], length, IfOk, MatchBool, MatchOption, OnErr, OnOk};
     ghost use Rattle.control_protocol.specs.Inboxes.{IsLineOf, IsOpen};
     ghost use Rattle.control_protocol.specs.declared.inbox.TheConstants.{MAX_INBOX};
 
@@ -54,6 +54,14 @@ impl Inbox {
         ensures unchanged { OnErr result (self.new ≡ self.old) }
     {
         self.bytes.extend_from_slice(bytes)
+    }
+
+    /// Whether a line has ended.
+    pub fn has_line(&self) -> bool
+        ensures { MatchBool result ((line : List ℕ) × (rest : List ℕ) × IsLineOf self.now line rest)
+            (IsOpen self.now) }
+    {
+        first_line(self.bytes.as_slice()).is_some()
     }
 
     /// The first line, without its end, if it has ended; it is taken out. Refused for want of memory alone; then nothing changes.

@@ -1,8 +1,8 @@
 //! How a unit is steered while it runs: what a peer of `sfu serve --control` asks for, and what it is answered.
 //!
 //! There is neither a socket nor a thread here. Read `request` first, what can be asked for; then `answer`, the texts of answers,
-//! `course`, what a request leads to, `inbox`, how lines come out of the bytes of a peer, and `peers`, who is
-//! looked at next. `ask` is the other end, which takes an answer apart.
+//! `course`, what a request leads to, `inbox`, how lines come out of the bytes of a peer, `peers`, who is
+//! looked at next, and `places`, who makes room for another. `ask` is the other end, which takes an answer apart.
 #![tactic(auto)]
 
 mod answer;
@@ -10,6 +10,7 @@ mod ask;
 mod course;
 mod inbox;
 mod peers;
+mod places;
 mod request;
 mod screened;
 
@@ -19,6 +20,7 @@ pub use answer::{
 pub use ask::{Answered, read_answer};
 pub use course::{Course, course_for};
 pub use inbox::{Inbox, MAX_INBOX};
-pub use peers::{MAX_PEERS, Peers};
+pub use peers::Peers;
+pub use places::{MAX_PEERS, Place, ROOM_AFTER_MS, TAKEN_IN, place_among};
 pub use request::{Request, read_request};
 pub use screened::{Screened, screened_text};

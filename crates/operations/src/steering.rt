@@ -4,8 +4,8 @@ ghost use Rattle.std.specs.Prelude.{◌≡◌, None, IfOk, length, map, replicat
 
 use addresses::Strangers;
 use control_protocol::{
-    Course, Peers, Refused, Screened, Unheard, counts_text, course_for, done_text, present_line,
-    refused_text, screened_text, stranger_line,
+    Course, Peers, Refused, Screened, TAKEN_IN, Unheard, counts_text, course_for, done_text,
+    present_line, refused_text, screened_text, stranger_line,
 };
 use desk::Desk;
 use ports::{Look, Received, Status};
@@ -169,13 +169,16 @@ impl Steering {
         switched
     }
 
-    /// Who came is a peer from now on.
+    /// Those who came are peers from now on, if they find a place; so many in one look.
     fn admit(&mut self, moment: u64) {
-        let Ok((stream, _)) = self.listener.accept() else {
-            return;
-        };
-        if stream.set_nonblocking(true).is_ok() {
-            self.peers.admit(stream, moment);
+        for _comer in 0..TAKEN_IN {
+            let Ok((stream, _)) = self.listener.accept() else {
+                return;
+            };
+            if stream.set_nonblocking(true).is_ok() {
+                self.peers.let_go(moment);
+                self.peers.admit(stream, moment);
+            }
         }
     }
 

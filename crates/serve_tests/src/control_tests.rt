@@ -1,7 +1,9 @@
 //! Requests, answers and lines, as docs/FORMATS.md has them.
 
 use crate::expected::same;
-use control_protocol::{MAX_PEERS, Peers, Request, Unheard, counts_text};
+use control_protocol::{
+    MAX_PEERS, Peers, Place, ROOM_AFTER_MS, Request, Unheard, counts_text, place_among,
+};
 use ports::Status;
 use std::alloc::{AllocError, Global};
 use std::io::{self, ErrorKind, Read, Write};
@@ -62,11 +64,15 @@ const fn line_of(bytes: &'static [u8], takes: usize) -> Line {
     Line { bytes, takes }
 }
 
-/// What peers ask in forty looks, each of whom is answered.
-fn asked(alloc: Global, peers: &mut Peers<Line>) -> Result<Vec<Request>, AllocError> {
+/// What peers ask in forty looks at this moment, each of whom is answered.
+fn asked_at(
+    alloc: Global,
+    peers: &mut Peers<Line>,
+    moment: u64,
+) -> Result<Vec<Request>, AllocError> {
     let mut asked = Vec::new(alloc);
     for _look in 0..40 {
-        if let Some(request) = peers.next_request(1) {
+        if let Some(request) = peers.next_request(moment) {
             asked.push(request)?;
             peers.answer(b"ok\n");
         }
@@ -76,7 +82,7 @@ fn asked(alloc: Global, peers: &mut Peers<Line>) -> Result<Vec<Request>, AllocEr
 
 /// Each is looked at in turn.
 fn ask_in_turn(rt: &impl Abort, alloc: Global, peers: &mut Peers<Line>) -> Result<(), AllocError> {
-    let asked = asked(alloc, peers)?;
+    let asked = asked_at(alloc, peers, 1)?;
     assert!(rt; asked.as_slice() == [Request::Counts, Request::Present, Request::Stop].as_slice());
     Ok(())
 }
@@ -102,6 +108,88 @@ fn looks_at_peers_in_turn(rt: HostRuntime) -> Result<(), Fail> {
             &(None, count),
         );
     }
+    Ok(())
+}
+
+/// Seven who have asked a second ago, and one that has said nothing for two: that one makes room for who comes, and then nobody does.
+#[test]
+fn makes_room_for_who_waits(rt: HostRuntime) -> Result<(), Fail> {
+    let mut peers = Peers::new(rt.alloc());
+    peers.admit(line_of(b"pre", 100), 0);
+    for _peer in 1..MAX_PEERS {
+        peers.admit(line_of(b"legs\n", 100), 900);
+    }
+    same(&rt, &asked_at(rt.alloc(), &mut peers, 1_000)?.len(), &7);
+    peers.admit(line_of(b"counts\n", 100), 1_999);
+    peers.admit(line_of(b"stop\n", 100), 2_000);
+    peers.admit(line_of(b"present\n", 100), 2_001);
+    same(&rt, &peers.count(), &MAX_PEERS);
+    let asked = asked_at(rt.alloc(), &mut peers, 2_001)?;
+    assert!(rt; asked.as_slice() == [Request::Stop].as_slice());
+    Ok(())
+}
+
+/// The one that has said no whole line for the longest makes room, not before that is two seconds, and only if all places are taken.
+#[test]
+fn finds_a_place(rt: HostRuntime) -> Result<(), Fail> {
+    let mut silences = [1, 2, 3, ROOM_AFTER_MS, 9_999, ROOM_AFTER_MS, 0, 7];
+    same(&rt, &place_among(&silences[..]), &Place::Of(4));
+    same(&rt, &place_among(&silences[1..]), &Place::Free);
+    silences[4] = 0;
+    silences[3] = 1_999;
+    same(&rt, &place_among(&silences[..]), &Place::Of(5));
+    silences[5] = 1_999;
+    same(&rt, &place_among(&silences[..]), &Place::Nowhere);
+    Ok(())
+}
+
+/// A stream that has ended once it gave its bytes.
+#[derive(Drop)]
+struct Ending {
+    line: Line,
+}
+
+impl Read for Ending {
+    fn read(&mut self, buf: &mut [u8]) -> io::Result<usize> {
+        if self.line.bytes.is_empty() {
+            return Ok(0);
+        }
+        self.line.read(buf)
+    }
+}
+
+impl Write for Ending {
+    fn write(&mut self, buf: &[u8]) -> io::Result<usize> {
+        self.line.write(buf)
+    }
+
+    fn flush(&mut self) -> io::Result<()> {
+        Ok(())
+    }
+}
+
+/// One comes that says this and has gone; how many there are then.
+fn come(peers: &mut Peers<Ending>, bytes: &'static [u8]) -> usize {
+    peers.let_go(1);
+    let line = line_of(bytes, 100);
+    peers.admit(Ending { line }, 1);
+    peers.count()
+}
+
+/// Who is gone when it is taken in has no place; who is gone behind half a line is let go once all places are taken, and who left a
+/// whole line is heard.
+#[test]
+fn lets_go_of_who_is_gone(rt: HostRuntime) -> Result<(), Fail> {
+    let mut peers = Peers::new(rt.alloc());
+    same(&rt, &come(&mut peers, b""), &0);
+    same(&rt, &come(&mut peers, b"legs\n"), &1);
+    for count in 2..=MAX_PEERS {
+        same(&rt, &come(&mut peers, b"leg"), &count);
+    }
+    same(&rt, &come(&mut peers, b"stop\n"), &2);
+    same(&rt, &peers.next_request(1), &Some(Request::Legs));
+    peers.answer(b"ok\n");
+    same(&rt, &peers.next_request(1), &Some(Request::Stop));
     Ok(())
 }
 
