@@ -7,3 +7,4 @@ pub mod Sets
 pub mod Hosts
 pub mod Answers
 pub mod Told
+pub mod Pauses

@@ -126,7 +126,7 @@ footer { margin-top: 1rem; }
 opened, and show a minute.</footer>
 <script>
 'use strict';
-const EACH_MS = 2000, PATIENCE_MS = 5000, MINUTE_MS = 60000;
+const EACH_MS = 2000, PAUSE_MS = 8000, PATIENCE_MS = 5000, MINUTE_MS = 60000;
 const NONE = '\u2013';
 const SVG = 'http://www.w3.org/2000/svg';
 // Said, since a narrow page lays tables out as cards, and browsers forget then what they are.
@@ -365,24 +365,31 @@ const tell = (text, kind) => {
   if (kind === 'bad') document.title = 'sfu: no answer';
 };
 let paused = false;
+// Whether the state is there, and shown.
 const ask = async () => {
   let answer;
   try {
     answer = await fetch('/state.json', { signal: AbortSignal.timeout(PATIENCE_MS) });
-    if (paused) return;
-    if (answer.status === 503) return tell('The unit does not answer', 'bad');
-    if (!answer.ok) return tell(`The answer has status ${answer.status}`, 'bad');
-    show(await answer.json());
-    say(at('when'), `last answer ${new Date().toLocaleTimeString()}`);
-    tell('The unit answers', 'on');
+    if (paused) return true;
+    if (answer.status === 503) tell('The unit does not answer', 'bad');
+    else if (!answer.ok) tell(`The answer has status ${answer.status}`, 'bad');
+    else {
+      show(await answer.json());
+      say(at('when'), `last answer ${new Date().toLocaleTimeString()}`);
+      tell('The unit answers', 'on');
+      return true;
+    }
   } catch (error) {
     tell(answer ? 'The answer can not be read' : 'The program sfu page does not answer', 'bad');
   }
+  return false;
 };
 
+// After each state that isn't there the next one is read later.
+let pause = EACH_MS;
 const turn = async () => {
-  if (!paused) await ask();
-  setTimeout(turn, EACH_MS);
+  if (!paused) pause = await ask() ? EACH_MS : Math.min(2 * pause, PAUSE_MS);
+  setTimeout(turn, pause);
 };
 at('pause').hidden = false;
 at('pause').addEventListener('click', () => {

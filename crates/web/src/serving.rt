@@ -1,6 +1,8 @@
 //! `sfu page PATH ADDRESS`: the loop that asks a unit and answers those who come, in one thread.
 
-ghost use Rattle.std.specs.Prelude.{◌≡◌, ◌≢◌, None, IfErr};
+ghost use Rattle.std.specs.Prelude.{◌≡◌, ◌≢◌, ◌+◌, ◌-◌, ◌^◌, min, None, IfErr};
+ghost use Rattle.web.specs.Pauses.{longer_pause};
+ghost use Rattle.web.specs.declared.serving.TheConstants.{ASK_EACH_MS};
 
 use crate::inquiry::{Inquiry, Step};
 use crate::said::Said;
@@ -19,6 +21,9 @@ use std::time::{Clock, Duration, Instant};
 
 /// So many milliseconds lie between two inquiries.
 const ASK_EACH_MS: u64 = 2_000;
+
+/// So many at most after an inquiry that failed, before the next one.
+const MAX_PAUSE_MS: u64 = 8_000;
 
 /// So many at least for each question that the last one had.
 const QUESTION_EACH_MS: u64 = 40;
@@ -153,6 +158,8 @@ struct Page {
     begun_ms: u64,
     /// The moment from which on the unit is asked again.
     due_ms: u64,
+    /// For how many milliseconds it wasn't asked after the last inquiry, if that failed.
+    pause_ms: u64,
     teller: Teller,
     visitors: Visitors<TcpStream>,
 }
@@ -170,6 +177,7 @@ fn begin<R: AllocGlobal + Clock + RandomSource>(rt: &R, name: &str) -> Option<Pa
         inquiry: None,
         begun_ms: 0,
         due_ms: 0,
+        pause_ms: ASK_EACH_MS,
         teller: Teller::new(alloc, called),
         visitors: Visitors::new(alloc, keys),
     })
@@ -228,7 +236,7 @@ impl Page {
         match &mut self.inquiry {
             Some(inquiry) => {
                 let step = inquiry.step(moment);
-                self.note(step);
+                self.note(step, moment);
             }
             None => {
                 if moment >= self.due_ms {
@@ -243,26 +251,39 @@ impl Page {
     fn begin_inquiry<R: Net>(&mut self, rt: &R, path: &str, moment: u64) {
         match connected(rt, path) {
             Some(stream) => self.inquiry = Some(Inquiry::new(self.alloc, stream, moment)),
-            None => self.teller.hear(None),
+            None => self.fail(moment),
         }
     }
 
-    /// The inquiry came so far. Of a unit that is gone, or doesn't answer any more, nothing is told from then on.
-    fn note(&mut self, step: Step)
+    /// The inquiry came so far by this moment.
+    fn note(&mut self, step: Step, moment: u64)
         ensures asking { step ≡ Step.Asking → self.new.teller ≡ self.old.teller }
         ensures gone { step ≡ Step.Failed → self.new.teller.said ≡ None }
+        ensures later { step ≡ Step.Failed → self.new.pause_ms ≡ longer_pause self.old.pause_ms }
+        ensures soon { step ≡ Step.Answered → self.new.pause_ms ≡ ASK_EACH_MS }
     {
         match step {
             Step::Asking => {}
             Step::Answered => {
                 let said = self.take_said();
                 self.teller.hear(said);
+                self.pause_ms = ASK_EACH_MS;
             }
-            Step::Failed => {
-                self.inquiry = None;
-                self.teller.hear(None);
-            }
+            Step::Failed => self.fail(moment),
         }
+    }
+
+    /// The unit is gone, or doesn't answer any more: nothing of it is told from this moment on, and it is asked again after a pause, a longer
+    /// one each time.
+    fn fail(&mut self, moment: u64)
+        ensures gone { self.new.teller.said ≡ None }
+        ensures later { self.new.pause_ms ≡ longer_pause self.old.pause_ms }
+        ensures due { self.new.due_ms ≡ min (moment + self.new.pause_ms) (2 ^ 64 - 1) }
+    {
+        self.inquiry = None;
+        self.teller.hear(None);
+        self.pause_ms = self.pause_ms.saturating_mul(2).min(MAX_PAUSE_MS);
+        self.due_ms = moment.saturating_add(self.pause_ms);
     }
 
     /// What the unit said in the inquiry, which is over; the next one waits until that many questions may be asked again.

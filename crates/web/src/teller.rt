@@ -20,7 +20,7 @@ use std::alloc::{AllocError, Global};
 /// (Content Security Policy Level 3).
 const PAGE_POLICY: &str = "default-src 'none'; \
     style-src 'sha256-ZcBuJoUW3muoEoC+yZ8V3qHsmMthRxIu59DtqKiU2r0='; \
-    script-src 'sha256-mgYVgP4fvd9OgZoI8Nc9fGMv3+yT7cbNweu9QpUrqtM='; \
+    script-src 'sha256-Do4RFRtvEob6bNqNEgcUQw64ecJso00qtLDgc00ZRrg='; \
     connect-src 'self'; img-src 'self'; base-uri 'none'; form-action 'none'; frame-ancestors 'none'";
 
 /// What it may do with all else: a picture has a style of its own, and nothing runs or is loaded.
