@@ -1,5 +1,5 @@
--- A source begins anew only after a packet that was far.
-use Rattle.std.proofs.Common.{◌≡◌, ℕ, inl, inr, true, List, [], ◌∷◌, refl, sym, ap, ◌∙◌}
+-- A source begins anew only after a packet that was far, and goes on after an outage.
+use Rattle.std.proofs.Common.{◌≡◌, ℕ, inl, inr, Bool, true, false, ◌||◌, List, [], ◌∷◌, refl, sym, ap, ◌∙◌}
 use Rattle.std.specs.Prelude.{Option, None, Some, if◌then◌else◌}
 use Rattle.std.proofs.lemmas.Bool.{cases_Bool, cond-true, cond-false}
 use Rattle.std.proofs.lemmas.Option.{same_Some}
@@ -8,18 +8,24 @@ use Rattle.policy.specs.declared.run.SequenceTracker.{SequenceTracker}
 use Rattle.policy.specs.declared.run.Stamp.{Stamp}
 use Rattle.policy.specs.declared.run.Placement.{Placement}
 use Rattle.policy.specs.declared.run.Placement.TheVariants.{InSequence, Jump, Restart}
-use Rattle.policy.specs.SequenceTrackers.{FollowsFar, begun_or_with, first_or_placed, is_awaited, is_near, placement_in, run_from, run_of, run_placed, run_with, successor_of}
+use Rattle.policy.specs.SequenceTrackers.{FollowsFar, begun_or_with, first_or_placed, goes_on, is_ahead, is_awaited, is_near, placement_in, run_from, run_of, run_placed, run_up_to, run_with, successor_of}
 
 -- what follows a far packet does so after one more packet, too
 one_later : (packets : List Stamp) (p : Stamp) (seq : ℕ) → FollowsFar packets seq → FollowsFar (p ∷ packets) seq
 one_later packets p seq f =
     record { later = p ∷ f.later; far = f.far; earlier = f.earlier; stood = ap (λ (l : List Stamp). p ∷ l) f.stood; was_far = f.was_far; next = f.next }
 
+-- a packet that is in sequence leaves it at what is awaited
+still_awaited : (run : SequenceTracker) (p : Stamp) (b : Bool) → (if b then run_up_to run p else run).awaited ≡ run.awaited
+still_awaited run p true = refl
+still_awaited run p false = refl
+
 -- the number that is awaited is the one after a far packet's
 awaited_with : (packets : List Stamp) (run : SequenceTracker) (p : Stamp) (seq : ℕ) (placed : Placement) → run_of packets ≡ Some run
     → placement_in run p ≡ placed → ((w : ℕ) → run.awaited ≡ Some w → FollowsFar packets w)
     → (run_placed run p placed).awaited ≡ Some seq → FollowsFar (p ∷ packets) seq
-awaited_with packets run p seq InSequence is placed before awaits = one_later packets p seq (before seq awaits)
+awaited_with packets run p seq InSequence is placed before awaits =
+    one_later packets p seq (before seq (sym (still_awaited run p (is_ahead run.highest p)) ∙ awaits))
 awaited_with packets run p seq Jump is placed before awaits =
     record {
       later = [];
@@ -56,11 +62,11 @@ awaited_of (p ∷ packets) run seq is awaits = here (run_of packets) refl (λ fo
 -- who begins anew with this packet awaited its number
 anew_awaited : (run : SequenceTracker) (stamp : Stamp) → placement_in run stamp ≡ Restart → run.awaited ≡ Some stamp.seq
 anew_awaited run stamp anew =
-    elim (cases_Bool (is_near run.highest stamp)) [
-      | inl near ↦ absurd (not_near (sym (cond-true (is_near run.highest stamp) InSequence (if is_awaited run.awaited stamp.seq then Restart else Jump) near) ∙ anew))
+    elim (cases_Bool (is_near run.highest stamp || goes_on run stamp)) [
+      | inl near ↦ absurd (not_near (sym (cond-true (is_near run.highest stamp || goes_on run stamp) InSequence (if is_awaited run.awaited stamp.seq then Restart else Jump) near) ∙ anew))
       | inr far ↦ elim (cases_Bool (is_awaited run.awaited stamp.seq)) [
         | inl awaited ↦ is_number run.awaited awaited
-        | inr odd ↦ absurd (not_far (sym (cond-false (is_near run.highest stamp) InSequence (if is_awaited run.awaited stamp.seq then Restart else Jump) far
+        | inr odd ↦ absurd (not_far (sym (cond-false (is_near run.highest stamp || goes_on run stamp) InSequence (if is_awaited run.awaited stamp.seq then Restart else Jump) far
             ∙ cond-false (is_awaited run.awaited stamp.seq) Restart Jump odd) ∙ anew))
       ]
     ]
@@ -81,3 +87,16 @@ anew_follows packets stamp anew = here (run_of packets) refl anew
     here : (run : Option SequenceTracker) → run_of packets ≡ run → first_or_placed run stamp ≡ Restart → FollowsFar packets stamp.seq
     here None none near = absurd (cc)
     here (Some run) some same = awaited_of packets run stamp.seq some (anew_awaited run stamp same)
+
+-- ---- who goes on with the clock
+
+or_true : (b c : Bool) → c ≡ true → (b || c) ≡ true
+or_true true c is = refl
+or_true false c is = is
+
+pub goes_on_in_sequence : (packets : List Stamp) (run : SequenceTracker) (stamp : Stamp) → run_of packets ≡ Some run → goes_on run stamp ≡ true
+    → first_or_placed (run_of packets) stamp ≡ InSequence
+goes_on_in_sequence packets run stamp is goes =
+    ap (λ (r : Option SequenceTracker). first_or_placed r stamp) is
+    ∙ cond-true (is_near run.highest stamp || goes_on run stamp) InSequence (if is_awaited run.awaited stamp.seq then Restart else Jump)
+    (or_true (is_near run.highest stamp) (goes_on run stamp) goes)

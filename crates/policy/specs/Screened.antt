@@ -36,10 +36,11 @@ resends_by c bounds =
 
 -- ---- a packet
 
--- its number and timestamp, if it is of this source
-abbrev pub stamp_in : Ssrc → Media → Option Stamp
-stamp_in own packet =
-    if packet.ssrc.0 == own.0 then Some (stamp_of packet.parts.sequence_number packet.timestamp)
+-- its number and timestamp, and when it came, if it is of the endpoint's own source
+abbrev pub stamp_in : Sent → Media → Option Stamp
+stamp_in sent packet =
+    if packet.ssrc.0 == sent.own.0
+    then Some (stamp_of packet.parts.sequence_number packet.timestamp sent.moment)
     else None
 
 -- where it stands by that, if new starts are looked for, and what is noted of each endpoint then
@@ -119,7 +120,7 @@ PassesOn s t old new judged = (judged ≡ Take) × (t ≡ s) × (new ≡ old)
 
 abbrev pub JudgesAs : What → Screen → Screen → Sent → Reading → Reading → Judged → Type 0
 JudgesAs (media_of packet) s t sent old new judged =
-    JudgesPacket s t sent (stamp_in sent.own packet) judged × (new ≡ old)
+    JudgesPacket s t sent (stamp_in sent packet) judged × (new ≡ old)
 JudgesAs Goodbye s t sent old new judged = PassesOn s t old new judged
 JudgesAs (control_of c) s t sent old new judged =
     JudgesControl s t sent (control_heard s.rules c old.clocked) old new judged

@@ -1,12 +1,12 @@
 -- Whether a packet goes on where its source was, or the source began anew (RFC 3550, appendix A.1).
-use Rattle.std.specs.Prelude.{◌≡◌, ◌==◌, ℕ, ◌+◌, ◌-◌, ◌%◌, ◌^◌, nat_lt, Bool, false, ◌&&◌, ◌||◌, List, [], ◌∷◌, ◌++◌, Option, None, Some, slice_get, slice_set, if◌then◌else◌}
+use Rattle.std.specs.Prelude.{◌≡◌, ◌==◌, ℕ, ◌+◌, ◌-◌, ◌*◌, ◌/◌, ◌%◌, ◌^◌, nat_lt, nat_le, min, Bool, false, ◌&&◌, ◌||◌, List, [], ◌∷◌, ◌++◌, Option, None, Some, slice_get, slice_set, if◌then◌else◌}
 use Rattle.std.specs.Option.{option_map_or}
 use Rattle.rewrite.specs.declared.sequence.TheConstants.{SEQ_CYCLE}
 use Rattle.policy.specs.declared.run.SequenceTracker.{SequenceTracker}
 use Rattle.policy.specs.declared.run.Stamp.{Stamp}
 use Rattle.policy.specs.declared.run.Placement.{Placement}
 use Rattle.policy.specs.declared.run.Placement.TheVariants.{InSequence, Jump, Restart}
-use Rattle.policy.specs.declared.run.TheConstants.{MAX_DROPOUT, MAX_LATE_TICKS, MAX_MISORDER}
+use Rattle.policy.specs.declared.run.TheConstants.{MAX_AHEAD, MAX_DROPOUT, MAX_LATE_TICKS, MAX_MISORDER}
 
 -- how far a number is ahead of the highest, across the wrap
 abbrev pub ahead_of : ℕ → ℕ → ℕ
@@ -34,29 +34,72 @@ is_near highest stamp =
     || (nat_lt (SEQ_CYCLE - MAX_MISORDER) (ahead_of highest.seq stamp.seq)
     && is_close highest.timestamp stamp.timestamp)
 
+-- ---- an outage
+
+-- its number is ahead of the highest rather than behind
+abbrev pub is_ahead : Stamp → Stamp → Bool
+is_ahead highest stamp = nat_lt (ahead_of highest.seq stamp.seq) MAX_AHEAD
+
+-- how many milliseconds there are from the first packet to the highest number
+abbrev pub lasted : SequenceTracker → ℕ
+lasted run = run.highest.moment - run.began
+
+-- by how many units timestamps go on from the highest number to this moment, at the rate at which they went on before
+abbrev pub expected_ticks : SequenceTracker → ℕ → ℕ
+expected_ticks run moment = run.ticks * (moment - run.highest.moment) / lasted run
+
+-- so many units are expected, and it is so many, within a factor of two
+abbrev pub is_about : ℕ → ℕ → Bool
+is_about expected ahead =
+    nat_lt 0 expected && nat_le expected (2 * ahead) && nat_le ahead (2 * expected)
+
+-- Its timestamp went on with the clock since the highest number; before a millisecond passed nothing is known of that.
+abbrev pub is_on_time : SequenceTracker → Stamp → Bool
+is_on_time run stamp =
+    nat_lt 0 (lasted run)
+    && is_about (expected_ticks run stamp.moment)
+    (ticks_ahead_of run.highest.timestamp stamp.timestamp)
+
+-- Its source goes on with it, though many numbers are left out before it: it is ahead, and on time.
+abbrev pub goes_on : SequenceTracker → Stamp → Bool
+goes_on run stamp = is_ahead run.highest stamp && is_on_time run stamp
+
+-- ---- where a packet stands
+
 -- this number is awaited
 abbrev pub is_awaited : Option ℕ → ℕ → Bool
 is_awaited awaited seq = option_map_or (λ number. number == seq) awaited false
 
 abbrev pub placement_in : SequenceTracker → Stamp → Placement
 placement_in run stamp =
-    if is_near run.highest stamp then InSequence
+    if is_near run.highest stamp || goes_on run stamp then InSequence
     else if is_awaited run.awaited stamp.seq then Restart else Jump
 
 -- a source begins with this packet
 abbrev pub run_from : Stamp → SequenceTracker
-run_from stamp = record { highest = stamp; awaited = None }
+run_from stamp = record { highest = stamp; began = stamp.moment; ticks = 0; awaited = None }
 
-abbrev pub highest_with : Stamp → Stamp → Stamp
-highest_with highest stamp =
-    if nat_lt (ahead_of highest.seq stamp.seq) MAX_DROPOUT then stamp else highest
+-- how many units timestamps went on by, once they went on from this one to that, or back, whichever is less
+abbrev pub ticks_with : ℕ → ℕ → ℕ → ℕ
+ticks_with ticks before after =
+    if nat_lt (ticks_ahead_of before after) (2 ^ 31)
+    then min (ticks + ticks_ahead_of before after) (2 ^ 64 - 1)
+    else ticks - ticks_ahead_of after before
+
+-- this packet has the highest number
+abbrev pub run_up_to : SequenceTracker → Stamp → SequenceTracker
+run_up_to run stamp = record {
+  highest = stamp;
+  began = run.began;
+  ticks = ticks_with run.ticks run.highest.timestamp stamp.timestamp;
+  awaited = run.awaited;
+}
 
 -- the numbers with that of this packet, which stands so
 abbrev pub run_placed : SequenceTracker → Stamp → Placement → SequenceTracker
 run_placed run stamp InSequence =
-    record { highest = highest_with run.highest stamp; awaited = run.awaited }
-run_placed run stamp Jump =
-    record { highest = run.highest; awaited = Some (successor_of stamp.seq) }
+    if is_ahead run.highest stamp then run_up_to run stamp else run
+run_placed run stamp Jump = record run { awaited = Some (successor_of stamp.seq) }
 run_placed run stamp Restart = run_from stamp
 
 abbrev pub run_with : SequenceTracker → Stamp → SequenceTracker
@@ -64,9 +107,9 @@ run_with run stamp = run_placed run stamp (placement_in run stamp)
 
 -- ---- each endpoint
 
--- a packet with this number and timestamp
-abbrev pub stamp_of : ℕ → ℕ → Stamp
-stamp_of seq timestamp = record { seq = seq; timestamp = timestamp }
+-- a packet with this number and timestamp came at this moment
+abbrev pub stamp_of : ℕ → ℕ → ℕ → Stamp
+stamp_of seq timestamp moment = record { seq = seq; timestamp = timestamp; moment = moment }
 
 abbrev pub first_or_placed : Option SequenceTracker → Stamp → Placement
 first_or_placed None stamp = InSequence

@@ -2,9 +2,10 @@
 
 ghost use Rattle.std.specs.Prelude.{◌≡◌, ℕ, List, Option, None, Some, true, false, slice_get};
 ghost use Rattle.policy.specs.Nacks.{NamesJust};
-ghost use Rattle.policy.specs.SequenceTrackers.{FollowsFar, first_or_placed, run_of};
+ghost use Rattle.policy.specs.SequenceTrackers.{FollowsFar, first_or_placed, goes_on, run_of};
 ghost use Rattle.policy.specs.declared.run.Stamp.{Stamp};
-ghost use Rattle.policy.specs.declared.run.Placement.TheVariants.{Restart};
+ghost use Rattle.policy.specs.declared.run.SequenceTracker.{SequenceTracker};
+ghost use Rattle.policy.specs.declared.run.Placement.TheVariants.{InSequence, Restart};
 ghost use Rattle.std.specs.List.{list_any};
 ghost use Rattle.rtcp_feedback.specs.declared.tmmb.TmmbrEntry.{TmmbrEntry};
 ghost use Rattle.settings.specs.declared.settings.LegSettings.{LegSettings};
@@ -22,6 +23,15 @@ ghost use Rattle.policy.specs.declared.holding.Holding.{Holding};
 pub fn anew_follows_far()
     ensures { (packets : List Stamp) (stamp : Stamp)
         → first_or_placed (run_of packets) stamp ≡ Restart → FollowsFar packets stamp.seq }
+{}
+
+/// A source doesn't begin anew with a packet that goes on with the clock, whatever came before it, be it a far packet that this one follows:
+/// an outage is no new start.
+#[tactic(auto, using(crate::proofs::StartLemmas::goes_on_in_sequence))]
+pub fn outage_is_no_start()
+    ensures { (packets : List Stamp) (run : SequenceTracker) (stamp : Stamp)
+        → run_of packets ≡ Some run → goes_on run stamp ≡ true
+        → first_or_placed (run_of packets) stamp ≡ InSequence }
 {}
 
 /// An entry of a NACK that is written for some numbers names just these (RFC 4585, section 6.2.1): the first of them is PID, and each bit of

@@ -40,7 +40,9 @@ pub use holding::Holding;
 pub use put_by::HeldPackets;
 pub use resends::{MAX_TRIP_MS, REMEMBERED, ResendBounds};
 pub use rules::Rules;
-pub use run::{MAX_DROPOUT, MAX_LATE_TICKS, MAX_MISORDER, Placement, SequenceTracker, Stamp};
+pub use run::{
+    MAX_AHEAD, MAX_DROPOUT, MAX_LATE_TICKS, MAX_MISORDER, Placement, SequenceTracker, Stamp,
+};
 pub use screen::{Judged, Screen};
 pub use sets::AnnouncedSets;
 pub use starts::SequenceTrackers;

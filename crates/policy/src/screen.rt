@@ -108,10 +108,10 @@ impl<'a> Screen<'a> {
 
     /// What becomes of a packet.
     fn judge_packet(&mut self, sent: Sent, packet: Media) -> Judged
-        ensures judged { JudgesPacket self.old self.new sent (stamp_in sent.own packet) result }
+        ensures judged { JudgesPacket self.old self.new sent (stamp_in sent packet) result }
         ensures stays { Stays self.old self.new }
     {
-        match stamp_in(sent.own, packet) {
+        match stamp_in(sent, packet) {
             Some(stamp) => self.judge_own(sent, stamp),
             None => Judged::Take,
         }
@@ -196,14 +196,15 @@ fn resends_by(
     Ok(Some(Resends::new(alloc, settings, bounds)?))
 }
 
-/// The number and timestamp of a packet, if it is of this source.
-fn stamp_in(own: Ssrc, packet: Media) -> Option<Stamp>
-    ensures { result ≡ stamp_in own packet }
+/// The number and timestamp of a packet and when it came, if it is of its endpoint's own source.
+fn stamp_in(sent: Sent, packet: Media) -> Option<Stamp>
+    ensures { result ≡ stamp_in sent packet }
 {
-    if packet.ssrc == own {
+    if packet.ssrc == sent.own {
         Some(Stamp {
             seq: packet.parts.sequence_number,
             timestamp: packet.timestamp,
+            moment: sent.moment,
         })
     } else {
         None

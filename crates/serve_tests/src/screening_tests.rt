@@ -1,4 +1,4 @@
-//! A source that goes on, odd packets of it, and a source that begins anew; and under whom reports and feedback are heard.
+//! A source that goes on, odd packets of it, an outage, and a source that begins anew; and under whom reports and feedback are heard.
 
 use crate::resend_tests::room;
 use datagram::{Reading, Sent, What, read};
@@ -15,6 +15,8 @@ use tmmbr_tuple::Ssrc;
 enum Cue {
     /// An RTP packet of the source 17 with this number (RFC 3550, section 5.1).
     Packet(u16),
+    /// One with this number and timestamp at this moment.
+    Timed(u64, u16, u32),
     /// A sender report, a receiver report and a PLI of the source 0x99.
     OfAnother,
     /// A receiver report and a PLI of that source.
@@ -25,9 +27,10 @@ enum Cue {
     ReportAfterHeader,
 }
 
-fn packet(seq: u16) -> [u8; 13] {
+fn packet(seq: u16, timestamp: u32) -> [u8; 13] {
     let [high, low] = seq.to_be_bytes();
-    [0x80, 0x60, high, low, 0, 0, 0, 0, 0, 0, 0, 17, 0xaa]
+    let [a, b, c, d] = timestamp.to_be_bytes();
+    [0x80, 0x60, high, low, a, b, c, d, 0, 0, 0, 17, 0xaa]
 }
 
 /// A sender report of the source 0x99, and a receiver report and a PLI of it behind that.
@@ -43,7 +46,8 @@ const AFTER_HEADER: [u8; 12] = [0x81, 0xce, 0, 0, 0x80, 0xc9, 0, 1, 0, 0, 0, 0x9
 fn read_cue(cue: Cue, reading: &mut Reading) -> Result<(), AllocError> {
     let own = Ssrc(17);
     match cue {
-        Cue::Packet(seq) => read(&packet(seq), own, None, reading),
+        Cue::Packet(seq) => read(&packet(seq, 0), own, None, reading),
+        Cue::Timed(_, seq, timestamp) => read(&packet(seq, timestamp), own, None, reading),
         Cue::OfAnother => read(&OF_ANOTHER, own, None, reading),
         Cue::FeedbackOfAnother => read(&OF_ANOTHER[28..], own, None, reading),
         Cue::ReportOfAnother => read(&OF_ANOTHER[28..36], own, None, reading),
@@ -70,6 +74,31 @@ fn push_judged(text: &mut String, judged: Judged, what: What) -> Result<(), Allo
     Ok(())
 }
 
+/// When it came.
+fn moment_of(cue: Cue) -> u64 {
+    match cue {
+        Cue::Timed(moment, _, _) => moment,
+        _ => 0,
+    }
+}
+
+/// What is made of a datagram.
+fn push_one(
+    text: &mut String,
+    screen: &mut Screen<'_>,
+    reading: &mut Reading,
+    cue: Cue,
+) -> Result<(), AllocError> {
+    let sent = Sent {
+        moment: moment_of(cue),
+        endpoint: 1,
+        own: Ssrc(17),
+    };
+    read_cue(cue, reading)?;
+    let judged = screen.judge(sent, reading);
+    push_judged(text, judged, reading.what)
+}
+
 /// What is made of these, one after the other.
 fn push_all(
     text: &mut String,
@@ -77,15 +106,8 @@ fn push_all(
     reading: &mut Reading,
     cues: &[Cue],
 ) -> Result<(), AllocError> {
-    let sent = Sent {
-        moment: 0,
-        endpoint: 1,
-        own: Ssrc(17),
-    };
     for cue in cues {
-        read_cue(*cue, reading)?;
-        let judged = screen.judge(sent, reading);
-        push_judged(text, judged, reading.what)?;
+        push_one(text, screen, reading, *cue)?;
     }
     Ok(())
 }
@@ -113,17 +135,54 @@ const ODD: [Cue; 7] = [
     Cue::Packet(40_002),
 ];
 
-/// An odd packet is put by, and so is the first one of a source that begins anew, which is known with the second.
-#[test]
-fn starts_of_a_source(rt: HostRuntime) -> Result<(), Fail> {
+/// What is made of these if new starts are looked for.
+fn placed(alloc: Global, cues: &[Cue]) -> Result<String, Fail> {
     let rules = Rules {
         new_starts: true,
         ..Rules::none()
     };
-    let text = judged(rt.alloc(), rules, &ODD)?;
+    judged(alloc, rules, cues)
+}
+
+/// An odd packet is put by, and so is the first one of a source that begins anew, which is known with the second.
+#[test]
+fn starts_of_a_source(rt: HostRuntime) -> Result<(), Fail> {
+    let text = placed(rt.alloc(), &ODD)?;
     assert_eq!(rt;
         text.as_str(),
         "take, take, put by, take, put by, anew, take, 2 far"
+    );
+    Ok(())
+}
+
+/// 50 numbers and 9,000 units in a tenth of a second, both across the wrap, and then outages.
+const OUTAGES: [Cue; 12] = [
+    Cue::Timed(1_000, 65_500, 4_294_960_000),
+    Cue::Timed(1_100, 14, 1_704),
+    // 8,000 ms and 4,000 numbers later: as many units as the clock says.
+    Cue::Timed(9_100, 4_014, 721_704),
+    // 100 ms later 9,000 are expected. None; one more than twice as many; one less than half as many, and twice that, one number after the other.
+    Cue::Timed(9_200, 8_014, 721_704),
+    Cue::Timed(9_200, 12_014, 739_705),
+    Cue::Timed(9_200, 16_014, 726_203),
+    Cue::Timed(9_200, 20_014, 726_203),
+    Cue::Timed(9_200, 20_015, 726_203),
+    // It began anew: of its clock nothing is known before it goes on.
+    Cue::Timed(9_201, 30_015, 726_293),
+    Cue::Timed(9_300, 20_016, 735_203),
+    // 100 ms later half as many as are expected.
+    Cue::Timed(9_400, 24_016, 739_703),
+    // On time, but half of all numbers later, and so behind.
+    Cue::Timed(9_500, 56_784, 748_703),
+];
+
+/// A packet that is far by its number goes on if its timestamp went on with the clock, within a factor of two, and it is no late one.
+#[test]
+fn outages_of_a_source(rt: HostRuntime) -> Result<(), Fail> {
+    let text = placed(rt.alloc(), &OUTAGES)?;
+    assert_eq!(rt;
+        text.as_str(),
+        "take, take, take, put by, put by, put by, put by, anew, put by, take, take, put by, 6 far"
     );
     Ok(())
 }
