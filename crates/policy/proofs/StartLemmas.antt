@@ -1,6 +1,6 @@
--- A source begins anew only after a packet that was far, and goes on after an outage.
-use Rattle.std.proofs.Common.{◌≡◌, ℕ, inl, inr, Bool, true, false, ◌||◌, List, [], ◌∷◌, refl, sym, ap, ◌∙◌}
-use Rattle.std.specs.Prelude.{Option, None, Some, if◌then◌else◌}
+-- A source begins anew only after a packet that was far, goes on after an outage, and begins once it left.
+use Rattle.std.proofs.Common.{◌≡◌, ℕ, zero, suc, inl, inr, Bool, true, false, ◌||◌, List, [], ◌∷◌, refl, sym, ap, ◌∙◌}
+use Rattle.std.specs.Prelude.{Option, None, Some, slice_set, if◌then◌else◌}
 use Rattle.std.proofs.lemmas.Bool.{cases_Bool, cond-true, cond-false}
 use Rattle.std.proofs.lemmas.Option.{same_Some}
 use borrow.Author.Tests.{eqb-true}
@@ -8,7 +8,14 @@ use Rattle.policy.specs.declared.run.SequenceTracker.{SequenceTracker}
 use Rattle.policy.specs.declared.run.Stamp.{Stamp}
 use Rattle.policy.specs.declared.run.Placement.{Placement}
 use Rattle.policy.specs.declared.run.Placement.TheVariants.{InSequence, Jump, Restart}
-use Rattle.policy.specs.SequenceTrackers.{FollowsFar, begun_or_with, first_or_placed, goes_on, is_ahead, is_awaited, is_near, placement_in, run_from, run_of, run_placed, run_up_to, run_with, successor_of}
+use Rattle.datagram.specs.declared.reading.Sent.{Sent}
+use Rattle.members.specs.Room.{RoomState}
+use Rattle.policy.specs.Presence.{is_there}
+use Rattle.policy.specs.Screened.{PlacesOwn, come_anew, judged_by, placement_by, runs_left, welcomed}
+use Rattle.policy.specs.declared.screen.Judged.{Judged}
+use Rattle.policy.specs.declared.screen.Judged.TheVariants.{Take}
+use Rattle.policy.specs.declared.screen.Screen.{Screen}
+use Rattle.policy.specs.SequenceTrackers.{FollowsFar, begun_or_with, first_or_placed, goes_on, is_ahead, is_awaited, is_near, placement_at, placement_in, run_from, run_of, run_placed, run_up_to, run_with, successor_of}
 
 -- what follows a far packet does so after one more packet, too
 one_later : (packets : List Stamp) (p : Stamp) (seq : ℕ) → FollowsFar packets seq → FollowsFar (p ∷ packets) seq
@@ -100,3 +107,24 @@ goes_on_in_sequence packets run stamp is goes =
     ap (λ (r : Option SequenceTracker). first_or_placed r stamp) is
     ∙ cond-true (is_near run.highest stamp || goes_on run stamp) InSequence (if is_awaited run.awaited stamp.seq then Restart else Jump)
     (or_true (is_near run.highest stamp) (goes_on run stamp) goes)
+
+-- ---- who left
+
+-- of whose numbers nothing is known begins
+begins : (runs : List (Option SequenceTracker)) (endpoint : ℕ) (stamp : Stamp) → placement_at (slice_set runs endpoint None) endpoint stamp ≡ InSequence
+begins [] endpoint stamp = refl
+begins (run ∷ runs) zero stamp = refl
+begins (run ∷ runs) (suc endpoint) stamp = begins runs endpoint stamp
+
+begins_by : (starts : Bool) (runs : List (Option SequenceTracker)) (endpoint : ℕ) (stamp : Stamp)
+    → placement_by starts (runs_left starts runs endpoint) endpoint stamp ≡ InSequence
+begins_by true runs endpoint stamp = begins runs endpoint stamp
+begins_by false runs endpoint stamp = refl
+
+pub begins_in_sequence : (before after : Screen) (sent : Sent) (room : RoomState) (stamp : Stamp) (judged : Judged)
+    → is_there room sent.endpoint sent.moment ≡ false → PlacesOwn (welcomed before sent room) after sent stamp judged → judged ≡ Take
+begins_in_sequence before after sent room stamp judged away places =
+    places.is_judged
+    ∙ ap (λ (s : Screen). judged_by (placement_by s.rules.new_starts s.starts sent.endpoint stamp))
+    (cond-false (is_there room sent.endpoint sent.moment) before (come_anew before sent.endpoint) away)
+    ∙ ap judged_by (begins_by before.rules.new_starts before.starts sent.endpoint stamp)

@@ -56,6 +56,15 @@ counted_by r endpoint moment = record {
   books = r.books;
 }
 
+-- Once this endpoint comes anew: nothing came of it. What was let through on the legs to it stays, as their packets do.
+abbrev pub resends_without : ResendState → ℕ → ResendState
+resends_without r endpoint = record {
+  table = r.table;
+  bounds = r.bounds;
+  flows = slice_set r.flows endpoint idle_flow;
+  books = r.books;
+}
+
 abbrev pub terms_of : Known → Terms
 terms_of k =
     record { table = k.links.now; bounds = k.bounds; flows = k.flows.now; trips = k.trips.now }

@@ -8,10 +8,12 @@ use Rattle.datagram.specs.declared.reading.Reading.{Reading}
 use Rattle.datagram.specs.declared.reading.Sent.{Sent}
 use Rattle.datagram.specs.declared.reading.What.{What}
 use Rattle.datagram.specs.declared.reading.What.TheVariants.{Media as media_of, Goodbye, Control as control_of, Refused}
+use Rattle.members.specs.Room.{RoomState}
 use Rattle.settings.specs.Settings.{Configuration}
 use Rattle.tmmbr_tuple.specs.declared.ssrc.Ssrc.{Ssrc}
-use Rattle.policy.specs.Bounded.{LetsThrough, ResendState, counted_by, idle_resends}
-use Rattle.policy.specs.SequenceTrackers.{placement_at, runs_with, stamp_of}
+use Rattle.policy.specs.Bounded.{LetsThrough, ResendState, counted_by, idle_resends, resends_without}
+use Rattle.policy.specs.Presence.{is_there}
+use Rattle.policy.specs.SequenceTrackers.{placement_at, runs_with, runs_without, stamp_of}
 use Rattle.policy.specs.declared.resends.ResendBounds.{ResendBounds}
 use Rattle.policy.specs.declared.rules.Rules.{Rules}
 use Rattle.policy.specs.declared.run.SequenceTracker.{SequenceTracker}
@@ -33,6 +35,30 @@ pub record Stays (s t : Screen) : Type 0 where
 abbrev pub resends_by : Configuration → ResendBounds → Option ResendState
 resends_by c bounds =
     if (bounds.gap_ms == 0) && (bounds.share == 0) then None else Some (idle_resends c bounds)
+
+-- ---- who comes anew
+
+-- of its numbers nothing is known, if new starts are looked for
+abbrev pub runs_left : Bool → List (Option SequenceTracker) → ℕ → List (Option SequenceTracker)
+runs_left true runs endpoint = runs_without runs endpoint
+runs_left false runs endpoint = runs
+
+abbrev pub resends_left : Option ResendState → ℕ → Option ResendState
+resends_left None endpoint = None
+resends_left (Some r) endpoint = Some (resends_without r endpoint)
+
+-- What is known once this endpoint comes anew: nothing of its numbers, and of resends that nothing came of it. The round trips to it stand with
+-- the counts that threads raise.
+abbrev pub come_anew : Screen → ℕ → Screen
+come_anew s endpoint = record s {
+  starts = runs_left s.rules.new_starts s.starts endpoint;
+  resends = resends_left s.resends endpoint;
+}
+
+-- Who is heard comes anew if it isn't there by the room at that moment.
+abbrev pub welcomed : Screen → Sent → RoomState → Screen
+welcomed s sent room =
+    if is_there room sent.endpoint sent.moment then s else come_anew s sent.endpoint
 
 -- ---- a packet
 

@@ -132,6 +132,10 @@ runs_of runs endpoint stamp (Some run) =
 abbrev pub runs_with : List (Option SequenceTracker) → ℕ → Stamp → List (Option SequenceTracker)
 runs_with runs endpoint stamp = runs_of runs endpoint stamp (slice_get runs endpoint)
 
+-- nothing is known of this endpoint's numbers
+abbrev pub runs_without : List (Option SequenceTracker) → ℕ → List (Option SequenceTracker)
+runs_without runs endpoint = slice_set runs endpoint None
+
 -- ---- the whole list of a source's packets, the latest first
 
 abbrev pub run_of : List Stamp → Option SequenceTracker

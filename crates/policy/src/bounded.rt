@@ -1,7 +1,7 @@
 //! The resends on all legs of a unit, bounded.
 
 ghost use Rattle.std.specs.Prelude.{◌≡◌, ◌≤◌, length, replicate, slice_get, take, IfOk, Some};
-ghost use Rattle.policy.specs.Bounded.{LetsThrough, counted_by, empty_book, idle_resends, remembered_by, terms_of};
+ghost use Rattle.policy.specs.Bounded.{LetsThrough, counted_by, empty_book, idle_resends, remembered_by, resends_without, terms_of};
 ghost use Rattle.settings.specs.Links.{leg_to};
 ghost use Rattle.policy.specs.Nacks.{allowance_on, ask_left, asks_left, book_noted_on, books_after, books_on, books_with, entry_left, entry_on, most_by, most_on, trip_on};
 
@@ -81,6 +81,17 @@ impl Resends {
         let at = usize::from(endpoint);
         if at < self.flows.len() {
             self.flows[at] = self.flows[at].with(moment);
+        }
+    }
+
+    /// Nothing came of this endpoint. What was let through on the legs to it stays, as their packets do: else a goodbye would be a way to be sent
+    /// them all once more.
+    pub(crate) fn forget(&mut self, endpoint: u16)
+        ensures { self.new ≡ resends_without self.old endpoint }
+    {
+        let at = usize::from(endpoint);
+        if at < self.flows.len() {
+            self.flows[at] = Flow::new();
         }
     }
 

@@ -1,11 +1,18 @@
 //! What is so of every list of a source's packets, of every list of numbers, and of every list of happenings. These functions do nothing: their contracts are the laws.
 
 ghost use Rattle.std.specs.Prelude.{◌≡◌, ℕ, List, Option, None, Some, true, false, slice_get};
+ghost use Rattle.datagram.specs.declared.reading.Sent.{Sent};
+ghost use Rattle.members.specs.Room.{RoomState};
 ghost use Rattle.policy.specs.Nacks.{NamesJust};
+ghost use Rattle.policy.specs.Presence.{is_there};
+ghost use Rattle.policy.specs.Screened.{PlacesOwn, welcomed};
 ghost use Rattle.policy.specs.SequenceTrackers.{FollowsFar, first_or_placed, goes_on, run_of};
 ghost use Rattle.policy.specs.declared.run.Stamp.{Stamp};
 ghost use Rattle.policy.specs.declared.run.SequenceTracker.{SequenceTracker};
 ghost use Rattle.policy.specs.declared.run.Placement.TheVariants.{InSequence, Restart};
+ghost use Rattle.policy.specs.declared.screen.Judged.{Judged};
+ghost use Rattle.policy.specs.declared.screen.Judged.TheVariants.{Take};
+ghost use Rattle.policy.specs.declared.screen.Screen.{Screen};
 ghost use Rattle.std.specs.List.{list_any};
 ghost use Rattle.rtcp_feedback.specs.declared.tmmb.TmmbrEntry.{TmmbrEntry};
 ghost use Rattle.settings.specs.declared.settings.LegSettings.{LegSettings};
@@ -32,6 +39,14 @@ pub fn outage_is_no_start()
     ensures { (packets : List Stamp) (run : SequenceTracker) (stamp : Stamp)
         → run_of packets ≡ Some run → goes_on run stamp ≡ true
         → first_or_placed (run_of packets) stamp ≡ InSequence }
+{}
+
+/// Who isn't there by the room, as after a goodbye or a timeout, begins with its first packet: that is taken in, whatever was known of it.
+#[tactic(auto, using(crate::proofs::StartLemmas::begins_in_sequence))]
+pub fn who_left_begins()
+    ensures { (before after : Screen) (sent : Sent) (room : RoomState) (stamp : Stamp)
+        (judged : Judged) → is_there room sent.endpoint sent.moment ≡ false
+        → PlacesOwn (welcomed before sent room) after sent stamp judged → judged ≡ Take }
 {}
 
 /// An entry of a NACK that is written for some numbers names just these (RFC 4585, section 6.2.1): the first of them is PID, and each bit of

@@ -3,14 +3,16 @@
 ghost use Rattle.std.specs.Prelude.{◌≡◌, ℕ, List, None, IfOk, length, replicate};
 ghost use Rattle.datagram.specs.Reads.{IsPacketRead};
 ghost use Rattle.datagram.specs.Spelling.{IsAsHeard};
-ghost use Rattle.policy.specs.Screened.{IsAsItWas, Judges, JudgesControl, JudgesPacket, LetsThroughIf, LooksForNothing, PlacesOwn, Stays, control_heard, counted_in, placement_by, resends_by, runs_by, stamp_in};
+ghost use Rattle.policy.specs.Screened.{IsAsItWas, Judges, JudgesControl, JudgesPacket, LetsThroughIf, LooksForNothing, PlacesOwn, Stays, come_anew, control_heard, counted_in, placement_by, resends_by, resends_left, runs_by, runs_left, stamp_in, welcomed};
 
 use crate::bounded::Resends;
+use crate::presence::is_there;
 use crate::resends::ResendBounds;
 use crate::rules::Rules;
 use crate::run::{Placement, Stamp};
 use crate::starts::SequenceTrackers;
 use datagram::{Ask, Control, Media, Reading, Sent, What};
+use members::RoomView;
 use settings::Settings;
 use stats::Traffic;
 use std::alloc::{AllocError, Global};
@@ -74,6 +76,17 @@ impl<'a> Screen<'a> {
         })
     }
 
+    /// Who sent a datagram is heard: if it isn't there by the room as it is, as after a goodbye or a timeout, it comes anew. What is known of its
+    /// numbers is forgotten if new starts are looked for; and if resends are bounded, what came of it, and the round trips to it.
+    pub fn welcome(&mut self, sent: Sent, view: RoomView<'_>)
+        ensures welcomed { self.new ≡ welcomed self.old sent view.entry.room.now }
+        ensures off { LooksForNothing self.old → self.new ≡ self.old }
+    {
+        if !is_there(view, sent.endpoint, sent.moment) {
+            self.forget(sent.endpoint);
+        }
+    }
+
     /// Judges what was read of a datagram. RTCP is heard under the endpoint's own source, unless the rules are strict: who speaks is then whom
     /// its sender reports name, if they name another one. Of what that source asks for is left what may be sent again by now. A packet of
     /// the own source is placed and noted, and unless it is far it is counted of the endpoint.
@@ -103,6 +116,35 @@ impl<'a> Screen<'a> {
     {
         if let Some(resends) = &mut self.resends {
             resends.count(endpoint, moment);
+        }
+    }
+
+    /// What is known of an endpoint is forgotten.
+    fn forget(&mut self, endpoint: u16)
+        ensures { self.new ≡ come_anew self.old endpoint }
+    {
+        self.forget_numbers(endpoint);
+        self.forget_resends(endpoint);
+    }
+
+    /// What is known of its numbers is, if new starts are looked for.
+    fn forget_numbers(&mut self, endpoint: u16)
+        ensures { self.new ≡ record self.old {
+          starts = runs_left self.old.rules.new_starts self.old.starts endpoint;
+        } }
+    {
+        if self.rules.new_starts {
+            self.starts.forget(endpoint);
+        }
+    }
+
+    /// What came of it is, and the round trips to it are, if resends are bounded.
+    fn forget_resends(&mut self, endpoint: u16)
+        ensures { self.new ≡ record self.old { resends = resends_left self.old.resends endpoint } }
+    {
+        if let Some(resends) = &mut self.resends {
+            resends.forget(endpoint);
+            self.traffic.came_anew(endpoint);
         }
     }
 

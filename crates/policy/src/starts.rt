@@ -21,7 +21,7 @@ impl Model for SequenceTrackers {
 
 impl SequenceTrackers {
     ghost use Rattle.std.specs.Prelude.{◌≡◌, None, IfOk, replicate};
-    ghost use Rattle.policy.specs.SequenceTrackers.{placement_at, runs_with};
+    ghost use Rattle.policy.specs.SequenceTrackers.{placement_at, runs_with, runs_without};
 
     /// No packet of any of so many endpoints came yet.
     pub fn new(alloc: Global, endpoints: usize) -> Result<SequenceTrackers, AllocError>
@@ -50,6 +50,16 @@ impl SequenceTrackers {
                 self.runs[at] = Some(SequenceTracker::new(stamp));
                 Placement::InSequence
             }
+        }
+    }
+
+    /// Nothing is known of the endpoint's numbers any more.
+    pub fn forget(&mut self, endpoint: u16)
+        ensures { self.new ≡ runs_without self.old endpoint }
+    {
+        let at = usize::from(endpoint);
+        if at < self.runs.len() {
+            self.runs[at] = None;
         }
     }
 }

@@ -1,11 +1,13 @@
 //! What of NACKs is let through on a leg.
 
+use crate::screening_tests::room_with_it;
 use crate::traffic_tests::notes_of;
 use datagram::{Ask, Control, Reading, Sent, What};
+use members::RoomView;
 use policy::{ResendBounds, Rules, Screen};
 use rtcp_compound::{Block, write_rr, write_sr};
 use rtcp_feedback::Nack;
-use settings::Settings;
+use settings::{Links, Settings};
 use settings_toml::read_settings;
 use stats::Traffic;
 use std::alloc::Global;
@@ -99,6 +101,8 @@ enum Deed {
     Report(u64, u64),
     /// At a moment an entry of a NACK comes with this PID and BLP, for the leg of 257, of 258 or of nobody, and this is left of it.
     Ask(u64, u32, [u16; 2], Option<[u16; 2]>),
+    /// Endpoint 1 is heard at a moment, whatever it sends.
+    Heard(u64),
 }
 
 /// The number 100, if it is let through.
@@ -110,6 +114,7 @@ fn do_all(
     alloc: Global,
     screen: &mut Screen<'_>,
     traffic: &Traffic,
+    view: RoomView<'_>,
     deeds: &[Deed],
 ) -> Result<(), Fail> {
     let mut reading = Reading::new(alloc);
@@ -120,19 +125,33 @@ fn do_all(
                 let left = left(screen, &mut reading, moment, Ssrc(media), entry)?;
                 assert_eq!(rt; left, wanted, "{}", moment);
             }
+            Deed::Heard(moment) => screen.welcome(
+                Sent {
+                    moment,
+                    endpoint: 1,
+                    own: Ssrc(17),
+                },
+                view,
+            ),
         }
     }
     Ok(())
 }
 
-/// Does what is listed in a room with this gap, and says how many packets were held back.
+/// Does what is listed in a room with this gap, in which endpoint 1 is gone from 1,000 ms on, and says how many packets were held back.
 fn held_in(rt: &impl Abort, alloc: Global, gap_ms: u64, deeds: &[Deed]) -> Result<u64, Fail> {
     let settings = room(alloc)?;
     let traffic = Traffic::new(alloc, &settings)?;
     let (far, held) = (Cell::new(0), Cell::new(0));
     let rules = bounding(gap_ms);
     let mut screen = Screen::new(alloc, &settings, rules, &traffic, &far, &held)?;
-    do_all(rt, alloc, &mut screen, &traffic, deeds)?;
+    let links = Links::new(alloc, &settings)?;
+    let room = room_with_it(alloc, &settings)?;
+    let view = RoomView {
+        links: &links,
+        room: &room,
+    };
+    do_all(rt, alloc, &mut screen, &traffic, view, deeds)?;
     Ok(held.get())
 }
 
@@ -193,5 +212,30 @@ const WITHIN_A_TRIP: [Deed; 16] = [
 fn asks_again_within_a_round_trip(rt: HostRuntime) -> Result<(), Fail> {
     let held = held_in(&rt, rt.alloc(), 50, &WITHIN_A_TRIP)?;
     assert!(rt; held == 5);
+    Ok(())
+}
+
+/// Of a room in which a number is let through once in fifty milliseconds.
+const ONCE_IT_LEFT: [Deed; 10] = [
+    // A round trip of 200 ms on the one leg, and none that is known on the other.
+    Deed::Report(400, 600),
+    Deed::Ask(900, 257, [100, 0], LEFT),
+    Deed::Heard(960),
+    Deed::Ask(960, 257, [100, 0], None),
+    Deed::Ask(980, 258, [100, 0], LEFT),
+    // It was silent for a second: the round trip isn't known any more.
+    Deed::Heard(1_000),
+    Deed::Ask(1_000, 257, [100, 0], LEFT),
+    Deed::Ask(1_049, 257, [100, 0], None),
+    Deed::Ask(1_050, 257, [100, 0], LEFT),
+    // What was let through before is known still.
+    Deed::Ask(1_029, 258, [100, 0], None),
+];
+
+/// The round trip to who left and is heard again isn't known; what it was let through is.
+#[test]
+fn asks_again_once_it_left(rt: HostRuntime) -> Result<(), Fail> {
+    let held = held_in(&rt, rt.alloc(), 50, &ONCE_IT_LEFT)?;
+    assert!(rt; held == 3);
     Ok(())
 }

@@ -1,8 +1,11 @@
-//! A source that goes on, odd packets of it, an outage, and a source that begins anew; and under whom reports and feedback are heard.
+//! A source that goes on, odd packets of it, an outage, a source that begins anew, and one that left; and under whom reports and feedback are
+//! heard.
 
 use crate::resend_tests::room;
 use datagram::{Reading, Sent, What, read};
+use members::{Room, RoomView};
 use policy::{Judged, Rules, Screen};
+use settings::{Links, Settings};
 use stats::Traffic;
 use std::alloc::{AllocError, Global};
 use std::cell::Cell;
@@ -17,6 +20,8 @@ enum Cue {
     Packet(u16),
     /// One with this number and timestamp at this moment.
     Timed(u64, u16, u32),
+    /// It is heard at this moment, whatever it sends.
+    Heard(u64),
     /// A sender report, a receiver report and a PLI of the source 0x99.
     OfAnother,
     /// A receiver report and a PLI of that source.
@@ -48,6 +53,7 @@ fn read_cue(cue: Cue, reading: &mut Reading) -> Result<(), AllocError> {
     match cue {
         Cue::Packet(seq) => read(&packet(seq, 0), own, None, reading),
         Cue::Timed(_, seq, timestamp) => read(&packet(seq, timestamp), own, None, reading),
+        Cue::Heard(_) => Ok(()),
         Cue::OfAnother => read(&OF_ANOTHER, own, None, reading),
         Cue::FeedbackOfAnother => read(&OF_ANOTHER[28..], own, None, reading),
         Cue::ReportOfAnother => read(&OF_ANOTHER[28..36], own, None, reading),
@@ -77,7 +83,7 @@ fn push_judged(text: &mut String, judged: Judged, what: What) -> Result<(), Allo
 /// When it came.
 fn moment_of(cue: Cue) -> u64 {
     match cue {
-        Cue::Timed(moment, _, _) => moment,
+        Cue::Timed(moment, _, _) | Cue::Heard(moment) => moment,
         _ => 0,
     }
 }
@@ -87,6 +93,7 @@ fn push_one(
     text: &mut String,
     screen: &mut Screen<'_>,
     reading: &mut Reading,
+    view: RoomView<'_>,
     cue: Cue,
 ) -> Result<(), AllocError> {
     let sent = Sent {
@@ -94,6 +101,11 @@ fn push_one(
         endpoint: 1,
         own: Ssrc(17),
     };
+    if let Cue::Heard(_) = cue {
+        screen.welcome(sent, view);
+        text.push_str("heard, ")?;
+        return Ok(());
+    }
     read_cue(cue, reading)?;
     let judged = screen.judge(sent, reading);
     push_judged(text, judged, reading.what)
@@ -104,12 +116,22 @@ fn push_all(
     text: &mut String,
     screen: &mut Screen<'_>,
     reading: &mut Reading,
+    view: RoomView<'_>,
     cues: &[Cue],
 ) -> Result<(), AllocError> {
     for cue in cues {
-        push_one(text, screen, reading, *cue)?;
+        push_one(text, screen, reading, view, *cue)?;
     }
     Ok(())
+}
+
+/// A room in which endpoint 1 was heard last at the moment 0.
+pub(crate) fn room_with_it(alloc: Global, settings: &Settings) -> Result<Room, Fail> {
+    let mut room = Room::new(alloc, settings)?;
+    match room.hear(0, 1, Ssrc(17), &mut Vec::new(alloc)) {
+        Ok(()) => Ok(room),
+        Err(_) => Err(Fail::from("refused")),
+    }
 }
 
 /// The same by these rules, and how many packets were far.
@@ -118,8 +140,14 @@ fn judged(alloc: Global, rules: Rules, cues: &[Cue]) -> Result<String, Fail> {
     let traffic = Traffic::new(alloc, &settings)?;
     let (far, held) = (Cell::new(0), Cell::new(0));
     let mut screen = Screen::new(alloc, &settings, rules, &traffic, &far, &held)?;
+    let links = Links::new(alloc, &settings)?;
+    let room = room_with_it(alloc, &settings)?;
+    let view = RoomView {
+        links: &links,
+        room: &room,
+    };
     let mut text = String::new(alloc);
-    push_all(&mut text, &mut screen, &mut Reading::new(alloc), cues)?;
+    push_all(&mut text, &mut screen, &mut Reading::new(alloc), view, cues)?;
     write!(text, "{} far", far.get())?;
     Ok(text)
 }
@@ -183,6 +211,28 @@ fn outages_of_a_source(rt: HostRuntime) -> Result<(), Fail> {
     assert_eq!(rt;
         text.as_str(),
         "take, take, take, put by, put by, put by, put by, anew, put by, take, take, put by, 6 far"
+    );
+    Ok(())
+}
+
+/// Heard while it is there, and after it was silent for 1,000 milliseconds, which is the timeout.
+const SILENT: [Cue; 7] = [
+    Cue::Packet(7),
+    Cue::Heard(999),
+    Cue::Packet(40_000),
+    Cue::Heard(1_000),
+    Cue::Packet(50_000),
+    Cue::Packet(50_001),
+    Cue::Packet(40_001),
+];
+
+/// Whose room ended its presence begins with any number, and the far packet before that is followed by none.
+#[test]
+fn begins_after_a_timeout(rt: HostRuntime) -> Result<(), Fail> {
+    let text = placed(rt.alloc(), &SILENT)?;
+    assert_eq!(rt;
+        text.as_str(),
+        "take, heard, put by, heard, take, take, put by, 2 far"
     );
     Ok(())
 }

@@ -134,6 +134,30 @@ fn reports_of_a_room(rt: HostRuntime) -> Result<(), Fail> {
     Ok(())
 }
 
+/// A subscriber comes anew: what it reported is forgotten, and so is the sender report that it names; what another one reported isn't.
+#[test]
+fn reports_of_who_came_anew(rt: HostRuntime) -> Result<(), Fail> {
+    let alloc = rt.alloc();
+    let traffic = Traffic::new(alloc, &room(alloc)?)?;
+    let mut report = Vec::new(alloc);
+    write_sr(&mut report, Ssrc(257), 0x1234_b705_2000_5678, 0, 0, 0, &[])?;
+    traffic.turned(1000);
+    traffic.sent(1, report.as_slice());
+    traffic.turned(6300);
+    let answer = receiver_report(alloc, 17, block_of_the_figure())?;
+    let notes = notes_of(alloc, answer.as_slice())?;
+    traffic.heard_control(1, answer.len(), &notes, 6300);
+    traffic.came_anew(2);
+    let trip = traffic.leg_report(1).ok_or("report")?.round_trip_ms;
+    assert_eq!(rt; trip, Some(50));
+    traffic.came_anew(1);
+    same(&rt, &traffic.leg_report(1), &None);
+    traffic.heard_control(1, answer.len(), &notes, 6300);
+    let trip = traffic.leg_report(1).ok_or("report")?.round_trip_ms;
+    assert_eq!(rt; trip, None);
+    Ok(())
+}
+
 /// What was refused, endpoint by endpoint: the same twice, reasons of one endpoint, the last of their kinds, one of no datagram, and one of
 /// an endpoint that isn't there.
 const REFUSED: [(Option<u16>, Refusal); 7] = [

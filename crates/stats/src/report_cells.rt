@@ -39,6 +39,12 @@ impl ReportCells {
         })
     }
 
+    /// Nothing was reported.
+    pub(crate) fn forget(&self) {
+        clear(&self.after_trip_ms);
+        clear(&self.after_ms);
+    }
+
     /// Notes what this block says, at this moment; `sent` is the last sender report of the stream.
     pub(crate) fn note(&self, block: &Block, sent: Option<SentReport>, moment: u64) {
         let report = ReceptionReport::after(self.seen(), block, sent, moment);
@@ -81,6 +87,18 @@ impl SentCell {
     pub(crate) fn set(&self, sent: SentReport) {
         let both = u64::from(sent.lsr) * WORD_VALUES + u64::from(sent.moment);
         self.both.store(both, Ordering::SeqCst);
+    }
+
+    /// There was none.
+    pub(crate) fn forget(&self) {
+        clear(&self.both);
+    }
+}
+
+/// Nothing stands in the cell. If nothing does it isn't written, which costs more than a look.
+fn clear(cell: &AtomicU64) {
+    if cell.load(Ordering::SeqCst) != 0 {
+        cell.store(0, Ordering::SeqCst);
     }
 }
 

@@ -87,6 +87,17 @@ impl Traffic {
         }
     }
 
+    /// This endpoint comes anew: what it reported of the legs to it is forgotten, and which sender reports it was sent on them, so that no
+    /// round trip is known.
+    pub fn came_anew(&self, endpoint: u16) {
+        for cells in self.legs.as_slice() {
+            if cells.subscriber == endpoint {
+                cells.reported.forget();
+                cells.sent_report.forget();
+            }
+        }
+    }
+
     /// A datagram was sent to this endpoint.
     pub fn sent(&self, endpoint: u16, datagram: &[u8]) {
         let Some(cells) = self.endpoints.get(usize::from(endpoint)) else {

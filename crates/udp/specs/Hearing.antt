@@ -25,7 +25,7 @@ use Rattle.udp.specs.declared.policies.Policies.{Policies}
 use Rattle.policy.specs.declared.again.Again.{Again}
 use Rattle.policy.specs.declared.holding.Holding.{Holding}
 use Rattle.udp.specs.Kept.{IsOfSame, IsReadFrom, IsSpokenBy, SaysGoodbye, bytes_of}
-use Rattle.udp.specs.Policies.{HearsHeld, IsHeld, IsJudged}
+use Rattle.udp.specs.Policies.{HearsHeld, IsHeld, IsJudged, IsWelcomed}
 use Rattle.udp.specs.Who.{Known, MayLearn, Setup, after_note, known_by}
 
 -- the packets of a rest
@@ -93,15 +93,18 @@ pub record LetsIn (judged : Judged) (p q : Policies) (k l : Kept) (view : RoomVi
   pub screen : q.screen ≡ p.screen
   pub put_by : q.put_by ≡ p.put_by
 
--- What this client sent, from a place to another among the bytes that are kept, is read, judged, and let in as it was judged.
+-- What this client sent, from a place to another among the bytes that are kept, is read; who comes anew is welcomed; then it is judged, and let in
+-- as it was judged.
 pub record HearsRead (sent : Sent) (h k : Hearing) (view : RoomView) (from to : ℕ)
     (admitted : Admitted) : Type 0 where
   pub read : Kept
   pub left : Kept
+  pub welcomed : Policies
   pub between : Policies
   pub judged : Judged
   pub reads : IsReadFrom sent (slice_range h.kept.buffer.items from to) h.policies.most read
-  pub judges : IsJudged h.policies between read left judged
+  pub welcomes : IsWelcomed h.policies welcomed read view
+  pub judges : IsJudged welcomed between read left judged
   pub lets : LetsIn judged between k.policies left k.kept view h.anew k.anew from to admitted
 
 -- ---- a datagram that came

@@ -8,7 +8,7 @@ use Rattle.policy.specs.Holding.{HearsAgain, HearsWord, asks_left, asking_of, ho
 use Rattle.policy.specs.Word.{word_in}
 use Rattle.policy.specs.declared.again.Again.{Again}
 use Rattle.policy.specs.declared.holding.Holding.{Holding}
-use Rattle.policy.specs.Screened.{Judges}
+use Rattle.policy.specs.Screened.{Judges, welcomed}
 use Rattle.policy.specs.declared.screen.Judged.{Judged}
 use Rattle.policy.specs.declared.screen.Judged.TheVariants.{Take, PutBy, Anew}
 use Rattle.udp.specs.Kept.{IsOfSame, bytes_of}
@@ -42,6 +42,16 @@ HoldsIf (Some h) (Some k) sent view old new = Holds h k sent.own.0 (asking_of vi
 pub record IsHeld (before after : Option Holding) (sent : Sent) (view : RoomView) (old new : Reading)
     : Type 0 where
   pub held : HoldsIf before after sent view old new
+
+-- ---- welcomed
+
+-- Who sent what was read comes anew if it isn't there by the room: what was known of it is forgotten.
+pub record IsWelcomed (p q : Policies) (k : Kept) (view : RoomView) : Type 0 where
+  pub screen : q.screen ≡ welcomed p.screen k.sent view.room.now
+  pub floods : q.floods ≡ p.floods
+  pub put_by : q.put_by ≡ p.put_by
+  pub holding : q.holding ≡ p.holding
+  pub most : q.most ≡ p.most
 
 -- ---- judged
 

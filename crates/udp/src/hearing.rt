@@ -333,7 +333,7 @@ impl<'a> Hearing<'a> {
         }
     }
 
-    /// What is heard of an endpoint's packets: they are read, counted and judged.
+    /// What is heard of an endpoint's packets: they are read, their endpoint is welcomed, and they are counted and judged.
     fn hear(
         &mut self,
         view: RoomView<'_>,
@@ -360,6 +360,7 @@ impl<'a> Hearing<'a> {
     {
         self.kept
             .read(view.links, moment, endpoint, from, to, self.policies.most)?;
+        self.policies.welcome(&self.kept, view);
         count(&self.kept, self.traffic, self.gauges);
         self.who.note(endpoint, moment, self.kept.is_goodbye());
         let judged = self.policies.judge(&mut self.kept);

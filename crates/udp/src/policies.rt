@@ -30,7 +30,7 @@ impl<'a> Policies<'a> {
     ghost use Rattle.policy.specs.FloodLimiter.{is_within, tallies_with};
     ghost use Rattle.settings.specs.Links.{LinkTable};
     ghost use Rattle.udp.specs.Kept.{IsOfSame, MayBeTaken};
-    ghost use Rattle.udp.specs.Policies.{HearsHeld, IsHeld, IsJudged, most_by};
+    ghost use Rattle.udp.specs.Policies.{HearsHeld, IsHeld, IsJudged, IsWelcomed, most_by};
 
     /// Nothing came yet in a unit of these settings, by these rules.
     pub(crate) fn new(
@@ -72,6 +72,14 @@ impl<'a> Policies<'a> {
             ≡ (self.old.floods.0, tallies_with self.old.floods.1 endpoint moment) }
     {
         self.floods.admit(endpoint, moment)
+    }
+
+    /// Who sent what was read comes anew, if it isn't there by the room as it is. A packet of it that was put by before is never taken in then, since
+    /// none is awaited after it.
+    pub(crate) fn welcome(&mut self, kept: &Kept, view: RoomView<'_>)
+        ensures { IsWelcomed self.old self.new kept.now view.entry }
+    {
+        self.screen.welcome(kept.sent, view);
     }
 
     /// Judges what was read. A packet that is far is put by.
