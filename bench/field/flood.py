@@ -6,7 +6,7 @@
 SFU is the built program. A publisher sends 500 packets a second to one subscriber, for 10 seconds if nothing else is said. Each 20 ms another endpoint sends
 BURST datagrams in a row: RTCP that holds thousands of empty packets, so that each is dear to read. Prints how many of the publisher's packets came,
 what of the flood was heard and what wasn't, by endpoint, and the processor time of the unit; ends with status 1 if a packet of the publisher is missing
-though the system dropped nothing, if more than a hundredth of them were beyond the limit, if nothing of the flood was let go, or if a line of counts doesn't begin with the time (`--log-time`). With
+though the system dropped nothing, if one was beyond the limit, if more of the flood was heard than may be in that time and a second more, or if a line of counts doesn't begin with the time (`--log-time`). With
 `--without` the file has no `flood_limit`. With `--goings` there are two workers, and the other endpoint, which is sent the publisher's packets, too,
 comes and goes: every other datagram is its goodbye, so that rows change with each. With `--strangers` the flood comes from an address that is
 nobody's. By hand: nothing of it is proved.
@@ -56,7 +56,8 @@ subscriber = 2
 publisher = 0
 out_ssrc = 258
 """
-LIMIT = "flood_limit = 5\n"
+# A datagram a millisecond: twice what the publisher sends, and a third of the flood.
+LIMIT, MOST = "flood_limit = 1\n", 1
 RATE, PAUSE, BURST = 500, 0.02, 60
 # Packets of application-defined RTCP without a body (RFC 3550, section 6.7), after an empty report of source 18.
 HERE = struct.pack("!BBHI", 0x80, 201, 1, 18)
@@ -128,6 +129,7 @@ def play(program, seconds, limit, goings, strangers, folder):
         words = ask("counts").split()
         counts = dict(zip(words[::2], map(int, words[1::2])))
         metrics = ask("metrics")
+        passed_ms = (time.monotonic() - began) * 1000
         ask("stop")
         unit.wait(5)
     finally:
@@ -140,9 +142,10 @@ def play(program, seconds, limit, goings, strangers, folder):
     print(f"{len(came)} of {sent} packets came, {own} were beyond the limit themselves; of {flood} datagrams of the other one {flooded} weren't heard; unread {counts.get('unread', 0)}; the unit took {cost:.2f} s of processor time")
     print(f"{len(timed)} of {len(lines)} lines begin with the time; the last: {lines[-1].strip() if lines else 'none'}")
     is_missing = len(came) + own < sent and not counts.get("unread", 0)
-    # (each millisecond begins a count anew, and a publisher sends one packet in two of them)
-    is_let_go = own > sent / 100
-    return 1 if is_missing or is_let_go or not lines or len(timed) < len(lines) or (limit and not flooded and not strangers) else 0
+    # (the system drops what it has no room for, of either)
+    heard = flood - flooded - counts.get("unread", 0)
+    is_over = limit and not strangers and heard > MOST * (passed_ms + 1000)
+    return 1 if is_missing or own or is_over or not lines or len(timed) < len(lines) else 0
 
 
 if __name__ == "__main__":

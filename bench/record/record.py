@@ -321,6 +321,7 @@ def ends_early(program, folder, seed, why, most, words=(), **how):
     size = os.path.getsize(unit.record)
     say(f"ended {why}: the unit goes on and says so", last.endswith(f"ended {why}"), last)
     say(f"ended {why}: the record has {size} bytes", 0 < size <= most, str(most))
+    say(f"ended {why}: the unit says so many", f" recorded {size} " in last, last)
     sent, status, said = unit.replayed()
     for client in clients:
         replay = sent[client.number]

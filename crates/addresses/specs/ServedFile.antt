@@ -17,7 +17,7 @@ use Rattle.settings_toml.specs.declared.settings_file.SettingsProblem.{SettingsP
 use Rattle.settings_toml.specs.declared.settings_file.SettingsProblem.TheVariants.{NoMemory, File, Toml, Top, Endpoint, Leg, SameSsrc}
 
 -- what is looked at, if a file says so: sources that begin anew go unnoticed unless it says otherwise, and feedback has to name
--- the endpoint's own source; what one client may cost the others; and how often a publisher is asked again
+-- the endpoint's own source; what one client may cost the others; how often a publisher is asked again; and how much of a stall counts
 abbrev pub rules_in : Option Bool → Option Bool → BoundKeys → Rules
 rules_in new_starts strict_ssrc bounds = record {
   new_starts = option_map_or (λ b. b) new_starts false;
@@ -26,6 +26,7 @@ rules_in new_starts strict_ssrc bounds = record {
   entry_limit = bounds.entry_limit;
   flood_limit = bounds.flood_limit;
   repeat_ms = bounds.repeat_ms;
+  stall_ms = bounds.stall_ms;
 }
 
 -- where RTCP is listened for apart: nowhere without a text, else where it spells, with the same version of IP

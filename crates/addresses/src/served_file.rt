@@ -23,7 +23,7 @@ pub struct ServedSettings {
     pub settings: Settings,
     /// Where the unit listens.
     pub listen: Listening,
-    /// What of a datagram is looked at before the machine hears it.
+    /// What of a datagram is looked at before the machine hears it, and how much of a stall counts.
     pub rules: Rules,
     /// How many milliseconds there are at least between two ticks.
     pub tick_ms: u64,
@@ -75,7 +75,8 @@ fn placed(alloc: Global, file: FileSettings) -> Result<ServedSettings, SettingsP
 }
 
 /// What is looked at, if a file says so: sources that begin anew go unnoticed unless it says otherwise, and feedback has to name
-/// the endpoint's own source; what one client may cost the others, and how often a publisher is asked again.
+/// the endpoint's own source; what one client may cost the others, how often a publisher is asked again, and how much of a stall
+/// counts.
 fn rules_in(new_starts: Option<bool>, strict_ssrc: Option<bool>, bounds: BoundKeys) -> Rules
     ensures { result ≡ rules_in new_starts strict_ssrc bounds }
 {
@@ -89,6 +90,7 @@ fn rules_in(new_starts: Option<bool>, strict_ssrc: Option<bool>, bounds: BoundKe
         entry_limit: bounds.entry_limit,
         flood_limit: bounds.flood_limit,
         repeat_ms: bounds.repeat_ms,
+        stall_ms: bounds.stall_ms,
     }
 }
 

@@ -3,7 +3,7 @@ use Rattle.std.specs.Prelude.{◌++◌, ℕ, List, codes}
 use Rattle.std.specs.Fmt.{decimal}
 use Rattle.control_protocol.specs.declared.screened.Screened.{Screened}
 
--- packets that were far, packets that were held back, datagrams beyond the limit, and entries beyond theirs
+-- packets that were far, packets that were held back, datagrams beyond the limit, entries beyond theirs, and milliseconds that weren't lived
 abbrev pub screened_line : Screened → List ℕ
 screened_line s =
     codes "far "
@@ -11,4 +11,6 @@ screened_line s =
     ++ (codes " held "
     ++ (decimal s.held
     ++ (codes " flooded "
-    ++ (decimal s.flooded ++ (codes " beyond " ++ (decimal s.beyond ++ codes "\n")))))))
+    ++ (decimal s.flooded
+    ++ (codes " beyond "
+    ++ (decimal s.beyond ++ (codes " stalled " ++ (decimal s.stalled ++ codes "\n")))))))))

@@ -23,11 +23,13 @@ pub struct Gauges {
     pub far: Cell<u64>,
     /// How many packets that were asked for again were held back.
     pub held: Cell<u64>,
-    /// How many datagrams came beyond the limit of their endpoint and millisecond, and weren't heard.
+    /// How many datagrams came beyond the limit of their endpoint, and weren't heard.
     pub flooded: Cell<u64>,
     /// How many entries of feedback were beyond those that may be asked for in a datagram, and weren't heard.
     pub beyond: Cell<u64>,
-    /// How many milliseconds went by since the run began, at the last turn.
+    /// How many milliseconds went by that the run didn't live, by the last turn.
+    pub stalled: Cell<u64>,
+    /// How many milliseconds the run has lived since it began, at the last turn.
     pub moment_ms: Cell<u64>,
     /// Whether lines of counts begin with the time.
     pub log_time: Cell<bool>,
@@ -53,6 +55,7 @@ impl Gauges {
             held: Cell::new(0),
             flooded: Cell::new(0),
             beyond: Cell::new(0),
+            stalled: Cell::new(0),
             moment_ms: Cell::new(0),
             log_time: Cell::new(false),
             unread: RefCell::new(None),
@@ -90,7 +93,7 @@ impl Gauges {
         recorder.try_borrow_mut().ok()
     }
 
-    /// How many bytes were recorded of the run, and why the record ended, if it did; `None` if nobody wanted one.
+    /// How many bytes of the record stand where it is written, and why it ended, if it did; `None` if nobody wanted one.
     pub(crate) fn record_state(&self) -> Option<(u64, Option<End>)> {
         let recorder = self.recorder()?;
         recorder.state()
@@ -197,13 +200,14 @@ impl Gauges {
         }
     }
 
-    /// What came by now and was kept from the machine.
+    /// What came by now and was kept from the machine, and how much of its time.
     pub(crate) fn screened(&self) -> Screened {
         Screened {
             far: self.far.get(),
             held: self.held.get(),
             flooded: self.flooded.get(),
             beyond: self.beyond.get(),
+            stalled: self.stalled.get(),
         }
     }
 

@@ -5,7 +5,8 @@ ghost use Rattle.std.specs.String.{string_bytes};
 ghost use Rattle.operations.specs.Records.{BeginsRecord, IsHead};
 
 use crate::gauges::Gauges;
-use recording::{Header, RecordFault, RecordTarget, Recorder, header_text, start_courier};
+use recording::{Header, RecordFault, RecordTarget, Recorder, Written, header_text, start_courier};
+use std::alloc::Global;
 use std::fs::{File, OpenOptions};
 use std::io::ErrorKind;
 use std::net::Net;
@@ -35,9 +36,13 @@ pub fn open_record<R: AllocGlobal + Files<File = File> + Net + Threads + time::C
     ensures head { IfOk result (λ r. BeginsRecord limit settings.now r.tape) }
 {
     let head = head_of(rt, settings)?;
+    let written = new_count(rt.alloc())?;
+    let Ok(count) = written.shared() else {
+        return Err(RecordFault::NoMemory);
+    };
     let file = create(rt, path)?;
-    let (outlet, thread) = start_courier(rt, BLOCKS, RecordTarget::File(file))?;
-    let mut recorder = Recorder::new(rt.alloc(), head, outlet, thread);
+    let (outlet, thread) = start_courier(rt, BLOCKS, RecordTarget::File(file, count))?;
+    let mut recorder = Recorder::new(rt.alloc(), head, written, outlet, thread);
     recorder.begin(limit);
     Ok(recorder)
 }
@@ -50,8 +55,17 @@ pub(crate) fn idle_record<R: AllocGlobal + Net + Threads + time::Clock>(
     ensures { IfOk result (λ r. (r.has_begun ≡ false) × (r.is_open ≡ false)) }
 {
     let head = head_of(rt, settings)?;
+    let written = new_count(rt.alloc())?;
     let (outlet, thread) = start_courier(rt, BLOCKS, RecordTarget::Nobody)?;
-    Ok(Recorder::new(rt.alloc(), head, outlet, thread))
+    Ok(Recorder::new(rt.alloc(), head, written, outlet, thread))
+}
+
+/// A count of what stands where a record is written.
+fn new_count(alloc: Global) -> Result<Written, RecordFault> {
+    match Written::new(alloc, 0) {
+        Ok(written) => Ok(written),
+        Err(_) => Err(RecordFault::NoMemory),
+    }
 }
 
 /// The head of a record of a unit that begins now.

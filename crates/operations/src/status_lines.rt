@@ -91,17 +91,21 @@ impl<'a, E: Write> StatusLines<'a, E> {
         format!(in self.alloc; " strangers {strangers} far {far}")
     }
 
-    /// How many resends were held back, how many datagrams came beyond the limit, and how many entries beyond theirs, if any.
+    /// How many resends were held back, how many datagrams came beyond the limit, how many entries beyond theirs, and how many milliseconds
+    /// weren't lived, if any.
     fn screened_part(&self) -> Result<String, AllocError> {
         let Screened {
             held,
             flooded,
             beyond,
+            stalled,
             ..
         } = self.gauges.screened();
-        match (held, flooded, beyond) {
-            (0, 0, 0) => Ok(String::new(self.alloc)),
-            _ => format!(in self.alloc; " held {held} flooded {flooded} beyond {beyond}"),
+        match (held, flooded, beyond, stalled) {
+            (0, 0, 0, 0) => Ok(String::new(self.alloc)),
+            _ => format!(in self.alloc;
+                " held {held} flooded {flooded} beyond {beyond} stalled {stalled}"
+            ),
         }
     }
 
@@ -121,7 +125,7 @@ impl<'a, E: Write> StatusLines<'a, E> {
         }
     }
 
-    /// How many bytes were recorded, and why the record ended, if it did; nothing of a run that isn't recorded.
+    /// How many bytes of the record stand where it is written, and why it ended, if it did; nothing of a run that isn't recorded.
     fn recorded_part(&self) -> Result<String, AllocError> {
         let Some((written, end)) = self.gauges.record_state() else {
             return Ok(String::new(self.alloc));

@@ -510,6 +510,13 @@ fn screened_metrics(
         beyond,
         screened.beyond,
     )?;
+    let stalled = "Milliseconds that the unit slept through, and doesn't count.";
+    push_total(
+        &mut text,
+        "sfu_stalled_milliseconds_total",
+        stalled,
+        screened.stalled,
+    )?;
     let mut samples = Vec::new(alloc);
     for (number, count) in flooded.iter().enumerate() {
         samples.push(Sample {
@@ -519,7 +526,7 @@ fn screened_metrics(
     }
     let metric = Metric {
         name: "sfu_endpoint_flooded_total",
-        help: "Datagrams beyond the limit of a millisecond, which weren't heard.",
+        help: "Datagrams beyond the limit of their endpoint, which weren't heard.",
         kind: MetricType::Counter,
     };
     push_metric(&mut text, &metric, "endpoint", samples.as_slice())?;

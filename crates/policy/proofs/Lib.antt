@@ -1,4 +1,5 @@
 pub mod EntryLemmas
+pub mod FloodLemmas
 pub mod PutByLemmas
 pub mod StartLemmas
 pub mod ComingLemmas

@@ -1,8 +1,9 @@
-//! What is so of every list of a source's packets, of every list of numbers, and of every list of happenings. These functions do nothing: their contracts are the laws.
+//! What is so of every list of a source's packets, of every list of numbers, of all that comes of an endpoint, and of every list of happenings. These functions do nothing: their contracts are the laws.
 
-ghost use Rattle.std.specs.Prelude.{◌≡◌, ℕ, List, Option, None, Some, true, false, slice_get};
+ghost use Rattle.std.specs.Prelude.{◌≡◌, ◌≤◌, ◌∷◌, ℕ, List, Option, None, Some, true, false, slice_get};
 ghost use Rattle.datagram.specs.declared.reading.Sent.{Sent};
 ghost use Rattle.members.specs.Room.{RoomState};
+ghost use Rattle.policy.specs.FloodLimiter.{AreInOrder, KeepsWithin};
 ghost use Rattle.policy.specs.Nacks.{NamesJust};
 ghost use Rattle.policy.specs.Presence.{is_there};
 ghost use Rattle.policy.specs.Screened.{PlacesOwn, welcomed};
@@ -54,6 +55,14 @@ pub fn who_left_begins()
 #[tactic(auto, using(crate::proofs::EntryLemmas::names_just))]
 pub fn entries_name_numbers()
     ensures { (seq : ℕ) (seqs : List ℕ) → NamesJust seq seqs }
+{}
+
+/// In whatever bursts datagrams of an endpoint come: of those in the last k milliseconds no more are heard than may be in k and a second more,
+/// and one is let go only if it were too many so, for some k.
+#[tactic(auto, using(crate::proofs::FloodLemmas::keeps_within))]
+pub fn hears_as_many_as_the_limit_leaves()
+    ensures { (limit moment : ℕ) (earlier : List ℕ) → 1 ≤ limit → AreInOrder (moment ∷ earlier)
+        → KeepsWithin limit moment earlier }
 {}
 
 /// What is held for a leg is what its subscriber asked for last on it since it left last, whatever else was asked for and whoever else left.

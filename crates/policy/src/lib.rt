@@ -35,7 +35,7 @@ mod trips;
 mod word;
 
 pub use again::Again;
-pub use floods::FloodLimiter;
+pub use floods::{BURST_MS, FloodLimiter};
 pub use holding::Holding;
 pub use put_by::HeldPackets;
 pub use resends::{MAX_TRIP_MS, REMEMBERED, ResendBounds};

@@ -1,10 +1,10 @@
-//! What is looked at, and how resends are bounded.
+//! What of an endpoint is looked at, how much of it, and what is asked for again.
 
 ghost use Rattle.std.specs.Prelude.{◌≡◌, false, true};
 
 use crate::resends::ResendBounds;
 
-/// What of a source is screened, and what is asked for again.
+/// What of a source is screened, what is asked for again, and how much of a stall counts.
 #[derive(Clone, Copy, PartialEq, Eq)]
 pub struct Rules {
     /// Whether a source that begins anew is noticed (RFC 3550, appendix A.1).
@@ -16,10 +16,12 @@ pub struct Rules {
     pub resends: ResendBounds,
     /// How many entries of a datagram's feedback are heard, the first; 0 for all. Who reads the datagram counts them.
     pub entry_limit: u32,
-    /// How many datagrams of one endpoint are heard in a millisecond; 0 for any number.
+    /// How many datagrams of one endpoint are heard a millisecond, beside what it didn't send in the last second; 0 for any number.
     pub flood_limit: u32,
     /// How many milliseconds there are between two repeats of what a publisher is asked for; 0 for none. A screen repeats nothing.
     pub repeat_ms: u64,
+    /// How many milliseconds count at most between two looks at the clock; 0 for any number. Who asks the clock bounds them.
+    pub stall_ms: u64,
 }
 
 impl Rules {
@@ -32,6 +34,7 @@ impl Rules {
           entry_limit = 0;
           flood_limit = 0;
           repeat_ms = 0;
+          stall_ms = 0;
         } }
     {
         Rules {
@@ -44,6 +47,7 @@ impl Rules {
             entry_limit: 0,
             flood_limit: 0,
             repeat_ms: 0,
+            stall_ms: 0,
         }
     }
 }

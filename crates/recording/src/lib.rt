@@ -20,6 +20,6 @@ pub use faults::{ControlFault, CourierFault, RecordFault};
 pub use header::{Header, header_text};
 pub use line::begun_line;
 pub use recorder::{RECORD_LIMIT, Recorder, Switched};
-pub use scroll::RecordTarget;
+pub use scroll::{RecordTarget, Written};
 pub use taken::{Origin, Taken};
 pub use tape::{End, Tape, end_name};

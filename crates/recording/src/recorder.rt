@@ -10,7 +10,7 @@ ghost use Rattle.recording.specs.HandedOn.{IsHandedOn, IsWritten};
 
 use crate::courier::Outlet;
 use crate::line::begun_line;
-use crate::scroll::RecordTarget;
+use crate::scroll::{RecordTarget, Written};
 use crate::taken::Taken;
 use crate::tape::{End, Tape};
 use std::alloc::Global;
@@ -27,6 +27,9 @@ const BLOCK: usize = 262_144;
 
 /// So many milliseconds pass at most until what waits is handed on.
 const FLUSH_MS: u64 = 1000;
+
+/// What a peer that asks for a record is told before it.
+const DONE: &[u8] = b"ok\n";
 
 /// Who asked for a record may leave it unread for so many seconds; then it ends.
 const PATIENCE_S: u64 = 10;
@@ -45,6 +48,8 @@ pub struct Recorder {
     /// The lines with which each record of this unit begins.
     head: String,
     tape: Tape,
+    /// How much of it stands where it is written.
+    written: Written,
     /// Whether somebody wanted a record so far.
     has_begun: bool,
     /// Whether what is handed on is written to somewhere.
@@ -57,10 +62,11 @@ pub struct Recorder {
 }
 
 impl Recorder {
-    /// Of a unit for which nobody wants a record yet. Each record begins with these lines.
+    /// Of a unit for which nobody wants a record yet. Each record begins with these lines; where the first is written counts so.
     pub fn new(
         alloc: Global,
         head: String,
+        written: Written,
         outlet: Outlet<RecordTarget>,
         thread: JoinHandle<()>,
     ) -> Recorder
@@ -73,6 +79,7 @@ impl Recorder {
             alloc,
             head,
             tape: nothing,
+            written,
             has_begun: false,
             is_open: false,
             due_ms: 0,
@@ -96,12 +103,19 @@ impl Recorder {
     /// let go.
     pub fn begin_for(&mut self, peer: UnixStream, moment: u64, switched: &[Switched]) {
         let patience = Some(Duration::from_secs(PATIENCE_S));
+        let Ok(written) = Written::new(self.alloc, DONE.len() as u64) else {
+            return;
+        };
+        let Ok(count) = written.shared() else {
+            return;
+        };
         if peer.set_nonblocking(false).is_err()
             || peer.set_write_timeout(patience).is_err()
-            || !self.outlet.turn_to(RecordTarget::Peer(peer))
+            || !self.outlet.turn_to(RecordTarget::Peer(peer, count))
         {
             return;
         }
+        self.written = written;
         self.hand_on_done();
         self.begin(RECORD_LIMIT);
         match begun_line(self.alloc, moment) {
@@ -117,7 +131,7 @@ impl Recorder {
     /// Tells the peer that its request is done; what comes after that is its record.
     fn hand_on_done(&mut self) {
         let mut block = Vec::new(self.alloc);
-        if block.extend_from_slice(b"ok\n").is_ok() {
+        if block.extend_from_slice(DONE).is_ok() {
             let _ = self.outlet.hand_on(block);
         }
     }
@@ -195,12 +209,12 @@ impl Recorder {
         }
     }
 
-    /// How many bytes were written down, and why the record ended, if it did; `None` if nobody wanted one so far.
+    /// How many bytes of the record stand where it is written, and why it ended, if it did; `None` if nobody wanted one so far.
     pub fn state(&self) -> Option<(u64, Option<End>)> {
         if !self.has_begun {
             return None;
         }
-        Some((self.tape.written(), self.tape.why_ended()))
+        Some((self.written.bytes(), self.tape.why_ended()))
     }
 
     /// The unit has ended: hands on what waits, and waits until it is written.

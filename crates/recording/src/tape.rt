@@ -197,13 +197,6 @@ impl Tape {
         self.waiting.len()
     }
 
-    /// How many bytes were put.
-    pub fn written(&self) -> u64
-        ensures { result ≡ self.now.written }
-    {
-        self.written
-    }
-
     /// Why it ended, if it did.
     pub fn why_ended(&self) -> Option<End>
         ensures { result ≡ self.now.end }

@@ -19,7 +19,7 @@ use Rattle.settings_toml.specs.declared.settings_file.SettingsProblem.{SettingsP
 use Rattle.settings_toml.specs.declared.settings_file.SettingsProblem.TheVariants.{NoMemory, File, Toml, Top, Endpoint, Leg, SameSsrc}
 use Rattle.settings_toml.specs.declared.settings_keys.Place.{Place}
 use Rattle.settings_toml.specs.declared.settings_keys.Place.TheVariants as place
-use Rattle.settings_toml.specs.SettingsFile.{AreExtrasOf, ArePartsOf, HoldsSettings, items_in, list_of, repeat_of}
+use Rattle.settings_toml.specs.SettingsFile.{AreExtrasOf, ArePartsOf, HoldsSettings, items_in, list_of, repeat_of, stall_of}
 
 -- where a fault stands: a key of the settings, of an endpoint or of a leg; or the sources together
 pub data Spot : Type 0 where
@@ -79,6 +79,10 @@ is_under limit value = is_some (number_below (as_integer value) limit)
 abbrev pub is_repeat : Data → Bool
 is_repeat value = is_some (repeat_of (as_integer value))
 
+-- a time that counts between two looks at the clock
+abbrev pub is_stall : Data → Bool
+is_stall value = is_some (stall_of (as_integer value))
+
 -- a time between two ticks
 abbrev pub is_tick : Data → Bool
 is_tick value = is_some (number_within (as_integer value) 1 MOST_TICK_MS)
@@ -118,6 +122,7 @@ takes_top key value =
     else if bytes_eq key (codes "repeat_ms") then is_repeat value
     else if bytes_eq key (codes "resend_gap_ms") then is_under GAPS_MS value
     else if bytes_eq key (codes "resend_share") then is_under SHARES value
+    else if bytes_eq key (codes "stall_ms") then is_stall value
     else if bytes_eq key (codes "tick_ms") then is_tick value
     else is_required key
 

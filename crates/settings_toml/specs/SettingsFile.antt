@@ -7,7 +7,7 @@ use Rattle.settings.specs.declared.parts.LegParts.{LegParts}
 use Rattle.settings.specs.declared.parts.Parts.{Parts}
 use Rattle.settings.specs.Settings.{additions_of, checks, configuration_of, first_fault, number_below, number_or_zero, number_within}
 use Rattle.settings_toml.specs.declared.bound_keys.BoundKeys.{BoundKeys}
-use Rattle.settings_toml.specs.declared.bound_keys.TheConstants.{ENTRIES, FLOODS, GAPS_MS, LEAST_REPEAT_MS, REPEATS_MS, SHARES}
+use Rattle.settings_toml.specs.declared.bound_keys.TheConstants.{ENTRIES, FLOODS, GAPS_MS, LEAST_REPEAT_MS, LEAST_STALL_MS, REPEATS_MS, SHARES, STALLS_MS}
 use Rattle.settings_toml.specs.declared.tick_key.TheConstants.{MOST_TICK_MS, TICK_MS}
 use Rattle.settings_toml.specs.declared.settings_file.ClientText.{ClientText}
 use Rattle.settings_toml.specs.declared.settings_file.FileSettings.{FileSettings}
@@ -92,16 +92,21 @@ client_says client = record {
   fmtp = map string_bytes client.fmtp.items;
 }
 
-abbrev pub repeat_if : Option ℕ → Option ℕ
-repeat_if None = None
-repeat_if (Some n) = if (n == 0) || nat_le LEAST_REPEAT_MS n then Some n else None
+-- a number that is 0, or from the least on
+abbrev pub zero_or_from : ℕ → Option ℕ → Option ℕ
+zero_or_from least None = None
+zero_or_from least (Some n) = if (n == 0) || nat_le least n then Some n else None
 
 -- the time between two repeats that a number is, if it is there: 0, or from the least to the greatest
 abbrev pub repeat_of : Option ℤ → Option ℕ
-repeat_of value = repeat_if (number_below value REPEATS_MS)
+repeat_of value = zero_or_from LEAST_REPEAT_MS (number_below value REPEATS_MS)
 
--- what one client may cost the others, and how often a publisher is asked again: the numbers at their keys; 0, which bounds and repeats
--- nothing, if there is none
+-- the time that counts between two looks at the clock, in the same way
+abbrev pub stall_of : Option ℤ → Option ℕ
+stall_of value = zero_or_from LEAST_STALL_MS (number_below value STALLS_MS)
+
+-- what one client may cost the others, how often a publisher is asked again, and how much of a stall counts: the numbers at their keys; 0,
+-- which bounds and repeats nothing, if there is none
 abbrev pub bounds_in : Members → BoundKeys
 bounds_in t = record {
   entry_limit = number_or_zero (integer_in (get_member (codes "entry_limit") t)) ENTRIES;
@@ -109,6 +114,7 @@ bounds_in t = record {
   repeat_ms = unwrap_or (repeat_of (integer_in (get_member (codes "repeat_ms") t))) 0;
   resend_gap_ms = number_or_zero (integer_in (get_member (codes "resend_gap_ms") t)) GAPS_MS;
   resend_share = number_or_zero (integer_in (get_member (codes "resend_share") t)) SHARES;
+  stall_ms = unwrap_or (stall_of (integer_in (get_member (codes "stall_ms") t))) 0;
 }
 
 -- the time between two ticks: the number at its key, from 1 to the greatest; or the usual one

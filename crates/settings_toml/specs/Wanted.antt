@@ -7,7 +7,7 @@ use Rattle.rewrite.specs.declared.sequence.TheConstants.{SEQ_CYCLE}
 use Rattle.rtcp_compound.specs.declared.writer.TheConstants.{CNAME_LIMIT}
 use Rattle.settings.specs.declared.limits.TheConstants.{LEAST_HISTORY, MAX_ENDPOINTS, MAX_HISTORY, MAX_LEGS, MAX_PERIOD_MS, MAX_RING, MAX_WORKERS, SSRCS}
 use Rattle.settings_toml.specs.SettingsFaults.{Spot, endpoint, leg, sources, top}
-use Rattle.settings_toml.specs.declared.bound_keys.TheConstants.{ENTRIES, FLOODS, GAPS_MS, LEAST_REPEAT_MS, REPEATS_MS, SHARES}
+use Rattle.settings_toml.specs.declared.bound_keys.TheConstants.{ENTRIES, FLOODS, GAPS_MS, LEAST_REPEAT_MS, LEAST_STALL_MS, REPEATS_MS, SHARES, STALLS_MS}
 use Rattle.settings_toml.specs.declared.tick_key.TheConstants.{MOST_TICK_MS}
 use Rattle.settings_toml.specs.declared.wanted.Kind.{Kind}
 use Rattle.settings_toml.specs.declared.wanted.Kind.TheVariants as kind
@@ -47,6 +47,7 @@ value_rows =
     ∷ key_row (codes "resend_gap_ms") (Whole 0 (GAPS_MS - 1))
     ∷ key_row (codes "resend_share") (Whole 0 (SHARES - 1))
     ∷ key_row (codes "ring") (Whole 1 MAX_RING)
+    ∷ key_row (codes "stall_ms") (WholeOrZero LEAST_STALL_MS (STALLS_MS - 1))
     ∷ key_row (codes "strict_ssrc") (Other kind.Truth)
     ∷ key_row (codes "tick_ms") (Whole 1 MOST_TICK_MS)
     ∷ key_row (codes "timeout_ms") (Whole 1 MAX_PERIOD_MS)

@@ -1,9 +1,9 @@
-//! The keys of bounds: what one client may cost the others, and how often a publisher is asked again.
+//! The keys of bounds: what one client may cost the others, how often a publisher is asked again, and how much of a stall counts.
 
 ghost use Rattle.std.specs.Prelude.{◌≡◌, ◌<◌, ◌≤◌, IfSome};
 ghost use Rattle.settings.specs.Settings.{number_below, number_or_zero};
-ghost use Rattle.settings_toml.specs.SettingsFile.{bounds_in, integer_in, repeat_of};
-ghost use Rattle.settings_toml.specs.SettingsFaults.{is_repeat, is_under};
+ghost use Rattle.settings_toml.specs.SettingsFile.{bounds_in, integer_in, repeat_of, stall_of, zero_or_from};
+ghost use Rattle.settings_toml.specs.SettingsFaults.{is_repeat, is_stall, is_under};
 ghost use Rattle.toml.specs.Data.{get_member};
 ghost use Rattle.toml.specs.View.{table_view, view};
 
@@ -19,7 +19,7 @@ pub const SHARES: u64 = 101;
 /// One more than the greatest number of entries of a datagram.
 pub const ENTRIES: u64 = 65_536;
 
-/// One more than the greatest number of datagrams in a millisecond.
+/// One more than the greatest number of datagrams a millisecond.
 pub const FLOODS: u64 = 1_000_001;
 
 /// The least time between two repeats of what a publisher is asked for, in milliseconds, if it isn't 0.
@@ -28,12 +28,19 @@ pub const LEAST_REPEAT_MS: u64 = 100;
 /// One more than the greatest such time.
 pub const REPEATS_MS: u64 = 60_001;
 
-/// What a settings file says of bounds; each is 0, which bounds and repeats nothing, if the file says nothing.
+/// The least time that counts between two looks at the clock, in milliseconds, if it isn't 0.
+pub const LEAST_STALL_MS: u64 = 100;
+
+/// One more than the greatest such time.
+pub const STALLS_MS: u64 = 60_001;
+
+/// What a settings file says of bounds; each is 0, which bounds and repeats nothing, if the file says
+/// nothing.
 #[derive(Clone, Copy, PartialEq, Eq)]
 pub struct BoundKeys {
     /// How many entries of a datagram's feedback are heard.
     pub entry_limit: u32,
-    /// How many datagrams of one endpoint are heard in a millisecond.
+    /// How many datagrams of one endpoint are heard a millisecond, beside what it didn't send in the last second.
     pub flood_limit: u32,
     /// How many milliseconds there are between two repeats of what a publisher is asked for.
     pub repeat_ms: u64,
@@ -41,6 +48,8 @@ pub struct BoundKeys {
     pub resend_gap_ms: u64,
     /// How many packets are sent again on a leg, in percent of those that came.
     pub resend_share: u8,
+    /// How many milliseconds count at most between two looks at the clock.
+    pub stall_ms: u64,
 }
 
 /// The bounds that a table spells.
@@ -53,6 +62,7 @@ pub(crate) fn bounds_at(table: &Table) -> BoundKeys
         repeat_ms: repeat_of(integer_at(table, "repeat_ms")).unwrap_or(0),
         resend_gap_ms: bound_at(table, "resend_gap_ms", GAPS_MS),
         resend_share: bound_at(table, "resend_share", SHARES) as u8,
+        stall_ms: stall_of(integer_at(table, "stall_ms")).unwrap_or(0),
     }
 }
 
@@ -80,12 +90,33 @@ pub(crate) fn is_repeat(value: &Value) -> bool
     repeat_of(value.as_integer()).is_some()
 }
 
+/// Whether the value is a time that counts between two looks at the clock.
+pub(crate) fn is_stall(value: &Value) -> bool
+    ensures { result ≡ is_stall (view value.now) }
+{
+    stall_of(value.as_integer()).is_some()
+}
+
 /// The time between two repeats that a number is, if it is there: 0, or from the least to the greatest.
 fn repeat_of(value: Option<i64>) -> Option<u64>
     ensures { result ≡ repeat_of value }
 {
-    let number = number_under(value, REPEATS_MS)?;
-    if number == 0 || LEAST_REPEAT_MS <= number {
+    zero_or_from(LEAST_REPEAT_MS, number_under(value, REPEATS_MS))
+}
+
+/// The time that counts between two looks at the clock that a number is, if it is there: 0, or from the least to the greatest.
+fn stall_of(value: Option<i64>) -> Option<u64>
+    ensures { result ≡ stall_of value }
+{
+    zero_or_from(LEAST_STALL_MS, number_under(value, STALLS_MS))
+}
+
+/// The number, if it is there and is 0 or from the least on.
+fn zero_or_from(least: u64, number: Option<u64>) -> Option<u64>
+    ensures { result ≡ zero_or_from least number }
+{
+    let number = number?;
+    if number == 0 || least <= number {
         Some(number)
     } else {
         None

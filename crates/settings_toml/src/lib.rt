@@ -19,7 +19,10 @@ mod values;
 mod wanted;
 
 pub use advice::{bind_advice, file_advice, settings_advice};
-pub use bound_keys::{BoundKeys, ENTRIES, FLOODS, GAPS_MS, LEAST_REPEAT_MS, REPEATS_MS, SHARES};
+pub use bound_keys::{
+    BoundKeys, ENTRIES, FLOODS, GAPS_MS, LEAST_REPEAT_MS, LEAST_STALL_MS, REPEATS_MS, SHARES,
+    STALLS_MS,
+};
 pub use laws::keys_are_those_of_settings;
 pub use problem_text::problem_line;
 pub use settings_file::{ClientText, FileSettings, SettingsProblem, problem_at, read_settings};

@@ -8,7 +8,7 @@ ghost use Rattle.toml.specs.View.{table_view, view};
 ghost use Rattle.settings_toml.specs.SettingsFaults.{endpoint, has_tables, has_texts, is_required, is_table, is_text, leg, list_misfit, misfit_in, misfit_of, spot_of, table_misfit, takes_endpoint, takes_leg, takes_top};
 ghost use Rattle.settings_toml.specs.SettingsFile.{items_in};
 
-use crate::bound_keys::{ENTRIES, FLOODS, GAPS_MS, SHARES, is_repeat, is_under};
+use crate::bound_keys::{ENTRIES, FLOODS, GAPS_MS, SHARES, is_repeat, is_stall, is_under};
 use crate::tick_key::is_tick;
 use toml::{Table, Value};
 
@@ -65,6 +65,7 @@ fn takes_top(key: &str, value: &Value) -> bool
         "repeat_ms" => is_repeat(value),
         "resend_gap_ms" => is_under(value, GAPS_MS),
         "resend_share" => is_under(value, SHARES),
+        "stall_ms" => is_stall(value),
         "tick_ms" => is_tick(value),
         _ => is_required(key),
     }

@@ -11,7 +11,7 @@ use Rattle.datagram.specs.declared.reading.What.TheVariants.{Media, Goodbye, Con
 use Rattle.entrance.specs.declared.entrance.Admitted.{Admitted}
 use Rattle.entrance.specs.declared.entrance.Admitted.TheVariants.{Nothing, Taking}
 use Rattle.members.specs.declared.view.RoomView.{RoomView}
-use Rattle.policy.specs.FloodLimiter.{is_within, tallies_with}
+use Rattle.policy.specs.FloodLimiter.{buckets_with, is_within}
 use Rattle.policy.specs.declared.screen.Judged.{Judged}
 use Rattle.policy.specs.declared.screen.Judged.TheVariants.{Take, PutBy, Anew as BegunAnew}
 use Rattle.datagram.specs.Naming.{source_named}
@@ -124,14 +124,14 @@ abbrev pub front_by : Bearings → Known → SocketAddr → List ℕ → ℕ
 front_by unit known address datagram =
     front_length unit.setup.same known.senders address datagram
 
--- fewer of this endpoint came in its millisecond than may be heard
+-- there is room for one more of this endpoint at this moment
 abbrev pub is_admitted : Hearing → ℕ → ℕ → Bool
 is_admitted h endpoint moment =
     is_within h.policies.floods.0 (slice_get h.policies.floods.1 endpoint) moment
 
 -- Once a datagram of this moment, all of these packets, came from this address: what is learned of it; and then, by those who are known from
--- then on, whose it is, and how much of it is heard at once. One more is counted of who sent it, who is noted by what is heard, and what is behind
--- that is left. A stranger's is passed over, and one that is too many is gone.
+-- then on, whose it is, and how much of it is heard at once. It is counted of who sent it if it isn't too many; who sent it is noted by what is heard, and
+-- what is behind that is left. A stranger's is passed over, and one that is too many is gone.
 pub record HearsDatagram (unit : Bearings) (h k : Hearing) (moment : ℕ) (whole : Rest) (admitted : Admitted)
     : Type 0 where
   pub between : Known
@@ -143,7 +143,7 @@ pub record HearsDatagram (unit : Bearings) (h k : Hearing) (moment : ℕ) (whole
   pub counted : (endpoint : ℕ)
       → sender_by unit between whole.address (packets_in h.kept whole) ≡ Some endpoint
       → k.policies.floods
-      ≡ (h.policies.floods.0, tallies_with h.policies.floods.1 endpoint moment)
+      ≡ (h.policies.floods.0, buckets_with h.policies.floods.0 h.policies.floods.1 endpoint moment)
   pub flood : (endpoint : ℕ)
       → sender_by unit between whole.address (packets_in h.kept whole) ≡ Some endpoint
       → is_admitted h endpoint moment ≡ false

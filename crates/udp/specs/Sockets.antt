@@ -1,5 +1,5 @@
 -- What a receive that gave nothing was, and what a clock tells.
-use Rattle.std.specs.Prelude.{ℕ, Bool, true, false, Option, None, Some, max}
+use Rattle.std.specs.Prelude.{◌≡◌, ◌==◌, ℕ, ◌+◌, ◌-◌, Bool, true, false, Option, None, Some, max, min, if◌then◌else◌}
 use Rattle.std.specs.declared.io.ErrorKind.{ErrorKind}
 use Rattle.std.specs.declared.io.ErrorKind.TheVariants.{Interrupted, TimedOut, WouldBlock}
 
@@ -10,7 +10,26 @@ is_silence TimedOut = true
 is_silence Interrupted = true
 is_silence kind = false
 
--- a clock tells what went by, and never less than it told before
-abbrev pub later_moment : ℕ → Option ℕ → ℕ
-later_moment told None = told
-later_moment told (Some elapsed) = max elapsed told
+-- ---- what a clock tells
+
+-- of what goes by until this, since it told something last, no more than so many milliseconds count; all of it if that is 0
+abbrev pub reached : ℕ → ℕ → ℕ → ℕ
+reached stall_ms told now = if stall_ms == 0 then now else min now (told + stall_ms)
+
+-- A clock tells what went by, but for what it didn't live before, and never less than it told before.
+abbrev pub later_moment : ℕ → ℕ → ℕ → Option ℕ → ℕ
+later_moment stall_ms told stalled None = told
+later_moment stall_ms told stalled (Some elapsed) =
+    max told (reached stall_ms told (elapsed - stalled))
+
+-- what it didn't live of what went by, once it told this
+abbrev pub stalled_after : ℕ → ℕ → Option ℕ → ℕ
+stalled_after told stalled None = stalled
+stalled_after told stalled (Some elapsed) = max stalled (elapsed - told)
+
+-- A clock that told this last, and hadn't lived so many milliseconds, looks at what went by if the system says so: then it tells that, and hasn't
+-- lived so many.
+pub record Looks (stall_ms told stalled later more : ℕ) : Type 0 where
+  pub elapsed : Option ℕ
+  pub tells : later ≡ later_moment stall_ms told stalled elapsed
+  pub stalls : more ≡ stalled_after later stalled elapsed

@@ -4,6 +4,7 @@ ghost use Rattle.std.specs.Prelude.{◌≡◌, ◌≤◌, [], None, Some, Ok, If
 ghost use Rattle.entrance.specs.Entrance.{IfTaken};
 ghost use Rattle.desk_calls.specs.DeskCalls.{source_of};
 ghost use Rattle.addresses.specs.Listeners.{listeners_after, report_due};
+ghost use Rattle.policy.specs.FloodLimiter.{empty_bucket};
 ghost use Rattle.udp.specs.Kept.{IsSpokenBy, MayBeTaken};
 ghost use Rattle.udp.specs.Policies.{most_by};
 ghost use Rattle.udp.specs.Who.{known_by};
@@ -62,9 +63,10 @@ impl<'a, R: time::Clock> Door<'a, R> {
     ) -> Result<Door<'a, R>, AllocError>
         ensures floods { IfOk result (λ d. d.hearing.policies.floods ≡ (
           rules.flood_limit,
-          replicate (length settings.now.endpoints) (record { moment = 0; count = 0 }),
+          replicate (length settings.now.endpoints) empty_bucket,
         )) }
         ensures rules { IfOk result (λ d. d.hearing.policies.screen.rules ≡ rules) }
+        ensures stall { IfOk result (λ d. d.clock.stall_ms ≡ rules.stall_ms) }
         ensures holds { IfOk result (λ d. rules.repeat_ms ≡ 0
             → d.hearing.policies.holding ≡ None) }
         ensures most { IfOk result (λ d. d.hearing.policies.most ≡ most_by rules.entry_limit) }
@@ -73,7 +75,7 @@ impl<'a, R: time::Clock> Door<'a, R> {
         let (gauges, traffic) = (outlook.gauges, outlook.traffic);
         Ok(Door {
             inbox: Inbox::new(sockets),
-            clock: RunClock::new(rt, &gauges.moment_ms),
+            clock: RunClock::new(rt, rules.stall_ms, &gauges.moment_ms, &gauges.stalled),
             hearing: Hearing::new(alloc, listening, settings, clients, rules, outlook)?,
             gauges,
             traffic,

@@ -3,7 +3,7 @@
 ghost use Rattle.std.specs.Prelude.{◌≡◌, ◌≤◌, ◌+◌, ◌∷◌, ℕ, [], false, true, None, Some, Ok, IfOk, IfSome, OnOk, length, slice_get, slice_range, replicate};
 ghost use Rattle.entrance.specs.Entrance.{IfTaken};
 ghost use Rattle.desk_calls.specs.DeskCalls.{source_of};
-ghost use Rattle.policy.specs.FloodLimiter.{is_within, tallies_with};
+ghost use Rattle.policy.specs.FloodLimiter.{buckets_with, empty_bucket, is_within};
 ghost use Rattle.addresses.specs.Listeners.{listeners_after, report_due};
 ghost use Rattle.datagram.specs.Naming.{source_named};
 ghost use Rattle.addresses.specs.SenderTable.{front_length, sender_of};
@@ -84,7 +84,7 @@ impl<'a> Hearing<'a> {
     ) -> Result<Hearing<'a>, AllocError>
         ensures floods { IfOk result (λ h. h.policies.floods ≡ (
           rules.flood_limit,
-          replicate (length settings.now.endpoints) (record { moment = 0; count = 0 }),
+          replicate (length settings.now.endpoints) empty_bucket,
         )) }
         ensures rules { IfOk result (λ h. h.policies.screen.rules ≡ rules) }
         ensures holds { IfOk result (λ h. rules.repeat_ms ≡ 0 → h.policies.holding ≡ None) }
@@ -222,8 +222,7 @@ impl<'a> Hearing<'a> {
         Ok(admitted)
     }
 
-    /// A datagram came, of which this is the front. One more is counted of its endpoint; if as many came before in this millisecond as may,
-    /// nothing of it is heard.
+    /// A datagram came, of which this is the front. If there is no room for one more of its endpoint, nothing of it is heard; else it is counted.
     fn hear_arrived(
         &mut self,
         view: RoomView<'_>,
@@ -236,7 +235,11 @@ impl<'a> Hearing<'a> {
         ensures taken { IfOk result
             (λ admitted. IfTaken (Ok admitted) (MayBeTaken view.entry.links.now self.new.kept)) }
         ensures counted { (endpoint : ℕ) → front.endpoint ≡ Some endpoint → self.new.policies.floods
-            ≡ (self.old.policies.floods.0, tallies_with self.old.policies.floods.1 endpoint moment) }
+            ≡ (
+              self.old.policies.floods.0,
+              buckets_with self.old.policies.floods.0
+                  self.old.policies.floods.1 endpoint moment,
+            ) }
         ensures flood { (endpoint : ℕ) → front.endpoint ≡ Some endpoint
             → is_within self.old.policies.floods.0
             (slice_get self.old.policies.floods.1 endpoint) moment ≡ false
@@ -274,7 +277,11 @@ impl<'a> Hearing<'a> {
             → (result ≡ is_within self.old.policies.floods.0
             (slice_get self.old.policies.floods.1 number) moment)
             × (self.new.policies.floods
-            ≡ (self.old.policies.floods.0, tallies_with self.old.policies.floods.1 number moment)) }
+            ≡ (
+              self.old.policies.floods.0,
+              buckets_with self.old.policies.floods.0
+                  self.old.policies.floods.1 number moment,
+            )) }
         ensures strangers { endpoint ≡ None
             → (result ≡ true) × (self.new.policies.floods ≡ self.old.policies.floods) }
         ensures stays { (self.new.kept ≡ self.old.kept) × (self.new.rest ≡ self.old.rest)

@@ -27,7 +27,7 @@ pub(crate) struct Policies<'a> {
 impl<'a> Policies<'a> {
     ghost use Rattle.std.specs.Prelude.{◌≡◌, None, [], IfOk, length, replicate, slice_get, unwrap_or};
     ghost use Rattle.policy.specs.JoinedPublishers.{is_due};
-    ghost use Rattle.policy.specs.FloodLimiter.{is_within, tallies_with};
+    ghost use Rattle.policy.specs.FloodLimiter.{buckets_with, empty_bucket, is_within};
     ghost use Rattle.settings.specs.Links.{LinkTable};
     ghost use Rattle.udp.specs.Kept.{IsOfSame, MayBeTaken};
     ghost use Rattle.udp.specs.Policies.{HearsHeld, IsHeld, IsJudged, IsWelcomed, most_by};
@@ -43,7 +43,7 @@ impl<'a> Policies<'a> {
     ) -> Result<Policies<'a>, AllocError>
         ensures floods { IfOk result (λ p. p.floods ≡ (
           rules.flood_limit,
-          replicate (length settings.now.endpoints) (record { moment = 0; count = 0 }),
+          replicate (length settings.now.endpoints) empty_bucket,
         )) }
         ensures rules { IfOk result (λ p. p.screen.rules ≡ rules) }
         ensures holds { IfOk result (λ p. rules.repeat_ms ≡ 0 → p.holding ≡ None) }
@@ -64,12 +64,12 @@ impl<'a> Policies<'a> {
         })
     }
 
-    /// Whether a datagram of this endpoint that came at this moment is heard, of which one more is counted.
+    /// Whether a datagram of this endpoint that came at this moment is heard. If it is, it is counted.
     pub(crate) fn admit(&mut self, endpoint: u16, moment: u64) -> bool
         ensures heard { result
             ≡ is_within self.old.floods.0 (slice_get self.old.floods.1 endpoint) moment }
         ensures counted { self.new.floods
-            ≡ (self.old.floods.0, tallies_with self.old.floods.1 endpoint moment) }
+            ≡ (self.old.floods.0, buckets_with self.old.floods.0 self.old.floods.1 endpoint moment) }
     {
         self.floods.admit(endpoint, moment)
     }
