@@ -1,6 +1,7 @@
--- What is said in a client's name is said still, once it was held.
+-- What is said in a client's name is said still, once it was held; and what is let in of who began anew, and if no rule asks for anything.
 use Rattle.std.proofs.Common.{◌≡◌, ◌∙◌, ◌==◌, ℕ, Bool, true, false, List, [], Option, None, Some, ap, refl, subst, sym}
-use Rattle.std.specs.Prelude.{if◌then◌else◌}
+use Rattle.std.specs.Prelude.{if◌then◌else◌, slice_range, IfOk, Result, Ok, Err}
+use Rattle.std.specs.declared.alloc.AllocError.{AllocError}
 use Rattle.tmmbr_tuple.specs.declared.ssrc.Ssrc.{Ssrc}
 use Rattle.datagram.specs.declared.reading.Reading.{Reading}
 use Rattle.datagram.specs.declared.reading.Sent.{Sent}
@@ -10,16 +11,22 @@ use Rattle.members.specs.declared.view.RoomView.{RoomView}
 use Rattle.policy.specs.Asking.{Asking}
 use Rattle.policy.specs.Holding.{asks_left, asking_of}
 use Rattle.policy.specs.Word.{word_in}
+use Rattle.datagram.specs.Reads.{IsReadUpTo, IsSaidIn}
+use Rattle.entrance.specs.declared.entrance.Admitted.{Admitted}
 use Rattle.entrance.specs.declared.entrance.Admitted.TheVariants.{Taking}
+use Rattle.members.specs.Room.{RoomState}
+use Rattle.policy.specs.Presence.{is_there}
+use Rattle.policy.specs.Screened.{LooksForNothing, come_anew, resends_left, welcomed}
 use Rattle.policy.specs.declared.holding.Holding.{Holding}
+use Rattle.policy.specs.declared.screen.Screen.{Screen}
 use Rattle.policy.specs.declared.screen.Judged.{Judged}
 use Rattle.policy.specs.declared.screen.Judged.TheVariants.{Anew as BegunAnew}
-use Rattle.udp.specs.Hearing.{Follows, LetsIn}
+use Rattle.udp.specs.Hearing.{AsksNothing, Follows, HearsFar, HearsRead, IsPresentHeld, LetsIn, Stand, TakesAll, TakesIn}
 use Rattle.udp.specs.Kept.{IsOfSame, IsSpokenBy, SaysGoodbye}
 use Rattle.udp.specs.declared.hearing.Anew.{Anew}
+use Rattle.udp.specs.declared.hearing.Hearing.{Hearing}
 use Rattle.udp.specs.declared.kept.Kept.{Kept}
-use Rattle.udp.specs.declared.policies.Policies.{Policies}
-use Rattle.udp.specs.Policies.{Holds, HoldsIf, IsHeld}
+use Rattle.udp.specs.Policies.{Holds, HoldsIf, IsHeld, Ruling, TakesFar, ruling_of}
 
 either_way : {X : Type 0} {Y : Type 0} (f : X → Y) (b : Bool) (x y : X) (z : Y) → f x ≡ z → f y ≡ z → f (if b then x else y) ≡ z
 either_way f true x y z e g = e
@@ -59,15 +66,74 @@ through k mid l first second = record {
 }
 
 -- what is let in of who began anew
-pub lets_anew : (judged : Judged) (p q : Policies) (k mid l : Kept) (view : RoomView) (anew next : Option Anew) (from to : ℕ)
+pub lets_anew : (judged : Judged) (p q : Ruling) (k mid l : Kept) (view : RoomView) (anew next : Option Anew) (from to : ℕ)
     → judged ≡ BegunAnew → next ≡ Some (record { endpoint = k.sent.endpoint; is_far_heard = false; from = from; to = to })
     → IsOfSame k mid → SaysGoodbye mid.reading → IsHeld p.holding q.holding mid.sent view mid.reading l.reading → IsOfSame mid l
-    → q.floods ≡ p.floods → q.screen ≡ p.screen → q.put_by ≡ p.put_by → LetsIn judged p q k l view anew next from to Taking
-lets_anew judged p q k mid l view anew next from to is later same goodbye holds still floods screen put_by = record {
+    → q.screen ≡ p.screen → q.put_by ≡ p.put_by → q.most ≡ p.most → LetsIn judged p q k l view anew next from to Taking
+lets_anew judged p q k mid l view anew next from to is later same goodbye holds still screen put_by most = record {
   follows = subst (λ (j : Judged). Follows j p.holding q.holding k l view anew next from to Taking) (sym is)
       (refl, later, record { said = mid; same = same; goodbye = goodbye; holds = holds });
   same = through k mid l same still;
-  floods = floods;
   screen = screen;
   put_by = put_by;
+  most = most;
 }
+
+-- ---- if no rule asks for anything
+
+as_left : (before after : Option Holding) (sent : Sent) (view : RoomView) (old new : Reading) → before ≡ None
+    → HoldsIf before after sent view old new → new ≡ old
+as_left before after sent view old new none holds = (subst (λ (b : Option Holding). HoldsIf b after sent view old new) none holds).1
+
+carried : (own : ℕ) (bytes : List ℕ) (most : Option ℕ) (r s : Reading) → s.what ≡ r.what → s.asks.items ≡ r.asks.items → s.beyond ≡ r.beyond
+    → IsReadUpTo own bytes most r → IsReadUpTo own bytes most s
+carried own bytes most r s what asks beyond reads = record {
+  asks = reads.asks;
+  says = subst (λ (w : What). IsSaidIn own bytes (record { what = w; asks = reads.asks })) (sym what) reads.says;
+  listed = asks ∙ reads.listed;
+  beyond = beyond ∙ reads.beyond;
+}
+
+either : (P : Screen → Type 0) (b : Bool) (x y : Screen) → P x → P y → P (if b then x else y)
+either P true x y p q = p
+either P false x y p q = q
+
+still_off : (s : Screen) (sent : Sent) (room : RoomState) → LooksForNothing s → LooksForNothing (welcomed s sent room)
+still_off s sent room off = either LooksForNothing (is_there room sent.endpoint sent.moment) s (come_anew s sent.endpoint) off (record {
+  new_starts = off.new_starts;
+  strict_ssrc = off.strict_ssrc;
+  unbounded = ap (λ r. resends_left r sent.endpoint) off.unbounded;
+})
+
+pub takes_what_came : (sent : Sent) (stand : Stand) (view : RoomView) (from to : ℕ) (k : Hearing) (admitted : Admitted)
+    → AsksNothing stand.ruling → HearsRead sent stand view from to k admitted → TakesAll sent (slice_range stand.bytes from to) k admitted
+takes_what_came sent stand view from to k admitted off hears =
+    let looks = subst LooksForNothing (sym hears.welcomes.screen) (still_off stand.ruling.screen hears.read.sent view.room.now off.looks) in
+    let as_was = hears.judges.off looks in
+    let follows = subst (λ (j : Judged). Follows j hears.between.holding k.policies.holding hears.left k.kept view stand.anew k.anew from to admitted) as_was.is_judged hears.lets.follows in
+    let same = as_left _ _ _ _ _ _ (hears.judges.holding ∙ hears.welcomes.holding ∙ off.holds) follows.2.held in
+    let all = subst (λ (m : Option ℕ). IsReadUpTo sent.own.0 (slice_range stand.bytes from to) m hears.read.reading) off.all hears.reads.reads in
+    record {
+      takes = follows.0;
+      reads = carried sent.own.0 (slice_range stand.bytes from to) None hears.read.reading k.kept.reading
+          (ap (λ (r : Reading). r.what) same ∙ as_was.what) (ap (λ (r : Reading). r.asks.items) same ∙ as_was.asks)
+          (ap (λ (r : Reading). r.beyond) same ∙ as_was.beyond) all;
+    }
+
+-- ---- what is said and held, and what holds of a result
+
+pub present_held : (held later : Option Holding) (said_as sent : Sent) (view : RoomView) (said now : Reading) → said_as ≡ sent
+    → IsSpokenBy sent.own [] said → IsHeld held later said_as view said now → IsPresentHeld held later sent view now
+present_held held later said_as sent view said now same speaks holds =
+    record { said = said; speaks = speaks; holds = subst (λ (s : Sent). IsHeld held later s view said now) same holds }
+
+pub if_ok : {A E : Type 0} (P Q : A → Type 0) (r : Result A E) → ((a : A) → P a → Q a) → IfOk r P → IfOk r Q
+if_ok P Q (Ok a) f p = f a p
+if_ok P Q (Err e) f p = p
+
+pub hears_far : (sent : Sent) (h k : Hearing) (view : RoomView) (r : Result Admitted AllocError) (filled : Kept) (counted : Ruling) (to : ℕ)
+    → TakesFar (ruling_of h.policies) counted h.kept filled sent.endpoint sent.moment to
+    → IfOk r (λ a. TakesIn sent filled.buffer.items counted view 65535 to k a) → IfOk r (λ a. HearsFar sent h k view a)
+hears_far sent h k view r filled counted to far takes =
+    if_ok (λ a. TakesIn sent filled.buffer.items counted view 65535 to k a) (λ a. HearsFar sent h k view a) r
+    (λ a takes_in. record { filled = filled; counted = counted; to = to; far = far; takes = takes_in }) takes

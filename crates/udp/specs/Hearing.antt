@@ -2,9 +2,10 @@
 use Rattle.std.specs.Prelude.{◌≡◌, ◌+◌, ◌∷◌, ℕ, nat_lt, Bool, true, false, List, [], slice_get, slice_range, Option, None, Some, if◌then◌else◌}
 use Rattle.std.specs.declared.net.socket_addr.SocketAddr.{SocketAddr}
 use Rattle.tmmbr_tuple.specs.declared.ssrc.Ssrc.{Ssrc}
-use Rattle.datagram.specs.Reads.{IsSaidIn}
+use Rattle.datagram.specs.Reads.{IsReadUpTo, IsSaidIn}
 use Rattle.datagram.specs.declared.reading.Ask.{Ask}
 use Rattle.datagram.specs.declared.reading.Ask.TheVariants.{Rate}
+use Rattle.datagram.specs.declared.reading.Reading.{Reading}
 use Rattle.datagram.specs.declared.reading.Sent.{Sent}
 use Rattle.datagram.specs.declared.reading.What.{What}
 use Rattle.datagram.specs.declared.reading.What.TheVariants.{Media, Goodbye, Control, Refused}
@@ -12,6 +13,7 @@ use Rattle.entrance.specs.declared.entrance.Admitted.{Admitted}
 use Rattle.entrance.specs.declared.entrance.Admitted.TheVariants.{Nothing, Taking}
 use Rattle.members.specs.declared.view.RoomView.{RoomView}
 use Rattle.policy.specs.FloodLimiter.{buckets_with, is_within}
+use Rattle.policy.specs.Screened.{LooksForNothing}
 use Rattle.policy.specs.declared.screen.Judged.{Judged}
 use Rattle.policy.specs.declared.screen.Judged.TheVariants.{Take, PutBy, Anew as BegunAnew}
 use Rattle.datagram.specs.Naming.{source_named}
@@ -21,11 +23,11 @@ use Rattle.udp.specs.declared.hearing.Anew.{Anew}
 use Rattle.udp.specs.declared.hearing.Hearing.{Hearing}
 use Rattle.udp.specs.declared.hearing.Rest.{Rest}
 use Rattle.udp.specs.declared.kept.Kept.{Kept}
-use Rattle.udp.specs.declared.policies.Policies.{Policies}
 use Rattle.policy.specs.declared.again.Again.{Again}
 use Rattle.policy.specs.declared.holding.Holding.{Holding}
-use Rattle.udp.specs.Kept.{IsOfSame, IsReadFrom, IsSpokenBy, SaysGoodbye, bytes_of}
-use Rattle.udp.specs.Policies.{HearsHeld, IsHeld, IsJudged, IsWelcomed}
+use Rattle.settings.specs.Links.{LinkTable}
+use Rattle.udp.specs.Kept.{IsOfSame, IsReadFrom, IsSpokenBy, SaysGoodbye, bytes_of, sent_by}
+use Rattle.udp.specs.Policies.{HearsHeld, IsHeld, IsJudged, IsWelcomed, Ruling, TakesFar, ruling_of}
 use Rattle.udp.specs.Who.{Known, MayLearn, Setup, after_note, known_by}
 
 -- the packets of a rest
@@ -85,27 +87,70 @@ Follows BegunAnew held later k l view anew next from to admitted =
     × SaysInstead held later k l view
 
 -- This is let in of what was judged so.
-pub record LetsIn (judged : Judged) (p q : Policies) (k l : Kept) (view : RoomView)
+pub record LetsIn (judged : Judged) (p q : Ruling) (k l : Kept) (view : RoomView)
     (anew next : Option Anew) (from to : ℕ) (admitted : Admitted) : Type 0 where
   pub follows : Follows judged p.holding q.holding k l view anew next from to admitted
   pub same : IsOfSame k l
-  pub floods : q.floods ≡ p.floods
   pub screen : q.screen ≡ p.screen
   pub put_by : q.put_by ≡ p.put_by
+  pub most : q.most ≡ p.most
+
+-- the bytes that are kept, the rules, and who began anew, before packets are heard
+pub record Stand : Type 0 where
+  pub bytes : List ℕ
+  pub ruling : Ruling
+  pub anew : Option Anew
+
+abbrev pub stand_of : Hearing → Stand
+stand_of h =
+    record { bytes = h.kept.buffer.items; ruling = ruling_of h.policies; anew = h.anew }
 
 -- What this client sent, from a place to another among the bytes that are kept, is read; who comes anew is welcomed; then it is judged, and let in
 -- as it was judged.
-pub record HearsRead (sent : Sent) (h k : Hearing) (view : RoomView) (from to : ℕ)
+pub record HearsRead (sent : Sent) (stand : Stand) (view : RoomView) (from to : ℕ) (k : Hearing)
     (admitted : Admitted) : Type 0 where
   pub read : Kept
   pub left : Kept
-  pub welcomed : Policies
-  pub between : Policies
+  pub after : Ruling
+  pub between : Ruling
   pub judged : Judged
-  pub reads : IsReadFrom sent (slice_range h.kept.buffer.items from to) h.policies.most read
-  pub welcomes : IsWelcomed h.policies welcomed read view
-  pub judges : IsJudged welcomed between read left judged
-  pub lets : LetsIn judged between k.policies left k.kept view h.anew k.anew from to admitted
+  pub reads : IsReadFrom sent (slice_range stand.bytes from to) stand.ruling.most read
+  pub welcomes : IsWelcomed stand.ruling after read view
+  pub judges : IsJudged after between read left judged
+  pub lets : LetsIn judged between (ruling_of k.policies) left k.kept view stand.anew k.anew from to admitted
+  pub bytes : k.kept.buffer.items ≡ stand.bytes
+
+-- What this client sent, from a place to another among the bytes that are kept, is read and taken in, since it was judged before.
+pub record TakesIn (sent : Sent) (bytes : List ℕ) (ruling : Ruling) (view : RoomView) (from to : ℕ)
+    (k : Hearing) (admitted : Admitted) : Type 0 where
+  pub read : Kept
+  pub takes : admitted ≡ Taking
+  pub reads : IsReadFrom sent (slice_range bytes from to) ruling.most read
+  pub holds : IsHeld ruling.holding k.policies.holding read.sent view read.reading k.kept.reading
+  pub same : IsOfSame read k.kept
+  pub stays : k.kept.buffer.items ≡ bytes
+  pub screen : k.policies.screen ≡ ruling.screen
+  pub put_by : k.policies.put_by ≡ ruling.put_by
+  pub most : k.policies.most ≡ ruling.most
+
+-- The packet of an endpoint that began anew which was put by is counted of it, read and taken in.
+pub record HearsFar (sent : Sent) (h k : Hearing) (view : RoomView) (admitted : Admitted) : Type 0 where
+  pub filled : Kept
+  pub counted : Ruling
+  pub to : ℕ
+  pub far : TakesFar (ruling_of h.policies) counted h.kept filled sent.endpoint sent.moment to
+  pub takes : TakesIn sent filled.buffer.items counted view 65535 to k admitted
+
+-- no start is looked for, who speaks has to be the own source, nothing is bounded and nothing held
+pub record AsksNothing (r : Ruling) : Type 0 where
+  pub looks : LooksForNothing r.screen
+  pub holds : r.holding ≡ None
+  pub all : r.most ≡ None
+
+-- It is taken in as it was read.
+pub record TakesAll (sent : Sent) (bytes : List ℕ) (k : Hearing) (admitted : Admitted) : Type 0 where
+  pub takes : admitted ≡ Taking
+  pub reads : IsReadUpTo sent.own.0 bytes None k.kept.reading
 
 -- ---- a datagram that came
 
@@ -130,15 +175,15 @@ is_admitted h endpoint moment =
     is_within h.policies.floods.0 (slice_get h.policies.floods.1 endpoint) moment
 
 -- Once a datagram of this moment, all of these packets, came from this address: what is learned of it; and then, by those who are known from
--- then on, whose it is, and how much of it is heard at once. It is counted of who sent it if it isn't too many; who sent it is noted by what is heard, and
--- what is behind that is left. A stranger's is passed over, and one that is too many is gone.
-pub record HearsDatagram (unit : Bearings) (h k : Hearing) (moment : ℕ) (whole : Rest) (admitted : Admitted)
-    : Type 0 where
+-- then on, whose it is, and how much of it is heard at once, by the rules. It is counted of who sent it if it isn't too many; who sent it is noted by
+-- what is heard, and what is behind that is left. A stranger's is passed over, and one that is too many is gone.
+pub record HearsDatagram (unit : Bearings) (view : RoomView) (h k : Hearing) (moment : ℕ) (whole : Rest)
+    (admitted : Admitted) : Type 0 where
   pub between : Known
   pub learned : MayLearn unit.setup whole.address (packets_in h.kept whole) moment (known_by h.who) between
   pub stranger : sender_by unit between whole.address (packets_in h.kept whole) ≡ None
       → (admitted ≡ Nothing) × (known_by k.who ≡ between) × (k.policies.floods ≡ h.policies.floods)
-      × (k.rest
+      × (stand_of k ≡ stand_of h) × (k.rest
       ≡ rest_behind whole (front_by unit between whole.address (packets_in h.kept whole)))
   pub counted : (endpoint : ℕ)
       → sender_by unit between whole.address (packets_in h.kept whole) ≡ Some endpoint
@@ -147,7 +192,7 @@ pub record HearsDatagram (unit : Bearings) (h k : Hearing) (moment : ℕ) (whole
   pub flood : (endpoint : ℕ)
       → sender_by unit between whole.address (packets_in h.kept whole) ≡ Some endpoint
       → is_admitted h endpoint moment ≡ false
-      → (admitted ≡ Nothing) × (known_by k.who ≡ between) × (k.rest ≡ None)
+      → (admitted ≡ Nothing) × (known_by k.who ≡ between) × (stand_of k ≡ stand_of h) × (k.rest ≡ None)
   pub noted : (endpoint : ℕ)
       → sender_by unit between whole.address (packets_in h.kept whole) ≡ Some endpoint
       → is_admitted h endpoint moment ≡ true
@@ -160,22 +205,59 @@ pub record HearsDatagram (unit : Bearings) (h k : Hearing) (moment : ℕ) (whole
       → is_admitted h endpoint moment ≡ true
       → LooksAt h.kept k.kept whole
       (front_by unit between whole.address (packets_in h.kept whole)) endpoint
+  pub judged : (endpoint : ℕ)
+      → sender_by unit between whole.address (packets_in h.kept whole) ≡ Some endpoint
+      → is_admitted h endpoint moment ≡ true
+      → HearsRead (record { moment = moment; endpoint = endpoint; own = unit.source endpoint })
+      (stand_of h) view whole.from
+      (whole.from + front_by unit between whole.address (packets_in h.kept whole)) k admitted
   pub rest : (endpoint : ℕ)
       → sender_by unit between whole.address (packets_in h.kept whole) ≡ Some endpoint
       → is_admitted h endpoint moment ≡ true
       → k.rest
       ≡ rest_behind whole (front_by unit between whole.address (packets_in h.kept whole))
 
+-- The rest of a datagram, all of these packets: whose it is, and how much of it is heard at once, by the rules. Who sent it is noted by what is
+-- heard, and what is behind that is left. A stranger's is passed over.
+pub record HearsRest (unit : Bearings) (view : RoomView) (h k : Hearing) (moment : ℕ) (rest : Rest)
+    (admitted : Admitted) : Type 0 where
+  pub stranger : sender_by unit (known_by h.who) rest.address (packets_in h.kept rest) ≡ None
+      → (admitted ≡ Nothing) × (known_by k.who ≡ known_by h.who) × (stand_of k ≡ stand_of h)
+  pub noted : (endpoint : ℕ)
+      → sender_by unit (known_by h.who) rest.address (packets_in h.kept rest) ≡ Some endpoint
+      → IsNoted (unit.source endpoint).0 endpoint moment
+      (slice_range h.kept.buffer.items rest.from
+      (rest.from + front_by unit (known_by h.who) rest.address (packets_in h.kept rest)))
+      (known_by h.who) (known_by k.who)
+  pub looks : (endpoint : ℕ)
+      → sender_by unit (known_by h.who) rest.address (packets_in h.kept rest) ≡ Some endpoint
+      → LooksAt h.kept k.kept rest
+      (front_by unit (known_by h.who) rest.address (packets_in h.kept rest)) endpoint
+  pub judged : (endpoint : ℕ)
+      → sender_by unit (known_by h.who) rest.address (packets_in h.kept rest) ≡ Some endpoint
+      → HearsRead (record { moment = moment; endpoint = endpoint; own = unit.source endpoint })
+      (stand_of h) view rest.from
+      (rest.from + front_by unit (known_by h.who) rest.address (packets_in h.kept rest)) k admitted
+  pub left : k.rest
+      ≡ rest_behind rest (front_by unit (known_by h.who) rest.address (packets_in h.kept rest))
+
 -- ---- what is said in a client's name
 
-abbrev pub SaysAgain : Option Again → Kept → Bool → Type 0
-SaysAgain None kept asked = asked ≡ false
-SaysAgain (Some again) kept asked =
-    (asked ≡ true) × (kept.sent.endpoint ≡ again.endpoint)
+-- It is heard that this client is there, which asks for nothing.
+pub record IsPresentHeld (held later : Option Holding) (sent : Sent) (view : RoomView) (now : Reading)
+    : Type 0 where
+  pub said : Reading
+  pub speaks : IsSpokenBy sent.own [] said
+  pub holds : IsHeld held later sent view said now
+
+abbrev pub SaysAgain : Option Again → LinkTable → ℕ → Kept → Bool → Type 0
+SaysAgain None table moment kept asked = asked ≡ false
+SaysAgain (Some again) table moment kept asked =
+    (asked ≡ true) × (kept.sent ≡ sent_by table again.endpoint moment)
     × IsSpokenBy again.speaker (Rate again.media again.word ∷ []) kept.reading
 
 -- What is found of what is held is asked for once more, in the subscriber's name.
 pub record AsksAgain (h k : Hearing) (view : RoomView) (moment : ℕ) (asked : Bool) : Type 0 where
   pub again : Option Again
   pub found : HearsHeld h.policies.holding k.policies.holding view moment again
-  pub says : SaysAgain again k.kept asked
+  pub says : SaysAgain again view.links.now moment k.kept asked

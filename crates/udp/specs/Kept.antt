@@ -1,9 +1,11 @@
 -- What of what came is taken in, and the datagram that says it.
-use Rattle.std.specs.Prelude.{◌≡◌, ℕ, List, [], Option, None, slice_range}
+use Rattle.std.specs.Prelude.{◌≡◌, ◌&&◌, ◌+◌, ◌++◌, take, drop, ℕ, nat_lt, nat_le, Bool, List, [], length, Option, None, Ok, slice_range}
 use Rattle.tmmbr_tuple.specs.declared.ssrc.Ssrc.{Ssrc}
 use Rattle.settings.specs.Links.{LinkTable}
 use Rattle.desk_calls.specs.DeskCalls.{source_of}
-use Rattle.datagram.specs.Reads.{Admission, IsPacketRead, IsReadUpTo}
+use Rattle.datagram.specs.Notes.{IsNoted}
+use Rattle.datagram.specs.Reads.{Admission, IsClocked, IsPacketRead, IsReadUpTo}
+use Rattle.datagram.specs.Saying.{JoinsPackets}
 use Rattle.datagram.specs.Spelling.{IsAsHeard, spelling}
 use Rattle.datagram.specs.declared.reading.Ask.{Ask}
 use Rattle.datagram.specs.declared.reading.Reading.{Reading}
@@ -24,6 +26,15 @@ admission_in k = record {
   bytes = bytes_of k;
 }
 
+-- a packet that was put by is there, and no longer than a datagram
+abbrev pub is_there : List ℕ → Bool
+is_there packet = nat_lt 0 (length packet) && nat_le (length packet) 65535
+
+-- these bytes, with a packet behind where datagrams come
+abbrev pub with_behind : List ℕ → List ℕ → List ℕ
+with_behind bytes packet =
+    take 65535 bytes ++ (packet ++ drop (65535 + length packet) bytes)
+
 -- a datagram that says it
 abbrev pub datagram_in : Kept → List ℕ
 datagram_in k = spelling k.sent.own.0 k.reading.what k.reading.asks.items (bytes_of k)
@@ -39,11 +50,13 @@ pub record IsOfSame (k l : Kept) : Type 0 where
   pub buffer : l.buffer ≡ k.buffer
   pub sender : l.sent ≡ k.sent
 
--- What this client sent was read of these bytes, up to so many entries.
+-- What this client sent was read of these bytes, up to so many entries, and noted.
 pub record IsReadFrom (sent : Sent) (bytes : List ℕ) (most : Option ℕ) (k : Kept) : Type 0 where
   pub sender : k.sent ≡ sent
   pub came : bytes_of k ≡ bytes
   pub reads : IsReadUpTo sent.own.0 bytes most k.reading
+  pub clocked : IsClocked sent.own.0 (λ gist. JoinsPackets bytes (Ok gist)) k.reading.what k.reading.clocked.0
+  pub notes : IsNoted bytes k.notes
 
 -- a goodbye, which asks for nothing
 pub record SaysGoodbye (r : Reading) : Type 0 where

@@ -1,5 +1,6 @@
 pub mod Kept
 pub mod Hearing
+pub mod Door
 pub mod Policies
 pub mod Goodbyes
 pub mod Sockets

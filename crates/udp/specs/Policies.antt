@@ -1,17 +1,20 @@
 -- What becomes of what was read of an endpoint's packets, by the rules of a unit.
-use Rattle.std.specs.Prelude.{◌≡◌, ◌⊎◌, ◌==◌, ℕ, List, [], Option, None, Some, slice_set, if◌then◌else◌}
+use Rattle.std.specs.Prelude.{◌≡◌, ◌⊎◌, ◌==◌, ◌+◌, ◌≤◌, ℕ, length, unwrap_or, slice_get, Bool, true, false, List, [], Option, None, Some, slice_set, if◌then◌else◌}
+use Rattle.std.specs.List.{list_any}
 use Rattle.datagram.specs.declared.reading.Reading.{Reading}
 use Rattle.datagram.specs.declared.reading.Sent.{Sent}
 use Rattle.members.specs.declared.view.RoomView.{RoomView}
 use Rattle.policy.specs.Asking.{Asking}
-use Rattle.policy.specs.Holding.{HearsAgain, HearsWord, asks_left, asking_of, hold_terms}
+use Rattle.policy.specs.Holding.{HearsAgain, HearsWord, Ticks, asks_left, asking_of, hold_terms}
+use Rattle.policy.specs.JoinedPublishers.{is_due}
 use Rattle.policy.specs.Word.{word_in}
 use Rattle.policy.specs.declared.again.Again.{Again}
 use Rattle.policy.specs.declared.holding.Holding.{Holding}
-use Rattle.policy.specs.Screened.{Judges, welcomed}
+use Rattle.policy.specs.Screened.{IsAsItWas, Judges, LooksForNothing, Stays, counted_in, welcomed}
 use Rattle.policy.specs.declared.screen.Judged.{Judged}
 use Rattle.policy.specs.declared.screen.Judged.TheVariants.{Take, PutBy, Anew}
-use Rattle.udp.specs.Kept.{IsOfSame, bytes_of}
+use Rattle.policy.specs.declared.screen.Screen.{Screen}
+use Rattle.udp.specs.Kept.{IsOfSame, bytes_of, is_there, with_behind}
 use Rattle.udp.specs.declared.kept.Kept.{Kept}
 use Rattle.udp.specs.declared.policies.Policies.{Policies}
 
@@ -43,26 +46,62 @@ pub record IsHeld (before after : Option Holding) (sent : Sent) (view : RoomView
     : Type 0 where
   pub held : HoldsIf before after sent view old new
 
--- ---- welcomed
+-- ---- judged
+
+-- By what is judged and held what was read: all of the rules but how floods are counted, which comes before.
+pub record Ruling : Type 0 where
+  pub screen : Screen
+  pub put_by : List (List ℕ)
+  pub holding : Option Holding
+  pub most : Option ℕ
+
+abbrev pub ruling_of : Policies → Ruling
+ruling_of p = record { screen = p.screen; put_by = p.put_by; holding = p.holding; most = p.most }
 
 -- Who sent what was read comes anew if it isn't there by the room: what was known of it is forgotten.
-pub record IsWelcomed (p q : Policies) (k : Kept) (view : RoomView) : Type 0 where
+pub record IsWelcomed (p q : Ruling) (k : Kept) (view : RoomView) : Type 0 where
   pub screen : q.screen ≡ welcomed p.screen k.sent view.room.now
-  pub floods : q.floods ≡ p.floods
   pub put_by : q.put_by ≡ p.put_by
   pub holding : q.holding ≡ p.holding
   pub most : q.most ≡ p.most
 
--- ---- judged
-
--- What was read is judged, and this is left of it; a packet that is far is put by.
-pub record IsJudged (p q : Policies) (k l : Kept) (judged : Judged) : Type 0 where
+-- What was read is judged, and this is left of it, which is what was read if no rule asks for anything; a packet that is far is put by.
+pub record IsJudged (p q : Ruling) (k l : Kept) (judged : Judged) : Type 0 where
   pub judges : Judges p.screen q.screen k.sent k.reading l.reading judged
+  pub off : LooksForNothing p.screen → IsAsItWas p.screen q.screen k.reading l.reading judged
   pub put_by : PutsBy judged p.put_by q.put_by k.sent.endpoint (bytes_of k)
   pub same : IsOfSame k l
-  pub floods : q.floods ≡ p.floods
   pub holding : q.holding ≡ p.holding
   pub most : q.most ≡ p.most
+
+-- the packet of the endpoint that was put by; none if none is
+abbrev pub far_of : List (List ℕ) → ℕ → List ℕ
+far_of put_by endpoint = unwrap_or (slice_get put_by endpoint) []
+
+-- The packet of the endpoint that was put by is counted of it, and stands behind where datagrams come, up to this place.
+pub record TakesFar (p q : Ruling) (k l : Kept) (endpoint moment to : ℕ) : Type 0 where
+  pub there : is_there (far_of p.put_by endpoint) ≡ true
+  pub ends : to ≡ 65535 + length (far_of p.put_by endpoint)
+  pub behind : 65535 ≤ to
+  pub within : to ≤ length l.buffer.items
+  pub bytes : l.buffer.items ≡ with_behind k.buffer.items (far_of p.put_by endpoint)
+  pub resends : q.screen.resends ≡ counted_in p.screen.resends endpoint moment
+  pub starts : q.screen.starts ≡ p.screen.starts
+  pub rules : Stays p.screen q.screen
+  pub put_by : q.put_by ≡ p.put_by
+  pub holding : q.holding ≡ p.holding
+  pub most : q.most ≡ p.most
+
+-- a publisher came for whose legs what is held is heard again
+abbrev pub is_due_in : Option Holding → Bool
+is_due_in None = false
+is_due_in (Some h) = list_any is_due h.comings
+
+-- a tick was made
+abbrev pub TicksIf : Option Holding → Option Holding → Type 0
+TicksIf None after = after ≡ None
+TicksIf (Some h) None = ⊥
+TicksIf (Some h) (Some k) = Ticks h k
 
 -- what is heard once more, if anything is
 abbrev pub HearsHeld : Option Holding → Option Holding → RoomView → ℕ → Option Again → Type 0

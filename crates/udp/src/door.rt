@@ -1,20 +1,23 @@
 //! Where what comes to the sockets is let in.
 
-ghost use Rattle.std.specs.Prelude.{◌≡◌, ◌≤◌, [], None, Some, Ok, IfOk, IfSome, length, replicate};
+ghost use Rattle.std.specs.Prelude.{◌≡◌, ◌⊎◌, ◌≤◌, ◌<◌, ℕ, [], None, Some, Ok, IfNone, IfOk, IfSome, length, replicate};
 ghost use Rattle.entrance.specs.Entrance.{IfTaken};
 ghost use Rattle.desk_calls.specs.DeskCalls.{source_of};
 ghost use Rattle.addresses.specs.Listeners.{listeners_after, report_due};
 ghost use Rattle.policy.specs.FloodLimiter.{empty_bucket};
-ghost use Rattle.udp.specs.Kept.{IsSpokenBy, MayBeTaken};
+ghost use Rattle.udp.specs.Door.{HearsAnew, HearsLeft, IfLetIn, LetsWish, Waits};
+ghost use Rattle.udp.specs.Kept.{IsSpokenBy, MayBeTaken, sent_by};
 ghost use Rattle.udp.specs.Policies.{most_by};
-ghost use Rattle.udp.specs.Who.{known_by};
+ghost use Rattle.udp.specs.Who.{known_by, setup_of};
+ghost use Rattle.udp.specs.declared.hearing.Anew.{Anew};
+ghost use Rattle.udp.specs.declared.hearing.Rest.{Rest};
 
 use crate::clock::RunClock;
 use crate::hearing::Hearing;
 use crate::inbox::{Inbox, is_silence};
 use crate::scribe::Scribe;
 use crate::socket::Sockets;
-use addresses::{Client, Directory, Listening};
+use addresses::{Client, Directory, Listening, SourceAddress};
 use datagram::Taking;
 use entrance::{Admitted, Came, Entrance};
 use members::RoomView;
@@ -25,6 +28,7 @@ use settings::Settings;
 use stats::Traffic;
 use std::alloc::{AllocError, Global};
 use std::cell::RefCell;
+use std::net::{IpAddr, SocketAddr};
 use std::time;
 
 /// What all threads of a run look at: where endpoints are, what the run shows, what came and went, and which sets are asked for again.
@@ -86,19 +90,41 @@ impl<'a, R: time::Clock> Door<'a, R> {
     /// What comes next: what peers wish, else what is left in the buffer, else what is said in a client's name, else what the sockets
     /// have.
     fn next(&mut self, view: RoomView<'_>) -> Result<Came, AllocError>
-        ensures { IfOk result
+        ensures taken { IfOk result
             (λ came. IfTaken came.admitted (MayBeTaken view.entry.links.now self.new.hearing.kept)) }
+        ensures now { IfOk result (λ came. (came.moment ≡ self.new.clock.told)
+            × (self.old.clock.told ≤ came.moment)) }
+        ensures sent { IfOk result (λ came. IfTaken came.admitted
+            (self.new.hearing.kept.sent.moment ≡ came.moment)) }
+        ensures anew { (anew : Anew) → self.old.hearing.anew ≡ Some anew
+            → IfOk result (λ came. LetsWish came self.old.hearing self.new.hearing
+            ⊎ IfLetIn came.admitted (HearsAnew anew view.entry self.old.hearing self.new.hearing
+            came.moment)) }
+        ensures rest { (rest : Rest) → self.old.hearing.anew ≡ None
+            → self.old.hearing.rest ≡ Some rest
+            → IfOk result (λ came. LetsWish came self.old.hearing self.new.hearing
+            ⊎ IfLetIn came.admitted (HearsLeft rest (record {
+              setup = setup_of ⟦<u32 as PartialEq>⟧.eq ⟦<SocketAddr as PartialEq>⟧.eq
+                  ⟦<IpAddr as PartialEq>⟧.eq self.old.hearing.who;
+              same_origin = ⟦<SourceAddress as PartialEq>⟧.eq;
+              source = source_of view.entry.links.now;
+            }) view.entry self.old.hearing self.new.hearing came.moment)) }
     {
         match self.gauges.wished() {
             Received::Select { leg, on } => Ok(self.at_once(Admitted::Select { leg, on })),
             Received::Stop => Ok(self.at_once(Admitted::Stop)),
-            Received::Nothing | Received::Datagram { .. } => self.next_heard(view),
+            Received::Nothing | Received::Datagram { .. } => {
+                let came = self.next_heard(view)?;
+                Ok(came)
+            }
         }
     }
 
     /// This is so, by now.
     fn at_once(&mut self, admitted: Admitted) -> Came
-        ensures { result.admitted ≡ Ok admitted }
+        ensures admitted { result.admitted ≡ Ok admitted }
+        ensures now { (result.moment ≡ self.new.clock.told) × (self.old.clock.told ≤ result.moment) }
+        ensures hearing { self.new.hearing ≡ self.old.hearing }
     {
         let moment = self.moment();
         let_in(moment, admitted)
@@ -106,6 +132,7 @@ impl<'a, R: time::Clock> Door<'a, R> {
 
     /// What time it is.
     fn moment(&mut self) -> u64
+        ensures now { (result ≡ self.new.clock.told) × (self.old.clock.told ≤ result) }
         ensures hearing { self.new.hearing ≡ self.old.hearing }
     {
         let moment = self.clock.ask();
@@ -116,8 +143,23 @@ impl<'a, R: time::Clock> Door<'a, R> {
     /// What is heard next: what an endpoint that began anew sent, the rest of a datagram, what is said in a client's name, or else what
     /// the sockets have.
     fn next_heard(&mut self, view: RoomView<'_>) -> Result<Came, AllocError>
-        ensures { IfOk result
+        ensures taken { IfOk result
             (λ came. IfTaken came.admitted (MayBeTaken view.entry.links.now self.new.hearing.kept)) }
+        ensures now { IfOk result (λ came. (came.moment ≡ self.new.clock.told)
+            × (self.old.clock.told ≤ came.moment)) }
+        ensures sent { IfOk result (λ came. IfTaken came.admitted
+            (self.new.hearing.kept.sent.moment ≡ came.moment)) }
+        ensures anew { (anew : Anew) → self.old.hearing.anew ≡ Some anew
+            → IfOk result (λ came. IfLetIn came.admitted
+            (HearsAnew anew view.entry self.old.hearing self.new.hearing came.moment)) }
+        ensures rest { (rest : Rest) → self.old.hearing.anew ≡ None
+            → self.old.hearing.rest ≡ Some rest → IfOk result (λ came. IfLetIn came.admitted
+            (HearsLeft rest (record {
+              setup = setup_of ⟦<u32 as PartialEq>⟧.eq ⟦<SocketAddr as PartialEq>⟧.eq
+                  ⟦<IpAddr as PartialEq>⟧.eq self.old.hearing.who;
+              same_origin = ⟦<SourceAddress as PartialEq>⟧.eq;
+              source = source_of view.entry.links.now;
+            }) view.entry self.old.hearing self.new.hearing came.moment)) }
     {
         if let Some(anew) = self.hearing.anew {
             let moment = self.moment();
@@ -139,6 +181,9 @@ impl<'a, R: time::Clock> Door<'a, R> {
     fn hear_made(&mut self, view: RoomView<'_>) -> Result<Option<u64>, AllocError>
         ensures taken { IfOk result (λ made. IfSome made
             (λ _. MayBeTaken view.entry.links.now self.new.hearing.kept)) }
+        ensures now { IfOk result (λ made. IfSome made (λ moment.
+            (moment ≡ self.new.clock.told) × (self.new.hearing.kept.sent.moment ≡ moment))) }
+        ensures later { self.old.clock.told ≤ self.new.clock.told }
         ensures stays { (self.new.hearing.rest ≡ self.old.hearing.rest)
             × (self.new.hearing.anew ≡ self.old.hearing.anew) }
     {
@@ -159,9 +204,15 @@ impl<'a, R: time::Clock> Door<'a, R> {
             ≡ Some self.new.hearing.kept.sent.endpoint)
             × IsSpokenBy (source_of view.entry.links.now self.new.hearing.kept.sent.endpoint) []
             self.new.hearing.kept.reading) }
+        ensures none { IfNone result ((endpoint : ℕ) → endpoint < 65536
+            → report_due self.old.hearing.who.listeners self.old.clock.told ≡ Some endpoint → ⊥) }
         ensures turn { known_by self.new.hearing.who ≡ record (known_by self.old.hearing.who) {
           listeners = listeners_after self.old.hearing.who.listeners self.old.clock.told;
         } }
+        ensures now { IfSome result (λ moment. (moment ≡ self.new.clock.told)
+            × (self.new.hearing.kept.sent
+            ≡ sent_by view.entry.links.now self.new.hearing.kept.sent.endpoint moment)) }
+        ensures later { self.old.clock.told ≤ self.new.clock.told }
         ensures stays { (self.new.hearing.rest ≡ self.old.hearing.rest)
             × (self.new.hearing.anew ≡ self.old.hearing.anew) }
     {
@@ -174,8 +225,18 @@ impl<'a, R: time::Clock> Door<'a, R> {
     /// What comes to the sockets next, in time. Nothing of what came before is left.
     fn wait(&mut self, view: RoomView<'_>) -> Result<Came, AllocError>
         requires { (self.old.hearing.rest ≡ None) × (self.old.hearing.anew ≡ None) }
-        ensures { IfOk result
+        ensures taken { IfOk result
             (λ came. IfTaken came.admitted (MayBeTaken view.entry.links.now self.new.hearing.kept)) }
+        ensures now { IfOk result (λ came. (came.moment ≡ self.new.clock.told)
+            × (self.old.clock.told ≤ came.moment)) }
+        ensures sent { IfOk result (λ came. IfTaken came.admitted
+            (self.new.hearing.kept.sent.moment ≡ came.moment)) }
+        ensures waits { IfOk result (λ came. Waits (λ who. record {
+          setup = setup_of ⟦<u32 as PartialEq>⟧.eq ⟦<SocketAddr as PartialEq>⟧.eq
+              ⟦<IpAddr as PartialEq>⟧.eq who;
+          same_origin = ⟦<SourceAddress as PartialEq>⟧.eq;
+          source = source_of view.entry.links.now;
+        }) view.entry self.old.hearing self.new.hearing came.moment came.admitted) }
     {
         let last = self.clock.told();
         let came = self.hearing.receive(&mut self.inbox, last);

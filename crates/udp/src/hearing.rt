@@ -1,15 +1,15 @@
 //! What is heard of what came: the packets of a datagram from its front on, each as of who sent it, by the rules of the unit.
 
-ghost use Rattle.std.specs.Prelude.{◌≡◌, ◌≤◌, ◌+◌, ◌∷◌, ℕ, [], false, true, None, Some, Ok, IfOk, IfSome, OnOk, length, slice_get, slice_range, replicate};
+ghost use Rattle.std.specs.Prelude.{◌≡◌, ◌≤◌, ◌<◌, ◌+◌, ◌∷◌, ℕ, [], false, true, None, Some, Ok, IfNone, IfOk, IfSome, OnOk, length, slice_get, slice_range, replicate};
 ghost use Rattle.entrance.specs.Entrance.{IfTaken};
 ghost use Rattle.desk_calls.specs.DeskCalls.{source_of};
 ghost use Rattle.policy.specs.FloodLimiter.{buckets_with, empty_bucket, is_within};
 ghost use Rattle.addresses.specs.Listeners.{listeners_after, report_due};
 ghost use Rattle.datagram.specs.Naming.{source_named};
 ghost use Rattle.addresses.specs.SenderTable.{front_length, sender_of};
-ghost use Rattle.udp.specs.Hearing.{HearsDatagram, HearsRead, IsNoted, LetsIn, LooksAt, anew_after, packets_in, rest_behind};
-ghost use Rattle.udp.specs.Kept.{IsSpokenBy, MayBeTaken, bytes_of, sent_by};
-ghost use Rattle.udp.specs.Policies.{most_by};
+ghost use Rattle.udp.specs.Hearing.{HearsDatagram, HearsFar, HearsRead, HearsRest, IsNoted, IsPresentHeld, LetsIn, LooksAt, TakesIn, anew_after, packets_in, rest_behind, stand_of};
+ghost use Rattle.udp.specs.Kept.{IsSpokenBy, MayBeTaken, bytes_of, is_there, sent_by};
+ghost use Rattle.udp.specs.Policies.{TicksIf, far_of, is_due_in, most_by, ruling_of};
 ghost use Rattle.udp.specs.Who.{known_by, setup_of};
 
 use crate::door::Outlook;
@@ -114,12 +114,24 @@ impl<'a> Hearing<'a> {
     pub(crate) fn hear_anew(&mut self, view: RoomView<'_>, moment: u64, anew: Anew) -> Receipt
         ensures taken { IfOk result
             (λ admitted. IfTaken (Ok admitted) (MayBeTaken view.entry.links.now self.new.kept)) }
-        ensures sender { IfOk result
-            (λ admitted. IfTaken (Ok admitted) (self.new.kept.sent.endpoint ≡ anew.endpoint)) }
-        ensures packet { anew.is_far_heard ≡ true → IfOk result (λ admitted. IfTaken (Ok admitted)
-            (bytes_of self.new.kept ≡ slice_range self.old.kept.buffer.items anew.from anew.to)) }
+        ensures sent { IfOk result (λ admitted. IfTaken (Ok admitted)
+            (self.new.kept.sent ≡ sent_by view.entry.links.now anew.endpoint moment)) }
+        ensures packet { anew.is_far_heard ≡ true → anew.from ≤ anew.to
+            → anew.to ≤ length self.old.kept.buffer.items → IfOk result (λ admitted.
+            TakesIn (sent_by view.entry.links.now anew.endpoint moment)
+            self.old.kept.buffer.items (ruling_of self.old.policies) view.entry anew.from anew.to
+            self.new admitted) }
+        ensures far { anew.is_far_heard ≡ false
+            → is_there (far_of self.old.policies.put_by anew.endpoint) ≡ true
+            → IfOk result (λ admitted. HearsFar
+            (sent_by view.entry.links.now anew.endpoint moment) self.old self.new view.entry
+            admitted) }
+        ensures none { anew.is_far_heard ≡ false
+            → is_there (far_of self.old.policies.put_by anew.endpoint) ≡ false
+            → IfOk result (λ admitted. admitted ≡ Admitted.Nothing) }
         ensures next { self.new.anew ≡ anew_after anew }
-        ensures rest { self.new.rest ≡ self.old.rest }
+        ensures stays { (self.new.rest ≡ self.old.rest) × (self.new.who ≡ self.old.who)
+            × (self.new.policies.floods ≡ self.old.policies.floods) }
     {
         let Anew {
             endpoint,
@@ -152,9 +164,15 @@ impl<'a> Hearing<'a> {
     ) -> Receipt
         ensures taken { IfOk result
             (λ admitted. IfTaken (Ok admitted) (MayBeTaken view.entry.links.now self.new.kept)) }
-        ensures heard { IfOk result (λ admitted. IfTaken (Ok admitted) ((self.new.kept.sent.endpoint ≡ endpoint)
-            × (bytes_of self.new.kept ≡ slice_range self.old.kept.buffer.items from to))) }
-        ensures stays { (self.new.rest ≡ self.old.rest) × (self.new.anew ≡ self.old.anew) }
+        ensures sent { IfOk result (λ admitted. IfTaken (Ok admitted)
+            (self.new.kept.sent ≡ sent_by view.entry.links.now endpoint moment)) }
+        ensures packet { from ≤ to → to ≤ length self.old.kept.buffer.items → IfOk result
+            (λ admitted. TakesIn (sent_by view.entry.links.now endpoint moment)
+            self.old.kept.buffer.items (ruling_of self.old.policies) view.entry from to self.new
+            admitted) }
+        ensures stays { (self.new.rest ≡ self.old.rest) × (self.new.anew ≡ self.old.anew)
+            × (self.new.who ≡ self.old.who)
+            × (self.new.policies.floods ≡ self.old.policies.floods) }
     {
         if from > to || to > self.kept.buffer.len() {
             return Ok(Admitted::Nothing);
@@ -169,16 +187,19 @@ impl<'a> Hearing<'a> {
     pub(crate) fn hear_rest(&mut self, view: RoomView<'_>, moment: u64, rest: Rest) -> Receipt
         ensures taken { IfOk result
             (λ admitted. IfTaken (Ok admitted) (MayBeTaken view.entry.links.now self.new.kept)) }
-        ensures sender { (endpoint : ℕ)
-            → rest.from ≤ rest.to → rest.to ≤ length self.old.kept.buffer.items
-            → sender_of ⟦<SourceAddress as PartialEq>⟧.eq ⟦<SocketAddr as PartialEq>⟧.eq self.old.who.senders
-            rest.address (source_named (packets_in self.old.kept rest)) ≡ Some endpoint
-            → OnOk result (LooksAt self.old.kept self.new.kept rest (front_length
-            ⟦<SocketAddr as PartialEq>⟧.eq self.old.who.senders rest.address
-            (packets_in self.old.kept rest)) endpoint) }
+        ensures moment { IfOk result
+            (λ admitted. IfTaken (Ok admitted) (self.new.kept.sent.moment ≡ moment)) }
+        ensures floods { self.new.policies.floods ≡ self.old.policies.floods }
         ensures left { rest.from ≤ rest.to → rest.to ≤ length self.old.kept.buffer.items
             → self.new.rest ≡ rest_behind rest (front_length ⟦<SocketAddr as PartialEq>⟧.eq
             self.old.who.senders rest.address (packets_in self.old.kept rest)) }
+        ensures hears { rest.from ≤ rest.to → rest.to ≤ length self.old.kept.buffer.items
+            → IfOk result (λ admitted. HearsRest (record {
+              setup = setup_of ⟦<u32 as PartialEq>⟧.eq ⟦<SocketAddr as PartialEq>⟧.eq
+                  ⟦<IpAddr as PartialEq>⟧.eq self.old.who;
+              same_origin = ⟦<SourceAddress as PartialEq>⟧.eq;
+              source = source_of view.entry.links.now;
+            }) view.entry self.old self.new moment rest admitted) }
     {
         let Rest { address, from, to } = rest;
         if from > to || to > self.kept.buffer.len() {
@@ -203,12 +224,15 @@ impl<'a> Hearing<'a> {
         requires { size ≤ length self.old.kept.buffer.items }
         ensures taken { IfOk result
             (λ admitted. IfTaken (Ok admitted) (MayBeTaken view.entry.links.now self.new.kept)) }
+        ensures moment { IfOk result
+            (λ admitted. IfTaken (Ok admitted) (self.new.kept.sent.moment ≡ moment)) }
         ensures hears { IfOk result (λ admitted. HearsDatagram (record {
           setup = setup_of ⟦<u32 as PartialEq>⟧.eq ⟦<SocketAddr as PartialEq>⟧.eq
               ⟦<IpAddr as PartialEq>⟧.eq self.old.who;
           same_origin = ⟦<SourceAddress as PartialEq>⟧.eq;
           source = source_of view.entry.links.now;
-        }) self.old self.new moment (record { address = address; from = 0; to = size }) admitted) }
+        }) view.entry self.old self.new moment (record { address = address; from = 0; to = size })
+            admitted) }
     {
         let whole = Rest {
             address,
@@ -244,7 +268,10 @@ impl<'a> Hearing<'a> {
             → is_within self.old.policies.floods.0
             (slice_get self.old.policies.floods.1 endpoint) moment ≡ false
             → (result ≡ Ok Admitted.Nothing) × (self.new.rest ≡ None)
-            × (known_by self.new.who ≡ known_by self.old.who) }
+            × (known_by self.new.who ≡ known_by self.old.who)
+            × (stand_of self.new ≡ stand_of self.old) }
+        ensures moment { IfOk result
+            (λ admitted. IfTaken (Ok admitted) (self.new.kept.sent.moment ≡ moment)) }
         ensures sender { (endpoint : ℕ) → front.endpoint ≡ Some endpoint
             → is_within self.old.policies.floods.0
             (slice_get self.old.policies.floods.1 endpoint) moment ≡ true
@@ -255,6 +282,12 @@ impl<'a> Hearing<'a> {
             → OnOk result (IsNoted (source_of view.entry.links.now endpoint).0 endpoint moment
             (slice_range self.old.kept.buffer.items whole.from (whole.from + front.length))
             (known_by self.old.who) (known_by self.new.who)) }
+        ensures judged { (endpoint : ℕ) → front.endpoint ≡ Some endpoint
+            → is_within self.old.policies.floods.0
+            (slice_get self.old.policies.floods.1 endpoint) moment ≡ true
+            → IfOk result (λ admitted. HearsRead (sent_by view.entry.links.now endpoint moment)
+            (stand_of self.old) view.entry whole.from (whole.from + front.length) self.new
+            admitted) }
         ensures left { (endpoint : ℕ) → front.endpoint ≡ Some endpoint
             → is_within self.old.policies.floods.0
             (slice_get self.old.policies.floods.1 endpoint) moment ≡ true
@@ -262,7 +295,8 @@ impl<'a> Hearing<'a> {
         ensures stranger { front.endpoint ≡ None → (result ≡ Ok Admitted.Nothing)
             × (self.new.rest ≡ rest_behind whole front.length)
             × (known_by self.new.who ≡ known_by self.old.who)
-            × (self.new.policies.floods ≡ self.old.policies.floods) }
+            × (self.new.policies.floods ≡ self.old.policies.floods)
+            × (stand_of self.new ≡ stand_of self.old) }
     {
         self.rest = None;
         if !self.admits(front.endpoint, moment) {
@@ -286,6 +320,7 @@ impl<'a> Hearing<'a> {
             → (result ≡ true) × (self.new.policies.floods ≡ self.old.policies.floods) }
         ensures stays { (self.new.kept ≡ self.old.kept) × (self.new.rest ≡ self.old.rest)
             × (self.new.anew ≡ self.old.anew) × (self.new.who ≡ self.old.who) }
+        ensures stand { stand_of self.new ≡ stand_of self.old }
     {
         let Some(endpoint) = endpoint else {
             return true;
@@ -317,8 +352,15 @@ impl<'a> Hearing<'a> {
             (IsNoted (source_of view.entry.links.now endpoint).0 endpoint moment
             (slice_range self.old.kept.buffer.items packets.from (packets.from + front.length))
             (known_by self.old.who) (known_by self.new.who)) }
+        ensures judged { (endpoint : ℕ) → front.endpoint ≡ Some endpoint → IfOk result
+            (λ admitted. HearsRead (sent_by view.entry.links.now endpoint moment)
+            (stand_of self.old) view.entry packets.from (packets.from + front.length) self.new
+            admitted) }
+        ensures moment { IfOk result
+            (λ admitted. IfTaken (Ok admitted) (self.new.kept.sent.moment ≡ moment)) }
         ensures stranger { front.endpoint ≡ None → (result ≡ Ok Admitted.Nothing)
-            × (known_by self.new.who ≡ known_by self.old.who) }
+            × (known_by self.new.who ≡ known_by self.old.who)
+            × (stand_of self.new ≡ stand_of self.old) }
     {
         let Rest { address, from, to } = packets;
         let end = from + front.length;
@@ -360,8 +402,8 @@ impl<'a> Hearing<'a> {
             (slice_range self.old.kept.buffer.items from to) (known_by self.old.who)
             (known_by self.new.who)) }
         ensures judged { IfOk result (λ admitted. HearsRead
-            (sent_by view.entry.links.now endpoint moment) self.old self.new view.entry from to
-            admitted) }
+            (sent_by view.entry.links.now endpoint moment) (stand_of self.old) view.entry from to
+            self.new admitted) }
         ensures rest { (self.new.rest ≡ self.old.rest)
             × (self.new.policies.floods ≡ self.old.policies.floods) }
     {
@@ -377,11 +419,12 @@ impl<'a> Hearing<'a> {
 
     /// What is let in of what was read of the packets that stand there, and judged so.
     fn let_in(&mut self, view: RoomView<'_>, judged: Judged, from: usize, to: usize) -> Admitted
-        ensures lets { LetsIn judged self.old.policies self.new.policies self.old.kept self.new.kept
-            view.entry self.old.anew self.new.anew from to result }
+        ensures lets { LetsIn judged (ruling_of self.old.policies) (ruling_of self.new.policies)
+            self.old.kept self.new.kept view.entry self.old.anew self.new.anew from to result }
         ensures taken { MayBeTaken view.entry.links.now self.old.kept
             → MayBeTaken view.entry.links.now self.new.kept }
-        ensures stays { (self.new.rest ≡ self.old.rest) × (self.new.who ≡ self.old.who) }
+        ensures stays { (self.new.rest ≡ self.old.rest) × (self.new.who ≡ self.old.who)
+            × (self.new.policies.floods ≡ self.old.policies.floods) }
     {
         match judged {
             Judged::Take => {
@@ -404,7 +447,9 @@ impl<'a> Hearing<'a> {
     }
 
     /// Whether a publisher came for whom requests are held.
-    pub(crate) fn is_held(&self) -> bool {
+    pub(crate) fn is_held(&self) -> bool
+        ensures { result ≡ is_due_in self.now.policies.holding }
+    {
         self.policies.is_waiting()
     }
 
@@ -413,7 +458,14 @@ impl<'a> Hearing<'a> {
         ensures taken { IfOk result
             (λ asked. asked ≡ true → MayBeTaken view.entry.links.now self.new.kept) }
         ensures hears { IfOk result (λ asked. AsksAgain self.old self.new view.entry moment asked) }
-        ensures stays { (self.new.rest ≡ self.old.rest) × (self.new.anew ≡ self.old.anew) }
+        ensures moment { IfOk result
+            (λ asked. asked ≡ true → self.new.kept.sent.moment ≡ moment) }
+        ensures stays { (self.new.rest ≡ self.old.rest) × (self.new.anew ≡ self.old.anew)
+            × (self.new.who ≡ self.old.who)
+            × (self.new.policies.floods ≡ self.old.policies.floods)
+            × (self.new.policies.screen ≡ self.old.policies.screen)
+            × (self.new.policies.put_by ≡ self.old.policies.put_by)
+            × (self.new.policies.most ≡ self.old.policies.most) }
     {
         let Some(again) = self.policies.next_held(view, moment) else {
             return Ok(false);
@@ -426,6 +478,8 @@ impl<'a> Hearing<'a> {
     pub(crate) fn report_due(&mut self, moment: u64) -> Option<u16>
         ensures due { IfSome result (λ endpoint.
             report_due self.old.who.listeners moment ≡ Some endpoint) }
+        ensures none { IfNone result ((endpoint : ℕ) → endpoint < 65536
+            → report_due self.old.who.listeners moment ≡ Some endpoint → ⊥) }
         ensures turn { known_by self.new.who ≡ record (known_by self.old.who) {
           listeners = listeners_after self.old.who.listeners moment;
         } }
@@ -440,9 +494,15 @@ impl<'a> Hearing<'a> {
         ensures taken { MayBeTaken view.entry.links.now self.new.kept }
         ensures says { IsSpokenBy (source_of view.entry.links.now endpoint) []
             self.new.kept.reading }
-        ensures endpoint { self.new.kept.sent.endpoint ≡ endpoint }
+        ensures sent { self.new.kept.sent ≡ sent_by view.entry.links.now endpoint moment }
+        ensures holds { IsPresentHeld self.old.policies.holding self.new.policies.holding
+            (sent_by view.entry.links.now endpoint moment) view.entry self.new.kept.reading }
         ensures stays { (self.new.rest ≡ self.old.rest) × (self.new.anew ≡ self.old.anew)
-            × (self.new.who ≡ self.old.who) }
+            × (self.new.who ≡ self.old.who)
+            × (self.new.policies.floods ≡ self.old.policies.floods)
+            × (self.new.policies.screen ≡ self.old.policies.screen)
+            × (self.new.policies.put_by ≡ self.old.policies.put_by)
+            × (self.new.policies.most ≡ self.old.policies.most) }
     {
         self.kept.say_present(view.links, moment, endpoint);
         self.policies.hold(&mut self.kept, view);
@@ -455,14 +515,22 @@ impl<'a> Hearing<'a> {
         moment: u64,
     ) -> io::Result<(usize, SocketAddr)>
         ensures within { IfOk result (λ came. came.0 ≤ length self.new.kept.buffer.items) }
-        ensures stays { (self.new.rest ≡ self.old.rest) × (self.new.anew ≡ self.old.anew) }
+        ensures stays { (self.new.rest ≡ self.old.rest) × (self.new.anew ≡ self.old.anew)
+            × (self.new.who ≡ self.old.who) × (self.new.policies ≡ self.old.policies) }
     {
         self.kept.receive(inbox, moment)
     }
 
     /// A tick was made.
     pub(crate) fn ticked(&mut self)
-        ensures { self.new.kept ≡ self.old.kept }
+        ensures kept { self.new.kept ≡ self.old.kept }
+        ensures ticks { TicksIf self.old.policies.holding self.new.policies.holding }
+        ensures stays { (self.new.rest ≡ self.old.rest) × (self.new.anew ≡ self.old.anew)
+            × (self.new.who ≡ self.old.who)
+            × (self.new.policies.floods ≡ self.old.policies.floods)
+            × (self.new.policies.screen ≡ self.old.policies.screen)
+            × (self.new.policies.put_by ≡ self.old.policies.put_by)
+            × (self.new.policies.most ≡ self.old.policies.most) }
     {
         self.policies.ticked();
     }

@@ -1,6 +1,6 @@
 //! What came last, and what of it is taken in.
 
-ghost use Rattle.std.specs.Prelude.{◌≤◌, length};
+ghost use Rattle.std.specs.Prelude.{◌≡◌, ◌≤◌, length};
 
 use crate::inbox::Inbox;
 use datagram::{Ask, Control, Notes, Reading, Sent, Taking, What, is_sayable, read_noting};
@@ -35,11 +35,11 @@ pub(crate) struct Kept {
     pub(crate) notes: Notes,
     /// Whether the unit itself says it, in the endpoint's name.
     pub(crate) is_made: bool,
-    ghost fits: { (from ≤ to) × (to ≤ length buffer.items) },
+    ghost fits: { (from ≤ to) × (to ≤ length buffer.items) × (length buffer.items ≡ 131070) },
 }
 
 impl Kept {
-    ghost use Rattle.std.specs.Prelude.{◌≡◌, ◌≤◌, ◌∷◌, [], IfOk, IfSome, OnOk, length, slice_range};
+    ghost use Rattle.std.specs.Prelude.{◌≡◌, ◌≤◌, ◌+◌, ◌∷◌, [], true, false, IfNone, IfOk, IfSome, OnOk, length, slice_range};
     ghost use Rattle.desk_calls.specs.DeskCalls.{source_of};
     ghost use Rattle.datagram.specs.Reads.{IsReadUpTo, admission_of};
     ghost use Rattle.datagram.specs.Spelling.{IsAsHeard};
@@ -47,8 +47,8 @@ impl Kept {
     ghost use Rattle.settings.specs.Links.{LinkTable};
     ghost use Rattle.policy.specs.Holding.{HearsWord, asks_left, asking_of};
     ghost use Rattle.policy.specs.Word.{word_in};
-    ghost use Rattle.policy.specs.Screened.{Judges};
-    ghost use Rattle.udp.specs.Kept.{IsOfSame, IsReadFrom, IsSpokenBy, MayBeTaken, SaysGoodbye, admission_in, bytes_of, datagram_in, sent_by};
+    ghost use Rattle.policy.specs.Screened.{IsAsItWas, Judges, LooksForNothing};
+    ghost use Rattle.udp.specs.Kept.{IsOfSame, IsReadFrom, IsSpokenBy, MayBeTaken, SaysGoodbye, admission_in, bytes_of, datagram_in, is_there, sent_by, with_behind};
     ghost use Rattle.udp.specs.Hearing.{is_goodbye};
     ghost use Rattle.udp.specs.Policies.{Holds};
 
@@ -122,6 +122,8 @@ impl Kept {
     pub(crate) fn judge(&mut self, screen: &mut Screen<'_>) -> Judged
         ensures judged { Judges screen.old screen.new self.old.sent self.old.reading
             self.new.reading result }
+        ensures off { LooksForNothing screen.old
+            → IsAsItWas screen.old screen.new self.old.reading self.new.reading result }
         ensures taken { (table : LinkTable) → MayBeTaken table self.old → MayBeTaken table self.new }
         ensures same { IsOfSame self.old self.new }
     {
@@ -169,15 +171,33 @@ impl Kept {
 
     /// Copies a packet that was put by behind where datagrams come, and says where it ends. `None` if there is none.
     pub(crate) fn copy_behind(&mut self, packet: &[u8]) -> Option<usize>
+        ensures some { IfSome result (λ to. (is_there packet.now ≡ true)
+            × (to ≡ 65535 + length packet.now) × (self.new.buffer.items
+            ≡ with_behind self.old.buffer.items packet.now)) }
         ensures within { IfSome result (λ to. (65535 ≤ to) × (to ≤ length self.new.buffer.items)) }
-        ensures length { length self.new.buffer.items ≡ length self.old.buffer.items }
+        ensures none { IfNone result (is_there packet.now ≡ false) }
     {
-        let to = MAX_DATAGRAM.checked_add(packet.len())?;
-        if packet.is_empty() || to > self.buffer.len() {
+        if !Kept::is_there(packet) {
             return None;
         }
-        self.buffer.as_mut_slice()[MAX_DATAGRAM..to].copy_from_slice(packet);
-        Some(to)
+        Kept::put_behind(self.buffer.as_mut_slice(), packet);
+        Some(MAX_DATAGRAM + packet.len())
+    }
+
+    /// Writes a packet behind where datagrams come.
+    fn put_behind(out: &mut [u8], packet: &[u8])
+        requires { 65535 + length packet.now ≤ length out.old }
+        ensures put { out.new ≡ with_behind out.old packet.now }
+        ensures length { length out.new ≡ length out.old }
+    {
+        out[MAX_DATAGRAM..MAX_DATAGRAM + packet.len()].copy_from_slice(packet);
+    }
+
+    /// Whether there is a packet, and it isn't longer than a datagram.
+    fn is_there(packet: &[u8]) -> bool
+        ensures { result ≡ is_there packet.now }
+    {
+        !packet.is_empty() && packet.len() <= MAX_DATAGRAM
     }
 
     /// The endpoint says goodbye, in place of what was read.

@@ -25,12 +25,12 @@ pub(crate) struct Policies<'a> {
 }
 
 impl<'a> Policies<'a> {
-    ghost use Rattle.std.specs.Prelude.{◌≡◌, None, [], IfOk, length, replicate, slice_get, unwrap_or};
+    ghost use Rattle.std.specs.Prelude.{◌≡◌, false, None, [], IfNone, IfOk, IfSome, length, replicate, slice_get, unwrap_or};
     ghost use Rattle.policy.specs.JoinedPublishers.{is_due};
     ghost use Rattle.policy.specs.FloodLimiter.{buckets_with, empty_bucket, is_within};
     ghost use Rattle.settings.specs.Links.{LinkTable};
-    ghost use Rattle.udp.specs.Kept.{IsOfSame, MayBeTaken};
-    ghost use Rattle.udp.specs.Policies.{HearsHeld, IsHeld, IsJudged, IsWelcomed, most_by};
+    ghost use Rattle.udp.specs.Kept.{IsOfSame, MayBeTaken, is_there};
+    ghost use Rattle.udp.specs.Policies.{HearsHeld, IsHeld, IsJudged, IsWelcomed, TakesFar, TicksIf, far_of, is_due_in, most_by, ruling_of};
 
     /// Nothing came yet in a unit of these settings, by these rules.
     pub(crate) fn new(
@@ -70,6 +70,7 @@ impl<'a> Policies<'a> {
             ≡ is_within self.old.floods.0 (slice_get self.old.floods.1 endpoint) moment }
         ensures counted { self.new.floods
             ≡ (self.old.floods.0, buckets_with self.old.floods.0 self.old.floods.1 endpoint moment) }
+        ensures ruling { ruling_of self.new ≡ ruling_of self.old }
     {
         self.floods.admit(endpoint, moment)
     }
@@ -77,14 +78,16 @@ impl<'a> Policies<'a> {
     /// Who sent what was read comes anew, if it isn't there by the room as it is. A packet of it that was put by before is never taken in then, since
     /// none is awaited after it.
     pub(crate) fn welcome(&mut self, kept: &Kept, view: RoomView<'_>)
-        ensures { IsWelcomed self.old self.new kept.now view.entry }
+        ensures welcomes { IsWelcomed (ruling_of self.old) (ruling_of self.new) kept.now view.entry }
+        ensures floods { self.new.floods ≡ self.old.floods }
     {
         self.screen.welcome(kept.sent, view);
     }
 
     /// Judges what was read. A packet that is far is put by.
     pub(crate) fn judge(&mut self, kept: &mut Kept) -> Judged
-        ensures judged { IsJudged self.old self.new kept.old kept.new result }
+        ensures judged { IsJudged (ruling_of self.old) (ruling_of self.new) kept.old kept.new result }
+        ensures floods { self.new.floods ≡ self.old.floods }
         ensures taken { (table : LinkTable) → MayBeTaken table kept.old → MayBeTaken table kept.new }
     {
         let judged = kept.judge(&mut self.screen);
@@ -97,8 +100,10 @@ impl<'a> Policies<'a> {
     /// The far packet of the endpoint is taken in after all: it is counted of the endpoint, and copied behind what came. Where it ends; `None` if
     /// there is none.
     pub(crate) fn take_far(&mut self, kept: &mut Kept, endpoint: u16, moment: u64) -> Option<usize>
-        ensures stays { (self.new.floods ≡ self.old.floods)
-            × (self.new.holding ≡ self.old.holding) × (self.new.most ≡ self.old.most) }
+        ensures far { IfSome result (λ to. TakesFar (ruling_of self.old) (ruling_of self.new)
+            kept.old kept.new endpoint moment to) }
+        ensures none { IfNone result (is_there (far_of self.old.put_by endpoint) ≡ false) }
+        ensures floods { self.new.floods ≡ self.old.floods }
     {
         let to = kept.copy_behind(self.put_by.at(endpoint))?;
         self.screen.count(endpoint, moment);
@@ -120,7 +125,9 @@ impl<'a> Policies<'a> {
     }
 
     /// Whether a publisher came for whom requests are held.
-    pub(crate) fn is_waiting(&self) -> bool {
+    pub(crate) fn is_waiting(&self) -> bool
+        ensures { result ≡ is_due_in self.now.holding }
+    {
         match &self.holding {
             Some(holding) => holding.is_waiting(),
             None => false,
@@ -140,7 +147,11 @@ impl<'a> Policies<'a> {
     }
 
     /// A tick was made.
-    pub(crate) fn ticked(&mut self) {
+    pub(crate) fn ticked(&mut self)
+        ensures ticks { TicksIf self.old.holding self.new.holding }
+        ensures stays { (self.new.floods ≡ self.old.floods) × (self.new.screen ≡ self.old.screen)
+            × (self.new.put_by ≡ self.old.put_by) × (self.new.most ≡ self.old.most) }
+    {
         if let Some(holding) = &mut self.holding {
             holding.ticked();
         }
