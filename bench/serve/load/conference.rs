@@ -110,14 +110,22 @@ impl Conference {
         const MOMENT: Duration = Duration::from_millis(50);
         let begin = Instant::now();
         loop {
-            let (bytes, dropped) = system::waiting(self.unit)?;
-            if dropped > 0 || begin.elapsed() > JOIN_PATIENCE {
-                return Err(io::Error::other(format!("{dropped} datagrams were dropped, and {bytes} bytes wait")));
+            let bytes = self.waiting()?;
+            if begin.elapsed() > JOIN_PATIENCE {
+                return Err(io::Error::other(format!("{bytes} bytes wait")));
             }
             thread::sleep(MOMENT);
             if bytes == 0 {
                 return Ok(());
             }
+        }
+    }
+
+    /// How many bytes wait to be received by the server; fails if a datagram was dropped.
+    pub fn waiting(&self) -> io::Result<u64> {
+        match system::waiting(self.unit)? {
+            (bytes, 0) => Ok(bytes),
+            (bytes, dropped) => Err(io::Error::other(format!("{dropped} datagrams were dropped, and {bytes} bytes wait"))),
         }
     }
 

@@ -1,5 +1,6 @@
 //! A server as a process: its start and its end, its processor time, its memory.
 
+use crate::system;
 use std::fs;
 use std::io::{self, BufRead, BufReader};
 use std::path::Path;
@@ -11,6 +12,8 @@ pub struct Programs {
     pub plain: String,
     /// Serves by a file of settings: `PROGRAM serve FILE`.
     pub unit: String,
+    /// Lines that stand before its settings.
+    pub rules: String,
 }
 
 /// Which of them.
@@ -45,7 +48,7 @@ impl Programs {
     /// Starts the program with these settings, in a file beside the plain loop.
     pub fn start_unit(&self, settings: &str) -> io::Result<Server> {
         let file = Path::new(&self.plain).with_file_name("serve.toml");
-        fs::write(&file, settings)?;
+        fs::write(&file, format!("{}{settings}", self.rules))?;
         Server::start(Command::new(&self.unit).arg("serve").arg(&file))
     }
 }
@@ -84,6 +87,11 @@ impl Server {
     /// The processor time of all threads so far in nanoseconds.
     pub fn processor_time(&self) -> io::Result<u64> {
         Ok(self.threads()?.iter().sum())
+    }
+
+    /// Holds the process up, or lets it go on.
+    pub fn hold(&self, held: bool) -> io::Result<()> {
+        system::hold(self.process.id(), held)
     }
 
     pub fn memory(&self) -> io::Result<Memory> {

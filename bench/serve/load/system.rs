@@ -9,6 +9,7 @@ use std::{fs, io};
 extern "C" {
     fn ioctl(file: c_int, request: c_ulong, ...) -> c_int;
     fn prctl(option: c_int, ...) -> c_int;
+    fn kill(process: c_int, signal: c_int) -> c_int;
 }
 
 /// Asks when the last datagram came that was received, from `linux/sockios.h`.
@@ -16,6 +17,10 @@ const SIOCGSTAMPNS: c_ulong = 0x8907;
 
 /// Sets by how much a thread's sleep may be lengthened, from `linux/prctl.h`.
 const PR_SET_TIMERSLACK: c_int = 29;
+
+/// Signals that stop a process and have it go on, from `asm-generic/signal.h`.
+const SIGSTOP: c_int = 19;
+const SIGCONT: c_int = 18;
 
 /// When the datagram that was received last came to this socket, since the beginning of 1970: the moment at which whoever sent
 /// it put it there, however late it was looked at. The first call has the system note such moments from then on.
@@ -33,6 +38,15 @@ pub fn sleep_sharply() {
     let one_nanosecond: c_ulong = 1;
     // SAFETY: this option takes a number and changes nothing but the thread's sleeps.
     unsafe { prctl(PR_SET_TIMERSLACK, one_nanosecond) };
+}
+
+/// Stops the process, or has it go on.
+pub fn hold(process: u32, held: bool) -> io::Result<()> {
+    // SAFETY: a signal to another process changes nothing in this one.
+    if unsafe { kill(process as c_int, if held { SIGSTOP } else { SIGCONT }) } < 0 {
+        return Err(io::Error::last_os_error());
+    }
+    Ok(())
 }
 
 /// The bytes that wait at sockets with this address (IPv4) to be received, and how many datagrams were dropped there.
