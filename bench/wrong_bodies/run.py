@@ -1,7 +1,8 @@
 #!/usr/bin/env python3
-"""Tries the wrong bodies of docs/WRONG_BODIES.md again: run.py [--jobs N] [NAME..]
+"""Tries the wrong bodies beside this file again: run.py [--jobs N] [NAME..]
 
-Each stands in a file beside this one, NAME.body, named after its table and its row, or after what it does. Its first lines are comments; then
+Each stands in a file NAME.body, which is named after its list (machine, program) and a number, or after what it does. Its first lines are
+comments: the function, the mistake, and what is to be known of what refuses it. Then
 
     crate: NAME                     the crate that it is in
     refused by: clause FUNCTION     the prover refuses it: `rt check --only FUNCTION` in that crate
