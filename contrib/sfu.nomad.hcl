@@ -1,5 +1,5 @@
 # A conference under Nomad, one job each: `nomad job run -var conference=monday -var port=5004 -var settings=monday.toml sfu.nomad.hcl`.
-# What it has to know, and what it can't do, stands in docs/SCALING.md.
+# What it has to know, and what it can't do, stands at the end of docs/OPERATING.md.
 
 variable "conference" {
   type        = string
@@ -61,7 +61,7 @@ job "sfu" {
         change_mode = "restart"
       }
 
-      # The processor time that its datagrams take, and the packets that it keeps: docs/SCALING.md has the sums.
+      # The processor time that its datagrams take, and the packets that it keeps: docs/OPERATING.md has the sums.
       resources {
         cpu        = 250
         memory     = 64
