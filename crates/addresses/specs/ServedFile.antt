@@ -25,6 +25,7 @@ rules_in new_starts strict_ssrc bounds = record {
   resends = record { gap_ms = bounds.resend_gap_ms; share = bounds.resend_share };
   entry_limit = bounds.entry_limit;
   flood_limit = bounds.flood_limit;
+  request_gap_ms = bounds.request_gap_ms;
   repeat_ms = bounds.repeat_ms;
   stall_ms = bounds.stall_ms;
 }

@@ -89,6 +89,7 @@ fn rules_in(new_starts: Option<bool>, strict_ssrc: Option<bool>, bounds: BoundKe
         },
         entry_limit: bounds.entry_limit,
         flood_limit: bounds.flood_limit,
+        request_gap_ms: bounds.request_gap_ms,
         repeat_ms: bounds.repeat_ms,
         stall_ms: bounds.stall_ms,
     }

@@ -6,3 +6,4 @@ pub mod ComingLemmas
 pub mod HearingLemmas
 pub mod RequestLemmas
 pub mod SetLemmas
+pub mod GapLemmas

@@ -47,25 +47,29 @@ held_at t (Some place) = held_in t place
 abbrev pub still_held : HoldTerms → ℕ → Option HeldRequest
 still_held t leg = held_at t (slice_get t.requests leg)
 
-abbrev pub asked_by_source : LegSettings → HeldRequest → Option Ssrc → Option Again
-asked_by_source leg request None = None
-asked_by_source leg request (Some own) = Some (record {
+abbrev pub asked_by_source : LegSettings → ℕ → Option Ssrc → Option Again
+asked_by_source leg word None = None
+asked_by_source leg word (Some own) = Some (record {
   endpoint = leg.subscriber;
   speaker = own;
   media = leg.out_ssrc;
-  word = request.word;
+  word = word;
 })
 
-abbrev pub asked_on_leg : HoldTerms → HeldRequest → Option LegSettings → Option Again
-asked_on_leg t request None = None
-asked_on_leg t request (Some leg) =
-    asked_by_source leg request (slice_get t.table.endpoints leg.subscriber)
+abbrev pub asked_by_leg : LinkTable → ℕ → Option LegSettings → Option Again
+asked_by_leg table word None = None
+asked_by_leg table word (Some leg) =
+    asked_by_source leg word (slice_get table.endpoints leg.subscriber)
+
+-- the subscriber of the leg with this number asks, of what it is sent on it, for this word
+abbrev pub asked_on : LinkTable → ℕ → ℕ → Option Again
+asked_on table number word = asked_by_leg table word (slice_get table.legs number)
 
 abbrev pub asked_for : HoldTerms → ℕ → Option HeldRequest → Option Again
 asked_for t number None = None
-asked_for t number (Some request) = asked_on_leg t request (slice_get t.table.legs number)
+asked_for t number (Some request) = asked_on t.table number request.word
 
--- the subscriber of the leg with this number asks, of what it is sent on it, for the word that is held for it
+-- the same for the word that is held for it
 abbrev pub asked_again : HoldTerms → ℕ → Option Again
 asked_again t number = asked_for t number (still_held t number)
 

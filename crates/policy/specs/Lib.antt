@@ -12,4 +12,6 @@ pub mod Holding
 pub mod Presence
 pub mod Requests
 pub mod AnnouncedSets
+pub mod RateRequests
+pub mod RequestGaps
 pub mod Word

@@ -1,11 +1,12 @@
 //! What is heard once more as a publisher comes.
 
 ghost use Rattle.std.specs.Prelude.{◌≡◌, ◌<◌, IfSome, length};
-ghost use Rattle.policy.specs.Again.{asked_again, again_from, held_in, is_young, next_again, still_held, terms};
+ghost use Rattle.policy.specs.Again.{asked_again, asked_on, again_from, held_in, is_young, next_again, still_held, terms};
 
 use crate::presence::is_there;
 use crate::requests::{HeldRequest, LegRequest, Requests};
 use members::RoomView;
+use settings::Links;
 use tmmbr_tuple::Ssrc;
 
 /// A request for a greatest rate that is heard once more (RFC 5104, section 4.2.1).
@@ -66,13 +67,20 @@ fn asked_again(holdings: Holdings<'_>, number: u16) -> Option<Again>
     ensures { result ≡ asked_again (terms holdings.entry) number }
 {
     let request = held_on(holdings, number)?;
-    let leg = holdings.view.links.leg(number).copied()?;
-    let speaker = holdings.view.links.ssrc_of(leg.subscriber)?;
+    asked_on(holdings.view.links, number, request.word)
+}
+
+/// The subscriber of the leg with this number asks, of what it is sent on it, for this word.
+pub(crate) fn asked_on(links: &Links, number: u16, word: u32) -> Option<Again>
+    ensures { result ≡ asked_on links.now number word }
+{
+    let leg = links.leg(number).copied()?;
+    let speaker = links.ssrc_of(leg.subscriber)?;
     Some(Again {
         endpoint: leg.subscriber,
         speaker,
         media: leg.out_ssrc,
-        word: request.word,
+        word,
     })
 }
 

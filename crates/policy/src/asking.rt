@@ -23,7 +23,7 @@ pub(crate) struct Asker<'a> {
 }
 
 /// The leg that the endpoint asks about, and for which word; nothing if it doesn't ask for a rate on a leg that leads to it.
-fn asked_by(links: &Links, endpoint: u16, ask: Ask) -> Option<(u16, u32)>
+pub(crate) fn asked_by(links: &Links, endpoint: u16, ask: Ask) -> Option<(u16, u32)>
     ensures { result ≡ asked_by links.now endpoint ask }
 {
     match ask {

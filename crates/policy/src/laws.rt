@@ -21,6 +21,7 @@ ghost use Rattle.policy.specs.Again.{HoldTerms};
 ghost use Rattle.policy.specs.JoinedPublishers.{is_due};
 ghost use Rattle.policy.specs.Holding.{HearsAgain};
 ghost use Rattle.policy.specs.Requests.{Happening, HoldsLast};
+ghost use Rattle.policy.specs.RequestGaps.{AreGapsApart, GapHappening, IsHeardInTheEnd, IsNotLost, is_past, last_moment, word_asked_last, words_heard};
 ghost use Rattle.policy.specs.AnnouncedSets.{IsUntold, SetHappening, asks_again, set_after};
 ghost use Rattle.policy.specs.declared.again.Again.{Again};
 ghost use Rattle.policy.specs.declared.holding.Holding.{Holding};
@@ -70,6 +71,28 @@ pub fn hears_as_many_as_the_limit_leaves()
 pub fn holds_what_was_asked_last()
     ensures { (legs : List LegSettings) (happenings : List Happening) (leg : ℕ) (s : LegSettings)
         → slice_get legs leg ≡ Some s → HoldsLast legs happenings leg s }
+{}
+
+/// What a subscriber asked for last on a leg is never lost: it waits, or nothing waits and it is what was heard last.
+#[tactic(auto, using(crate::proofs::GapLemmas::is_not_lost))]
+pub fn last_request_is_not_lost()
+    ensures { (gap : ℕ) (leg : LegSettings) (happenings : List GapHappening) (word : ℕ)
+        → word_asked_last happenings ≡ Some word → IsNotLost gap leg happenings word }
+{}
+
+/// Once a gap is over since what was heard last of a leg, and the leg is looked at, what was heard last is what was asked last.
+#[tactic(auto, using(crate::proofs::GapLemmas::is_heard_in_the_end))]
+pub fn last_request_is_heard_in_the_end()
+    ensures { (gap : ℕ) (leg : LegSettings) (moment : ℕ) (earlier : List GapHappening) (word : ℕ)
+        → is_past gap moment (last_moment (words_heard gap leg earlier)) ≡ true
+        → word_asked_last earlier ≡ Some word → IsHeardInTheEnd gap leg moment earlier word }
+{}
+
+/// Whatever is asked for, and however often: of a leg nothing is heard within a gap of what was heard before.
+#[tactic(auto, using(crate::proofs::GapLemmas::gaps_apart))]
+pub fn requests_are_a_gap_apart()
+    ensures { (gap : ℕ) (leg : LegSettings) (happenings : List GapHappening)
+        → AreGapsApart gap (words_heard gap leg happenings) }
 {}
 
 /// A set is asked for again only if it isn't empty and what its publisher notified of last, since it came, doesn't list all of it.

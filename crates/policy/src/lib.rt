@@ -11,6 +11,8 @@
 //! left out, `comings` which publishers came, `again` what of their legs is heard again, and `presence` who is there, by the room as it is. `sets` is
 //! by itself: which announced set is asked for again, since its publisher doesn't notify of it (RFC 5104, section 4.2.2).
 //!
+//! `gaps` has how often the requests of one leg are heard, and `rate_requests` joins that with what is held.
+//!
 //! `rules` says what of it is wanted. What is so of every list of packets, and of happenings, stands in `laws`.
 #![tactic(auto)]
 
@@ -19,11 +21,13 @@ mod asking;
 mod bounded;
 mod comings;
 mod floods;
+mod gaps;
 mod holding;
 pub mod laws;
 mod nacks;
 mod presence;
 mod put_by;
+mod rate_requests;
 mod requests;
 mod resends;
 mod rules;
@@ -38,6 +42,7 @@ pub use again::Again;
 pub use floods::{BURST_MS, FloodLimiter};
 pub use holding::Holding;
 pub use put_by::HeldPackets;
+pub use rate_requests::RateRequests;
 pub use resends::{MAX_TRIP_MS, REMEMBERED, ResendBounds};
 pub use rules::Rules;
 pub use run::{

@@ -18,6 +18,8 @@ pub struct Rules {
     pub entry_limit: u32,
     /// How many datagrams of one endpoint are heard a millisecond, beside what it didn't send in the last second; 0 for any number.
     pub flood_limit: u32,
+    /// How many milliseconds there are at least between two requests for a greatest rate that are heard of one leg; 0 for none.
+    pub request_gap_ms: u64,
     /// How many milliseconds there are between two repeats of what a publisher is asked for; 0 for none. A screen repeats nothing.
     pub repeat_ms: u64,
     /// How many milliseconds count at most between two looks at the clock; 0 for any number. Who asks the clock bounds them.
@@ -33,6 +35,7 @@ impl Rules {
           resends = record { gap_ms = 0; share = 0 };
           entry_limit = 0;
           flood_limit = 0;
+          request_gap_ms = 0;
           repeat_ms = 0;
           stall_ms = 0;
         } }
@@ -46,6 +49,7 @@ impl Rules {
             },
             entry_limit: 0,
             flood_limit: 0,
+            request_gap_ms: 0,
             repeat_ms: 0,
             stall_ms: 0,
         }

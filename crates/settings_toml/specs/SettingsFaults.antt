@@ -120,6 +120,7 @@ takes_top key value =
     else if bytes_eq key (codes "entry_limit") then is_under ENTRIES value
     else if bytes_eq key (codes "flood_limit") then is_under FLOODS value
     else if bytes_eq key (codes "repeat_ms") then is_repeat value
+    else if bytes_eq key (codes "request_gap_ms") then is_under GAPS_MS value
     else if bytes_eq key (codes "resend_gap_ms") then is_under GAPS_MS value
     else if bytes_eq key (codes "resend_share") then is_under SHARES value
     else if bytes_eq key (codes "stall_ms") then is_stall value

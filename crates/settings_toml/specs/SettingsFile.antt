@@ -112,6 +112,7 @@ bounds_in t = record {
   entry_limit = number_or_zero (integer_in (get_member (codes "entry_limit") t)) ENTRIES;
   flood_limit = number_or_zero (integer_in (get_member (codes "flood_limit") t)) FLOODS;
   repeat_ms = unwrap_or (repeat_of (integer_in (get_member (codes "repeat_ms") t))) 0;
+  request_gap_ms = number_or_zero (integer_in (get_member (codes "request_gap_ms") t)) GAPS_MS;
   resend_gap_ms = number_or_zero (integer_in (get_member (codes "resend_gap_ms") t)) GAPS_MS;
   resend_share = number_or_zero (integer_in (get_member (codes "resend_share") t)) SHARES;
   stall_ms = unwrap_or (stall_of (integer_in (get_member (codes "stall_ms") t))) 0;

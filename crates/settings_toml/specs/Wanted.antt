@@ -43,6 +43,7 @@ value_rows =
     ∷ key_row (codes "pli_gap_ms") (Whole 0 MAX_PERIOD_MS)
     ∷ key_row (codes "repeat_ms") (WholeOrZero LEAST_REPEAT_MS (REPEATS_MS - 1))
     ∷ key_row (codes "report_ms") (Whole 1 MAX_PERIOD_MS)
+    ∷ key_row (codes "request_gap_ms") (Whole 0 (GAPS_MS - 1))
     ∷ key_row (codes "request_ms") (Whole 0 MAX_PERIOD_MS)
     ∷ key_row (codes "resend_gap_ms") (Whole 0 (GAPS_MS - 1))
     ∷ key_row (codes "resend_share") (Whole 0 (SHARES - 1))

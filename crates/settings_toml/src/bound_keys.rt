@@ -44,6 +44,8 @@ pub struct BoundKeys {
     pub flood_limit: u32,
     /// How many milliseconds there are between two repeats of what a publisher is asked for.
     pub repeat_ms: u64,
+    /// How many milliseconds there are at least between two requests for a greatest rate that are heard of one leg.
+    pub request_gap_ms: u64,
     /// Within how many milliseconds a packet isn't sent again twice on a leg.
     pub resend_gap_ms: u64,
     /// How many packets are sent again on a leg, in percent of those that came.
@@ -60,6 +62,7 @@ pub(crate) fn bounds_at(table: &Table) -> BoundKeys
         entry_limit: bound_at(table, "entry_limit", ENTRIES) as u32,
         flood_limit: bound_at(table, "flood_limit", FLOODS) as u32,
         repeat_ms: repeat_of(integer_at(table, "repeat_ms")).unwrap_or(0),
+        request_gap_ms: bound_at(table, "request_gap_ms", GAPS_MS),
         resend_gap_ms: bound_at(table, "resend_gap_ms", GAPS_MS),
         resend_share: bound_at(table, "resend_share", SHARES) as u8,
         stall_ms: stall_of(integer_at(table, "stall_ms")).unwrap_or(0),

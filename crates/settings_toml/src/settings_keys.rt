@@ -63,6 +63,7 @@ fn takes_top(key: &str, value: &Value) -> bool
         "entry_limit" => is_under(value, ENTRIES),
         "flood_limit" => is_under(value, FLOODS),
         "repeat_ms" => is_repeat(value),
+        "request_gap_ms" => is_under(value, GAPS_MS),
         "resend_gap_ms" => is_under(value, GAPS_MS),
         "resend_share" => is_under(value, SHARES),
         "stall_ms" => is_stall(value),

@@ -1,12 +1,12 @@
 -- What is said in a client's name is said still, once it was held; and what is let in of who began anew, and if no rule asks for anything.
-use Rattle.std.proofs.Common.{◌≡◌, ◌∙◌, ◌==◌, ℕ, Bool, true, false, List, [], Option, None, Some, ap, refl, subst, sym}
+use Rattle.std.proofs.Common.{◌≡◌, ◌∙◌, ℕ, Bool, true, false, List, [], Option, None, Some, ap, refl, subst, sym}
 use Rattle.std.specs.Prelude.{if◌then◌else◌, slice_range, IfOk, Result, Ok, Err}
 use Rattle.std.specs.declared.alloc.AllocError.{AllocError}
 use Rattle.tmmbr_tuple.specs.declared.ssrc.Ssrc.{Ssrc}
+use Rattle.datagram.specs.declared.reading.Ask.{Ask}
 use Rattle.datagram.specs.declared.reading.Reading.{Reading}
 use Rattle.datagram.specs.declared.reading.Sent.{Sent}
 use Rattle.datagram.specs.declared.reading.What.{What}
-use Rattle.datagram.specs.declared.reading.What.TheVariants.{Media, Goodbye, Control, Refused}
 use Rattle.members.specs.declared.view.RoomView.{RoomView}
 use Rattle.policy.specs.Asking.{Asking}
 use Rattle.policy.specs.Holding.{asks_left, asking_of}
@@ -18,6 +18,11 @@ use Rattle.members.specs.Room.{RoomState}
 use Rattle.policy.specs.Presence.{is_there}
 use Rattle.policy.specs.Screened.{LooksForNothing, come_anew, resends_left, welcomed}
 use Rattle.policy.specs.declared.holding.Holding.{Holding}
+use Rattle.policy.specs.declared.rate_requests.RateRequests.{RateRequests}
+use Rattle.policy.specs.declared.word.Word.{Word}
+use Rattle.policy.specs.declared.word.Word.TheVariants.{Nothing, Speaks, Leaves}
+use Rattle.policy.specs.RateRequests.{Hears, PacesIf, PacesWord, left_held}
+use Rattle.policy.specs.RequestGaps.{GapState}
 use Rattle.policy.specs.declared.screen.Screen.{Screen}
 use Rattle.policy.specs.declared.screen.Judged.{Judged}
 use Rattle.policy.specs.declared.screen.Judged.TheVariants.{Anew as BegunAnew}
@@ -26,37 +31,42 @@ use Rattle.udp.specs.Kept.{IsOfSame, IsSpokenBy, SaysGoodbye}
 use Rattle.udp.specs.declared.hearing.Anew.{Anew}
 use Rattle.udp.specs.declared.hearing.Hearing.{Hearing}
 use Rattle.udp.specs.declared.kept.Kept.{Kept}
-use Rattle.udp.specs.Policies.{Holds, HoldsIf, IsHeld, Ruling, TakesFar, ruling_of}
+use Rattle.udp.specs.Policies.{IsHeld, Ruling, TakesFar, ruling_of}
 
-either_way : {X : Type 0} {Y : Type 0} (f : X → Y) (b : Bool) (x y : X) (z : Y) → f x ≡ z → f y ≡ z → f (if b then x else y) ≡ z
-either_way f true x y z e g = e
-either_way f false x y z e g = g
+-- ---- what asks for nothing still does
 
-nothing_left : (own : ℕ) (what : What) (asker : Asking) → asks_left (word_in own what) asker [] ≡ []
-nothing_left own (Media packet) asker = either_way (λ w. asks_left w asker []) (packet.ssrc.0 == own) _ _ [] refl refl
-nothing_left own Goodbye asker = refl
-nothing_left own (Control c) asker = either_way (λ w. asks_left w asker []) (c.speaker.0 == own) _ _ [] refl refl
-nothing_left own (Refused refusal) asker = refl
+nothing_held : (word : Word) (asker : Asking) → asks_left word asker [] ≡ []
+nothing_held Nothing asker = refl
+nothing_held Leaves asker = refl
+nothing_held (Speaks notifies) asker = refl
 
-held : (h k : Holding) (own : ℕ) (asker : Asking) (speaker : Ssrc) (old new : Reading) → Holds h k own asker old new → IsSpokenBy speaker [] old
-    → IsSpokenBy speaker [] new
-held h k own asker speaker old new holds says = record {
-  what = holds.what ∙ says.what;
-  asks_for = holds.asks ∙ ap (asks_left (word_in own old.what) asker) says.asks_for ∙ nothing_left own old.what asker;
-}
+nothing_left : (before : Option Holding) (word : Word) (asker : Asking) → left_held before word asker [] ≡ []
+nothing_left None word asker = refl
+nothing_left (Some h) word asker = nothing_held word asker
 
-spoken_if : (before after : Option Holding) (sent : Sent) (view : RoomView) (speaker : Ssrc) (old new : Reading)
-    → HoldsIf before after sent view old new → IsSpokenBy speaker [] old → IsSpokenBy speaker [] new
-spoken_if None after sent view speaker old new holds says = record {
-  what = ap (λ (r : Reading). r.what) holds.1 ∙ says.what;
-  asks_for = ap (λ (r : Reading). r.asks.items) holds.1 ∙ says.asks_for;
-}
-spoken_if (Some h) None sent view speaker old new holds says = absurd holds
-spoken_if (Some h) (Some k) sent view speaker old new holds says = held h k sent.own.0 (asking_of view sent) speaker old new holds says
+nothing_paced : (word : Word) (s t : GapState) (asker : Asking) (left : List Ask) → PacesWord word s t asker [] left → left ≡ []
+nothing_paced Nothing s t asker left is = is.1
+nothing_paced Leaves s t asker left is = is.1
+nothing_paced (Speaks notifies) s t asker left is = is.left
 
-pub still_spoken : (before after : Option Holding) (sent : Sent) (view : RoomView) (speaker : Ssrc) (old new : Reading)
+nothing_after : (before after : Option GapState) (word : Word) (asker : Asking) (left : List Ask) → PacesIf before after word asker [] left → left ≡ []
+nothing_after None after word asker left is = is.1
+nothing_after (Some s) None word asker left is = absurd is
+nothing_after (Some s) (Some t) word asker left is = nothing_paced word s t asker left is
+
+asks_nothing : (r q : RateRequests) (word : Word) (asker : Asking) (old new : Reading) → Hears r q word asker old new → old.asks.items ≡ []
+    → new.asks.items ≡ []
+asks_nothing r q word asker old new hears none =
+    nothing_after r.gaps q.gaps word asker new.asks.items
+    (subst (λ (asks : List Ask). PacesIf r.gaps q.gaps word asker asks new.asks.items)
+    (ap (left_held r.holding word asker) none ∙ nothing_left r.holding word asker) hears.paced)
+
+pub still_spoken : (before after : RateRequests) (sent : Sent) (view : RoomView) (speaker : Ssrc) (old new : Reading)
     → IsHeld before after sent view old new → IsSpokenBy speaker [] old → IsSpokenBy speaker [] new
-still_spoken before after sent view speaker old new holds says = spoken_if before after sent view speaker old new holds.held says
+still_spoken before after sent view speaker old new holds says = record {
+  what = holds.held.what ∙ says.what;
+  asks_for = asks_nothing before after (word_in sent.own.0 old.what) (asking_of view sent) old new holds.held says.asks_for;
+}
 
 through : (k mid l : Kept) → IsOfSame k mid → IsOfSame mid l → IsOfSame k l
 through k mid l first second = record {
@@ -68,10 +78,10 @@ through k mid l first second = record {
 -- what is let in of who began anew
 pub lets_anew : (judged : Judged) (p q : Ruling) (k mid l : Kept) (view : RoomView) (anew next : Option Anew) (from to : ℕ)
     → judged ≡ BegunAnew → next ≡ Some (record { endpoint = k.sent.endpoint; is_far_heard = false; from = from; to = to })
-    → IsOfSame k mid → SaysGoodbye mid.reading → IsHeld p.holding q.holding mid.sent view mid.reading l.reading → IsOfSame mid l
+    → IsOfSame k mid → SaysGoodbye mid.reading → IsHeld p.requests q.requests mid.sent view mid.reading l.reading → IsOfSame mid l
     → q.screen ≡ p.screen → q.put_by ≡ p.put_by → q.most ≡ p.most → LetsIn judged p q k l view anew next from to Taking
 lets_anew judged p q k mid l view anew next from to is later same goodbye holds still screen put_by most = record {
-  follows = subst (λ (j : Judged). Follows j p.holding q.holding k l view anew next from to Taking) (sym is)
+  follows = subst (λ (j : Judged). Follows j p.requests q.requests k l view anew next from to Taking) (sym is)
       (refl, later, record { said = mid; same = same; goodbye = goodbye; holds = holds });
   same = through k mid l same still;
   screen = screen;
@@ -81,9 +91,11 @@ lets_anew judged p q k mid l view anew next from to is later same goodbye holds 
 
 -- ---- if no rule asks for anything
 
-as_left : (before after : Option Holding) (sent : Sent) (view : RoomView) (old new : Reading) → before ≡ None
-    → HoldsIf before after sent view old new → new ≡ old
-as_left before after sent view old new none holds = (subst (λ (b : Option Holding). HoldsIf b after sent view old new) none holds).1
+as_left : (r q : RateRequests) (word : Word) (asker : Asking) (old new : Reading) → r.holding ≡ None → r.gaps ≡ None
+    → Hears r q word asker old new → new.asks.items ≡ old.asks.items
+as_left r q word asker old new unheld unpaced hears =
+    (subst (λ (g : Option GapState). PacesIf g q.gaps word asker (left_held r.holding word asker old.asks.items) new.asks.items) unpaced hears.paced).1
+    ∙ ap (λ (h : Option Holding). left_held h word asker old.asks.items) unheld
 
 carried : (own : ℕ) (bytes : List ℕ) (most : Option ℕ) (r s : Reading) → s.what ≡ r.what → s.asks.items ≡ r.asks.items → s.beyond ≡ r.beyond
     → IsReadUpTo own bytes most r → IsReadUpTo own bytes most s
@@ -110,19 +122,20 @@ pub takes_what_came : (sent : Sent) (stand : Stand) (view : RoomView) (from to :
 takes_what_came sent stand view from to k admitted off hears =
     let looks = subst LooksForNothing (sym hears.welcomes.screen) (still_off stand.ruling.screen hears.read.sent view.room.now off.looks) in
     let as_was = hears.judges.off looks in
-    let follows = subst (λ (j : Judged). Follows j hears.between.holding k.policies.holding hears.left k.kept view stand.anew k.anew from to admitted) as_was.is_judged hears.lets.follows in
-    let same = as_left _ _ _ _ _ _ (hears.judges.holding ∙ hears.welcomes.holding ∙ off.holds) follows.2.held in
+    let follows = subst (λ (j : Judged). Follows j hears.between.requests k.policies.requests hears.left k.kept view stand.anew k.anew from to admitted) as_was.is_judged hears.lets.follows in
+    let begun = hears.judges.requests ∙ hears.welcomes.requests in
+    let left = follows.2.held in
+    let same = as_left _ _ _ _ _ _ (ap (λ (r : RateRequests). r.holding) begun ∙ off.holds) (ap (λ (r : RateRequests). r.gaps) begun ∙ off.gaps) left in
     let all = subst (λ (m : Option ℕ). IsReadUpTo sent.own.0 (slice_range stand.bytes from to) m hears.read.reading) off.all hears.reads.reads in
     record {
       takes = follows.0;
       reads = carried sent.own.0 (slice_range stand.bytes from to) None hears.read.reading k.kept.reading
-          (ap (λ (r : Reading). r.what) same ∙ as_was.what) (ap (λ (r : Reading). r.asks.items) same ∙ as_was.asks)
-          (ap (λ (r : Reading). r.beyond) same ∙ as_was.beyond) all;
+          (left.what ∙ as_was.what) (same ∙ as_was.asks) (left.unchanged.1 ∙ as_was.beyond) all;
     }
 
 -- ---- what is said and held, and what holds of a result
 
-pub present_held : (held later : Option Holding) (said_as sent : Sent) (view : RoomView) (said now : Reading) → said_as ≡ sent
+pub present_held : (held later : RateRequests) (said_as sent : Sent) (view : RoomView) (said now : Reading) → said_as ≡ sent
     → IsSpokenBy sent.own [] said → IsHeld held later said_as view said now → IsPresentHeld held later sent view now
 present_held held later said_as sent view said now same speaks holds =
     record { said = said; speaks = speaks; holds = subst (λ (s : Sent). IsHeld held later s view said now) same holds }

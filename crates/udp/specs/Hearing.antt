@@ -24,10 +24,11 @@ use Rattle.udp.specs.declared.hearing.Hearing.{Hearing}
 use Rattle.udp.specs.declared.hearing.Rest.{Rest}
 use Rattle.udp.specs.declared.kept.Kept.{Kept}
 use Rattle.policy.specs.declared.again.Again.{Again}
-use Rattle.policy.specs.declared.holding.Holding.{Holding}
+use Rattle.policy.specs.RateRequests.{HearsNext}
+use Rattle.policy.specs.declared.rate_requests.RateRequests.{RateRequests}
 use Rattle.settings.specs.Links.{LinkTable}
 use Rattle.udp.specs.Kept.{IsOfSame, IsReadFrom, IsSpokenBy, SaysGoodbye, bytes_of, sent_by}
-use Rattle.udp.specs.Policies.{HearsHeld, IsHeld, IsJudged, IsWelcomed, Ruling, TakesFar, ruling_of}
+use Rattle.udp.specs.Policies.{IsHeld, IsJudged, IsWelcomed, Ruling, TakesFar, ruling_of}
 use Rattle.udp.specs.Who.{Known, MayLearn, Setup, after_note, known_by}
 
 -- the packets of a rest
@@ -67,7 +68,7 @@ pub record IsNoted (own endpoint moment : ℕ) (bytes : List ℕ) (known later :
 -- ---- what was read is judged
 
 -- a goodbye is taken in in its place
-pub record SaysInstead (held later : Option Holding) (k l : Kept) (view : RoomView) : Type 0 where
+pub record SaysInstead (held later : RateRequests) (k l : Kept) (view : RoomView) : Type 0 where
   pub said : Kept
   pub same : IsOfSame k said
   pub goodbye : SaysGoodbye said.reading
@@ -75,7 +76,7 @@ pub record SaysInstead (held later : Option Holding) (k l : Kept) (view : RoomVi
 
 -- What is taken in of what the rules left, and what is heard later: it, once what it asks for is held; nothing of a packet that is put by; and a
 -- goodbye of who began anew, after which the packets from one place to another are heard.
-abbrev pub Follows : Judged → Option Holding → Option Holding → Kept → Kept → RoomView → Option Anew → Option Anew → ℕ → ℕ → Admitted → Type 0
+abbrev pub Follows : Judged → RateRequests → RateRequests → Kept → Kept → RoomView → Option Anew → Option Anew → ℕ → ℕ → Admitted → Type 0
 Follows Take held later k l view anew next from to admitted =
     (admitted ≡ Taking) × (next ≡ anew) × IsHeld held later k.sent view k.reading l.reading
 Follows PutBy held later k l view anew next from to admitted =
@@ -89,7 +90,7 @@ Follows BegunAnew held later k l view anew next from to admitted =
 -- This is let in of what was judged so.
 pub record LetsIn (judged : Judged) (p q : Ruling) (k l : Kept) (view : RoomView)
     (anew next : Option Anew) (from to : ℕ) (admitted : Admitted) : Type 0 where
-  pub follows : Follows judged p.holding q.holding k l view anew next from to admitted
+  pub follows : Follows judged p.requests q.requests k l view anew next from to admitted
   pub same : IsOfSame k l
   pub screen : q.screen ≡ p.screen
   pub put_by : q.put_by ≡ p.put_by
@@ -126,7 +127,7 @@ pub record TakesIn (sent : Sent) (bytes : List ℕ) (ruling : Ruling) (view : Ro
   pub read : Kept
   pub takes : admitted ≡ Taking
   pub reads : IsReadFrom sent (slice_range bytes from to) ruling.most read
-  pub holds : IsHeld ruling.holding k.policies.holding read.sent view read.reading k.kept.reading
+  pub holds : IsHeld ruling.requests k.policies.requests read.sent view read.reading k.kept.reading
   pub same : IsOfSame read k.kept
   pub stays : k.kept.buffer.items ≡ bytes
   pub screen : k.policies.screen ≡ ruling.screen
@@ -141,10 +142,11 @@ pub record HearsFar (sent : Sent) (h k : Hearing) (view : RoomView) (admitted : 
   pub far : TakesFar (ruling_of h.policies) counted h.kept filled sent.endpoint sent.moment to
   pub takes : TakesIn sent filled.buffer.items counted view 65535 to k admitted
 
--- no start is looked for, who speaks has to be the own source, nothing is bounded and nothing held
+-- no start is looked for, who speaks has to be the own source, nothing is bounded, nothing held and nothing waits
 pub record AsksNothing (r : Ruling) : Type 0 where
   pub looks : LooksForNothing r.screen
-  pub holds : r.holding ≡ None
+  pub holds : r.requests.holding ≡ None
+  pub gaps : r.requests.gaps ≡ None
   pub all : r.most ≡ None
 
 -- It is taken in as it was read.
@@ -244,7 +246,7 @@ pub record HearsRest (unit : Bearings) (view : RoomView) (h k : Hearing) (moment
 -- ---- what is said in a client's name
 
 -- It is heard that this client is there, which asks for nothing.
-pub record IsPresentHeld (held later : Option Holding) (sent : Sent) (view : RoomView) (now : Reading)
+pub record IsPresentHeld (held later : RateRequests) (sent : Sent) (view : RoomView) (now : Reading)
     : Type 0 where
   pub said : Reading
   pub speaks : IsSpokenBy sent.own [] said
@@ -256,8 +258,8 @@ SaysAgain (Some again) table moment kept asked =
     (asked ≡ true) × (kept.sent ≡ sent_by table again.endpoint moment)
     × IsSpokenBy again.speaker (Rate again.media again.word ∷ []) kept.reading
 
--- What is found of what is held is asked for once more, in the subscriber's name.
+-- What is found of what was asked for before is asked for now, in the subscriber's name.
 pub record AsksAgain (h k : Hearing) (view : RoomView) (moment : ℕ) (asked : Bool) : Type 0 where
   pub again : Option Again
-  pub found : HearsHeld h.policies.holding k.policies.holding view moment again
+  pub found : HearsNext h.policies.requests k.policies.requests view moment again
   pub says : SaysAgain again view.links.now moment k.kept asked

@@ -1,15 +1,12 @@
 -- What becomes of what was read of an endpoint's packets, by the rules of a unit.
 use Rattle.std.specs.Prelude.{◌≡◌, ◌⊎◌, ◌==◌, ◌+◌, ◌≤◌, ℕ, length, unwrap_or, slice_get, Bool, true, false, List, [], Option, None, Some, slice_set, if◌then◌else◌}
-use Rattle.std.specs.List.{list_any}
 use Rattle.datagram.specs.declared.reading.Reading.{Reading}
 use Rattle.datagram.specs.declared.reading.Sent.{Sent}
 use Rattle.members.specs.declared.view.RoomView.{RoomView}
-use Rattle.policy.specs.Asking.{Asking}
-use Rattle.policy.specs.Holding.{HearsAgain, HearsWord, Ticks, asks_left, asking_of, hold_terms}
-use Rattle.policy.specs.JoinedPublishers.{is_due}
+use Rattle.policy.specs.Holding.{asking_of}
+use Rattle.policy.specs.RateRequests.{Hears}
 use Rattle.policy.specs.Word.{word_in}
-use Rattle.policy.specs.declared.again.Again.{Again}
-use Rattle.policy.specs.declared.holding.Holding.{Holding}
+use Rattle.policy.specs.declared.rate_requests.RateRequests.{RateRequests}
 use Rattle.policy.specs.Screened.{IsAsItWas, Judges, LooksForNothing, Stays, counted_in, welcomed}
 use Rattle.policy.specs.declared.screen.Judged.{Judged}
 use Rattle.policy.specs.declared.screen.Judged.TheVariants.{Take, PutBy, Anew}
@@ -29,22 +26,12 @@ PutsBy PutBy before after endpoint packet =
     (after ≡ slice_set before endpoint packet) ⊎ (after ≡ slice_set before endpoint [])
 PutsBy Anew before after endpoint packet = after ≡ before
 
--- ---- what is held of requests, if they are
+-- ---- what is held of requests
 
--- who sent this is noted, and of what it asks for what is moot is left out
-pub record Holds (h k : Holding) (own : ℕ) (asker : Asking) (old new : Reading) : Type 0 where
-  pub word : HearsWord (word_in own old.what) h k asker old.asks.items
-  pub what : new.what ≡ old.what
-  pub asks : new.asks.items ≡ asks_left (word_in own old.what) asker old.asks.items
-
-abbrev pub HoldsIf : Option Holding → Option Holding → Sent → RoomView → Reading → Reading → Type 0
-HoldsIf None after sent view old new = (after ≡ None) × (new ≡ old)
-HoldsIf (Some h) None sent view old new = ⊥
-HoldsIf (Some h) (Some k) sent view old new = Holds h k sent.own.0 (asking_of view sent) old new
-
-pub record IsHeld (before after : Option Holding) (sent : Sent) (view : RoomView) (old new : Reading)
+-- Who sent this is noted, and of what it asks for that is left which is heard at once.
+pub record IsHeld (before after : RateRequests) (sent : Sent) (view : RoomView) (old new : Reading)
     : Type 0 where
-  pub held : HoldsIf before after sent view old new
+  pub held : Hears before after (word_in sent.own.0 old.what) (asking_of view sent) old new
 
 -- ---- judged
 
@@ -52,17 +39,17 @@ pub record IsHeld (before after : Option Holding) (sent : Sent) (view : RoomView
 pub record Ruling : Type 0 where
   pub screen : Screen
   pub put_by : List (List ℕ)
-  pub holding : Option Holding
+  pub requests : RateRequests
   pub most : Option ℕ
 
 abbrev pub ruling_of : Policies → Ruling
-ruling_of p = record { screen = p.screen; put_by = p.put_by; holding = p.holding; most = p.most }
+ruling_of p = record { screen = p.screen; put_by = p.put_by; requests = p.requests; most = p.most }
 
 -- Who sent what was read comes anew if it isn't there by the room: what was known of it is forgotten.
 pub record IsWelcomed (p q : Ruling) (k : Kept) (view : RoomView) : Type 0 where
   pub screen : q.screen ≡ welcomed p.screen k.sent view.room.now
   pub put_by : q.put_by ≡ p.put_by
-  pub holding : q.holding ≡ p.holding
+  pub requests : q.requests ≡ p.requests
   pub most : q.most ≡ p.most
 
 -- What was read is judged, and this is left of it, which is what was read if no rule asks for anything; a packet that is far is put by.
@@ -71,7 +58,7 @@ pub record IsJudged (p q : Ruling) (k l : Kept) (judged : Judged) : Type 0 where
   pub off : LooksForNothing p.screen → IsAsItWas p.screen q.screen k.reading l.reading judged
   pub put_by : PutsBy judged p.put_by q.put_by k.sent.endpoint (bytes_of k)
   pub same : IsOfSame k l
-  pub holding : q.holding ≡ p.holding
+  pub requests : q.requests ≡ p.requests
   pub most : q.most ≡ p.most
 
 -- the packet of the endpoint that was put by; none if none is
@@ -89,23 +76,5 @@ pub record TakesFar (p q : Ruling) (k l : Kept) (endpoint moment to : ℕ) : Typ
   pub starts : q.screen.starts ≡ p.screen.starts
   pub rules : Stays p.screen q.screen
   pub put_by : q.put_by ≡ p.put_by
-  pub holding : q.holding ≡ p.holding
+  pub requests : q.requests ≡ p.requests
   pub most : q.most ≡ p.most
-
--- a publisher came for whose legs what is held is heard again
-abbrev pub is_due_in : Option Holding → Bool
-is_due_in None = false
-is_due_in (Some h) = list_any is_due h.comings
-
--- a tick was made
-abbrev pub TicksIf : Option Holding → Option Holding → Type 0
-TicksIf None after = after ≡ None
-TicksIf (Some h) None = ⊥
-TicksIf (Some h) (Some k) = Ticks h k
-
--- what is heard once more, if anything is
-abbrev pub HearsHeld : Option Holding → Option Holding → RoomView → ℕ → Option Again → Type 0
-HearsHeld None after view moment again = (after ≡ None) × (again ≡ None)
-HearsHeld (Some h) None view moment again = ⊥
-HearsHeld (Some h) (Some k) view moment again =
-    HearsAgain h k (hold_terms h.requests h.request_ms view moment) again

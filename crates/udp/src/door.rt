@@ -5,6 +5,7 @@ ghost use Rattle.entrance.specs.Entrance.{IfTaken};
 ghost use Rattle.desk_calls.specs.DeskCalls.{source_of};
 ghost use Rattle.addresses.specs.Listeners.{listeners_after, report_due};
 ghost use Rattle.policy.specs.FloodLimiter.{empty_bucket};
+ghost use Rattle.policy.specs.RateRequests.{BeginsBy};
 ghost use Rattle.udp.specs.Door.{HearsAnew, HearsLeft, IfLetIn, LetsWish, Waits};
 ghost use Rattle.udp.specs.Kept.{IsSpokenBy, MayBeTaken, sent_by};
 ghost use Rattle.udp.specs.Policies.{most_by};
@@ -71,8 +72,8 @@ impl<'a, R: time::Clock> Door<'a, R> {
         )) }
         ensures rules { IfOk result (λ d. d.hearing.policies.screen.rules ≡ rules) }
         ensures stall { IfOk result (λ d. d.clock.stall_ms ≡ rules.stall_ms) }
-        ensures holds { IfOk result (λ d. rules.repeat_ms ≡ 0
-            → d.hearing.policies.holding ≡ None) }
+        ensures holds { IfOk result
+            (λ d. BeginsBy rules settings.now d.hearing.policies.requests) }
         ensures most { IfOk result (λ d. d.hearing.policies.most ≡ most_by rules.entry_limit) }
         ensures nothing { IfOk result (λ d. (d.hearing.rest ≡ None) × (d.hearing.anew ≡ None)) }
     {

@@ -9,7 +9,8 @@ ghost use Rattle.datagram.specs.Naming.{source_named};
 ghost use Rattle.addresses.specs.SenderTable.{front_length, sender_of};
 ghost use Rattle.udp.specs.Hearing.{HearsDatagram, HearsFar, HearsRead, HearsRest, IsNoted, IsPresentHeld, LetsIn, LooksAt, TakesIn, anew_after, packets_in, rest_behind, stand_of};
 ghost use Rattle.udp.specs.Kept.{IsSpokenBy, MayBeTaken, bytes_of, is_there, sent_by};
-ghost use Rattle.udp.specs.Policies.{TicksIf, far_of, is_due_in, most_by, ruling_of};
+ghost use Rattle.policy.specs.RateRequests.{BeginsBy, Ticks, is_due};
+ghost use Rattle.udp.specs.Policies.{far_of, most_by, ruling_of};
 ghost use Rattle.udp.specs.Who.{known_by, setup_of};
 
 use crate::door::Outlook;
@@ -87,7 +88,7 @@ impl<'a> Hearing<'a> {
           replicate (length settings.now.endpoints) empty_bucket,
         )) }
         ensures rules { IfOk result (λ h. h.policies.screen.rules ≡ rules) }
-        ensures holds { IfOk result (λ h. rules.repeat_ms ≡ 0 → h.policies.holding ≡ None) }
+        ensures holds { IfOk result (λ h. BeginsBy rules settings.now h.policies.requests) }
         ensures most { IfOk result (λ h. h.policies.most ≡ most_by rules.entry_limit) }
         ensures nothing { IfOk result (λ h. (h.rest ≡ None) × (h.anew ≡ None)) }
     {
@@ -448,7 +449,7 @@ impl<'a> Hearing<'a> {
 
     /// Whether a publisher came for whom requests are held.
     pub(crate) fn is_held(&self) -> bool
-        ensures { result ≡ is_due_in self.now.policies.holding }
+        ensures { result ≡ is_due self.now.policies.requests }
     {
         self.policies.is_waiting()
     }
@@ -467,7 +468,7 @@ impl<'a> Hearing<'a> {
             × (self.new.policies.put_by ≡ self.old.policies.put_by)
             × (self.new.policies.most ≡ self.old.policies.most) }
     {
-        let Some(again) = self.policies.next_held(view, moment) else {
+        let Some(again) = self.policies.next_heard(view, moment) else {
             return Ok(false);
         };
         self.kept.ask_again(view.links, moment, again)?;
@@ -495,7 +496,7 @@ impl<'a> Hearing<'a> {
         ensures says { IsSpokenBy (source_of view.entry.links.now endpoint) []
             self.new.kept.reading }
         ensures sent { self.new.kept.sent ≡ sent_by view.entry.links.now endpoint moment }
-        ensures holds { IsPresentHeld self.old.policies.holding self.new.policies.holding
+        ensures holds { IsPresentHeld self.old.policies.requests self.new.policies.requests
             (sent_by view.entry.links.now endpoint moment) view.entry self.new.kept.reading }
         ensures stays { (self.new.rest ≡ self.old.rest) × (self.new.anew ≡ self.old.anew)
             × (self.new.who ≡ self.old.who)
@@ -524,7 +525,7 @@ impl<'a> Hearing<'a> {
     /// A tick was made.
     pub(crate) fn ticked(&mut self)
         ensures kept { self.new.kept ≡ self.old.kept }
-        ensures ticks { TicksIf self.old.policies.holding self.new.policies.holding }
+        ensures ticks { Ticks self.old.policies.requests self.new.policies.requests }
         ensures stays { (self.new.rest ≡ self.old.rest) × (self.new.anew ≡ self.old.anew)
             × (self.new.who ≡ self.old.who)
             × (self.new.policies.floods ≡ self.old.policies.floods)

@@ -6,7 +6,7 @@ use crate::inbox::Inbox;
 use datagram::{Ask, Control, Notes, Reading, Sent, Taking, What, is_sayable, read_noting};
 use entrance::own_source;
 use members::RoomView;
-use policy::{Again, Holding, Judged, Screen};
+use policy::{Again, Judged, RateRequests, Screen};
 use ports::MAX_DATAGRAM;
 use settings::Links;
 use std::alloc::{AllocError, Global};
@@ -45,12 +45,10 @@ impl Kept {
     ghost use Rattle.datagram.specs.Spelling.{IsAsHeard};
     ghost use Rattle.entrance.specs.Entrance.{IsTakenFrom};
     ghost use Rattle.settings.specs.Links.{LinkTable};
-    ghost use Rattle.policy.specs.Holding.{HearsWord, asks_left, asking_of};
-    ghost use Rattle.policy.specs.Word.{word_in};
     ghost use Rattle.policy.specs.Screened.{IsAsItWas, Judges, LooksForNothing};
     ghost use Rattle.udp.specs.Kept.{IsOfSame, IsReadFrom, IsSpokenBy, MayBeTaken, SaysGoodbye, admission_in, bytes_of, datagram_in, is_there, sent_by, with_behind};
     ghost use Rattle.udp.specs.Hearing.{is_goodbye};
-    ghost use Rattle.udp.specs.Policies.{Holds};
+    ghost use Rattle.udp.specs.Policies.{IsHeld};
 
     /// Nothing came yet. There is room for what is asked for in so many entries.
     pub(crate) fn new(alloc: Global, entries: usize) -> Result<Kept, AllocError>
@@ -130,14 +128,14 @@ impl Kept {
         screen.judge(self.sent, &mut self.reading)
     }
 
-    /// Holds what is asked for in what was read, and leaves out what is moot.
-    pub(crate) fn hold(&mut self, holding: &mut Holding<'_>, view: RoomView<'_>)
-        ensures holds { Holds holding.old holding.new self.old.sent.own.0
-            (asking_of view.entry self.old.sent) self.old.reading self.new.reading }
+    /// Holds what is asked for in what was read, and leaves out what can't be asked for yet, or isn't heard at once.
+    pub(crate) fn hold(&mut self, requests: &mut RateRequests<'_>, view: RoomView<'_>)
+        ensures holds { IsHeld requests.old requests.new self.old.sent view.entry self.old.reading
+            self.new.reading }
         ensures taken { (table : LinkTable) → MayBeTaken table self.old → MayBeTaken table self.new }
         ensures same { IsOfSame self.old self.new }
     {
-        holding.hear(
+        requests.hear(
             self.sent,
             view,
             &mut self.reading,

@@ -6,7 +6,9 @@ ghost use Rattle.udp.specs.Policies.{most_by};
 use crate::kept::Kept;
 use members::RoomView;
 use operations::Gauges;
-use policy::{Again, AnnouncedSets, FloodLimiter, HeldPackets, Holding, Judged, Rules, Screen};
+use policy::{
+    Again, AnnouncedSets, FloodLimiter, HeldPackets, Judged, RateRequests, Rules, Screen,
+};
 use settings::Settings;
 use stats::Traffic;
 use std::alloc::{AllocError, Global};
@@ -18,19 +20,18 @@ pub(crate) struct Policies<'a> {
     floods: FloodLimiter,
     screen: Screen<'a>,
     put_by: HeldPackets,
-    /// What is held of requests, if they are.
-    holding: Option<Holding<'a>>,
+    requests: RateRequests<'a>,
     /// How many entries of a datagram count, if that is bounded.
     pub(crate) most: Option<usize>,
 }
 
 impl<'a> Policies<'a> {
     ghost use Rattle.std.specs.Prelude.{◌≡◌, false, None, [], IfNone, IfOk, IfSome, length, replicate, slice_get, unwrap_or};
-    ghost use Rattle.policy.specs.JoinedPublishers.{is_due};
+    ghost use Rattle.policy.specs.RateRequests.{BeginsBy, HearsNext, Ticks, is_due};
     ghost use Rattle.policy.specs.FloodLimiter.{buckets_with, empty_bucket, is_within};
     ghost use Rattle.settings.specs.Links.{LinkTable};
     ghost use Rattle.udp.specs.Kept.{IsOfSame, MayBeTaken, is_there};
-    ghost use Rattle.udp.specs.Policies.{HearsHeld, IsHeld, IsJudged, IsWelcomed, TakesFar, TicksIf, far_of, is_due_in, most_by, ruling_of};
+    ghost use Rattle.udp.specs.Policies.{IsHeld, IsJudged, IsWelcomed, TakesFar, far_of, most_by, ruling_of};
 
     /// Nothing came yet in a unit of these settings, by these rules.
     pub(crate) fn new(
@@ -46,20 +47,15 @@ impl<'a> Policies<'a> {
           replicate (length settings.now.endpoints) empty_bucket,
         )) }
         ensures rules { IfOk result (λ p. p.screen.rules ≡ rules) }
-        ensures holds { IfOk result (λ p. rules.repeat_ms ≡ 0 → p.holding ≡ None) }
+        ensures holds { IfOk result (λ p. BeginsBy rules settings.now p.requests) }
         ensures most { IfOk result (λ p. p.most ≡ most_by rules.entry_limit) }
     {
         let endpoints = settings.endpoints().len();
-        let holding = if rules.repeat_ms == 0 {
-            None
-        } else {
-            Some(Holding::new(alloc, settings, sets)?)
-        };
         Ok(Policies {
             floods: FloodLimiter::new(alloc, endpoints, rules.flood_limit)?,
             screen: Screen::new(alloc, settings, rules, traffic, &gauges.far, &gauges.held)?,
             put_by: HeldPackets::new(alloc, endpoints)?,
-            holding,
+            requests: RateRequests::new(alloc, settings, rules, sets)?,
             most: most_by(rules.entry_limit),
         })
     }
@@ -110,51 +106,41 @@ impl<'a> Policies<'a> {
         Some(to)
     }
 
-    /// Notes who sent what was read, holds what it asks for, and leaves out what is moot.
+    /// Notes who sent what was read, holds what it asks for, and leaves out what can't be asked for yet, or isn't heard at once.
     pub(crate) fn hold(&mut self, kept: &mut Kept, view: RoomView<'_>)
-        ensures holds { IsHeld self.old.holding self.new.holding kept.old.sent view.entry
+        ensures holds { IsHeld self.old.requests self.new.requests kept.old.sent view.entry
             kept.old.reading kept.new.reading }
         ensures taken { (table : LinkTable) → MayBeTaken table kept.old → MayBeTaken table kept.new }
         ensures same { IsOfSame kept.old kept.new }
         ensures stays { (self.new.floods ≡ self.old.floods) × (self.new.screen ≡ self.old.screen)
             × (self.new.put_by ≡ self.old.put_by) × (self.new.most ≡ self.old.most) }
     {
-        if let Some(holding) = &mut self.holding {
-            kept.hold(holding, view);
-        }
+        kept.hold(&mut self.requests, view);
     }
 
-    /// Whether a publisher came for whom requests are held.
+    /// Whether anything may be heard that was asked for before.
     pub(crate) fn is_waiting(&self) -> bool
-        ensures { result ≡ is_due_in self.now.holding }
+        ensures { result ≡ is_due self.now.requests }
     {
-        match &self.holding {
-            Some(holding) => holding.is_waiting(),
-            None => false,
-        }
+        self.requests.is_waiting()
     }
 
-    /// What is heard once more at this moment, in a room that is so.
-    pub(crate) fn next_held(&mut self, view: RoomView<'_>, moment: u64) -> Option<Again>
-        ensures hears { HearsHeld self.old.holding self.new.holding view.entry moment result }
+    /// What is heard at this moment that was asked for before, in a room that is so.
+    pub(crate) fn next_heard(&mut self, view: RoomView<'_>, moment: u64) -> Option<Again>
+        ensures hears { HearsNext self.old.requests self.new.requests view.entry moment result }
         ensures stays { (self.new.floods ≡ self.old.floods) × (self.new.screen ≡ self.old.screen)
             × (self.new.put_by ≡ self.old.put_by) × (self.new.most ≡ self.old.most) }
     {
-        match &mut self.holding {
-            Some(holding) => holding.next_held(view, moment),
-            None => None,
-        }
+        self.requests.next_heard(view, moment)
     }
 
     /// A tick was made.
     pub(crate) fn ticked(&mut self)
-        ensures ticks { TicksIf self.old.holding self.new.holding }
+        ensures ticks { Ticks self.old.requests self.new.requests }
         ensures stays { (self.new.floods ≡ self.old.floods) × (self.new.screen ≡ self.old.screen)
             × (self.new.put_by ≡ self.old.put_by) × (self.new.most ≡ self.old.most) }
     {
-        if let Some(holding) = &mut self.holding {
-            holding.ticked();
-        }
+        self.requests.ticked();
     }
 }
 
