@@ -1,18 +1,23 @@
 -- What is heard next, and when.
-use Rattle.std.specs.Prelude.{◌≡◌, ◌≤◌, ◌⊎◌, ℕ, Bool, true, false, None, Option, Result, Ok, Err, length}
+use Rattle.std.specs.Prelude.{◌≡◌, ◌≤◌, ◌<◌, ◌⊎◌, ℕ, Bool, true, false, [], None, Some, Option, Result, Ok, Err, length}
 use Rattle.std.specs.declared.net.socket_addr.SocketAddr.{SocketAddr}
 use Rattle.entrance.specs.declared.entrance.Admitted.{Admitted}
 use Rattle.entrance.specs.declared.entrance.Came.{Came}
 use Rattle.entrance.specs.declared.entrance.Admitted.TheVariants.{Nothing, Taking, Select, Stop}
 use Rattle.members.specs.declared.view.RoomView.{RoomView}
 use Rattle.ports.specs.declared.source.ReceiveFault.{ReceiveFault}
-use Rattle.entrance.specs.Entrance.{IfTaken}
 use Rattle.udp.specs.declared.hearing.Anew.{Anew}
 use Rattle.udp.specs.declared.hearing.Hearing.{Hearing}
 use Rattle.udp.specs.declared.hearing.Rest.{Rest}
 use Rattle.udp.specs.declared.who.Who.{Who}
-use Rattle.udp.specs.Hearing.{Bearings, HearsDatagram, HearsFar, HearsRest, TakesIn, anew_after}
-use Rattle.udp.specs.Kept.{is_there, sent_by}
+use Rattle.udp.specs.Hearing.{AsksAgain, Bearings, HearsDatagram, HearsFar, HearsRest, TakesIn, anew_after}
+use Rattle.udp.specs.Kept.{IsSpokenBy, is_there, sent_by}
+use Rattle.udp.specs.Who.{known_by}
+use Rattle.addresses.specs.Listeners.{listeners_after, report_due}
+use Rattle.desk_calls.specs.DeskCalls.{source_of}
+use Rattle.policy.specs.RateRequests.{is_due}
+use Rattle.ports.specs.declared.feed.Received.{Received}
+use Rattle.ports.specs.declared.feed.Received.TheVariants.{Nothing as Silence, Datagram, Select as Selection, Stop as Stopping}
 use Rattle.udp.specs.Policies.{far_of, ruling_of}
 
 -- it is so of what is let in, and nothing failed
@@ -27,6 +32,13 @@ is_wish (Ok Taking) = false
 is_wish (Ok (Select leg on)) = true
 is_wish (Ok Stop) = true
 is_wish (Err fault) = false
+
+-- a wish of a peer, as it is let in
+abbrev pub wish_in : Received → Option Admitted
+wish_in (Selection leg on) = Some (Select leg on)
+wish_in Stopping = Some Stop
+wish_in Silence = None
+wish_in (Datagram endpoint size) = None
 
 -- What peers wish is let in at once, and nothing else changes.
 pub record LetsWish (came : Came) (h k : Hearing) : Type 0 where
@@ -59,10 +71,55 @@ pub record HearsCame (bearings : Who → Bearings) (view : RoomView) (filled k :
   pub heard : IfLetIn admitted (λ a. HearsDatagram (bearings filled.who) view filled k moment
       (record { address = address; from = 0; to = size }) a)
 
--- The sockets were asked, once their bytes were kept: a datagram that came is heard, else nothing is taken in and nothing changes.
+-- nothing is let in
+abbrev pub IsSilence : Result Admitted ReceiveFault → Type 0
+IsSilence (Ok Nothing) = ⊤
+IsSilence (Ok Taking) = ⊥
+IsSilence (Ok (Select leg on)) = ⊥
+IsSilence (Ok Stop) = ⊥
+IsSilence (Err fault) = ⊤
+
+-- The sockets were asked, once their bytes were kept: a datagram that came is heard, else nothing is let in and nothing changes.
 pub record Waits (bearings : Who → Bearings) (view : RoomView) (h k : Hearing) (moment : ℕ)
     (admitted : Result Admitted ReceiveFault) : Type 0 where
   pub filled : Hearing
   pub who : filled.who ≡ h.who
   pub policies : filled.policies ≡ h.policies
-  pub heard : HearsCame bearings view filled k moment admitted ⊎ (IfTaken admitted ⊥ × (k ≡ filled))
+  pub heard : HearsCame bearings view filled k moment admitted ⊎ (IsSilence admitted × (k ≡ filled))
+
+-- ---- what is heard if nothing is left of what came before
+
+-- If anything may be heard that was asked for before, it was looked for at the moment that was told, and was found or not; else nothing changes.
+pub record HearsBefore (h k : Hearing) (view : RoomView) (was told : ℕ) (found : Bool) : Type 0 where
+  pub due : is_due h.policies.requests ≡ true → AsksAgain h k view told found
+  pub idle : is_due h.policies.requests ≡ false → (k ≡ h) × (told ≡ was) × (found ≡ false)
+
+-- At this moment a report was due in the name of an endpoint that only listens, and says that it is there and no more.
+pub record Reports (h k : Hearing) (view : RoomView) (told : ℕ) (came : Came) : Type 0 where
+  pub taken : came.admitted ≡ Ok Taking
+  pub due : report_due h.who.listeners told ≡ Some k.kept.sent.endpoint
+  pub sent : k.kept.sent ≡ sent_by view.links.now k.kept.sent.endpoint came.moment
+  pub says : IsSpokenBy (source_of view.links.now k.kept.sent.endpoint) [] k.kept.reading
+
+-- None was due, and the sockets were asked.
+pub record GoesOn (bearings : Who → Bearings) (view : RoomView) (h k : Hearing) (told : ℕ) (came : Came) : Type 0 where
+  pub turned : Hearing
+  pub none : (endpoint : ℕ) → endpoint < 65536 → report_due h.who.listeners told ≡ Some endpoint → ⊥
+  pub turn : known_by turned.who
+      ≡ record (known_by h.who) { listeners = listeners_after h.who.listeners told }
+  pub policies : turned.policies ≡ h.policies
+  pub waits : Waits bearings view turned k came.moment came.admitted
+
+abbrev pub HearsElse : Bool → (Who → Bearings) → RoomView → Hearing → Hearing → ℕ → Came → Type 0
+HearsElse true bearings view h k told came =
+    (came ≡ record { moment = told; admitted = Ok Taking }) × (k ≡ h)
+HearsElse false bearings view h k told came =
+    Reports h k view told came ⊎ GoesOn bearings view h k told came
+
+-- What was asked for before is heard, if any of it is found; else a report that is due; else what comes to the sockets.
+pub record HearsMore (bearings : Who → Bearings) (view : RoomView) (h k : Hearing) (was : ℕ) (came : Came) : Type 0 where
+  pub between : Hearing
+  pub told : ℕ
+  pub found : Bool
+  pub before : HearsBefore h between view was told found
+  pub then : HearsElse found bearings view between k told came

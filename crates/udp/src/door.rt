@@ -1,12 +1,12 @@
 //! Where what comes to the sockets is let in.
 
-ghost use Rattle.std.specs.Prelude.{◌≡◌, ◌⊎◌, ◌≤◌, ◌<◌, ℕ, [], None, Some, Ok, IfNone, IfOk, IfSome, length, replicate};
+ghost use Rattle.std.specs.Prelude.{◌≡◌, ◌⊎◌, ◌≤◌, ◌<◌, ℕ, [], true, None, Some, Ok, IfNone, IfOk, IfSome, is_some, length, replicate};
 ghost use Rattle.entrance.specs.Entrance.{IfTaken};
 ghost use Rattle.desk_calls.specs.DeskCalls.{source_of};
 ghost use Rattle.addresses.specs.Listeners.{listeners_after, report_due};
 ghost use Rattle.policy.specs.FloodLimiter.{empty_bucket};
 ghost use Rattle.policy.specs.RateRequests.{BeginsBy};
-ghost use Rattle.udp.specs.Door.{HearsAnew, HearsLeft, IfLetIn, LetsWish, Waits};
+ghost use Rattle.udp.specs.Door.{HearsAnew, HearsBefore, HearsLeft, HearsMore, IfLetIn, LetsWish, Waits, is_wish, wish_in};
 ghost use Rattle.udp.specs.Kept.{IsSpokenBy, MayBeTaken, sent_by};
 ghost use Rattle.udp.specs.Policies.{most_by};
 ghost use Rattle.udp.specs.Who.{known_by, setup_of};
@@ -110,15 +110,20 @@ impl<'a, R: time::Clock> Door<'a, R> {
               same_origin = ⟦<SourceAddress as PartialEq>⟧.eq;
               source = source_of view.entry.links.now;
             }) view.entry self.old.hearing self.new.hearing came.moment)) }
+        ensures more { self.old.hearing.anew ≡ None → self.old.hearing.rest ≡ None
+            → IfOk result (λ came. LetsWish came self.old.hearing self.new.hearing
+            ⊎ HearsMore (λ who. record {
+              setup = setup_of ⟦<u32 as PartialEq>⟧.eq ⟦<SocketAddr as PartialEq>⟧.eq
+                  ⟦<IpAddr as PartialEq>⟧.eq who;
+              same_origin = ⟦<SourceAddress as PartialEq>⟧.eq;
+              source = source_of view.entry.links.now;
+            }) view.entry self.old.hearing self.new.hearing self.old.clock.told came) }
     {
-        match self.gauges.wished() {
-            Received::Select { leg, on } => Ok(self.at_once(Admitted::Select { leg, on })),
-            Received::Stop => Ok(self.at_once(Admitted::Stop)),
-            Received::Nothing | Received::Datagram { .. } => {
-                let came = self.next_heard(view)?;
-                Ok(came)
-            }
+        if let Some(wish) = wish_in(self.gauges.wished()) {
+            return Ok(self.at_once(wish));
         }
+        let came = self.next_heard(view)?;
+        Ok(came)
     }
 
     /// This is so, by now.
@@ -161,6 +166,13 @@ impl<'a, R: time::Clock> Door<'a, R> {
               same_origin = ⟦<SourceAddress as PartialEq>⟧.eq;
               source = source_of view.entry.links.now;
             }) view.entry self.old.hearing self.new.hearing came.moment)) }
+        ensures more { self.old.hearing.anew ≡ None → self.old.hearing.rest ≡ None
+            → IfOk result (λ came. HearsMore (λ who. record {
+              setup = setup_of ⟦<u32 as PartialEq>⟧.eq ⟦<SocketAddr as PartialEq>⟧.eq
+                  ⟦<IpAddr as PartialEq>⟧.eq who;
+              same_origin = ⟦<SourceAddress as PartialEq>⟧.eq;
+              source = source_of view.entry.links.now;
+            }) view.entry self.old.hearing self.new.hearing self.old.clock.told came) }
     {
         if let Some(anew) = self.hearing.anew {
             let moment = self.moment();
@@ -172,29 +184,37 @@ impl<'a, R: time::Clock> Door<'a, R> {
             let admitted = self.hearing.hear_rest(view, moment, rest)?;
             return Ok(let_in(moment, admitted));
         }
-        if let Some(moment) = self.hear_made(view)? {
+        if let Some(moment) = self.hear_before(view)? {
             return Ok(let_in(moment, Admitted::Taking));
         }
-        self.wait(view)
+        if let Some(moment) = self.report(view) {
+            return Ok(let_in(moment, Admitted::Taking));
+        }
+        let came = self.wait(view)?;
+        Ok(came)
     }
 
-    /// What is said in a client's name, if anything is, and the moment at which it is taken in.
-    fn hear_made(&mut self, view: RoomView<'_>) -> Result<Option<u64>, AllocError>
+    /// What was asked for before and is heard now, if anything is, and the moment at which it is taken in.
+    fn hear_before(&mut self, view: RoomView<'_>) -> Result<Option<u64>, AllocError>
         ensures taken { IfOk result (λ made. IfSome made
             (λ _. MayBeTaken view.entry.links.now self.new.hearing.kept)) }
         ensures now { IfOk result (λ made. IfSome made (λ moment.
             (moment ≡ self.new.clock.told) × (self.new.hearing.kept.sent.moment ≡ moment))) }
         ensures later { self.old.clock.told ≤ self.new.clock.told }
+        ensures before { IfOk result (λ made. HearsBefore self.old.hearing self.new.hearing view.entry
+            self.old.clock.told self.new.clock.told (is_some made)) }
         ensures stays { (self.new.hearing.rest ≡ self.old.hearing.rest)
             × (self.new.hearing.anew ≡ self.old.hearing.anew) }
     {
-        if self.hearing.is_held() {
-            let moment = self.moment();
-            if self.hearing.ask_again(view, moment)? {
-                return Ok(Some(moment));
-            }
+        if !self.hearing.is_held() {
+            return Ok(None);
         }
-        Ok(self.report(view))
+        let moment = self.moment();
+        if self.hearing.ask_again(view, moment)? {
+            Ok(Some(moment))
+        } else {
+            Ok(None)
+        }
     }
 
     /// The report that is due in the name of an endpoint that only listens, if one is, and the moment at which it is taken in.
@@ -214,6 +234,8 @@ impl<'a, R: time::Clock> Door<'a, R> {
             × (self.new.hearing.kept.sent
             ≡ sent_by view.entry.links.now self.new.hearing.kept.sent.endpoint moment)) }
         ensures later { self.old.clock.told ≤ self.new.clock.told }
+        ensures idle { IfNone result ((self.new.clock.told ≡ self.old.clock.told)
+            × (self.new.hearing.policies ≡ self.old.hearing.policies)) }
         ensures stays { (self.new.hearing.rest ≡ self.old.hearing.rest)
             × (self.new.hearing.anew ≡ self.old.hearing.anew) }
     {
@@ -248,6 +270,18 @@ impl<'a, R: time::Clock> Door<'a, R> {
             Err(_) => Err(ReceiveFault),
         };
         Ok(Came { moment, admitted })
+    }
+}
+
+/// What peers wish, as it is let in.
+fn wish_in(received: Received) -> Option<Admitted>
+    ensures wish { result ≡ wish_in received }
+    ensures wished { IfSome result (λ admitted. is_wish (Ok admitted) ≡ true) }
+{
+    match received {
+        Received::Select { leg, on } => Some(Admitted::Select { leg, on }),
+        Received::Stop => Some(Admitted::Stop),
+        Received::Nothing | Received::Datagram { .. } => None,
     }
 }
 
