@@ -1,5 +1,5 @@
 -- What is asked for last on a leg is heard in the end, and nothing within a gap of what was heard before.
-use Rattle.std.proofs.Common.{◌≡◌, ◌⊎◌, inl, inr, ◌∙◌, ◌==◌, ℕ, Bool, true, false, List, [], ◌∷◌, refl, ap, subst, sym, tt}
+use Rattle.std.proofs.Common.{◌≡◌, ◌⊎◌, inl, inr, ◌∙◌, ◌==◌, ℕ, Bool, true, false, List, [], ◌∷◌, refl, ap, subst, sym}
 use Rattle.std.specs.Prelude.{Option, None, Some, if◌then◌else◌}
 use Rattle.settings.specs.declared.settings.LegSettings.{LegSettings}
 use Rattle.policy.specs.RequestGaps.{AreGapsApart, GapHappening, IsHeardInTheEnd, IsNotLost, asks, gap_asked, gap_looked, heard_at, heard_if, heard_waiting, is_open, is_past, last_moment, last_word, leaves, leg_after, looked_at, word_asked_last, words_heard}
@@ -17,11 +17,11 @@ same_if gap moment word g heard false is = is
 same_waiting : (gap moment : ℕ) (g : LegGap) (heard : List (ℕ × ℕ)) (waiting : Option ℕ) (b : Bool) → b ≡ is_open gap moment g
     → g.heard ≡ last_moment heard
     → (gap_looked gap moment g waiting).heard ≡ last_moment (heard_waiting b moment waiting heard)
-same_waiting gap moment g heard None b open is = is
-same_waiting gap moment g heard (Some word) true open is =
-    ap (λ (b : Bool). (if b then heard_at moment g else g).heard) (sym open)
-same_waiting gap moment g heard (Some word) false open is =
-    ap (λ (b : Bool). (if b then heard_at moment g else g).heard) (sym open) ∙ is
+same_waiting gap moment g heard None b past is = is
+same_waiting gap moment g heard (Some word) true past is =
+    ap (λ (b : Bool). (if b then heard_at moment g else g).heard) (sym past)
+same_waiting gap moment g heard (Some word) false past is =
+    ap (λ (b : Bool). (if b then heard_at moment g else g).heard) (sym past) ∙ is
 
 heard_is : (gap : ℕ) (leg : LegSettings) (happenings : List GapHappening)
     → (leg_after gap leg happenings).heard ≡ last_moment (words_heard gap leg happenings)
@@ -38,13 +38,13 @@ heard_is gap leg (leaves ∷ earlier) = heard_is gap leg earlier
 
 apart_if : (gap moment word : ℕ) (heard : List (ℕ × ℕ)) (b : Bool) → b ≡ is_past gap moment (last_moment heard) → AreGapsApart gap heard
     → AreGapsApart gap (heard_if b moment word heard)
-apart_if gap moment word heard true open apart = (sym open, apart)
-apart_if gap moment word heard false open apart = apart
+apart_if gap moment word heard true past apart = (sym past, apart)
+apart_if gap moment word heard false past apart = apart
 
 apart_waiting : (gap moment : ℕ) (waiting : Option ℕ) (heard : List (ℕ × ℕ)) (b : Bool) → b ≡ is_past gap moment (last_moment heard)
     → AreGapsApart gap heard → AreGapsApart gap (heard_waiting b moment waiting heard)
-apart_waiting gap moment None heard b open apart = apart
-apart_waiting gap moment (Some word) heard b open apart = apart_if gap moment word heard b open apart
+apart_waiting gap moment None heard b past apart = apart
+apart_waiting gap moment (Some word) heard b past apart = apart_if gap moment word heard b past apart
 
 pub gaps_apart : (gap : ℕ) (leg : LegSettings) (happenings : List GapHappening) → AreGapsApart gap (words_heard gap leg happenings)
 gaps_apart gap leg [] = tt
@@ -78,7 +78,7 @@ kept_waiting : (gap moment last : ℕ) (g : LegGap) (heard : List (ℕ × ℕ)) 
 kept_waiting gap moment last g heard None is kept = kept
 kept_waiting gap moment last g heard (Some word) is kept = kept_open moment word last g heard (is_open gap moment g) is kept
 
-word_of : Option ℕ → ℕ
+abbrev word_of : Option ℕ → ℕ
 word_of None = 0
 word_of (Some word) = word
 
@@ -99,11 +99,11 @@ is_not_lost gap leg happenings word is = record { kept = kept_last gap leg happe
 
 in_the_end : (moment word : ℕ) (waiting : Option ℕ) (heard : List (ℕ × ℕ)) (b : Bool) → b ≡ true → Kept waiting heard word
     → last_word (heard_waiting b moment waiting heard) ≡ Some word
-in_the_end moment word None heard b open (inl is) = absurd (cc)
-in_the_end moment word None heard b open (inr (none, is)) = is
-in_the_end moment word (Some waits) heard true open (inl is) = is
-in_the_end moment word (Some waits) heard true open (inr (none, is)) = absurd (cc)
-in_the_end moment word (Some waits) heard false open kept = absurd (cc)
+in_the_end moment word None heard b past (inl is) = absurd (cc)
+in_the_end moment word None heard b past (inr (none, is)) = is
+in_the_end moment word (Some waits) heard true past (inl is) = is
+in_the_end moment word (Some waits) heard true past (inr (none, is)) = absurd (cc)
+in_the_end moment word (Some waits) heard false past kept = absurd (cc)
 
 pub is_heard_in_the_end : (gap : ℕ) (leg : LegSettings) (moment : ℕ) (earlier : List GapHappening) (word : ℕ)
     → is_past gap moment (last_moment (words_heard gap leg earlier)) ≡ true → word_asked_last earlier ≡ Some word

@@ -1,6 +1,6 @@
 -- How often a subscriber's requests for a rate are heard on a leg (RFC 5104, section 4.2.1): once in a gap at most; of those that come within it the
 -- last one waits, and is heard once it is over.
-use Rattle.std.specs.Prelude.{◌≡◌, ◌⊎◌, ◌≤◌, ◌-◌, ◌+◌, ◌&&◌, ◌==◌, ℕ, nat_le, nat_lt, Bool, true, List, [], ◌∷◌, map, Option, None, Some, option_map, slice_get, slice_set, if◌then◌else◌}
+use Rattle.std.specs.Prelude.{⊤, ◌≡◌, ◌⊎◌, ◌≤◌, ◌-◌, ◌+◌, ◌&&◌, ◌==◌, ℕ, nat_le, nat_lt, Bool, true, List, [], ◌∷◌, map, Option, None, Some, option_map, slice_get, slice_set, if◌then◌else◌}
 use Rattle.members.specs.Room.{RoomState}
 use Rattle.members.specs.declared.view.RoomView.{RoomView}
 use Rattle.settings.specs.Links.{LinkTable}
@@ -104,9 +104,9 @@ gaps_as_comes a legs =
     if is_there a.room a.endpoint a.moment then legs else map (leg_without a.endpoint) legs
 
 -- An endpoint is there, and asks for this, of which that is heard at once.
-pub record HearsPaced (s t : GapState) (a : Asking) (asks left : List Ask) : Type 0 where
-  pub left : left ≡ asks_passed s.gap_ms a (gaps_as_comes a s.legs) asks
-  pub legs : t.legs ≡ gaps_after s.gap_ms a (gaps_as_comes a s.legs) asks
+pub record HearsPaced (s t : GapState) (a : Asking) (asked passed : List Ask) : Type 0 where
+  pub left : passed ≡ asks_passed s.gap_ms a (gaps_as_comes a s.legs) asked
+  pub legs : t.legs ≡ gaps_after s.gap_ms a (gaps_as_comes a s.legs) asked
   pub gap : t.gap_ms ≡ s.gap_ms
   pub next : t.next ≡ s.next
 

@@ -1,6 +1,6 @@
 //! How often a subscriber's requests for a rate are heard: once in a gap on each leg at most, and the last of those that came within it after all.
 
-ghost use Rattle.std.specs.Prelude.{◌≡◌, ◌≤◌, ◌<◌, ◌^◌, IfSome, length, map, take};
+ghost use Rattle.std.specs.Prelude.{◌≡◌, ◌≤◌, ◌<◌, ◌^◌, IfOk, IfSome, Some, length, map, take};
 ghost use Rattle.policy.specs.Asking.{asking};
 ghost use Rattle.policy.specs.RequestGaps.{asks_passed, due_from, due_word, first_due, gap_asked, gaps_after, gaps_with, gaps_on, heard_at, is_open, leg_without, look_of, passes, passes_on, said_on, unheard};
 
@@ -135,11 +135,7 @@ impl RequestGaps {
     {
         Ok(RequestGaps {
             gap_ms,
-            legs: settings
-                .legs()
-                .iter()
-                .map(|leg| LegGap::new(leg))
-                .collect(alloc)?,
+            legs: gaps_of(alloc, settings.legs())?,
             next: None,
         })
     }
@@ -201,6 +197,13 @@ impl RequestGaps {
         self.next = Some(place + 1);
         Some(again)
     }
+}
+
+/// Nothing was heard of these legs.
+fn gaps_of(alloc: Global, legs: &[LegSettings]) -> Result<Vec<LegGap>, AllocError>
+    ensures { IfOk result (λ gaps. gaps.items ≡ map unheard legs.now) }
+{
+    legs.iter().map(|leg| LegGap::new(leg)).collect(alloc)
 }
 
 /// Forgets what waits on the legs to this endpoint.
