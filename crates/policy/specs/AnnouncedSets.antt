@@ -1,27 +1,35 @@
--- Which announced set is asked for again: one that was seen before, of which the publisher didn't notify (RFC 5104, sections 4.2.1.2 and
--- 4.2.2).
-use Rattle.std.specs.Prelude.{◌≡◌, ◌≢◌, ◌==◌, ◌&&◌, ℕ, ◌+◌, nat_lt, nat_le, min, not, Bool, true, false, List, [], ◌∷◌, Option, None, Some, option_map, slice_get, slice_set, if◌then◌else◌}
+-- What a publisher is asked again: its announced set, if it was seen before and the publisher didn't notify of it; and to take a bound for
+-- lifted whose owner the set hasn't, if it may not know (RFC 5104, sections 4.2.1.2 and 4.2.2).
+use Rattle.std.specs.Prelude.{◌≡◌, ◌≢◌, ◌==◌, ◌&&◌, ◌||◌, ℕ, ◌+◌, nat_lt, nat_le, min, not, Bool, true, false, List, [], ◌∷◌, filter, Option, None, Some, option_map, slice_get, slice_set, if◌then◌else◌}
 use Rattle.std.specs.Cmp.Lexicographic.{pointwise}
 use Rattle.std.specs.List.{list_all, list_any}
+use Rattle.tmmbr_tuple.specs.declared.ssrc.Ssrc.{Ssrc}
 use Rattle.rtcp_feedback.specs.declared.tmmb.TmmbrEntry.{TmmbrEntry}
 
--- whether anybody asked a publisher for a rate since it came last; the announced set that was seen last; and what it notified of last
+-- since a publisher came last: whether anybody asked it for a rate; the announced set that was seen last, and the one before; whether it
+-- notified, and of what last
 pub record SetState : Type 0 where
   pub is_asked : Bool
   pub seen : List TmmbrEntry
+  pub before : List TmmbrEntry
+  pub has_told : Bool
   pub told : List TmmbrEntry
 
 abbrev pub new_set : SetState
-new_set = record { is_asked = false; seen = []; told = [] }
+new_set = record { is_asked = false; seen = []; before = []; has_told = false; told = [] }
 
 abbrev pub set_asked : SetState → SetState
 set_asked s = record s { is_asked = true }
 
 abbrev pub set_told : List TmmbrEntry → SetState → SetState
-set_told entries s = record s { told = entries }
+set_told entries s = record s { has_told = true; told = entries }
 
 abbrev pub set_seen : List TmmbrEntry → SetState → SetState
-set_seen set s = record s { seen = set }
+set_seen set s = record s { seen = set; before = s.seen }
+
+-- its desk is looked at: it was asked for a rate, or notified
+abbrev pub is_watched : SetState → Bool
+is_watched s = s.is_asked || s.has_told
 
 -- the same owner and word
 abbrev pub is_same : TmmbrEntry → TmmbrEntry → Bool
@@ -39,9 +47,45 @@ is_some_set (entry ∷ entries) = true
 abbrev pub asks_again : SetState → List TmmbrEntry → Bool
 asks_again s set = (is_some_set set && pointwise is_same set s.seen) && not (are_told s.told set)
 
-abbrev pub asks_of : Option SetState → List TmmbrEntry → Bool
-asks_of None set = false
-asks_of (Some s) set = asks_again s set
+-- these entries name this owner
+abbrev pub names_owner : List TmmbrEntry → Ssrc → Bool
+names_owner entries owner = list_any (λ (e : TmmbrEntry). e.ssrc.0 == owner.0) entries
+
+-- The publisher may still keep to a bound of this owner: its last notification names it, and the set has been so since the last look; or, if
+-- it never notified, one of the two sets that were seen last does.
+abbrev pub may_hold : SetState → List TmmbrEntry → Ssrc → Bool
+may_hold s set owner =
+    if s.has_told then names_owner s.told owner && pointwise is_same set s.seen
+    else names_owner s.seen owner || names_owner s.before owner
+
+-- the publisher's own source, if it has one
+abbrev pub is_own : Option Ssrc → Ssrc → Bool
+is_own None owner = false
+is_own (Some own) owner = own.0 == owner.0
+
+-- an owner is lifted again that isn't the publisher itself, and that the set doesn't name, if the publisher may still keep to its bound
+abbrev pub is_lifted_again : SetState → List TmmbrEntry → Option Ssrc → Ssrc → Bool
+is_lifted_again s set own owner =
+    (not (is_own own owner) && not (names_owner set owner)) && may_hold s set owner
+
+-- whether the set is asked for again, and who is lifted again
+pub record SaidState : Type 0 where
+  pub asks : Bool
+  pub lifted : List Ssrc
+
+-- What is said again to a publisher at a look at this set, of the sources of the unit's endpoints, in whose names alone it speaks.
+abbrev pub said_again : SetState → List TmmbrEntry → Option Ssrc → List Ssrc → SaidState
+said_again s set own sources = record {
+  asks = asks_again s set;
+  lifted = filter (is_lifted_again s set own) sources;
+}
+
+abbrev pub said_nothing : SaidState
+said_nothing = record { asks = false; lifted = [] }
+
+abbrev pub said_of : Option SetState → List TmmbrEntry → Option Ssrc → List Ssrc → SaidState
+said_of None set own sources = said_nothing
+said_of (Some s) set own sources = said_again s set own sources
 
 -- ---- all publishers
 
@@ -60,13 +104,18 @@ abbrev pub with_set : SetsState → ℕ → (SetState → SetState) → SetsStat
 with_set s publisher change =
     record s { publishers = changed_at s.publishers publisher change (slice_get s.publishers publisher) }
 
+-- what is said again to the publisher with this number, of endpoints with these sources
+abbrev pub said_to : SetsState → ℕ → List TmmbrEntry → List Ssrc → SaidState
+said_to s publisher set sources =
+    said_of (slice_get s.publishers publisher) set (slice_get sources publisher) sources
+
 -- ---- rounds of looks
 
--- the least number from this one on of a publisher that was asked, of publishers of which the first has number n
-abbrev pub next_asked : ℕ → ℕ → List SetState → Option ℕ
-next_asked from n [] = None
-next_asked from n (s ∷ sets) =
-    if nat_le from n && s.is_asked then Some n else next_asked from (n + 1) sets
+-- the least number from this one on of a publisher that is looked at, of publishers of which the first has number n
+abbrev pub next_watched : ℕ → ℕ → List SetState → Option ℕ
+next_watched from n [] = None
+next_watched from n (s ∷ sets) =
+    if nat_le from n && is_watched s then Some n else next_watched from (n + 1) sets
 
 -- where the call at this moment looks from: a round goes on, or begins if it is due
 abbrev pub look_from : Option ℕ → Bool → Option ℕ
@@ -77,12 +126,12 @@ abbrev pub due_after_look : Option ℕ → Bool → ℕ → ℕ → ℕ
 due_after_look (Some from) is_early due_ms next_ms = due_ms
 due_after_look None is_early due_ms next_ms = if is_early then due_ms else next_ms
 
-abbrev pub asked_from : Option ℕ → List SetState → Option ℕ
-asked_from None sets = None
-asked_from (Some from) sets = next_asked from 0 sets
+abbrev pub watched_from : Option ℕ → List SetState → Option ℕ
+watched_from None sets = None
+watched_from (Some from) sets = next_watched from 0 sets
 
 abbrev pub look_of : SetsState → ℕ → Option ℕ
-look_of s moment = asked_from (look_from s.next (nat_lt moment s.due_ms)) s.publishers
+look_of s moment = watched_from (look_from s.next (nat_lt moment s.due_ms)) s.publishers
 
 -- whose desk is looked at at this moment; nobody's if there are no rounds
 abbrev pub look_due : SetsState → ℕ → Option ℕ
@@ -127,7 +176,41 @@ told_last (notified entries ∷ earlier) = entries
 told_last (came_anew ∷ earlier) = []
 told_last (looked_at set ∷ earlier) = told_last earlier
 
+abbrev pub has_notified : List SetHappening → Bool
+has_notified [] = false
+has_notified (asked_for ∷ earlier) = has_notified earlier
+has_notified (notified entries ∷ earlier) = true
+has_notified (came_anew ∷ earlier) = false
+has_notified (looked_at set ∷ earlier) = has_notified earlier
+
+-- the sets that were seen since it came, the latest first
+abbrev pub sets_seen : List SetHappening → List (List TmmbrEntry)
+sets_seen [] = []
+sets_seen (asked_for ∷ earlier) = sets_seen earlier
+sets_seen (notified entries ∷ earlier) = sets_seen earlier
+sets_seen (came_anew ∷ earlier) = []
+sets_seen (looked_at set ∷ earlier) = set ∷ sets_seen earlier
+
+abbrev pub first_set : List (List TmmbrEntry) → List TmmbrEntry
+first_set [] = []
+first_set (set ∷ sets) = set
+
+abbrev pub second_set : List (List TmmbrEntry) → List TmmbrEntry
+second_set [] = []
+second_set (set ∷ sets) = first_set sets
+
 -- The set isn't empty, and what the publisher notified of last doesn't list all of it.
 pub record IsUntold (happenings : List SetHappening) (set : List TmmbrEntry) : Type 0 where
   pub some : set ≢ []
   pub untold : are_told (told_last happenings) set ≡ false
+
+-- The set doesn't name the owner, which isn't the publisher itself. If the publisher notified since it came, its last notification names the
+-- owner; if not, one of the two sets that were seen last since does: so no third look after the owner went finds it.
+pub record IsHeldInVain (happenings : List SetHappening) (set : List TmmbrEntry) (own : Option Ssrc) (owner : Ssrc)
+    : Type 0 where
+  pub other : is_own own owner ≡ false
+  pub gone : names_owner set owner ≡ false
+  pub named : has_notified happenings ≡ true → names_owner (told_last happenings) owner ≡ true
+  pub seen : has_notified happenings ≡ false
+      → (names_owner (first_set (sets_seen happenings)) owner || names_owner (second_set (sets_seen happenings)) owner)
+      ≡ true

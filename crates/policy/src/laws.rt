@@ -22,7 +22,8 @@ ghost use Rattle.policy.specs.JoinedPublishers.{is_due};
 ghost use Rattle.policy.specs.Holding.{HearsAgain};
 ghost use Rattle.policy.specs.Requests.{Happening, HoldsLast};
 ghost use Rattle.policy.specs.RequestGaps.{AreGapsApart, GapHappening, IsHeardInTheEnd, IsNotLost, is_past, last_moment, word_asked_last, words_heard};
-ghost use Rattle.policy.specs.AnnouncedSets.{IsUntold, SetHappening, asks_again, set_after};
+ghost use Rattle.policy.specs.AnnouncedSets.{IsHeldInVain, IsUntold, SetHappening, asks_again, is_lifted_again, set_after};
+ghost use Rattle.tmmbr_tuple.specs.declared.ssrc.Ssrc.{Ssrc};
 ghost use Rattle.policy.specs.declared.again.Again.{Again};
 ghost use Rattle.policy.specs.declared.holding.Holding.{Holding};
 
@@ -100,6 +101,15 @@ pub fn requests_are_a_gap_apart()
 pub fn asks_for_what_was_not_told()
     ensures { (happenings : List SetHappening) (set : List TmmbrEntry)
         → asks_again (set_after happenings) set ≡ true → IsUntold happenings set }
+{}
+
+/// An owner is lifted again only if the set doesn't name it and it isn't the publisher itself; and, of a publisher that notified since it came,
+/// only if its last notification names it, of another one only if one of the last two sets that were seen since does.
+#[tactic(auto, using(crate::proofs::SetLemmas::lifts_the_gone))]
+pub fn lifts_who_is_held_in_vain()
+    ensures { (happenings : List SetHappening) (set : List TmmbrEntry) (own : Option Ssrc) (owner : Ssrc)
+        → is_lifted_again (set_after happenings) set own owner ≡ true
+        → IsHeldInVain happenings set own owner }
 {}
 
 /// While nobody is due, nothing is heard once more.

@@ -32,6 +32,7 @@ mod requests;
 mod resends;
 mod rules;
 mod run;
+mod said;
 mod screen;
 mod sets;
 mod starts;
@@ -48,6 +49,7 @@ pub use rules::Rules;
 pub use run::{
     MAX_AHEAD, MAX_DROPOUT, MAX_LATE_TICKS, MAX_MISORDER, Placement, SequenceTracker, Stamp,
 };
+pub use said::SaidAgain;
 pub use screen::{Judged, Screen};
 pub use sets::AnnouncedSets;
 pub use starts::SequenceTrackers;

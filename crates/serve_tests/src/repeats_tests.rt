@@ -303,32 +303,309 @@ fn heard_after_a_tick_if_requests_age(rt: HostRuntime) -> Result<(), Fail> {
     play(&rt, rt.alloc(), AGING_ROOM, &AGING_CUES)
 }
 
-/// The request of owner 17 for the word of `ASK`, as a set and as what a TMMBN lists (RFC 5104, section 4.2.2.1).
-const SET: [TmmbrEntry; 1] = [TmmbrEntry {
+/// The sources of the endpoints of `ROOM`, by their numbers. Publisher 0 is looked at.
+const SOURCES: &[Ssrc] = &[Ssrc(16), Ssrc(17), Ssrc(18)];
+
+/// Requests for the word of `ASK`, or for another one, as a set and as what a TMMBN lists (RFC 5104, section 4.2.2.1): nobody's;
+const NONE: &[TmmbrEntry] = &[];
+
+/// those of the owners 17,
+const OF_17: &[TmmbrEntry] = &[TmmbrEntry {
     ssrc: Ssrc(17),
     word: 0x0007_d028,
 }];
 
-/// The same owner with another word.
-const OTHER_SET: [TmmbrEntry; 1] = [TmmbrEntry {
+/// 17 with another word,
+const OTHER_OF_17: &[TmmbrEntry] = &[TmmbrEntry {
     ssrc: Ssrc(17),
     word: 0x0007_d029,
 }];
 
-/// A set that was seen before is asked for again until its publisher notifies of it, and after it came anew.
+/// and 17 and 18;
+const OF_17_AND_18: &[TmmbrEntry] = &[
+    TmmbrEntry {
+        ssrc: Ssrc(17),
+        word: 0x0007_d028,
+    },
+    TmmbrEntry {
+        ssrc: Ssrc(18),
+        word: 0x0007_d028,
+    },
+];
+
+/// those of the publisher itself, of somebody who is no endpoint, and of 18.
+const OF_16_99_AND_18: &[TmmbrEntry] = &[
+    TmmbrEntry {
+        ssrc: Ssrc(16),
+        word: 0x0007_d028,
+    },
+    TmmbrEntry {
+        ssrc: Ssrc(99),
+        word: 0x0007_d028,
+    },
+    TmmbrEntry {
+        ssrc: Ssrc(18),
+        word: 0x0007_d028,
+    },
+];
+
+/// What happens to the publisher.
+#[derive(Clone, Copy)]
+enum Deed {
+    /// It comes anew.
+    Comes,
+    /// It notifies of these entries.
+    Tells,
+    /// Its desk is looked at, and these are the entries of its announced set.
+    Look,
+}
+
+struct Glance {
+    deed: Deed,
+    entries: &'static [TmmbrEntry],
+    /// What is said again at a look: `set` for the set, the number of each owner that is lifted, a space after each.
+    says: &'static str,
+}
+
+/// What is said again to a publisher that notifies.
+const TOLD: [Glance; 23] = [
+    // What wasn't there at the last look was sent when it came.
+    Glance {
+        deed: Deed::Look,
+        entries: OF_17,
+        says: "",
+    },
+    Glance {
+        deed: Deed::Look,
+        entries: OF_17,
+        says: "set ",
+    },
+    Glance {
+        deed: Deed::Tells,
+        entries: OTHER_OF_17,
+        says: "",
+    },
+    // Its owner is named, with another word.
+    Glance {
+        deed: Deed::Look,
+        entries: OF_17,
+        says: "set ",
+    },
+    Glance {
+        deed: Deed::Tells,
+        entries: OF_17,
+        says: "",
+    },
+    Glance {
+        deed: Deed::Look,
+        entries: OF_17,
+        says: "",
+    },
+    // Its owner goes, and was lifted just now.
+    Glance {
+        deed: Deed::Look,
+        entries: NONE,
+        says: "",
+    },
+    // It is lifted until it isn't named.
+    Glance {
+        deed: Deed::Look,
+        entries: NONE,
+        says: "17 ",
+    },
+    Glance {
+        deed: Deed::Look,
+        entries: NONE,
+        says: "17 ",
+    },
+    Glance {
+        deed: Deed::Look,
+        entries: NONE,
+        says: "17 ",
+    },
+    Glance {
+        deed: Deed::Tells,
+        entries: NONE,
+        says: "",
+    },
+    Glance {
+        deed: Deed::Look,
+        entries: NONE,
+        says: "",
+    },
+    Glance {
+        deed: Deed::Look,
+        entries: OF_17,
+        says: "",
+    },
+    // Of those that are named and not in the set 16 is itself, and 99 no endpoint.
+    Glance {
+        deed: Deed::Tells,
+        entries: OF_16_99_AND_18,
+        says: "",
+    },
+    Glance {
+        deed: Deed::Look,
+        entries: OF_17,
+        says: "set 18 ",
+    },
+    Glance {
+        deed: Deed::Tells,
+        entries: OF_17_AND_18,
+        says: "",
+    },
+    // All of the set is told.
+    Glance {
+        deed: Deed::Look,
+        entries: OF_17,
+        says: "18 ",
+    },
+    Glance {
+        deed: Deed::Comes,
+        entries: NONE,
+        says: "",
+    },
+    // Of one that came anew nothing is known.
+    Glance {
+        deed: Deed::Look,
+        entries: OF_17,
+        says: "",
+    },
+    Glance {
+        deed: Deed::Look,
+        entries: OF_17,
+        says: "set ",
+    },
+    // It notifies that it keeps to no bound.
+    Glance {
+        deed: Deed::Tells,
+        entries: NONE,
+        says: "",
+    },
+    Glance {
+        deed: Deed::Look,
+        entries: NONE,
+        says: "",
+    },
+    Glance {
+        deed: Deed::Look,
+        entries: NONE,
+        says: "",
+    },
+];
+
+/// What is said again to one that never does.
+const UNTOLD: [Glance; 9] = [
+    Glance {
+        deed: Deed::Look,
+        entries: OF_17_AND_18,
+        says: "",
+    },
+    // An owner goes: it is lifted at two looks.
+    Glance {
+        deed: Deed::Look,
+        entries: OF_17,
+        says: "18 ",
+    },
+    Glance {
+        deed: Deed::Look,
+        entries: OF_17,
+        says: "set 18 ",
+    },
+    Glance {
+        deed: Deed::Look,
+        entries: OF_17,
+        says: "set ",
+    },
+    // The other goes, comes back, and goes again.
+    Glance {
+        deed: Deed::Look,
+        entries: NONE,
+        says: "17 ",
+    },
+    Glance {
+        deed: Deed::Look,
+        entries: OF_17,
+        says: "",
+    },
+    Glance {
+        deed: Deed::Look,
+        entries: NONE,
+        says: "17 ",
+    },
+    Glance {
+        deed: Deed::Look,
+        entries: NONE,
+        says: "17 ",
+    },
+    Glance {
+        deed: Deed::Look,
+        entries: NONE,
+        says: "",
+    },
+];
+
+/// What is said again to publisher 0 at a look at a set.
+fn said(alloc: Global, sets: &mut AnnouncedSets, set: &[TmmbrEntry]) -> Result<String, Fail> {
+    let said = sets.look(alloc, 0, set, SOURCES)?;
+    let mut text = String::new(alloc);
+    if said.asks() {
+        text.push_str("set ")?;
+    }
+    for owner in said.lifted() {
+        write!(text, "{} ", owner.0)?;
+    }
+    Ok(text)
+}
+
+fn glance(
+    rt: &impl Abort,
+    alloc: Global,
+    sets: &mut AnnouncedSets,
+    step: &Glance,
+) -> Result<(), Fail> {
+    match step.deed {
+        Deed::Comes => sets.forget(0),
+        Deed::Tells => sets.tell(0, step.entries)?,
+        Deed::Look => {
+            let text = said(alloc, sets, step.entries)?;
+            is_text(rt, Ok(text), step.says)?;
+        }
+    }
+    Ok(())
+}
+
+fn watch(rt: &impl Abort, alloc: Global, glances: &[Glance]) -> Result<(), Fail> {
+    let mut sets = AnnouncedSets::new(alloc, 3, 100)?;
+    for step in glances {
+        glance(rt, alloc, &mut sets, step)?;
+    }
+    Ok(())
+}
+
+/// A set that was seen before is asked for again until its publisher notifies of it, and an owner that it named and the set hasn't is lifted until
+/// it doesn't.
 #[test]
 fn asks_until_it_is_told(rt: HostRuntime) -> Result<(), Fail> {
+    watch(&rt, rt.alloc(), &TOLD)
+}
+
+/// Of a publisher that never notifies, who is gone is lifted at the two looks that come next.
+#[test]
+fn lifts_twice_more_without_a_notification(rt: HostRuntime) -> Result<(), Fail> {
+    watch(&rt, rt.alloc(), &UNTOLD)
+}
+
+/// Who was asked for a rate, or notified, is looked at in each round.
+#[test]
+fn looks_at_who_was_asked_or_notified(rt: HostRuntime) -> Result<(), Fail> {
     let mut sets = AnnouncedSets::new(rt.alloc(), 3, 100)?;
-    same(&rt, &sets.look(1, &SET)?, &false);
-    same(&rt, &sets.look(1, &SET)?, &true);
-    sets.tell(1, &OTHER_SET)?;
-    same(&rt, &sets.look(1, &SET)?, &true);
-    sets.tell(1, &SET)?;
-    same(&rt, &sets.look(1, &SET)?, &false);
-    same(&rt, &sets.look(1, &[])?, &false);
-    same(&rt, &sets.look(1, &[])?, &false);
-    sets.forget(1);
-    same(&rt, &sets.look(1, &SET)?, &false);
-    same(&rt, &sets.look(1, &SET)?, &true);
+    same(&rt, &sets.look_due(0), &None);
+    sets.tell(0, NONE)?;
+    sets.ask(2);
+    same(&rt, &sets.look_due(99), &None);
+    same(&rt, &sets.look_due(100), &Some(0));
+    same(&rt, &sets.look_due(100), &Some(2));
+    same(&rt, &sets.look_due(100), &None);
     Ok(())
 }

@@ -1,7 +1,7 @@
 //! The unit on UDP sockets (`sfu serve`).
 //!
 //! Read `serve` first: the sockets are bound, the unit runs, and what it came to is printed. `running` is the run itself, in one thread or
-//! with a thread for each worker, `ends` what it stands between, `repeated` what publishers are asked for again; `report_text` is what is
+//! with a thread for each worker, `ends` what it stands between, `repeated` what is said to publishers again; `report_text` is what is
 //! printed of it.
 #![tactic(auto)]
 

@@ -1,23 +1,27 @@
-//! What is asked of publishers again, while a unit is served.
+//! What is said to publishers again, while a unit is served.
 
-ghost use Rattle.std.specs.Prelude.{◌≡◌, [], OnOk, slice_get};
+ghost use Rattle.std.specs.Prelude.{◌≡◌, ◌≤◌, [], OnOk, length};
 ghost use Rattle.announcement.specs.Entries.{entries_of};
 ghost use Rattle.bounding_set.specs.State.{announced_of};
-ghost use Rattle.policy.specs.AnnouncedSets.{asks_of, set_seen, with_set};
-ghost use Rattle.serving.specs.Repeated.{AsksForAll, AsksIf};
+ghost use Rattle.rate_cert.specs.declared.certificate.TheConstants.{MAX_REQUESTS as REQUESTS};
+ghost use Rattle.policy.specs.AnnouncedSets.{set_seen, with_set};
+ghost use Rattle.serving.specs.Repeated.{SaysAgain, SaysWhatIsDue, asked_again};
 
 use announcement::entries_of;
+use arrayvec::ArrayVec;
 use desk::{Desk, Effect};
 use desk_calls::{Head, Notification, notify};
 use events::Out;
-use policy::AnnouncedSets;
+use policy::{AnnouncedSets, SaidAgain};
 use ports::{Look, Sink, Status, Watch};
+use rate_cert::{MAX_REQUESTS, Request};
 use settings::{Links, Settings};
 use std::alloc::{AllocError, Global};
 use std::cell::{Cell, RefCell};
+use tmmbr_tuple::Ssrc;
 use udp::SocketSink;
 
-/// A watch that looks at desks for itself while nobody else looks, and asks publishers again for what they didn't notify of.
+/// A watch that looks at desks for itself while nobody else looks, and says again to publishers what they may not know.
 #[derive(Drop)]
 pub(crate) struct RepeatingWatch<'a, W: Drop> {
     watch: W,
@@ -29,7 +33,7 @@ pub(crate) struct RepeatingWatch<'a, W: Drop> {
     is_own: Cell<bool>,
 }
 
-/// What is wanted to ask a publisher again.
+/// What is wanted to say something to a publisher again.
 #[derive(Drop)]
 struct Repeater<'a> {
     alloc: Global,
@@ -74,25 +78,25 @@ impl<'a, W: Watch + Drop> RepeatingWatch<'a, W> {
         u16::try_from(publisher).ok()
     }
 
-    /// Asks the publisher for the members of its announced set again, if that is due. If memory is wanting it isn't asked this time.
-    fn ask_again(&mut self, publisher: u16, desk: &Desk) -> Result<(), AllocError> {
+    /// Says to the publisher again what is due. If memory is wanting it is told nothing this time.
+    fn say_again(&mut self, publisher: u16, desk: &Desk) -> Result<(), AllocError> {
         let Ok(mut sets) = self.sets.try_borrow_mut() else {
             return Ok(());
         };
-        self.repeater.ask_again(&mut sets, publisher, desk)
+        self.repeater.say_again(&mut sets, publisher, desk)
     }
 }
 
 impl Repeater<'_> {
-    /// Sends the publisher a TMMBR for each member of what is announced to it, if it is to be asked again.
-    fn ask_again(
+    /// Sends the publisher what is said again at a look at its desk.
+    fn say_again(
         &mut self,
         sets: &mut AnnouncedSets,
         publisher: u16,
         desk: &Desk,
     ) -> Result<(), AllocError> {
         self.outs.clear();
-        ask_again(
+        look_again(
             self.alloc,
             &self.links,
             &self.head,
@@ -111,9 +115,11 @@ impl Repeater<'_> {
     }
 }
 
-/// Appends what a publisher is sent if its announced set is asked for again: if that isn't empty, was seen at the last look, and what the publisher
-/// notified of last doesn't list all of it; else nothing. From now on the set is the one that was seen last.
-fn ask_again(
+/// Appends what is said to a publisher again at a look at its desk, as `AnnouncedSets::look` has it: a TMMBR without limit of each owner that is lifted
+/// again, and one for each member of the announced set, if that is asked for again, in one datagram; nothing if there are none. From now on
+/// the set is the one that was seen last.
+#[tactic(auto, using(crate::proofs::RepeatLemmas::few_lifted))]
+fn look_again(
     alloc: Global,
     links: &Links,
     head: &Head,
@@ -124,39 +130,62 @@ fn ask_again(
 ) -> Result<(), AllocError>
     ensures seen { OnOk result (sets.new
         ≡ with_set sets.old publisher (set_seen (entries_of (announced_of desk.now.bounds)))) }
-    ensures asks { OnOk result (AsksIf (asks_of (slice_get sets.old.publishers publisher)
-        (entries_of (announced_of desk.now.bounds))) links.now head.now publisher
+    ensures says { OnOk result (SaysWhatIsDue sets.old links.now head.now publisher
         (announced_of desk.now.bounds) outs.old.items outs.new.items) }
 {
     let set = desk.announced();
     let entries = entries_of(alloc, set.as_slice())?;
-    if !sets.look(publisher, entries.as_slice())? {
-        return Ok(());
-    }
-    ask_for_all(alloc, links, head, publisher, desk, outs)
+    let said = sets.look(alloc, publisher, entries.as_slice(), links.endpoints())?;
+    say_again(alloc, links, head, publisher, desk, &said, outs)?;
+    Ok(())
 }
 
-/// Appends what a publisher is sent if its whole announced set is fresh, and nobody asked.
-fn ask_for_all(
+/// Appends what a publisher is sent if nobody asked, these owners are lifted, and its whole announced set is fresh, or nothing of it.
+fn say_again(
     alloc: Global,
     links: &Links,
     head: &Head,
     publisher: u16,
     desk: &Desk,
+    said: &SaidAgain,
     outs: &mut Vec<Out>,
 ) -> Result<(), AllocError>
-    ensures { OnOk result (AsksForAll links.now head.now publisher (announced_of desk.now.bounds)
-        outs.old.items outs.new.items) }
+    requires { length said.now.lifted ≤ REQUESTS }
+    ensures { OnOk result (SaysAgain links.now head.now publisher (announced_of desk.now.bounds)
+        said.now outs.old.items outs.new.items) }
 {
     let mut effect = Effect::new();
     effect.set = desk.announced();
-    effect.fresh = desk.announced();
+    effect.lifted = owners(said.lifted());
+    effect.fresh = asked_again(said.asks(), desk);
     let notification = Notification {
         publisher,
         asked_by: None,
         pli: false,
     };
     notify(alloc, links, head, &[], &notification, &effect, outs)
+}
+
+/// These owners.
+fn owners(lifted: &[Ssrc]) -> ArrayVec<Ssrc, MAX_REQUESTS>
+    requires { length lifted.now ≤ REQUESTS }
+    ensures { result.items ≡ lifted.now }
+{
+    let mut list = ArrayVec::new();
+    for owner in lifted {
+        list.push(*owner);
+    }
+    list
+}
+
+/// The whole announced set if it is asked for again, else nothing of it.
+fn asked_again(asks: bool, desk: &Desk) -> ArrayVec<Request, MAX_REQUESTS>
+    ensures { result.items ≡ asked_again asks (announced_of desk.now.bounds) }
+{
+    if asks {
+        return desk.announced();
+    }
+    ArrayVec::new()
 }
 
 impl<W: Watch + Drop> Watch for RepeatingWatch<'_, W> {
@@ -193,7 +222,7 @@ impl<W: Watch + Drop> Watch for RepeatingWatch<'_, W> {
 
     fn show_desk(&mut self, publisher: u16, desk: &Desk) {
         if self.is_own.get() {
-            let _ = self.ask_again(publisher, desk);
+            let _ = self.say_again(publisher, desk);
         } else {
             self.watch.show_desk(publisher, desk);
         }
