@@ -1,9 +1,9 @@
 #!/usr/bin/env python3
-"""How long who asks in order waits beside a flood of connections, and beside peers that hold all places.
+"""How long who asks in order waits beside a flood of connections, beside peers that hold all places, and without descriptors.
 
     flood.py COMMAND..
 
-COMMAND starts the program, as `crates/sfu_main/out/sfu_main` or `./sfu --unproved`. Each part has one unit, which is asked for its counts as
+COMMAND starts the program, as `crates/sfu_main/out/sfu_main` or `./sfu --unproved` (of which the last part is left out, since another process starts it). Each part has one unit, which is asked for its counts as
 `sfu ask` does it, by one connection and one line, 0.1 s after the last answer. Who is told that it is full asks again 0.1 s later, and its
 time goes on. A line says how many were answered, the longest time that one took, and how often one was told that it is full:
 
@@ -11,18 +11,22 @@ time goes on. A line says how many were answered, the longest time that one took
 - while 4,000 connections come and go in three seconds: each is closed as soon as it is there;
 - the same, each with half a line, and each that stays for 50 ms;
 - while eight peers that say two bytes, an `x` and the end of a line, each 8 s are there;
-- the same, who come back as soon as they are let go.
+- the same, who come back as soon as they are let go;
+- while the unit is given no more descriptors (`ulimit -n 3`), for 4 s, and after that: how often it said so, too.
 
-The status is 1 if an answer took longer than the 5 s after which `sfu ask` gives up. By hand: nothing of it is proved.
+The status is 1 if an answer took longer than the 5 s after which `sfu ask` gives up, or if the unit didn't say that it has no descriptors, or
+more than once in a second. By hand: nothing of it is proved.
 """
 
 import heapq
+import resource
 import socket
 import subprocess
 import sys
 import tempfile
 import threading
 import time
+from collections import namedtuple
 
 SETTINGS = """workers = 1
 ring = 8
@@ -49,6 +53,11 @@ ASK_EACH, GIVES_UP, PATIENCE = 0.1, 5, 60
 PEERS, SAY_EACH = 8, 8
 # After a flood the unit is asked so many seconds more, and beside peers so many.
 AFTER, BESIDE = 3, 20
+# For so many seconds the unit may have no more descriptors than its three streams, and it says so.
+SHORT, STREAMS, SHORTAGE = 4, 3, "control: no descriptors\n"
+
+# A unit: its control's socket, its process, and the lines of its error output so far.
+Unit = namedtuple("Unit", "path pid said")
 
 
 def connected(path):
@@ -181,6 +190,21 @@ def beside_peers(path, comes_back):
     return is_late
 
 
+def without_descriptors(unit):
+    """The unit keeps what it has open, and is given nothing more for a while."""
+    few, most = resource.prlimit(unit.pid, resource.RLIMIT_NOFILE)
+    asking = Asking(unit.path)
+    time.sleep(1)
+    resource.prlimit(unit.pid, resource.RLIMIT_NOFILE, (STREAMS, most))
+    time.sleep(SHORT)
+    lines = unit.said.count(SHORTAGE)
+    resource.prlimit(unit.pid, resource.RLIMIT_NOFILE, (few, most))
+    time.sleep(AFTER)
+    is_late = asking.end(f"without descriptors for {SHORT} s")
+    print(f"it said so {lines} times then, and {unit.said.count(SHORTAGE) - lines} times after that")
+    return is_late or not 1 <= lines <= SHORT + 1
+
+
 def unit_of(command, room, part):
     """Runs one part beside a unit of its own."""
     file, path = f"{room}/room.toml", f"{room}/control"
@@ -193,8 +217,9 @@ def unit_of(command, room, part):
                 break
         else:
             sys.exit("the unit doesn't serve")
-        threading.Thread(target=unit.stderr.read, daemon=True).start()
-        return part(path)
+        said = []
+        threading.Thread(target=lambda: said.extend(unit.stderr), daemon=True).start()
+        return part(Unit(path, unit.pid, said))
     finally:
         unit.terminate()
         unit.wait()
@@ -202,13 +227,15 @@ def unit_of(command, room, part):
 
 def main(*command):
     parts = [
-        alone,
-        lambda path: beside_flood(path, "closed at once", b"", 0),
-        lambda path: beside_flood(path, "with half a line", b"sel", 0),
-        lambda path: beside_flood(path, "that stay for 50 ms", b"", 0.05),
-        lambda path: beside_peers(path, False),
-        lambda path: beside_peers(path, True),
+        lambda unit: alone(unit.path),
+        lambda unit: beside_flood(unit.path, "closed at once", b"", 0),
+        lambda unit: beside_flood(unit.path, "with half a line", b"sel", 0),
+        lambda unit: beside_flood(unit.path, "that stay for 50 ms", b"", 0.05),
+        lambda unit: beside_peers(unit.path, False),
+        lambda unit: beside_peers(unit.path, True),
     ]
+    if len(command) == 1:
+        parts.append(without_descriptors)
     is_late = False
     for part in parts:
         with tempfile.TemporaryDirectory() as room:

@@ -5,3 +5,4 @@ pub mod Places
 pub mod Courses
 pub mod Asking
 pub mod Screened
+pub mod Shortages

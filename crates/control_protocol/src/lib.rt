@@ -2,7 +2,8 @@
 //!
 //! There is neither a socket nor a thread here. Read `request` first, what can be asked for; then `answer`, the texts of answers,
 //! `course`, what a request leads to, `inbox`, how lines come out of the bytes of a peer, `peers`, who is
-//! looked at next, and `places`, who makes room for another. `ask` is the other end, which takes an answer apart.
+//! looked at next, `places`, who makes room for another, and `shortage`, when the control says that nobody can be taken in. `ask` is the other
+//! end, which takes an answer apart.
 #![tactic(auto)]
 
 mod answer;
@@ -13,6 +14,7 @@ mod peers;
 mod places;
 mod request;
 mod screened;
+mod shortage;
 
 pub use answer::{
     Refused, Unheard, counts_text, done_text, present_line, refused_text, stranger_line,
@@ -24,3 +26,4 @@ pub use peers::Peers;
 pub use places::{MAX_PEERS, Place, ROOM_AFTER_MS, TAKEN_IN, place_among};
 pub use request::{Request, read_request};
 pub use screened::{Screened, screened_text};
+pub use shortage::{SHORTAGE_EACH_MS, says_shortage, shortage_text};

@@ -33,6 +33,8 @@ pub struct Gauges {
     pub moment_ms: Cell<u64>,
     /// Whether lines of counts begin with the time.
     pub log_time: Cell<bool>,
+    /// Whether it is to be said that no descriptor is left for who connects to the control.
+    shortage: Cell<bool>,
     /// One more than what the system dropped at the sockets, and 0 while that isn't known; nothing if nobody looks.
     unread: RefCell<Option<Arc<AtomicU64, Global>>>,
     /// Who steers the run, if anybody may.
@@ -58,6 +60,7 @@ impl Gauges {
             stalled: Cell::new(0),
             moment_ms: Cell::new(0),
             log_time: Cell::new(false),
+            shortage: Cell::new(false),
             unread: RefCell::new(None),
             steering: None,
             recorder: None,
@@ -142,7 +145,7 @@ impl Gauges {
     }
 
     /// What peers want of the unit by now: that a leg is switched, or that it stops; nothing, if nobody may steer it. What they want of its
-    /// record is done here.
+    /// record is done here, and it is noted if the control has no descriptor left for them.
     pub fn wished(&self) -> Received
         ensures { self.now.steering ≡ None → result ≡ Nothing }
     {
@@ -162,8 +165,21 @@ impl Gauges {
                     recorder.end();
                 }
             }
+            Wish::SayShortage => self.shortage.set(true),
         }
         Received::Nothing
+    }
+
+    /// Whether it is to be said that no descriptor is left for who connects to the control.
+    pub(crate) fn has_shortage(&self) -> bool {
+        self.shortage.get()
+    }
+
+    /// The same; from now on it isn't, until that is so again.
+    pub(crate) fn take_shortage(&self) -> bool {
+        let is_short = self.shortage.get();
+        self.shortage.set(false);
+        is_short
     }
 
     /// Whether somebody waits for the totals.

@@ -1,9 +1,9 @@
-//! The lines of counts that `sfu serve --status` writes while the unit runs.
+//! The lines that `sfu serve` writes while the unit runs: those of counts, and what its control says.
 
 ghost use Rattle.std.specs.Prelude.{◌≡◌};
 
 use crate::gauges::Gauges;
-use control_protocol::Screened;
+use control_protocol::{Screened, shortage_text};
 use ports::{Status, Watch};
 use recording::end_name;
 use std::alloc::{AllocError, Global};
@@ -52,10 +52,26 @@ impl<'a, E: Write> StatusLines<'a, E> {
         ensures { (self.new.every_ms ≡ self.old.every_ms) × (self.new.due_ms ≡ self.old.due_ms) }
     {
         let line = self.line_of(status)?;
-        if self.errors.write_all(line.as_bytes()).is_err() {
+        self.put(line.as_bytes());
+        Ok(())
+    }
+
+    /// Writes this line. If it can't be written it is left out, and counted.
+    fn put(&mut self, line: &[u8])
+        ensures { (self.new.every_ms ≡ self.old.every_ms) × (self.new.due_ms ≡ self.old.due_ms) }
+    {
+        if self.errors.write_all(line).is_err() {
             self.unsaid = self.unsaid.saturating_add(1);
         }
-        Ok(())
+    }
+
+    /// Says that no descriptor is left for who connects to the control, if that is to be said.
+    fn say_shortage(&mut self)
+        ensures { (self.new.every_ms ≡ self.old.every_ms) × (self.new.due_ms ≡ self.old.due_ms) }
+    {
+        if self.gauges.take_shortage() {
+            self.put(shortage_text().as_bytes());
+        }
     }
 
     /// The line of these counts.
@@ -155,5 +171,52 @@ impl<E: Write> Watch for StatusLines<'_, E> {
     {
         self.due_ms = moment.saturating_add(self.every_ms);
         let _ = self.write_line(status);
+    }
+}
+
+/// Lines of counts, and beside them what the control of the unit says.
+#[derive(Drop)]
+pub struct ControlLines<'a, E: Write> {
+    counts: StatusLines<'a, E>,
+}
+
+impl<'a, E: Write> ControlLines<'a, E> {
+    ghost use Rattle.std.specs.Prelude.{◌≡◌};
+
+    /// Lines of counts that are written each `every_ms` milliseconds, and those of a control whenever it has something to say.
+    pub fn new(
+        alloc: Global,
+        errors: &'a mut E,
+        every_ms: u64,
+        gauges: &'a Gauges,
+    ) -> ControlLines<'a, E>
+        ensures { (result.counts.every_ms ≡ every_ms) × (result.counts.due_ms ≡ every_ms) }
+    {
+        ControlLines {
+            counts: StatusLines::new(alloc, errors, every_ms, gauges),
+        }
+    }
+}
+
+impl<E: Write> Watch for ControlLines<'_, E> {
+    ghost use Rattle.std.specs.Prelude.{◌≡◌, ◌≤◌, ◌<◌, ◌+◌, ◌-◌, ◌^◌, IsTrue, min};
+
+    fn is_due(&self, moment: u64) -> bool
+        ensures { self.now.counts.due_ms ≤ moment → IsTrue result }
+    {
+        self.counts.is_due(moment) || self.counts.gauges.has_shortage()
+    }
+
+    fn show(&mut self, moment: u64, status: &Status)
+        ensures due { self.old.counts.due_ms ≤ moment
+            → self.new.counts.due_ms ≡ min (moment + self.old.counts.every_ms) (2 ^ 64 - 1) }
+        ensures early { moment < self.old.counts.due_ms
+            → self.new.counts.due_ms ≡ self.old.counts.due_ms }
+        ensures every { self.new.counts.every_ms ≡ self.old.counts.every_ms }
+    {
+        self.counts.say_shortage();
+        if self.counts.is_due(moment) {
+            self.counts.show(moment, status);
+        }
     }
 }

@@ -4,11 +4,11 @@ ghost use Rattle.std.specs.Prelude.{◌≡◌, None, IfOk, length, map, replicat
 
 use addresses::Strangers;
 use control_protocol::{
-    Course, Peers, Refused, Screened, TAKEN_IN, Unheard, counts_text, course_for, done_text,
-    present_line, refused_text, screened_text, stranger_line,
+    Course, Peers, Refused, SHORTAGE_EACH_MS, Screened, TAKEN_IN, Unheard, counts_text, course_for,
+    done_text, present_line, refused_text, says_shortage, screened_text, stranger_line,
 };
 use desk::Desk;
-use ports::{Look, Received, Status};
+use ports::{Look, Received, Status, Ticks};
 use recording::Switched;
 use request_text::desk_text;
 use stats::{
@@ -42,6 +42,8 @@ pub struct Steering {
     endpoints: Vec<Listed>,
     /// The moment from which on peers are looked at next.
     due_ms: u64,
+    /// When it was said last that no descriptor is left for who connects.
+    said: Ticks,
     /// What was asked and isn't answered yet.
     asked: Asked,
     /// The lines of the answer so far; none once memory was wanting.
@@ -63,6 +65,8 @@ pub(crate) enum Wish {
     Record(UnixStream),
     /// The record is to end.
     EndRecord,
+    /// It is to be said that no descriptor is left for who connects.
+    SayShortage,
 }
 
 /// What a peer waits for.
@@ -81,6 +85,8 @@ enum Asked {
 
 impl Steering {
     ghost use Rattle.std.specs.Prelude.{◌≡◌, None, IfOk, length, map, replicate};
+    ghost use Rattle.ports.specs.Ticks.{new_ticks};
+    ghost use Rattle.control_protocol.specs.declared.shortage.TheConstants.{SHORTAGE_EACH_MS};
     ghost use Rattle.operations.specs.declared.steering.Asked.TheVariants.{Nothing};
 
     /// Steers a unit with these legs and these endpoints, by those who come to the listener.
@@ -95,6 +101,7 @@ impl Steering {
         ensures began { IfOk result (λ s. s.began_on.items ≡ map (λ line. line.on) legs.items) }
         ensures idle { IfOk result
             (λ s. (s.due_ms ≡ 0) × (s.asked ≡ Nothing) × (s.lines ≡ None)) }
+        ensures unsaid { IfOk result (λ s. s.said ≡ new_ticks SHORTAGE_EACH_MS) }
         ensures flooded { IfOk result
             (λ s. s.flooded.items ≡ replicate (length endpoints.items) 0) }
     {
@@ -108,6 +115,7 @@ impl Steering {
             began_on,
             endpoints,
             due_ms: 0,
+            said: Ticks::new(SHORTAGE_EACH_MS),
             asked: Asked::Nothing,
             lines: None,
             present: Vec::new(alloc),
@@ -122,7 +130,9 @@ impl Steering {
             return Wish::Unit(Received::Nothing);
         }
         self.due_ms = moment.saturating_add(LOOK_MS);
-        self.admit(moment);
+        if self.admit(moment) {
+            return Wish::SayShortage;
+        }
         let Some(request) = self.peers.next_request(moment) else {
             return Wish::Unit(Received::Nothing);
         };
@@ -169,16 +179,23 @@ impl Steering {
         switched
     }
 
-    /// Those who came are peers from now on, if they find a place; so many in one look.
-    fn admit(&mut self, moment: u64) {
+    /// Those who came are peers from now on, if they find a place; so many in one look. Whether it is to be said that no descriptor is left
+    /// for who comes.
+    fn admit(&mut self, moment: u64) -> bool {
         for _comer in 0..TAKEN_IN {
-            let Ok((stream, _)) = self.listener.accept() else {
-                return;
-            };
-            if stream.set_nonblocking(true).is_ok() {
-                self.peers.let_go(moment);
-                self.peers.admit(stream, moment);
+            match self.listener.accept() {
+                Ok((stream, _)) => self.take_in(stream, moment),
+                Err(error) => return says_shortage(error.raw_os_error(), &mut self.said, moment),
             }
+        }
+        false
+    }
+
+    /// Who came is a peer from now on, if it finds a place.
+    fn take_in(&mut self, stream: UnixStream, moment: u64) {
+        if stream.set_nonblocking(true).is_ok() {
+            self.peers.let_go(moment);
+            self.peers.admit(stream, moment);
         }
     }
 

@@ -1,5 +1,5 @@
 -- What `sfu serve` says, and what it leaves if it isn't done.
-use Rattle.std.specs.Prelude.{◌≡◌, ◌≢◌, ◌⊎◌, ◌++◌, ◌-◌, ◌^◌, ℕ, List, [], Option, Some, None, codes}
+use Rattle.std.specs.Prelude.{◌≡◌, ◌≢◌, ◌⊎◌, ◌++◌, ◌*◌, ◌-◌, ◌^◌, ℕ, Bool, true, false, List, [], Option, Some, None, codes}
 use Rattle.std.specs.Io.KnownBytes.{Keeps, append_known}
 use Rattle.std.specs.Net.Text.{socket_text}
 use Rattle.std.specs.declared.net.socket_addr.SocketAddr.{SocketAddr}
@@ -40,6 +40,13 @@ FailsServe old new fault = fault ≡ Socket → Keeps old new
 abbrev pub turns_by : Option ℕ → ℕ
 turns_by None = 2 ^ 64 - 1
 turns_by (Some count) = count
+
+-- How far apart lines of counts are, in milliseconds, if anything is written while a unit runs: as good as none are where it is steered and no
+-- line of counts is wanted, since its control may say something. Else nothing is.
+abbrev pub said_each : Option ℕ → Bool → Option ℕ
+said_each (Some seconds) is_steered = Some (seconds * 1000)
+said_each None true = Some (2 ^ 64 - 1)
+said_each None false = None
 
 -- How a unit that was to be served ends: the report of so many turns at this pace is printed; or its socket or its threads failed, and nothing
 -- is; or memory is wanting, or a write failed.

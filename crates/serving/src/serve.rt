@@ -5,14 +5,14 @@ ghost use Rattle.std.specs.Io.KnownBytes.{Appends};
 ghost use Rattle.addresses.specs.Clients.{client_at};
 ghost use Rattle.serving.specs.ReportText.{PrintsReport, report_text};
 ghost use Rattle.cli.specs.Endings.{SaysWhy};
-ghost use Rattle.serving.specs.Serving.{EndsServe, FailsServe, FailsToStart, SaysFault, SaysWhyServing, serving_line, turns_by};
+ghost use Rattle.serving.specs.Serving.{EndsServe, FailsServe, FailsToStart, SaysFault, SaysWhyServing, said_each, serving_line, turns_by};
 
 use crate::report_text::report_text;
 use crate::running::run_on;
 use crate::serve_fault::ServeFault;
 use addresses::{Client, ServedSettings};
 use cli::{Status, say, say_no_memory, unsaid};
-use operations::{ErrorOutput, Gauges, Lines, StatusLines, TimedLines};
+use operations::{ControlLines, ErrorOutput, Gauges, Lines, TimedLines};
 use policy::Rules;
 use settings::Settings;
 use std::alloc::{AllocError, Global};
@@ -85,8 +85,8 @@ impl Bound {
     }
 }
 
-/// Binds the sockets that the settings name, says so on the error output, and serves the endpoints. Lines of counts go to the runtime's
-/// error output by a thread of their own, so that nobody waits for who reads them.
+/// Binds the sockets that the settings name, says so on the error output, and serves the endpoints. Lines of counts, and of the control, go to the
+/// runtime's error output by a thread of their own, so that nobody waits for who reads them.
 pub fn serve_file<
     R: AllocGlobal + ErrorOutput + Files<File = File> + Net + Threads + Wait + Sync + time::Clock,
     O: Write,
@@ -189,7 +189,7 @@ fn serve_bound<
     status
 }
 
-/// Serves them with lines of counts, if there are to be any.
+/// Serves them with lines of counts and of the control, if there are to be any.
 fn serve_lined<
     R: AllocGlobal + ErrorOutput + Net + Threads + Wait + Sync + time::Clock,
     O: Write,
@@ -218,16 +218,17 @@ fn serve_lined<
         turns: term.turns(),
         tick_ms: file.tick_ms,
     };
-    match term.status {
-        Some(seconds) => match Lines::new(rt) {
+    let each_ms = said_each(term.status, gauges.is_steered());
+    match each_ms {
+        Some(every_ms) => match Lines::new(rt) {
             Ok(mut lines) => {
                 let mut timed = TimedLines {
                     rt,
                     is_timed: gauges.log_time.get(),
                     lines: &mut lines,
                 };
-                let served = serve_watched(
-                    rt, sockets, settings, clients, *rules, pace, seconds, gauges, writer,
+                let served = serve_told(
+                    rt, sockets, settings, clients, *rules, pace, every_ms, gauges, writer,
                     &mut timed,
                 );
                 lines.finish(rt);
@@ -239,6 +240,18 @@ fn serve_lined<
             let served = serve_on(rt, sockets, settings, clients, *rules, pace, gauges, writer);
             ended(served, errors)
         }
+    }
+}
+
+/// How many milliseconds lie between two lines of counts, if anything is to be written while the unit runs. A unit that is steered without
+/// `--status` may have lines of its control, and none of counts.
+fn said_each(status: Option<u32>, is_steered: bool) -> Option<u64>
+    ensures { result ≡ said_each status is_steered }
+{
+    match status {
+        Some(seconds) => Some(u64::from(seconds) * 1000),
+        None if is_steered => Some(u64::MAX),
+        None => None,
     }
 }
 
@@ -333,7 +346,7 @@ pub fn serve_on<R: AllocGlobal + Threads + Wait + Sync + time::Clock, O: Write>(
     print_report(rt.alloc(), settings, &report, writer)
 }
 
-/// `serve_on`, with a line of counts on the error output each so many seconds.
+/// `serve_on`, with a line of counts on the error output each so many seconds, and with those of the control.
 pub fn serve_watched<R: AllocGlobal + Threads + Wait + Sync + time::Clock, O: Write, E: Write>(
     rt: &R,
     sockets: Sockets<'_>,
@@ -350,7 +363,30 @@ pub fn serve_watched<R: AllocGlobal + Threads + Wait + Sync + time::Clock, O: Wr
         (O.contents writer.old) (O.contents writer.new)) }
     ensures refused { IfErr result (FailsServe (O.contents writer.old) (O.contents writer.new)) }
 {
-    let lines = StatusLines::new(rt.alloc(), errors, u64::from(seconds) * 1000, gauges);
+    let every_ms = u64::from(seconds) * 1000;
+    serve_told(
+        rt, sockets, settings, clients, rules, pace, every_ms, gauges, writer, errors,
+    )
+}
+
+/// The same with so many milliseconds between two lines of counts.
+fn serve_told<R: AllocGlobal + Threads + Wait + Sync + time::Clock, O: Write, E: Write>(
+    rt: &R,
+    sockets: Sockets<'_>,
+    settings: &Settings,
+    clients: &[Client],
+    rules: Rules,
+    pace: Pace,
+    every_ms: u64,
+    gauges: &Gauges,
+    writer: &mut O,
+    errors: &mut E,
+) -> Result<(), ServeFault>
+    ensures done { OnOk result (PrintsReport settings.now pace.tick_ms pace.turns
+        (O.contents writer.old) (O.contents writer.new)) }
+    ensures refused { IfErr result (FailsServe (O.contents writer.old) (O.contents writer.new)) }
+{
+    let lines = ControlLines::new(rt.alloc(), errors, every_ms, gauges);
     let report = run_on(rt, sockets, settings, clients, rules, pace, gauges, lines)?;
     print_report(rt.alloc(), settings, &report, writer)
 }

@@ -3,8 +3,8 @@ use Rattle.serving.proofs.serve.serve_lined.Goals as goal
 
 pub returns-in-Ok-clause-ends : goal.returns-in-Ok-clause-ends
 returns-in-Ok-clause-ends g c =
-    ends_so _ _ _ _ _ _ _ _ c.serve_watched-served.result c.ended.result c.turns.ensures c.serve_watched-served.ensures.done
-    c.serve_watched-served.ensures.refused c.ended.ensures.ends
+    ends_so _ _ _ _ _ _ _ _ c.serve_told-served.result c.ended.result c.turns.ensures c.serve_told-served.ensures.done
+    c.serve_told-served.ensures.refused c.ended.ensures.ends
 
 pub returns-in-None-clause-ends : goal.returns-in-None-clause-ends
 returns-in-None-clause-ends g c =

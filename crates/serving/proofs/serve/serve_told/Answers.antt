@@ -1,5 +1,5 @@
 use Rattle.serving.proofs.ServeLemmas.{prints}
-use Rattle.serving.proofs.serve.serve_watched.Goals as goal
+use Rattle.serving.proofs.serve.serve_told.Goals as goal
 
 pub returns-clause-done : goal.returns-clause-done
 returns-clause-done g c =
