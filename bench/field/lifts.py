@@ -159,8 +159,8 @@ class Field:
     def announced(self):
         """The set that is announced for the publisher, as the unit says it."""
         words = [self.program, "ask", self.control, "show", "0"]
-        line = subprocess.run(words, capture_output=True, text=True).stdout.splitlines()[0]
-        return dict(entries(bytes.fromhex(line)[4:]))
+        digits = subprocess.run(words, capture_output=True, text=True).stdout.split()[0]
+        return dict(entries(bytes.fromhex(digits)[4:]))
 
 
 def is_close(moments, first, count):
