@@ -6,6 +6,7 @@ use Rattle.entrance.specs.declared.entrance.Came.{Came}
 use Rattle.entrance.specs.declared.entrance.Admitted.TheVariants.{Nothing, Taking, Select, Stop}
 use Rattle.members.specs.declared.view.RoomView.{RoomView}
 use Rattle.ports.specs.declared.source.ReceiveFault.{ReceiveFault}
+use Rattle.entrance.specs.Entrance.{IfTaken}
 use Rattle.udp.specs.declared.hearing.Anew.{Anew}
 use Rattle.udp.specs.declared.hearing.Hearing.{Hearing}
 use Rattle.udp.specs.declared.hearing.Rest.{Rest}
