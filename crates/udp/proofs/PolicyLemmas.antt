@@ -1,5 +1,5 @@
 -- What is said in a client's name is said still, once it was held; and what is let in of who began anew, and if no rule asks for anything.
-use Rattle.std.proofs.Common.{◌≡◌, ◌∙◌, ℕ, Bool, true, false, List, [], Option, None, Some, ap, refl, subst, sym}
+use Rattle.std.proofs.Common.{◌≡◌, ◌∙◌, ◌==◌, ℕ, Bool, true, false, List, [], Option, None, Some, ap, refl, subst, sym}
 use Rattle.std.specs.Prelude.{if◌then◌else◌, slice_range, IfOk, Result, Ok, Err}
 use Rattle.std.specs.declared.alloc.AllocError.{AllocError}
 use Rattle.tmmbr_tuple.specs.declared.ssrc.Ssrc.{Ssrc}
@@ -7,6 +7,7 @@ use Rattle.datagram.specs.declared.reading.Ask.{Ask}
 use Rattle.datagram.specs.declared.reading.Reading.{Reading}
 use Rattle.datagram.specs.declared.reading.Sent.{Sent}
 use Rattle.datagram.specs.declared.reading.What.{What}
+use Rattle.datagram.specs.declared.reading.What.TheVariants.{Media, Goodbye, Control, Refused}
 use Rattle.members.specs.declared.view.RoomView.{RoomView}
 use Rattle.policy.specs.Asking.{Asking}
 use Rattle.policy.specs.Holding.{asks_left, asking_of}
@@ -19,8 +20,6 @@ use Rattle.policy.specs.Presence.{is_there}
 use Rattle.policy.specs.Screened.{LooksForNothing, come_anew, resends_left, welcomed}
 use Rattle.policy.specs.declared.holding.Holding.{Holding}
 use Rattle.policy.specs.declared.rate_requests.RateRequests.{RateRequests}
-use Rattle.policy.specs.declared.word.Word.{Word}
-use Rattle.policy.specs.declared.word.Word.TheVariants.{Nothing, Speaks, Leaves}
 use Rattle.policy.specs.RateRequests.{Hears, PacesIf, PacesWord, left_held}
 use Rattle.policy.specs.RequestGaps.{GapState}
 use Rattle.policy.specs.declared.screen.Screen.{Screen}
@@ -35,37 +34,50 @@ use Rattle.udp.specs.Policies.{IsHeld, Ruling, TakesFar, ruling_of}
 
 -- ---- what asks for nothing still does
 
-nothing_held : (word : Word) (asker : Asking) → asks_left word asker [] ≡ []
-nothing_held Nothing asker = refl
-nothing_held Leaves asker = refl
-nothing_held (Speaks notifies) asker = refl
+either_way : {X : Type 0} {Y : Type 0} (f : X → Y) (b : Bool) (x y : X) (z : Y) → f x ≡ z → f y ≡ z → f (if b then x else y) ≡ z
+either_way f true x y z e g = e
+either_way f false x y z e g = g
 
-nothing_left : (before : Option Holding) (word : Word) (asker : Asking) → left_held before word asker [] ≡ []
-nothing_left None word asker = refl
-nothing_left (Some h) word asker = nothing_held word asker
+either_so : {X : Type 0} (P : X → Type 0) (Q : Type 0) (b : Bool) (x y : X) → P (if b then x else y) → (P x → Q) → (P y → Q) → Q
+either_so P Q true x y p f g = f p
+either_so P Q false x y p f g = g p
 
-nothing_paced : (word : Word) (s t : GapState) (asker : Asking) (left : List Ask) → PacesWord word s t asker [] left → left ≡ []
-nothing_paced Nothing s t asker left is = is.1
-nothing_paced Leaves s t asker left is = is.1
-nothing_paced (Speaks notifies) s t asker left is = is.left
+nothing_held : (own : ℕ) (what : What) (asker : Asking) → asks_left (word_in own what) asker [] ≡ []
+nothing_held own (Media packet) asker = either_way (λ w. asks_left w asker []) (packet.ssrc.0 == own) _ _ [] refl refl
+nothing_held own Goodbye asker = refl
+nothing_held own (Control c) asker = either_way (λ w. asks_left w asker []) (c.speaker.0 == own) _ _ [] refl refl
+nothing_held own (Refused refusal) asker = refl
 
-nothing_after : (before after : Option GapState) (word : Word) (asker : Asking) (left : List Ask) → PacesIf before after word asker [] left → left ≡ []
-nothing_after None after word asker left is = is.1
-nothing_after (Some s) None word asker left is = absurd is
-nothing_after (Some s) (Some t) word asker left is = nothing_paced word s t asker left is
+nothing_left : (before : Option Holding) (own : ℕ) (what : What) (asker : Asking) → left_held before (word_in own what) asker [] ≡ []
+nothing_left None own what asker = refl
+nothing_left (Some h) own what asker = nothing_held own what asker
 
-asks_nothing : (r q : RateRequests) (word : Word) (asker : Asking) (old new : Reading) → Hears r q word asker old new → old.asks.items ≡ []
-    → new.asks.items ≡ []
-asks_nothing r q word asker old new hears none =
-    nothing_after r.gaps q.gaps word asker new.asks.items
-    (subst (λ (asks : List Ask). PacesIf r.gaps q.gaps word asker asks new.asks.items)
-    (ap (left_held r.holding word asker) none ∙ nothing_left r.holding word asker) hears.paced)
+nothing_paced : (own : ℕ) (what : What) (s t : GapState) (asker : Asking) (left : List Ask) → PacesWord (word_in own what) s t asker [] left → left ≡ []
+nothing_paced own (Media packet) s t asker left is =
+    either_so (λ w. PacesWord w s t asker [] left) (left ≡ []) (packet.ssrc.0 == own) _ _ is (λ h. h.left) (λ h. h.1)
+nothing_paced own Goodbye s t asker left is = is.1
+nothing_paced own (Control c) s t asker left is =
+    either_so (λ w. PacesWord w s t asker [] left) (left ≡ []) (c.speaker.0 == own) _ _ is (λ h. h.left) (λ h. h.1)
+nothing_paced own (Refused refusal) s t asker left is = is.1
+
+nothing_after : (before after : Option GapState) (own : ℕ) (what : What) (asker : Asking) (left : List Ask)
+    → PacesIf before after (word_in own what) asker [] left → left ≡ []
+nothing_after None after own what asker left is = is.1
+nothing_after (Some s) None own what asker left is = absurd is
+nothing_after (Some s) (Some t) own what asker left is = nothing_paced own what s t asker left is
+
+asks_nothing : (r q : RateRequests) (own : ℕ) (what : What) (asker : Asking) (old new : Reading) → Hears r q (word_in own what) asker old new
+    → old.asks.items ≡ [] → new.asks.items ≡ []
+asks_nothing r q own what asker old new hears none =
+    nothing_after r.gaps q.gaps own what asker new.asks.items
+    (subst (λ (asks : List Ask). PacesIf r.gaps q.gaps (word_in own what) asker asks new.asks.items)
+    (ap (left_held r.holding (word_in own what) asker) none ∙ nothing_left r.holding own what asker) hears.paced)
 
 pub still_spoken : (before after : RateRequests) (sent : Sent) (view : RoomView) (speaker : Ssrc) (old new : Reading)
     → IsHeld before after sent view old new → IsSpokenBy speaker [] old → IsSpokenBy speaker [] new
 still_spoken before after sent view speaker old new holds says = record {
   what = holds.held.what ∙ says.what;
-  asks_for = asks_nothing before after (word_in sent.own.0 old.what) (asking_of view sent) old new holds.held says.asks_for;
+  asks_for = asks_nothing before after sent.own.0 old.what (asking_of view sent) old new holds.held says.asks_for;
 }
 
 through : (k mid l : Kept) → IsOfSame k mid → IsOfSame mid l → IsOfSame k l
@@ -91,11 +103,12 @@ lets_anew judged p q k mid l view anew next from to is later same goodbye holds 
 
 -- ---- if no rule asks for anything
 
-as_left : (r q : RateRequests) (word : Word) (asker : Asking) (old new : Reading) → r.holding ≡ None → r.gaps ≡ None
-    → Hears r q word asker old new → new.asks.items ≡ old.asks.items
-as_left r q word asker old new unheld unpaced hears =
-    (subst (λ (g : Option GapState). PacesIf g q.gaps word asker (left_held r.holding word asker old.asks.items) new.asks.items) unpaced hears.paced).1
-    ∙ ap (λ (h : Option Holding). left_held h word asker old.asks.items) unheld
+as_left : (r q : RateRequests) (own : ℕ) (what : What) (asker : Asking) (old new : Reading) → r.holding ≡ None → r.gaps ≡ None
+    → Hears r q (word_in own what) asker old new → new.asks.items ≡ old.asks.items
+as_left r q own what asker old new unheld unpaced hears =
+    (subst (λ (g : Option GapState). PacesIf g q.gaps (word_in own what) asker (left_held r.holding (word_in own what) asker old.asks.items) new.asks.items)
+    unpaced hears.paced).1
+    ∙ ap (λ (h : Option Holding). left_held h (word_in own what) asker old.asks.items) unheld
 
 carried : (own : ℕ) (bytes : List ℕ) (most : Option ℕ) (r s : Reading) → s.what ≡ r.what → s.asks.items ≡ r.asks.items → s.beyond ≡ r.beyond
     → IsReadUpTo own bytes most r → IsReadUpTo own bytes most s
@@ -125,7 +138,7 @@ takes_what_came sent stand view from to k admitted off hears =
     let follows = subst (λ (j : Judged). Follows j hears.between.requests k.policies.requests hears.left k.kept view stand.anew k.anew from to admitted) as_was.is_judged hears.lets.follows in
     let begun = hears.judges.requests ∙ hears.welcomes.requests in
     let left = follows.2.held in
-    let same = as_left _ _ _ _ _ _ (ap (λ (r : RateRequests). r.holding) begun ∙ off.holds) (ap (λ (r : RateRequests). r.gaps) begun ∙ off.gaps) left in
+    let same = as_left _ _ _ _ _ _ _ (ap (λ (r : RateRequests). r.holding) begun ∙ off.holds) (ap (λ (r : RateRequests). r.gaps) begun ∙ off.gaps) left in
     let all = subst (λ (m : Option ℕ). IsReadUpTo sent.own.0 (slice_range stand.bytes from to) m hears.read.reading) off.all hears.reads.reads in
     record {
       takes = follows.0;
