@@ -1,3 +1,4 @@
 pub mod GoodbyeLemmas
 pub mod SeatLemmas
 pub mod PolicyLemmas
+pub mod DoorLemmas

@@ -138,7 +138,7 @@ takes_what_came sent stand view from to k admitted off hears =
     let follows = subst (λ (j : Judged). Follows j hears.between.requests k.policies.requests hears.left k.kept view stand.anew k.anew from to admitted) as_was.is_judged hears.lets.follows in
     let begun = hears.judges.requests ∙ hears.welcomes.requests in
     let left = follows.2.held in
-    let same = as_left _ _ _ _ _ _ _ (ap (λ (r : RateRequests). r.holding) begun ∙ off.holds) (ap (λ (r : RateRequests). r.gaps) begun ∙ off.gaps) left in
+    let same = as_left _ _ hears.left.sent.own.0 hears.left.reading.what _ _ _ (ap (λ (r : RateRequests). r.holding) begun ∙ off.holds) (ap (λ (r : RateRequests). r.gaps) begun ∙ off.gaps) left in
     let all = subst (λ (m : Option ℕ). IsReadUpTo sent.own.0 (slice_range stand.bytes from to) m hears.read.reading) off.all hears.reads.reads in
     record {
       takes = follows.0;

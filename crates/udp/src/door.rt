@@ -1,12 +1,12 @@
 //! Where what comes to the sockets is let in.
 
-ghost use Rattle.std.specs.Prelude.{◌≡◌, ◌⊎◌, ◌≤◌, ◌<◌, ℕ, [], true, None, Some, Ok, IfNone, IfOk, IfSome, is_some, length, replicate};
+ghost use Rattle.std.specs.Prelude.{◌≡◌, ◌⊎◌, ◌≤◌, ◌<◌, ℕ, [], false, true, None, Some, Ok, IfNone, IfOk, IfSome, is_some, length, replicate};
 ghost use Rattle.entrance.specs.Entrance.{IfTaken};
 ghost use Rattle.desk_calls.specs.DeskCalls.{source_of};
 ghost use Rattle.addresses.specs.Listeners.{listeners_after, report_due};
 ghost use Rattle.policy.specs.FloodLimiter.{empty_bucket};
 ghost use Rattle.policy.specs.RateRequests.{BeginsBy};
-ghost use Rattle.udp.specs.Door.{HearsAnew, HearsBefore, HearsLeft, HearsMore, IfLetIn, LetsWish, Waits, is_wish, wish_in};
+ghost use Rattle.udp.specs.Door.{HearsAnew, HearsBefore, HearsElse, HearsLeft, HearsMore, IfLetIn, LetsWish, Waits, is_wish, wish_in};
 ghost use Rattle.udp.specs.Kept.{IsSpokenBy, MayBeTaken, sent_by};
 ghost use Rattle.udp.specs.Policies.{most_by};
 ghost use Rattle.udp.specs.Who.{known_by, setup_of};
@@ -184,14 +184,38 @@ impl<'a, R: time::Clock> Door<'a, R> {
             let admitted = self.hearing.hear_rest(view, moment, rest)?;
             return Ok(let_in(moment, admitted));
         }
-        if let Some(moment) = self.hear_before(view)? {
-            return Ok(let_in(moment, Admitted::Taking));
+        match self.hear_before(view)? {
+            Some(moment) => Ok(let_in(moment, Admitted::Taking)),
+            None => {
+                let came = self.report_or_wait(view)?;
+                Ok(came)
+            }
         }
-        if let Some(moment) = self.report(view) {
-            return Ok(let_in(moment, Admitted::Taking));
+    }
+
+    /// A report that is due, or else what comes to the sockets next. Nothing of what came before is left.
+    fn report_or_wait(&mut self, view: RoomView<'_>) -> Result<Came, AllocError>
+        requires { (self.old.hearing.rest ≡ None) × (self.old.hearing.anew ≡ None) }
+        ensures taken { IfOk result
+            (λ came. IfTaken came.admitted (MayBeTaken view.entry.links.now self.new.hearing.kept)) }
+        ensures now { IfOk result (λ came. (came.moment ≡ self.new.clock.told)
+            × (self.old.clock.told ≤ came.moment)) }
+        ensures sent { IfOk result (λ came. IfTaken came.admitted
+            (self.new.hearing.kept.sent.moment ≡ came.moment)) }
+        ensures goes { IfOk result (λ came. HearsElse false (λ who. record {
+          setup = setup_of ⟦<u32 as PartialEq>⟧.eq ⟦<SocketAddr as PartialEq>⟧.eq
+              ⟦<IpAddr as PartialEq>⟧.eq who;
+          same_origin = ⟦<SourceAddress as PartialEq>⟧.eq;
+          source = source_of view.entry.links.now;
+        }) view.entry self.old.hearing self.new.hearing self.old.clock.told came) }
+    {
+        match self.report(view) {
+            Some(moment) => Ok(let_in(moment, Admitted::Taking)),
+            None => {
+                let came = self.wait(view)?;
+                Ok(came)
+            }
         }
-        let came = self.wait(view)?;
-        Ok(came)
     }
 
     /// What was asked for before and is heard now, if anything is, and the moment at which it is taken in.
