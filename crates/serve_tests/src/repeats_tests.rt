@@ -558,7 +558,7 @@ fn said(alloc: Global, sets: &mut AnnouncedSets, set: &[TmmbrEntry]) -> Result<S
     Ok(text)
 }
 
-fn glance(
+fn go_on(
     rt: &impl Abort,
     alloc: Global,
     sets: &mut AnnouncedSets,
@@ -578,7 +578,7 @@ fn glance(
 fn watch(rt: &impl Abort, alloc: Global, glances: &[Glance]) -> Result<(), Fail> {
     let mut sets = AnnouncedSets::new(alloc, 3, 100)?;
     for step in glances {
-        glance(rt, alloc, &mut sets, step)?;
+        go_on(rt, alloc, &mut sets, step)?;
     }
     Ok(())
 }
