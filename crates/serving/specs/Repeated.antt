@@ -1,5 +1,5 @@
 -- What is said to a publisher again.
-use Rattle.std.specs.Prelude.{◌≡◌, ℕ, Bool, List, [], ◌++◌, None, if◌then◌else◌}
+use Rattle.std.specs.Prelude.{◌≡◌, ℕ, Bool, false, List, [], ◌++◌, None, if◌then◌else◌}
 use Rattle.rate_cert.specs.declared.request.Request.{Request}
 use Rattle.announcement.specs.Entries.{entries_of}
 use Rattle.desk.specs.declared.effect.Effect.{Effect}
