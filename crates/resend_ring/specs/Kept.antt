@@ -8,7 +8,7 @@ pub record SentPacket (T : Type 0) : Type 0 where
   pub number : ℕ
   pub packet : T
 
--- how many packets there may be, and the packets, from the oldest to the newest
+-- the packets that are kept for NACKs (RFC 4585, section 6.2.1), oldest first, and how many there may be
 pub record Kept (T : Type 0) : Type 0 where
   pub capacity : ℕ
   pub items : List (SentPacket T)
@@ -16,7 +16,7 @@ pub record Kept (T : Type 0) : Type 0 where
 abbrev pub sent_packet : {T : Type 0} → ℕ × T → SentPacket T
 sent_packet p = record { number = p.0; packet = p.1 }
 
--- the latest packet whose number is congruent to seq modulo 65536
+-- the latest packet whose number is congruent to seq modulo 65536 (RFC 4585, section 6.2.1)
 abbrev pub last_kept_with : {T : Type 0} → List (SentPacket T) → ℕ → Option T
 last_kept_with {T} items seq =
     option_map (λ (p : SentPacket T). p.packet)

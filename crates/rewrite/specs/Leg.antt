@@ -51,6 +51,7 @@ answer_by first (Some s) turn seq =
     else if nat_lt turn s.turn then Err Old
     else answer_in s seq
 
+-- the answer to a packet, by the few numbers that a leg holds
 abbrev pub answer_to : Held → ℕ → ℕ → Result ℕ Skip
 answer_to held turn seq = answer_by held.first held.segment turn seq
 
@@ -82,8 +83,8 @@ held_after held (p ∷ packets) =
 abbrev pub new_leg : ℕ → Held
 new_leg first = record { first = first; segment = None }
 
--- The segment that these numbered packets leave open is that of the greatest turn: its base is that turn's first packet,
--- and its highest the greatest extended number of that turn.
+-- The segment that these numbered packets leave open is that of the greatest turn (RFC 3550, appendix A.1). Its base is
+-- that turn's first packet, and its highest the greatest extended number of that turn.
 pub record IsOpen (given : List Numbered) (s : Segment) : Type 0 where
   pub latest : All (λ p. p.turn ≤ s.turn) given
   pub first : Numbered
@@ -96,7 +97,7 @@ abbrev pub LeavesOpen : List Numbered → Option Segment → Type 0
 LeavesOpen given None = given ≡ []
 LeavesOpen given (Some s) = IsOpen given s
 
--- what a leg with this first number holds, once these packets got their numbers
+-- what a leg with this first number holds, once these packets got their numbers (RFC 3550, appendix A.1)
 pub record IsHeldBy (first : ℕ) (given : List Numbered) (held : Held) : Type 0 where
   pub same_first : held.first ≡ first
   pub open_segment : LeavesOpen given held.segment

@@ -83,7 +83,8 @@ pub record IsLate (past : List Numbered) (turn : ℕ) (answer : Result ℕ Skip)
   pub later : Any (λ p. turn < p.turn) past
   pub answered : answer ≡ Err Old
 
--- the answer to a packet, by those before it that got a number
+-- the answer to a packet, by those before it that got a number: it begins a segment, continues one, or
+-- is late (RFC 3550, appendix A.1)
 abbrev pub IsNumberAnswer : ℕ → List Numbered → Entry → Type 0
 IsNumberAnswer first past e =
     Begins first past e.turn e.answer
@@ -94,7 +95,7 @@ RenumbersAfter first past [] = Unit {0}
 RenumbersAfter first past (e ∷ entries) =
     IsNumberAnswer first past e × RenumbersAfter first (past ++ entry_numbers e) entries
 
--- the answers are those of a leg with this first number, from its first packet on
+-- the answers are those of a leg with this first number, from its first packet on (RFC 3550, appendix A.1)
 abbrev pub Renumbers : ℕ → List Entry → Type 0
 Renumbers first entries = RenumbersAfter first [] entries
 

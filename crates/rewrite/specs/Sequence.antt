@@ -2,7 +2,8 @@
 use Rattle.std.specs.Prelude.{◌≡◌, ℕ, ◌+◌, ◌-◌, ◌%◌, ◌<◌, ◌≤◌}
 use Rattle.rewrite.specs.declared.sequence.TheConstants.{SEQ_CYCLE, SEQ_REACH}
 
--- the number congruent to seq whose distance from the highest lies from -32768 to 32767
+-- the number congruent to seq that is nearest to the highest: from 32768 below it to 32767
+-- above it (RFC 3550, appendix A.1)
 pub record IsExtendedNumber (highest seq extended : ℕ) : Type 0 where
   pub congruent : extended % SEQ_CYCLE ≡ seq
   pub at_least : highest ≤ extended + SEQ_REACH

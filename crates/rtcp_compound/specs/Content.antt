@@ -28,8 +28,8 @@ pub data Content : Type 0 where
   feedback : ℕ → ℕ → List ℕ → Content
   other : ℕ → ℕ → List ℕ → Content
 
--- sender, NTP and RTP timestamps, packets, octets and blocks; sender and blocks; count and chunks; sources; FMT, type and
--- body; count, type and body
+-- What a packet says by its type (RFC 3550, sections 6.4 to 6.6): sender, NTP and RTP timestamps, packets, octets and
+-- blocks; sender and blocks; count and chunks; sources; FMT, type and body; count, type and body.
 unfoldable pub packet_content : RtcpPacket → Content
 packet_content p =
     if p.kind == SR then
@@ -46,7 +46,7 @@ packet_content p =
     else if (p.kind == RTPFB) || (p.kind == PSFB) then feedback p.count p.kind p.body
     else other p.count p.kind p.body
 
--- what a view stands for
+-- what a view stands for (RFC 3550, sections 6.4 to 6.6)
 abbrev pub content_of : RtcpView → Content
 content_of (Sr sender ntp rtp packets octets blocks) =
     sender_report sender.0 ntp rtp packets octets (blocks_left blocks)

@@ -56,7 +56,7 @@ pub record HasFrame (bytes body : List ℕ) : Type 0 where
 abbrev pub IsNoBody : List ℕ → List ℕ → Type 0
 IsNoBody bytes body = IsBody (slice_index bytes 1) (slice_index bytes 0 % 32) body → ⊥
 
--- The bytes begin with a packet that has this fault, and none of a lesser number.
+-- The bytes begin with a packet that has this fault, and none of a lesser number (RFC 3550, sections 6.1 and 6.4 to 6.6).
 abbrev pub HasRtcpFault : List ℕ → RtcpFault → Type 0
 HasRtcpFault bytes Short = length bytes < 4
 HasRtcpFault bytes Version = (4 ≤ length bytes) × (slice_index bytes 0 / 64 ≢ 2)
@@ -82,7 +82,8 @@ pub record Passes (bytes rest : List ℕ) : Type 0 where
   pub goes_on : 0 < length before → 0 < length rest
   pub bytes_are : bytes ≡ flat_map packet_bytes before ++ rest
 
--- After such packets stands one with this fault: the first that is faulty.
+-- After whole packets without padding stands one with this fault: the first that is faulty
+-- (RFC 3550, sections 6.1 and 6.4 to 6.6).
 pub record Refuses (bytes : List ℕ) (fault : RtcpFault) : Type 0 where
   pub rest : List ℕ
   pub passes : Passes bytes rest

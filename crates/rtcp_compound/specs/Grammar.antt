@@ -4,7 +4,8 @@ use Rattle.std.specs.List.{flat_map}
 use Rattle.rtcp_compound.specs.declared.packet.TheConstants.{SR, RR, SDES, BYE}
 use Rattle.rtcp_compound.specs.declared.sizes.TheConstants.{SOURCE_BYTES, SENDER_BYTES, BLOCK_BYTES}
 
--- A packet: the count of its entries (or the FMT of feedback), its type, its body, and its padding, which most have not.
+-- A packet: the count of its entries (or the FMT of feedback), its type, its body, and its padding, which most have not
+-- (RFC 3550, sections 6.1 and 6.4 to 6.6).
 pub record RtcpPacket : Type 0 where
   pub count : ℕ
   pub kind : ℕ
@@ -76,7 +77,8 @@ abbrev pub reports_end : ℕ → ℕ → ℕ
 reports_end kind count =
     (if kind == SR then SENDER_BYTES else SOURCE_BYTES) + BLOCK_BYTES * count
 
--- The body of a report holds the blocks that are counted. After them may come an extension, which is ignored.
+-- The body of a report holds the blocks that are counted. After them may come an extension, which is ignored
+-- (RFC 3550, sections 6.4.1 and 6.4.2).
 pub record HasReports (kind count : ℕ) (body : List ℕ) : Type 0 where
   pub sender_report : kind ≡ SR → reports_end SR count ≤ length body
   pub receiver_report : kind ≡ RR → reports_end RR count ≤ length body
@@ -99,13 +101,13 @@ pub record IsPacket (p : RtcpPacket) : Type 0 where
   pub padding_length : last_byte p.padding ≡ length p.padding
   pub body : IsBody p.kind p.count p.body
 
--- one or more packets, the last alone with padding
+-- one or more packets, the last alone with padding (RFC 3550, section 6.1)
 abbrev pub AreJoined : List RtcpPacket → Type 0
 AreJoined [] = Unit {0}
 AreJoined (p ∷ []) = IsPacket p
 AreJoined (p ∷ (q ∷ ps)) = IsPacket p × (p.padding ≡ []) × AreJoined (q ∷ ps)
 
--- a datagram of these packets
+-- the datagram is the bytes of these packets, one or more (RFC 3550, sections 6.1 and 6.4 to 6.6)
 pub record ReadsRtcp (bytes : List ℕ) (ps : List RtcpPacket) : Type 0 where
   pub some : 0 < length ps
   pub joined : AreJoined ps

@@ -7,7 +7,7 @@ use Rattle.rtcp_compound.specs.Entries.{entries_from}
 use Rattle.rtcp_compound.specs.declared.sizes.TheConstants.{BLOCK_BYTES}
 
 -- A report block: the source, the fraction lost, the packets lost, the extended highest sequence number, the jitter, and
--- the last sender report with the delay since it.
+-- the last sender report with the delay since it (RFC 3550, section 6.4.1).
 pub record ReportBlock : Type 0 where
   pub source : ℕ
   pub fraction : ℕ
@@ -22,7 +22,7 @@ abbrev pub lost_word : ℤ → ℕ
 lost_word (pos n) = n
 lost_word (negsuc n) = 2 ^ 24 - 1 - n
 
--- each number within its field; of the packets lost, 24 bits with their sign
+-- each number within its field; of the packets lost, 24 bits with their sign (RFC 3550, section 6.4.1)
 pub record IsReportBlock (b : ReportBlock) : Type 0 where
   pub source : b.source < 2 ^ 32
   pub fraction : b.fraction < 2 ^ 8
@@ -33,7 +33,7 @@ pub record IsReportBlock (b : ReportBlock) : Type 0 where
   pub last_sr : b.last_sr < 2 ^ 32
   pub delay : b.delay < 2 ^ 32
 
--- the bytes of a block, BLOCK_BYTES of them
+-- the bytes of a block, BLOCK_BYTES of them (RFC 3550, section 6.4.1)
 abbrev pub block_bytes : ReportBlock → List ℕ
 block_bytes b =
     big_bytes 4 b.source ++ (b.fraction ∷ (big_bytes 3 (lost_word b.lost)

@@ -32,6 +32,7 @@ cname_chunk source cname = record {
   filling = replicate (3 - (length cname + 2) % 4) 0;
 }
 
+-- a description of one source by its CNAME alone (RFC 3550, sections 6.5 and 6.5.1)
 unfoldable pub cname_packet : ℕ → List ℕ → RtcpPacket
 cname_packet source cname = plain_packet 1 SDES (chunk_bytes (cname_chunk source cname))
 
@@ -39,7 +40,8 @@ cname_packet source cname = plain_packet 1 SDES (chunk_bytes (cname_chunk source
 unfoldable pub bye_packet : List ℕ → RtcpPacket
 bye_packet sources = plain_packet (length sources) BYE (flat_map (big_bytes 4) sources)
 
--- After the old bytes this packet stands now. It is whole and without padding, and what it says is this content.
+-- After the old bytes this packet stands now. It is whole and without padding, and what it says is this content
+-- (RFC 3550, sections 6.4 to 6.6).
 pub record Appends (old new : List ℕ) (packet : RtcpPacket) (content : Content) : Type 0 where
   pub bytes_are : new ≡ old ++ packet_bytes packet
   pub whole : IsPacket packet

@@ -7,8 +7,8 @@ use Rattle.rtcp_feedback.specs.declared.nack.Nack.{Nack}
 use Rattle.rtcp_feedback.specs.declared.tmmb.TmmbrEntry.{TmmbrEntry}
 use Rattle.rtcp_feedback.specs.declared.packet.TheConstants.{RTPFB, PSFB}
 
--- What a packet says, without what nobody looks at: a NACK's sender, source of media and entries; a PLI's sender and
--- source of media; the sender and the entries of a TMMBR and of a TMMBN; and the sender of any other.
+-- What a packet says (RFC 4585, sections 6.1, 6.2.1 and 6.3.1; RFC 5104, section 4.2). NACK: sender, source of media,
+-- entries. PLI: sender, source of media. TMMBR and TMMBN: sender, entries. Any other: its sender.
 pub data Message : Type 0 where
   nack : ℕ → ℕ → List Nack → Message
   pli : ℕ → ℕ → Message
@@ -46,8 +46,8 @@ abbrev pub IsKnown : ℕ → ℕ → Type 0
 IsKnown fmt kind =
     ((kind ≡ RTPFB) × ((fmt ≡ 1) ⊎ ((fmt ≡ 3) ⊎ (fmt ≡ 4)))) ⊎ ((kind ≡ PSFB) × (fmt ≡ 1))
 
--- A packet of this FMT, type and body says this. The source of media in a TMMBR and a TMMBN may be any, and so may the
--- FCI of a PLI, and all after the sender of an unknown packet.
+-- This FMT, type and body say this (RFC 4585, sections 6.1, 6.2.1 and 6.3.1; RFC 5104, section 4.2). Nobody looks at
+-- the source of media of a TMMBR or TMMBN, the FCI of a PLI, or more than an unknown packet's sender.
 abbrev pub ReadsFeedback : ℕ → ℕ → List ℕ → Message → Type 0
 ReadsFeedback fmt kind body (nack sender media entries) =
     (kind ≡ RTPFB) × (fmt ≡ 1) × All IsNack entries

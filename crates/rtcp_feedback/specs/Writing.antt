@@ -25,7 +25,7 @@ abbrev pub nack_body : ℕ → ℕ → List Nack → List ℕ
 nack_body sender media entries = body_bytes sender media (flat_map nack_bytes entries)
 
 -- The header before this body says how long it is (whole words, as many as two bytes can say), and the packet is read as
--- this message.
+-- this message (RFC 4585, section 6.1).
 pub record IsReadAs (fmt kind : ℕ) (body : List ℕ) (m : Message) : Type 0 where
   pub fmt_fits : fmt < 32
   pub kind_fits : kind < 256

@@ -34,7 +34,7 @@ IsNoCount rest =
     let count = slice_index rest (length rest - 1) in
     (length rest ≡ 0) ⊎ ((count ≡ 0) ⊎ (length rest < count))
 
--- The datagram has this fault, and none of a lesser number.
+-- The datagram has this fault, and none of a lesser number (RFC 3550, section 5.1).
 abbrev pub HasRtpFault : List ℕ → RtpFault → Type 0
 HasRtpFault d Short = length d < 12
 HasRtpFault d Version = (12 ≤ length d) × (slice_index d 0 / 64 ≢ 2)

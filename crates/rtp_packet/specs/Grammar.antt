@@ -2,7 +2,7 @@
 use Rattle.std.specs.Prelude.{◌≡◌, ℕ, ◌+◌, ◌-◌, ◌*◌, ◌/◌, ◌%◌, ◌^◌, ◌<◌, ◌≤◌, Bool, nat_lt, if◌then◌else◌, List, ◌∷◌, ◌++◌, length, drop, slice_index}
 use Rattle.byteorder.specs.Endian.{big_bytes, big_number}
 
--- a packet of version 2: its numbers, and the bytes of its parts
+-- a packet of version 2: its numbers, and the bytes of its parts (RFC 3550, sections 5.1 and 5.3.1)
 pub record RtpPacket : Type 0 where
   pub marker : Bool
   pub payload_type : ℕ
@@ -52,7 +52,7 @@ IsExtension e =
 abbrev pub IsPadding : List ℕ → Type 0
 IsPadding padding = slice_index padding (length padding - 1) ≡ length padding
 
--- each number fits its bits, and the parts are whole words
+-- each number fits its bits, and the parts are whole words (RFC 3550, sections 5.1 and 5.3.1)
 pub record IsPacket (p : RtpPacket) : Type 0 where
   pub payload_type : p.payload_type < 128
   pub sequence_number : p.sequence_number < 2 ^ 16
@@ -63,7 +63,7 @@ pub record IsPacket (p : RtpPacket) : Type 0 where
   pub extension : IsExtension p.extension
   pub padding : IsPadding p.padding
 
--- the datagram is this packet
+-- the datagram is the bytes of this packet (RFC 3550, sections 5.1 and 5.3.1)
 pub record ReadsRtp (datagram : List ℕ) (p : RtpPacket) : Type 0 where
   pub valid : IsPacket p
   pub bytes : datagram ≡ bytes_of p

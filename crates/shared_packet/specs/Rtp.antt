@@ -14,17 +14,19 @@ is_padded d = (slice_index d 0 / 32 % 2) == 1
 abbrev pub padding_of : List ℕ → ℕ
 padding_of d = if is_padded d then slice_index d (length d - 1) else 0
 
--- The datagram is a packet: it is of version 2, and what its header announces stands in it. A padding has a byte at least.
+-- The datagram is a packet: it is of version 2, and what its header announces stands in it. A padding has a byte at
+-- least (RFC 3550, section 5.1).
 unfoldable pub is_rtp : List ℕ → Bool
 is_rtp d =
     nat_le 12 (length d) && ((slice_index d 0 / 64 == 2)
     && (nat_le (extension_end d + padding_of d) (length d)
     && (not (is_padded d) || nat_lt 0 (padding_of d))))
 
+-- a packet's sequence number (RFC 3550, section 5.1)
 unfoldable pub sequence_number : List ℕ → ℕ
 sequence_number d = big_number 2 (drop 2 d)
 
--- the octets of a packet's payload, which stands between the extension and the padding
+-- the octets of a packet's payload, which stands between the extension and the padding (RFC 3550, section 5.1)
 unfoldable pub payload_octets : List ℕ → ℕ
 payload_octets d = if is_rtp d then length d - (extension_end d + padding_of d) else 0
 
@@ -36,7 +38,7 @@ pub record SaysAs (d : List ℕ) (p : RtpPacket) : Type 0 where
   pub under : (ssrc number : ℕ)
       → readdressed_bytes ssrc number d ≡ bytes_of (with_address ssrc number p)
 
--- what a leg wants to know of the datagram, which is a packet
+-- what a leg wants to know of the datagram, which is a packet (RFC 3550, section 5.1)
 pub record IsReadAs (d : List ℕ) (r : PacketParts) : Type 0 where
   pub is_packet : is_rtp d ≡ true
   pub number : sequence_number d ≡ r.sequence_number
