@@ -8,5 +8,6 @@ use Rattle.rtcp_feedback.specs.declared.tmmb.TmmbrEntry.{TmmbrEntry}
 abbrev pub tmmbr_entry_of : Request → TmmbrEntry
 tmmbr_entry_of r = record { ssrc = r.owner; word = word_of r.tuple }
 
+-- the entries of a TMMBN for a set: the owners of its requests, with their words (RFC 5104, section 4.2.2)
 abbrev pub entries_of : List Request → List TmmbrEntry
 entries_of set = map tmmbr_entry_of set

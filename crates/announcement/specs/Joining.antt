@@ -6,7 +6,7 @@ use Rattle.rtcp_compound.specs.Written.{Appends, plain_packet}
 use Rattle.rtcp_feedback.specs.Writing.{packet_bytes}
 
 -- These bytes are one RTCP packet, whole and without padding, which shows this FMT, type and body. It is read alone, and
--- in front of any datagram, whose packets then follow.
+-- in front of any datagram, whose packets then follow (RFC 3550, section 6.1).
 pub record JoinsCompounds (fmt kind : ℕ) (body : List ℕ) : Type 0 where
   pub one : Appends [] (packet_bytes fmt kind body) (plain_packet fmt kind body)
       (feedback fmt kind body)

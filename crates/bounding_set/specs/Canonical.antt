@@ -12,10 +12,11 @@ pub record HasSameLine (x y : Request) : Type 0 where
   pub rate : rate_of x.tuple ≡ rate_of y.tuple
   pub overhead : x.tuple.overhead ≡ y.tuple.overhead
 
--- a rate of 0, without or with overhead: no media is permitted, or nothing at all
+-- a rate of 0, with any overhead: no media is permitted
 abbrev pub StopsMedia : Request → Type 0
 StopsMedia r = rate_of r.tuple ≡ 0
 
+-- a rate of 0 with overhead: nothing at all is permitted
 abbrev pub StopsEverything : Request → Type 0
 StopsEverything r = StopsMedia r × (0 < r.tuple.overhead)
 
@@ -39,8 +40,8 @@ ReachesNoFarther x y = rate_of x.tuple * y.tuple.overhead ≤ rate_of y.tuple * 
 abbrev pub ReachesAsFar : Request → Request → Type 0
 ReachesAsFar x y = rate_of x.tuple * y.tuple.overhead ≡ rate_of y.tuple * x.tuple.overhead
 
--- Beside a stop of the media: of the requests with overhead the one of least rate over overhead, then of least
--- overhead, then of least owner.
+-- Beside a stop of the media: of the requests with overhead the one of least reach (rate over overhead), then of
+-- least overhead, then of least owner.
 pub record IsLeastReach (requests : List Request) (x : Request) : Type 0 where
   pub media_stopped : Any StopsMedia requests
   pub none_stops_everything : All (λ y. ¬ StopsEverything y) requests
@@ -64,7 +65,8 @@ pub record IsEssentialOwner (requests : List Request) (x : Request) : Type 0 whe
   pub essential : IsEssential requests x
   pub least_owner : All (λ y. HasSameLine x y → x.owner.0 ≤ y.owner.0) requests
 
--- the requests that are announced
+-- What is announced. If everything is stopped: the stop of greatest overhead. If just the media is: that stop, and
+-- the request of least reach. Else each essential line, by its least owner.
 abbrev pub IsAnnounced : List Request → Request → Type 0
 IsAnnounced requests x =
     IsStrictestStop requests x ⊎ IsFirstStop requests x ⊎ IsLeastReach requests x

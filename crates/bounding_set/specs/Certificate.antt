@@ -20,12 +20,14 @@ pub record End : Type 0 where
 abbrev pub start_end : End
 start_end = record { upper = 0; lower = 1 }
 
+-- the packet rate at which the lines of x and y cross
 abbrev pub crossing_of : Request → Request → End
 crossing_of x y = record {
   upper = rate_of y.tuple - rate_of x.tuple;
   lower = 8 * (y.tuple.overhead - x.tuple.overhead);
 }
 
+-- a request's reach: its rate over its overhead, the packet rate at which nothing is left for media
 abbrev pub reach_of : Request → End
 reach_of x = record { upper = rate_of x.tuple; lower = 8 * x.tuple.overhead }
 
@@ -102,7 +104,8 @@ abbrev pub dropped_places : ℕ → List ℕ → List ℕ
 dropped_places count kept =
     filter (λ place. not (list_any (λ k. k == place) kept)) (range_with_len 0 count)
 
--- the certificate that is given for these rows: the canonical choice, its pairs, and how the others follow
+-- the certificate that is given for these rows: the canonical choice, pairs between the crossings of
+-- neighbours, and how the others follow
 pub record IsGivenFor (rows : List Request) (cert : Cert) : Type 0 where
   pub canonical : IsCanonical rows (kept_places cert)
   pub pairs : map (λ k. pair_of k.pair) cert.kept.items

@@ -44,7 +44,7 @@ pub record IsHull (lines : List Request) : Type 0 where
   pub turns : (i j k : ℕ) (d : Request) → i < j → j < k → k < length lines
       → Turns (slice_index_or lines i d) (slice_index_or lines j d) (slice_index_or lines k d)
 
--- what the requests permit together, y permits
+-- what the requests permit together, y permits (RFC 5104, section 3.5.4.2)
 abbrev pub Covers : List Request → Request → Type 0
 Covers lines y = (p : RatePair) → IsFeasible lines p → Permits y.tuple p
 
@@ -83,10 +83,12 @@ pub record IsEnvelopeBelow (rows : List Request) (lines : List Request) (place :
   pub least_owner : All
       (λ x. AllWithin (λ y. HasSameLine x y → x.owner.0 ≤ y.owner.0) rows 0 place) lines
 
+-- the envelope of all rows: a hull that covers them, each line with its least owner (RFC 5104, section 3.5.4.2)
 abbrev pub IsEnvelope : List Request → List Request → Type 0
 IsEnvelope rows lines = IsEnvelopeBelow rows lines (length rows)
 
--- The envelope of those rows whose rate isn't 0: a hull of such rows which covers them, each with the least owner of its line.
+-- The envelope of those rows whose rate isn't 0: a hull of such rows which covers them, each with the least owner of its
+-- line (RFC 5104, section 3.5.4.2).
 pub record IsEnvelopeOf (rows lines : List Request) : Type 0 where
   pub hull : IsHull lines
   pub covers : All (λ r. ¬ StopsMedia r → Covers lines r) rows

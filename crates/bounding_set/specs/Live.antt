@@ -4,7 +4,7 @@ use Rattle.rate_cert.specs.declared.request.Request.{Request}
 use Rattle.bounding_set.specs.Envelope.{IsEnvelopeOf}
 use Rattle.bounding_set.specs.Rows.{HasRisingOwners}
 
--- the rows are by rising owner, and the lines are the envelope of those whose rate isn't 0
+-- the rows are by rising owner, and the lines are the envelope of those whose rate isn't 0 (RFC 5104, section 3.5.4.2)
 pub record HoldsLines (rows lines : List Request) : Type 0 where
   pub rising : HasRisingOwners rows
   pub envelope : IsEnvelopeOf rows lines

@@ -4,7 +4,7 @@ use Rattle.tmmbr_tuple.specs.declared.tuple.Tuple.{Tuple}
 use Rattle.rate_cert.specs.declared.request.Request.{Request}
 use Rattle.rate_cert.specs.Owners.{OwnersRise, value_for, IsOwnerAt, IsOwnerGap}
 
--- owners rise, so none stands twice
+-- owners rise, so none stands twice: the rows are a map by owner
 abbrev pub HasRisingOwners : List Request → Type 0
 HasRisingOwners rows = OwnersRise (λ r. r.owner.0) rows
 

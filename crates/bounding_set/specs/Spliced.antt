@@ -7,7 +7,7 @@ use Rattle.rate_cert.specs.declared.request.Request.{Request}
 use Rattle.rate_cert.specs.declared.certificate.TheConstants.{MAX_REQUESTS}
 use Rattle.bounding_set.specs.Envelope.{IsHull, Covers, TakesOver, KeepsLeastOwner}
 
--- two tuples imply a third where it permits each pair that both permit
+-- two tuples imply a third if it permits each pair, of at least one second, that both permit
 abbrev pub ImplyTogether : Tuple → Tuple → Tuple → Type 0
 ImplyTogether a b x = (p : RatePair) → 1 ≤ p.seconds → Permits a p → Permits b p → Permits x p
 

@@ -19,7 +19,8 @@ abbrev pub IsAnswerOr : ℕ → ℕ → Base → Call → Option Answer → Answ
 IsAnswerOr gap request_ms before call None answer = IsDone gap request_ms before call answer
 IsAnswerOr gap request_ms before call (Some refusal) answer = answer ≡ refusal
 
--- the refusal of least number that applies, or done
+-- the answer that the calls before it owe to a call: the refusal of
+-- least number that applies, or done
 abbrev pub IsAnswerTo : ℕ → ℕ → Base → Call → Answer → Type 0
 IsAnswerTo gap request_ms before call answer =
     IsAnswerOr gap request_ms before call (refusal_of before.present.items call) answer

@@ -20,12 +20,14 @@ abbrev pub is_member : List Request → Request → Bool
 is_member requests r = list_any (is_same r) requests
 
 -- the owners of the former set that have no request in the new one, by rising owner
+-- (RFC 5104, sections 4.2.1 and 4.2.2)
 pub record IsLifted (former now : List Request) (owners : List ℕ) : Type 0 where
   pub rising : AllPairs (λ x y. x < y) owners
   pub members : (owner : ℕ) → (Contains owners owner
       ↔ (Contains (owners_of former) owner × ¬ Contains (owners_of now) owner))
 
--- The set that is announced now; whose bounds it lifts; and its members that weren't in the former one, in listed order.
+-- The set that is announced now; whose bounds it lifts; and its members that weren't in the former one, in listed order
+-- (RFC 5104, sections 4.2.1 and 4.2.2).
 pub record IsEffect (former now : List Request) (e : Effect) : Type 0 where
   pub announced : e.set.items ≡ now
   pub lifted : IsLifted former now (ssrcs_of e.lifted.items)

@@ -10,7 +10,7 @@ use Rattle.desk.specs.declared.kept.TheConstants.{WORD_BITS}
 abbrev pub IsMarked : List ℕ → ℕ → Type 0
 IsMarked words row = bit_at (slice_index_or words (row / WORD_BITS) 0) (row % WORD_BITS) ≡ 1
 
--- a row's bit says that it is announced, and no bit after the rows is set
+-- bit i modulo 64 of word i / 64 says that row i is announced, and no bit after the rows is set
 pub record KeepsRows (rows : List Request) (kept : List ℕ) : Type 0 where
   pub announced : (row : ℕ) → row < length rows
       → (IsMarked kept row ↔ HoldsAt (IsAnnounced rows) rows row)

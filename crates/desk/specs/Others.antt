@@ -9,7 +9,7 @@ abbrev pub IsAnother : Base → List Entry → ℕ → ℕ → Type 0
 IsAnother base entries owner other =
     (other ≢ owner) × ((stay : ℕ) × (1 ≤ stay) × IsPresent base entries other stay)
 
--- so many others than this owner are present, no two of them the same
+-- so many others than this owner are present, no two of them the same (RFC 5104, section 4.2)
 pub record HasOthers (base : Base) (entries : List Entry) (owner count : ℕ) : Type 0 where
   pub others : List ℕ
   pub many : length others ≡ count

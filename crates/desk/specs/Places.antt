@@ -63,7 +63,7 @@ abbrev pub greatest_until : Base → List Entry → ℕ → ℕ
 greatest_until base entries place =
     fold (λ m e. moment_after m e.call) base.greatest (take (place + 1) entries)
 
--- an expire at this place takes what was asked at this moment
+-- an expire at this place takes what was asked at this moment: at least request_ms ago, by the greatest moments
 pub record TakesAt (request_ms : ℕ) (base : Base) (entries : List Entry)
     (stamp place : ℕ) : Type 0 where
   pub expire : HasEntryAt (WasDone IsExpire) entries place
@@ -90,7 +90,7 @@ pub record IsRequestOfBase (request_ms : ℕ) (base : Base) (entries : List Entr
       → ¬ HasEntryAt (WasDone (IsRequestOf owner other)) entries later
   pub untaken : (later : ℕ) → ¬ TakesAt request_ms base entries stamp later
 
--- what an owner asks for whose calls count from this place on
+-- what an owner asks for, whose calls count from this place on: the last request done since, or the base's, if no expire took it
 abbrev pub IsLiveFrom : ℕ → Base → List Entry → ℕ → ℕ → Tuple → Type 0
 IsLiveFrom request_ms base entries owner from tuple =
     IsLastRequestFrom request_ms base entries owner from tuple

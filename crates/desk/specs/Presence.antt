@@ -48,6 +48,7 @@ without_owner present owner = without_row (λ p. p.owner.0) present owner
 abbrev pub request_of : Present → Option Request
 request_of p = option_map (λ (a : Asked). record { owner = p.owner; tuple = a.tuple }) p.asked
 
+-- what those present ask for, by rising owner
 abbrev pub live_requests : List Present → List Request
 live_requests present = filter_map request_of present
 

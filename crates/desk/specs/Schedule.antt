@@ -44,8 +44,8 @@ pub record IsLastUpBefore (entries : List Entry) (place last : ℕ) : Type 0 whe
   pub went_up : WentUpAt entries last
   pub none_since : (between : ℕ) → last < between → between < place → ¬ WentUpAt entries between
 
--- A PLI is due at this place: it is a `pli` or a `tick`, a picture is wanted, and the last PLI, which may be one of the base, was sent
--- upstream at least the gap ago.
+-- A PLI is due at this `pli` or `tick` (RFC 4585, section 6.3.1): a picture is wanted, and the last PLI was sent upstream at least the
+-- gap ago. That one may be of the base.
 pub record IsDueAt (gap : ℕ) (base : Base) (entries : List Entry) (place : ℕ) : Type 0 where
   pub can_send : HasEntryAt (λ e. can_send e.call ≡ true) entries place
   pub wanted : ((wish : ℕ) × IsUnanswered entries place wish) ⊎ IsWantedSinceBase base entries place
@@ -54,7 +54,7 @@ pub record IsDueAt (gap : ℕ) (base : Base) (entries : List Entry) (place : ℕ
   pub gapped_since_base : NoneUpBefore entries place
       → IfSome base.last_up (λ up. up + gap ≤ greatest_until base entries place)
 
--- PLIs are sent upstream just when they are due
+-- PLIs are sent upstream just when they are due (RFC 4585, section 6.3.1)
 abbrev pub IsPliSchedule : ℕ → Base → List Entry → Type 0
 IsPliSchedule gap base entries = (place : ℕ) → place < length entries
     → WentUpAt entries place ↔ IsDueAt gap base entries place

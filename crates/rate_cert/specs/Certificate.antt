@@ -80,5 +80,6 @@ pub record MeetsConditions (requests : List Request) (kept : List Kept)
   pub implications : EachIndex requests (IsImpliedAt requests implied)
   pub complete : EachIndex requests (IsNamed kept implied)
 
+-- the certificate meets the five conditions for these requests
 abbrev pub IsCertified : List Request → Cert → Type 0
 IsCertified requests cert = MeetsConditions requests cert.kept.items cert.implied.items

@@ -14,12 +14,12 @@ pub record IsChoice (requests : List Request) (places : List ℕ) : Type 0 where
   pub in_range : All (λ place. place < length requests) places
   pub distinct : AllPairs (λ x y. x ≢ y) places
 
--- A choice is faithful if it permits exactly the pairs that all the requests permit.
+-- A choice is faithful if it permits exactly the pairs that all the requests permit (RFC 5104, section 3.5.4.2).
 abbrev pub IsFaithful : List Request → List ℕ → Type 0
 IsFaithful requests places = (p : RatePair) → 1 ≤ p.seconds
     → (IsFeasible (chosen_requests requests places) p ↔ IsFeasible requests p)
 
--- It is smallest if no faithful list of places is shorter.
+-- A choice is smallest if it is faithful and no faithful list of places is shorter.
 pub record IsSmallest (requests : List Request) (places : List ℕ) : Type 0 where
   pub faithful : IsFaithful requests places
   pub fewest : (others : List ℕ) → IsFaithful requests others → length places ≤ length others

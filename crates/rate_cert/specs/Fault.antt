@@ -36,5 +36,6 @@ FailsFirst requests kept implied (Missing place) =
     × EachIndex requests (IsImpliedAt requests implied)
     × FailsFirstAt requests (IsNamed kept implied) place
 
+-- the first condition that the certificate fails, and the least place at which it does
 abbrev pub IsFirstCertFault : List Request → Cert → CertFault → Type 0
 IsFirstCertFault requests cert fault = FailsFirst requests cert.kept.items cert.implied.items fault

@@ -12,7 +12,7 @@ value_for owner_of value_of [] owner = None
 value_for owner_of value_of (r ∷ rows) owner =
     if owner_of r == owner then Some (value_of r) else value_for owner_of value_of rows owner
 
--- by rising owner, with this row in the place of its owner's
+-- the rows by rising owner, with this one in the place of its owner's, or among the others
 abbrev pub with_row : {A : Type 0} → (A → ℕ) → List A → A → List A
 with_row owner_of [] new = new ∷ []
 with_row owner_of (r ∷ rows) new =
@@ -20,6 +20,7 @@ with_row owner_of (r ∷ rows) new =
     else if owner_of r == owner_of new then new ∷ rows
     else r ∷ with_row owner_of rows new
 
+-- the rows without the owner's
 abbrev pub without_row : {A : Type 0} → (A → ℕ) → List A → ℕ → List A
 without_row owner_of rows owner = filter (λ r. not (owner_of r == owner)) rows
 

@@ -29,6 +29,7 @@ pub record AtItsDesk (P : DeskState → Receipt → Type 0) (desks : List DeskSt
   pub there : slice_get desks receipt.publisher ≡ Some desk
   pub is : P desk receipt
 
+-- the receipt stands in the history of its publisher's desk
 abbrev pub StandsIn : List DeskState → Receipt → Type 0
 StandsIn = AtItsDesk IsListedBy
 
@@ -121,7 +122,7 @@ IsFirstGatherFault made seats receipts desks (Totals publisher) =
     × IsFirstOff seats desks publisher
 IsFirstGatherFault made seats receipts desks NoMemory = ⊥
 
--- these desks of the house agree with seats and receipts
+-- these desks of the house, one for each publisher, agree with seats and receipts
 pub record GathersAll (gap request_ms publishers made : ℕ) (seats : List SeatState)
     (receipts : List Receipt) (desks : List DeskState) : Type 0 where
   pub of_house : AreDesksOf gap request_ms publishers desks

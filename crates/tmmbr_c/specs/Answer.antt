@@ -49,7 +49,7 @@ HasNoRoom kept implied answer =
     (length kept < answer.kept) ⊎ (length implied < answer.implied)
 
 -- the front of the arrays, as far as the answer says, is a certificate that announces the canonical
--- choice of the requests
+-- choice of the requests (RFC 5104, section 3.5.4.2)
 abbrev pub AnnouncesIn : List Request → List TmmbrKept → List TmmbrImplied → TmmbrAnswer → Type 0
 AnnouncesIn requests kept implied answer =
     AnnouncesEntries requests (map kept_entry (take answer.kept kept))

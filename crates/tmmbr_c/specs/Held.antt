@@ -10,6 +10,7 @@ use Rattle.std_heap.specs.contracts.GlobalAllocator.TheImpl.{ghosts}
 use Rattle.bounding_set.specs.contracts.bounds.Bounds.{the_row}
 use Rattle.bounding_set.specs.State.{State}
 
+-- what a state owns: a box of live requests, or nothing
 abbrev pub held_owns : Global → Ptr → Option State → Fml
 held_owns alloc at None = ftrue
 held_owns alloc at (Some s) = box_owns (ghosts.dealloc_token alloc) the_row at s

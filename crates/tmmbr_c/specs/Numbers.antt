@@ -15,6 +15,8 @@ use Rattle.tmmbr_c.specs.declared.numbers.TmmbrImplied.{TmmbrImplied}
 abbrev pub IsRequestInRange : TmmbrRequest → Type 0
 IsRequestInRange c = (c.exponent < 64) × (c.mantissa < 131072) × (c.overhead < 512)
 
+-- the request that the numbers of C are, with the nearest number in range for one out of
+-- range (RFC 5104, section 4.2.1.1)
 abbrev pub asked_request : TmmbrRequest → Request
 asked_request c = record {
   owner = record { 0 = c.ssrc };
@@ -40,6 +42,8 @@ pub record IsKeptInRange (c : TmmbrKept) : Type 0 where
   pub seconds : c.seconds < 2 ^ 14
   pub place : c.place < 2 ^ 16
 
+-- the kept entry that the numbers of C are, with the nearest number in range
+-- for one of its pair out of range
 abbrev pub kept_entry : TmmbrKept → Kept
 kept_entry c =
     let most = 2 ^ 100 - 1 in
@@ -68,5 +72,6 @@ pub record IsImpliedInRange (c : TmmbrImplied) : Type 0 where
   pub q : c.q < 2 ^ 16
   pub r : c.r < 2 ^ 16
 
+-- the implied entry that the numbers of C are
 abbrev pub implied_entry : TmmbrImplied → Implied
 implied_entry c = record { place = c.place; a = c.a; b = c.b; p = c.p; q = c.q; r = c.r }

@@ -10,9 +10,9 @@ use Rattle.bounding_set.specs.Certificate.{kept_pairs, implied_by}
 use Rattle.bounding_set.specs.Kept.{pairs_of, listed_of}
 use Rattle.tmmbr_c.specs.declared.order.OwnerPlace.{OwnerPlace}
 
--- The entries announce the canonical choice of the requests: it permits what they together permit, no
--- smaller choice does, and the entries, which are those of the certificate that is given for it, show
--- so. The implied ones may stand in any order.
+-- The entries announce the canonical choice of the requests (RFC 5104, section 3.5.4.2). It permits
+-- what they together permit, and no smaller choice does. The entries are those of the certificate
+-- that is given for it, the implied ones in any order, and show so.
 pub record AnnouncesEntries (requests : List Request) (kept : List Kept)
     (implied : List Implied) : Type 0 where
   pub canonical : IsCanonical requests (places_of kept)
@@ -42,6 +42,7 @@ pub record IsMovable (order : List OwnerPlace) (i : Implied) : Type 0 where
 abbrev pub moved_kept : (ℕ → ℕ) → Kept → Kept
 moved_kept at k = record { place = at k.place; pair = k.pair }
 
+-- the same of an implied entry and its three places
 abbrev pub moved_implied : (ℕ → ℕ) → Implied → Implied
 moved_implied at i =
     record { place = at i.place; a = at i.a; b = at i.b; p = i.p; q = i.q; r = i.r }

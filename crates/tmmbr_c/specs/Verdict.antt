@@ -23,7 +23,7 @@ abbrev pub HasTooMany : List TmmbrRequest → List TmmbrKept → List TmmbrImpli
 HasTooMany asked kept implied =
     (MAX_REQUESTS < length asked) ⊎ (MAX_REQUESTS < length kept) ⊎ (MAX_REQUESTS < length implied)
 
--- all of them are in range, and there are no more
+-- all numbers of requests and certificate are in range, and there are not too many of either
 pub record CanBeRead (asked : List TmmbrRequest) (kept : List TmmbrKept)
     (implied : List TmmbrImplied) : Type 0 where
   pub few : ¬ HasTooMany asked kept implied
@@ -80,7 +80,7 @@ pub record TellsFault (v : TmmbrVerdict) (fault : CertFault) : Type 0 where
   pub number : v.fault ≡ number_of_fault fault
   pub place : v.place ≡ place_of_fault fault
 
--- the verdict says the first condition that fails
+-- the verdict has the number and the place of the first condition that fails
 pub record TellsFirstFault (requests : List Request) (kept : List Kept) (implied : List Implied)
     (v : TmmbrVerdict) : Type 0 where
   pub fault : CertFault
