@@ -37,7 +37,7 @@ is_block (Received p) = false
 is_block (SenderReported r) = false
 is_block BlockMade = true
 
--- the packets that count
+-- the packets that count: the first COUNTED_PACKETS (RFC 3550, appendix A.3)
 abbrev pub counted_packets : List ReceptionCall → List Arrival
 counted_packets calls = take COUNTED_PACKETS (filter_map packet_in calls)
 
@@ -139,7 +139,8 @@ pub record Heard : Type 0 where
   pub stream : Option Stream
   pub report : Option SenderReport
 
--- the numbers that packets come to, of which those before were received when the last block was made
+-- What packets come to (RFC 3550, appendices A.3 and A.8): count, greatest extended number, fold of
+-- the differences of transits. Those before had been received when the last block was made.
 abbrev pub stream_of : List Arrival → List Arrival → Option Stream
 stream_of before [] = None
 stream_of before (first ∷ rest) = Some (record {
@@ -156,13 +157,16 @@ stream_of before (first ∷ rest) = Some (record {
 abbrev pub packets_before_block : List ReceptionCall → List Arrival
 packets_before_block calls = counted_packets (before_last is_block calls)
 
+-- what these calls come to: the numbers of the packets that count, and the last sender report
+-- (RFC 3550, appendices A.3 and A.8)
 abbrev pub reception_of : List ReceptionCall → Heard
 reception_of calls = record {
   stream = stream_of (packets_before_block calls) (counted_packets calls);
   report = last_report calls;
 }
 
--- the report block on these packets, those before it, and the last sender report
+-- the report block on these packets, those before it, and the last sender
+-- report (RFC 3550, section 6.4.1)
 pub record IsBlockAbout (before packets : List Arrival) (report : Option SenderReport) (moment : ℕ)
     (source : Ssrc) (b : Block) : Type 0 where
   pub about : b.source ≡ source
@@ -180,7 +184,8 @@ AnswersBlock before [] report moment source answer = answer ≡ None
 AnswersBlock before (first ∷ rest) report moment source answer =
     IsSomeAnd answer (IsBlockAbout before (first ∷ rest) report moment source)
 
--- the answer to the wish for a block after these calls: None exactly if no packet was received
+-- the answer to the wish for a block after these calls: None exactly if no packet was
+-- received (RFC 3550, section 6.4.1)
 abbrev pub IsBlockAfter : List ReceptionCall → ℕ → Ssrc → Option Block → Type 0
 IsBlockAfter calls moment source answer =
     AnswersBlock (packets_before_block calls) (counted_packets calls)
@@ -192,7 +197,7 @@ pub record IsGreatest (numbers : List ℕ) (n : ℕ) : Type 0 where
   pub reached : Contains numbers n
   pub bound : All (λ m. m ≤ n) numbers
 
--- the number that a packet stands for, after packets that stand for these
+-- the number that a packet stands for, after packets that stand for these (RFC 3550, appendix A.1)
 abbrev pub ExtendsTo : List ℕ → Arrival → ℕ → Type 0
 ExtendsTo [] p number = number ≡ first_number p
 ExtendsTo (m ∷ past) p number =
@@ -205,7 +210,7 @@ AllStandFor past (p ∷ packets) [] = ⊥
 AllStandFor past (p ∷ packets) (number ∷ numbers) =
     ExtendsTo past p number × AllStandFor (past ++ number ∷ []) packets numbers
 
--- the greatest of the numbers that these packets stand for
+-- the greatest of the numbers that these packets stand for (RFC 3550, appendix A.1)
 pub record IsHighest (packets : List Arrival) (highest : ℕ) : Type 0 where
   pub numbers : List ℕ
   pub stand_for : AllStandFor [] packets numbers

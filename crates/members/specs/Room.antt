@@ -16,8 +16,8 @@ use Rattle.members.specs.Stays.{Told, leave, leaving, coming_count, come}
 use Rattle.members.specs.Reception.{Heard}
 use Rattle.members.specs.Stream.{nothing_heard, heard_packet, heard_report, heard_block}
 
--- the timeout, the greatest moment handed in, the next number of a stay or a turn, the endpoints, the legs, and what was
--- received of each endpoint since it last came
+-- The timeout, the greatest moment handed in, and the next number of a stay or a turn. When each endpoint was heard
+-- last; each leg's stay, turn and selection; and what was received of each endpoint since it last came.
 pub record RoomState : Type 0 where
   pub timeout : ℕ
   pub moment : ℕ
@@ -48,6 +48,7 @@ step_with r moment next t = record {
 abbrev pub after_leaving : RoomState → ℕ → Told
 after_leaving r moment = leaving r.timeout moment r.endpoints r.legs
 
+-- a moment: every present endpoint that is overdue leaves
 abbrev pub tick_step : RoomState → ℕ → Step
 tick_step r handed =
     step_with r (max r.moment handed) r.next (after_leaving r (max r.moment handed))
@@ -55,6 +56,7 @@ tick_step r handed =
 abbrev pub after_bye : Told → ℕ → Told
 after_bye t endpoint = if is_present_at t.endpoints endpoint then leave t endpoint else t
 
+-- a BYE: all that are overdue leave, then this endpoint, if it is present; an unknown endpoint is refused
 abbrev pub bye_step : RoomState → ℕ → ℕ → Result Step RoomFault
 bye_step r handed endpoint =
     if nat_le (length r.endpoints) endpoint then Err UnknownEndpoint
@@ -79,6 +81,8 @@ heard_step r moment endpoint t =
     else Ok (step_with (anew r endpoint) moment (r.next + coming_count t.endpoints endpoint t.legs)
     (come t moment r.next endpoint))
 
+-- a packet of an endpoint is heard, once all that are overdue left; an unknown endpoint, or another
+-- source than its own, is refused
 abbrev pub hear_step : RoomState → ℕ → ℕ → ℕ → Result Step RoomFault
 hear_step r handed endpoint ssrc =
     if nat_le (length r.endpoints) endpoint then Err UnknownEndpoint
@@ -124,6 +128,7 @@ selected_step r moment t number on l =
     else Ok (step_with r moment (next_after on r.next l)
     (with_leg t number (switched_leg on r.next l)))
 
+-- a leg is switched on or off, once all that are overdue left; an unknown leg is refused
 abbrev pub select_step : RoomState → ℕ → ℕ → Bool → Result Step RoomFault
 select_step r handed number on =
     if nat_le (length r.legs) number then Err UnknownLeg
@@ -155,7 +160,7 @@ IsCalm r handed =
 
 -- ---- what is received
 
--- what was received of the endpoint in its present presence: nothing if it is absent
+-- what was received of the endpoint in its present presence: nothing if it is absent (RFC 3550, section 6.4.1)
 abbrev pub reception_at : RoomState → ℕ → Heard
 reception_at r endpoint =
     if is_present_at r.endpoints endpoint then slice_index_or r.receptions endpoint nothing_heard
@@ -168,17 +173,17 @@ with_reception r endpoint h = record r {
       else r.receptions;
 }
 
--- a packet of the endpoint came at the room's moment
+-- the room once a packet of the endpoint came at its moment (RFC 3550, section 6.4.1)
 abbrev pub after_packet : RoomState → ℕ → ℕ → ℕ → RoomState
 after_packet r endpoint seq timestamp =
     with_reception r endpoint (heard_packet (reception_at r endpoint) r.moment seq timestamp)
 
--- a sender report of the endpoint came at the room's moment
+-- the room once a sender report of the endpoint came at its moment (RFC 3550, section 6.4.1)
 abbrev pub after_report : RoomState → ℕ → ℕ → ℕ → RoomState
 after_report r endpoint ntp rtp =
     with_reception r endpoint (heard_report (reception_at r endpoint) r.moment ntp rtp)
 
--- a block about the endpoint was made
+-- the room once a block about the endpoint was made (RFC 3550, section 6.4.1)
 abbrev pub after_block : RoomState → ℕ → RoomState
 after_block r endpoint = with_reception r endpoint (heard_block (reception_at r endpoint))
 

@@ -13,11 +13,11 @@ opening_rows legs = replicate legs opening_row
 abbrev pub row_changed : List Row → Change → List Row
 row_changed rows c = slice_set rows c.leg c.row
 
--- the rows of so many legs after these changes
+-- the rows of so many legs after these changes, from the opening rows on (RFC 7667, section 3.7)
 abbrev pub rows_after : ℕ → List Change → List Row
 rows_after legs changes = fold row_changed (opening_rows legs) changes
 
--- what an order changes in a table of so many legs
+-- what an order changes in a table of so many legs (RFC 7667, section 3.7)
 abbrev pub changes_by : ℕ → Order → List Change
 changes_by legs (Arrive leg stay) = []
 changes_by legs (Depart leg stay) = []

@@ -100,7 +100,7 @@ IsAnswerBy None report moment source answer = answer ≡ None
 IsAnswerBy (Some s) report moment source answer =
     IsSomeAnd answer (IsBlockOf s report moment source)
 
--- the answer to a wish for a block: None exactly if nothing was received
+-- the answer to a wish for a block, by the few numbers that a reception holds: None exactly if nothing was received
 abbrev pub IsBlockAnswer : Heard → ℕ → Ssrc → Option Block → Type 0
 IsBlockAnswer h moment source answer = IsAnswerBy h.stream h.report moment source answer
 

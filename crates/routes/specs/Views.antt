@@ -40,7 +40,8 @@ pub record BlankView : Type 0 where
   pub book : Book
   pub legs : ℕ
 
--- the table's mark is of this book, and its rows are those after the mark's changes
+-- The table's mark, which knows publications, is of this book, and its rows are those after their changes.
+-- So it is with the table that readers take, and with each reader's copy.
 abbrev pub IsTable : Book → ℕ → Table → Type 0
 IsTable book legs t =
     (t.mark.seen.book ≡ book) × (t.rows.items ≡ rows_after legs (changes_of t.mark.seen.log))

@@ -6,7 +6,8 @@ use Rattle.settings.specs.declared.settings.LegSettings.{LegSettings}
 use Rattle.settings.specs.declared.limits.TheConstants.{MAX_ENDPOINTS, MAX_LEGS, MAX_WORKERS}
 use Rattle.settings.specs.Settings.{Configuration, IsLegAmong}
 
--- how many workers there are, the source of each endpoint, the name that is said of what it publishes, and the legs, by their numbers
+-- how many workers there are, the source of each endpoint, the name that is said of what it publishes, and the legs, by their
+-- numbers (RFC 7667, section 3.7)
 pub record LinkTable : Type 0 where
   pub workers : ℕ
   pub endpoints : List Ssrc
@@ -21,7 +22,7 @@ table_of c = record {
   legs = c.legs;
 }
 
--- the canonical name that is said of what an endpoint publishes; empty if there is no such endpoint
+-- the canonical name that is said of what an endpoint publishes; empty if there is no such endpoint (RFC 3550, section 6.5.1)
 abbrev pub cname_of : LinkTable → ℕ → List ℕ
 cname_of t endpoint = slice_index_or t.cnames endpoint []
 
@@ -54,7 +55,7 @@ first_to subscriber source (e ∷ es) =
     if (e.1.subscriber == subscriber && e.1.out_ssrc.0 == source) then Some e.0
     else first_to subscriber source es
 
--- the number of the leg on which this subscriber is sent this source
+-- the number of the leg on which this subscriber is sent this source (RFC 7667, section 3.7)
 abbrev pub leg_to : LinkTable → ℕ → ℕ → Option ℕ
 leg_to t subscriber source = first_to subscriber source (numbered_legs t)
 

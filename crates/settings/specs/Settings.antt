@@ -75,6 +75,7 @@ additions_of x = record {
   names = map (option_map string_bytes) x.cnames.items;
 }
 
+-- nothing is asked beyond the parts: legs begin and end without a word, and no endpoint has a name of its own
 abbrev pub no_additions : Additions
 no_additions = record {
   rules = record { early_pictures = false; leg_goodbyes = false };
@@ -217,7 +218,7 @@ configuration_of p x = record {
   legs = map (leg_of (length p.endpoints.items)) p.legs.items;
 }
 
--- what holds of a leg: it names two different endpoints
+-- what holds of a leg: it names two different endpoints, which are there
 pub record IsLegAmong (endpoints : ℕ) (l : LegSettings) : Type 0 where
   pub subscriber : l.subscriber < endpoints
   pub publisher : l.publisher < endpoints
@@ -231,7 +232,8 @@ HasOtherEnds a b = a.subscriber ≡ b.subscriber → a.publisher ≢ b.publisher
 abbrev pub sources_of : Configuration → List ℕ
 sources_of s = s.unit_ssrc.0 ∷ (map (λ e. e.0) s.endpoints ++ map (λ l. l.out_ssrc.0) s.legs)
 
--- what always holds of settings
+-- What always holds of settings: each number is in its range, and each endpoint has a canonical name. Each leg names two different
+-- endpoints, no two legs name the same two, and all sources differ.
 pub record IsInRange (s : Configuration) : Type 0 where
   pub least_workers : 1 ≤ s.workers
   pub most_workers : s.workers ≤ MAX_WORKERS
