@@ -26,6 +26,7 @@ new_ingress c = record {
   tmmbns = 0;
 }
 
+-- the task that a duty is
 abbrev pub task_by : Duty → Task
 task_by (Order o) = order o
 task_by (Push worker job) = push worker job
@@ -33,13 +34,14 @@ task_by (Pulse publisher) = pulse publisher
 task_by (Expire publisher) = expire publisher
 task_by (Report publisher) = report publisher
 
--- the oldest task is the duty, and waits no more
+-- the oldest task is the duty, waits no more, and nothing else changed
 abbrev pub HandsOut : WorldState → WorldState → Option Duty → Type 0
 HandsOut old new None = (old.tasks ≡ []) × (new ≡ old)
 HandsOut old new (Some duty) =
     (old.tasks ≡ task_by duty ∷ new.tasks) × (new ≡ record old { tasks = new.tasks })
 
--- a report to the publisher at the room's moment, with the block about it, if a packet of it was received
+-- a report to the publisher at the room's moment, with the block about it, if a packet of it was
+-- received (RFC 3550, section 6.4.2)
 pub record Reports (old : WorldState) (p : ℕ) (new : WorldState) (bytes : List ℕ) : Type 0 where
   pub block : Option Block
   pub answer : IsBlockAnswer (reception_at old.room p) old.room.moment

@@ -68,7 +68,7 @@ picture_task s r leg on =
     if on && s.rules.early_pictures
     then Some (push (owner_of s.table leg) (Pli leg r.moment)) else None
 
--- the leg's publisher is gone, and its subscriber is there
+-- the leg's publisher is gone, and its subscriber is there (RFC 3550, section 6.6)
 abbrev pub is_left : LinkTable → RoomState → ℕ → Bool
 is_left t r leg =
     option_map_or (λ (l : LegSettings). not (is_present_at r.endpoints l.publisher)
@@ -80,6 +80,8 @@ goodbye_task s r leg =
     if s.rules.leg_goodbyes && is_left s.table r leg
     then Some (push (owner_of s.table leg) (Goodbye leg)) else None
 
+-- What follows from an order, if the settings say so. A leg that is sent from now on asks for a picture
+-- (RFC 4585, section 6.3.1). The subscriber of a leg whose publisher is gone is told (RFC 3550, section 6.6).
 abbrev pub task_after : Setup → RoomState → Order → Option Task
 task_after s r (Arrive leg stay) = None
 task_after s r (Depart leg stay) = goodbye_task s r leg
@@ -153,7 +155,7 @@ hearing w moment endpoint bytes (Err refusal) = giving w (Refused refusal ∷ []
 hearing w moment endpoint bytes (Ok said) =
     hearing_by w moment endpoint bytes said (step_of w.room (room_call moment endpoint said))
 
--- what the datagram says is done, or it is refused
+-- what the datagram says is done, or it is refused (RFC 7667, section 3.7)
 pub record IsHearing (w : WorldState) (moment endpoint : ℕ) (bytes : List ℕ)
     (h : Happening) : Type 0 where
   pub said : Result Said Refusal
@@ -199,6 +201,8 @@ ticking_by w moment step = record (giving w []) {
   reported = if is_report_due w step.room then step.room.moment else w.reported;
 }
 
+-- A moment is taken in (RFC 7667, section 3.7): all that are overdue leave. Tasks follow: a pulse for the desk
+-- of each present endpoint, an expire if requests grow old, and reports if they are due.
 abbrev pub ticking : WorldState → ℕ → Happening
 ticking w moment = ticking_by w moment (tick_step w.room moment)
 
@@ -212,5 +216,6 @@ selecting_by w moment leg on (Ok step) =
       made = map order step.orders ++ tasks_after w.setup step;
     }
 
+-- a leg is switched on or off, or the room refuses that (RFC 7667, section 3.7)
 abbrev pub selecting : WorldState → ℕ → ℕ → Bool → Happening
 selecting w moment leg on = selecting_by w moment leg on (select_step w.room moment leg on)

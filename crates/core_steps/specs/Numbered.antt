@@ -60,6 +60,7 @@ packets_taken_by number l rows (Pli leg moment) = []
 packets_taken_by number l rows (Report leg stay sr) = []
 packets_taken_by number l rows (Goodbye leg) = []
 
+-- over a run: the packets that the leg of this number took, by the rows as they were then (RFC 3550, section 5.1)
 abbrev pub taken_on : ℕ → LegSettings → List Finished → List Taken
 taken_on number l jobs = flat_map (λ (f : Finished). packets_taken_by number l f.rows f.job) jobs
 
@@ -95,8 +96,8 @@ pub record AtLeg (P : LegState → Type 0) (legs : List LegState) (place : ℕ) 
   pub there : slice_get legs place ≡ Some leg
   pub is : P leg
 
--- The leg once these packets were taken: it is the same leg with the same name, what it holds of numbers is what they leave of what it
--- held, and it keeps the last of those that it kept and of those that got a number.
+-- The leg once these packets were taken: the same leg with the same name. Its numbers (RFC 3550, section 5.1) are what they leave of
+-- what it held. For NACKs (RFC 4585, section 6.2.1) it keeps the last of those that it kept and of those that got a number.
 pub record HasTaken (taken : List Taken) (old new : LegState) : Type 0 where
   pub number : new.number ≡ old.number
   pub link : new.link ≡ old.link
@@ -106,8 +107,8 @@ pub record HasTaken (taken : List Taken) (old new : LegState) : Type 0 where
   pub kept : new.kept.items
       ≡ kept_in_turn old.kept.capacity old.kept.items (sent_on old.link old.numbers taken)
 
--- A new leg with this name once these packets were taken: the name is still its own, its numbers are a new leg's, and it keeps the last
--- of those that got one, as many as its ring has room for.
+-- A new leg with this name once these packets were taken. Its numbers (RFC 3550, section 5.1) are what they leave of a new leg's. For
+-- NACKs (RFC 4585, section 6.2.1) it keeps the last of those that got one, as many as its ring has room for.
 pub record HasTakenAll (ring number : ℕ) (l : LegSettings) (name : List ℕ) (taken : List Taken)
     (now : LegState) : Type 0 where
   pub same_number : now.number ≡ number

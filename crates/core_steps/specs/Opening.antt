@@ -37,7 +37,7 @@ pub record AreNewWorkers (c : Configuration) (count : ℕ) (workers : List Worke
   pub size : length workers ≡ count
   pub each : (k : ℕ) (s : WorkerState) → slice_get workers k ≡ Some s → IsNewWorker c k s
 
--- nobody is present, nothing waits, and nothing was done yet
+-- the world that settings open: nobody is present, nothing waits, and nothing was done yet
 pub record IsNewWorld (c : Configuration) (w : WorldState) : Type 0 where
   pub setup : w.setup ≡ setup_by c
   pub room : w.room ≡ new_room c

@@ -51,13 +51,14 @@ OverRuns P events old outs new all =
 
 -- ---- the announced sets
 
--- The set that the call's effect shows is the one that its desk announces then, after these calls and this one.
+-- The set that the call's effect shows is the one that its desk announces then, after these calls and
+-- this one (RFC 5104, section 4.2).
 pub record ShowsAnnounced (c : Configuration) (before : List RecordedCall)
     (a : RecordedCall) : Type 0 where
   pub announces : AnnouncesAfter c (entries_at a.publisher (before ++ a ∷ [])) a.desk
   pub set : a.effect.set.items ≡ announced_of a.desk.bounds
 
--- one of these calls is to be notified of by this, with its effect
+-- one of these calls is to be notified of by this, with its effect (RFC 5104, section 4.2)
 pub record IsOfCall (calls : List RecordedCall) (p : Pending) : Type 0 where
   pub place : ℕ
   pub call : RecordedCall
@@ -65,14 +66,14 @@ pub record IsOfCall (calls : List RecordedCall) (p : Pending) : Type 0 where
   pub asked_by : Option ℕ
   pub tells : pending_of call.publisher asked_by call.answer call.effect ≡ Some p
 
--- what waits to be told, or is in a worker's hand, is the effect of one of these calls
+-- what waits to be told, or is in a worker's hand, is the effect of one of these calls (RFC 5104, section 4.2)
 pub record TellsOf (calls : List RecordedCall) (w : WorldState) : Type 0 where
   pub waits : (p : Pending) → w.pending ≡ Some p → IsOfCall calls p
   pub in_hand : (k : ℕ) (s : WorkerState) (p : Pending) → slice_get w.workers k ≡ Some s
       → s.hand ≡ telling p → IsOfCall calls p
 
--- Of all calls that the history lists: each publisher's desk announces what they leave to be announced there; so did the desk of
--- each call right after it, and the call's effect shows that set; and what is told are effects of these calls.
+-- Of all calls that the history lists (RFC 5104, section 4.2): each publisher's desk announces what they leave to be announced. So
+-- did the desk right after each call, and the call's effect shows that set. What is told are effects of these calls.
 pub record Announces (c : Configuration) (history : List Happening) (w : WorldState) : Type 0 where
   pub desks : (p : ℕ) → p < length c.endpoints
       → AtDesk (AnnouncesAfter c (entries_at p (calls_of history))) w.desks p
@@ -80,14 +81,14 @@ pub record Announces (c : Configuration) (history : List Happening) (w : WorldSt
       → calls_of history ≡ before ++ a ∷ behind → ShowsAnnounced c before a
   pub told : TellsOf (calls_of history) w
 
--- after every run from a new world, and on the way
+-- each desk announces so after every run from a new world, and on the way (RFC 5104, section 4.2)
 abbrev pub AnnouncesOverRuns :
     List Event → WorldState → List Out → WorldState → List Out → Type 0
 AnnouncesOverRuns = OverRuns Announces
 
 -- ---- stays that ended
 
--- The owner's request that is live was made in this stay: it is the last that was done.
+-- The owner's request that is live was made in this stay: it is the last that was done (RFC 5104, section 4.2.1).
 pub record IsLiveInStay (entries : List Entry) (owner stay : ℕ) (d : DeskState) : Type 0 where
   pub tuple : Tuple
   pub live : tuple_of d.bounds.rows owner ≡ Some tuple
@@ -100,7 +101,7 @@ pub record IsLiveInStay (entries : List Entry) (owner stay : ℕ) (d : DeskState
 abbrev pub IsOver : List Entry → ℕ → ℕ → DeskState → Type 0
 IsOver entries owner stay d = HasLeft owner stay d × ¬ IsLiveInStay entries owner stay d
 
--- each stay whose depart was done is over at the desk of its leg's publisher
+-- each stay whose depart was done is over at the desk of its leg's publisher (RFC 5104, section 4.2.1)
 abbrev pub EndsStays : Configuration → List Happening → WorldState → Type 0
 EndsStays c history w =
     (place leg stay : ℕ) (l : LegSettings) (d : DeskState) → 1 ≤ stay
@@ -109,7 +110,7 @@ EndsStays c history w =
     → IsOver (entries_at l.publisher (calls_of history)) (source_of (table_of c) l.subscriber).0
     stay d
 
--- after every run from a new world, and on the way
+-- stays that ended are over after every run from a new world, and on the way (RFC 5104, section 4.2.1)
 abbrev pub EndsStaysOverRuns :
     List Event → WorldState → List Out → WorldState → List Out → Type 0
 EndsStaysOverRuns = OverRuns EndsStays

@@ -78,7 +78,8 @@ HearsRates w (Select moment leg on) rates = rates ≡ []
 HearsRates w Ingress rates = rates ≡ []
 HearsRates w (Work k) rates = rates ≡ []
 
--- what is heard in a run, in order
+-- what is heard in a run, in order: each TMMBR entry of a datagram that is taken in, for a leg in which a stay
+-- stands (RFC 5104, section 4.2.1)
 abbrev pub HeardIn : WorldState → List Event → List Happening → List HeardRate → Type 0
 HeardIn w [] history rates = rates ≡ []
 HeardIn w (e ∷ events) [] rates = rates ≡ []
@@ -93,13 +94,13 @@ word_heard leg stay r = if (r.leg == leg && r.stay == stay) then r.word ∷ [] e
 abbrev pub words_heard : ℕ → ℕ → List HeardRate → List ℕ
 words_heard leg stay rates = flat_map (word_heard leg stay) rates
 
--- the last of them
+-- the last word that was heard in this stay of a leg (RFC 5104, section 4.2.1)
 abbrev pub last_heard_word : ℕ → ℕ → List HeardRate → Option ℕ
 last_heard_word leg stay rates = last_or None (words_heard leg stay rates)
 
 -- ---- when nothing waits
 
--- nothing waits, no job was given up, and no history was full
+-- nothing waits, no job was given up, and no history was full (RFC 5104, section 4.2)
 pub record IsQuiet (history : List Happening) (w : WorldState) : Type 0 where
   pub waits : waiting_in w ≡ record { tasks = 0; jobs = 0; hands = 0 }
   pub lost : w.lost ≡ 0
@@ -136,8 +137,8 @@ IsLiveOrTaken request_ms entries d owner stay word =
     ((tuple : Tuple) × (word_of tuple ≡ word) × (tuple_of d.bounds.rows owner ≡ Some tuple))
     ⊎ ExpireTook request_ms entries owner stay word
 
--- Each live request is the word heard last in the stay that stands; if there is such a word, it is live, unless it was asked for
--- in that stay and an expire took it; and if no stay stands, nothing is live.
+-- Each live request is the word heard last in the stay that stands (RFC 5104, section 4.2). If there is such a word, it is live,
+-- unless it was asked for in that stay and an expire took it. If no stay stands, nothing is live.
 pub record LastHeardIsLive (c : Configuration) (history : List Happening) (rates : List HeardRate)
     (w : WorldState) : Type 0 where
   pub live : (publisher owner : ℕ) (d : DeskState) (tuple : Tuple)
@@ -164,7 +165,8 @@ pub record LeavesLastHeardLive (c : Configuration) (start : WorldState) (before 
   pub heard : HeardIn start (before ++ events) (past ++ next) rates
   pub live : IsQuiet (past ++ next) new → LastHeardIsLive c (past ++ next) rates new
 
--- it is so after every run from a new world of settings, in however many calls
+-- The quiet law: after every run from a new world of settings, in however many calls, the words heard last are live if the run
+-- is quiet (RFC 5104, section 4.2).
 abbrev pub ObeysQuietLaw : List Event → WorldState → WorldState → Type 0
 ObeysQuietLaw events old new =
     (c : Configuration) (start : WorldState) (before : List Event) (past : List Happening)

@@ -237,7 +237,8 @@ is_busy w = is_some w.pending || not (is_empty w.tasks)
 abbrev pub UnlessBusy : WorldState → Happening → Type 0 → Type 0
 UnlessBusy w h P = MatchBool (is_busy w) (h ≡ giving w (Busy ∷ [])) P
 
--- what an event may do
+-- What an event may do (RFC 7667, section 3.7): a datagram, a moment or a selection is taken in, or
+-- the ingress or a worker makes a step.
 abbrev pub Does : WorldState → Event → Happening → Type 0
 Does w (Hear moment endpoint bytes) h = UnlessBusy w h (IsHearing w moment endpoint bytes h)
 Does w (Tick moment) h = UnlessBusy w h (h ≡ ticking w moment)

@@ -29,6 +29,7 @@ of_desk p a = if a.publisher == p then a ∷ [] else []
 abbrev pub recorded_in : ℕ → Happening → List RecordedCall
 recorded_in p h = flat_map (of_desk p) h.asked
 
+-- over a run: the recorded calls of this publisher's desk, in order
 abbrev pub recorded_at : ℕ → List Happening → List RecordedCall
 recorded_at p history = flat_map (recorded_in p) history
 
@@ -36,13 +37,14 @@ recorded_at p history = flat_map (recorded_in p) history
 abbrev pub recorded_entry : RecordedCall → Entry
 recorded_entry a = record { call = a.call; answer = a.answer }
 
--- all recorded calls of a history, and those of one publisher's desk as it lists them
+-- all recorded calls of a history, in order
 abbrev pub calls_of : List Happening → List RecordedCall
 calls_of history = flat_map (λ (h : Happening). h.asked) history
 
 abbrev pub entry_at : ℕ → RecordedCall → List Entry
 entry_at p a = if a.publisher == p then recorded_entry a ∷ [] else []
 
+-- those of one publisher's desk, as it lists them
 abbrev pub entries_at : ℕ → List RecordedCall → List Entry
 entries_at p calls = flat_map (entry_at p) calls
 
@@ -54,7 +56,7 @@ AreNumberedFrom n [] = Unit {0}
 AreNumberedFrom n (a ∷ calls) = (a.number ≡ n) × AreNumberedFrom (n + 1) calls
 
 -- The desk recorded these calls one after another. Each has the count of the desk's calls before it as its number. Base and
--- history stand for the former ones and the calls with their answers, which are those that are owed.
+-- history stand for the former ones and the calls with their answers, which are those that are owed (RFC 5104, section 4.2).
 pub record HasRecorded (old : DeskState) (calls : List RecordedCall)
     (new : DeskState) : Type 0 where
   pub numbered : AreNumberedFrom (call_count old) calls
@@ -65,9 +67,9 @@ pub record HasRecorded (old : DeskState) (calls : List RecordedCall)
   pub gap : new.gap ≡ old.gap
   pub request_ms : new.request_ms ≡ old.request_ms
 
--- These are all calls of the desk with their answers, each the one that is owed, and name stays from 1 on. Its rows are the requests that they leave live:
--- of each owner that is present the last one since it arrived, unless it grew too old. The announced set is drawn from them,
--- permits exactly what they together permit, and no smaller choice does, by its certificate.
+-- These are all calls of the desk with their answers, each the one that is owed, and name stays from 1 on. Its rows are the
+-- requests that they leave live: of each owner that is present the last one since it arrived, unless it grew too old. The
+-- announced set is the smallest for them, by its certificate (RFC 5104, section 4.2).
 pub record AnnouncesAfter (c : Configuration) (entries : List Entry) (d : DeskState) : Type 0 where
   pub stays : All (λ e. HasStay e.call) entries
   pub legal : IsLegalHistory c.pli_gap_ms c.request_ms empty_base entries

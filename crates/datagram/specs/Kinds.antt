@@ -22,6 +22,7 @@ abbrev pub feedback_count : ℕ → ℕ → List Content → ℕ
 feedback_count fmt kind [] = 0
 feedback_count fmt kind (c ∷ cs) = one_if (is_feedback fmt kind c) + feedback_count fmt kind cs
 
+-- how many packets of each kind of feedback a compound holds (RFC 4585, section 6.1; RFC 5104, section 4.2)
 abbrev pub kinds_in : List Content → Kinds
 kinds_in contents = record {
   nacks = risen 0 (feedback_count 1 RTPFB contents);

@@ -12,8 +12,8 @@ use Rattle.datagram.specs.Blocks.{blocks_said}
 use Rattle.datagram.specs.Kinds.{kinds_in}
 use Rattle.datagram.specs.Notice.{last_notice}
 
--- This is noted of packets: how many there are of each kind of feedback, and so many of their report blocks and of the entries of the last
--- TMMBN as there is room for, the first.
+-- This is noted of packets: how many there are of each kind of feedback. Of their report blocks (RFC 3550, section 6.4), and of the
+-- entries of the last TMMBN (RFC 5104, section 4.2.2), the first, as many as there is room for.
 pub record AreNoted (n : Notes) (contents : List Content) : Type 0 where
   pub kinds : n.kinds ≡ kinds_in contents
   pub blocks : map block_of n.blocks.items ≡ take n.most_blocks (flat_map blocks_said contents)
@@ -24,7 +24,7 @@ pub record IsRtcpNoted (datagram : List ℕ) (n : Notes) : Type 0 where
   pub joined : (packets : List RtcpPacket) → ReadsRtcp datagram packets → AreNoted n (map packet_content packets)
   pub refused : (fault : RtcpFault) → Refuses datagram fault → AreNoted n []
 
--- this is noted of a datagram: nothing of one that isn't RTCP
+-- this is noted of a datagram: nothing of one that isn't RTCP (RFC 3550, section 6.4; RFC 5104, section 4.2.2)
 abbrev pub IsNoted : List ℕ → Notes → Type 0
 IsNoted datagram n =
     (is_rtcp datagram ≡ true → IsRtcpNoted datagram n)

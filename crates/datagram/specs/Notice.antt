@@ -31,6 +31,6 @@ abbrev pub entries_of : Option (List ℕ) → List TmmbrEntry
 entries_of None = []
 entries_of (Some bytes) = entries_in bytes
 
--- the entries of the last TMMBN among packets, none if there is no TMMBN
+-- the entries of the last TMMBN among packets, none if there is no TMMBN (RFC 5104, section 4.2.2)
 abbrev pub last_notice : List Content → List TmmbrEntry
 last_notice contents = entries_of (fold later_notice None contents)

@@ -49,12 +49,13 @@ ReadsBy says asks Goodbye = ReadsSaid says asks Goodbye
 ReadsBy says asks (Control c) = ReadsSaid says asks (Control c)
 ReadsBy says asks (Refused refusal) = says (Err refusal) × (asks ≡ [])
 
--- what was read of a datagram: what it says, and what it asks for
+-- what was read of a datagram: what it says, and what it asks for (RFC 3550, section 6; RFC 4585, section 6; RFC 5104, section 4.2)
 pub record WasRead : Type 0 where
   pub what : What
   pub asks : List Ask
 
--- The datagram, of the endpoint whose own source this is, says what was read.
+-- The datagram, of the endpoint whose own source this is, says what was read (RFC 3550, section 6;
+-- RFC 4585, section 6; RFC 5104, section 4.2).
 abbrev pub IsSaidIn : ℕ → List ℕ → WasRead → Type 0
 IsSaidIn own datagram r = ReadsBy (Says own datagram) r.asks r.what
 
@@ -84,8 +85,8 @@ pub record IsReadUpTo (own : ℕ) (datagram : List ℕ) (most : Option ℕ) (r :
   pub listed : r.asks.items ≡ first_asks most asks
   pub beyond : r.beyond ≡ asks_beyond most asks
 
--- Who speaks if only sender reports say so: of packets that say this the first of the senders of such that isn't the endpoint's own source,
--- else that.
+-- Who speaks if only sender reports say so (RFC 3550, section 6.4.1): the first of their senders that isn't the
+-- endpoint's own source, else that.
 abbrev pub IsClocked : ℕ → (Gist → Type 0) → What → ℕ → Type 0
 IsClocked own says (Media packet) clocked = clocked ≡ own
 IsClocked own says Goodbye clocked = (gist : Gist) × says gist × (clocked ≡ speaker_of own gist.clocks)

@@ -129,7 +129,8 @@ SaysRtp datagram (Err (Feedback fault)) = ⊥
 SaysRtp datagram (Err (Room fault)) = ⊥
 SaysRtp datagram (Err (Desk fault)) = ⊥
 
--- what a datagram of the endpoint whose own source this is says, or why it is refused
+-- what a datagram of the endpoint whose own source this is says, or why it is refused (RFC 3550, section 6;
+-- RFC 4585, section 6; RFC 5104, section 4.2)
 abbrev pub Says : ℕ → List ℕ → Result Said Refusal → Type 0
 Says own datagram said =
     (is_rtcp datagram ≡ true → SaysRtcp own datagram said)

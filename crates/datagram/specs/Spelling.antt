@@ -32,7 +32,8 @@ ask_packet speaker (Resend source nack) =
     plain_packet 1 RTPFB (nack_body speaker source.0 (nack ∷ []))
 ask_packet speaker (Picture source) = plain_packet 1 PSFB (pli_body speaker source.0)
 
--- a report first (RFC 3550, section 6.1), then each TMMBN, then a packet for each ask
+-- a report first (RFC 3550, sections 6.1 and 6.4), then each TMMBN, then a packet for each ask
+-- (RFC 4585, sections 6.2.1 and 6.3.1; RFC 5104, section 4.2)
 abbrev pub control_packets : Control → List Ask → List RtcpPacket
 control_packets c asks =
     speaking_packet c.speaker.0 c.report
@@ -55,7 +56,7 @@ IsAsHeard own Goodbye asks came = asks ≡ []
 IsAsHeard own (Controls c) asks came = Unit {0}
 IsAsHeard own (Refused refusal) asks came = (asks ≡ []) × Says own came (Err refusal)
 
--- each number within its field
+-- each number of what is asked for is within its field
 abbrev pub IsAskInRange : Ask → Type 0
 IsAskInRange (Rate source word) = (source.0 < 2 ^ 32) × (word < 2 ^ 32)
 IsAskInRange (Resend source nack) = (source.0 < 2 ^ 32) × IsNack nack
@@ -65,6 +66,7 @@ abbrev pub IsReportInRange : Option (ℕ × ℕ) → Type 0
 IsReportInRange None = Unit {0}
 IsReportInRange (Some report) = (report.0 < 2 ^ 64) × (report.1 < 2 ^ 32)
 
+-- each number of what RTCP says is within its field; media and what is refused are the bytes that came
 abbrev pub IsHeardInRange : ℕ → What → Type 0
 IsHeardInRange own (Media packet) = Unit {0}
 IsHeardInRange own Goodbye = own < 2 ^ 32

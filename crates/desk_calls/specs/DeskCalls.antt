@@ -20,7 +20,8 @@ use Rattle.desk_calls.specs.declared.calls.Asks.TheVariants.{Desk, Nobody, Legs}
 abbrev pub source_of : LinkTable → ℕ → Ssrc
 source_of t endpoint = slice_index_or t.endpoints endpoint (record { 0 = 0 })
 
--- The publisher of a leg, and what its subscriber asks it for in a stay; none where there is no such leg, or the stay is 0.
+-- The publisher of a leg, and what its subscriber asks it for in a stay (RFC 5104, section 4.2.1); none where there is
+-- no such leg, or the stay is 0.
 abbrev pub stay_call : LinkTable → ℕ → ℕ → Change → Option (ℕ × DeskCall)
 stay_call t leg stay change =
     if stay == 0 then None
@@ -28,7 +29,7 @@ stay_call t leg stay change =
     (λ (l : LegSettings). (l.publisher, Stay (source_of t l.subscriber) stay change))
     (slice_get t.legs leg)
 
--- the publisher of a leg, and that a picture of it is wanted
+-- the publisher of a leg, and that a picture of it is wanted (RFC 4585, section 6.3.1)
 abbrev pub picture_call : LinkTable → ℕ → ℕ → Option (ℕ × DeskCall)
 picture_call t leg moment =
     option_map (λ (l : LegSettings). (l.publisher, Time moment signal.Pli)) (slice_get t.legs leg)
@@ -38,7 +39,8 @@ abbrev pub asks_by : Option ℕ → Option (ℕ × DeskCall) → Asks
 asks_by leg None = Nobody
 asks_by leg (Some (p, call)) = Desk (record { publisher = p; asked_by = leg; call = call })
 
--- a job asks the desk of a leg's publisher, or nobody where there is no such leg or stay, or the worker's legs
+-- Whom a job asks: for a rate (RFC 5104, section 4.2.1) or a picture (RFC 4585, section 6.3.1) the desk of its leg's
+-- publisher, or nobody if there is no such leg or stay; else the worker's legs.
 abbrev pub AsksOf : LinkTable → Job → Asks → Type 0
 AsksOf t (Packet publisher bytes) asks = asks ≡ Legs
 AsksOf t (Resend leg stay nack) asks = asks ≡ Legs

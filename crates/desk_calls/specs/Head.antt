@@ -14,11 +14,13 @@ pub record Identity : Type 0 where
   pub cname : List ℕ
 
 -- a receiver report of the unit with these blocks, and its description
+-- (RFC 3550, sections 6.1, 6.4.2 and 6.5)
 abbrev pub report_bytes : Identity → List ReportBlock → List ℕ
 report_bytes unit blocks =
     packet_bytes (rr_packet unit.ssrc blocks) ++ packet_bytes (cname_packet unit.ssrc unit.cname)
 
--- what each compound begins with: a report of nothing
+-- what each compound of the unit begins with: a receiver report without blocks, and its
+-- description (RFC 3550, sections 6.1, 6.4.2 and 6.5)
 abbrev pub report_head : Identity → List ℕ
 report_head unit = report_bytes unit []
 
@@ -26,6 +28,7 @@ abbrev pub blocks_of : Option Block → List ReportBlock
 blocks_of None = []
 blocks_of (Some block) = block_of block ∷ []
 
--- what the publisher is told of what came from it: a report with the block about it, if any
+-- what the publisher is told of what came from it: a report with the block about it,
+-- if any (RFC 3550, section 6.4.2)
 abbrev pub upstream_report : Identity → ℕ → Option Block → List Out
 upstream_report unit publisher block = Send publisher (report_bytes unit (blocks_of block)) ∷ []

@@ -118,7 +118,8 @@ abbrev pub picture_upstream : LinkTable → Identity → Notification → List O
 picture_upstream table unit n =
     if n.pli then to_publisher table unit n.publisher (pli_bytes unit) else []
 
--- all that follows from a call, in this order
+-- all that follows from a desk's call, in this order
+-- (RFC 5104, sections 4.2.1 and 4.2.2; RFC 4585, section 6.3.1)
 abbrev pub notification_datagrams :
     LinkTable → Identity → List Row → Notification → Effect → List Out
 notification_datagrams table unit rows n e =

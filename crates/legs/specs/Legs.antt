@@ -44,7 +44,8 @@ owned_by t ring worker (e ∷ es) =
     if worker_of t e.1 == worker then new_leg_of t ring e ∷ owned_by t ring worker es
     else owned_by t ring worker es
 
--- the legs of this worker as they begin, by rising number
+-- the legs of this worker as they begin, by rising number, each with the name of its
+-- publisher (RFC 3550, section 6.5.1)
 abbrev pub new_legs : LinkTable → ℕ → ℕ → List LegState
 new_legs t ring worker = owned_by t ring worker (numbered_legs t)
 
@@ -157,10 +158,11 @@ leg_after rows (Goodbye leg) s = s
 leg_after rows (Request leg stay word) s = s
 leg_after rows (Pli leg moment) s = s
 
--- what the job gives out on these legs
+-- what the job gives out on these legs, each by itself
+-- (RFC 3550, sections 6.4.1, 6.5.1 and 6.6; RFC 4585, section 6.2.1)
 abbrev pub job_datagrams : List Row → List LegState → Job → List Out
 job_datagrams rows legs job = flat_map (leg_datagrams rows job) legs
 
--- the legs once the job is done
+-- the legs once the job is done, each by itself
 abbrev pub legs_after : List Row → List LegState → Job → List LegState
 legs_after rows legs job = map (leg_after rows job) legs
