@@ -24,7 +24,8 @@ use Rattle.conference.specs.declared.fault.EventFault.{EventFault}
 use Rattle.conference.specs.declared.fault.EventFault.TheVariants.{Busy, NoMemory, Unsettled}
 use Rattle.conference.specs.Limited.{EntryLimit, IsHeardFor, limit_by, passing}
 
--- the machine's world, the datagrams that weren't taken yet, oldest first, and how many entries of a datagram `hear_limited` hears
+-- the machine's world, the datagrams that weren't taken yet, oldest first, and how many entries of a datagram
+-- `hear_limited` hears (RFC 7667, section 3.7)
 pub record ConferenceState : Type 0 where
   pub world : WorldState
   pub waiting : List Datagram
@@ -50,7 +51,7 @@ is_datagram Idle = false
 -- ---- what a call does
 
 -- These events from outside were done, each of which found nothing waiting; no job was given up; and the datagrams that were given
--- out stand after those that waited.
+-- out stand after those that waited (RFC 7667, section 3.7).
 pub record Serves (outside : List Event) (old new : ConferenceState) : Type 0 where
   pub outs : List Out
   pub drives : Drives outside old.world [] new.world outs
@@ -155,6 +156,7 @@ pub record HasWorkers (text : List ℕ) (count : ℕ) : Type 0 where
   pub says : file.settings.workers ≡ count
   pub several : count ≢ 1
 
+-- why a text opens no conference: memory is wanting, its settings are at fault, or they have not one worker
 abbrev pub RefusesToOpen : List ℕ → OpenFault → Type 0
 RefusesToOpen text open_fault.NoMemory = Unit {0}
 RefusesToOpen text (open_fault.Settings problem) = TextGives text (Err problem)

@@ -29,7 +29,7 @@ abbrev pub IsTakenFrom : LinkTable → Admission → List ℕ → Type 0
 IsTakenFrom table t datagram =
     IsSaidBy (source_of table t.endpoint).0 t datagram × IsPacketRead t.bytes t.what
 
--- something came at some moment
+-- something came at some moment, and wasn't taken in
 pub record ComesInVain (given : Option (List Arrival)) (told : Option (List ℕ))
     (given_now : Option (List Arrival)) (told_now : Option (List ℕ)) : Type 0 where
   pub arrival : Arrival

@@ -60,7 +60,8 @@ abbrev pub Counted : Question → Option Reply → SeatState → SeatState → T
 Counted q None seat later = later ≡ seat
 Counted q (Some r) seat later = Counts q.publisher q.call seat later
 
--- a seat asked this of the house, and this is to be told then
+-- A seat asked this of the house (RFC 5104, section 4.2). A desk recorded it as the seat's one call more, with an answer and an
+-- effect, and this is to be told of them; or none did.
 pub record IsAsked (gap request_ms publishers : ℕ) (q : Question) (seat later : SeatState)
     (pending : Option Pending) : Type 0 where
   pub reply : Option Reply
@@ -165,13 +166,13 @@ abbrev pub asks_of : Option Question → Asks
 asks_of None = Nobody
 asks_of (Some q) = Desk q
 
--- what the job asks of a desk: nothing where it is no job for one, where its leg isn't there or is another worker's, or
--- where its stay is 0
+-- what the job asks of a desk: nothing where it is no job for one, where its leg isn't there or is another worker's, or where
+-- its stay is 0 (RFC 5104, section 4.2)
 abbrev pub QuestionOf : ForwarderState → Job → Option Question → Type 0
 QuestionOf f job question =
     MatchBool (is_asking f job) (AsksOf f.notifier.table job (asks_of question)) (question ≡ None)
 
--- what the job asks was asked, and what followed was told
+-- what the job asks was asked, and what followed was told by a view, or given up (RFC 5104, section 4.2)
 pub record Feeds (t : Terms) (f : ForwarderState) (job : Job) (a : Asking)
     (result : Result Forwarded ForwardFault) : Type 0 where
   pub question : Option Question

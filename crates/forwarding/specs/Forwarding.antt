@@ -40,11 +40,11 @@ new_forwarder c worker = record {
 
 -- ---- a job
 
--- what the job gives out by these rows
+-- what the job gives out by these rows (RFC 7667, section 3.7)
 abbrev pub given_by : ForwarderState → List Row → Job → List Out
 given_by f rows job = job_datagrams rows f.legs job
 
--- the worker once the job is done by these rows
+-- the worker once the job is done by these rows (RFC 7667, section 3.7)
 abbrev pub after_job : ForwarderState → List Row → Job → ForwarderState
 after_job f rows job = record f { legs = legs_after rows f.legs job }
 

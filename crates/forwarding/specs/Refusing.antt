@@ -7,14 +7,14 @@ use Rattle.events.specs.declared.output.DeskRefusal.TheVariants as desk
 use Rattle.rate_desk.specs.declared.receipt.HouseFault.{HouseFault}
 use Rattle.rate_desk.specs.declared.receipt.HouseFault.TheVariants.{HistoryFull, Behind}
 
--- by its answer
+-- why a desk refuses a call, by its answer
 abbrev pub refusal_in : Answer → Option DeskRefusal
 refusal_in (answer.Done pli kept) = None
 refusal_in (answer.NotPresent stay) = Some desk.NotPresent
 refusal_in (answer.AlreadyPresent stay) = Some desk.AlreadyPresent
 refusal_in answer.Full = Some desk.Full
 
--- since it doesn't record it; that a seat is ahead of its desk is no refusal of the desk's
+-- why a desk doesn't record a call; that a seat is ahead of its desk is no refusal of the desk's
 abbrev pub refusal_by : HouseFault → Option DeskRefusal
 refusal_by HistoryFull = Some desk.HistoryFull
 refusal_by (Behind calls) = None

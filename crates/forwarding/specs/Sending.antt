@@ -34,7 +34,7 @@ pub record Adds (outs : List Out) (before after : SinkView) (former done : Forwa
 abbrev pub nothing_done : Forwarded
 nothing_done = record { sent = 0; failed = 0; skipped = 0; missed = 0 }
 
--- the same, if nothing was counted before
+-- what is given out was handed over, each datagram was sent or couldn't be, and that is all that is counted
 abbrev pub Sends : List Out → SinkView → SinkView → Forwarded → Type 0
 Sends outs before after done = Adds outs before after nothing_done done
 

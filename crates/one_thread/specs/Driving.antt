@@ -32,8 +32,8 @@ FindsNothing w (e ∷ events) (h ∷ history) =
 abbrev pub jobs_given_up : List Happening → List GivenUp
 jobs_given_up history = flat_map (λ (h : Happening). h.given_up) history
 
--- Events were done that lead from the old world to the new one. Those from outside are these, each of which found nothing waiting;
--- no job was given up; and what was given out stands after what was there.
+-- Events were done that lead from the old world to the new one (RFC 7667, section 3.7). Those from outside are these, each of
+-- which found nothing waiting; no job was given up; and what was given out stands after what was there.
 pub record Drives (outside : List Event) (old : WorldState) (outs : List Out) (new : WorldState)
     (all : List Out) : Type 0 where
   pub events : List Event
@@ -42,7 +42,7 @@ pub record Drives (outside : List Event) (old : WorldState) (outs : List Out) (n
   pub found : FindsNothing old events run.history
   pub kept : jobs_given_up run.history ≡ []
 
--- the first of these events from outside were done so, and others weren't begun
+-- the first of these events from outside were done so, and others weren't begun (RFC 7667, section 3.7)
 pub record DrivesSome (outside : List Event) (old : WorldState) (outs : List Out) (new : WorldState)
     (all : List Out) : Type 0 where
   pub done : List Event

@@ -42,6 +42,8 @@ whose endpoint count place = if nat_lt place count then endpoint else None
 abbrev pub tick_at : TicksState → ℕ → List Event
 tick_at ticks moment = if is_due ticks moment then Tick moment ∷ [] else []
 
+-- what comes from outside in a turn: the datagram or the selection that was received, at the moment that the clock
+-- told, and a tick if one is due
 abbrev pub turn_events : TicksState → Turn → List Event
 turn_events ticks t = brought_at t.moment t.arrival ++ tick_at ticks t.moment
 

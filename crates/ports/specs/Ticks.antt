@@ -15,6 +15,7 @@ abbrev pub is_due_after : ℕ → Option ℕ → ℕ → Bool
 is_due_after step_ms None moment = true
 is_due_after step_ms (Some last) moment = nat_le (last + step_ms) moment
 
+-- whether a tick is due at this moment
 abbrev pub is_due : TicksState → ℕ → Bool
 is_due ticks moment = is_due_after ticks.step_ms ticks.last moment
 

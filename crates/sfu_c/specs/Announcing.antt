@@ -6,7 +6,7 @@ use Rattle.sfu_c.specs.declared.numbers.SfuRequest.{SfuRequest}
 use Rattle.sfu_c.specs.declared.numbers.SfuAnnounced.{SfuAnnounced}
 use Rattle.sfu_c.specs.Sending.{PutsInFront}
 
--- a request by the parts of its word
+-- a request by the parts of its word (RFC 5104, section 4.2.1.1)
 abbrev pub told_request : Request → SfuRequest
 told_request r = record {
   ssrc = r.owner.0;
@@ -16,7 +16,7 @@ told_request r = record {
 }
 
 -- The answer says how many requests there are. DONE, exactly if there is room for them: they stand at the front. Else NO_ROOM, and
--- the array is as it was.
+-- the array is as it was (RFC 5104, section 4.2.1.1).
 pub record TellsRequests (requests : List Request) (old new : List SfuRequest)
     (answer : SfuAnnounced) : Type 0 where
   pub count : answer.count ≡ length requests

@@ -23,6 +23,7 @@ told_kept k = record {
   place = k.place;
 }
 
+-- an implied entry, number by number
 abbrev pub told_implied : Implied → SfuImplied
 told_implied i = record { place = i.place; a = i.a; b = i.b; p = i.p; q = i.q; r = i.r }
 

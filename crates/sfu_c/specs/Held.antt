@@ -10,6 +10,7 @@ use Rattle.std_heap.specs.contracts.GlobalAllocator.TheImpl.{ghosts}
 use Rattle.conference.specs.contracts.conference.Conference.{the_row}
 use Rattle.conference.specs.Conference.{ConferenceState}
 
+-- what a handle owns by what it holds: nothing, or a box of the conference
 abbrev pub held_owns : Global → Ptr → Option ConferenceState → Fml
 held_owns alloc at None = ftrue
 held_owns alloc at (Some c) = box_owns (ghosts.dealloc_token alloc) the_row at c

@@ -11,7 +11,7 @@ abbrev pub outcome_of : Result Forwarded ForwardFault → Outcome
 outcome_of (Ok done) = record { sent = done.sent; failed = done.failed; dropped = 0 }
 outcome_of (Err fault) = record { sent = 0; failed = 0; dropped = 1 }
 
--- of what the ingress tells: want of memory isn't counted, it ends the run
+-- what is counted of what the ingress told; want of memory isn't, since it ends the run
 abbrev pub counted_of : Result Forwarded ForwardFault → Result Outcome AllocError
 counted_of (Ok done) = Ok (outcome_of (Ok done))
 counted_of (Err NoView) = Ok (outcome_of (Err NoView))

@@ -7,7 +7,7 @@ use Rattle.workers.specs.declared.settling.TheConstants.{LOOKS_A_SECOND}
 abbrev pub is_later : ℕ → ℕ → Bool
 is_later since moment = nat_lt moment since || nat_le (since + 1000) moment
 
--- what is left at a moment: in each second there are as many looks
+-- how often the ingress may still look in this second whether its workers are done: LOOKS_A_SECOND times in each
 abbrev pub patience_at : Patience → ℕ → Patience
 patience_at p moment =
     if is_later p.since moment then record { since = moment; left = LOOKS_A_SECOND } else p
