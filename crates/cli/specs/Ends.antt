@@ -57,7 +57,7 @@ pub record EndsVersion (old new : Option (List ℕ)) (s : Status) : Type 0 where
   -- it is never refused
   pub read : s ≢ status.Refused
 
--- how each of them ends
+-- how `sfu bound`, `sfu check`, `sfu draw` or `sfu --version` ends, whichever is asked for
 abbrev pub EndsOffline : Offline → Option (List ℕ) → Option (List ℕ) → Option (List ℕ) → Option (List ℕ)
     → Option (List ℕ) → Status → Type 0
 EndsOffline (offline.Bound media) input old new errors_old errors_new s =

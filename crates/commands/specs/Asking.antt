@@ -4,7 +4,7 @@ use Rattle.std.specs.Prelude.{ℕ, List, [], ◌∷◌, ◌++◌, codes, flat_ma
 abbrev pub spaced : List ℕ → List ℕ
 spaced word = codes " " ++ word
 
--- the words with a space between each two, and the end of the line
+-- the line by which `sfu ask` asks: its words with a space between each two, and the end of the line
 abbrev pub asking_line : List (List ℕ) → List ℕ
 asking_line [] = codes "\n"
 asking_line (word ∷ words) = (word ++ flat_map spaced words) ++ codes "\n"

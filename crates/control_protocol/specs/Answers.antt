@@ -8,6 +8,7 @@ use Rattle.control_protocol.specs.declared.answer.Refused.{Refused}
 use Rattle.control_protocol.specs.declared.answer.Unheard.{Unheard}
 use Rattle.control_protocol.specs.declared.answer.Refused.TheVariants.{Unknown, Leg, Publisher, Recorded, Unrecorded, Long, Full, Memory}
 
+-- the text of a refusal, by what is refused
 abbrev pub refusal_text : Refused → List ℕ
 refusal_text Unknown = codes "refused unknown\n"
 refusal_text Leg = codes "refused leg\n"
@@ -68,6 +69,7 @@ heard_part (Some ago_ms) = codes " heard " ++ (decimal ago_ms ++ codes " ms ago"
 abbrev pub refused_part : ℕ → List ℕ
 refused_part refused = codes " refused " ++ (decimal refused ++ codes "\n")
 
+-- the line of an endpoint: who it is, when it was heard last, and how often something of it was refused
 abbrev pub presence_line : ℕ → ℕ → SocketAddr → Bool → Option ℕ → ℕ → List ℕ
 presence_line endpoint source address is_present heard_ago_ms refused =
     who_part endpoint source address is_present ++ (heard_part heard_ago_ms ++ refused_part refused)

@@ -24,7 +24,8 @@ above_text l =
     ++ (codes "L" ++ (decimal l.right ++ (codes " " ++ (decimal l.lower
     ++ (codes "H6500V900H" ++ (decimal l.left ++ codes "Z'/>\n")))))))))
 
--- what is above a request's line, up to the plot's right and upper edges: no sender may go there
+-- what is above a request's line, up to the plot's right and upper edges: no sender may go
+-- there (RFC 5104, section 3.5.4)
 unfoldable pub forbidden_text : Scale → Request → List ℕ
 forbidden_text s r = above_text (plotted_line s r.tuple)
 
@@ -39,7 +40,7 @@ asked_text r =
     codes "owner " ++ (decimal r.owner.0 ++ (codes ": " ++ (decimal (rate_of r.tuple)
     ++ (codes " bit/s, " ++ (decimal r.tuple.overhead ++ codes " bytes")))))
 
--- a request's line
+-- a request's line (RFC 5104, section 3.5.4)
 unfoldable pub line_text : Scale → Request → List ℕ
 line_text s r = path_text (plotted_line s r.tuple) ++ WHOSE.now ++ asked_text r ++ LINE_END.now
 
@@ -61,7 +62,7 @@ spot_text s p =
     circle_text (column s p.packets p.seconds) (row s p.bits p.seconds) ++ PAIR.now ++ pair_text p
     ++ POINT_END.now
 
--- the pair of a kept request
+-- the pair of a kept request (RFC 5104, section 3.5.4)
 abbrev pub point_text : Scale → Kept → List ℕ
 point_text s k = spot_text s k.pair
 
@@ -180,6 +181,7 @@ unfoldable pub picture_with : ℕ → List Request → List Kept → List Implie
 picture_with media rows kept implied =
     ground_part (scale_of rows) media rows kept ++ figures_part (scale_of rows) rows kept implied
 
+-- the text of the picture of live requests and of the set that is announced for them
 abbrev pub picture_text : ℕ → State → List ℕ
 picture_text media s = picture_with media s.rows s.cert.kept.items s.cert.implied.items
 

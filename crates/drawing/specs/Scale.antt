@@ -40,6 +40,8 @@ abbrev pub scale_with : Option Tuple → ℕ → Scale
 scale_with None bits = record { packets = 100; seconds = 1; bits = bits }
 scale_with (Some t) bits = record { packets = rate_of t; seconds = 8 * t.overhead; bits = bits }
 
+-- the least packet rate that leaves nothing for media, and the least rate that is
+-- asked for, of those that aren't 0
 abbrev pub scale_of : List Request → Scale
 scale_of rows = scale_with (first_end rows) (unwrap_or (least_rate rows) 100000)
 

@@ -8,6 +8,7 @@ use Rattle.operations.specs.declared.record_file.TheConstants.{VERSION}
 abbrev pub IsHead : List ℕ → List ℕ → Type 0
 IsHead settings text = (began_ms : ℕ) × (text ≡ header_text VERSION.now settings began_ms)
 
--- A record of at most so many bytes begins with such a head, if it may have that many.
+-- A record of at most so many bytes begins with the head of this program, by settings with this
+-- SHA-256, if it may have that many.
 abbrev pub BeginsRecord : ℕ → List ℕ → TapeState → Type 0
 BeginsRecord limit settings tape = (head : List ℕ) × IsHead settings head × IsPut (new_tape limit) head tape

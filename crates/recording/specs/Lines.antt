@@ -38,7 +38,7 @@ heard_head moment endpoint =
 abbrev pub made_mark : List ℕ
 made_mark = codes "# made in its name\n"
 
--- lines of a datagram after the comment with what came of which a policy made it
+-- the lines of a datagram that a policy made, after a comment with what came
 abbrev pub after_came : List ℕ → List ℕ → List ℕ
 after_came came lines = codes "# came " ++ (encode_lower came ++ (codes "\n" ++ lines))
 

@@ -7,13 +7,13 @@ use Rattle.recording.specs.declared.taken.Taken.{Taken}
 use Rattle.recording.specs.declared.taken.Taken.TheVariants as taken
 use Rattle.recording.specs.Lines.{after_came, event_lines, made_mark}
 
--- the lines of a datagram, after a comment if it isn't what came
+-- the lines of a datagram, after a comment if the unit made it, or a policy made it of what came
 abbrev pub with_origin : Origin → List ℕ → List ℕ
 with_origin Came lines = lines
 with_origin Made lines = made_mark ++ lines
 with_origin (Changed came) lines = after_came came.now lines
 
--- those of the event that it is, at this moment
+-- the lines of what a unit took in at this moment
 abbrev pub taken_lines : ℕ → Taken → List ℕ
 taken_lines moment taken.Nothing = []
 taken_lines moment (taken.Select leg on) = event_lines (Select moment leg on)

@@ -156,7 +156,7 @@ LinesPlay c n cause (line ∷ lines) w given stopped =
     × (given ≡ given_at (cause_behind c n line cause) told ++ others))
     ⊎ ((reading_of (numbers_of c) line ≡ Unreadable) × (given ≡ []) × (stopped ≡ Some n))
 
--- A script is played from a new world of the settings, and gives this.
+-- A script is played from a new world of the settings, to its end or to the first line that can't be read, and gives this.
 pub record Plays (c : Configuration) (script : List ℕ) (given : List Given)
     (stopped : Option ℕ) : Type 0 where
   pub world : WorldState

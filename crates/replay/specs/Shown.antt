@@ -134,7 +134,8 @@ abbrev pub is_chosen : Configuration → Shown → Told → Bool
 is_chosen c s (an_out out) = is_to_chosen s.only_endpoint out && is_on_chosen c s.only_leg out
 is_chosen c s (a_set text) = true
 
--- it follows from an event of this moment or a later one, and is what is to be shown
+-- whether what a script gives is shown: it follows from an event of this moment or a later one, and is of
+-- the endpoint and the leg chosen, if any
 abbrev pub is_shown : Configuration → Shown → Given → Bool
 is_shown c s given = nat_le s.from_ms given.cause.moment && is_chosen c s given.told
 

@@ -30,7 +30,8 @@ changes_of media (tmmbr sender entries) = requests_of media sender entries
 changes_of media (tmmbn sender entries) = []
 changes_of media (unknown sender) = []
 
--- what a packet asks for: each source of a goodbye leaves, and feedback asks for what it says
+-- what a packet asks for: each source of a BYE leaves (RFC 3550, section 6.6), and feedback asks for what it
+-- says (RFC 5104, section 4.2.1)
 abbrev pub Asks : ℕ → Content → List Change → Type 0
 Asks media (sender_report sender ntp rtp packets octets blocks) changes = changes ≡ []
 Asks media (receiver_report sender blocks) changes = changes ≡ []
@@ -74,7 +75,7 @@ abbrev pub FailsFirst : List Content → FbFault → Type 0
 FailsFirst [] fault = ⊥
 FailsFirst (c ∷ cs) fault = HasAskFault c fault ⊎ (IsReadable c × FailsFirst cs fault)
 
--- The datagram joins packets that ask for this.
+-- The datagram joins packets that ask for this (RFC 5104, section 4.2.1; RFC 3550, section 6.6).
 pub record AsksFor (media : ℕ) (datagram : List ℕ) (changes : List Change) : Type 0 where
   pub packets : List RtcpPacket
   pub joined : ReadsRtcp datagram packets

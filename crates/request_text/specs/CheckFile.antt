@@ -112,7 +112,8 @@ words_line (first ∷ others) =
     else if bytes_eq first (codes "implied") then or_unreadable (implied_words others)
     else skipped
 
--- its words are parted by single spaces
+-- What a line spells, its words parted by single spaces: a request that is live, kept with its pair or implied;
+-- nothing; or what can't be read.
 abbrev pub line_of : List ℕ → Line
 line_of text = words_line (words_in text)
 
@@ -172,9 +173,11 @@ implied_by kepts past i = record {
   r = i.1.r;
 }
 
+-- the certificate's kept entries, in the order of their lines
 abbrev pub kept_of : List Entry → List KeptEntry
 kept_of entries = map (λ k. k.1) (kept_from 0 entries)
 
+-- its implied entries, in which each owner stands for its first kept line
 abbrev pub implied_of : List Entry → List ImpliedEntry
 implied_of entries = map (implied_by (kept_from 0 entries) (length entries)) (claims_from 0 entries)
 
@@ -208,6 +211,7 @@ LinesSpell n (line ∷ lines) entries spelled =
     × LinesSpell (n + 1) lines next spelled)
     ⊎ (LineAdds line entries None × (spelled ≡ Err n))
 
+-- the entries that a text's lines spell, or the number of the first line that is refused
 abbrev pub FileSpells : List ℕ → Result (List Entry) ℕ → Type 0
 FileSpells text spelled = LinesSpell 1 (lines_of text) [] spelled
 

@@ -117,6 +117,7 @@ leg_text f counts =
 
 -- ---- all of them
 
+-- each figure of endpoints and of legs as a metric
 abbrev pub figures_text : List (Numbered EndpointCount) → List (Numbered LegCount) → List ℕ
 figures_text endpoints legs =
     flat_map (λ (f : EndpointFigure). endpoint_text f endpoints) endpoint_figures

@@ -35,5 +35,6 @@ flow_part c =
     ++ (codes " next " ++ (next_word c.next
     ++ (codes " skipped " ++ (decimal c.skipped ++ codes "\n")))))))))))
 
+-- the line of a leg: which it is, its stay, and what went out on it
 abbrev pub line_of_leg : LegLine → Option ℕ → LegCount → List ℕ
 line_of_leg l stay c = ends_part l ++ (stay_part stay ++ flow_part c)

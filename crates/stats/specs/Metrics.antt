@@ -22,6 +22,7 @@ sample_line name label s =
     ++ (codes "{" ++ (label ++ (codes "=\"" ++ (decimal s.number
     ++ (codes "\"} " ++ (decimal s.value ++ codes "\n"))))))
 
+-- a metric: what it is, its type, and its samples
 abbrev pub metric_text : List ℕ → List ℕ → MetricType → List ℕ → List Sample → List ℕ
 metric_text name help kind label samples =
     help_line name help ++ (type_line name kind ++ flat_map (sample_line name label) samples)

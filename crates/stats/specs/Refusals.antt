@@ -84,6 +84,7 @@ refused_end c =
     codes " times "
     ++ (decimal c.count ++ (codes ": " ++ (reason_words c.refusal ++ codes "\n")))
 
+-- the line of what was refused of an endpoint for a reason
 abbrev pub refused_line : RefusedCount → List ℕ
 refused_line c = refused_start c ++ refused_end c
 
@@ -106,6 +107,7 @@ refused_sample c =
     ++ (whose_word c.endpoint
     ++ (reason_labels c.refusal ++ (decimal c.count ++ codes "\n")))
 
+-- the metric of what was refused
 abbrev pub refused_figures : List RefusedCount → List ℕ
 refused_figures counts =
     help_line refused_name refused_help

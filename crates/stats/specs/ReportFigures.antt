@@ -100,6 +100,7 @@ report_figure_text f reports =
     help_line (report_figure_name f) (report_figure_help f)
     ++ (type_line (report_figure_name f) Gauge ++ flat_map (report_line f) reports)
 
+-- each figure of the reports as a metric, with ratios and seconds as exact decimals
 abbrev pub report_figures_text : List NumberedReport → List NumberedReport → List ℕ
 report_figures_text legs publishers =
     flat_map (λ (f : ReportFigure). report_figure_text f legs) leg_report_figures

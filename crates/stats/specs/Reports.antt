@@ -4,7 +4,7 @@ use Rattle.rtcp_compound.specs.Report.{ReportBlock}
 use Rattle.stats.specs.declared.reports.ReceptionReport.{ReceptionReport}
 use Rattle.stats.specs.declared.reports.SentReport.{SentReport}
 
--- by what blocks name a sender report, as LSR: the middle 32 bits of its NTP timestamp
+-- by what blocks name a sender report, as LSR: the middle 32 bits of its NTP timestamp (RFC 3550, section 6.4.1)
 abbrev pub lsr_of : ℕ → ℕ
 lsr_of ntp = ntp / 2 ^ 16 % 2 ^ 32
 
@@ -12,7 +12,7 @@ lsr_of ntp = ntp / 2 ^ 16 % 2 ^ 32
 abbrev pub ms_between : ℕ → ℕ → ℕ
 ms_between earlier later = (later + (2 ^ 32 - earlier)) % 2 ^ 32
 
--- a DLSR, in 65,536ths of a second, as whole milliseconds
+-- a DLSR, in 65,536ths of a second, as whole milliseconds (RFC 3550, section 6.4.1)
 abbrev pub held_ms : ℕ → ℕ
 held_ms delay = delay * 1000 / 65536
 
@@ -20,9 +20,9 @@ held_ms delay = delay * 1000 / 65536
 abbrev pub names_report : SentReport → ReportBlock → Bool
 names_report sent b = not (b.last_sr == 0) && (b.last_sr == sent.lsr)
 
--- The round trip in milliseconds, by a block that comes at this moment: its arrival, less the time at which the sender report
--- that it names was sent, less how long the receiver had that one by then. None by a block that names another, or that says it
--- had it longer than the time that went by.
+-- The round trip in milliseconds, by a block that comes at this moment (RFC 3550, section 6.4.1). It is the time since the
+-- sender report that the block names was sent, less how long the receiver had that by then. None by a block that names
+-- another, or that says it had it longer than the time that went by.
 abbrev pub round_trip : SentReport → ReportBlock → ℕ → Option ℕ
 round_trip sent b moment =
     if names_report sent b then
@@ -44,7 +44,8 @@ abbrev pub trip_by : Option SentReport → ReportBlock → ℕ → Option ℕ
 trip_by None b moment = None
 trip_by (Some sent) b moment = round_trip sent b (moment % 2 ^ 32)
 
--- What is known of a stream's reception after a block: what the block says; and the round trip by it, or else the one before.
+-- What is known of a stream's reception after a block: what the block says; and the round trip by it, or else the one
+-- before (RFC 3550, section 6.4.1).
 abbrev pub report_after : Option ReceptionReport → ReportBlock → Option SentReport → ℕ → ReceptionReport
 report_after before b sent moment = record {
   fraction = b.fraction;

@@ -2,6 +2,6 @@
 use Rattle.std.specs.Prelude.{ℕ, ◌*◌, min}
 use Rattle.web.specs.declared.serving.TheConstants.{MAX_PAUSE_MS}
 
--- twice as long as the time before, and no longer than so many milliseconds
+-- how long a unit isn't asked after one more inquiry that failed: twice as long as before, and at most MAX_PAUSE_MS
 abbrev pub longer_pause : ℕ → ℕ
 longer_pause pause = min (pause * 2) MAX_PAUSE_MS
