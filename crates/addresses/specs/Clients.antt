@@ -155,6 +155,7 @@ AreSpelledBehind same listen before (text ∷ texts) read =
     × AreSpelledBehind same listen (before ++ client ∷ []) texts read)
     ⊎ ((key : AddressKey) × SpellsNone same listen text key × (read ≡ Err (length before, key)))
 
+-- the clients that texts spell, endpoint by endpoint, or the first endpoint with a key that spells no address
 abbrev pub AreSpelled : (SocketAddr → SocketAddr → Bool) → Listening → List ClientText
     → Result (List Client) (ℕ × AddressKey) → Type 0
 AreSpelled same listen texts read = AreSpelledBehind same listen [] texts read

@@ -48,7 +48,8 @@ numbered_learner sources e = new_learner (slice_get sources e.0) e.1.location
 abbrev pub kept_ms : ℕ → ℕ
 kept_ms timeout_ms = min (timeout_ms + 1000) 18446744073709551615
 
--- The endpoints whose addresses are learned: those with a source whose clients say so. Nothing is learned yet.
+-- The endpoints whose addresses are learned (RFC 4961): those with a source whose clients say so, each within
+-- its network. A seat is kept a second longer than the timeout. Nothing is learned yet.
 abbrev pub learners_of : List Ssrc → List Client → ℕ → LearnersState
 learners_of sources clients timeout_ms = record {
   sources = filter_map (numbered_source sources) (enumerate_from 0 clients);
@@ -84,7 +85,8 @@ numbered_origins sources learners e =
     origins_at (endpoint_at e.0) (slice_get sources e.0)
     (places_of e.1.location (learner_at learners (endpoint_at e.0)))
 
--- Where datagrams of each endpoint that has a source come from: the addresses of its client, or of its seat if these are learned.
+-- Where datagrams of each endpoint that has a source come from: the addresses of its client, or of its seat
+-- if these are learned (RFC 4961).
 abbrev pub senders_of : List Ssrc → List Client → LearnersState → List (SourceAddress × ℕ)
 senders_of sources clients learners =
     flat_map (numbered_origins sources learners) (enumerate_from 0 clients)

@@ -35,6 +35,7 @@ standing_after Speaks is_goodbye = Speaks
 standing_after Listens is_goodbye = if is_goodbye then Left else Listens
 standing_after Left is_goodbye = if is_goodbye then Left else Listens
 
+-- what is known of who only listens once this endpoint was heard, and said BYE or didn't
 abbrev pub after_hearing : ListenersState → ℕ → Bool → ListenersState
 after_hearing s endpoint is_goodbye = record s {
   standings =
@@ -63,7 +64,7 @@ abbrev pub listener_from : Option ℕ → List Standing → Option ℕ
 listener_from None standings = None
 listener_from (Some from) standings = next_listener from 0 standings
 
--- in whose name a report is made at this moment
+-- in whose name a report is made at this moment, since it only listens
 abbrev pub report_due : ListenersState → ℕ → Option ℕ
 report_due s moment = listener_from (turn_from s.next (nat_lt moment s.due_ms)) s.standings
 

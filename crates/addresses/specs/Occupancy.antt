@@ -17,5 +17,6 @@ occupants_after same before (entry ∷ entries) key =
     occupants_after same (if same key entry.0 then Some (beside before entry.1) else before)
     entries key
 
+-- who is at a key: an endpoint alone, or several
 abbrev pub occupants_of : {K : Type 0} → (K → K → Bool) → List (K × ℕ) → K → Option Occupants
 occupants_of same entries key = occupants_after same None entries key

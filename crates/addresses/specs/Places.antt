@@ -19,11 +19,11 @@ abbrev pub fixed_of : Location → Option Addresses
 fixed_of (location.Fixed places) = Some places
 fixed_of (location.Learned within) = None
 
--- those of a client
+-- the addresses of a client that has its own
 abbrev pub fixed_at : Client → Option Addresses
 fixed_at client = fixed_of client.location
 
--- the one for what is of this kind
+-- of a client's addresses the one for what is of this kind
 abbrev pub place_for : Kind → Addresses → SocketAddr
 place_for Rtp places = places.media
 place_for Rtcp places = places.rtcp

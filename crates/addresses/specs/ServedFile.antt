@@ -49,7 +49,7 @@ pub record PlacesFile (same : SocketAddr → SocketAddr → Bool) (file : FileSe
   pub texts : s.texts ≡ file.clients
   pub clients : AreSpelled same s.listen file.clients.items (Ok s.clients.items)
 
--- The text gives these.
+-- The text gives these settings and addresses.
 pub record GivesPlaces (same : SocketAddr → SocketAddr → Bool) (text : List ℕ)
     (s : ServedSettings) : Type 0 where
   pub file : FileSettings
@@ -72,6 +72,7 @@ IsPlacedFault SameSsrc = Unit {0}
 abbrev pub IsPlacedOr : SettingsProblem → SettingsProblem → Type 0
 IsPlacedOr found said = (said ≡ found) ⊎ IsPlacedFault said
 
--- never that a file can't be read, and that it is no TOML document only of a text that is none
+-- A fault of a key, of the sources, want of memory, or what the text alone gives. So it is never that a file can't be read, and that
+-- it is no TOML document only of a text that is none.
 abbrev pub IsServedFault : List ℕ → SettingsProblem → Type 0
 IsServedFault text said = TextGives text (Err said) ⊎ IsPlacedFault said

@@ -43,7 +43,7 @@ abbrev pub held_at : HoldTerms → Option LegRequest → Option HeldRequest
 held_at t None = None
 held_at t (Some place) = held_in t place
 
--- what is held for a leg whose subscriber is there
+-- what is held for a leg whose subscriber is there, if it isn't too old (RFC 5104, section 4.2.1)
 abbrev pub still_held : HoldTerms → ℕ → Option HeldRequest
 still_held t leg = held_at t (slice_get t.requests leg)
 
@@ -81,7 +81,8 @@ abbrev pub or_next : ℕ → Option Again → Option (ℕ × Again) → Option (
 or_next place None next = next
 or_next place (Some again) next = Some (place, again)
 
--- of legs of which the first has place n the first from this place on for which a request is held: its place, and what is asked for
+-- of legs of which the first has place n the first from this place on for which a request is held: its place, and what is
+-- asked for (RFC 5104, section 4.2.1)
 abbrev pub next_again : HoldTerms → ℕ → ℕ → List ℕ → Option (ℕ × Again)
 next_again t from n [] = None
 next_again t from n (leg ∷ legs) = or_next n (again_from t from n leg) (next_again t from (n + 1) legs)

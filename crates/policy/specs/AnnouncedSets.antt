@@ -43,7 +43,8 @@ abbrev pub is_some_set : List TmmbrEntry → Bool
 is_some_set [] = false
 is_some_set (entry ∷ entries) = true
 
--- it isn't empty, it is the one that was seen last, and the publisher didn't notify of all of it
+-- a set is asked for again: it isn't empty, it is the one that was seen last, and the publisher didn't notify of all of it
+-- (RFC 5104, sections 4.2.1.2 and 4.2.2)
 abbrev pub asks_again : SetState → List TmmbrEntry → Bool
 asks_again s set = (is_some_set set && pointwise is_same set s.seen) && not (are_told s.told set)
 
@@ -199,7 +200,7 @@ abbrev pub second_set : List (List TmmbrEntry) → List TmmbrEntry
 second_set [] = []
 second_set (set ∷ sets) = first_set sets
 
--- The set isn't empty, and what the publisher notified of last doesn't list all of it.
+-- The set isn't empty, and what the publisher notified of last doesn't list all of it (RFC 5104, section 4.2.2).
 pub record IsUntold (happenings : List SetHappening) (set : List TmmbrEntry) : Type 0 where
   pub some : set ≢ []
   pub untold : are_told (told_last happenings) set ≡ false

@@ -32,7 +32,7 @@ abbrev pub is_moot_on : Asking → Option (ℕ × ℕ) → Bool
 is_moot_on a None = false
 is_moot_on a (Some asked) = is_moot_leg a (slice_get a.table.legs asked.0)
 
--- a rate is asked for on a leg to who asks whose publisher isn't there
+-- the ask is for a rate, on a leg to who asks whose publisher isn't there (RFC 5104, section 4.2.1)
 abbrev pub is_moot : Asking → Ask → Bool
 is_moot a ask = is_moot_on a (asked_by a.table a.endpoint ask)
 

@@ -48,6 +48,7 @@ abbrev pub flows_with : List Flow → ℕ → ℕ → List Flow
 flows_with flows endpoint moment =
     flow_noted flows endpoint moment (slice_get flows endpoint)
 
+-- what is known of resends once a packet of this endpoint came
 abbrev pub counted_by : ResendState → ℕ → ℕ → ResendState
 counted_by r endpoint moment = record {
   table = r.table;
@@ -82,7 +83,8 @@ state_after r trips sent asks = record {
   books = books_after (terms_with r trips) sent r.books asks;
 }
 
--- Of what is asked for that is left which the books of the legs let through, by some round trips.
+-- Of what is asked for that is left which the books of the legs let through, by some round
+-- trips (RFC 4585, section 6.2.1).
 pub record LetsThrough (sent : Sent) (before after : ResendState) (asks left : List Ask) : Type 0 where
   pub trips : List (Option ℕ)
   pub is_left : left ≡ asks_left (terms_with before trips) sent before.books asks

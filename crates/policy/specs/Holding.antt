@@ -68,13 +68,15 @@ pub record IsThere (h k : Holding) (a : Asking) (asks : List Ask) : Type 0 where
       ≡ fold (ask_in a.table a.endpoint a.moment) (requests_as_comes a h.requests) asks
   pub comings : k.comings ≡ comings_as_comes a h.request_ms h.comings
 
--- This is heard of who sent a datagram, with what it asks for.
+-- What is held, and who came, once this was said of who sent a datagram: it leaves (RFC 3550, section 6.6), or is
+-- there and asks for this (RFC 5104, section 4.2.1).
 abbrev pub HearsWord : Word → Holding → Holding → Asking → List Ask → Type 0
 HearsWord Nothing h k a asks = IsAsItWas h k
 HearsWord Leaves h k a asks = HasLeft h k a.endpoint
 HearsWord (Speaks notifies) h k a asks = IsThere h k a asks
 
--- what of what it asks for is left
+-- of what an endpoint asks for under its own source: all but rates of publishers that aren't
+-- there (RFC 5104, section 4.2.1)
 abbrev pub asks_left : Word → Asking → List Ask → List Ask
 asks_left Nothing a asks = asks
 asks_left Leaves a asks = asks
@@ -110,7 +112,8 @@ HearsDue None t before after again = (again ≡ None) × (after ≡ before)
 HearsDue (Some due) t before after again =
     HearsNext (next_again t due.1 0 (legs_of t.table due.0)) before after due.0 again
 
--- What is heard once more, if anything is.
+-- What is heard once more, if anything is: of the first publisher that is due the next leg for which something is
+-- held (RFC 5104, section 4.2.1).
 pub record HearsAgain (h k : Holding) (t : HoldTerms) (again : Option Again) : Type 0 where
   pub stays : Stays h k
   pub requests : k.requests ≡ h.requests

@@ -7,7 +7,7 @@ use Rattle.policy.specs.declared.comings.Coming.TheVariants.{Over, Waits, Due}
 abbrev pub first_coming : ℕ → Coming
 first_coming request_ms = if nat_eq request_ms 0 then Due 0 else Waits
 
--- once a tick was made
+-- a publisher that waits is due once a tick was made
 abbrev pub ticked_in : Coming → Coming
 ticked_in Over = Over
 ticked_in Waits = Due 0
@@ -19,6 +19,7 @@ due_from Over = None
 due_from Waits = None
 due_from (Due from) = Some from
 
+-- whether a publisher is due: what is held for its legs is heard again
 abbrev pub is_due : Coming → Bool
 is_due Over = false
 is_due Waits = false

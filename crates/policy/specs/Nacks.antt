@@ -37,11 +37,11 @@ abbrev pub entry_from : Option Nack → List ℕ → Option Nack
 entry_from part [] = part
 entry_from part (seq ∷ seqs) = entry_from (Some (joined part seq)) seqs
 
--- the entry that names these numbers, of which the first is PID; none if there is none
+-- the entry that names these numbers, of which the first is PID; none if there is none (RFC 4585, section 6.2.1)
 abbrev pub entry_of : List ℕ → Option Nack
 entry_of seqs = entry_from None seqs
 
--- PID is this number, and the bit of each number after it is set exactly if that is among the others
+-- PID is this number, and the bit of each number after it is set exactly if that is among the others (RFC 4585, section 6.2.1)
 pub record NamesJust (seq : ℕ) (seqs : List ℕ) : Type 0 where
   pub blp : ℕ
   pub entry : entry_of (seq ∷ seqs) ≡ Some (record { pid = seq; blp = blp })
@@ -68,6 +68,7 @@ most_on t moment (Some leg) = most_by t moment (slice_get t.flows leg.publisher)
 abbrev pub trip_on : Terms → ℕ → Option ℕ
 trip_on t leg = unwrap_or (slice_get t.trips leg) None
 
+-- what may be let through on this leg at this moment: its gap, and how many in a second (RFC 4585, section 6.2.1)
 abbrev pub allowance_on : Terms → ℕ → ℕ → Allowance
 allowance_on t moment leg = record {
   moment = moment;
@@ -97,7 +98,8 @@ books_on t sent books entry None = books
 books_on t sent books entry (Some leg) =
     book_noted_on books leg (allowance_on t sent.moment leg) entry (slice_get books leg)
 
--- what is left of an ask, and what is noted of each leg then
+-- What is left of an ask: of a NACK's entry for a leg to who sent it what the leg's book lets through, or nothing; of any other
+-- all (RFC 4585, section 6.2.1).
 abbrev pub ask_left : Terms → Sent → List Book → Ask → Option Ask
 ask_left t sent books (Rate media word) = Some (Rate media word)
 ask_left t sent books (Resend media entry) =
@@ -112,12 +114,14 @@ books_with t sent books (Picture media) = books
 
 -- ---- asks, one after the other: each by what is noted after those before it
 
+-- what is left of all that is asked for (RFC 4585, section 6.2.1)
 abbrev pub asks_left : Terms → Sent → List Book → List Ask → List Ask
 asks_left t sent books [] = []
 asks_left t sent books (ask ∷ asks) =
     option_to_list (ask_left t sent books ask)
     ++ asks_left t sent (books_with t sent books ask) asks
 
+-- what is noted of each leg then
 abbrev pub books_after : Terms → Sent → List Book → List Ask → List Book
 books_after t sent books [] = books
 books_after t sent books (ask ∷ asks) = books_after t sent (books_with t sent books ask) asks

@@ -15,11 +15,11 @@ place_with legs leg request None = legs
 place_with legs leg request (Some place) =
     slice_set legs leg (record { subscriber = place.subscriber; request = Some request })
 
--- once the subscriber of this leg asked for this
+-- what is held for each leg, once the subscriber of this one asked for this (RFC 5104, section 4.2.1)
 abbrev pub with_request : List LegRequest → ℕ → HeldRequest → List LegRequest
 with_request legs leg request = place_with legs leg request (slice_get legs leg)
 
--- a leg once this endpoint left
+-- a leg once this endpoint left (RFC 5104, section 4.2.1)
 abbrev pub place_without : ℕ → LegRequest → LegRequest
 place_without subscriber place = if place.subscriber == subscriber then record place { request = None } else place
 
@@ -34,12 +34,12 @@ abbrev pub after_happening : List LegRequest → Happening → List LegRequest
 after_happening legs (asks leg request) = with_request legs leg request
 after_happening legs (leaves subscriber) = map (place_without subscriber) legs
 
--- what is held on these legs by then
+-- what is held on these legs by then (RFC 5104, section 4.2.1)
 abbrev pub held_after : List LegSettings → List Happening → List LegRequest
 held_after legs [] = map unasked legs
 held_after legs (h ∷ earlier) = after_happening (held_after legs earlier) h
 
--- what this subscriber asked for last on this leg, since it left last
+-- what this subscriber asked for last on this leg, since it left last (RFC 5104, section 4.2.1)
 abbrev pub asked_last : ℕ → ℕ → List Happening → Option HeldRequest
 asked_last leg subscriber [] = None
 asked_last leg subscriber (asks other request ∷ earlier) =
@@ -47,7 +47,7 @@ asked_last leg subscriber (asks other request ∷ earlier) =
 asked_last leg subscriber (leaves who ∷ earlier) =
     if subscriber == who then None else asked_last leg subscriber earlier
 
--- what is held for a leg is what its subscriber asked for last
+-- what is held for a leg is what its subscriber asked for last (RFC 5104, section 4.2.1)
 pub record HoldsLast (legs : List LegSettings) (happenings : List Happening) (leg : ℕ) (s : LegSettings) : Type 0 where
   pub held : slice_get (held_after legs happenings) leg
       ≡ Some (record { subscriber = s.subscriber; request = asked_last leg s.subscriber happenings })
@@ -69,6 +69,6 @@ with_asked legs moment None = legs
 with_asked legs moment (Some asked) =
     with_request legs asked.0 (record { word = asked.1; moment = moment })
 
--- once the endpoint asked for this at this moment
+-- what is held for each leg, once the endpoint asked for this at this moment (RFC 5104, section 4.2.1)
 abbrev pub ask_in : LinkTable → ℕ → ℕ → List LegRequest → Ask → List LegRequest
 ask_in table endpoint moment legs ask = with_asked legs moment (asked_by table endpoint ask)

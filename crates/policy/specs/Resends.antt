@@ -24,6 +24,7 @@ abbrev pub one_more : Flow → Flow
 one_more f =
     record { second = f.second; packets = min (f.packets + 1) (2 ^ 32 - 1); before = f.before }
 
+-- what came, with one packet more at this moment
 abbrev pub flow_with : Flow → ℕ → Flow
 flow_with f moment = one_more (flow_at f (second_of moment))
 
@@ -32,6 +33,7 @@ flow_with f moment = one_more (flow_at f (second_of moment))
 abbrev pub most_of : ℕ → Flow → ℕ
 most_of share f = share * max f.packets f.before / 100
 
+-- the same at this moment
 abbrev pub most_at : ℕ → Flow → ℕ → ℕ
 most_at share f moment =
     if share == 0 then 2 ^ 64 - 1 else most_of share (flow_at f (second_of moment))
@@ -48,7 +50,8 @@ pub record Book : Type 0 where
 
 -- ---- how long a number has to be let through before
 
--- The gap if this round trip is known: the longer of both, but of a round trip no more than MAX_TRIP_MS count. If no gap is wanted, none.
+-- The gap if this round trip is known: the longer of both, but of a round trip no more than MAX_TRIP_MS count. If no gap is wanted,
+-- none (RFC 4585, section 6.2.1).
 abbrev pub gap_by : ℕ → Option ℕ → ℕ
 gap_by gap None = gap
 gap_by gap (Some trip) = if gap == 0 then 0 else max gap (min trip MAX_TRIP_MS)
@@ -59,8 +62,8 @@ gap_by gap (Some trip) = if gap == 0 then 0 else max gap (min trip MAX_TRIP_MS)
 abbrev pub count_at : Book → ℕ → ℕ
 count_at b second = if b.second == second then b.count else 0
 
--- A number is due if it wasn't let through, or gap_ms ago or earlier. What is forgotten is due: another number of the same
--- place was let through since.
+-- A number is due if it wasn't let through, or gap_ms ago or earlier. What is forgotten is due: another number of the same place was let
+-- through since (RFC 4585, section 6.2.1).
 abbrev pub is_due : Option (Option Passed) → Allowance → ℕ → Bool
 is_due None a seq = true
 is_due (Some None) a seq = true
@@ -69,6 +72,7 @@ is_due (Some (Some p)) a seq = not (p.seq == seq) || nat_le a.gap_ms (a.moment -
 abbrev pub place_of : ℕ → ℕ
 place_of seq = seq % REMEMBERED
 
+-- a number that is asked for again is let through if it is due and the leg's share of this second isn't spent (RFC 4585, section 6.2.1)
 abbrev pub is_let_through : Book → Allowance → ℕ → Bool
 is_let_through b a seq =
     nat_lt (count_at b (second_of a.moment)) a.most
@@ -88,12 +92,13 @@ book_noted false b a seq = record {
   held = min (b.held + 1) (2 ^ 64 - 1);
 }
 
--- the book once this number was asked for
+-- the book once this number was asked for (RFC 4585, section 6.2.1)
 abbrev pub book_with : Book → Allowance → ℕ → Book
 book_with b a seq = book_noted (is_let_through b a seq) b a seq
 
 -- ---- several numbers, one after the other
 
+-- of these numbers those that are let through, one after the other (RFC 4585, section 6.2.1)
 abbrev pub numbers_passed : Book → Allowance → List ℕ → List ℕ
 numbers_passed b a [] = []
 numbers_passed b a (n ∷ ns) =

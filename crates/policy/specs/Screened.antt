@@ -47,15 +47,15 @@ abbrev pub resends_left : Option ResendState → ℕ → Option ResendState
 resends_left None endpoint = None
 resends_left (Some r) endpoint = Some (resends_without r endpoint)
 
--- What is known once this endpoint comes anew: nothing of its numbers, and of resends that nothing came of it. The round trips to it stand with
--- the counts that threads raise.
+-- What is known once this endpoint comes anew (RFC 3550, appendix A.1): nothing of its numbers, and of resends that nothing came of it. The
+-- round trips to it stand with the counts that threads raise.
 abbrev pub come_anew : Screen → ℕ → Screen
 come_anew s endpoint = record s {
   starts = runs_left s.rules.new_starts s.starts endpoint;
   resends = resends_left s.resends endpoint;
 }
 
--- Who is heard comes anew if it isn't there by the room at that moment.
+-- Who is heard comes anew if it isn't there by the room at that moment (RFC 3550, appendix A.1).
 abbrev pub welcomed : Screen → Sent → RoomState → Screen
 welcomed s sent room =
     if is_there room sent.endpoint sent.moment then s else come_anew s sent.endpoint
@@ -94,7 +94,7 @@ counted_unless_far InSequence r sent = counted_in r sent.endpoint sent.moment
 counted_unless_far Jump r sent = r
 counted_unless_far Restart r sent = counted_in r sent.endpoint sent.moment
 
--- A packet of the own source is placed, noted, and counted.
+-- A packet of the own source is placed, noted, and counted (RFC 3550, appendix A.1).
 pub record PlacesOwn (s t : Screen) (sent : Sent) (stamp : Stamp) (judged : Judged) : Type 0 where
   pub is_judged : judged
       ≡ judged_by (placement_by s.rules.new_starts s.starts sent.endpoint stamp)
@@ -110,7 +110,7 @@ JudgesPacket s t sent (Some stamp) judged = PlacesOwn s t sent stamp judged
 
 -- ---- RTCP packets
 
--- under whom they are heard: under this source, unless the rules are strict
+-- RTCP is heard under this source, unless the rules are strict (RFC 3550, section 6.4.2)
 abbrev pub control_heard : Rules → Control → Ssrc → Control
 control_heard rules c clocked = record {
   speaker = if rules.strict_ssrc then c.speaker else clocked;
@@ -124,12 +124,12 @@ LetsThroughIf sent None after asks left = (after ≡ None) × (left ≡ asks)
 LetsThroughIf sent (Some r) None asks left = ⊥
 LetsThroughIf sent (Some r) (Some after) asks left = LetsThrough sent r after asks left
 
--- what another source than the own one asks for stays as it is
+-- what the own source asks for is left as far as it is let through; what another one asks for stays as it is (RFC 4585, section 6.1)
 abbrev pub IsLeft : Bool → Sent → Option ResendState → Option ResendState → List Ask → List Ask → Type 0
 IsLeft true sent before after asks left = LetsThroughIf sent before after asks left
 IsLeft false sent before after asks left = (after ≡ before) × (left ≡ asks)
 
--- They are taken in, heard so, with what is left of what they ask for.
+-- RTCP is taken in under a source, with what is left of what it asks for (RFC 4585, section 6.2.1).
 pub record JudgesControl (s t : Screen) (sent : Sent) (heard : Control) (old new : Reading) (judged : Judged) : Type 0 where
   pub is_judged : judged ≡ Take
   pub what : new.what ≡ control_of heard
@@ -152,7 +152,8 @@ JudgesAs (control_of c) s t sent old new judged =
     JudgesControl s t sent (control_heard s.rules c old.clocked) old new judged
 JudgesAs (Refused refusal) s t sent old new judged = PassesOn s t old new judged
 
--- What becomes of what was read of a datagram.
+-- A packet of the own source is placed, noted and counted (RFC 3550, appendix A.1). RTCP is heard under a source, with what is left of what
+-- it asks for (RFC 4585, section 6.2.1). Anything else is taken in as it was read.
 abbrev pub Judges : Screen → Screen → Sent → Reading → Reading → Judged → Type 0
 Judges s t sent old new judged = JudgesAs old.what s t sent old new judged
 

@@ -20,14 +20,14 @@ successor_of seq = (seq + 1) % SEQ_CYCLE
 abbrev pub ticks_ahead_of : ℕ → ℕ → ℕ
 ticks_ahead_of highest timestamp = (timestamp + (2 ^ 32 - highest)) % 2 ^ 32
 
--- it is fewer than MAX_LATE_TICKS after or before the one of the highest number
+-- a timestamp is close to that of the highest number: fewer than MAX_LATE_TICKS after or before it (RFC 3550, appendix A.1)
 abbrev pub is_close : ℕ → ℕ → Bool
 is_close highest timestamp =
     nat_lt (ticks_ahead_of highest timestamp) MAX_LATE_TICKS
     || nat_lt (2 ^ 32 - MAX_LATE_TICKS) (ticks_ahead_of highest timestamp)
 
--- Fewer than MAX_DROPOUT are left out before it, whatever its timestamp is: its source may have been silent. Or it comes fewer than
--- MAX_MISORDER behind the highest, and its timestamp is close: if it isn't, the source began anew with a number behind.
+-- Fewer than MAX_DROPOUT are left out before it (RFC 3550, appendix A.1), whatever its timestamp is: its source may have been
+-- silent. Or it comes fewer than MAX_MISORDER behind the highest, with a close timestamp: else its source began anew.
 abbrev pub is_near : Stamp → Stamp → Bool
 is_near highest stamp =
     nat_lt (ahead_of highest.seq stamp.seq) MAX_DROPOUT
@@ -44,7 +44,8 @@ is_ahead highest stamp = nat_lt (ahead_of highest.seq stamp.seq) MAX_AHEAD
 abbrev pub lasted : SequenceTracker → ℕ
 lasted run = run.highest.moment - run.began
 
--- by how many units timestamps go on from the highest number to this moment, at the rate at which they went on before
+-- by how many units timestamps go on from the highest number to this moment, at the rate at which they went on
+-- before (RFC 3550, section 5.1)
 abbrev pub expected_ticks : SequenceTracker → ℕ → ℕ
 expected_ticks run moment = run.ticks * (moment - run.highest.moment) / lasted run
 
@@ -53,14 +54,15 @@ abbrev pub is_about : ℕ → ℕ → Bool
 is_about expected ahead =
     nat_lt 0 expected && nat_le expected (2 * ahead) && nat_le ahead (2 * expected)
 
--- Its timestamp went on with the clock since the highest number; before a millisecond passed nothing is known of that.
+-- Its timestamp went on with the clock since the highest number, within a factor of two (RFC 3550, section 5.1). Before a
+-- millisecond passed nothing is known of that.
 abbrev pub is_on_time : SequenceTracker → Stamp → Bool
 is_on_time run stamp =
     nat_lt 0 (lasted run)
     && is_about (expected_ticks run stamp.moment)
     (ticks_ahead_of run.highest.timestamp stamp.timestamp)
 
--- Its source goes on with it, though many numbers are left out before it: it is ahead, and on time.
+-- Its source goes on with it, though many numbers are left out before it: it is ahead, and on time (RFC 3550, section 5.1).
 abbrev pub goes_on : SequenceTracker → Stamp → Bool
 goes_on run stamp = is_ahead run.highest stamp && is_on_time run stamp
 
@@ -70,6 +72,8 @@ goes_on run stamp = is_ahead run.highest stamp && is_on_time run stamp
 abbrev pub is_awaited : Option ℕ → ℕ → Bool
 is_awaited awaited seq = option_map_or (λ number. number == seq) awaited false
 
+-- Where a packet stands (RFC 3550, appendix A.1): in sequence if it is near the highest number or goes on with the clock.
+-- Else it is far: a restart if it follows the last far one.
 abbrev pub placement_in : SequenceTracker → Stamp → Placement
 placement_in run stamp =
     if is_near run.highest stamp || goes_on run stamp then InSequence
@@ -102,6 +106,7 @@ run_placed run stamp InSequence =
 run_placed run stamp Jump = record run { awaited = Some (successor_of stamp.seq) }
 run_placed run stamp Restart = run_from stamp
 
+-- the numbers of a source, with this packet (RFC 3550, appendix A.1)
 abbrev pub run_with : SequenceTracker → Stamp → SequenceTracker
 run_with run stamp = run_placed run stamp (placement_in run stamp)
 
@@ -138,11 +143,12 @@ runs_without runs endpoint = slice_set runs endpoint None
 
 -- ---- the whole list of a source's packets, the latest first
 
+-- the numbers after these packets, the latest first (RFC 3550, appendix A.1)
 abbrev pub run_of : List Stamp → Option SequenceTracker
 run_of [] = None
 run_of (stamp ∷ earlier) = Some (begun_or_with (run_of earlier) stamp)
 
--- a packet that is far from the highest came before, and this number is the one after its number
+-- a packet that is far from the highest came before, and this number is the one after its number (RFC 3550, appendix A.1)
 pub record FollowsFar (packets : List Stamp) (seq : ℕ) : Type 0 where
   pub later : List Stamp
   pub far : Stamp

@@ -5,7 +5,8 @@ use Rattle.datagram.specs.declared.reading.What.TheVariants.{Media, Goodbye, Con
 use Rattle.policy.specs.declared.word.Word.{Word}
 use Rattle.policy.specs.declared.word.Word.TheVariants.{Nothing, Speaks, Leaves}
 
--- under the endpoint's own source: that it leaves, or that it is there, and whether it notifies of requests
+-- under the endpoint's own source: that it leaves (RFC 3550, section 6.6), or that it is there, and
+-- whether it notifies of requests
 abbrev pub word_in : ℕ → What → Word
 word_in own (Media packet) = if packet.ssrc.0 == own then Speaks false else Nothing
 word_in own Goodbye = Leaves

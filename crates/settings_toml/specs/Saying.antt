@@ -35,7 +35,7 @@ pub record CanSendTo (same : SocketAddr → SocketAddr → Bool) (listen : Socke
   pub host : ¬ (MatchIp (socket_ip address) IsUnspecifiedV4 IsUnspecifiedV6)
   pub apart : same address listen ≡ false
 
--- it can't, for this reason
+-- the unit can't send to this address, for this reason
 abbrev pub CantSendTo : (SocketAddr → SocketAddr → Bool) → SocketAddr → Option SocketAddr → SocketAddr
     → List ℕ → Type 0
 CantSendTo same listen rtcp address why =
@@ -100,6 +100,7 @@ abbrev pub SaysAtKey : (SocketAddr → SocketAddr → Bool) → Spot → Option 
 SaysAtKey same spot (Some wanted) line = SaysWanted wanted line ⊎ SaysWhyNot same spot line
 SaysAtKey same spot None line = SaysNames spot line
 
+-- what is said of a problem at a key
 abbrev pub SaysAt : (SocketAddr → SocketAddr → Bool) → Spot → List ℕ → Type 0
 SaysAt same spot line = SaysAtKey same spot (wanted_at spot) line
 

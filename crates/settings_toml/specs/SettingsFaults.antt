@@ -228,6 +228,8 @@ pub record IsDocument (text : List ℕ) (r : Result FileSettings SettingsProblem
   pub read : parse_document text ≡ Some table
   pub gives : TableGives table r
 
+-- What a text gives: its settings, if it is a document whose table gives them; else that it is none, or the
+-- first fault; or memory is wanting.
 abbrev pub TextGives : List ℕ → Result FileSettings SettingsProblem → Type 0
 TextGives text (Ok f) = IsDocument text (Ok f)
 TextGives text (Err NoMemory) = Unit {0}

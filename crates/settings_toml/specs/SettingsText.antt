@@ -5,6 +5,7 @@ use Rattle.std.specs.Io.KnownBytes.{Appends}
 use Rattle.settings_toml.specs.declared.settings_file.SettingsProblem.{SettingsProblem}
 use Rattle.settings_toml.specs.declared.settings_file.SettingsProblem.TheVariants.{NoMemory, File, Toml, Top, Endpoint, Leg, SameSsrc}
 
+-- the line that is said of a problem of the settings
 abbrev pub problem_line : SettingsProblem → List ℕ
 problem_line NoMemory = codes "no memory\n"
 problem_line File = codes "settings: toml\n"

@@ -87,6 +87,7 @@ abbrev pub wanted_in : List KeyRow → List ℕ → Option Wanted
 wanted_in [] key = None
 wanted_in (r ∷ rows) key = if bytes_eq key r.key then Some r.takes else wanted_in rows key
 
+-- what the key at this spot takes, if there is such a key
 abbrev pub wanted_at : Spot → Option Wanted
 wanted_at (top key) = wanted_in top_rows key
 wanted_at (endpoint number key) = wanted_in endpoint_rows key
@@ -109,6 +110,7 @@ kind_words kind.Subscriber = codes "number of an endpoint"
 kind_words kind.Publisher =
     codes "number of another endpoint than the subscriber, with one leg between the two"
 
+-- the words for what a key takes
 abbrev pub wanted_words : Wanted → List ℕ
 wanted_words (Whole least most) =
     codes "whole number from " ++ (decimal least ++ (codes " to " ++ decimal most))
@@ -134,6 +136,7 @@ listed (a ∷ (b ∷ (c ∷ names))) = a ++ (codes ", " ++ listed (b ∷ (c ∷ 
 abbrev pub names_in : List KeyRow → List ℕ
 names_in rows = listed (map (λ r. r.key) rows)
 
+-- which keys there are at this spot
 abbrev pub names_of : Spot → List ℕ
 names_of (top key) = names_in value_rows
 names_of (endpoint number key) = names_in endpoint_rows

@@ -17,7 +17,8 @@ abbrev pub leg_goodbye : ℕ → LegSettings → List ℕ
 leg_goodbye endpoint leg =
     if leg.subscriber == endpoint then goodbye_packet leg.out_ssrc.0 else []
 
--- what each compound of the unit begins with; a goodbye of each leg to the endpoint; and the unit's own
+-- the datagram by which the unit leaves an endpoint: what each compound begins with, a BYE of each leg
+-- to the endpoint, and the unit's own (RFC 3550, section 6.6)
 abbrev pub goodbye_bytes : Configuration → ℕ → List ℕ
 goodbye_bytes c endpoint =
     report_head (record { ssrc = c.unit_ssrc.0; cname = c.cname })

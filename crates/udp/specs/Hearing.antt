@@ -40,11 +40,11 @@ abbrev pub rest_behind : Rest → ℕ → Option Rest
 rest_behind rest count =
     if nat_lt (rest.from + count) rest.to then Some (record rest { from = rest.from + count }) else None
 
--- after a goodbye of an endpoint that began anew its far packet is heard, and then the one that followed that
+-- after a goodbye of an endpoint that began anew its far packet is heard, and then the one that followed that (RFC 3550, appendix A.1)
 abbrev pub anew_after : Anew → Option Anew
 anew_after a = if a.is_far_heard then None else Some (record a { is_far_heard = true })
 
--- this endpoint's is looked at, so many bytes at the front of these packets
+-- this endpoint's is looked at, so many bytes at the front of these packets (RFC 3550, section 6.1)
 abbrev pub LooksAt : Kept → Kept → Rest → ℕ → ℕ → Type 0
 LooksAt old new packets count endpoint =
     (new.sent.endpoint ≡ endpoint)
@@ -58,7 +58,7 @@ is_goodbye Goodbye = true
 is_goodbye (Control c) = false
 is_goodbye (Refused refusal) = false
 
--- By these bytes their endpoint was heard at this moment, and said goodbye if they say it.
+-- By these bytes their endpoint was heard at this moment, and said BYE if they say it (RFC 3550, section 6.6).
 pub record IsNoted (own endpoint moment : ℕ) (bytes : List ℕ) (known later : Known) : Type 0 where
   pub what : What
   pub asks : List Ask

@@ -21,11 +21,11 @@ use Rattle.addresses.specs.declared.clients.Listening.{Listening}
 use Rattle.addresses.specs.Clients.{IsReachable}
 use Rattle.addresses.specs.Known.{learners_of, senders_of}
 
--- whose address is learned
+-- whose address is learned, before anything came
 abbrev pub first_learners : Configuration → List Client → LearnersState
 first_learners settings clients = learners_of settings.endpoints clients settings.timeout_ms
 
--- who is known by an address
+-- who is known by an address, before anything came
 abbrev pub first_senders : Configuration → List Client → List (SourceAddress × ℕ)
 first_senders settings clients =
     senders_of settings.endpoints clients (first_learners settings clients)
