@@ -16,12 +16,10 @@ from served import wide_socket
 
 HEADER, OWN = struct.Struct("!BBHII"), struct.Struct("!BI")
 FILLING = bytes(range(150))
-# Packets a second, and the units of their timestamps from one to the next: 90,000 Hz.
-RATE, STEP = 50, 1800
+# The clock of timestamps, in hertz.
+CLOCK = 90000
 # How close to a beginning or an end, in seconds, a packet may miss its subscriber, as with several workers.
 EDGE = 0.25
-# How long a client that began anew passes over what was meant for the one before, in seconds. Here, and below, the unit's progress is the clock.
-BEFORE = 0.05
 # So many packets of one that began aren't lost, by which the unit knows that.
 SURE = 3
 # When a packet is asked for again that isn't there, and how often at most.
@@ -30,7 +28,7 @@ ASK_AGAIN, ASK_MOST = 0.3, 4
 REQUESTS, REQUEST_EACH = 3, 0.4
 # How long after it left RTCP may come to somebody, in seconds.
 LEFT = 2
-# A set is told anew once both ends are there: what was on its way before is passed over for so long, in seconds.
+# A set is told anew once both ends are there: what was on its way before is passed over for so long, in seconds of what the unit has done.
 SETTLED = 0.3
 
 
@@ -58,6 +56,10 @@ class Leg:
     def take(self, number, index, timestamp):
         faults = self.soak.faults
         sent = self.publisher.sent.get(index)
+        if sent is None and index in self.asked:
+            # (what was asked for may come long after, if the unit is busy)
+            self.missing.pop(index, None)
+            return
         if sent is None:
             is_old = index < self.publisher.index and index not in self.publisher.dropped
             faults.add("a packet came long after it was sent" if is_old else "a packet came that nobody had sent", f"{index} of {self.publisher.number} to {self.subscriber.number}")
@@ -71,7 +73,7 @@ class Leg:
         sent[1] |= mark
         self.soak.came += 1
         if not self.subscriber.is_in:
-            if not self.subscriber.is_silent and sent[0] > self.subscriber.edge + EDGE:
+            if not self.subscriber.is_silent and sent[0] > self.subscriber.edge + EDGE + self.soak.known:
                 faults.add("a packet came to who had left before it was sent", f"{index} of {self.publisher.number} to {self.subscriber.number}")
             return
         if self.newest is None or index > self.newest:
@@ -89,7 +91,7 @@ class Leg:
             if self.newest is not None:
                 if not 0 < (number - self.number) % 65536 < 32768:
                     self.soak.faults.add("a number was used again", f"{number} after {self.number}")
-                if max(self.publisher.edge, self.subscriber.edge) < self.moment - EDGE:
+                if max(self.publisher.edge, self.subscriber.edge) < self.moment - EDGE - self.soak.known:
                     self.soak.faults.add("a number isn't as far from the one before as its publisher's", f"{number} after {self.number}, {index} after {self.newest}")
             self.shifts = self.shifts[-7:] + [(index, shift)]
             self.missing.clear()
@@ -198,7 +200,7 @@ class Client:
             return
         index = self.index
         self.index += 1
-        timestamp = (self.ticks + STEP * index) % 2**32
+        timestamp = (self.ticks + CLOCK // self.soak.rate * index) % 2**32
         is_sure = self.sure > 0
         self.sure -= is_sure
         if not is_sure and self.soak.ways.loses(self.number, 0, index, 0):
@@ -273,9 +275,9 @@ class Client:
         for kind, form, body in packets(datagram):
             if (kind, form) == (205, 4):
                 leg = self.legs.get(struct.unpack_from("!I", body)[0])
-                if leg and self.soak.has_seen(max(self.edge, leg.publisher.edge) + SETTLED):
+                if leg and self.soak.has_seen(max(self.edge, leg.publisher.edge) + SETTLED + self.soak.known):
                     self.told[leg.publisher.number] = dict(struct.iter_unpack("!II", body[8:]))
-            elif (kind, form) == (205, 3) and self.soak.has_seen(self.edge + BEFORE) and not self.loses():
+            elif (kind, form) == (205, 3) and self.soak.has_seen(self.edge + self.soak.known) and not self.loses():
                 owner = struct.unpack_from("!I", body)[0]
                 for source, word in struct.iter_unpack("!II", body[8:]):
                     if source != self.source:
@@ -289,10 +291,10 @@ class Client:
     # ---- what should have come
 
     def was_in(self, moment):
-        """Whether it was there at that moment, and for EDGE before and after it."""
+        """Whether it was there at that moment, and for a while before and after it."""
         was = False
         for edge, is_in in self.edges:
-            if abs(edge - moment) <= EDGE:
+            if moment - EDGE - self.soak.known <= edge <= moment + EDGE:
                 return False
             if edge < moment:
                 was = is_in

@@ -18,7 +18,7 @@ ENTRIES = 256
 
 
 class Hostile:
-    """An endpoint with a leg from a client that behaves; it says that it is there each second, and does its kind of harm `often` times a second."""
+    """An endpoint with a leg from a client that behaves; it says that it is there each second, and does its kind of harm `often` times a second, if clients send 50 packets in one."""
 
     name, often, is_quiet = "", 1, False
 

@@ -1,9 +1,10 @@
 #!/usr/bin/env python3
 """Twelve clients that behave, each of which publishes to the others, and beside them one of each kind that doesn't, for an hour on one unit.
 
-    bench/field/soak.py SFU [MINUTES] [--seed N] [--workers N] [--loss PERCENT] [--rtcp-loss PERCENT]
+    bench/field/soak.py SFU [MINUTES] [--seed N] [--workers N] [--rate PACKETS] [--loss PERCENT] [--rtcp-loss PERCENT]
 
-SFU is the built program; the rules are those of examples/serve.toml. Everybody sends 50 packets a second. They leave and come back, fall silent for longer than their timeout, begin
+SFU is the built program; the rules are those of examples/serve.toml. Everybody sends 50 packets a second (`--rate`, by which go the
+hostile ones, too: a program that is compiled with checks wants 5). They leave and come back, fall silent for longer than their timeout, begin
 anew with other numbers, lose 1 percent of packets on each way (`--loss`) and 5 of the RTCP about rates (`--rtcp-loss`), ask for packets and for rates again. The unit stands
 still (SIGSTOP) for 0.3 to 1.5 s now and then. Beside them somebody sends fuzzed datagrams, NACKs of 1,000 entries, TMMBRs of 256, BYEs, a flood of packets, datagrams in the
 name of others, and connects to the control. What is lost, who comes and goes and when is the seed's choice (`--seed`, 1), and when all of it meets is the clock's.
@@ -15,7 +16,7 @@ Each minute a line says what was seen, and at the end another; status 1 if
 - a number isn't as far from the one before as the publisher's was, or was used again;
 - in a quiet moment, two a minute, somebody isn't present who is there; the unit has other requests of those that behave than they made; the set that it announces isn't the one
   that the definition gives for all its requests (bench/tmmbr_c/model.py); a publisher is bound by another one; or a subscriber was told another one last;
-- a datagram was beyond `flood_limit`, a send failed, a job was lost, or the unit has more memory than after its first minutes;
+- a datagram was beyond `flood_limit`, a send failed, a job was lost, or after five minutes and more the unit has more memory than after its first ones;
 - the unit ended, or doesn't answer.
 
 This takes less than half a processor. The unit's sockets are given a receive buffer as docs/OPERATING.md advises, if that may be done. By hand: nothing of it is proved.
@@ -37,14 +38,14 @@ BENCH = os.path.dirname(os.path.dirname(os.path.realpath(__file__)))
 sys.path[1:1] = [f"{BENCH}/control", f"{BENCH}/tmmbr_c"]
 
 import model  # noqa: E402
-from behaved import RATE, Client, Leg, Ways  # noqa: E402
+from behaved import Client, Leg, Ways  # noqa: E402
 from dropped import dropped_by_system  # noqa: E402
 from hostile import ENDPOINT  # noqa: E402
 from hostiles import ENDPOINTS, FIRST, KINDS  # noqa: E402
 from served import HOST, LEG, Unit, free_port, port_of, rules  # noqa: E402
 from stalls import counts_of  # noqa: E402
 
-CLIENTS = 12
+CLIENTS, RATE = 12, 50
 FIRST_LEG, FIRST_HOSTILE_LEG = 1000, 2000
 # Of each CYCLE seconds the last QUIET are quiet; after SETTLE of these it is looked whether all is as it must be.
 CYCLE, QUIET, SETTLE = 30, 9, 6.5
@@ -62,7 +63,7 @@ REFRESH = 20
 FINAL, BEHIND = 5, 2
 # How many seconds after a turn the unit may be stopped, and how long after it went on somebody may come or go.
 APART = 0.7
-# When the unit's memory is what it will be, in seconds or as a share of a short run; how much it may grow, by shares and kilobytes.
+# When the unit's memory is what it will be, in seconds or as a share of a run that is too short to tell; how much it may grow, by shares and kilobytes.
 WARM, WARM_SHARE, GROWS, GROWS_BY = 150, 0.4, 1.02, 1024
 # How long an answer of the control is waited for before it is asked for once more, in seconds.
 PATIENCE = 5
@@ -148,8 +149,10 @@ class Asker:
 class Soak:
     """The room, the clock, and what was seen."""
 
-    def __init__(self, program, seconds, seed, workers, loss, rtcp_loss, folder):
-        self.seed, self.seconds, self.at = seed, seconds, (HOST, free_port())
+    def __init__(self, program, seconds, seed, workers, rate, loss, rtcp_loss, folder):
+        self.seed, self.seconds, self.rate, self.at = seed, seconds, rate, (HOST, free_port())
+        # So many seconds after somebody began anew the unit knows it, by two packets.
+        self.known = 2.5 / rate
         self.rng = random.Random(f"{seed} turns")
         self.ways, self.faults = Ways(seed, loss / 100, rtcp_loss / 100), Faults(self)
         self.sent = self.came = self.expected = self.lost_up = self.lost_down = self.lost_control = self.lost_whole = self.lost_part = 0
@@ -235,7 +238,7 @@ class Soak:
         """Something happens to somebody."""
         self.after(self.between(TURNS), self.turn)
         it, kind, away, silent = self.rng.choice(self.clients), self.rng.random(), self.between(AWAY), self.between(SILENT)
-        if not self.may_turn() or not it.is_in or not self.is_past(it.edge, 1):
+        if not self.may_turn() or not it.is_in or not self.is_past(it.edge, 1 + self.known):
             return
         self.turns += 1
         has_room = sum(not it.is_in for it in self.clients) < MOST_AWAY
@@ -247,7 +250,7 @@ class Soak:
             self.after(silent, lambda: self.come(it))
         elif kind < 0.65:
             it.begin_anew()
-            self.after(1, lambda: self.ask(it))
+            self.after(1 + self.known, lambda: self.ask(it))
         else:
             self.ask(it)
             return
@@ -264,13 +267,13 @@ class Soak:
             return
         it.come()
         self.latest = self.now()
-        self.after(1, lambda: self.ask(it))
+        self.after(1 + self.known, lambda: self.ask(it))
 
     def ask(self, it):
         """It asks some for a rate of 200 to 3,000 kbit/s, with 20 to 60 bytes of overhead, once it is known to be there."""
         others = it.rng.sample([other.number for other in self.clients if other is not it], ASKED)
         words = [5 << 26 | it.rng.randrange(200000 // 32, 3000000 // 32) << 9 | it.rng.randrange(20, 61) for _ in others]
-        if it.is_in and not self.is_quiet() and self.is_past(it.edge, APART):
+        if it.is_in and not self.is_quiet() and self.is_past(it.edge, APART + self.known):
             for publisher, word in zip(others, words):
                 it.ask(publisher, word)
 
@@ -280,7 +283,7 @@ class Soak:
                 it.ask(publisher, word)
 
     def stall(self):
-        if self.is_quiet() or not self.is_past(self.latest, APART):
+        if self.is_quiet() or not self.is_past(self.latest, APART + self.known):
             self.after(0.25, self.stall)
             return
         self.stalls += 1
@@ -391,7 +394,7 @@ class Soak:
                 self.faults.add(f"{name} isn't 0", f"{counts[name]}")
         if not self.quiets:
             self.faults.add("there was no quiet moment")
-        if not self.warm or resident > GROWS * self.warm + GROWS_BY:
+        if self.seconds >= 2 * WARM and resident > GROWS * self.warm + GROWS_BY:
             self.faults.add("the unit's memory grew")
         print(f"memory: {self.warm} KB after the first minutes, {resident} KB at the end")
         print("; ".join(f"{it.did} {it.name}" for it in self.hostiles))
@@ -401,15 +404,15 @@ class Soak:
         self.is_done = False
         for it in self.clients:
             it.come()
-            self.after(1, lambda it=it: self.ask(it))
-            self.each(1 / RATE, it.send, it.number / RATE / CLIENTS)
+            self.after(1 + self.known, lambda it=it: self.ask(it))
+            self.each(1 / self.rate, it.send, it.number / self.rate / CLIENTS)
             self.each(1, it.report, 0.3 + it.number / CLIENTS)
             self.each(0.1, it.ask_for_packets, it.number / 10 / CLIENTS)
             self.each(REFRESH, lambda it=it: self.refresh(it), REFRESH * (1 + it.number / CLIENTS))
         for it in self.hostiles:
             it.report()
             self.each(1, it.report)
-            self.each(1 / it.often, lambda it=it: self.harm(it), 1)
+            self.each(RATE / self.rate / it.often, lambda it=it: self.harm(it), 1)
         self.each(0.5, self.judge)
         self.each(CYCLE, self.look, CYCLE - QUIET + SETTLE)
         self.each(60, self.minute)
@@ -452,11 +455,12 @@ def main():
     words.add_argument("minutes", metavar="MINUTES", nargs="?", type=float, default=60)
     words.add_argument("--seed", type=int, default=1)
     words.add_argument("--workers", type=int)
+    words.add_argument("--rate", type=int, default=RATE)
     words.add_argument("--loss", type=float, default=1)
     words.add_argument("--rtcp-loss", type=float, default=5)
     asked = words.parse_args()
     with tempfile.TemporaryDirectory() as folder:
-        return Soak(asked.program, asked.minutes * 60, asked.seed, asked.workers, asked.loss, asked.rtcp_loss, folder).run()
+        return Soak(asked.program, asked.minutes * 60, asked.seed, asked.workers, asked.rate, asked.loss, asked.rtcp_loss, folder).run()
 
 
 if __name__ == "__main__":
