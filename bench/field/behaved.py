@@ -142,7 +142,7 @@ class Client:
         self.is_in, self.is_silent, self.edge, self.edges = False, False, -1, deque(maxlen=16)
         # Its legs by their sources; what bounds it, by owner; what it asked for, and which set it was told, by publisher.
         self.legs, self.bounds, self.asked, self.told = {}, {}, {}, {}
-        self.notifies = False
+        self.asked_at, self.notifies = 0, False
         self.number_anew()
 
     def number_anew(self):
@@ -160,12 +160,11 @@ class Client:
     # ---- comes, goes, begins anew
 
     def turn(self, is_in):
-        """From now on it is there or not, or another one: nothing holds of before."""
+        """From now on it is there or not, or another one: what it was told holds no more."""
         now = self.soak.now()
         self.is_in, self.is_silent, self.edge, self.sure = is_in, False, now, SURE
         self.edges.append((now, is_in))
         self.bounds.clear()
-        self.asked.clear()
         self.told.clear()
         for leg in self.legs.values():
             leg.missing.clear()
@@ -174,11 +173,15 @@ class Client:
             other.told.pop(self.number, None)
 
     def come(self):
+        """It is there, and asks for what it wants at once: that is what it wanted, if it had fallen silent."""
         self.turn(True)
         self.say(report(self.source))
+        for publisher, word in list(self.asked.items()):
+            self.ask(publisher, word)
 
     def leave(self):
         self.say(goodbye(self.source))
+        self.asked.clear()
         self.turn(False)
 
     def fall_silent(self):
@@ -187,6 +190,7 @@ class Client:
 
     def begin_anew(self):
         """It crashed, and is there again at once with other numbers (RFC 3550, appendix A.1)."""
+        self.asked.clear()
         self.turn(True)
         before = self.shift
         while not 5000 < (self.shift - before) % 65536 < 60000:
@@ -230,6 +234,8 @@ class Client:
         if left < REQUESTS and (not self.is_in or self.asked.get(publisher) != word):
             return
         self.asked[publisher] = word
+        if left == REQUESTS:
+            self.asked_at = self.soak.now()
         if left == 1 or not self.loses():
             self.say(tmmbr(self.source, self.soak.source_of(publisher, self.number), word))
         if left > 1:

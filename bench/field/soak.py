@@ -53,8 +53,8 @@ CYCLE, QUIET, SETTLE = 30, 9, 6.5
 TURNS, STALLS, STALL = (1, 3), (6, 14), (0.3, 1.5)
 # How long somebody is away, or silent, and how many are at once, at most.
 AWAY, SILENT, MOST_AWAY = (2, 8), (18, 22), 3
-# Between so many seconds of silence somebody may time out at any moment, with its requests (a stall isn't lived for longer than a second): then it isn't quiet.
-TIMES_OUT = (12, 20)
+# So many seconds of silence are sure to be too short to time out, and these to be enough (a stall isn't lived for longer than a second).
+STILL_THERE, TIMED_OUT = 12, 17.5
 # So many publishers are asked at once.
 ASKED = 3
 # A request is made again so often, before it is a minute old.
@@ -156,7 +156,7 @@ class Soak:
         self.rng = random.Random(f"{seed} turns")
         self.ways, self.faults = Ways(seed, loss / 100, rtcp_loss / 100), Faults(self)
         self.sent = self.came = self.expected = self.lost_up = self.lost_down = self.lost_control = self.lost_whole = self.lost_part = 0
-        self.repaired = self.unrepaired = self.quiets = self.sets = self.unjudged = self.turns = self.stalls = 0
+        self.repaired = self.unrepaired = self.quiets = self.sets = self.unjudged = self.turns = self.stalls = self.timed_out = self.kept = 0
         self.is_stalled, self.went_on, self.latest, self.is_over = False, 0, 0, False
         # When the latest packet was sent that came to anybody: what was sent before it the unit has done, since all comes to one socket.
         self.seen = 0
@@ -245,8 +245,9 @@ class Soak:
         if kind < 0.3 and has_room:
             it.leave()
             self.after(away, lambda: self.come(it))
-        elif kind < 0.4 and has_room and not self.meets_look(*TIMES_OUT):
+        elif kind < 0.4 and has_room and self.until_look() < STILL_THERE and self.is_past(it.asked_at, 2):
             it.fall_silent()
+            self.after(TIMED_OUT, lambda: self.asker.ask("present", lambda text: self.note_kept(it, text)))
             self.after(silent, lambda: self.come(it))
         elif kind < 0.65:
             it.begin_anew()
@@ -256,10 +257,15 @@ class Soak:
             return
         self.latest = self.now()
 
-    def meets_look(self, least, most):
-        """Whether it is looked at what holds between so many seconds from now on."""
-        until = (CYCLE - QUIET + SETTLE - self.now() % CYCLE) % CYCLE
-        return least <= until <= most
+    def until_look(self):
+        """How many seconds from now on it is looked at what holds."""
+        return (CYCLE - QUIET + SETTLE - self.now() % CYCLE) % CYCLE
+
+    def note_kept(self, it, text):
+        """Somebody is gone by now, since it was silent for its timeout, or is kept."""
+        if it.is_silent:
+            self.timed_out += 1
+            self.kept += text.splitlines()[it.number].split()[5] == "present"
 
     def come(self, it):
         if not self.may_turn():
@@ -311,8 +317,7 @@ class Soak:
 
     def look(self):
         """Nobody has asked for anything for a while: the unit is asked what holds."""
-        is_behind = not self.has_seen(self.now() - BEHIND)
-        if is_behind or any(it.is_silent and TIMES_OUT[0] < self.now() - it.edge < TIMES_OUT[1] for it in self.clients):
+        if not self.has_seen(self.now() - BEHIND):
             self.unjudged += 1
             return
         answers, cycle = {}, int(self.now() / CYCLE)
@@ -335,7 +340,7 @@ class Soak:
         rows = [line.split() for line in answers[None].splitlines()]
         present = {int(words[0]) for words in rows if words[5] == "present"}
         for it in self.clients:
-            if not it.is_silent and (it.number in present) != it.is_in:
+            if (it.number in present) != (it.is_in or it.is_silent):
                 self.faults.add("somebody isn't present who is there, or is who isn't", f"{it.number}, {rows[it.number]}")
         for it in there:
             self.sets += 1
@@ -345,9 +350,8 @@ class Soak:
         lines = [line.split() for line in text.splitlines()]
         live = {int(words[1]): int(words[2], 16) for words in lines if words[0] in ("kept", "implied")}
         announced = {int(words[1]): int(words[2], 16) for words in lines if words[0] == "kept"}
-        asked = {it.source: it.asked[publisher.number] for it in self.clients if it.is_in and publisher.number in it.asked}
-        unsure = {it.source for it in self.clients if it.is_silent}
-        known = {owner: word for owner, word in live.items() if owner < FIRST and owner not in unsure}
+        asked = {it.source: it.asked[publisher.number] for it in self.clients if publisher.number in it.asked}
+        known = {owner: word for owner, word in live.items() if owner < FIRST}
         which = f"publisher {publisher.number}: "
         if known != asked:
             self.faults.add("the unit has other requests than were made", which + f"{sorted(known.items())}, and not {sorted(asked.items())}")
@@ -376,7 +380,7 @@ class Soak:
         print(
             f"{now / 60:.1f} minutes, {self.turns} turns, {self.stalls} stalls: {self.sent} packets sent and {self.lost_up} lost on the way; "
             f"{self.came} came of {self.expected} that are known to have to, {self.lost_down} were lost after that and {self.repaired} repaired, {self.unrepaired} not; "
-            f"to nobody {self.lost_whole}, to some and not to others {self.lost_part}; {self.quiets} quiet moments, {self.sets} sets ({self.unjudged} moments weren't quiet); "
+            f"to nobody {self.lost_whole}, to some and not to others {self.lost_part}; {self.quiets} quiet moments, {self.sets} sets ({self.unjudged} moments too late); of {self.timed_out} that were silent for {TIMED_OUT} s {self.kept} were kept; "
             f"unread {counts.get('unread', 0)}, stalled {counts['stalled']} ms, flooded {counts['flooded']}, far {counts['far']}, strangers {counts['strangers']}, dropped at clients {dropped}; "
             f"{resident} KB, the unit {(self.unit.cpu() - self.unit_cost) / now:.2f} of a processor, this {(time.process_time() - self.cost) / now:.2f}",
             flush=True,
