@@ -1,6 +1,5 @@
-//! What values and texts must be.
+//! What values must be.
 
-use std::alloc::AllocError;
 use std::fmt::Debug;
 use std::process::Abort;
 
@@ -8,15 +7,4 @@ use std::process::Abort;
 /// relies on what it found, it has to be one all the same.
 pub(crate) fn same<T: PartialEq + Debug>(rt: &impl Abort, left: &T, right: &T) {
     assert_eq!(rt; *left, *right);
-}
-
-/// The text is there, and is this one.
-pub(crate) fn is_text(
-    rt: &impl Abort,
-    text: Result<String, AllocError>,
-    wanted: &str,
-) -> Result<(), AllocError> {
-    let text = text?;
-    assert_eq!(rt; text.as_str(), wanted);
-    Ok(())
 }

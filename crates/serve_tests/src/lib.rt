@@ -1,5 +1,5 @@
 //! The tests of the crates between sockets and the machine, and of what people are told, in a crate of their own so that none of those is
-//! proved a second time with them. `loopback` has what tests need of sockets and settings.
+//! proved a second time with them. `loopback` has what tests need of sockets and settings, `screens` the language of tests of a screen.
 #![tactic(auto)]
 
 #[cfg(test)]
@@ -20,6 +20,8 @@ mod repeats_tests;
 mod resend_tests;
 #[cfg(test)]
 mod screening_tests;
+#[cfg(test)]
+mod screens;
 #[cfg(test)]
 mod sink_tests;
 #[cfg(test)]

@@ -1,5 +1,5 @@
 //! Settings, clients and runs of a unit on sockets of the loopback interface, for tests.
-use serving::{Client, Gauges, Pace, Rules, Sockets, run_on};
+use serving::{Client, Pace, Rules, RunStatus, Sockets, run_on};
 use settings::Settings;
 use settings_toml::read_settings;
 use std::alloc::Global;
@@ -33,7 +33,7 @@ pub(crate) fn ran<W: Watch + Drop>(
     settings: &Settings,
     clients: &[Client],
     pace: Pace,
-    gauges: &Gauges,
+    run_status: &RunStatus,
     watch: W,
 ) -> Result<Report, Fail> {
     match run_on(
@@ -43,7 +43,7 @@ pub(crate) fn ran<W: Watch + Drop>(
         clients,
         Rules::none(),
         pace,
-        gauges,
+        run_status,
         watch,
     ) {
         Ok(report) => Ok(report),

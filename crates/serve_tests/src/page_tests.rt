@@ -163,13 +163,13 @@ const COUNTED: &str = "metrics # TYPE sfu_received_bytes_total counter\n\
     sfu_received_bytes_total{endpoint=\"1\"} 20\n";
 
 const STATE: &str = "json {\"moment_ms\":4000,\"endpoints\":[\
-    {\"number\":0,\"ssrc\":16,\"address\":\"127.0.0.1:5004\",\"present\":true,\"heard_ago_ms\":340,\"refused\":17,\"heard_octets\":1000,\"sent_octets\":0,\"fraction_lost\":null,\"jitter\":null},\
-    {\"number\":1,\"ssrc\":4294967295,\"address\":\"[2001:db8::7]:6000\",\"present\":false,\"heard_ago_ms\":null,\"refused\":4,\"heard_octets\":20,\"sent_octets\":null,\"fraction_lost\":1,\"jitter\":7},\
-    {\"number\":2,\"ssrc\":18,\"address\":\"127.0.0.1:5006\",\"present\":false,\"heard_ago_ms\":null,\"refused\":null,\"heard_octets\":null,\"sent_octets\":null,\"fraction_lost\":null,\"jitter\":null},\
-    {\"number\":3,\"ssrc\":19,\"address\":\"127.0.0.1:5008\",\"present\":false,\"heard_ago_ms\":null,\"refused\":null,\"heard_octets\":null,\"sent_octets\":null,\"fraction_lost\":null,\"jitter\":null}],\
+    {\"number\":0,\"ssrc\":16,\"address\":\"127.0.0.1:5004\",\"present\":true,\"heard_ago_ms\":340,\"refused\":17,\"heard_octets\":1000,\"sent_octets\":0,\"fraction_lost\":null,\"jitter\":null,\"reported_ago_ms\":null},\
+    {\"number\":1,\"ssrc\":4294967295,\"address\":\"[2001:db8::7]:6000\",\"present\":false,\"heard_ago_ms\":null,\"refused\":4,\"heard_octets\":20,\"sent_octets\":null,\"fraction_lost\":1,\"jitter\":7,\"reported_ago_ms\":900},\
+    {\"number\":2,\"ssrc\":18,\"address\":\"127.0.0.1:5006\",\"present\":false,\"heard_ago_ms\":null,\"refused\":null,\"heard_octets\":null,\"sent_octets\":null,\"fraction_lost\":null,\"jitter\":null,\"reported_ago_ms\":null},\
+    {\"number\":3,\"ssrc\":19,\"address\":\"127.0.0.1:5008\",\"present\":false,\"heard_ago_ms\":null,\"refused\":null,\"heard_octets\":null,\"sent_octets\":null,\"fraction_lost\":null,\"jitter\":null,\"reported_ago_ms\":null}],\
     \"legs\":[\
-    {\"leg\":0,\"publisher\":0,\"subscriber\":1,\"on\":true,\"stay\":9,\"packets\":7,\"octets\":700,\"resent\":2,\"missed\":3,\"next\":4,\"fraction_lost\":64,\"jitter\":90,\"round_trip_ms\":45},\
-    {\"leg\":1,\"publisher\":1,\"subscriber\":0,\"on\":false,\"stay\":null,\"packets\":0,\"octets\":0,\"resent\":0,\"missed\":0,\"next\":null,\"fraction_lost\":null,\"jitter\":null,\"round_trip_ms\":null}],\
+    {\"leg\":0,\"publisher\":0,\"subscriber\":1,\"on\":true,\"stay\":9,\"packets\":7,\"octets\":700,\"resent\":2,\"missed\":3,\"next\":4,\"fraction_lost\":64,\"jitter\":90,\"round_trip_ms\":45,\"reported_ago_ms\":1200},\
+    {\"leg\":1,\"publisher\":1,\"subscriber\":0,\"on\":false,\"stay\":null,\"packets\":0,\"octets\":0,\"resent\":0,\"missed\":0,\"next\":null,\"fraction_lost\":null,\"jitter\":null,\"round_trip_ms\":null,\"reported_ago_ms\":null}],\
     \"counts\":{\"present\":1,\"heard\":2,\"sent\":3,\"failed\":4,\"lost\":5,\"dropped\":6,\"strangers\":7,\"unread\":8}}";
 
 fn tells_all(rt: &(impl AllocGlobal + Abort), said: &Option<Said>) -> Result<(), Fail> {

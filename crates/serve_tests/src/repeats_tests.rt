@@ -1,13 +1,22 @@
-//! Requests that are held until their publisher comes, and sets that are asked for again.
+//! Requests that are held until their publisher comes, and sets that are asked for again. A script has a line for each thing that happens,
+//! and after a colon what it comes to.
+//!
+//! | Line | What happens | What it comes to |
+//! |---|---|---|
+//! | `media MOMENT ENDPOINT`, `bye MOMENT ENDPOINT` | an RTP packet of source 16; a goodbye of the endpoint's source | `left` for each rate that is left of what is asked for |
+//! | `ask MOMENT ENDPOINT`, `asks MOMENT ENDPOINT` | source 17 asks for what it is sent as 257; for what it is sent as 258 and as 257, beside a report | and `again` for each that is heard again |
+//! | `tick MOMENT` | a tick is made | the same |
+//! | `come`, `acknowledge ENTRIES`, `want ENTRIES` | publisher 0 comes anew; it notifies of these entries; their owners ask it for a rate | |
+//! | `look ENTRIES` | its desk is looked at, whose announced set has these entries | `set` if the set is said again, and each owner that is lifted again |
 
-use crate::expected::{is_text, same};
+use crate::expected::same;
+use crate::loopback::settings_in;
 use datagram::{Ask, Reading, Sent, What, read};
 use members::{Order, Room, RoomView};
-use policy::{AnnouncedSets, Holding};
+use policy::{Again, AnnouncedSets, DueLook, HeldRequests};
 use rtcp_feedback::TmmbrEntry;
 use settings::{Links, Settings};
-use settings_toml::read_settings;
-use std::alloc::Global;
+use std::alloc::{AllocError, Global};
 use std::cell::RefCell;
 use std::fmt::Write;
 use std::process::Abort;
@@ -45,159 +54,76 @@ const REPORT_AND_ASKS: &[u8] = &[
     0x28, 0, 0, 1, 1, 0, 7, 0xd0, 0x28,
 ];
 
-/// A datagram of an endpoint, or a tick, at a moment in milliseconds, and what it comes to, as `Played::comes_to` has it.
-struct Cue {
-    moment: u64,
-    endpoint: u16,
-    /// Of a tick there are none.
-    bytes: &'static [u8],
-    comes_to: &'static str,
+/// The datagram of a line.
+fn bytes_of(name: &str, endpoint: u16) -> &'static [u8] {
+    match name {
+        "media" => MEDIA,
+        "ask" => ASK,
+        "asks" => REPORT_AND_ASKS,
+        _ => { if endpoint == 0 { BYE_16 } else { BYE_17 } }
+    }
 }
 
-const LEFT: &str = "257 for 7d028\n";
+/// What a subscriber asks for before its publisher is there is left out, and heard after the first packet of that, once. Of two entries
+/// that one is left whose publisher is there. Then the publisher leaves and comes. It is still there if it was silent for a millisecond
+/// less than the timeout, and comes after a silence of the timeout. As it comes anew, the subscriber spoke last a millisecond less ago than
+/// the timeout; and once more, and it is there, since its request was heard again, but was silent for the timeout itself, until it speaks.
+/// Once the subscriber leaves, nothing is held for it.
+const CUES: &str = "ask 0 1:\n\
+    media 10 0: again 1 as 17 257 for 7d028\n\
+    media 20 0:\n\
+    asks 40 1: left 257 for 7d028\n\
+    bye 50 0:\n\
+    media 60 0: again 1 as 17 257 for 7d028\n\
+    ask 1000 1: left 257 for 7d028\n\
+    media 1059 0:\n\
+    ask 1500 1: left 257 for 7d028\n\
+    media 2059 0: again 1 as 17 257 for 7d028\n\
+    bye 2400 0:\n\
+    media 2499 0: again 1 as 17 257 for 7d028\n\
+    bye 2499 0:\n\
+    media 2500 0:\n\
+    ask 2600 1: left 257 for 7d028\n\
+    bye 2610 0:\n\
+    media 2620 0: again 1 as 17 257 for 7d028\n\
+    bye 3000 1:\n\
+    media 5000 0:\n";
 
-const AGAIN: &str = "again 1 as 17, 257 for 7d028\n";
-
-/// What a subscriber asks for before its publisher is there, and as that comes again and again.
-const CUES: [Cue; 12] = [
-    // The request is left out: its publisher isn't there.
-    Cue {
-        moment: 0,
-        endpoint: 1,
-        bytes: ASK,
-        comes_to: "",
-    },
-    // The publisher comes, and the request is heard after its packet; once.
-    Cue {
-        moment: 10,
-        endpoint: 0,
-        bytes: MEDIA,
-        comes_to: AGAIN,
-    },
-    Cue {
-        moment: 20,
-        endpoint: 0,
-        bytes: MEDIA,
-        comes_to: "",
-    },
-    // Of two entries that one is left whose publisher is there.
-    Cue {
-        moment: 40,
-        endpoint: 1,
-        bytes: REPORT_AND_ASKS,
-        comes_to: LEFT,
-    },
-    // The publisher leaves and comes.
-    Cue {
-        moment: 50,
-        endpoint: 0,
-        bytes: BYE_16,
-        comes_to: "",
-    },
-    Cue {
-        moment: 60,
-        endpoint: 0,
-        bytes: MEDIA,
-        comes_to: AGAIN,
-    },
-    Cue {
-        moment: 1_000,
-        endpoint: 1,
-        bytes: ASK,
-        comes_to: LEFT,
-    },
-    // It was silent for a millisecond less than the timeout: it is still there.
-    Cue {
-        moment: 1_059,
-        endpoint: 0,
-        bytes: MEDIA,
-        comes_to: "",
-    },
-    Cue {
-        moment: 1_500,
-        endpoint: 1,
-        bytes: ASK,
-        comes_to: LEFT,
-    },
-    // It comes after a silence of the timeout; its subscriber is there.
-    Cue {
-        moment: 2_059,
-        endpoint: 0,
-        bytes: MEDIA,
-        comes_to: AGAIN,
-    },
-    // The subscriber leaves, and nothing is held for it.
-    Cue {
-        moment: 2_070,
-        endpoint: 1,
-        bytes: BYE_17,
-        comes_to: "",
-    },
-    Cue {
-        moment: 5_000,
-        endpoint: 0,
-        bytes: MEDIA,
-        comes_to: "",
-    },
-];
-
-/// The same, if requests grow too old.
-const AGING_CUES: [Cue; 5] = [
-    Cue {
-        moment: 0,
-        endpoint: 1,
-        bytes: ASK,
-        comes_to: "",
-    },
-    // The publisher comes, and the request waits for a tick.
-    Cue {
-        moment: 10,
-        endpoint: 0,
-        bytes: MEDIA,
-        comes_to: "",
-    },
-    Cue {
-        moment: 59,
-        endpoint: 0,
-        bytes: MEDIA,
-        comes_to: "",
-    },
-    Cue {
-        moment: 60,
-        endpoint: 0,
-        bytes: &[],
-        comes_to: AGAIN,
-    },
-    Cue {
-        moment: 110,
-        endpoint: 0,
-        bytes: &[],
-        comes_to: "",
-    },
-];
+/// If requests grow too old, the request waits for a tick.
+const AGING_CUES: &str = "ask 0 1:\n\
+    media 10 0:\n\
+    media 59 0:\n\
+    tick 60: again 1 as 17 257 for 7d028\n\
+    tick 110:\n";
 
 /// A room, and what is held of its legs.
 #[derive(Drop)]
 struct Played<'a> {
     links: Links,
     room: Room,
-    held: Holding<'a>,
+    held: HeldRequests<'a>,
     reading: Reading,
     orders: Vec<Order>,
 }
 
+/// Reads a datagram. It promises nothing, so that who calls it is proved without what `read` says.
+fn read_one(bytes: &[u8], own: Ssrc, reading: &mut Reading) -> Result<(), AllocError> {
+    read(bytes, own, None, reading)
+}
+
 impl Played<'_> {
-    /// Plays a cue. What it comes to: a line for each rate that is left of what is asked for, and one for each that is heard again.
-    fn comes_to(&mut self, alloc: Global, cue: &Cue) -> Result<String, Fail> {
-        let mut text = String::new(alloc);
-        if cue.bytes.is_empty() {
-            self.tick(cue.moment)?;
+    /// Plays a line, and writes what it comes to.
+    fn play(&mut self, name: &str, words: &str, text: &mut String) -> Result<(), Fail> {
+        let (moment, endpoint) = words.split_once(' ').unwrap_or((words, "0"));
+        let moment: u64 = moment.parse()?;
+        let endpoint: u16 = endpoint.parse()?;
+        if name == "tick" {
+            self.tick(moment)?;
         } else {
-            self.hear(cue)?;
-            push_left(&mut text, self.reading.asks.as_slice())?;
+            self.hear(moment, endpoint, bytes_of(name, endpoint))?;
+            push_left(text, self.reading.asks.as_slice())?;
         }
-        self.push_again(&mut text, cue.moment)?;
-        Ok(text)
+        self.push_again(text, moment)
     }
 
     fn tick(&mut self, moment: u64) -> Result<(), Fail> {
@@ -207,19 +133,23 @@ impl Played<'_> {
     }
 
     /// A datagram is read, heard, and taken into the room.
-    fn hear(&mut self, cue: &Cue) -> Result<(), Fail> {
+    fn hear(&mut self, moment: u64, endpoint: u16, bytes: &[u8]) -> Result<(), Fail> {
         let sent = Sent {
-            moment: cue.moment,
-            endpoint: cue.endpoint,
-            own: self.links.ssrc_of(cue.endpoint).unwrap_or(Ssrc(0)),
+            moment,
+            endpoint,
+            own: self.links.ssrc_of(endpoint).unwrap_or(Ssrc(0)),
         };
-        read(cue.bytes, sent.own, None, &mut self.reading)?;
+        read_one(bytes, sent.own, &mut self.reading)?;
+        self.hold(sent);
+        self.take(sent)
+    }
+
+    fn hold(&mut self, sent: Sent) {
         let view = RoomView {
             links: &self.links,
             room: &self.room,
         };
         self.held.hear(sent, view, &mut self.reading, &[]);
-        self.take(sent)
     }
 
     fn take(&mut self, sent: Sent) -> Result<(), Fail> {
@@ -235,72 +165,104 @@ impl Played<'_> {
     }
 
     fn push_again(&mut self, text: &mut String, moment: u64) -> Result<(), Fail> {
-        let view = RoomView {
-            links: &self.links,
-            room: &self.room,
-        };
         for _look in 0..4 {
             if !self.held.is_waiting() {
                 return Ok(());
             }
-            if let Some(again) = self.held.next_held(view, moment) {
-                write!(text, "again {} as {}, ", again.endpoint, again.speaker.0)?;
+            if let Some(again) = self.next_held(moment) {
+                write!(text, " again {} as {}", again.endpoint, again.speaker.0)?;
                 push_rate(text, again.media, again.word)?;
+                self.take_again(moment, again)?;
             }
+        }
+        Ok(())
+    }
+
+    fn next_held(&mut self, moment: u64) -> Option<Again> {
+        let view = RoomView {
+            links: &self.links,
+            room: &self.room,
+        };
+        self.held.next_held(view, moment)
+    }
+
+    /// What is heard again is taken into the room, too.
+    fn take_again(&mut self, moment: u64, again: Again) -> Result<(), Fail> {
+        let (endpoint, speaker) = (again.endpoint, again.speaker);
+        match self.room.hear(moment, endpoint, speaker, &mut self.orders) {
+            Ok(()) => Ok(()),
+            Err(_) => Err(Fail::from("refused")),
+        }
+    }
+
+    /// Plays these lines, and writes each, and what it comes to.
+    fn play_lines(&mut self, script: &str, text: &mut String) -> Result<(), Fail> {
+        for line in script.lines() {
+            let (step, _) = line.split_once(':').ok_or("a line")?;
+            let (name, words) = step.split_once(' ').unwrap_or((step, ""));
+            write!(text, "{step}:")?;
+            self.play(name, words, text)?;
+            text.push('\n')?;
         }
         Ok(())
     }
 }
 
-fn push_left(text: &mut String, asks: &[Ask]) -> Result<(), Fail> {
+fn push_left(text: &mut String, asks: &[Ask]) -> Result<(), AllocError> {
     for ask in asks {
         if let Ask::Rate { media, word } = ask {
+            text.push_str(" left")?;
             push_rate(text, *media, *word)?;
         }
     }
     Ok(())
 }
 
-fn push_rate(text: &mut String, media: Ssrc, word: u32) -> Result<(), Fail> {
-    write!(text, "{} for {:x}\n", media.0, word)?;
-    Ok(())
+fn push_rate(text: &mut String, media: Ssrc, word: u32) -> Result<(), AllocError> {
+    write!(text, " {} for {word:x}", media.0)
 }
 
-fn room(alloc: Global, text: &str) -> Result<Settings, Fail> {
-    match read_settings(alloc, text.as_bytes()) {
-        Ok(file) => Ok(file.settings),
-        Err(_) => Err(Fail::from("settings")),
-    }
-}
-
-/// Plays the cues in the room of these settings.
-fn play(rt: &impl Abort, alloc: Global, text: &str, cues: &[Cue]) -> Result<(), Fail> {
-    let settings = room(alloc, text)?;
-    let sets = RefCell::new(AnnouncedSets::new(alloc, 3, 100)?);
+/// The script again, with what its lines came to in the room of these settings.
+fn played_in(
+    alloc: Global,
+    settings: &Settings,
+    held: HeldRequests<'_>,
+    script: &str,
+) -> Result<String, Fail> {
+    let links = Links::new(alloc, settings)?;
+    let room = Room::new(alloc, settings)?;
     let mut played = Played {
-        held: Holding::new(alloc, &settings, &sets)?,
+        links,
+        room,
+        held,
         reading: Reading::new(alloc),
         orders: Vec::new(alloc),
-        links: Links::new(alloc, &settings)?,
-        room: Room::new(alloc, &settings)?,
     };
-    for cue in cues {
-        let text = played.comes_to(alloc, cue)?;
-        is_text(rt, Ok(text), cue.comes_to)?;
-    }
+    let mut text = String::new(alloc);
+    played.play_lines(script, &mut text)?;
+    Ok(text)
+}
+
+/// Each line of the script comes to what it says in the room of these settings.
+fn plays(rt: &impl Abort, alloc: Global, settings: &str, script: &str) -> Result<(), Fail> {
+    let settings = settings_in(alloc, settings)?;
+    let sets = RefCell::new(AnnouncedSets::new(alloc, 3, 100)?);
+    let held = HeldRequests::new(alloc, &settings, &sets)?;
+    let text = played_in(alloc, &settings, held, script)?;
+    assert_eq!(rt; text.as_str(), script);
     Ok(())
 }
 
 /// What is asked for is held until the publisher comes, and heard again each time that it does, until the subscriber leaves.
 #[test]
 fn heard_once_the_publisher_comes(rt: HostRuntime) -> Result<(), Fail> {
-    play(&rt, rt.alloc(), ROOM, &CUES)
+    plays(&rt, rt.alloc(), ROOM, CUES)
 }
 
 /// If requests grow too old, it is heard again once a tick was made.
 #[test]
 fn heard_after_a_tick_if_requests_age(rt: HostRuntime) -> Result<(), Fail> {
-    play(&rt, rt.alloc(), AGING_ROOM, &AGING_CUES)
+    plays(&rt, rt.alloc(), AGING_ROOM, AGING_CUES)
 }
 
 /// The sources of the endpoints of `ROOM`, by their numbers. Publisher 0 is looked at.
@@ -349,237 +311,126 @@ const OF_16_99_AND_18: &[TmmbrEntry] = &[
     },
 ];
 
-/// What happens to the publisher.
-#[derive(Clone, Copy)]
-enum Deed {
-    /// It comes anew.
-    Comes,
-    /// It notifies of these entries.
-    Tells,
-    /// Its desk is looked at, and these are the entries of its announced set.
-    Look,
-}
-
-struct Glance {
-    deed: Deed,
-    entries: &'static [TmmbrEntry],
-    /// What is said again at a look: `set` for the set, the number of each owner that is lifted, a space after each.
-    says: &'static str,
-}
-
-/// What is said again to a publisher that notifies.
-const TOLD: [Glance; 23] = [
-    // What wasn't there at the last look was sent when it came.
-    Glance {
-        deed: Deed::Look,
-        entries: OF_17,
-        says: "",
-    },
-    Glance {
-        deed: Deed::Look,
-        entries: OF_17,
-        says: "set ",
-    },
-    Glance {
-        deed: Deed::Tells,
-        entries: OTHER_OF_17,
-        says: "",
-    },
-    // Its owner is named, with another word.
-    Glance {
-        deed: Deed::Look,
-        entries: OF_17,
-        says: "set ",
-    },
-    Glance {
-        deed: Deed::Tells,
-        entries: OF_17,
-        says: "",
-    },
-    Glance {
-        deed: Deed::Look,
-        entries: OF_17,
-        says: "",
-    },
-    // Its owner goes, and was lifted just now.
-    Glance {
-        deed: Deed::Look,
-        entries: NONE,
-        says: "",
-    },
-    // It is lifted until it isn't named.
-    Glance {
-        deed: Deed::Look,
-        entries: NONE,
-        says: "17 ",
-    },
-    Glance {
-        deed: Deed::Look,
-        entries: NONE,
-        says: "17 ",
-    },
-    Glance {
-        deed: Deed::Look,
-        entries: NONE,
-        says: "17 ",
-    },
-    Glance {
-        deed: Deed::Tells,
-        entries: NONE,
-        says: "",
-    },
-    Glance {
-        deed: Deed::Look,
-        entries: NONE,
-        says: "",
-    },
-    Glance {
-        deed: Deed::Look,
-        entries: OF_17,
-        says: "",
-    },
-    // Of those that are named and not in the set 16 is itself, and 99 no endpoint.
-    Glance {
-        deed: Deed::Tells,
-        entries: OF_16_99_AND_18,
-        says: "",
-    },
-    Glance {
-        deed: Deed::Look,
-        entries: OF_17,
-        says: "set 18 ",
-    },
-    Glance {
-        deed: Deed::Tells,
-        entries: OF_17_AND_18,
-        says: "",
-    },
-    // All of the set is told.
-    Glance {
-        deed: Deed::Look,
-        entries: OF_17,
-        says: "18 ",
-    },
-    Glance {
-        deed: Deed::Comes,
-        entries: NONE,
-        says: "",
-    },
-    // Of one that came anew nothing is known.
-    Glance {
-        deed: Deed::Look,
-        entries: OF_17,
-        says: "",
-    },
-    Glance {
-        deed: Deed::Look,
-        entries: OF_17,
-        says: "set ",
-    },
-    // It notifies that it keeps to no bound.
-    Glance {
-        deed: Deed::Tells,
-        entries: NONE,
-        says: "",
-    },
-    Glance {
-        deed: Deed::Look,
-        entries: NONE,
-        says: "",
-    },
-    Glance {
-        deed: Deed::Look,
-        entries: NONE,
-        says: "",
-    },
-];
-
-/// What is said again to one that never does.
-const UNTOLD: [Glance; 9] = [
-    Glance {
-        deed: Deed::Look,
-        entries: OF_17_AND_18,
-        says: "",
-    },
-    // An owner goes: it is lifted at two looks.
-    Glance {
-        deed: Deed::Look,
-        entries: OF_17,
-        says: "18 ",
-    },
-    Glance {
-        deed: Deed::Look,
-        entries: OF_17,
-        says: "set 18 ",
-    },
-    Glance {
-        deed: Deed::Look,
-        entries: OF_17,
-        says: "set ",
-    },
-    // The other goes, comes back, and goes again.
-    Glance {
-        deed: Deed::Look,
-        entries: NONE,
-        says: "17 ",
-    },
-    Glance {
-        deed: Deed::Look,
-        entries: OF_17,
-        says: "",
-    },
-    Glance {
-        deed: Deed::Look,
-        entries: NONE,
-        says: "17 ",
-    },
-    Glance {
-        deed: Deed::Look,
-        entries: NONE,
-        says: "17 ",
-    },
-    Glance {
-        deed: Deed::Look,
-        entries: NONE,
-        says: "",
-    },
-];
-
-/// What is said again to publisher 0 at a look at a set.
-fn said(alloc: Global, sets: &mut AnnouncedSets, set: &[TmmbrEntry]) -> Result<String, Fail> {
-    let said = sets.look(alloc, 0, set, SOURCES)?;
-    let mut text = String::new(alloc);
-    if said.asks() {
-        text.push_str("set ")?;
+/// The entries of a line.
+fn entries_of(name: &str) -> &'static [TmmbrEntry] {
+    match name {
+        "nobody" => NONE,
+        "17" => OF_17,
+        "other" => OTHER_OF_17,
+        "both" => OF_17_AND_18,
+        _ => OF_16_99_AND_18,
     }
-    for owner in said.lifted() {
-        write!(text, "{} ", owner.0)?;
-    }
-    Ok(text)
 }
 
-fn go_on(
-    rt: &impl Abort,
+/// What is said again to a publisher that notifies. What wasn't there at the last look was sent when it came. Its owner is named, with another
+/// word. Then it goes, and was lifted just now; it is lifted until it isn't named. Of those that are named and not in the set 16 is itself,
+/// and 99 no endpoint. Then all of the set is told. Of a publisher that came anew nothing is known. In the end it notifies that it keeps to
+/// no bound.
+const TOLD: &str = "look 17:\n\
+    look 17: set\n\
+    tell other:\n\
+    look 17: set\n\
+    tell 17:\n\
+    look 17:\n\
+    look nobody:\n\
+    look nobody: 17\n\
+    look nobody: 17\n\
+    look nobody: 17\n\
+    tell nobody:\n\
+    look nobody:\n\
+    look 17:\n\
+    tell odd:\n\
+    look 17: set 18\n\
+    tell both:\n\
+    look 17: 18\n\
+    come:\n\
+    look 17:\n\
+    look 17: set\n\
+    tell nobody:\n\
+    look nobody:\n\
+    look nobody:\n";
+
+/// What is said again to one that never does. An owner goes: it is lifted at two looks. Then the other goes, comes back, and goes again. In the
+/// end it asks, and goes before the next look.
+const UNTOLD: &str = "look both:\n\
+    look 17: 18\n\
+    look 17: set 18\n\
+    look 17: set\n\
+    look nobody: 17\n\
+    look 17:\n\
+    look nobody: 17\n\
+    look nobody: 17\n\
+    look nobody:\n\
+    want 17:\n\
+    look nobody: 17\n\
+    look nobody: 17\n\
+    look nobody:\n";
+
+/// Writes what is said again to publisher 0 at a look at a set.
+fn look(
     alloc: Global,
     sets: &mut AnnouncedSets,
-    step: &Glance,
-) -> Result<(), Fail> {
-    match step.deed {
-        Deed::Comes => sets.forget(0),
-        Deed::Tells => sets.tell(0, step.entries)?,
-        Deed::Look => {
-            let text = said(alloc, sets, step.entries)?;
-            is_text(rt, Ok(text), step.says)?;
-        }
+    set: &[TmmbrEntry],
+    text: &mut String,
+) -> Result<(), AllocError> {
+    let said = sets.look(alloc, 0, set, SOURCES)?;
+    write_said(text, said.asks(), said.lifted())
+}
+
+fn write_said(text: &mut String, asks: bool, lifted: &[Ssrc]) -> Result<(), AllocError> {
+    if asks {
+        text.push_str(" set")?;
+    }
+    for owner in lifted {
+        write!(text, " {}", owner.0)?;
     }
     Ok(())
 }
 
-fn watch(rt: &impl Abort, alloc: Global, glances: &[Glance]) -> Result<(), Fail> {
-    let mut sets = AnnouncedSets::new(alloc, 3, 100)?;
-    for step in glances {
-        go_on(rt, alloc, &mut sets, step)?;
+/// The owners of these entries ask publisher 0 for a rate.
+fn want(sets: &mut AnnouncedSets, entries: &[TmmbrEntry]) -> Result<(), AllocError> {
+    for entry in entries {
+        sets.ask(0, entry.ssrc)?;
     }
+    Ok(())
+}
+
+/// Does what a line says, and writes what it comes to.
+fn go_on(
+    alloc: Global,
+    sets: &mut AnnouncedSets,
+    name: &str,
+    entries: &[TmmbrEntry],
+    text: &mut String,
+) -> Result<(), AllocError> {
+    match name {
+        "come" => {
+            sets.forget(0);
+            Ok(())
+        }
+        "tell" => sets.acknowledge(0, entries),
+        "want" => want(sets, entries),
+        _ => look(alloc, sets, entries, text),
+    }
+}
+
+/// The script again, with what its lines came to.
+fn watched(alloc: Global, sets: &mut AnnouncedSets, script: &str) -> Result<String, Fail> {
+    let mut text = String::new(alloc);
+    for line in script.lines() {
+        let (step, _) = line.split_once(':').ok_or("a line")?;
+        let (name, words) = step.split_once(' ').unwrap_or((step, ""));
+        write!(text, "{step}:")?;
+        go_on(alloc, sets, name, entries_of(words), &mut text)?;
+        text.push('\n')?;
+    }
+    Ok(text)
+}
+
+/// Each line of the script comes to what it says.
+fn watch(rt: &impl Abort, alloc: Global, script: &str) -> Result<(), Fail> {
+    let text = watched(alloc, &mut AnnouncedSets::new(alloc, 3, 100)?, script)?;
+    assert_eq!(rt; text.as_str(), script);
     Ok(())
 }
 
@@ -587,25 +438,38 @@ fn watch(rt: &impl Abort, alloc: Global, glances: &[Glance]) -> Result<(), Fail>
 /// it doesn't.
 #[test]
 fn asks_until_it_is_told(rt: HostRuntime) -> Result<(), Fail> {
-    watch(&rt, rt.alloc(), &TOLD)
+    watch(&rt, rt.alloc(), TOLD)
 }
 
 /// Of a publisher that never notifies, who is gone is lifted at the two looks that come next.
 #[test]
 fn lifts_twice_more_without_a_notification(rt: HostRuntime) -> Result<(), Fail> {
-    watch(&rt, rt.alloc(), &UNTOLD)
+    watch(&rt, rt.alloc(), UNTOLD)
 }
 
-/// Who was asked for a rate, or notified, is looked at in each round.
+/// What is looked at next.
+fn look_due(sets: &mut AnnouncedSets, moment: u64) -> Option<DueLook> {
+    sets.look_due(moment)
+}
+
+/// Each round looks at who is present, and then at who was asked for a rate, or notified.
 #[test]
 fn looks_at_who_was_asked_or_notified(rt: HostRuntime) -> Result<(), Fail> {
     let mut sets = AnnouncedSets::new(rt.alloc(), 3, 100)?;
-    same(&rt, &sets.look_due(0), &None);
-    sets.tell(0, NONE)?;
-    sets.ask(2);
-    same(&rt, &sets.look_due(99), &None);
-    same(&rt, &sets.look_due(100), &Some(0));
-    same(&rt, &sets.look_due(100), &Some(2));
-    same(&rt, &sets.look_due(100), &None);
+    same(&rt, &look_due(&mut sets, 0), &Some(DueLook::Presence));
+    same(&rt, &look_due(&mut sets, 0), &None);
+    sets.acknowledge(0, NONE)?;
+    sets.ask(2, Ssrc(17))?;
+    same(&rt, &look_due(&mut sets, 99), &None);
+    same(&rt, &look_due(&mut sets, 100), &Some(DueLook::Presence));
+    same(&rt, &look_due(&mut sets, 100), &Some(DueLook::Desk(0)));
+    same(&rt, &look_due(&mut sets, 100), &Some(DueLook::Desk(2)));
+    same(&rt, &look_due(&mut sets, 100), &None);
+    // Who isn't present is told nothing.
+    same(&rt, &look_due(&mut sets, 200), &Some(DueLook::Presence));
+    sets.note_presence(0, false);
+    sets.note_presence(2, true);
+    same(&rt, &look_due(&mut sets, 200), &Some(DueLook::Desk(2)));
+    same(&rt, &look_due(&mut sets, 200), &None);
     Ok(())
 }

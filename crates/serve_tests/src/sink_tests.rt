@@ -1,6 +1,6 @@
 //! What is counted of who can't be sent anything.
 use crate::loopback::{ANY_PORT, client_at, ran, settings_in};
-use serving::{Client, Gauges, Location, Pace, Sockets};
+use serving::{Client, Location, Pace, RunStatus, Sockets};
 use std::net::UdpSocket;
 use std::sync::Wait;
 use std::test::Fail;
@@ -28,13 +28,21 @@ fn sent_to_nobody(
     let clients = [client_at(publisher)?, listener];
     let settings = settings_in(rt.alloc(), BOTH_WAYS)?;
     publisher.send_to(PACKET.as_slice(), unit.local_addr()?)?;
-    let gauges = Gauges::new();
+    let run_status = RunStatus::new();
     let sockets = Sockets::one(unit);
     let pace = Pace {
         turns: 20,
         tick_ms: 50,
     };
-    let report = ran(rt, sockets, &settings, &clients, pace, &gauges, Unwatched)?;
+    let report = ran(
+        rt,
+        sockets,
+        &settings,
+        &clients,
+        pace,
+        &run_status,
+        Unwatched,
+    )?;
     Ok([report.heard, report.sent, report.failed])
 }
 

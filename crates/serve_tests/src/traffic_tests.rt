@@ -1,14 +1,15 @@
-//! Numbers across the wrap, feedback of a compound, what reports say, and what is told of it all.
+//! What reports say and what is refused, as it is counted and told.
 
 use crate::expected::same;
+use crate::loopback::settings_in;
 use datagram::{Notes, Reading, read_noting};
 use events::{DeskRefusal, Refusal};
 use rtcp_compound::{Block, RtcpFault, write_rr, write_sr};
 use rtp_packet::RtpFault;
-use settings::{RoomFault, Settings};
-use settings_toml::read_settings;
+use settings::RoomFault;
 use stats::{NumberedReport, ReceptionReport, Traffic, push_refusal_figures, push_refusal_lines};
 use std::alloc::Global;
+use std::process::Abort;
 use std::test::Fail;
 use tmmbr_tuple::Ssrc;
 
@@ -32,40 +33,15 @@ const fn block_about(source: u32, last_sr: u32, delay: u32) -> Block {
 }
 
 /// A room of three, in which the first is sent on to the others.
-const ROOM: &str = "workers = 1
-ring = 8
-history = 128
-timeout_ms = 1000
-report_ms = 1000
-pli_gap_ms = 500
-unit_ssrc = 9
-cname = \"sfu\"
+const ROOM: &str =
+    "workers = 1\nring = 8\nhistory = 128\ntimeout_ms = 1000\nreport_ms = 1000\npli_gap_ms = 500\nunit_ssrc = 9\n\
+cname = \"sfu\"\n[[endpoint]]\nssrc = 16\n[[endpoint]]\nssrc = 17\n[[endpoint]]\nssrc = 18\n\
+[[leg]]\nsubscriber = 2\npublisher = 0\nout_ssrc = 258\n[[leg]]\nsubscriber = 1\npublisher = 0\nout_ssrc = 257\n";
 
-[[endpoint]]
-ssrc = 16
-
-[[endpoint]]
-ssrc = 17
-
-[[endpoint]]
-ssrc = 18
-
-[[leg]]
-subscriber = 2
-publisher = 0
-out_ssrc = 258
-
-[[leg]]
-subscriber = 1
-publisher = 0
-out_ssrc = 257
-";
-
-fn room(alloc: Global) -> Result<Settings, Fail> {
-    match read_settings(alloc, ROOM.as_bytes()) {
-        Ok(file) => Ok(file.settings),
-        Err(_) => Err(Fail::from("settings")),
-    }
+/// The counts of that room.
+fn room_traffic(alloc: Global) -> Result<Traffic, Fail> {
+    let settings = settings_in(alloc, ROOM)?;
+    Ok(Traffic::new(alloc, &settings)?)
 }
 
 /// What is noted of a datagram of an endpoint.
@@ -88,74 +64,138 @@ fn receiver_report(alloc: Global, sender: u32, block: Block) -> Result<Vec<u8>, 
     Ok(bytes)
 }
 
-/// A sender report of leg 1 goes to its subscriber, which answers: its report is noted, with the round trip; that of another endpoint about
-/// the same leg isn't. What the unit reports of a publisher is noted as it is sent.
-#[test]
-fn reports_of_a_room(rt: HostRuntime) -> Result<(), Fail> {
-    let alloc = rt.alloc();
-    let traffic = Traffic::new(alloc, &room(alloc)?)?;
+/// At 1,000 ms a sender report of leg 1 goes to its subscriber.
+fn send_report(alloc: Global, traffic: &Traffic) -> Result<(), Fail> {
     let mut report = Vec::new(alloc);
     write_sr(&mut report, Ssrc(257), 0x1234_b705_2000_5678, 0, 0, 0, &[])?;
     traffic.turned(1000);
     traffic.sent(1, report.as_slice());
     traffic.turned(6300);
-    let block = block_of_the_figure();
-    let answer = receiver_report(alloc, 17, block)?;
+    Ok(())
+}
+
+/// At 6,300 ms this endpoint reports of leg 1 what the figure says.
+fn hear_report(alloc: Global, traffic: &Traffic, endpoint: u16) -> Result<(), Fail> {
+    let answer = receiver_report(alloc, 17, block_of_the_figure())?;
     let notes = notes_of(alloc, answer.as_slice())?;
-    traffic.heard_control(2, answer.len(), &notes, 6300);
-    same(&rt, &traffic.leg_report(1), &None);
-    traffic.heard_control(1, answer.len(), &notes, 6300);
-    let wanted = ReceptionReport {
+    traffic.heard_control(endpoint, answer.len(), &notes, 6300);
+    Ok(())
+}
+
+/// The unit reports the same of the publisher to this endpoint.
+fn send_upstream(alloc: Global, traffic: &Traffic, endpoint: u16) -> Result<(), Fail> {
+    let upstream = receiver_report(alloc, 9, block_about(16, 0, 0))?;
+    traffic.sent(endpoint, upstream.as_slice());
+    Ok(())
+}
+
+/// What is said of that then, with this round trip.
+const fn reported(round_trip_ms: Option<u32>, interval_ms: u64) -> ReceptionReport {
+    ReceptionReport {
         fraction: 64,
         lost: -2,
         jitter: 90,
-        round_trip_ms: Some(50),
+        round_trip_ms,
         moment: 6300,
-    };
-    same(&rt, &traffic.leg_report(1), &Some(wanted));
-    same(&rt, &traffic.leg_report(0), &None);
-    let listed = traffic.leg_reports(alloc)?;
+        interval_ms,
+    }
+}
+
+/// The subscriber of leg 1 answers: its report is noted, with the round trip; that of another endpoint about the same leg isn't.
+fn note_answer(rt: &impl Abort, alloc: Global, traffic: &Traffic) -> Result<(), Fail> {
+    send_report(alloc, traffic)?;
+    hear_report(alloc, traffic, 2)?;
+    same(rt, &traffic.leg_report(1), &None);
+    hear_report(alloc, traffic, 1)?;
+    same(rt, &traffic.leg_report(1), &Some(reported(Some(50), 0)));
+    same(rt, &traffic.leg_report(0), &None);
+    let listed = traffic.leg_reports(alloc, 6300)?;
     let of_leg_1 = NumberedReport {
         number: 1,
-        report: wanted,
+        report: reported(Some(50), 0),
     };
     assert!(rt; listed.as_slice() == [of_leg_1].as_slice());
+    Ok(())
+}
+
+/// What the unit reports of a publisher is noted as it is sent to it.
+fn note_upstream(rt: &impl Abort, alloc: Global, traffic: &Traffic) -> Result<(), Fail> {
+    send_upstream(alloc, traffic, 1)?;
+    same(rt, &traffic.publisher_report(1), &None);
+    send_upstream(alloc, traffic, 0)?;
+    same(
+        rt,
+        &traffic.publisher_report(0),
+        &Some(reported(None, 1000)),
+    );
+    let listed = traffic.publisher_reports(alloc, 6300)?;
+    same(rt, &listed.len(), &1);
+    Ok(())
+}
+
+/// A sender report of leg 1 goes to its subscriber, which answers: its report is noted, with the round trip; that of another endpoint about
+/// the same leg isn't. What the unit reports of a publisher is noted as it is sent.
+#[test]
+fn reports_of_a_room(rt: HostRuntime) -> Result<(), Fail> {
+    let traffic = room_traffic(rt.alloc())?;
+    note_answer(&rt, rt.alloc(), &traffic)?;
+    note_upstream(&rt, rt.alloc(), &traffic)
+}
+
+/// The round trip in the last report of leg 1, if there is such a report.
+fn trip_of(traffic: &Traffic) -> Option<Option<u32>> {
+    let report = traffic.leg_report(1)?;
+    Some(report.round_trip_ms)
+}
+
+/// Endpoints come anew: first another one, then the subscriber of leg 1, which reports once more.
+fn come_anew(rt: &impl Abort, alloc: Global, traffic: &Traffic) -> Result<(), Fail> {
+    send_report(alloc, traffic)?;
+    hear_report(alloc, traffic, 1)?;
+    traffic.came_anew(2);
+    same(rt, &trip_of(traffic), &Some(Some(50)));
+    traffic.came_anew(1);
+    same(rt, &trip_of(traffic), &None);
+    hear_report(alloc, traffic, 1)?;
+    same(rt, &trip_of(traffic), &Some(None));
+    Ok(())
+}
+
+/// How many reports of legs, and of publishers, are shown at a moment.
+fn shown(alloc: Global, traffic: &Traffic, moment: u64) -> Result<(usize, usize), Fail> {
+    let legs = traffic.leg_reports(alloc, moment)?;
+    let publishers = traffic.publisher_reports(alloc, moment)?;
+    Ok((legs.len(), publishers.len()))
+}
+
+/// A subscriber reports at 1,000 ms: that is shown for 15 seconds. It reports again after 6 seconds, which are its interval from then on:
+/// that is shown for 18. What the unit says each second of a publisher is shown for 15.
+#[test]
+fn reports_that_grow_old(rt: HostRuntime) -> Result<(), Fail> {
+    let alloc = rt.alloc();
+    let traffic = room_traffic(alloc)?;
+    let answer = receiver_report(alloc, 17, block_of_the_figure())?;
+    let notes = notes_of(alloc, answer.as_slice())?;
+    traffic.turned(1000);
+    traffic.heard_control(1, answer.len(), &notes, 1000);
+    same(&rt, &shown(alloc, &traffic, 16_000)?, &(1, 0));
+    same(&rt, &shown(alloc, &traffic, 16_001)?, &(0, 0));
+    traffic.turned(7000);
+    traffic.heard_control(1, answer.len(), &notes, 7000);
     let upstream = receiver_report(alloc, 9, block_about(16, 0, 0))?;
-    traffic.sent(1, upstream.as_slice());
-    same(&rt, &traffic.publisher_report(1), &None);
     traffic.sent(0, upstream.as_slice());
-    let wanted = ReceptionReport {
-        round_trip_ms: None,
-        ..wanted
-    };
-    same(&rt, &traffic.publisher_report(0), &Some(wanted));
-    let listed = traffic.publisher_reports(alloc)?;
-    same(&rt, &listed.len(), &1);
+    same(&rt, &shown(alloc, &traffic, 22_000)?, &(1, 1));
+    same(&rt, &shown(alloc, &traffic, 22_001)?, &(1, 0));
+    same(&rt, &shown(alloc, &traffic, 25_000)?, &(1, 0));
+    same(&rt, &shown(alloc, &traffic, 25_001)?, &(0, 0));
     Ok(())
 }
 
 /// A subscriber comes anew: what it reported is forgotten, and so is the sender report that it names; what another one reported isn't.
 #[test]
 fn reports_of_who_came_anew(rt: HostRuntime) -> Result<(), Fail> {
-    let alloc = rt.alloc();
-    let traffic = Traffic::new(alloc, &room(alloc)?)?;
-    let mut report = Vec::new(alloc);
-    write_sr(&mut report, Ssrc(257), 0x1234_b705_2000_5678, 0, 0, 0, &[])?;
-    traffic.turned(1000);
-    traffic.sent(1, report.as_slice());
-    traffic.turned(6300);
-    let answer = receiver_report(alloc, 17, block_of_the_figure())?;
-    let notes = notes_of(alloc, answer.as_slice())?;
-    traffic.heard_control(1, answer.len(), &notes, 6300);
-    traffic.came_anew(2);
-    let trip = traffic.leg_report(1).ok_or("report")?.round_trip_ms;
-    assert_eq!(rt; trip, Some(50));
-    traffic.came_anew(1);
-    same(&rt, &traffic.leg_report(1), &None);
-    traffic.heard_control(1, answer.len(), &notes, 6300);
-    let trip = traffic.leg_report(1).ok_or("report")?.round_trip_ms;
-    assert_eq!(rt; trip, None);
-    Ok(())
+    let traffic = room_traffic(rt.alloc())?;
+    come_anew(&rt, rt.alloc(), &traffic)
 }
 
 /// What was refused, endpoint by endpoint: the same twice, reasons of one endpoint, the last of their kinds, one of no datagram, and one of
@@ -170,30 +210,59 @@ const REFUSED: [(Option<u16>, Refusal); 7] = [
     (Some(3), Refusal::Rtp(RtpFault::Short)),
 ];
 
-/// What was refused is counted by endpoint and by reason, and told in words and as a metric.
-#[test]
-fn refusals_of_a_room(rt: HostRuntime) -> Result<(), Fail> {
-    let alloc = rt.alloc();
-    let traffic = Traffic::new(alloc, &room(alloc)?)?;
+/// What is told of it in words,
+const TOLD: &str =
+    "endpoint 0 room 3 times 1: no such leg, or no stay on it\nendpoint 2 rtp 2 times 2: an RTP packet of another version than 2\nendpoint 2 rtcp 2 times 1: an RTCP packet of another version than 2\nendpoint 2 rtcp 7 times 1: a source description that doesn't end\nendpoint none desk 4 times 1: a desk that has no call left\n";
+
+/// and as a metric.
+const MEASURED: &str =
+    "# HELP sfu_refused_total What was refused of what came from the endpoint.\n# TYPE sfu_refused_total counter\nsfu_refused_total{endpoint=\"0\",kind=\"room\",reason=\"3\"} 1\nsfu_refused_total{endpoint=\"2\",kind=\"rtp\",reason=\"2\"} 2\nsfu_refused_total{endpoint=\"2\",kind=\"rtcp\",reason=\"2\"} 1\nsfu_refused_total{endpoint=\"2\",kind=\"rtcp\",reason=\"7\"} 1\nsfu_refused_total{endpoint=\"none\",kind=\"desk\",reason=\"4\"} 1\n";
+
+/// All of it is refused.
+fn refuse_all(traffic: &Traffic) {
     for (endpoint, refusal) in REFUSED {
         traffic.refused(endpoint, refusal);
     }
+}
+
+/// The lines about it, and the metric.
+fn push_told(
+    alloc: Global,
+    traffic: &Traffic,
+    lines: &mut String,
+    figures: &mut String,
+) -> Result<(), Fail> {
     let counts = traffic.refusals(alloc)?;
-    let mut text = String::new(alloc);
-    push_refusal_lines(&mut text, counts.as_slice())?;
-    assert_eq!(rt;
-        text.as_str(),
-        "endpoint 0 room 3 times 1: no such leg, or no stay on it\nendpoint 2 rtp 2 times 2: an RTP packet of another version than 2\nendpoint 2 rtcp 2 times 1: an RTCP packet of another version than 2\nendpoint 2 rtcp 7 times 1: a source description that doesn't end\nendpoint none desk 4 times 1: a desk that has no call left\n"
-    );
-    let mut text = String::new(alloc);
-    push_refusal_figures(&mut text, counts.as_slice())?;
-    assert_eq!(rt;
-        text.as_str(),
-        "# HELP sfu_refused_total What was refused of what came from the endpoint.\n# TYPE sfu_refused_total counter\nsfu_refused_total{endpoint=\"0\",kind=\"room\",reason=\"3\"} 1\nsfu_refused_total{endpoint=\"2\",kind=\"rtp\",reason=\"2\"} 2\nsfu_refused_total{endpoint=\"2\",kind=\"rtcp\",reason=\"2\"} 1\nsfu_refused_total{endpoint=\"2\",kind=\"rtcp\",reason=\"7\"} 1\nsfu_refused_total{endpoint=\"none\",kind=\"desk\",reason=\"4\"} 1\n"
-    );
-    for (endpoint, total) in [(0, 1), (1, 0), (2, 4)] {
-        let count = traffic.endpoint(endpoint).ok_or("endpoint")?;
-        assert_eq!(rt; count.refused, total);
-    }
+    push_refusal_lines(lines, counts.as_slice())?;
+    push_refusal_figures(figures, counts.as_slice())?;
     Ok(())
+}
+
+/// How much was refused of this endpoint.
+fn refused_of(traffic: &Traffic, endpoint: u16) -> Option<u64> {
+    let count = traffic.endpoint(endpoint)?;
+    Some(count.refused)
+}
+
+/// It is told so, and counted of each endpoint.
+fn tell_refused(rt: &impl Abort, alloc: Global, traffic: &Traffic) -> Result<(), Fail> {
+    let (mut lines, mut figures) = (String::new(alloc), String::new(alloc));
+    push_told(alloc, traffic, &mut lines, &mut figures)?;
+    same(rt, &lines.as_str(), &TOLD);
+    same(rt, &figures.as_str(), &MEASURED);
+    let refused = [
+        refused_of(traffic, 0),
+        refused_of(traffic, 1),
+        refused_of(traffic, 2),
+    ];
+    same(rt, &refused, &[Some(1), Some(0), Some(4)]);
+    Ok(())
+}
+
+/// What was refused is counted by endpoint and by reason, and told in words and as a metric.
+#[test]
+fn refusals_of_a_room(rt: HostRuntime) -> Result<(), Fail> {
+    let traffic = room_traffic(rt.alloc())?;
+    refuse_all(&traffic);
+    tell_refused(&rt, rt.alloc(), &traffic)
 }

@@ -5,17 +5,17 @@ ghost use Rattle.std.specs.Prelude.{◌+◌, None};
 use crate::doubles::Moved;
 use crate::machine_turns::{TICK_MS, Tellings, play};
 use crate::random_turns::{Plan, Turn, WORKERS, make_turns, room, room_with};
+use crate::runs::{Counts, run_in_one, run_in_threads};
 use crate::told::Told;
 use crate::turn_doubles::{Counting, ROOM, RingSink, Stage, Turned, sink_and_end};
-use one_thread::{Pace, run_one_thread};
-use ports::{Timed, Unwatched};
+use ports::{Pace, Timed, Unwatched};
 use rtrb::Consumer;
 use settings::Settings;
 use std::alloc::{AllocError, Global};
 use std::sync::Wait;
 use std::test::Fail;
 use std::thread::Threads;
-use workers::{Outside, Report, UnitFault, run_watched};
+use workers::Outside;
 
 /// Turns that are never calm.
 const RESTLESS: Plan = Plan {
@@ -31,6 +31,14 @@ const CALM: Plan = Plan {
     least_sent: 0,
 };
 
+/// A tick at each of the turns.
+fn pace_of(turns: &[Turn]) -> Pace {
+    Pace {
+        turns: turns.len() as u64,
+        tick_ms: TICK_MS,
+    }
+}
+
 /// Runs the unit over the turns, in threads.
 fn run_turns<R: Threads + Wait + Sync>(
     rt: &R,
@@ -40,10 +48,6 @@ fn run_turns<R: Threads + Wait + Sync>(
     stage: &Stage,
     sinks: Vec<RingSink<'_>>,
 ) -> Result<Counts, Fail> {
-    if sinks.len() as u64 != settings.workers() + 1 {
-        return Err("sinks".into());
-    }
-    let gate = Counting { stage };
     let clock = Moved {
         moment: &stage.moment,
     };
@@ -53,12 +57,9 @@ fn run_turns<R: Threads + Wait + Sync>(
         clock: Timed::by(clock),
         watch: Unwatched,
     };
-    let pace = Pace {
-        turns: turns.len() as u64,
-        tick_ms: TICK_MS,
-    };
-    let ran = run_watched(rt, alloc, settings, outside, &gate, pace);
-    Ok(counts_of(ran)?)
+    let gate = Counting { stage };
+    let ran = run_in_threads(rt, alloc, settings, outside, &gate, pace_of(turns))?;
+    Ok(ran?)
 }
 
 /// The same in one thread, which has one worker. Says how many datagrams were sent.
@@ -69,30 +70,20 @@ fn run_alone(
     sink: &mut RingSink<'_>,
 ) -> Result<u64, Fail> {
     let settings = room_with(alloc, 1)?;
-    if settings.workers() != 1 {
-        return Err("workers".into());
-    }
     let mut feed = Turned::new(turns, stage);
     let mut clock = Timed::by(Moved {
         moment: &stage.moment,
     });
-    let pace = Pace {
-        turns: turns.len() as u64,
-        tick_ms: TICK_MS,
-    };
-    let ran = run_one_thread(
+    let [_heard, sent, ..] = run_in_one(
         alloc,
         &settings,
         &mut feed,
         sink,
         &mut clock,
         &mut Unwatched,
-        pace,
-    );
-    match ran {
-        Ok(report) => Ok(report.counts.sent),
-        Err(_) => Err("a run".into()),
-    }
+        pace_of(turns),
+    )?;
+    Ok(sent)
 }
 
 /// What a sink handed on is this, in order. Says how many datagrams are in it.
@@ -178,20 +169,6 @@ fn sinks_and_ends(alloc: Global, stage: &Stage) -> Result<Ends<'_>, AllocError> 
     Ok((sinks, ends))
 }
 
-/// What was heard, sent, failed, lost and dropped.
-type Counts = [u64; 5];
-
-fn counts_of(ran: Result<Report, UnitFault>) -> Result<Counts, UnitFault> {
-    let report = ran?;
-    Ok([
-        report.heard,
-        report.sent,
-        report.failed,
-        report.lost,
-        report.dropped,
-    ])
-}
-
 /// Plays the turns in threads, where sinks are told the same. Says how many datagrams were sent.
 fn in_threads<R: Threads + Wait + Sync>(
     rt: &R,
@@ -203,7 +180,7 @@ fn in_threads<R: Threads + Wait + Sync>(
 ) -> Result<u64, Fail> {
     let stage = Stage::new(0);
     let (sinks, mut ends) = sinks_and_ends(alloc, &stage)?;
-    let [_heard, sent, failed, lost, dropped] = run_turns(
+    let [_heard, sent, failed, lost, dropped, _desks] = run_turns(
         rt, alloc, settings, turns, &stage, sinks,
     )?;
     if count_all(told, &mut ends, least_sent) != Some(sent)

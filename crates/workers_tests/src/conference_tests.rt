@@ -60,6 +60,11 @@ const TOLD: [u8; 20] = [
     0x84, 0xcd, 0, 4, 0, 0, 1, 1, 0, 0, 0, 0, 0, 0, 0, 17, 0, 7, 0xd0, 0x28,
 ];
 
+/// Whether as much of the datagram is heard as the settings say.
+fn hears_limited(conference: &mut Conference, moment: u64, endpoint: u16, bytes: &[u8]) -> bool {
+    conference.hear_limited(moment, endpoint, bytes).is_ok()
+}
+
 /// Whether the datagram is heard.
 fn hears(conference: &mut Conference, moment: u64, endpoint: u16, bytes: &[u8]) -> bool {
     conference.hear(moment, endpoint, bytes).is_ok()
@@ -98,13 +103,24 @@ fn certifies(conference: &Conference, publisher: u16, count: usize) -> bool {
     }
 }
 
-/// Whether nothing is left to do or to be sent, once the leg is switched off and a moment has passed.
+/// Whether the leg is switched off at this moment.
+fn selects_off(conference: &mut Conference, moment: u64) -> bool {
+    conference.select(moment, 0, false).is_ok()
+}
+
+/// Whether it is told that it is this moment.
+fn ticks(conference: &mut Conference, moment: u64) -> bool {
+    conference.tick(moment).is_ok()
+}
+
+/// Whether nothing is left to do or to be sent, once what waits is done.
+fn settles(conference: &mut Conference) -> bool {
+    conference.settle().is_ok() && conference.waiting().tasks == 0 && conference.next().is_none()
+}
+
+/// Whether nothing is left, once the leg is switched off and a moment has passed.
 fn ends(conference: &mut Conference) -> bool {
-    let selected = conference.select(40, 0, false).is_ok();
-    let ticked = conference.tick(50).is_ok();
-    let settled = conference.settle().is_ok();
-    let waiting = conference.waiting();
-    selected && ticked && settled && waiting.tasks == 0 && conference.next().is_none()
+    selects_off(conference, 40) && ticks(conference, 50) && settles(conference)
 }
 
 /// Both come, and 17 asks; so 16 is asked, and 17 told.
@@ -125,10 +141,14 @@ fn sends_on(conference: &mut Conference) -> bool {
         && takes(conference, 1, SENT_ON.as_slice(), SENT_ON.as_slice())
 }
 
+/// All of that.
+fn serves(conference: &mut Conference) -> bool {
+    asks(conference) && sends_on(conference) && ends(conference)
+}
+
 #[test]
 fn serves_a_conference(rt: HostRuntime) -> Result<(), Fail> {
-    let mut conference = open_room(rt.alloc(), ROOM)?;
-    let is_so = asks(&mut conference) && sends_on(&mut conference) && ends(&mut conference);
+    let is_so = serves(&mut open_room(rt.alloc(), ROOM)?);
     assert!(rt; is_so);
     Ok(())
 }
@@ -158,29 +178,39 @@ fn sends_two(conference: &mut Conference) -> bool {
         && takes_second(conference)
 }
 
-/// Of a datagram with two entries the first is heard, and the second counted.
-fn hears_one_entry(conference: &mut Conference) -> bool {
-    conference.hear_limited(20, 1, AGAIN.as_slice()).is_ok()
-        && takes_first(conference)
-        && conference.next().is_none()
-        && conference.entries_beyond() == 1
-}
-
 /// Both are heard.
 fn hears_both(conference: &mut Conference) -> bool {
     takes_first(conference) && takes_second(conference) && conference.next().is_none()
 }
 
+/// Of a datagram with two entries the first is heard, and the second counted.
+fn hears_one_entry(conference: &mut Conference) -> bool {
+    hears_limited(conference, 20, 1, AGAIN.as_slice())
+        && takes_first(conference)
+        && conference.next().is_none()
+        && conference.entries_beyond() == 1
+}
+
+/// With a limit of one entry: one of two is heard, and both of a datagram that is heard whole.
+fn is_limited(conference: &mut Conference) -> bool {
+    sends_two(conference)
+        && hears_one_entry(conference)
+        && hears(conference, 30, 1, AGAIN.as_slice())
+        && hears_both(conference)
+}
+
+/// Without a limit both are heard, and none counted.
+fn is_unlimited(conference: &mut Conference) -> bool {
+    sends_two(conference)
+        && hears_limited(conference, 20, 1, AGAIN.as_slice())
+        && hears_both(conference)
+        && conference.entries_beyond() == 0
+}
+
 #[test]
 fn hears_so_many_entries(rt: HostRuntime) -> Result<(), Fail> {
-    let mut limited = open_room(rt.alloc(), LIMITED)?;
-    let is_limited = sends_two(&mut limited) && hears_one_entry(&mut limited);
-    assert!(rt; is_limited);
-    let is_whole = hears(&mut limited, 30, 1, AGAIN.as_slice()) && hears_both(&mut limited);
-    assert!(rt; is_whole);
-    let mut room = open_room(rt.alloc(), ROOM)?;
-    let is_heard = sends_two(&mut room) && room.hear_limited(20, 1, AGAIN.as_slice()).is_ok();
-    let is_so = is_heard && hears_both(&mut room) && room.entries_beyond() == 0;
-    assert!(rt; is_so);
+    let limited = is_limited(&mut open_room(rt.alloc(), LIMITED)?);
+    let unlimited = is_unlimited(&mut open_room(rt.alloc(), ROOM)?);
+    assert!(rt; limited && unlimited);
     Ok(())
 }

@@ -1,6 +1,6 @@
 //! What stands for the outside of a unit in tests: a script of arrivals, clocks, gates, sinks in memory, and a watch.
 
-ghost use Rattle.std.specs.Prelude.{◌≡◌, ◌<◌, length, vec_len, IfOk};
+ghost use Rattle.std.specs.Prelude.{◌≡◌, ◌<◌, length};
 ghost use Rattle.ports.specs.Outside.{FitsIn};
 
 use crate::rooms::{media_packet, receiver_report};
@@ -334,12 +334,9 @@ pub(super) fn sinks_of(
     alloc: Global,
     count: u64,
     to_fail: &[u64],
-) -> Result<Vec<MemorySink>, AllocError>
-    ensures { IfOk result (λ sinks. vec_len sinks ≡ count) }
-{
-    let count = count as usize;
-    let mut sinks = Vec::with_capacity(alloc, count)?;
-    for sink in 0..count {
+) -> Result<Vec<MemorySink>, AllocError> {
+    let mut sinks = Vec::new(alloc);
+    for sink in 0..count as usize {
         let fails = to_fail.get(sink).copied().unwrap_or(0);
         sinks.push(MemorySink::failing(alloc, fails))?;
     }

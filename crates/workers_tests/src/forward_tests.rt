@@ -4,7 +4,8 @@ ghost use Rattle.std.specs.Prelude.{◌≡◌};
 
 use crate::doubles::MemorySink;
 use crate::expected::same;
-use crate::rooms::{examples, is, on, packet, rtp, two_subscribers};
+use crate::rooms::{ONE_IDLE, Room, TWO_SUBSCRIBERS, is, on, packet, rtp};
+use crate::tables::publish_orders;
 use events::{Job, SharedPacket};
 use routes::{Blank, Naming, RouteReader, RouteWriter, routes};
 use rtcp_feedback::Nack;
@@ -68,20 +69,36 @@ const fn resend(leg: u16, stay: u64, pid: u16, blp: u16) -> Job {
     }
 }
 
-/// The worker of this number in the room of the worked examples, and a sink that takes all.
+/// The worker of this number in a room, and a sink whose first sends fail, so many.
 fn make_bench<'a, J: Naming>(
     alloc: Global,
     writer: &'a RouteWriter<J>,
     reader: &'a mut RouteReader<J>,
+    room: &Room,
     number: u16,
+    to_fail: u64,
 ) -> Result<Bench<'a, J>, Fail> {
-    let settings = examples(alloc).ok_or("settings")?;
+    let settings = room.settings(alloc)?;
+    let worker = Forwarder::new(alloc, &settings, number)?;
     Ok(Bench {
         writer,
         reader,
-        sink: MemorySink::failing(alloc, 0),
-        worker: Forwarder::new(alloc, &settings, number)?,
+        sink: MemorySink::failing(alloc, to_fail),
+        worker,
     })
+}
+
+/// Does a job that comes to this, and whose last datagram is this one, to this endpoint.
+fn sends<J: Naming>(
+    rt: &impl Abort,
+    bench: &mut Bench<'_, J>,
+    job: &Job,
+    wanted: Forwarded,
+    endpoint: u16,
+    bytes: &[u8],
+) {
+    same(rt, &bench.forward(job), &Ok(wanted));
+    assert!(rt; bench.sent_last(endpoint, bytes));
 }
 
 /// The second worker of the worked examples, the only one that has a leg.
@@ -92,30 +109,30 @@ fn does_examples<J: Naming>(
     reader: &mut RouteReader<J>,
 ) -> Result<(), Fail> {
     let (first, older) = (packet(alloc, 8)?, packet(alloc, 7)?);
-    does_jobs(
-        rt,
-        &mut make_bench(alloc, writer, reader, 1)?,
-        &first,
-        &older,
-    );
+    let mut bench = make_bench(alloc, writer, reader, &ONE_IDLE, 1, 0)?;
+    does_jobs(rt, &mut bench, &first, &older);
     Ok(())
 }
 
 /// A packet, a report, the packet once more, and one from before it.
 fn does_jobs<J: Naming>(rt: &impl Abort, bench: &mut Bench<'_, J>, first: &Job, older: &Job) {
     let sent = Forwarded { sent: 1, ..NOTHING };
-    same(rt, &bench.forward(first), &Ok(sent));
-    assert!(rt; bench.sent_last(1, &rtp(100, [1, 1])));
+    sends(rt, bench, first, sent, 1, &rtp(100, [1, 1]));
     let report = Job::Report {
         leg: 0,
         stay: 1,
         sr: Some((0x0000_000a_8000_0000, 3000)),
     };
-    same(rt, &bench.forward(&report), &Ok(sent));
-    assert!(rt; bench.sent_last(1, &REPORT));
+    sends(rt, bench, &report, sent, 1, &REPORT);
     let again = Forwarded { missed: 1, ..sent };
-    same(rt, &bench.forward(&resend(0, 1, 100, 1)), &Ok(again));
-    assert!(rt; bench.sent_last(1, &rtp(100, [1, 1])));
+    sends(
+        rt,
+        bench,
+        &resend(0, 1, 100, 1),
+        again,
+        1,
+        &rtp(100, [1, 1]),
+    );
     let old = Forwarded {
         skipped: 1,
         ..NOTHING
@@ -172,7 +189,7 @@ fn does_in_vain<J: Naming>(
     number: u16,
     jobs: &[Job],
 ) -> Result<(), Fail> {
-    let mut bench = make_bench(alloc, writer, reader, number)?;
+    let mut bench = make_bench(alloc, writer, reader, &ONE_IDLE, number, 0)?;
     for job in jobs {
         same(rt, &bench.forward(job), &Ok(NOTHING));
     }
@@ -195,8 +212,7 @@ fn forwards_in<J: Naming, R: Wait + Abort>(rt: &R, alloc: Global, blank: Blank) 
     requires { (blank.book ≡ J.book) × (blank.legs ≡ J.legs) }
 {
     let (mut writer, mut readers) = routes::<J, R>(rt, alloc, blank, 2)?;
-    let noted = writer.change(&on(0)).is_ok();
-    writer.publish(rt);
+    let noted = publish_orders(rt, &mut writer, &[on(0)]);
     let done = does_examples(rt, alloc, &writer, &mut readers[0]).and_then(|()| do_nothing(
         rt,
         alloc,
@@ -220,13 +236,9 @@ fn fails_once<J: Naming>(
     writer: &RouteWriter<J>,
     reader: &mut RouteReader<J>,
 ) -> Result<(), Fail> {
-    let mut bench = Bench {
-        writer,
-        reader,
-        sink: MemorySink::failing(alloc, 1),
-        worker: Forwarder::new(alloc, &two_subscribers(alloc).ok_or("settings")?, 0)?,
-    };
-    fails_and_goes_out(rt, &mut bench, &packet(alloc, 8)?);
+    let job = packet(alloc, 8)?;
+    let mut bench = make_bench(alloc, writer, reader, &TWO_SUBSCRIBERS, 0, 1)?;
+    fails_and_goes_out(rt, &mut bench, &job);
     Ok(())
 }
 
@@ -234,11 +246,9 @@ fn fails_once<J: Naming>(
 fn fails_and_goes_out<J: Naming>(rt: &impl Abort, bench: &mut Bench<'_, J>, packet: &Job) {
     let one = Forwarded { sent: 1, ..NOTHING };
     let failed = Forwarded { failed: 1, ..one };
-    same(rt, &bench.forward(packet), &Ok(failed));
+    sends(rt, bench, packet, failed, 2, &rtp(200, [1, 2]));
     same(rt, &bench.sink.handed.len(), &2);
-    assert!(rt; bench.sent_last(2, &rtp(200, [1, 2])));
-    same(rt, &bench.forward(&resend(0, 1, 100, 0)), &Ok(one));
-    assert!(rt; bench.sent_last(1, &rtp(100, [1, 1])));
+    sends(rt, bench, &resend(0, 1, 100, 0), one, 1, &rtp(100, [1, 1]));
 }
 
 fn fails_once_in<J: Naming, R: Wait + Abort>(
@@ -249,8 +259,7 @@ fn fails_once_in<J: Naming, R: Wait + Abort>(
     requires { (blank.book ≡ J.book) × (blank.legs ≡ J.legs) }
 {
     let (mut writer, mut readers) = routes::<J, R>(rt, alloc, blank, 1)?;
-    let noted = writer.change(&on(0)).is_ok() && writer.change(&on(1)).is_ok();
-    writer.publish(rt);
+    let noted = publish_orders(rt, &mut writer, &[on(0), on(1)]);
     let result = fails_once(rt, alloc, &writer, &mut readers[0]);
     writer.end(rt);
     assert!(rt; noted);

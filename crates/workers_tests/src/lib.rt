@@ -1,7 +1,8 @@
 //! The tests of `workers`, `one_thread`, `entrance`, `routes` and `conference`, in a crate of their own so that none of them is proved a second time.
 //!
-//! `doubles` and `turn_doubles` stand for what is outside the unit; `rooms` has settings; `random_turns` draws
-//! what endpoints send, and `machine_turns` is the one-thread machine on the same; `told` is what sinks are told.
+//! `doubles` and `turn_doubles` stand for what is outside the unit; `rooms` has settings, `runs` the calls that run a unit, `tables` what is
+//! done with route tables; `random_turns` draws what endpoints send, and `machine_turns` is the one-thread machine on the same; `told` is
+//! what sinks are told.
 #![tactic(auto)]
 
 #[cfg(test)]
@@ -30,6 +31,10 @@ mod rooms;
 mod route_tests;
 #[cfg(test)]
 mod route_thread_tests;
+#[cfg(test)]
+mod runs;
+#[cfg(test)]
+mod tables;
 #[cfg(test)]
 mod tick_tests;
 #[cfg(test)]

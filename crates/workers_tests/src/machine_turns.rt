@@ -3,7 +3,7 @@
 use crate::random_turns::{Coming, Turn, WORKERS};
 use crate::told::Told;
 use core_steps::{World, run};
-use events::{Bytes, Event};
+use events::{Bytes, Event, Out, RunFault};
 use ports::Ticks;
 use settings::Settings;
 use std::alloc::{AllocError, Global};
@@ -32,22 +32,15 @@ pub(super) fn play(
     settings: &Settings,
     turns: &mut Vec<Turn>,
 ) -> Result<Tellings, Fail> {
+    let told = nothing_told(alloc)?;
     let mut player = Player {
         alloc,
         world: World::new(alloc, settings)?,
         ticks: Ticks::new(TICK_MS),
         turn: 0,
-        told: nothing_told(alloc)?,
+        told,
     };
-    let mut jobs: u64 = 0;
-    let mut was_calm = false;
-    for turn in turns.iter_mut() {
-        let is_calm = turn.is_calm && player.is_known(turn);
-        turn.jobs_before = if was_calm && is_calm { 0 } else { jobs };
-        jobs = jobs.wrapping_add(player.play(turn)?);
-        player.turn = player.turn.wrapping_add(1);
-        was_calm = is_calm;
-    }
+    player.play_all(turns)?;
     let Player { told, .. } = player;
     Ok(told)
 }
@@ -68,6 +61,20 @@ impl Player {
             Some(Coming::Datagram { endpoint, .. }) => self.world.is_present(*endpoint),
             Some(Coming::Select { .. }) | None => false,
         }
+    }
+
+    /// The turns, one after the other.
+    fn play_all(&mut self, turns: &mut Vec<Turn>) -> Result<(), Fail> {
+        let mut jobs: u64 = 0;
+        let mut was_calm = false;
+        for turn in turns.iter_mut() {
+            let is_calm = turn.is_calm && self.is_known(turn);
+            turn.jobs_before = if was_calm && is_calm { 0 } else { jobs };
+            jobs = jobs.wrapping_add(self.play(turn)?);
+            self.turn = self.turn.wrapping_add(1);
+            was_calm = is_calm;
+        }
+        Ok(())
     }
 
     /// One turn, with a tick if one is due; says how many jobs workers did.
@@ -99,28 +106,50 @@ impl Player {
         }
         let jobs = self.world.waiting().jobs;
         for worker in 0..WORKERS {
-            for _ in 0..10_000 {
-                if !self.world.has_work(u16::from(worker)) {
-                    break;
-                }
-                self.step(Event::Work(u16::from(worker)), worker)?;
-            }
+            self.work(worker)?;
         }
         Ok(jobs as u64)
+    }
+
+    /// Lets a worker do what waits for it.
+    fn work(&mut self, worker: u8) -> Result<(), Fail> {
+        for _ in 0..10_000 {
+            if !self.world.has_work(u16::from(worker)) {
+                break;
+            }
+            self.step(Event::Work(u16::from(worker)), worker)?;
+        }
+        Ok(())
     }
 
     /// Does one event, and notes what the sink with this number is told of it.
     fn step(&mut self, event: Event, sink: u8) -> Result<(), Fail> {
         let mut outs = Vec::new(self.alloc);
-        run(&mut self.world, &[event], &mut outs)?;
+        do_event(&mut self.world, event, &mut outs)?;
         let told = self.told.get_mut(usize::from(sink)).ok_or("sinks")?;
-        for out in outs {
-            if let Some(one) = Told::of(self.alloc, self.turn, out) {
-                told.push(one)?;
-            }
-        }
+        note_outs(self.alloc, self.turn, outs, told)?;
         Ok(())
     }
+}
+
+/// Does one event. It promises nothing, so that who calls it is proved without what `run` says.
+fn do_event(world: &mut World, event: Event, outs: &mut Vec<Out>) -> Result<(), RunFault> {
+    run(world, &[event], outs)
+}
+
+/// Notes what a sink is told of these in this turn.
+fn note_outs(
+    alloc: Global,
+    turn: u64,
+    outs: Vec<Out>,
+    told: &mut Vec<Told>,
+) -> Result<(), AllocError> {
+    for out in outs {
+        if let Some(one) = Told::of(alloc, turn, out) {
+            told.push(one)?;
+        }
+    }
+    Ok(())
 }
 
 /// What comes on this turn.

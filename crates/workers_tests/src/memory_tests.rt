@@ -4,9 +4,10 @@ ghost use Rattle.std.specs.Prelude.{◌≡◌};
 
 use crate::doubles::MemorySink;
 use crate::expected::same;
-use crate::rooms::{is, on, packet, rtp, two_subscribers};
+use crate::rooms::{TWO_SUBSCRIBERS, is, on, packet, rtp};
+use crate::tables::publish_orders;
 use events::{Job, SharedPacket};
-use routes::{Blank, Naming, Order, RouteReader, RouteWriter, RoutesFault, routes};
+use routes::{Blank, Naming, RouteReader, RouteWriter, RoutesFault, routes};
 use std::alloc::{AllocError, Global};
 use std::marker::Brand;
 use std::process::Abort;
@@ -30,7 +31,8 @@ const STEADY: u16 = 1_000;
 
 /// The only worker of a room with two subscribers.
 fn worker(alloc: Global) -> Option<Forwarder> {
-    Forwarder::new(alloc, &two_subscribers(alloc)?, 0).ok()
+    let settings = TWO_SUBSCRIBERS.settings(alloc).ok()?;
+    Forwarder::new(alloc, &settings, 0).ok()
 }
 
 /// The same, made again if memory was refused for it.
@@ -170,11 +172,6 @@ fn streams<J: Naming>(
     Ok(())
 }
 
-/// Notes the order, once memory is there for it.
-fn note_order<J: Naming>(writer: &mut RouteWriter<J>, order: &Order) -> bool {
-    writer.change(order).is_ok() || writer.change(order).is_ok()
-}
-
 fn sends_in<J: Naming, R: Wait + Abort>(rt: &R, alloc: Global, blank: Blank) -> Result<(), Fail>
     requires { (blank.book ≡ J.book) × (blank.legs ≡ J.legs) }
 {
@@ -185,8 +182,7 @@ fn sends_in<J: Naming, R: Wait + Abort>(rt: &R, alloc: Global, blank: Blank) -> 
             return Ok(());
         }
     };
-    let noted = note_order(&mut writer, &on(0)) && note_order(&mut writer, &on(1));
-    writer.publish(rt);
+    let noted = publish_orders(rt, &mut writer, &[on(0), on(1)]);
     let result = sends_four(rt, alloc, &writer, &mut readers[0]).and_then(|()| streams(
         rt,
         alloc,

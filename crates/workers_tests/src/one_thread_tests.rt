@@ -3,9 +3,9 @@
 use crate::doubles::{Cue, Looker, MemorySink, Moved, Played, RisingClock, Script, Shown, Slow};
 use crate::expected::same;
 use crate::rooms::{Link, ONE_WORKER, Room, is, rtp};
+use crate::runs::run_in_one;
 use events::Refusal;
-use one_thread::{Pace, run_one_thread};
-use ports::{Look, Status, Timed, Unwatched};
+use ports::{Look, Pace, Status, Timed, Unwatched};
 use rtp_packet::RtpFault;
 use settings::RoomFault;
 use std::alloc::Global;
@@ -20,11 +20,13 @@ const ONE_NEVER_COMES: Room = Room {
             subscriber: 2,
             publisher: 0,
             out_ssrc: 258,
+            first_seq: 100,
         },
         Link {
             subscriber: 1,
             publisher: 0,
             out_ssrc: 257,
+            first_seq: 100,
         },
     ],
     ..ONE_WORKER
@@ -40,9 +42,6 @@ const THREE: [Played; 3] = [
 /// Runs five turns: what was heard, sent and failed, and how many desks there are.
 fn run_five(alloc: Global, sink: &mut MemorySink) -> Result<[u64; 4], Fail> {
     let settings = ONE_WORKER.settings(alloc)?;
-    if settings.workers() != 1 {
-        return Err("workers".into());
-    }
     let is_played = AtomicBool::new(false);
     let mut feed = Script::of(&THREE, &is_played);
     let mut clock = Timed::by(RisingClock { moment: 0 });
@@ -50,7 +49,7 @@ fn run_five(alloc: Global, sink: &mut MemorySink) -> Result<[u64; 4], Fail> {
         turns: 5,
         tick_ms: 10,
     };
-    let ran = run_one_thread(
+    run_in_one(
         alloc,
         &settings,
         &mut feed,
@@ -58,15 +57,7 @@ fn run_five(alloc: Global, sink: &mut MemorySink) -> Result<[u64; 4], Fail> {
         &mut clock,
         &mut Unwatched,
         pace,
-    );
-    match ran {
-        Ok(report) => {
-            let counts = &report.counts;
-            let desks = report.desks.len() as u64;
-            Ok([counts.heard, counts.sent, counts.failed, desks])
-        }
-        Err(_) => Err("a run".into()),
-    }
+    )
 }
 
 /// Whether the packet was sent on, and nothing else was sent.
@@ -106,11 +97,8 @@ const ODD: [Played; 7] = [
 ];
 
 /// Runs ten turns, whose receives take 10 ms each, and the last of which brings nothing. The first leg is to who never comes.
-fn run_watched(alloc: Global, sink: &mut MemorySink, shown: &mut Shown) -> Result<bool, Fail> {
+fn run_watched(alloc: Global, sink: &mut MemorySink, shown: &mut Shown) -> Result<(), Fail> {
     let settings = ONE_NEVER_COMES.settings(alloc)?;
-    if settings.workers() != 1 {
-        return Err("workers".into());
-    }
     let (is_played, moment) = (AtomicBool::new(false), AtomicU64::new(0));
     let mut feed = Slow {
         script: Script::of(&ODD, &is_played),
@@ -125,10 +113,10 @@ fn run_watched(alloc: Global, sink: &mut MemorySink, shown: &mut Shown) -> Resul
         turns: 10,
         tick_ms: 10,
     };
-    let ran = run_one_thread(
+    let _counts = run_in_one(
         alloc, &settings, &mut feed, sink, &mut clock, &mut watch, pace,
-    );
-    Ok(ran.is_ok())
+    )?;
+    Ok(())
 }
 
 /// The moment of each turn; who is present then, and what was heard, sent and failed by then.
@@ -188,12 +176,12 @@ fn is_shown(shown: &Shown) -> bool {
 fn shows_what_each_turn_came_to(rt: HostRuntime) -> Result<(), Fail> {
     let mut shown = Shown::nothing(rt.alloc());
     let mut sink = MemorySink::failing(rt.alloc(), 1);
-    let ran = run_watched(rt.alloc(), &mut sink, &mut shown)?;
+    run_watched(rt.alloc(), &mut sink, &mut shown)?;
     let is_so = [
         has_totals(shown.totals.as_slice()),
         is_told(&sink),
         is_shown(&shown),
     ];
-    assert!(rt; ran && is_so == [true; 3], "{is_so:?}");
+    assert!(rt; is_so == [true; 3], "{is_so:?}");
     Ok(())
 }

@@ -3,9 +3,8 @@
 ghost use Rattle.std.specs.Prelude.{◌+◌, ◌<◌, ◌≤◌};
 
 use crate::rooms::{Link, Times, settings_with};
-use settings::Settings;
+use settings::{Settings, SettingsFault};
 use std::alloc::{AllocError, Global};
-use std::test::Fail;
 
 const ENDPOINTS: u8 = 4;
 
@@ -73,6 +72,7 @@ fn all_links(alloc: Global) -> Result<Vec<Link>, AllocError> {
                     subscriber: i64::from(subscriber),
                     publisher: i64::from(publisher),
                     out_ssrc,
+                    first_seq: 100,
                 })?;
                 out_ssrc = out_ssrc.wrapping_add(1);
             }
@@ -252,13 +252,15 @@ pub(super) fn make_turns(alloc: Global, seed: u64, plan: Plan) -> Result<Vec<Tur
 }
 
 /// The room in which all this comes: each endpoint sends to each other one.
-pub(super) fn room(alloc: Global) -> Result<Settings, Fail> {
+pub(super) fn room(alloc: Global) -> Result<Settings, SettingsFault> {
     room_with(alloc, WORKERS)
 }
 
 /// The same, with so many workers.
-pub(super) fn room_with(alloc: Global, workers: u8) -> Result<Settings, Fail> {
-    let links = all_links(alloc)?;
+pub(super) fn room_with(alloc: Global, workers: u8) -> Result<Settings, SettingsFault> {
+    let Ok(links) = all_links(alloc) else {
+        return Err(SettingsFault::NoMemory);
+    };
     let times = Times {
         timeout: 1_000,
         report: 700,

@@ -1,50 +1,15 @@
-//! Rooms for tests: the settings of the worked examples, one with two subscribers, and rooms with any legs; and what endpoints send.
+//! Rooms for tests: those of the worked examples, one with two subscribers, and rooms with any legs; and what endpoints send.
 
 use events::{Job, SharedPacket};
 use members::Order;
-use settings::{LegParts, Parts, Settings};
+use settings::{LegParts, Parts, Settings, SettingsFault};
 use std::alloc::{AllocError, Global};
-use std::test::Fail;
 use workers::*;
 
 /// The head of each compound of the unit: a receiver report of the source 9, and its CNAME `sfu`.
 pub(super) const HEAD: [u8; 24] = [
     0x80, 0xc9, 0, 1, 0, 0, 0, 9, 0x81, 0xca, 0, 3, 0, 0, 0, 9, 1, 3, 0x73, 0x66, 0x75, 0, 0, 0,
 ];
-
-fn leg(subscriber: i64, out_ssrc: i64, first_seq: i64) -> LegParts {
-    LegParts {
-        subscriber: Some(subscriber),
-        publisher: Some(0),
-        out_ssrc: Some(out_ssrc),
-        first_seq: Some(first_seq),
-        on: None,
-    }
-}
-
-fn room_of(
-    alloc: Global,
-    workers: i64,
-    endpoints: &[Option<i64>],
-    legs: &[LegParts],
-) -> Option<Settings> {
-    let mut parts = Parts::example(alloc).ok()?;
-    parts.workers = Some(workers);
-    parts.endpoints = endpoints.to_vec(alloc).ok()?;
-    parts.legs = legs.to_vec(alloc).ok()?;
-    Settings::new(alloc, &parts).ok()
-}
-
-/// The settings of the worked examples: two workers, the endpoints 16 and 17, and one leg from the first to the second.
-pub(super) fn examples(alloc: Global) -> Option<Settings> {
-    room_of(alloc, 2, &[Some(16), Some(17)], &[leg(1, 257, 100)])
-}
-
-/// One worker, and a leg from the first of three endpoints to each other one.
-pub(super) fn two_subscribers(alloc: Global) -> Option<Settings> {
-    let endpoints = [Some(16), Some(17), Some(18)];
-    room_of(alloc, 1, &endpoints, &[leg(1, 257, 100), leg(2, 258, 200)])
-}
 
 /// In this leg the stay 1 stands, and packets are sent on.
 pub(super) const fn on(leg: u16) -> Order {
@@ -76,12 +41,13 @@ pub(super) fn is(datagram: &Datagram, endpoint: u16, bytes: &[u8]) -> bool {
     datagram.endpoint == endpoint && datagram.bytes.as_slice() == bytes
 }
 
-/// A leg between these endpoints, on which this source is sent on.
+/// A leg between these endpoints, on which this source is sent on, and its first sequence number.
 #[derive(Clone, Copy)]
 pub(super) struct Link {
     pub(super) subscriber: i64,
     pub(super) publisher: i64,
     pub(super) out_ssrc: i64,
+    pub(super) first_seq: i64,
 }
 
 /// The times of the settings, in milliseconds.
@@ -118,12 +84,13 @@ pub(super) const ONE_WORKER: Room = Room {
         subscriber: 1,
         publisher: 0,
         out_ssrc: 257,
+        first_seq: 100,
     }],
     times: TIMES,
     to_fail: &[],
 };
 
-/// The same with two workers, one of which has no leg.
+/// The room of the worked examples: the same with two workers, the first of which has no leg.
 pub(super) const ONE_IDLE: Room = Room {
     workers: 2,
     ..ONE_WORKER
@@ -138,11 +105,35 @@ pub(super) const TWO_WORKERS: Room = Room {
             subscriber: 0,
             publisher: 2,
             out_ssrc: 257,
+            first_seq: 100,
         },
         Link {
             subscriber: 1,
             publisher: 2,
             out_ssrc: 258,
+            first_seq: 100,
+        },
+    ],
+    times: TIMES,
+    to_fail: &[],
+};
+
+/// One worker, and a leg from the first of three endpoints to each other one.
+pub(super) const TWO_SUBSCRIBERS: Room = Room {
+    workers: 1,
+    endpoints: 3,
+    links: &[
+        Link {
+            subscriber: 1,
+            publisher: 0,
+            out_ssrc: 257,
+            first_seq: 100,
+        },
+        Link {
+            subscriber: 2,
+            publisher: 0,
+            out_ssrc: 258,
+            first_seq: 200,
         },
     ],
     times: TIMES,
@@ -150,9 +141,54 @@ pub(super) const TWO_WORKERS: Room = Room {
 };
 
 impl Room {
-    pub(super) fn settings(&self, alloc: Global) -> Result<Settings, Fail> {
+    pub(super) fn settings(&self, alloc: Global) -> Result<Settings, SettingsFault> {
         settings_with(alloc, self.workers, self.endpoints, self.links, self.times)
     }
+}
+
+/// So many endpoints, with the sources 16, 17 and so on.
+fn sources_of(alloc: Global, endpoints: u8) -> Result<Vec<Option<i64>>, AllocError> {
+    let mut sources = Vec::new(alloc);
+    for number in 0..endpoints {
+        sources.push(Some(16 + i64::from(number)))?;
+    }
+    Ok(sources)
+}
+
+/// These legs, on.
+fn legs_of(alloc: Global, links: &[Link]) -> Result<Vec<LegParts>, AllocError> {
+    let mut legs = Vec::new(alloc);
+    for link in links {
+        legs.push(LegParts {
+            subscriber: Some(link.subscriber),
+            publisher: Some(link.publisher),
+            out_ssrc: Some(link.out_ssrc),
+            first_seq: Some(link.first_seq),
+            on: None,
+        })?;
+    }
+    Ok(legs)
+}
+
+/// What settings are made of.
+fn parts_of(
+    alloc: Global,
+    workers: i64,
+    endpoints: u8,
+    links: &[Link],
+    times: Times,
+) -> Result<Parts, AllocError> {
+    let sources = sources_of(alloc, endpoints)?;
+    let legs = legs_of(alloc, links)?;
+    let mut parts = Parts::example(alloc)?;
+    parts.workers = Some(workers);
+    parts.timeout_ms = Some(times.timeout);
+    parts.report_ms = Some(times.report);
+    parts.request_ms = Some(times.request);
+    parts.pli_gap_ms = Some(times.gap);
+    parts.endpoints = sources;
+    parts.legs = legs;
+    Ok(parts)
 }
 
 /// So many workers, endpoints with the sources 16, 17 and so on, these legs, on, and these times; all else as in the examples.
@@ -162,30 +198,11 @@ pub(super) fn settings_with(
     endpoints: u8,
     links: &[Link],
     times: Times,
-) -> Result<Settings, Fail> {
-    let mut sources = Vec::new(alloc);
-    for number in 0..endpoints {
-        sources.push(Some(16 + i64::from(number)))?;
+) -> Result<Settings, SettingsFault> {
+    match parts_of(alloc, workers, endpoints, links, times) {
+        Ok(parts) => Settings::new(alloc, &parts),
+        Err(AllocError) => Err(SettingsFault::NoMemory),
     }
-    let mut legs = Vec::new(alloc);
-    for link in links {
-        legs.push(LegParts {
-            subscriber: Some(link.subscriber),
-            publisher: Some(link.publisher),
-            out_ssrc: Some(link.out_ssrc),
-            first_seq: Some(100),
-            on: None,
-        })?;
-    }
-    let mut parts = Parts::example(alloc)?;
-    parts.workers = Some(workers);
-    parts.timeout_ms = Some(times.timeout);
-    parts.report_ms = Some(times.report);
-    parts.request_ms = Some(times.request);
-    parts.pli_gap_ms = Some(times.gap);
-    parts.endpoints = sources;
-    parts.legs = legs;
-    Ok(Settings::new(alloc, &parts)?)
 }
 
 /// A receiver report of this source, without blocks (RFC 3550, section 6.4.2).

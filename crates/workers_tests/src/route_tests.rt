@@ -2,6 +2,7 @@
 
 ghost use Rattle.std.specs.Prelude.{◌≡◌};
 
+use crate::tables::{note_order, publish_orders};
 use routes::*;
 use std::alloc::Global;
 use std::marker::Brand;
@@ -23,6 +24,13 @@ const SECOND: Row = Row {
     on: true,
 };
 
+/// The row of a leg that was on and on which no stay stands any more.
+const ENDED: Row = Row {
+    stay: 0,
+    turn: 5,
+    on: false,
+};
+
 /// Leg 1 gets the second row.
 const ROUTE: Order = Order::Route {
     leg: 1,
@@ -31,14 +39,68 @@ const ROUTE: Order = Order::Route {
     on: true,
 };
 
+/// It is ended; a leg that the table hasn't, and a stay that begins, are nothing to the table.
+const LATER: [Order; 3] = [
+    Order::Route {
+        leg: 1,
+        stay: 0,
+        turn: 5,
+        on: false,
+    },
+    Order::Route {
+        leg: LEGS,
+        stay: 9,
+        turn: 9,
+        on: true,
+    },
+    Order::Arrive { leg: 0, stay: 6 },
+];
+
 #[test]
 fn readers_take_what_was_published(rt: HostRuntime) -> Result<(), Fail> {
     take_published::<Brand, _>(&rt, rt.alloc(), Blank::new(LEGS))
 }
 
-/// Whether the reader's entry answers just these rows.
-fn enters<J: Naming>(reader: &mut RouteReader<J>, wanted: &[Row]) -> bool {
-    reader.enter() == Some(wanted)
+/// Whether the reader's entry answers just these rows of leg 1, and opening ones of the others.
+fn enters<J: Naming>(reader: &mut RouteReader<J>, wanted: Row) -> bool {
+    let rows = [OPENING, wanted, OPENING];
+    reader.enter() == Some(rows.as_slice())
+}
+
+/// Whether the reader took these rows last.
+fn has<J: Naming>(reader: &RouteReader<J>, wanted: Row) -> bool {
+    reader.rows() == [OPENING, wanted, OPENING].as_slice()
+}
+
+/// Whether the reader sees the opening rows until the first change is published, and then what it says; the note of that.
+fn sees_first<J: Naming, R: Wait>(
+    rt: &R,
+    writer: &mut RouteWriter<J>,
+    reader: &mut RouteReader<J>,
+) -> (bool, RouteNote<J>) {
+    let before = has(reader, OPENING);
+    let noted = note_order(writer, &ROUTE);
+    let unseen = enters(reader, OPENING);
+    let note = writer.publish(rt);
+    let seen = enters(reader, SECOND);
+    (before && noted && unseen && seen, note)
+}
+
+/// Whether a reader that is told of the first change takes it.
+fn takes_told<J: Naming>(note: RouteNote<J>, reader: &mut RouteReader<J>) -> bool {
+    reader.learn(note);
+    reader.take() && has(reader, SECOND)
+}
+
+/// Whether the reader sees the later changes once they are published, and it was told.
+fn sees_later<J: Naming, R: Wait>(
+    rt: &R,
+    writer: &mut RouteWriter<J>,
+    reader: &mut RouteReader<J>,
+) -> bool {
+    let noted = publish_orders(rt, writer, &LATER);
+    reader.learn(writer.note());
+    noted && enters(reader, ENDED)
 }
 
 /// Two readers and one writer in one thread.
@@ -50,41 +112,11 @@ fn take_published<J: Naming, R: Wait + Abort>(
     requires { (blank.book ≡ J.book) × (blank.legs ≡ J.legs) }
 {
     let (mut writer, mut readers) = routes::<J, R>(rt, alloc, blank, 2)?;
-    let before = readers[0].rows() == [OPENING, OPENING, OPENING].as_slice();
-    let noted = writer.change(&ROUTE).is_ok();
-    let unseen = enters(&mut readers[0], [OPENING, OPENING, OPENING].as_slice());
-    let note = writer.publish(rt);
-    let seen = enters(&mut readers[0], [OPENING, SECOND, OPENING].as_slice());
-    readers[1].learn(note);
-    let other = readers[1].take() && readers[1].rows() == [OPENING, SECOND, OPENING].as_slice();
-    let off = writer
-        .change(&Order::Route {
-            leg: 1,
-            stay: 0,
-            turn: 5,
-            on: false,
-        })
-        .is_ok();
-    let beyond = writer
-        .change(&Order::Route {
-            leg: LEGS,
-            stay: 9,
-            turn: 9,
-            on: true,
-        })
-        .is_ok();
-    let arrival = writer.change(&Order::Arrive { leg: 0, stay: 6 }).is_ok();
-    writer.publish(rt);
-    let ended = Row {
-        stay: 0,
-        turn: 5,
-        on: false,
-    };
-    readers[0].learn(writer.note());
-    let last = enters(&mut readers[0], [OPENING, ended, OPENING].as_slice());
+    let (first, note) = sees_first(rt, &mut writer, &mut readers[0]);
+    let other = takes_told(note, &mut readers[1]);
+    let later = sees_later(rt, &mut writer, &mut readers[0]);
     writer.end(rt);
     let gone = readers[0].take();
-    assert!(rt; before && noted && unseen && seen && other);
-    assert!(rt; off && beyond && arrival && last && !gone);
+    assert!(rt; first && other && later && !gone);
     Ok(())
 }

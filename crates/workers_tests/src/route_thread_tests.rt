@@ -2,6 +2,7 @@
 
 ghost use Rattle.std.specs.Prelude.{◌≡◌};
 
+use crate::tables::note_order;
 use routes::*;
 use std::alloc::Global;
 use std::marker::Brand;
@@ -51,7 +52,7 @@ fn publish_stay<J: Naming, R: Wait>(rt: &R, writer: &mut RouteWriter<J>, stay: u
             turn: stay,
             on: true,
         };
-        noted = writer.change(&order).is_ok() && noted;
+        noted = note_order(writer, &order) && noted;
     }
     writer.publish(rt);
     noted

@@ -1,8 +1,8 @@
 //! What an entrance is told of ticks, by the unit in one thread and by the one with workers.
 
-ghost use Rattle.std.specs.Prelude.{◌≡◌, ◌+◌, vec_len, IfOk};
+ghost use Rattle.std.specs.Prelude.{◌+◌};
 
-use crate::doubles::{MemorySink, OpenGate};
+use crate::doubles::{MemorySink, OpenGate, sinks_of};
 use crate::rooms::{ONE_WORKER, TWO_WORKERS};
 use datagram::{Taking, What};
 use entrance::{Admitted, Came, Entrance};
@@ -12,7 +12,7 @@ use std::cell::RefCell;
 use std::sync::Wait;
 use std::test::Fail;
 use std::thread::Threads;
-use workers::{Pace, SendFault, Sink, Unwatched, run_through};
+use workers::{Pace, Unwatched, run_through};
 
 /// An entrance that nothing comes to, each 10 ms. It lists the ticks that it is told of.
 #[derive(Drop)]
@@ -59,32 +59,6 @@ impl Entrance for Silent<'_> {
     }
 }
 
-/// A sink that lets go of all.
-#[derive(Drop)]
-struct Mute;
-
-impl Sink for Mute {
-    ghost use Rattle.std.specs.Prelude.{None};
-
-    ghost shown = { λ _. record { handed = None; failures = 0 } };
-
-    fn send(&mut self, _endpoint: u16, _bytes: &[u8]) -> Result<(), SendFault> {
-        Ok(())
-    }
-}
-
-/// So many of them.
-fn mute_sinks(alloc: Global, count: u64) -> Result<Vec<Mute>, AllocError>
-    ensures { IfOk result (λ sinks. vec_len sinks ≡ count) }
-{
-    let count = count as usize;
-    let mut sinks = Vec::with_capacity(alloc, count)?;
-    for _sink in 0..count {
-        sinks.push(Mute)?;
-    }
-    Ok(sinks)
-}
-
 /// Seven turns, in which a tick is due each 25 ms.
 const PACE: Pace = Pace {
     turns: 7,
@@ -120,8 +94,11 @@ fn run_two<R: Threads + Wait + Sync>(
     ticks: &RefCell<Vec<u64>>,
 ) -> Result<bool, Fail> {
     let settings = TWO_WORKERS.settings(alloc)?;
+    let sinks = sinks_of(alloc, settings.workers() + 1, &[])?;
+    if sinks.len() as u64 != settings.workers() + 1 {
+        return Err("sinks".into());
+    }
     let entrance = Silent { moment: 0, ticks };
-    let sinks = mute_sinks(alloc, settings.workers() + 1)?;
     let ran = run_through(
         rt, alloc, &settings, entrance, sinks, Unwatched, &OpenGate, PACE,
     );

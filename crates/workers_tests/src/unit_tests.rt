@@ -7,27 +7,13 @@ use crate::doubles::{
 };
 use crate::expected::same;
 use crate::rooms::{ONE_IDLE, ONE_WORKER, Room, TIMES, TWO_WORKERS, Times};
+use crate::runs::{Counts, run_by_source, run_in_threads};
 use std::alloc::Global;
 use std::sync::Wait;
 use std::sync::atomic::{AtomicBool, Ordering};
 use std::test::Fail;
 use std::thread::Threads;
 use workers::*;
-
-/// What was heard, sent, failed, lost and dropped, and how many desks there are.
-type Counts = [u64; 6];
-
-fn counts_of(ran: Result<Report, UnitFault>) -> Result<Counts, UnitFault> {
-    let report = ran?;
-    Ok([
-        report.heard,
-        report.sent,
-        report.failed,
-        report.lost,
-        report.dropped,
-        report.desks.len() as u64,
-    ])
-}
 
 /// Runs a room over the datagrams of a script, for so many turns.
 fn run_room<R: Threads + Wait + Sync, C: Clock + Drop, G: Gate + Sync>(
@@ -42,8 +28,7 @@ fn run_room<R: Threads + Wait + Sync, C: Clock + Drop, G: Gate + Sync>(
     let settings = room.settings(alloc)?;
     let sinks = sinks_of(alloc, settings.workers() + 1, room.to_fail)?;
     let source = Datagrams { script };
-    let ran = run_unit(rt, alloc, &settings, source, sinks, clock, gate, turns);
-    Ok(counts_of(ran))
+    run_by_source(rt, alloc, &settings, source, sinks, clock, gate, turns)
 }
 
 #[test]
@@ -102,15 +87,15 @@ fn run_script<R: Threads + Wait + Sync>(
     turns: u64,
 ) -> Result<Result<Counts, UnitFault>, Fail> {
     let settings = room.settings(alloc)?;
+    let sinks = sinks_of(alloc, settings.workers() + 1, room.to_fail)?;
     let outside = Outside {
         feed: script,
-        sinks: sinks_of(alloc, settings.workers() + 1, room.to_fail)?,
+        sinks,
         clock: Timed::by(StoppedClock),
         watch: Unwatched,
     };
     let pace = Pace { turns, tick_ms: 0 };
-    let ran = run_watched(rt, alloc, &settings, outside, &OpenGate, pace);
-    Ok(counts_of(ran))
+    run_in_threads(rt, alloc, &settings, outside, &OpenGate, pace)
 }
 
 /// A stop ends the run: what came before is sent, and what comes after isn't heard.

@@ -1,10 +1,11 @@
 //! What a watch is shown, and a sink told of refusals, while the unit runs.
 
-ghost use Rattle.std.specs.Prelude.{◌≡◌, ◌+◌, vec_len, IfOk};
+ghost use Rattle.std.specs.Prelude.{◌+◌};
 
 use crate::doubles::{Cue, Looker, OpenGate, Played, RisingClock, Script, Shown};
 use crate::expected::same;
 use crate::rooms::TWO_WORKERS;
+use crate::runs::run_in_threads;
 use events::Refusal;
 use rtp_packet::RtpFault;
 use std::alloc::{AllocError, Global};
@@ -52,11 +53,8 @@ fn refusing_sinks(
     alloc: Global,
     refused: &Refused,
     count: u64,
-) -> Result<Vec<Refusing<'_>>, AllocError>
-    ensures { IfOk result (λ sinks. vec_len sinks ≡ count) }
-{
-    let count = count as usize;
-    let mut sinks = Vec::with_capacity(alloc, count)?;
+) -> Result<Vec<Refusing<'_>>, AllocError> {
+    let mut sinks = Vec::new(alloc);
     for _sink in 0..count {
         sinks.push(Refusing { refused })?;
     }
@@ -98,7 +96,7 @@ fn run_looked_at<R: Threads + Wait + Sync>(
         turns: 9,
         tick_ms: 1,
     };
-    let ran = run_watched(rt, alloc, &settings, outside, &OpenGate, pace);
+    let ran = run_in_threads(rt, alloc, &settings, outside, &OpenGate, pace)?;
     Ok(ran.is_ok())
 }
 
