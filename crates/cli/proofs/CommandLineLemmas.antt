@@ -26,7 +26,7 @@ use Rattle.clap.specs.declared.builder.ValueParser.TheVariants as vp
 use Rattle.std.proofs.lemmas.Fmt.{decimal_is_IsNumeral}
 use Rattle.request_text.specs.Words.{number_under}
 use Rattle.request_text.proofs.DigitLemmas.{digits_back, digits_from}
-use Rattle.cli.specs.CommandLine.{Request, Types, ask, asked_for, asked_named, asked_with, bound, check, has_version, is_set, is_version, is_yes, moment_in, number_in, number_of, page, plain_named, record_with, replay, request_found, sdp, serve, serve_named, sfu, version, words_in}
+use Rattle.cli.specs.CommandLine.{Request, Types, ask, asked_for, asked_named, asked_with, bound, check, has_version, is_set, is_version, is_yes, moment_in, number_in, number_of, page, plain_named, plan, record_with, replay, request_found, sdp, serve, serve_named, sfu, version, words_in}
 
 -- ---- reading a number
 
@@ -105,6 +105,10 @@ set_read f id text is = ap is_yes (is ∙ first_value-rows f id)
 pub asked_check : (f : Found) (file : Option Text) → file ≡ first_value f (codes "FILE")
     → option_map check file ≡ plain_named (codes "check") (rows_of f)
 asked_check f file is = ap (option_map check) (is ∙ first_value-rows f (codes "FILE"))
+
+pub asked_plan : (f : Found) (file : Option Text) → file ≡ first_value f (codes "FILE")
+    → option_map plan file ≡ plain_named (codes "settings") (rows_of f)
+asked_plan f file is = ap (option_map plan) (is ∙ first_value-rows f (codes "FILE"))
 
 pub asked_replay : (f : Found) (file : Option Text) (leg endpoint from : Option ℕ) (events : Bool) → file ≡ first_value f (codes "FILE")
     → leg ≡ number_in (codes "only-leg") (rows_of f) → endpoint ≡ number_in (codes "only-endpoint") (rows_of f)

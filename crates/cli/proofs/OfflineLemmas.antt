@@ -6,7 +6,7 @@ use Rattle.cli.specs.declared.status.Failure.{Failure}
 use Rattle.cli.specs.declared.status.Failure.TheVariants.{NoMemory, Refused, Io}
 use Rattle.cli.specs.declared.status.Status.TheVariants as status
 use Rattle.cli.specs.Printed.{FailsBound, RefusesBound}
-use Rattle.cli.specs.Endings.{ShowsLine, status_of}
+use Rattle.cli.specs.Statuses.{ShowsLine, status_of}
 
 pub shown_refusal : (media : ℕ) (input old new errors_old errors_new : Option (List ℕ)) (failure : Failure) → status_of failure ≡ status.Refused
     → FailsBound media input old new failure → ShowsLine failure errors_old errors_new

@@ -134,7 +134,7 @@ with_subcommands app (first ∷ others) = with_subcommands (with_subcommand app 
 abbrev pub sfu : App
 sfu = with_subcommands sfu_top
     (sender_app (codes "bound") ∷ file_app (codes "check") ∷ replay_app ∷ serve_app
-    ∷ sender_app (codes "draw") ∷ sdp_app ∷ page_app ∷ ask_app ∷ [])
+    ∷ sender_app (codes "draw") ∷ sdp_app ∷ page_app ∷ file_app (codes "settings") ∷ ask_app ∷ [])
 
 -- if a command and one without globals are made, the first is made with the other as a subcommand, or it isn't made
 abbrev pub TakesSubcommand : Result Command AllocError → Result Command AllocError
@@ -161,6 +161,7 @@ pub data Request : Type 0 where
   ask : Text → List Text → Request
   page : Text → Text → Bool → Option Text → Request
   sdp : Text → List Text → Request
+  plan : Text → Request
 
 abbrev pub record_of : Record → Text × Option ℕ
 record_of r = (r.path.now, r.limit)
@@ -180,6 +181,7 @@ action_request (action.Ask path words) = ask path.now (map (λ word. word.now) w
 action_request (action.Page path address anyone host) =
     page path.now address.now anyone (option_map (λ name. name.now) host)
 action_request (action.Sdp file endpoints) = sdp file.now (map (λ word. word.now) endpoints.items)
+action_request (action.Settings file) = plan file.now
 
 -- the number that a word spells
 abbrev pub number_of : Text → Option ℕ
@@ -240,6 +242,7 @@ plain_named name rows =
     (λ address. page path address (is_set (codes "anyone") rows) (first_of (codes "host") rows))
     (first_of (codes "ADDRESS") rows))
     (first_of (codes "PATH") rows)
+    else if bytes_eq name (codes "settings") then option_map plan (first_of (codes "FILE") rows)
     else None
 
 -- what the subcommand of this name asks for with these values
@@ -285,6 +288,7 @@ AsksOfUnit (Some version) = ⊥
 AsksOfUnit (Some (ask path words)) = Unit {0}
 AsksOfUnit (Some (page path address anyone host)) = Unit {0}
 AsksOfUnit (Some (sdp file endpoints)) = ⊥
+AsksOfUnit (Some (plan file)) = ⊥
 
 -- the words are `bound --sender N` after the program's name, with a number below 2 ^ 32
 abbrev pub Types : List Text → ℕ → Type 0

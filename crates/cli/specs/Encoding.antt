@@ -1,10 +1,6 @@
--- What an `rtpmap` says (RFC 8866, section 6.6).
+-- What an `rtpmap` says of its encoding (RFC 8866, section 6.6).
 use Rattle.std.specs.Prelude.{◌==◌, ℕ, Bool, List, codes}
-use Rattle.std.specs.List.{before_first, ends_with}
-
--- the text before the first space
-abbrev pub payload_type : List ℕ → List ℕ
-payload_type rtpmap = before_first (λ b. b == 32) rtpmap
+use Rattle.std.specs.List.{ends_with}
 
 -- the encodings of pictures have a clock of 90,000 hertz
 abbrev pub is_video : List ℕ → Bool

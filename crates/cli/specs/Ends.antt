@@ -3,7 +3,7 @@
 -- was said.
 use Rattle.std.specs.Prelude.{◌≡◌, ◌≢◌, ℕ, List, Option, Ok, IfSome, codes}
 use Rattle.std.specs.Io.KnownBytes.{Appends, Keeps}
-use Rattle.cli.specs.Endings.{SaysWhy}
+use Rattle.cli.specs.Statuses.{SaysWhy}
 use Rattle.cli.specs.Sheet.{AnswersFile, RefusesFile, SaysNo}
 use Rattle.cli.specs.declared.words.Offline.{Offline}
 use Rattle.cli.specs.declared.words.Offline.TheVariants as offline
@@ -53,7 +53,7 @@ pub record EndsCertificate (input old new errors_old errors_new : Option (List �
 -- How `sfu --version` ends.
 pub record EndsVersion (old new : Option (List ℕ)) (s : Status) : Type 0 where
   -- if it is done, the program's name and version are printed
-  pub done : s ≡ status.Done → Appends old new (codes "sfu 0.1.0\n")
+  pub done : s ≡ status.Done → Appends old new (codes "sfu 1.0.0\n")
   -- it is never refused
   pub read : s ≢ status.Refused
 

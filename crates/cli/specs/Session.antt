@@ -10,7 +10,8 @@ use Rattle.cli.specs.declared.sdp.session.Session.{Session}
 use Rattle.cli.specs.declared.sdp.stream.Stream.{Stream}
 use Rattle.cli.specs.declared.sdp.session.TheConstants.{NAME}
 use Rattle.cli.specs.declared.sdp.stream.TheConstants.{FEEDBACK, SHARED}
-use Rattle.cli.specs.Encoding.{is_video, payload_type}
+use Rattle.cli.specs.Encoding.{is_video}
+use Rattle.settings_toml.specs.Formats.{payload_type}
 
 abbrev pub version_word : IpAddr → List ℕ
 version_word (V4 address) = codes "IP4 "
@@ -26,8 +27,9 @@ kind_word [] = codes "m=audio "
 kind_word (first ∷ others) =
     if is_video (string_bytes first) then codes "m=video " else codes "m=audio "
 
+-- the port; and the profile with feedback, which the lines `rtcp-fb` of each stream need (RFC 4585, section 4)
 unfoldable pub port_words : ℕ → List ℕ
-port_words port = decimal port ++ codes " RTP/AVP"
+port_words port = decimal port ++ codes " RTP/AVPF"
 
 unfoldable pub payload_word_of : List ℕ → List ℕ
 payload_word_of encoding = codes " " ++ payload_type encoding

@@ -1,7 +1,7 @@
 //! `sfu check FILE`: reads a certificate and checks it.
 
 ghost use Rattle.std.specs.Prelude.{◌≢◌};
-ghost use Rattle.cli.specs.Endings.{SaysWhy};
+ghost use Rattle.cli.specs.Statuses.{SaysWhy};
 ghost use Rattle.cli.specs.Ends.{EndsCheck};
 
 use crate::checking::check_metered;

@@ -30,8 +30,8 @@ struct Sheet {
     ghost within: { vec_len requests ≤ 65535 },
 }
 
-/// Checks the certificate that the file's lines spell, and prints the answer: `yes`, or `no` with the
-/// number of the first condition that fails and its least place, if it has one.
+/// Checks the certificate that the file's lines spell. Prints `yes`, or `no` with the number of the first condition that fails and its least
+/// place, if it has one.
 ///
 /// A line that can't be read is said on the error output, and so is a file that can't, as line 0.
 pub fn check_lines<I: Read, O: Write, E: Write>(

@@ -37,6 +37,8 @@ const PAGE_HELP: &str = "Shows by HTTP what a unit that runs says of itself";
 
 const SDP_HELP: &str = "Prints what endpoints receive as a session description";
 
+const SETTINGS_HELP: &str = "Checks settings as `serve` does, and says what the unit would take";
+
 // What it says of each word and option.
 const CERTIFICATE_HELP: &str = "The certificate: lines as `sfu bound` prints them";
 
@@ -95,6 +97,10 @@ pub(crate) fn command<'a>(alloc: Global) -> Result<Command<'a>, AllocError>
     let program = with(program, sender_command(alloc, "draw", DRAW_HELP));
     let program = with(program, sdp_command(alloc));
     let program = with(program, page_command(alloc));
+    let program = with(
+        program,
+        file_command(alloc, "settings", SETTINGS_HELP, SERVED_HELP),
+    );
     with(program, ask_command(alloc))
 }
 

@@ -1,7 +1,7 @@
 //! `sfu draw --sender N`: draws requests, and the set that is announced for them.
 
 ghost use Rattle.std.specs.Prelude.{◌≢◌, IfErr, IfSome, OnOk};
-ghost use Rattle.cli.specs.Endings.{SaysWhy};
+ghost use Rattle.cli.specs.Statuses.{SaysWhy};
 ghost use Rattle.cli.specs.Ends.{EndsDraw};
 ghost use Rattle.cli.specs.Printed.{FailsBound, PrintsPicture};
 

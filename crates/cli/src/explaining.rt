@@ -7,8 +7,8 @@ use std::fs;
 use std::io::{ErrorKind, Read, Write};
 use std::rt::Files;
 
-/// Says on the error output which line of the settings file is wrong, and what may stand there, if a replay ended for that; nothing if all is
-/// well by now. The file is read again.
+/// If a replay ended for its settings, says on the error output which line of the file is wrong, and what may stand there. The file is read
+/// again: if all is well by now, nothing is said.
 pub fn explain_replay<R: AllocGlobal + Files, E: Write>(
     rt: &R,
     file: &str,

@@ -1,7 +1,7 @@
 //! The commands that need neither a machine nor a unit, by the words that ask for them.
 
 ghost use Rattle.std.specs.Prelude.{◌≢◌};
-ghost use Rattle.cli.specs.Endings.{SaysWhy};
+ghost use Rattle.cli.specs.Statuses.{SaysWhy};
 ghost use Rattle.cli.specs.Ends.{EndsOffline};
 
 use crate::bounds::run_bound;

@@ -4,7 +4,7 @@ ghost use Rattle.std.specs.Prelude.{◌≡◌, ◌≢◌, codes};
 ghost use Rattle.std.specs.Io.KnownBytes.{Appends};
 ghost use Rattle.std.specs.IoError.{error_kind};
 ghost use Rattle.clap.specs.Words.{kind_of};
-ghost use Rattle.cli.specs.Endings.{EndsSaying, EndsWanting, IsOutOfMemory, IsUnsaid, SaysWhy, ShowsFailure, unsaid_at};
+ghost use Rattle.cli.specs.Statuses.{EndsSaying, EndsWanting, IsOutOfMemory, IsUnsaid, SaysWhy, ShowsFailure, unsaid_at};
 ghost use Rattle.settings_toml.specs.SettingsText.{problem_line};
 
 use crate::status::{Failure, Status};

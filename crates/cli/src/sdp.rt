@@ -6,6 +6,6 @@ mod encoding;
 mod session;
 mod stream;
 
-pub use encoding::{is_video, payload_type};
+pub use encoding::is_video;
 pub use session::{Session, session_text};
 pub use stream::Stream;

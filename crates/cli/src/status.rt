@@ -2,7 +2,7 @@
 
 ghost use Rattle.std.specs.Prelude.{◌≡◌};
 ghost use Rattle.std.specs.IoError.{error_kind};
-ghost use Rattle.cli.specs.Endings.{unreadable_at};
+ghost use Rattle.cli.specs.Statuses.{unreadable_at};
 
 use request_text::{LineFault, Refusal};
 use std::alloc::AllocError;
@@ -37,7 +37,7 @@ pub enum Status {
 
 impl Status {
     ghost use Rattle.std.specs.Prelude.{◌≡◌};
-    ghost use Rattle.cli.specs.Endings.{code_of};
+    ghost use Rattle.cli.specs.Statuses.{code_of};
 
     /// The number that the process exits with.
     pub fn code(self) -> u8
@@ -75,7 +75,7 @@ impl From<AllocError> for Failure {
 
 impl From<Refusal> for Failure {
     ghost use Rattle.std.specs.Prelude.{◌≡◌};
-    ghost use Rattle.cli.specs.Endings.{failure_of};
+    ghost use Rattle.cli.specs.Statuses.{failure_of};
 
     ghost from_gives = { λ r e. e ≡ failure_of r };
 
@@ -89,7 +89,7 @@ impl From<Refusal> for Failure {
 
 impl From<io::Error> for Failure {
     ghost use Rattle.std.specs.Prelude.{◌≡◌};
-    ghost use Rattle.cli.specs.Endings.{failure_at};
+    ghost use Rattle.cli.specs.Statuses.{failure_at};
     ghost use Rattle.std.specs.IoError.{error_kind};
 
     ghost from_gives = { λ error e. e ≡ failure_at (error_kind error) };

@@ -2,21 +2,21 @@
 
 ghost use Rattle.std.specs.Prelude.{◌≡◌, ◌≢◌, codes};
 ghost use Rattle.std.specs.Io.KnownBytes.{Appends};
-ghost use Rattle.cli.specs.Endings.{SaysWhy};
+ghost use Rattle.cli.specs.Statuses.{SaysWhy};
 
 use crate::saying::say;
 use crate::status::Status;
 use std::io::Write;
 
 /// The program's version, by Semantic Versioning, and the line that says it.
-pub(crate) const VERSION: &str = "0.1.0";
+pub(crate) const VERSION: &str = "1.0.0";
 
-const LINE: &[u8] = b"sfu 0.1.0\n";
+const LINE: &[u8] = b"sfu 1.0.0\n";
 
 /// Prints the program's name and its version.
 pub fn run_version<O: Write, E: Write>(writer: &mut O, errors: &mut E) -> Status
     ensures done { result ≡ Status.Done
-        → Appends (O.contents writer.old) (O.contents writer.new) (codes "sfu 0.1.0\n") }
+        → Appends (O.contents writer.old) (O.contents writer.new) (codes "sfu 1.0.0\n") }
     ensures read { (result ≢ Status.CommandLine) × (result ≢ Status.Settings)
         × (result ≢ Status.Refused) }
     ensures said { SaysWhy (E.contents errors.old) (E.contents errors.new) result }

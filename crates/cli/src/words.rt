@@ -15,8 +15,8 @@ use std::convert::AsStr;
 pub enum Action<'a> {
     /// What needs neither a machine nor a unit.
     Offline(Offline<'a>),
-    /// `sfu replay FILE`: what the machine gives out for a script, by the file's settings; of it only what goes out on a leg, or to an
-    /// endpoint, by their numbers; only from a moment on, in milliseconds; with the lines of the events, or without.
+    /// `sfu replay FILE`: what the machine gives out for a script, by the file's settings. Of it only what goes out on a leg, or to an endpoint,
+    /// by their numbers; only from a moment on, in milliseconds. With the lines of the events, or without.
     Replay {
         file: &'a str,
         only_leg: Option<u32>,
@@ -24,8 +24,8 @@ pub enum Action<'a> {
         from: Option<u64>,
         events: bool,
     },
-    /// `sfu serve FILE`: the unit on a socket, by the file's settings; for so many turns, or until it is stopped; with a line
-    /// of counts each so many seconds, which begins with the time, or without; steered at a path, or not; recorded, or not.
+    /// `sfu serve FILE`: the unit on a socket, by the file's settings, for so many turns, or until it is stopped. With a line of counts each so
+    /// many seconds, which begins with the time, or without; steered at a path, or not; recorded, or not.
     Serve {
         file: &'a str,
         ticks: Option<u32>,
@@ -51,6 +51,10 @@ pub enum Action<'a> {
     Sdp {
         file: &'a str,
         endpoints: Vec<&'a str>,
+    },
+    /// `sfu settings FILE`: what a unit would be by the file's settings, or what is wrong with them.
+    Settings {
+        file: &'a str,
     },
 }
 
@@ -190,6 +194,9 @@ fn plain_named<'a>(name: &str, matches: &ArgMatches<'a>) -> Option<Action<'a>>
             address: matches.get_str("ADDRESS")?,
             anyone: is_set(matches, "anyone"),
             host: matches.get_str("host"),
+        }),
+        "settings" => Some(Action::Settings {
+            file: matches.get_str("FILE")?,
         }),
         _ => None,
     }

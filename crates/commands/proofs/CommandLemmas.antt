@@ -1,12 +1,12 @@
 -- How commands end.
 use Rattle.std.proofs.Common.{◌≡◌, ◌≢◌, ◌∙◌, ℕ, Bool, List, Option, Some, subst, sym, unwrap_or}
 use Rattle.std.proofs.KnownBytes.{Keeps-refl}
-use Rattle.cli.specs.CommandLine.{AsksOfUnit, Request, ask, bound, check, draw, offline_request, page, replay, sdp, serve, version}
+use Rattle.cli.specs.CommandLine.{AsksOfUnit, Request, ask, bound, check, draw, offline_request, page, plan, replay, sdp, serve, version}
 use Rattle.cli.specs.Ends.{EndsOffline}
 use Rattle.cli.specs.declared.words.Offline.{Offline}
 use Rattle.cli.specs.declared.words.Offline.TheVariants as offline
 use Rattle.commands.specs.Commands.{Ends, EndsUnit}
-use Rattle.cli.specs.Endings.{SaysWhy}
+use Rattle.cli.specs.Statuses.{SaysWhy}
 use Rattle.cli.specs.declared.status.Status.{Status}
 use Rattle.cli.specs.declared.status.Status.TheVariants as status
 use Rattle.replay.specs.ByFile.{EndsReplay, shown_by}
@@ -58,6 +58,7 @@ unread (ask path words) input printed errors_old errors_new s fails read set_up 
 unread (page path address anyone host) input printed errors_old errors_new s fails read set_up heard says = record { never = fails; read = read }
 unread (sdp file endpoints) input printed errors_old errors_new s fails read set_up heard says =
     record { refused = λ is. absurd (read is); settings = λ is. absurd (set_up is) }
+unread (plan file) input printed errors_old errors_new s fails read set_up heard says = record { done = λ is. absurd (fails is); read = read }
 
 -- the words ask of a unit
 pub of_unit : (words : Option Request) (known : Request) (errors_old errors_new : Option (List ℕ)) (s : Status) → words ≡ Some known

@@ -2,12 +2,13 @@
 -- is after it, `errors_old` and `errors_new` what was said on the error output.
 use Rattle.std.specs.Prelude.{◌≡◌, ◌≢◌, ℕ, List, Option, Some, codes}
 use Rattle.std.specs.Io.KnownBytes.{Appends, Keeps}
-use Rattle.cli.specs.CommandLine.{AsksOfUnit, Request, Types, ask, asked_for, bound, check, draw, page, replay, sdp, serve, version}
+use Rattle.cli.specs.CommandLine.{AsksOfUnit, Request, Types, ask, asked_for, bound, check, draw, page, plan, replay, sdp, serve, version}
 use Rattle.cli.specs.declared.status.Status.{Status}
 use Rattle.cli.specs.declared.status.Status.TheVariants as status
-use Rattle.cli.specs.Endings.{SaysWhy}
+use Rattle.cli.specs.Statuses.{SaysWhy}
 use Rattle.cli.specs.Ends.{EndsBound, EndsCheck, EndsDraw, EndsVersion}
 use Rattle.replay.specs.ByFile.{EndsReplay, shown_by}
+use Rattle.commands.specs.Planned.{PrintsPlan}
 use Rattle.serving.specs.ReportText.{PrintsReport}
 use Rattle.serving.specs.Serving.{SaysWhyServing, turns_by}
 use Rattle.settings.specs.Settings.{Configuration}
@@ -44,6 +45,13 @@ pub record EndsSdp (old new : Option (List ℕ)) (s : Status) : Type 0 where
   pub refused : s ≡ status.Refused → Keeps old new
   pub settings : s ≡ status.Settings → Keeps old new
 
+-- How `sfu settings` ends.
+pub record EndsPlan (old new : Option (List ℕ)) (s : Status) : Type 0 where
+  -- if it is done, what a unit with some file's settings would be is printed
+  pub done : s ≡ status.Done → PrintsPlan old new
+  -- it is never refused
+  pub read : s ≢ status.Refused
+
 -- how each command ends
 abbrev pub Ends : Request → Option (List ℕ) → Option (List ℕ) → Option (List ℕ) → Option (List ℕ)
     → Option (List ℕ) → Status → Type 0
@@ -60,6 +68,7 @@ Ends version input old new errors_old errors_new s = EndsVersion old new s
 Ends (ask path words) input old new errors_old errors_new s = EndsAsk old new errors_old errors_new s
 Ends (page path address anyone host) input old new errors_old errors_new s = EndsPage s
 Ends (sdp file endpoints) input old new errors_old errors_new s = EndsSdp old new s
+Ends (plan file) input old new errors_old errors_new s = EndsPlan old new s
 
 -- How a command ends of which these are the words, the program's name first.
 pub record EndsCommand (words : List (List ℕ))

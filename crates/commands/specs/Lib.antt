@@ -1,2 +1,4 @@
 pub mod Asking
 pub mod Commands
+pub mod Describing
+pub mod Planned

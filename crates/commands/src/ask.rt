@@ -26,8 +26,8 @@ const MAX_PIECES: u32 = 4_096;
 /// goes to the error output. `record` and `record FILE` don't end with the answer: what the unit takes in is printed, or written to the
 /// file, until its record ends.
 ///
-/// Ends as `Refused` if the unit refused it, as `Control` if nobody listens at the path, as `Record` if the file can't be had, and as `Io`
-/// if no whole answer came in time.
+/// Ends as `Refused` if the unit refused it, `Control` if nobody listens at the path, `Record` if the file can't be had, `Io` if no whole answer
+/// came in time.
 pub fn run_ask<R: AllocGlobal + Files<File = File> + Net, S: AsStr, O: Write, E: Write>(
     rt: &R,
     path: &str,

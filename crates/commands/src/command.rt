@@ -3,11 +3,12 @@
 ghost use Rattle.std.specs.Prelude.{◌≡◌, ◌≢◌, map, codes};
 ghost use Rattle.std.specs.Io.KnownBytes.{Appends, Keeps};
 ghost use Rattle.commands.specs.Commands.{EndsCommand, EndsUnit};
-ghost use Rattle.cli.specs.Endings.{SaysWhy};
+ghost use Rattle.cli.specs.Statuses.{SaysWhy};
 ghost use Rattle.settings_toml.specs.SettingsText.{SaysProblem};
 
 use crate::ask::run_ask;
 use crate::description::run_sdp;
+use crate::plan::run_settings;
 use crate::served::{ServedFile, served_in};
 use cli::{
     Action, Record, Status, read_words, refuse_words, report_settings, run_offline, say,
@@ -16,7 +17,7 @@ use cli::{
 use replay::{Shown, run_replay};
 use request_text::Meter;
 use serving::{
-    ControlFault, ErrorOutput, Gauges, RECORD_LIMIT, RecordFault, Term, close_control,
+    ControlFault, ErrorOutput, RECORD_LIMIT, RecordFault, RunStatus, Term, close_control,
     close_record, open_control, open_record, serve_file,
 };
 use std::convert::AsStr;
@@ -130,6 +131,7 @@ pub fn run_metered<
         Ok(Action::Sdp { file, endpoints }) => {
             run_sdp(rt, file, endpoints.as_slice(), writer, errors)
         }
+        Ok(Action::Settings { file }) => run_settings(rt, file, writer, errors),
         Err(error) => refuse_words(rt.alloc(), errors, &error),
     }
 }
@@ -165,9 +167,9 @@ fn serve_steered<
         × (result ≢ Status.Settings) }
 {
     match gauges_for(rt, file, paths.control) {
-        Ok(mut gauges) => {
-            let status = serve_recorded(rt, file, term, paths, &mut gauges, writer, errors);
-            close_record(rt, gauges);
+        Ok(mut run_status) => {
+            let status = serve_recorded(rt, file, term, paths, &mut run_status, writer, errors);
+            close_record(rt, run_status);
             close_control_at(rt, paths.control);
             status
         }
@@ -185,7 +187,7 @@ fn serve_recorded<
     file: &ServedFile,
     term: Term,
     paths: Paths<'_>,
-    gauges: &mut Gauges,
+    run_status: &mut RunStatus,
     writer: &mut O,
     errors: &mut E,
 ) -> Status
@@ -194,8 +196,8 @@ fn serve_recorded<
     ensures understood { (result ≢ Status.CommandLine) × (result ≢ Status.Refused)
         × (result ≢ Status.Settings) }
 {
-    match set_noted(rt, file, paths, gauges) {
-        Ok(()) => serve_file(rt, &file.settings, term, gauges, writer, errors),
+    match set_noted(rt, file, paths, run_status) {
+        Ok(()) => serve_file(rt, &file.settings, term, run_status, writer, errors),
         Err(fault) => say_record(errors, fault),
     }
 }
@@ -205,12 +207,12 @@ fn set_noted<R: AllocGlobal + Files<File = File> + Net + Threads + time::Clock>(
     rt: &R,
     file: &ServedFile,
     paths: Paths<'_>,
-    gauges: &mut Gauges,
+    run_status: &mut RunStatus,
 ) -> Result<(), RecordFault> {
-    gauges.log_time.set(paths.log_time);
+    run_status.log_time.set(paths.log_time);
     if let Some(Record { path, limit }) = paths.record {
         let limit = limit.unwrap_or(RECORD_LIMIT);
-        gauges.set_recorder(open_record(rt, path, limit, file.digest.as_slice())?);
+        run_status.set_recorder(open_record(rt, path, limit, file.digest.as_slice())?);
     }
     Ok(())
 }
@@ -220,10 +222,10 @@ fn gauges_for<R: AllocGlobal + Files + Net + Threads + time::Clock>(
     rt: &R,
     file: &ServedFile,
     control: Option<&str>,
-) -> Result<Gauges, ControlFault> {
+) -> Result<RunStatus, ControlFault> {
     match control {
         Some(path) => open_control(rt, path, &file.settings, file.digest.as_slice()),
-        None => Ok(Gauges::new()),
+        None => Ok(RunStatus::new()),
     }
 }
 

@@ -1,8 +1,9 @@
 //! `sfu sdp FILE ENDPOINT..`: what endpoints receive, as a session description.
 
-ghost use Rattle.std.specs.Prelude.{◌≢◌, ◌≡◌};
+ghost use Rattle.std.specs.Prelude.{◌≢◌, ◌≡◌, ◌<◌, IfOk, IsTrue};
 ghost use Rattle.std.specs.Io.KnownBytes.{Keeps};
-ghost use Rattle.cli.specs.Endings.{SaysWhy};
+ghost use Rattle.cli.specs.Statuses.{SaysWhy};
+ghost use Rattle.commands.specs.Describing.{is_sent_a_leg};
 ghost use Rattle.settings_toml.specs.SettingsText.{SaysProblem};
 
 use crate::served::served_in;
@@ -20,7 +21,7 @@ enum SdpFault {
     NoMemory,
     /// A word is no endpoint's number.
     Endpoint,
-    /// The settings don't say where the endpoint is, or what a publisher's packets hold.
+    /// The settings don't say what the endpoint is sent, or where it is, or what a publisher's packets hold.
     Settings(SettingsProblem),
 }
 
@@ -33,8 +34,8 @@ impl From<AllocError> for SdpFault {
 /// Prints the session description of what these endpoints receive, by the settings of the file: a media description for each leg to
 /// one of them.
 ///
-/// Ends as `Refused` if a word is no endpoint's number, and as `Settings` if the address of one of them is learned, or what a
-/// publisher's packets hold isn't said (`rtpmap`).
+/// Ends as `Refused` if a word is no endpoint's number. Ends as `Settings` if no leg goes to one of them, if its address is learned, or a
+/// publisher has no `rtpmap`.
 pub fn run_sdp<R: AllocGlobal + Files, S: AsStr, O: Write, E: Write>(
     rt: &R,
     file: &str,
@@ -73,7 +74,12 @@ fn description<S: AsStr>(
 ) -> Result<String, SdpFault> {
     let mut streams = Vec::new(alloc);
     for word in endpoints {
-        let endpoint = number_of(word.as_str(), file.clients.len())?;
+        let endpoint = receiver_of(
+            alloc,
+            word.as_str(),
+            file.settings.legs(),
+            file.clients.len(),
+        )?;
         push_streams(alloc, &mut streams, file, endpoint)?;
     }
     let session = Session {
@@ -83,12 +89,41 @@ fn description<S: AsStr>(
     Ok(session_text(alloc, &session)?)
 }
 
-/// The number that a word is, if there are more endpoints.
-fn number_of(word: &str, endpoints: usize) -> Result<u16, SdpFault> {
-    match word.parse::<u16>() {
-        Ok(endpoint) if usize::from(endpoint) < endpoints => Ok(endpoint),
-        _ => Err(SdpFault::Endpoint),
+/// The endpoint whose number a word is, of so many, if one of these legs goes to it.
+fn receiver_of(
+    alloc: Global,
+    word: &str,
+    legs: &[LegSettings],
+    endpoints: usize,
+) -> Result<u16, SdpFault>
+    ensures known { IfOk result (λ endpoint. endpoint < endpoints) }
+    ensures sent { IfOk result (λ endpoint. IsTrue (is_sent_a_leg legs.now endpoint)) }
+{
+    let endpoint = number_of(word, endpoints)?;
+    if is_sent_a_leg(legs, endpoint) {
+        Ok(endpoint)
+    } else {
+        Err(missing(alloc, endpoint, "leg"))
     }
+}
+
+/// Whether one of these legs goes to this endpoint.
+fn is_sent_a_leg(legs: &[LegSettings], endpoint: u16) -> bool
+    ensures { result ≡ is_sent_a_leg legs.now endpoint }
+{
+    legs.iter().any(|leg| leg.subscriber == endpoint)
+}
+
+/// The number that a word is, if there are more endpoints.
+fn number_of(word: &str, endpoints: usize) -> Result<u16, SdpFault>
+    ensures { IfOk result (λ endpoint. endpoint < endpoints) }
+{
+    if let Ok(endpoint) = word.parse::<u16>() {
+        if usize::from(endpoint) < endpoints {
+            return Ok(endpoint);
+        }
+    }
+    Err(SdpFault::Endpoint)
 }
 
 /// Puts what an endpoint receives after the other streams, leg by leg.

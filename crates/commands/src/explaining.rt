@@ -9,9 +9,8 @@ use std::io::{ErrorKind, Write};
 use std::net::{Net, SocketAddr, UdpSocket};
 use std::rt::Files;
 
-/// Says on the error output which line of the settings file is wrong, and what may stand there, or which socket can't be had and why,
-/// after a command with these words ended so. The file is read again, and the sockets are tried again: if all is well by now,
-/// nothing is said.
+/// After a command with these words ended so, says on the error output which line of the settings file is wrong and what may stand there. Or
+/// which socket can't be had, and why. The file is read again, and the sockets are tried again: if all is well by now, nothing is said.
 pub fn explain<R: AllocGlobal + Files + Net, S: AsStr, E: Write>(
     rt: &R,
     words: &[S],
@@ -23,7 +22,7 @@ pub fn explain<R: AllocGlobal + Files + Net, S: AsStr, E: Write>(
     }
     match read_words(rt.alloc(), words) {
         Ok(Action::Replay { file, .. }) => explain_replay(rt, file, status, errors),
-        Ok(Action::Serve { file, .. } | Action::Sdp { file, .. }) => {
+        Ok(Action::Serve { file, .. } | Action::Sdp { file, .. } | Action::Settings { file }) => {
             explain_unit(rt, file, status, errors);
         }
         _ => {}

@@ -1,5 +1,8 @@
 //! The settings of a unit, with all addresses, and what its record says of them.
 
+ghost use Rattle.std.specs.Prelude.{IfOk};
+ghost use Rattle.commands.specs.Planned.{AreOfText};
+
 use replay::unreadable_settings;
 use serving::{ServedSettings, read_served};
 use settings_toml::SettingsProblem;
@@ -20,7 +23,9 @@ pub(crate) struct ServedFile {
 pub(crate) fn served_in<R: AllocGlobal + Files>(
     rt: &R,
     file: &str,
-) -> Result<ServedFile, SettingsProblem> {
+) -> Result<ServedFile, SettingsProblem>
+    ensures { IfOk result (λ file. AreOfText file.settings.settings) }
+{
     match fs::open(rt, file) {
         Ok(mut file) => served_from(rt.alloc(), &mut file),
         Err(error) => Err(unreadable_settings(&error)),
@@ -28,7 +33,9 @@ pub(crate) fn served_in<R: AllocGlobal + Files>(
 }
 
 /// The settings that a reader holds, with all addresses.
-fn served_from<I: Read>(alloc: Global, file: &mut I) -> Result<ServedFile, SettingsProblem> {
+fn served_from<I: Read>(alloc: Global, file: &mut I) -> Result<ServedFile, SettingsProblem>
+    ensures { IfOk result (λ file. AreOfText file.settings.settings) }
+{
     let mut text = Vec::new(alloc);
     match file.read_to_end(&mut text) {
         Ok(_) => Ok(ServedFile {

@@ -1,3 +1,5 @@
+pub mod DistanceLemmas
 pub mod KeyLemmas
+pub mod MeantLemmas
 pub mod SayingLemmas
 pub mod SettingsLemmas

@@ -1,4 +1,8 @@
 pub mod Advice
+pub mod Distance
+pub mod Formats
+pub mod Fronts
+pub mod Noticed
 pub mod Saying
 pub mod SettingsFaults
 pub mod SettingsFile

@@ -9,7 +9,9 @@ use Rattle.settings_toml.specs.SettingsFaults.{Spot, endpoint, leg, sources, top
 use Rattle.settings_toml.specs.declared.settings_file.SettingsProblem.{SettingsProblem}
 use Rattle.settings_toml.specs.declared.settings_file.SettingsProblem.TheVariants.{NoMemory, File, Toml, Top, Endpoint, Leg, SameSsrc}
 use Rattle.settings_toml.specs.declared.wanted.Wanted.{Wanted}
-use Rattle.settings_toml.specs.Wanted.{names_of, whose_keys, wanted_at, wanted_words}
+use Rattle.settings_toml.specs.Distance.{Means}
+use Rattle.settings_toml.specs.Noticed.{absent_of, are_formats_of, unknown_of}
+use Rattle.settings_toml.specs.Wanted.{keys_at, names_of, wanted_at, wanted_words, whose_keys}
 
 -- a line of the file by its number, what stands there, and what is said of it
 abbrev pub spotted_line : ℕ → List ℕ → List ℕ → List ℕ
@@ -72,12 +74,6 @@ pub record SaysWhyNot (same : SocketAddr → SocketAddr → Bool) (spot : Spot) 
 
 -- ---- keys
 
--- what stands at a key isn't what the key takes, or nothing stands there
-abbrev pub SaysWanted : Wanted → List ℕ → Type 0
-SaysWanted wanted line =
-    SaysOfLine (codes " is no " ++ wanted_words wanted) line
-    ⊎ SaysOfLine (codes " is missing: there is no " ++ wanted_words wanted) line
-
 -- the key of a fault that is at none of the sources together
 abbrev pub spot_key : Spot → List ℕ
 spot_key (top key) = key
@@ -89,20 +85,98 @@ abbrev pub no_key_words : Spot → List ℕ
 no_key_words spot =
     codes " is no key of " ++ (whose_keys spot ++ (codes ": those are " ++ names_of spot))
 
--- there is no such key: in a line of the file, or in one that wasn't found
-abbrev pub SaysNames : Spot → List ℕ → Type 0
-SaysNames spot line =
-    SaysOfLine (no_key_words spot) line
-    ⊎ (line ≡ spot_key spot ++ (no_key_words spot ++ codes "\n"))
+-- what is said of a key that there isn't: which one may be meant, or which there are
+abbrev pub misspelt_words : Spot → Option (List ℕ) → List ℕ
+misspelt_words spot (Some near) = codes " is no key; " ++ (near ++ codes "?")
+misspelt_words spot None = no_key_words spot
 
--- what is said of a key that there is, and of one that there isn't
-abbrev pub SaysAtKey : (SocketAddr → SocketAddr → Bool) → Spot → Option Wanted → List ℕ → Type 0
-SaysAtKey same spot (Some wanted) line = SaysWanted wanted line ⊎ SaysWhyNot same spot line
-SaysAtKey same spot None line = SaysNames spot line
+-- this is said of a key: in a line of the file, or in one that wasn't found
+abbrev pub SaysOfKey : List ℕ → List ℕ → List ℕ → Type 0
+SaysOfKey key said line =
+    ((number : ℕ) × (line ≡ spotted_line number key said))
+    ⊎ (line ≡ key ++ (said ++ codes "\n"))
+
+-- There is no such key where the spot is, and the one that is meant is named, if one is.
+pub record SaysNoKey (spot : Spot) (key line : List ℕ) : Type 0 where
+  pub near : Option (List ℕ)
+  pub means : Means (keys_at spot) key near
+  pub says : SaysOfKey key (misspelt_words spot near) line
+
+-- a key is missing: the first one of its table that there isn't is named, or else it is missed
+abbrev pub SaysMissing : Spot → Wanted → Option (List ℕ) → List ℕ → Type 0
+SaysMissing spot wanted (Some key) line = SaysNoKey spot key line
+SaysMissing spot wanted None line =
+    SaysOfLine (codes " is missing: there is no " ++ wanted_words wanted) line
+
+-- what stands at a key of a text isn't what the key takes, or nothing stands there
+abbrev pub SaysWanted : List ℕ → Spot → Wanted → List ℕ → Type 0
+SaysWanted text spot wanted line =
+    SaysOfLine (codes " is no " ++ wanted_words wanted) line
+    ⊎ SaysMissing spot wanted (unknown_of text spot) line
+
+-- what is said of a leg's end that is none of so many endpoints
+abbrev pub nobody_words : ℕ → List ℕ
+nobody_words count =
+    codes " is no endpoint: the conference has " ++ (decimal count ++ codes ", numbered from 0")
+
+-- this is said of what stands at a spot: in a line of the file, or in one that wasn't found
+abbrev pub SaysAtSpot : Spot → List ℕ → List ℕ → Type 0
+SaysAtSpot spot said line =
+    SaysOfLine said line ⊎ (line ≡ spot_key spot ++ (said ++ codes "\n"))
+
+-- what is said of formats that are texts
+abbrev pub format_words : List ℕ
+format_words = codes " has a payload type that rtpmap doesn't list"
+
+-- what is said of an address to which a unit can send
+abbrev pub mixed_words : List ℕ
+mixed_words = codes " is another endpoint's for RTCP alone"
+
+-- the key of an address for all but RTCP
+abbrev pub is_media_key : Spot → Bool
+is_media_key (endpoint number key) = bytes_eq key (codes "address")
+is_media_key (top key) = false
+is_media_key (leg number key) = false
+is_media_key sources = false
+
+-- some unit can send to an address that is given at such a key
+pub record IsSendable (same : SocketAddr → SocketAddr → Bool) (spot : Spot) : Type 0 where
+  pub key : IsTrue (is_media_key spot)
+  pub listen : SocketAddr
+  pub rtcp : Option SocketAddr
+  pub address : SocketAddr
+  pub can : CanSendTo same listen rtcp address
+
+-- It is said of such an address that it is another's.
+pub record SaysMixed (same : SocketAddr → SocketAddr → Bool) (spot : Spot) (line : List ℕ) : Type 0 where
+  pub sendable : IsSendable same spot
+  pub says : SaysOfLine mixed_words line
+
+-- what is said of a key that there is, if not that it is nobody's number: of formats that are texts that one isn't listed; else what the
+-- key takes, or why a unit can't send to an address, or whose that is
+abbrev pub SaysOfValue : (SocketAddr → SocketAddr → Bool) → List ℕ → Spot → Wanted → Bool → List ℕ
+    → Type 0
+SaysOfValue same text spot wanted true line = SaysAtSpot spot format_words line
+SaysOfValue same text spot wanted false line =
+    SaysWanted text spot wanted line ⊎ (SaysWhyNot same spot line ⊎ SaysMixed same spot line)
+
+-- what is said of a key that there is: of a leg's end that it is nobody
+abbrev pub SaysOfKnown : (SocketAddr → SocketAddr → Bool) → List ℕ → Spot → Wanted → Option ℕ → List ℕ
+    → Type 0
+SaysOfKnown same text spot wanted (Some count) line = SaysAtSpot spot (nobody_words count) line
+SaysOfKnown same text spot wanted None line =
+    SaysOfValue same text spot wanted (are_formats_of text spot) line
+
+-- what is said of a key of a text that there is, and of one that there isn't
+abbrev pub SaysAtKey : (SocketAddr → SocketAddr → Bool) → List ℕ → Spot → Option Wanted → List ℕ
+    → Type 0
+SaysAtKey same text spot (Some wanted) line =
+    SaysOfKnown same text spot wanted (absent_of text spot) line
+SaysAtKey same text spot None line = SaysNoKey spot (spot_key spot) line
 
 -- what is said of a problem at a key
-abbrev pub SaysAt : (SocketAddr → SocketAddr → Bool) → Spot → List ℕ → Type 0
-SaysAt same spot line = SaysAtKey same spot (wanted_at spot) line
+abbrev pub SaysAt : (SocketAddr → SocketAddr → Bool) → List ℕ → Spot → List ℕ → Type 0
+SaysAt same text spot line = SaysAtKey same text spot (wanted_at spot) line
 
 -- ---- all problems
 
@@ -117,14 +191,16 @@ SaysNoDocument line =
 abbrev pub shared_words : List ℕ
 shared_words = codes " is another's: the unit, each endpoint and each leg have sources of their own"
 
--- What is said of a problem: of a key what it takes or, if there is no such key, which there are; nothing if memory is wanting or
--- the file can't be read.
-abbrev pub SaysOfProblem : (SocketAddr → SocketAddr → Bool) → SettingsProblem → List ℕ → Type 0
-SaysOfProblem same NoMemory line = line ≡ []
-SaysOfProblem same File line = line ≡ []
-SaysOfProblem same Toml line = SaysNoDocument line
-SaysOfProblem same (Top key) line = SaysAt same (top (string_bytes key)) line
-SaysOfProblem same (Endpoint number key) line =
-    SaysAt same (endpoint number (string_bytes key)) line
-SaysOfProblem same (Leg number key) line = SaysAt same (leg number (string_bytes key)) line
-SaysOfProblem same SameSsrc line = (line ≡ []) ⊎ SaysOfLine shared_words line
+-- What is said of a problem of a text: of a key what it takes or, if there is no such key, which is meant or which there are; nothing if
+-- memory is wanting or the file can't be read.
+abbrev pub SaysOfProblem : (SocketAddr → SocketAddr → Bool) → List ℕ → SettingsProblem → List ℕ
+    → Type 0
+SaysOfProblem same text NoMemory line = line ≡ []
+SaysOfProblem same text File line = line ≡ []
+SaysOfProblem same text Toml line = SaysNoDocument line
+SaysOfProblem same text (Top key) line = SaysAt same text (top (string_bytes key)) line
+SaysOfProblem same text (Endpoint number key) line =
+    SaysAt same text (endpoint number (string_bytes key)) line
+SaysOfProblem same text (Leg number key) line =
+    SaysAt same text (leg number (string_bytes key)) line
+SaysOfProblem same text SameSsrc line = (line ≡ []) ⊎ SaysOfLine shared_words line

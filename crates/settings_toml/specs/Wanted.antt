@@ -80,6 +80,16 @@ leg_rows =
     ∷ key_row (codes "subscriber") (Other kind.Subscriber)
     ∷ []
 
+-- the keys that there are where a spot is
+abbrev pub rows_at : Spot → List KeyRow
+rows_at (top key) = top_rows
+rows_at (endpoint number key) = endpoint_rows
+rows_at (leg number key) = leg_rows
+rows_at sources = top_rows
+
+abbrev pub keys_at : Spot → List (List ℕ)
+keys_at spot = map (λ r. r.key) (rows_at spot)
+
 -- ---- what a key takes
 
 -- what the first key_row with this key takes

@@ -1,17 +1,21 @@
 //! The lines for people.
 
-ghost use Rattle.std.specs.Prelude.{◌≡◌, ◌++◌, ◌⊎◌, [], codes, IfOk, IfSome, IsTrue};
+ghost use Rattle.std.specs.Prelude.{◌≡◌, ◌++◌, ◌⊎◌, [], codes, false, IfOk, IfSome, IsTrue};
 ghost use Rattle.std.specs.String.{string_bytes};
 ghost use Rattle.settings_toml.specs.SettingsFaults.{spot_of};
 ghost use Rattle.settings_toml.specs.Advice.{bind_line, file_line, why_unbound, why_unreadable};
-ghost use Rattle.settings_toml.specs.Saying.{IsReason, SaysAt, SaysNames, SaysNoDocument, SaysOfLine, SaysOfProblem, SaysWanted, SaysWhyNot, is_address_key, spotted_line, no_key_words, shared_words, spot_key};
+ghost use Rattle.settings_toml.specs.Noticed.{absent_of, are_formats_of, unknown_of};
+ghost use Rattle.settings_toml.specs.Saying.{IsReason, IsSendable, SaysAt, SaysAtSpot, SaysMissing, SaysNoDocument, SaysOfKnown, SaysOfLine, SaysOfProblem, SaysOfValue, is_address_key, nobody_words, shared_words, spot_key};
 ghost use Rattle.settings_toml.specs.Wanted.{wanted_words};
 
 use crate::finding::{Found, Spotted, find, quoted, repeated, value_in};
+use crate::lines::{spotted_line, unfound_line};
+use crate::misspelt::names_advice;
+use crate::noticed::{absent_end, are_formats, unknown_key};
 use crate::reaching::why_unreachable;
 use crate::settings_file::SettingsProblem;
 use crate::settings_keys::Place;
-use crate::wanted::{Wanted, keys, owner, wanted_of, wanted_text};
+use crate::wanted::{Wanted, counted, wanted_of, wanted_text};
 use std::alloc::{AllocError, Global};
 use std::io::ErrorKind;
 use std::net::SocketAddr;
@@ -22,8 +26,8 @@ pub fn settings_advice(
     text: &str,
     problem: &SettingsProblem,
 ) -> Result<String, AllocError>
-    ensures { IfOk result (λ line.
-        SaysOfProblem ⟦<SocketAddr as PartialEq>⟧.eq problem.now (string_bytes line)) }
+    ensures { IfOk result (λ line. SaysOfProblem ⟦<SocketAddr as PartialEq>⟧.eq text.now
+        problem.now (string_bytes line)) }
 {
     match problem {
         SettingsProblem::NoMemory | SettingsProblem::File => Ok(String::new(alloc)),
@@ -78,68 +82,143 @@ fn line_at(text: &str, place: usize) -> usize {
 
 /// What is wrong at a key.
 fn place_advice(alloc: Global, text: &str, place: Place<'_>) -> Result<String, AllocError>
-    ensures { IfOk result (λ line.
-        SaysAt ⟦<SocketAddr as PartialEq>⟧.eq (spot_of place.entry) (string_bytes line)) }
+    ensures { IfOk result (λ line. SaysAt ⟦<SocketAddr as PartialEq>⟧.eq text.now
+        (spot_of place.entry) (string_bytes line)) }
 {
     match wanted_of(place) {
-        Some(wanted) => wanted_advice(alloc, text, place, wanted),
-        None => names_advice(alloc, text, place),
+        Some(wanted) => known_advice(alloc, text, place, wanted),
+        None => names_advice(alloc, text, place, key_of(place)),
     }
 }
 
 /// What is wrong at a key that there is, and takes this.
+fn known_advice(
+    alloc: Global,
+    text: &str,
+    place: Place<'_>,
+    wanted: Wanted,
+) -> Result<String, AllocError>
+    ensures { IfOk result (λ line. SaysOfKnown ⟦<SocketAddr as PartialEq>⟧.eq text.now
+        (spot_of place.entry) wanted (absent_of text.now (spot_of place.entry))
+        (string_bytes line)) }
+{
+    match absent_end(alloc, text, place)? {
+        Some(count) => nobody_advice(alloc, text, place, count),
+        None => value_advice(alloc, text, place, wanted),
+    }
+}
+
+/// What is wrong at a key that takes this, and isn't a leg's end that is nobody.
+fn value_advice(
+    alloc: Global,
+    text: &str,
+    place: Place<'_>,
+    wanted: Wanted,
+) -> Result<String, AllocError>
+    ensures { IfOk result (λ line. SaysOfValue ⟦<SocketAddr as PartialEq>⟧.eq text.now
+        (spot_of place.entry) wanted (are_formats_of text.now (spot_of place.entry))
+        (string_bytes line)) }
+{
+    if are_formats(alloc, text, place)? {
+        spot_line(
+            alloc,
+            text,
+            place,
+            " has a payload type that rtpmap doesn't list",
+        )
+    } else {
+        wanted_advice(alloc, text, place, wanted)
+    }
+}
+
+/// That a leg's end is none of so many endpoints.
+fn nobody_advice(
+    alloc: Global,
+    text: &str,
+    place: Place<'_>,
+    count: usize,
+) -> Result<String, AllocError>
+    ensures { IfOk result (λ line.
+        SaysAtSpot (spot_of place.entry) (nobody_words count) (string_bytes line)) }
+{
+    let said = counted(
+        alloc,
+        " is no endpoint: the conference has ",
+        count as u64,
+        ", numbered from 0",
+    )?;
+    spot_line(alloc, text, place, said.as_str())
+}
+
+/// What is said of what stands at a key, in its line of the file if that is found.
+fn spot_line(alloc: Global, text: &str, place: Place<'_>, said: &str) -> Result<String, AllocError>
+    ensures { IfOk result (λ line.
+        SaysAtSpot (spot_of place.entry) said.now (string_bytes line)) }
+{
+    match find(text, place) {
+        Found::Key(spotted) => spotted_line(alloc, spotted.line, spotted.text, said),
+        Found::Table(_) | Found::Nothing => unfound_line(alloc, key_of(place), said),
+    }
+}
+
+/// What is wrong at a key that takes this.
 fn wanted_advice(
     alloc: Global,
     text: &str,
     place: Place<'_>,
     wanted: Wanted,
 ) -> Result<String, AllocError>
-    ensures { IfOk result (λ line. SaysWanted wanted (string_bytes line)
-        ⊎ SaysWhyNot ⟦<SocketAddr as PartialEq>⟧.eq (spot_of place.entry) (string_bytes line)) }
+    ensures { IfOk result (λ line. SaysOfValue ⟦<SocketAddr as PartialEq>⟧.eq text.now
+        (spot_of place.entry) wanted false (string_bytes line)) }
 {
     match find(text, place) {
         Found::Key(spotted) => match why_not(text, place, spotted.text) {
             Some(why) => unsendable_line(alloc, spotted, why),
-            None => wrong_line(alloc, spotted, wanted),
+            None => line_advice(alloc, text, place, spotted, wanted),
         },
-        Found::Table(line) => missing_line(alloc, line, key_of(place), wanted),
-        Found::Nothing => missing_line(alloc, 1, key_of(place), wanted),
+        Found::Table(line) => missing_advice(alloc, text, place, line, wanted),
+        Found::Nothing => missing_advice(alloc, text, place, 1, wanted),
     }
 }
 
-/// That a key isn't among those that there are.
-fn names_advice(alloc: Global, text: &str, place: Place<'_>) -> Result<String, AllocError>
-    ensures { IfOk result (λ line. SaysNames (spot_of place.entry) (string_bytes line)) }
+/// What is wrong in a line, if it isn't an address to which the unit can't send.
+fn line_advice(
+    alloc: Global,
+    text: &str,
+    place: Place<'_>,
+    spotted: Spotted<'_>,
+    wanted: Wanted,
+) -> Result<String, AllocError>
+    ensures { IfOk result (λ line. SaysOfValue ⟦<SocketAddr as PartialEq>⟧.eq text.now
+        (spot_of place.entry) wanted false (string_bytes line)) }
 {
-    let names = no_key_words(alloc, place)?;
-    match find(text, place) {
-        Found::Key(spotted) => spotted_line(alloc, spotted.line, spotted.text, names.as_str()),
-        Found::Table(_) | Found::Nothing => unfound_line(alloc, key_of(place), names.as_str()),
+    if is_sendable(text, place, spotted.text) {
+        spotted_line(
+            alloc,
+            spotted.line,
+            spotted.text,
+            " is another endpoint's for RTCP alone",
+        )
+    } else {
+        wrong_line(alloc, spotted, wanted)
     }
 }
 
-/// Which keys there are where this place is.
-fn no_key_words(alloc: Global, place: Place<'_>) -> Result<String, AllocError>
-    ensures { IfOk result (λ said. string_bytes said ≡ no_key_words (spot_of place.entry)) }
+/// That nothing stands at a key, whose table begins in this line: that another key there may be misspelt, or that it is missing.
+fn missing_advice(
+    alloc: Global,
+    text: &str,
+    place: Place<'_>,
+    number: usize,
+    wanted: Wanted,
+) -> Result<String, AllocError>
+    ensures { IfOk result (λ line. SaysMissing (spot_of place.entry) wanted
+        (unknown_of text.now (spot_of place.entry)) (string_bytes line)) }
 {
-    let owner = owner(place);
-    let keys = keys(place);
-    format!(in alloc; " is no key of {owner}: those are {keys}")
-}
-
-/// A line of the file by its number, what stands there, and what is said of it.
-fn spotted_line(alloc: Global, number: usize, what: &str, said: &str) -> Result<String, AllocError>
-    ensures { IfOk result (λ line. string_bytes line ≡ spotted_line number what.now said.now) }
-{
-    format!(in alloc; "line {number}: {what}{said}\n")
-}
-
-/// What is said of a key that isn't found in the file.
-fn unfound_line(alloc: Global, key: &str, said: &str) -> Result<String, AllocError>
-    ensures { IfOk result (λ line.
-        string_bytes line ≡ key.now ++ (said.now ++ codes "\n")) }
-{
-    format!(in alloc; "{key}{said}\n")
+    match unknown_key(alloc, text, place)? {
+        Some(key) => names_advice(alloc, text, place, key.as_str()),
+        None => missing_line(alloc, number, key_of(place), wanted),
+    }
 }
 
 /// That what stands at a key isn't what the key takes.
@@ -203,6 +282,24 @@ fn why_not(text: &str, place: Place<'_>, line: &str) -> Option<&'static str>
             )
         }
         _ => None,
+    }
+}
+
+/// Whether an address stands in a line to which the unit can send.
+fn is_sendable(text: &str, place: Place<'_>, line: &str) -> bool
+    ensures { IsTrue result → IsSendable ⟦<SocketAddr as PartialEq>⟧.eq (spot_of place.entry) }
+{
+    match place {
+        Place::Endpoint(_, "address") => match (listen_in(text, "listen"), address_in(line)) {
+            (Some(listen), Some(address)) => {
+                match why_unreachable(listen, listen_in(text, "listen_rtcp"), address) {
+                    Some(_) => false,
+                    None => true,
+                }
+            }
+            _ => false,
+        },
+        _ => false,
     }
 }
 

@@ -127,7 +127,7 @@ fn zero_or_from(least: u64, number: Option<u64>) -> Option<u64>
 }
 
 /// The number, if it is there and lies from 0 to below the limit.
-fn number_under(value: Option<i64>, limit: u64) -> Option<u64>
+pub(crate) fn number_under(value: Option<i64>, limit: u64) -> Option<u64>
     ensures value { result ≡ number_below value limit }
     ensures bound { IfSome result (λ n. n < limit) }
 {

@@ -82,6 +82,12 @@ pub(crate) fn find<'a>(text: &'a str, place: Place<'_>) -> Found<'a> {
     for (number, line) in text.lines().enumerate() {
         let line = uncommented(line.trim());
         cursor = cursor.past(line);
+        if wanted == Section::Top && header_of(line) == Some(key) {
+            return Found::Key(Spotted {
+                line: number.saturating_add(1),
+                text: line,
+            });
+        }
         if cursor.section == wanted {
             if has_key(line, key) {
                 return Found::Key(Spotted {
@@ -135,6 +141,15 @@ pub(crate) fn value_in(line: &str) -> &str {
 /// The text in quotation marks, if a value is one.
 pub(crate) fn quoted(value: &str) -> Option<&str> {
     value.strip_prefix('"')?.strip_suffix('"')
+}
+
+/// The name of the table, or of the list of tables, whose header the line is.
+fn header_of(line: &str) -> Option<&str> {
+    let name = line.strip_prefix('[')?.strip_suffix(']')?;
+    match name.strip_prefix('[') {
+        Some(name) => Some(name.strip_suffix(']')?.trim()),
+        None => Some(name.trim()),
+    }
 }
 
 /// Whether the line has a value at this key.

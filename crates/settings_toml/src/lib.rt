@@ -1,15 +1,22 @@
 //! The settings of a room as TOML text: which settings a text gives, or its first fault, and what is said of one, to scripts and to people.
 //!
 //! Read `settings_file` first, then `advice`. `settings_keys` has the keys and the order of faults, `bound_keys` those of bounds, `tick_key` that of the
-//! unit's pace, and `values` takes values out of a table; `problem_text` is the line that scripts read. Of the line for people `wanted` says what may stand
-//! at each key, `finding` where a key stands in the file, and `reaching` why a unit can't send to an address. `laws` says that the keys
+//! unit's pace, and `values` takes values out of a table; `formats` looks at payload types, and
+//! `problem_text` is the line that scripts read. Of the line for people `wanted` says what may stand
+//! at each key, `finding` where a key stands in the file, `noticed` what else its document has there, `misspelt` (over `distance`) which key is meant
+//! by one that there isn't, and `reaching` why a unit can't send to an address; `lines` has the forms of a line. `laws` says that the keys
 //! people are told of are those that settings are read with.
 #![tactic(auto)]
 
 mod advice;
 mod bound_keys;
+mod distance;
 mod finding;
+mod formats;
 mod laws;
+mod lines;
+mod misspelt;
+mod noticed;
 mod problem_text;
 mod reaching;
 mod settings_file;
@@ -23,6 +30,7 @@ pub use bound_keys::{
     BoundKeys, ENTRIES, FLOODS, GAPS_MS, LEAST_REPEAT_MS, LEAST_STALL_MS, REPEATS_MS, SHARES,
     STALLS_MS,
 };
+pub use formats::{has_stray, payload_type};
 pub use laws::keys_are_those_of_settings;
 pub use problem_text::problem_line;
 pub use settings_file::{ClientText, FileSettings, SettingsProblem, problem_at, read_settings};

@@ -112,7 +112,7 @@ fn are_tables(items: &[Value]) -> bool
 }
 
 /// Whether the value is a list of texts.
-fn has_texts(value: &Value) -> bool
+pub(crate) fn has_texts(value: &Value) -> bool
     ensures { result ≡ has_texts (view value.now) }
 {
     match value.as_array() {

@@ -61,7 +61,7 @@ pub(crate) fn text_in(alloc: Global, value: Option<&Value>) -> Result<Option<Str
 }
 
 /// A copy of the text, if there is one.
-fn copied(alloc: Global, text: Option<&str>) -> Result<Option<String>, AllocError>
+pub(crate) fn copied(alloc: Global, text: Option<&str>) -> Result<Option<String>, AllocError>
     ensures { IfOk result (λ copy. text_bytes copy ≡ option_map (λ t. t.now) text.entry) }
 {
     match text {

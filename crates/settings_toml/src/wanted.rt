@@ -3,10 +3,55 @@
 ghost use Rattle.std.specs.Prelude.{◌≡◌, ◌++◌, IfOk, string_bytes};
 ghost use Rattle.std.specs.Fmt.{decimal};
 ghost use Rattle.settings_toml.specs.SettingsFaults.{spot_of};
+ghost use Rattle.settings_toml.specs.Noticed.{is_known};
 ghost use Rattle.settings_toml.specs.Wanted.{endpoint_rows, kind_words, leg_rows, names_of, whose_keys, top_rows, wanted_at, wanted_in, wanted_words};
 
 use crate::settings_keys::Place;
 use std::alloc::{AllocError, Global};
+
+/// The keys of the settings.
+pub(crate) const TOP_KEYS: [&str; 25] = [
+    "endpoint",
+    "leg",
+    "cname",
+    "early_pictures",
+    "entry_limit",
+    "flood_limit",
+    "history",
+    "leg_goodbyes",
+    "listen",
+    "listen_rtcp",
+    "new_starts",
+    "pli_gap_ms",
+    "repeat_ms",
+    "report_ms",
+    "request_gap_ms",
+    "request_ms",
+    "resend_gap_ms",
+    "resend_share",
+    "ring",
+    "stall_ms",
+    "strict_ssrc",
+    "tick_ms",
+    "timeout_ms",
+    "unit_ssrc",
+    "workers",
+];
+
+/// Those of an endpoint.
+pub(crate) const ENDPOINT_KEYS: [&str; 8] = [
+    "address",
+    "cname",
+    "fmtp",
+    "learn_from",
+    "receive_only",
+    "rtcp_address",
+    "rtpmap",
+    "ssrc",
+];
+
+/// Those of a leg.
+pub(crate) const LEG_KEYS: [&str; 5] = ["first_seq", "on", "out_ssrc", "publisher", "subscriber"];
 
 /// What a key takes.
 #[derive(Clone, Copy, PartialEq, Eq)]
@@ -49,6 +94,18 @@ pub(crate) fn wanted_of(place: Place<'_>) -> Option<Wanted>
         Place::Endpoint(_, key) => wanted_endpoint(key),
         Place::Leg(_, key) => wanted_leg(key),
         Place::Sources => None,
+    }
+}
+
+/// Whether there is such a key where this place is.
+pub(crate) fn is_known(place: Place<'_>, key: &str) -> bool
+    ensures { result ≡ is_known (spot_of place.entry) key.now }
+{
+    match place {
+        Place::Top(_) => wanted_top(key).is_some(),
+        Place::Endpoint(_, _) => wanted_endpoint(key).is_some(),
+        Place::Leg(_, _) => wanted_leg(key).is_some(),
+        Place::Sources => wanted_top(key).is_some(),
     }
 }
 
@@ -145,7 +202,12 @@ pub(crate) fn wanted_text(alloc: Global, wanted: Wanted) -> Result<String, Alloc
 }
 
 /// The number between the two texts.
-fn counted(alloc: Global, front: &str, count: u64, behind: &str) -> Result<String, AllocError>
+pub(crate) fn counted(
+    alloc: Global,
+    front: &str,
+    count: u64,
+    behind: &str,
+) -> Result<String, AllocError>
     ensures { IfOk result (λ text.
         string_bytes text ≡ front.now ++ (decimal count ++ behind.now)) }
 {

@@ -5,14 +5,16 @@ ghost use Rattle.std.specs.String.{string_bytes};
 ghost use Rattle.std.specs.Net.Socket.{socket_port};
 ghost use Rattle.cli.specs.Session.{connection_line, encodings_text, fmtp_line, fmtp_line_of, kind_word, media_line, payload_word, payload_word_of, port_words, rtcp_line, rtcp_words, rtpmap_line, rtpmap_line_of, ssrc_line, stream_text, version_word};
 
-use crate::sdp::encoding::{is_video, payload_type};
+use crate::sdp::encoding::is_video;
+use settings_toml::payload_type;
 use std::alloc::AllocError;
 use std::net::{IpAddr, SocketAddr};
 
 /// RTCP comes to the port of RTP (RFC 5761, section 5.1.1).
 const SHARED: &str = "a=rtcp-mux\r\n";
 
-/// The feedback that the unit takes of its receivers (RFC 4585, section 4.2; RFC 5104, section 7.1), and on which side they are.
+/// The feedback that the unit takes of its receivers (RFC 4585, section 4.2; RFC 5104, section 7.1), and on which side they are. Each stream
+/// says it, and so each is of the profile with feedback.
 const FEEDBACK: &str =
     "a=rtcp-fb:* nack\r\na=rtcp-fb:* nack pli\r\na=rtcp-fb:* ccm tmmbr\r\na=recvonly\r\n";
 
@@ -47,7 +49,7 @@ pub(crate) fn push_stream(text: &mut String, stream: &Stream<'_>) -> Result<(), 
     text.push_str(FEEDBACK)
 }
 
-/// The line `m=`: the kind, the port and the payload types.
+/// The line `m=`: the kind, the port, the profile and the payload types.
 #[tactic(auto, unfolding(crate::specs::Session::media_line))]
 fn push_media(text: &mut String, port: u16, rtpmap: &[String]) -> Result<(), AllocError>
     ensures { OnOk result
@@ -75,11 +77,12 @@ fn kind_of(rtpmap: &[String]) -> &'static str
     }
 }
 
+/// The port, and the profile with feedback (RFC 4585, section 4).
 #[tactic(auto, unfolding(crate::specs::Session::port_words))]
 fn push_port(text: &mut String, port: u16) -> Result<(), AllocError>
     ensures { OnOk result (string_bytes text.new ≡ string_bytes text.old ++ port_words port) }
 {
-    write!(text, "{port} RTP/AVP")
+    write!(text, "{port} RTP/AVPF")
 }
 
 fn push_payload_types(text: &mut String, rtpmap: &[String]) -> Result<(), AllocError>

@@ -1,6 +1,6 @@
 use Rattle.std.proofs.Common.{None, Some, refl}
 use Rattle.clap.specs.Words.{found_of}
-use Rattle.cli.proofs.CommandLineLemmas.{asked_check, asked_page, asked_replay}
+use Rattle.cli.proofs.CommandLineLemmas.{asked_check, asked_page, asked_plan, asked_replay}
 use Rattle.cli.proofs.words.plain_named.Goals as goal
 
 pub returns-in_err-get_str-in-check : goal.returns-in_err-get_str-in-check
@@ -32,3 +32,11 @@ returns-in_ok-get_str-in-page-2 c =
     rw c.in-page.is
     (asked_page (found_of c.args.matches.now) (Some c.in_ok-get_str-in-page.field-0.now) (Some c.in_ok-get_str-in-page-2.field-0.now) _ _ c.in_ok-get_str-in-page.ensures
     c.in_ok-get_str-in-page-2.ensures c.is_set-in-page.ensures c.get_str-in-page-3.ensures)
+
+pub returns-in_err-get_str-in-settings : goal.returns-in_err-get_str-in-settings
+returns-in_err-get_str-in-settings c =
+    rw (c.from_residual-in_err-get_str-in-settings.ensures, c.in-settings.is) (asked_plan (found_of c.args.matches.now) None c.in_err-get_str-in-settings.ensures)
+
+pub returns-in_ok-get_str-in-settings : goal.returns-in_ok-get_str-in-settings
+returns-in_ok-get_str-in-settings c =
+    rw c.in-settings.is (asked_plan (found_of c.args.matches.now) (Some c.in_ok-get_str-in-settings.field-0.now) c.in_ok-get_str-in-settings.ensures)

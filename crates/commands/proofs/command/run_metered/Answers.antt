@@ -79,3 +79,14 @@ returns-in-Ok-Sdp g c =
       understood = λ _ _. ran.understood;
       said = λ _. ran.said;
     }
+
+pub returns-in-Ok-Settings : goal.returns-in-Ok-Settings
+returns-in-Ok-Settings g c =
+    let here = rw c.in-Ok-Settings.field-0-is at c.in-Ok-Settings.ensures.asked in
+    let ran = c.run_settings.ensures in record {
+      ends = λ asked. ends_asked _ _ asked _ _ _ _ _ _ here (record { done = ran.done; read = ran.understood.1 });
+      settings = ran.settings;
+      asks = c.in-Ok-Settings.ensures.asks;
+      understood = λ _ _. ran.understood.0;
+      said = λ _. ran.said;
+    }
