@@ -335,9 +335,9 @@ def shown(browser, folder):
     """What people see of what is sent, and pictures of it."""
     browser.says("document.getElementById('news').textContent", "The unit answers")
     browser.says(cells("endpoints", 2), "present|present|absent")
-    browser.says(cells("endpoints", 8).replace("it.textContent", "it.textContent.replace(/^[0-9.]+ s ago$/, 'seconds ago')"),
+    browser.says(cells("endpoints", 9).replace("it.textContent", "it.textContent.replace(/^[0-9.]+ s ago$/, 'seconds ago')"),
                  "seconds ago|seconds ago|never")
-    browser.says(cells("endpoints", 10), "16|17|18")
+    browser.says(cells("endpoints", 11), "16|17|18")
     browser.says(cells("legs", 2), "on|on|off")
     browser.says("[...document.querySelectorAll('#matrix tbody tr')].map(it => [...it.children].map(cell => cell.textContent || "
                  "(cell.firstElementChild ? cell.firstElementChild.getAttribute('aria-label') : '-')).join(' ')).join('|')",
@@ -362,9 +362,9 @@ MARKUP = "<img src=x onerror=hit()><script>hit()</script>"
 def hostile(program, page, fields):
     """The page, under its own policy, of a state that has markup in place of all: each is shown as text, or the state isn't read."""
     leg = dict.fromkeys(("leg", "subscriber", "on", "stay", "packets", "octets", "resent", "missed", "next", "fraction_lost", "jitter",
-                         "round_trip_ms"), MARKUP)
+                         "round_trip_ms", "reported_ago_ms"), MARKUP)
     endpoint = dict.fromkeys(("number", "ssrc", "address", "present", "heard_ago_ms", "refused", "heard_octets", "sent_octets",
-                              "fraction_lost", "jitter"), MARKUP)
+                              "fraction_lost", "jitter", "reported_ago_ms"), MARKUP)
     counts = dict.fromkeys(("present", "heard", "sent", "failed", "lost", "dropped", "strangers", "unread"), MARKUP)
     state = {"moment_ms": MARKUP, "endpoints": [endpoint], "legs": [{**leg, "publisher": MARKUP}], "counts": counts}
 
@@ -384,7 +384,7 @@ def hostile(program, page, fields):
     threading.Thread(target=server.serve_forever, daemon=True).start()
     browser = Browser(program, f"http://127.0.0.1:{server.server_port}/")
     browser.says("document.getElementById('news').textContent", "The unit answers")
-    browser.says(cells("endpoints", 11), MARKUP)
+    browser.says(cells("endpoints", 12), MARKUP)
     browser.says("document.querySelectorAll('img[src=x], main script, [onerror]').length", 0)
     if browser.complaints:
         fail(f"of a hostile state the browser says {browser.complaints}")

@@ -2,9 +2,9 @@
 
 ghost use Rattle.std.specs.Prelude.{IfOk, IsSome};
 
-use crate::gauges::Gauges;
 use crate::record_file::idle_record;
-use crate::steering::{Listed, Steering};
+use crate::run_status::RunStatus;
+use crate::steering::{EndpointInfo, Steering};
 use addresses::{Location, ServedSettings};
 use recording::ControlFault;
 use settings::Settings;
@@ -29,9 +29,9 @@ pub fn open_control<R: AllocGlobal + Files + Net + Threads + time::Clock>(
     path: &str,
     file: &ServedSettings,
     digest: &[u8],
-) -> Result<Gauges, ControlFault>
-    ensures steered { IfOk result (λ gauges. IsSome gauges.steering) }
-    ensures recorder { IfOk result (λ gauges. IsSome gauges.recorder) }
+) -> Result<RunStatus, ControlFault>
+    ensures steered { IfOk result (λ run_status. IsSome run_status.steering) }
+    ensures recorder { IfOk result (λ run_status. IsSome run_status.recorder) }
 {
     let Ok(endpoints) = listed(rt.alloc(), file) else {
         return Err(ControlFault::NoMemory);
@@ -42,7 +42,7 @@ pub fn open_control<R: AllocGlobal + Files + Net + Threads + time::Clock>(
     };
     let recorder = idle_record(rt, digest)?;
     match Steering::new(rt.alloc(), listener, legs, endpoints) {
-        Ok(steering) => Ok(Gauges::steered(steering, recorder)),
+        Ok(steering) => Ok(RunStatus::steered(steering, recorder)),
         Err(_) => Err(ControlFault::NoMemory),
     }
 }
@@ -53,10 +53,10 @@ pub fn close_control<R: Files>(rt: &R, path: &str) {
 }
 
 /// The endpoints as peers are told of them.
-fn listed(alloc: Global, file: &ServedSettings) -> Result<Vec<Listed>, AllocError> {
+fn listed(alloc: Global, file: &ServedSettings) -> Result<Vec<EndpointInfo>, AllocError> {
     let mut all = Vec::new(alloc);
     for (source, client) in file.settings.endpoints().iter().zip(file.clients.iter()) {
-        all.push(Listed {
+        all.push(EndpointInfo {
             source: *source,
             address: address_at_first(client.location, file.listen.media),
         })?;

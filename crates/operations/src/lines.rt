@@ -1,7 +1,7 @@
 //! Lines for people, which a thread of its own writes: nobody waits for who reads them.
 
 use crate::wall_time::time_text;
-use recording::{CourierFault, Outlet, start_courier};
+use recording::{Outlet, WriterFault, start_writer};
 use std::alloc::{AllocError, Global};
 use std::io::{self, ErrorKind, Stderr, Write};
 use std::net::Net;
@@ -44,8 +44,8 @@ impl<W: Write + Send + Drop + 'static> Lines<W> {
     /// Starts the thread.
     pub fn new<R: AllocGlobal + ErrorOutput<Output = W> + Net + Threads>(
         rt: &R,
-    ) -> Result<Lines<W>, CourierFault> {
-        match start_courier(rt, LINES, rt.error_output()) {
+    ) -> Result<Lines<W>, WriterFault> {
+        match start_writer(rt, LINES, rt.error_output()) {
             Ok((outlet, _thread)) => Ok(Lines {
                 alloc: rt.alloc(),
                 outlet,

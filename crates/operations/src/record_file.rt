@@ -4,8 +4,8 @@ ghost use Rattle.std.specs.Prelude.{◌≡◌, true, false, IfOk};
 ghost use Rattle.std.specs.String.{string_bytes};
 ghost use Rattle.operations.specs.Records.{BeginsRecord, IsHead};
 
-use crate::gauges::Gauges;
-use recording::{Header, RecordFault, RecordTarget, Recorder, Written, header_text, start_courier};
+use crate::run_status::RunStatus;
+use recording::{Header, RecordFault, RecordTarget, Recorder, Written, header_text, start_writer};
 use std::alloc::Global;
 use std::fs::{File, OpenOptions};
 use std::io::ErrorKind;
@@ -22,7 +22,7 @@ const MODE: u32 = 0o600;
 const BLOCKS: usize = 256;
 
 /// The version of the program that a record names.
-const VERSION: &str = "0.1.0";
+const VERSION: &str = "1.0.0";
 
 /// Makes a file at the path, which isn't there yet, and records there what a unit takes in, at most so many bytes. The settings that the
 /// unit has come from a file with this SHA-256.
@@ -41,7 +41,7 @@ pub fn open_record<R: AllocGlobal + Files<File = File> + Net + Threads + time::C
         return Err(RecordFault::NoMemory);
     };
     let file = create(rt, path)?;
-    let (outlet, thread) = start_courier(rt, BLOCKS, RecordTarget::File(file, count))?;
+    let (outlet, thread) = start_writer(rt, BLOCKS, RecordTarget::File(file, count))?;
     let mut recorder = Recorder::new(rt.alloc(), head, written, outlet, thread);
     recorder.begin(limit);
     Ok(recorder)
@@ -56,7 +56,7 @@ pub(crate) fn idle_record<R: AllocGlobal + Net + Threads + time::Clock>(
 {
     let head = head_of(rt, settings)?;
     let written = new_count(rt.alloc())?;
-    let (outlet, thread) = start_courier(rt, BLOCKS, RecordTarget::Nobody)?;
+    let (outlet, thread) = start_writer(rt, BLOCKS, RecordTarget::Nobody)?;
     Ok(Recorder::new(rt.alloc(), head, written, outlet, thread))
 }
 
@@ -84,8 +84,8 @@ fn head_of<R: AllocGlobal + time::Clock>(rt: &R, settings: &[u8]) -> Result<Stri
 }
 
 /// Ends the record of a unit that has ended, once all of it is written.
-pub fn close_record<R: Threads>(rt: &R, gauges: Gauges) {
-    gauges.finish(rt);
+pub fn close_record<R: Threads>(rt: &R, run_status: RunStatus) {
+    run_status.finish(rt);
 }
 
 /// What the wall clock says, in milliseconds since the beginning of 1970; 0 if it says nothing, or an earlier time.

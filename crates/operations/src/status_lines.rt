@@ -2,7 +2,7 @@
 
 ghost use Rattle.std.specs.Prelude.{◌≡◌};
 
-use crate::gauges::Gauges;
+use crate::run_status::RunStatus;
 use control_protocol::{Screened, shortage_text};
 use ports::{Status, Watch};
 use recording::end_name;
@@ -20,7 +20,7 @@ pub struct StatusLines<'a, E: Write> {
     due_ms: u64,
     /// How many lines were left out.
     unsaid: u64,
-    gauges: &'a Gauges,
+    run_status: &'a RunStatus,
 }
 
 impl<'a, E: Write> StatusLines<'a, E> {
@@ -31,11 +31,11 @@ impl<'a, E: Write> StatusLines<'a, E> {
         alloc: Global,
         errors: &'a mut E,
         every_ms: u64,
-        gauges: &'a Gauges,
+        run_status: &'a RunStatus,
     ) -> StatusLines<'a, E>
         ensures due { (result.every_ms ≡ every_ms) × (result.due_ms ≡ every_ms) }
         ensures unsaid { result.unsaid ≡ 0 }
-        ensures looks { result.gauges ≡ gauges.entry }
+        ensures looks { result.run_status ≡ run_status.entry }
     {
         StatusLines {
             alloc,
@@ -43,7 +43,7 @@ impl<'a, E: Write> StatusLines<'a, E> {
             every_ms,
             due_ms: every_ms,
             unsaid: 0,
-            gauges,
+            run_status,
         }
     }
 
@@ -69,7 +69,7 @@ impl<'a, E: Write> StatusLines<'a, E> {
     fn say_shortage(&mut self)
         ensures { (self.new.every_ms ≡ self.old.every_ms) × (self.new.due_ms ≡ self.old.due_ms) }
     {
-        if self.gauges.take_shortage() {
+        if self.run_status.take_shortage() {
             self.put(shortage_text().as_bytes());
         }
     }
@@ -103,7 +103,7 @@ impl<'a, E: Write> StatusLines<'a, E> {
 
     /// How many datagrams came from nobody's address, and how many packets were far from their source's highest number.
     fn strange_part(&self) -> Result<String, AllocError> {
-        let (strangers, far) = (self.gauges.strangers.get(), self.gauges.far.get());
+        let (strangers, far) = (self.run_status.strangers.get(), self.run_status.far.get());
         format!(in self.alloc; " strangers {strangers} far {far}")
     }
 
@@ -116,7 +116,7 @@ impl<'a, E: Write> StatusLines<'a, E> {
             beyond,
             stalled,
             ..
-        } = self.gauges.screened();
+        } = self.run_status.screened();
         match (held, flooded, beyond, stalled) {
             (0, 0, 0, 0) => Ok(String::new(self.alloc)),
             _ => format!(in self.alloc;
@@ -127,7 +127,7 @@ impl<'a, E: Write> StatusLines<'a, E> {
 
     /// How many datagrams the system dropped, if it says so.
     fn unread_part(&self) -> Result<String, AllocError> {
-        match self.gauges.unheard().unread {
+        match self.run_status.unheard().unread {
             Some(unread) => format!(in self.alloc; " unread {unread}"),
             None => Ok(String::new(self.alloc)),
         }
@@ -143,7 +143,7 @@ impl<'a, E: Write> StatusLines<'a, E> {
 
     /// How many bytes of the record stand where it is written, and why it ended, if it did; nothing of a run that isn't recorded.
     fn recorded_part(&self) -> Result<String, AllocError> {
-        let Some((written, end)) = self.gauges.record_state() else {
+        let Some((written, end)) = self.run_status.record_state() else {
             return Ok(String::new(self.alloc));
         };
         match end {
@@ -188,12 +188,12 @@ impl<'a, E: Write> ControlLines<'a, E> {
         alloc: Global,
         errors: &'a mut E,
         every_ms: u64,
-        gauges: &'a Gauges,
+        run_status: &'a RunStatus,
     ) -> ControlLines<'a, E>
         ensures { (result.counts.every_ms ≡ every_ms) × (result.counts.due_ms ≡ every_ms) }
     {
         ControlLines {
-            counts: StatusLines::new(alloc, errors, every_ms, gauges),
+            counts: StatusLines::new(alloc, errors, every_ms, run_status),
         }
     }
 }
@@ -204,7 +204,7 @@ impl<E: Write> Watch for ControlLines<'_, E> {
     fn is_due(&self, moment: u64) -> bool
         ensures { self.now.counts.due_ms ≤ moment → IsTrue result }
     {
-        self.counts.is_due(moment) || self.counts.gauges.has_shortage()
+        self.counts.is_due(moment) || self.counts.run_status.has_shortage()
     }
 
     fn show(&mut self, moment: u64, status: &Status)

@@ -1,6 +1,6 @@
 //! A watch of a unit that may be steered.
 
-use crate::gauges::Gauges;
+use crate::run_status::RunStatus;
 use desk::Desk;
 use ports::{Look, Status, Watch};
 use stats::Traffic;
@@ -9,49 +9,49 @@ use stats::Traffic;
 #[derive(Drop)]
 pub struct SteeredWatch<'a, W: Drop> {
     pub watch: W,
-    pub gauges: &'a Gauges,
+    pub run_status: &'a RunStatus,
     pub traffic: &'a Traffic,
 }
 
 impl<W: Watch + Drop> Watch for SteeredWatch<'_, W> {
     fn is_due(&self, moment: u64) -> bool {
-        self.watch.is_due(moment) || self.gauges.wants_counts()
+        self.watch.is_due(moment) || self.run_status.wants_counts()
     }
 
     fn show(&mut self, moment: u64, status: &Status) {
         if self.watch.is_due(moment) {
             self.watch.show(moment, status);
         }
-        self.gauges.show_counts(status);
+        self.run_status.show_counts(status);
     }
 
     fn look(&self) -> Look {
-        self.gauges.look()
+        self.run_status.look()
     }
 
     fn show_endpoint(&mut self, endpoint: u16, is_present: bool) {
-        if let Some(mut steering) = self.gauges.steering() {
-            let moment = self.gauges.moment_ms.get();
+        if let Some(mut steering) = self.run_status.steering() {
+            let moment = self.run_status.moment_ms.get();
             steering.show_endpoint(endpoint, is_present, self.traffic, moment);
         }
     }
 
     fn show_stay(&mut self, leg: u16, stay: Option<u64>) {
-        if let Some(mut steering) = self.gauges.steering() {
+        if let Some(mut steering) = self.run_status.steering() {
             steering.show_stay(leg, stay, self.traffic);
         }
     }
 
     fn show_desk(&mut self, publisher: u16, desk: &Desk) {
-        if let Some(mut steering) = self.gauges.steering() {
+        if let Some(mut steering) = self.run_status.steering() {
             steering.show_desk(publisher, desk);
         }
     }
 
     fn end_look(&mut self) {
-        if let Some(mut steering) = self.gauges.steering() {
-            let moment = self.gauges.moment_ms.get();
-            let (unheard, screened) = (self.gauges.unheard(), self.gauges.screened());
+        if let Some(mut steering) = self.run_status.steering() {
+            let moment = self.run_status.moment_ms.get();
+            let (unheard, screened) = (self.run_status.unheard(), self.run_status.screened());
             steering.end(self.traffic, &unheard, &screened, moment);
         }
     }

@@ -4,8 +4,9 @@ ghost use Rattle.std.specs.Prelude.{◌≡◌, None, IfOk, length, map, replicat
 
 use addresses::Strangers;
 use control_protocol::{
-    Course, Peers, Refused, SHORTAGE_EACH_MS, Screened, TAKEN_IN, Unheard, counts_text, course_for,
-    done_text, present_line, refused_text, says_shortage, screened_text, stranger_line,
+    Peers, Refused, RequestAction, SHORTAGE_EACH_MS, Screened, TAKEN_IN, Unheard, action_for,
+    counts_text, done_text, present_line, refused_text, says_shortage, screened_text,
+    stranger_line,
 };
 use desk::Desk;
 use ports::{Look, Received, Status, Ticks};
@@ -25,7 +26,7 @@ const LOOK_MS: u64 = 10;
 
 /// An endpoint as peers are told of it.
 #[derive(Clone, Copy)]
-pub struct Listed {
+pub struct EndpointInfo {
     pub source: Ssrc,
     pub address: SocketAddr,
 }
@@ -39,13 +40,13 @@ pub struct Steering {
     legs: Vec<LegLine>,
     /// Whether each leg was selected at the start.
     began_on: Vec<bool>,
-    endpoints: Vec<Listed>,
+    endpoints: Vec<EndpointInfo>,
     /// The moment from which on peers are looked at next.
     due_ms: u64,
     /// When it was said last that no descriptor is left for who connects.
     said: Ticks,
     /// What was asked and isn't answered yet.
-    asked: Asked,
+    asked: OpenQuestion,
     /// The lines of the answer so far; none once memory was wanting.
     lines: Option<String>,
     /// Which endpoints are present, by their numbers, as far as that was shown since it was asked.
@@ -58,7 +59,7 @@ pub struct Steering {
 
 /// What a peer wants.
 #[derive(Drop)]
-pub(crate) enum Wish {
+pub(crate) enum PeerRequest {
     /// The unit is to do it.
     Unit(Received),
     /// From now on what the unit takes in is to be written to this peer.
@@ -71,7 +72,7 @@ pub(crate) enum Wish {
 
 /// What a peer waits for.
 #[derive(Clone, Copy, Debug, PartialEq, Eq)]
-enum Asked {
+enum OpenQuestion {
     Nothing,
     Counts,
     Look(Look),
@@ -87,14 +88,14 @@ impl Steering {
     ghost use Rattle.std.specs.Prelude.{◌≡◌, None, IfOk, length, map, replicate};
     ghost use Rattle.ports.specs.Ticks.{new_ticks};
     ghost use Rattle.control_protocol.specs.declared.shortage.TheConstants.{SHORTAGE_EACH_MS};
-    ghost use Rattle.operations.specs.declared.steering.Asked.TheVariants.{Nothing};
+    ghost use Rattle.operations.specs.declared.steering.OpenQuestion.TheVariants.{Nothing};
 
     /// Steers a unit with these legs and these endpoints, by those who come to the listener.
     pub fn new(
         alloc: Global,
         listener: UnixListener,
         legs: Vec<LegLine>,
-        endpoints: Vec<Listed>,
+        endpoints: Vec<EndpointInfo>,
     ) -> Result<Steering, AllocError>
         ensures legs { IfOk result (λ s. s.legs ≡ legs) }
         ensures endpoints { IfOk result (λ s. s.endpoints ≡ endpoints) }
@@ -116,7 +117,7 @@ impl Steering {
             endpoints,
             due_ms: 0,
             said: Ticks::new(SHORTAGE_EACH_MS),
-            asked: Asked::Nothing,
+            asked: OpenQuestion::Nothing,
             lines: None,
             present: Vec::new(alloc),
             strangers: Strangers::new(alloc),
@@ -125,44 +126,44 @@ impl Steering {
     }
 
     /// What peers want by this moment of a unit that is being recorded or not. No peer is waited for.
-    pub(crate) fn receive(&mut self, moment: u64, is_recorded: bool) -> Wish {
-        if moment < self.due_ms || self.asked != Asked::Nothing {
-            return Wish::Unit(Received::Nothing);
+    pub(crate) fn receive(&mut self, moment: u64, is_recorded: bool) -> PeerRequest {
+        if moment < self.due_ms || self.asked != OpenQuestion::Nothing {
+            return PeerRequest::Unit(Received::Nothing);
         }
         self.due_ms = moment.saturating_add(LOOK_MS);
         if self.admit(moment) {
-            return Wish::SayShortage;
+            return PeerRequest::SayShortage;
         }
         let Some(request) = self.peers.next_request(moment) else {
-            return Wish::Unit(Received::Nothing);
+            return PeerRequest::Unit(Received::Nothing);
         };
         let endpoints = u16::try_from(self.endpoints.len()).unwrap_or(u16::MAX);
         let legs = u16::try_from(self.legs.len()).unwrap_or(u16::MAX);
-        match course_for(request, legs, endpoints, is_recorded) {
-            Course::Refuse(why) => self.refuse(why),
-            Course::Do(received) => {
+        match action_for(request, legs, endpoints, is_recorded) {
+            RequestAction::Refuse(why) => self.refuse(why),
+            RequestAction::Do(received) => {
                 self.note(received);
                 self.peers.answer(b"ok\n");
-                return Wish::Unit(received);
+                return PeerRequest::Unit(received);
             }
-            Course::Counts => self.begin(Asked::Counts),
-            Course::Look(look) => self.begin(Asked::Look(look)),
-            Course::Legs => self.begin(Asked::Legs),
-            Course::Metrics => self.begin(Asked::Metrics),
-            Course::Reports => self.begin(Asked::Reports),
-            Course::Refusals => self.begin(Asked::Refusals),
-            Course::Strangers => self.tell_strangers(moment),
-            Course::Record => {
+            RequestAction::Counts => self.begin(OpenQuestion::Counts),
+            RequestAction::Look(look) => self.begin(OpenQuestion::Look(look)),
+            RequestAction::Legs => self.begin(OpenQuestion::Legs),
+            RequestAction::Metrics => self.begin(OpenQuestion::Metrics),
+            RequestAction::Reports => self.begin(OpenQuestion::Reports),
+            RequestAction::Refusals => self.begin(OpenQuestion::Refusals),
+            RequestAction::Strangers => self.tell_strangers(moment),
+            RequestAction::Record => {
                 if let Some(peer) = self.peers.take_last() {
-                    return Wish::Record(peer);
+                    return PeerRequest::Record(peer);
                 }
             }
-            Course::EndRecord => {
+            RequestAction::EndRecord => {
                 self.peers.answer(b"ok\n");
-                return Wish::EndRecord;
+                return PeerRequest::EndRecord;
             }
         }
-        Wish::Unit(Received::Nothing)
+        PeerRequest::Unit(Received::Nothing)
     }
 
     /// The legs that are selected or not, unlike at the start.
@@ -207,12 +208,12 @@ impl Steering {
                     line.on = on;
                 }
             }
-            Received::Stop => self.begin(Asked::Stop),
+            Received::Stop => self.begin(OpenQuestion::Stop),
             Received::Nothing | Received::Datagram { .. } => {}
         }
     }
 
-    fn begin(&mut self, asked: Asked) {
+    fn begin(&mut self, asked: OpenQuestion) {
         self.asked = asked;
         self.lines = Some(String::new(self.alloc));
         self.present.clear();
@@ -243,7 +244,7 @@ impl Steering {
 
     /// Who came last of those who are nobody is told.
     fn tell_strangers(&mut self, moment: u64) {
-        self.begin(Asked::Nothing);
+        self.begin(OpenQuestion::Nothing);
         let text = strangers_text(self.alloc, &self.strangers, moment);
         self.push(text);
         self.answer();
@@ -258,16 +259,19 @@ impl Steering {
 
     /// Whether somebody waits for the totals.
     pub(crate) fn wants_counts(&self) -> bool {
-        self.asked == Asked::Counts
+        self.asked == OpenQuestion::Counts
     }
 
     /// What somebody wants to see of the room.
     pub(crate) fn look(&self) -> Look {
         match self.asked {
-            Asked::Look(look) => look,
-            Asked::Metrics | Asked::Reports | Asked::Refusals | Asked::Stop => Look::Presence,
-            Asked::Legs => Look::Stays,
-            Asked::Nothing | Asked::Counts => Look::Nothing,
+            OpenQuestion::Look(look) => look,
+            OpenQuestion::Metrics
+            | OpenQuestion::Reports
+            | OpenQuestion::Refusals
+            | OpenQuestion::Stop => Look::Presence,
+            OpenQuestion::Legs => Look::Stays,
+            OpenQuestion::Nothing | OpenQuestion::Counts => Look::Nothing,
         }
     }
 
@@ -288,7 +292,7 @@ impl Steering {
         traffic: &Traffic,
         moment: u64,
     ) {
-        if self.asked == Asked::Look(Look::Presence) {
+        if self.asked == OpenQuestion::Look(Look::Presence) {
             self.push_endpoint(endpoint, is_present, traffic, moment);
         } else {
             let _ = self.present.push(is_present);
@@ -298,7 +302,7 @@ impl Steering {
     /// The line of an endpoint.
     fn push_endpoint(&mut self, endpoint: u16, is_present: bool, traffic: &Traffic, moment: u64) {
         if let Some(listed) = self.endpoints.get(usize::from(endpoint)) {
-            let Listed { source, address } = *listed;
+            let EndpointInfo { source, address } = *listed;
             let (ago_ms, refused) = heard_of(traffic, endpoint, moment);
             let line = present_line(
                 self.alloc, endpoint, source, address, is_present, ago_ms, refused,
@@ -335,31 +339,35 @@ impl Steering {
         moment: u64,
     ) {
         match self.asked {
-            Asked::Stop => {}
-            Asked::Metrics => {
-                let text = metrics_text(self.alloc, self.present.as_slice(), traffic, unheard);
+            OpenQuestion::Stop => {}
+            OpenQuestion::Metrics => {
+                let present = self.present.as_slice();
+                let text = metrics_text(self.alloc, present, traffic, unheard, moment);
                 self.push(text);
                 let text = screened_metrics(self.alloc, self.flooded.as_slice(), screened);
                 self.push(text);
                 self.answer();
             }
-            Asked::Reports => {
+            OpenQuestion::Reports => {
                 let text = reports_text(self.alloc, self.legs.as_slice(), traffic, moment);
                 self.push(text);
                 self.answer();
             }
-            Asked::Refusals => {
+            OpenQuestion::Refusals => {
                 let text = refusals_text(self.alloc, traffic);
                 self.push(text);
                 self.answer();
             }
-            Asked::Nothing | Asked::Counts | Asked::Legs | Asked::Look(_) => self.answer(),
+            OpenQuestion::Nothing
+            | OpenQuestion::Counts
+            | OpenQuestion::Legs
+            | OpenQuestion::Look(_) => self.answer(),
         }
     }
 
     /// Which endpoints were present when the unit was stopped; `None` if nobody has stopped it.
     pub(crate) fn take_present(&mut self) -> Option<Vec<bool>> {
-        if self.asked != Asked::Stop {
+        if self.asked != OpenQuestion::Stop {
             return None;
         }
         Some(std::mem::replace(&mut self.present, Vec::new(self.alloc)))
@@ -367,7 +375,7 @@ impl Steering {
 
     /// All lines are there: who asked is answered.
     fn answer(&mut self) {
-        self.asked = Asked::Nothing;
+        self.asked = OpenQuestion::Nothing;
         match self.lines.take() {
             Some(lines) => match done_text(self.alloc, lines.as_str()) {
                 Ok(text) => self.peers.answer(text.as_bytes()),
@@ -406,12 +414,13 @@ fn heard_of(traffic: &Traffic, endpoint: u16, moment: u64) -> (Option<u64>, u64)
     }
 }
 
-/// The counts of a unit as metrics.
+/// The counts of a unit, and what reports say at this moment, as metrics.
 fn metrics_text(
     alloc: Global,
     present: &[bool],
     traffic: &Traffic,
     unheard: &Unheard,
+    moment: u64,
 ) -> Result<String, AllocError> {
     let mut text = String::new(alloc);
     let mut samples = Vec::new(alloc);
@@ -430,17 +439,22 @@ fn metrics_text(
     let endpoints = traffic.endpoints(alloc)?;
     let legs = traffic.legs(alloc)?;
     push_figures(alloc, &mut text, endpoints.as_slice(), legs.as_slice())?;
-    push_reports(alloc, &mut text, traffic)?;
+    push_reports(alloc, &mut text, traffic, moment)?;
     push_refusal_figures(&mut text, traffic.refusals(alloc)?.as_slice())?;
     push_unheard(&mut text, unheard)?;
     Ok(text)
 }
 
-/// What reports say as metrics.
-fn push_reports(alloc: Global, text: &mut String, traffic: &Traffic) -> Result<(), AllocError> {
-    let legs = traffic.leg_reports(alloc)?;
-    let publishers = traffic.publisher_reports(alloc)?;
-    push_report_figures(text, legs.as_slice(), publishers.as_slice())
+/// What reports say that are shown at this moment, as metrics.
+fn push_reports(
+    alloc: Global,
+    text: &mut String,
+    traffic: &Traffic,
+    moment: u64,
+) -> Result<(), AllocError> {
+    let legs = traffic.leg_reports(alloc, moment)?;
+    let publishers = traffic.publisher_reports(alloc, moment)?;
+    push_report_figures(text, legs.as_slice(), publishers.as_slice(), moment)
 }
 
 /// What was refused of what came: a line for each endpoint and reason.
@@ -451,7 +465,7 @@ fn refusals_text(alloc: Global, traffic: &Traffic) -> Result<String, AllocError>
     Ok(text)
 }
 
-/// What reports say, at this moment: a line for each leg that was reported on, then one for each publisher.
+/// What reports say that are shown at this moment: a line for each leg that was reported on, then one for each publisher.
 fn reports_text(
     alloc: Global,
     legs: &[LegLine],
@@ -472,9 +486,10 @@ fn push_leg_reports(
     traffic: &Traffic,
     moment: u64,
 ) -> Result<(), AllocError> {
-    for line in legs {
-        if let Some(report) = traffic.leg_report(line.leg) {
-            let told = leg_report_line(alloc, *line, &report, moment)?;
+    let reports = traffic.leg_reports(alloc, moment)?;
+    for numbered in reports.iter() {
+        if let Some(line) = legs.get(usize::from(numbered.number)) {
+            let told = leg_report_line(alloc, *line, &numbered.report, moment)?;
             text.push_str(told.as_str())?;
         }
     }
@@ -488,7 +503,7 @@ fn push_publisher_reports(
     traffic: &Traffic,
     moment: u64,
 ) -> Result<(), AllocError> {
-    let reports = traffic.publisher_reports(alloc)?;
+    let reports = traffic.publisher_reports(alloc, moment)?;
     for numbered in reports.iter() {
         let told = publisher_report_line(alloc, numbered.number, &numbered.report, moment)?;
         text.push_str(told.as_str())?;

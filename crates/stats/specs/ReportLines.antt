@@ -1,8 +1,9 @@
 -- The lines of reports for people.
-use Rattle.std.specs.Prelude.{ℕ, ◌++◌, ◌-◌, List, Option, None, Some, codes}
+use Rattle.std.specs.Prelude.{ℕ, ◌++◌, List, Option, None, Some, codes}
 use Rattle.std.specs.Fmt.{decimal, signed_decimal}
 use Rattle.stats.specs.declared.lines.LegLine.{LegLine}
 use Rattle.stats.specs.declared.reports.ReceptionReport.{ReceptionReport}
+use Rattle.stats.specs.Reports.{age_of}
 
 -- the share lost in 256ths, the packets lost, and the jitter in units of the RTP timestamp
 abbrev pub reception_part : ReceptionReport → List ℕ
@@ -17,7 +18,7 @@ trip_part (Some trip) = codes " round_trip_ms " ++ decimal trip
 
 -- how long before this moment the report passed
 abbrev pub ago_part : ReceptionReport → ℕ → List ℕ
-ago_part r moment = decimal (moment - r.moment) ++ codes " ms ago\n"
+ago_part r moment = decimal (age_of r moment) ++ codes " ms ago\n"
 
 -- which leg, between whom
 abbrev pub reported_leg : LegLine → List ℕ

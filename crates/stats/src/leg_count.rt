@@ -15,7 +15,7 @@ pub struct LegCount {
     pub octets: u64,
     /// How many of the packets had gone out before.
     pub resent: u64,
-    /// How many packets were asked for again and weren't kept any more.
+    /// How many NACKed packets weren't kept any more.
     pub missed: u64,
     /// How many packets of the publisher weren't sent on, since they were too old for the leg, or its numbers are spent.
     pub skipped: u64,

@@ -2,7 +2,8 @@
 //! Prometheus.
 //!
 //! Read `traffic` first, the counts that threads raise, in `cells`. It stands on `endpoint_count` and `leg_count`, what was counted of an endpoint and on a leg, and
-//! `reports`, what report blocks say; `report_cells` is where threads leave that. `refusals` says why what came was refused,
+//! `reports`, what report blocks say, and how long that is shown; `report_cells` is where threads leave it, `numbered_report` what is shown
+//! of it. `refusals` says why what came was refused,
 //! `refusal_cells` is where threads count it. `lines`, `report_lines` and `refusal_texts` are texts for people, `metrics` those for
 //! Prometheus, `figures` and `report_figures` which metrics there are.
 #![tactic(auto)]
@@ -13,6 +14,7 @@ mod figures;
 mod leg_count;
 mod lines;
 mod metrics;
+mod numbered_report;
 mod refusal_cells;
 mod refusal_texts;
 mod refusals;
@@ -27,9 +29,10 @@ pub use figures::{EndpointFigure, LegFigure, Numbered, push_figures};
 pub use leg_count::LegCount;
 pub use lines::{LegLine, leg_line};
 pub use metrics::{Metric, MetricType, Sample, push_metric};
+pub use numbered_report::NumberedReport;
 pub use refusal_texts::{push_refusal_figures, push_refusal_lines};
 pub use refusals::RefusedCount;
-pub use report_figures::{NumberedReport, Reading, ReportFigure, push_report_figures};
+pub use report_figures::{MetricValue, ReportFigure, push_report_figures};
 pub use report_lines::{leg_report_line, publisher_report_line};
-pub use reports::{ReceptionReport, SentReport};
+pub use reports::{ReceptionReport, SHOWN_MS, SentReport};
 pub use traffic::Traffic;

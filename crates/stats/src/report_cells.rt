@@ -14,6 +14,7 @@ pub(crate) struct ReportCells {
     after_trip_ms: AtomicU64,
     /// One more than the moment; 0 before the first report.
     after_ms: AtomicU64,
+    interval_ms: AtomicU64,
 }
 
 impl ReportCells {
@@ -24,6 +25,7 @@ impl ReportCells {
             jitter: AtomicU32::new(0),
             after_trip_ms: AtomicU64::new(0),
             after_ms: AtomicU64::new(0),
+            interval_ms: AtomicU64::new(0),
         }
     }
 
@@ -36,6 +38,7 @@ impl ReportCells {
             jitter: self.jitter.load(Ordering::SeqCst),
             round_trip_ms: word_before(self.after_trip_ms.load(Ordering::SeqCst)),
             moment,
+            interval_ms: self.interval_ms.load(Ordering::SeqCst),
         })
     }
 
@@ -45,14 +48,22 @@ impl ReportCells {
         clear(&self.after_ms);
     }
 
-    /// Notes what this block says, at this moment; `sent` is the last sender report of the stream.
-    pub(crate) fn note(&self, block: &Block, sent: Option<SentReport>, moment: u64) {
-        let report = ReceptionReport::after(self.seen(), block, sent, moment);
+    /// Notes what this block says, at this moment; `sent` is the last sender report of the stream, and such reports are `each_ms`
+    /// milliseconds apart, if that is known beforehand.
+    pub(crate) fn note(
+        &self,
+        block: &Block,
+        sent: Option<SentReport>,
+        each_ms: Option<u64>,
+        moment: u64,
+    ) {
+        let report = ReceptionReport::after(self.seen(), block, sent, each_ms, moment);
         self.fraction.store(report.fraction, Ordering::SeqCst);
         self.lost.store(report.lost, Ordering::SeqCst);
         self.jitter.store(report.jitter, Ordering::SeqCst);
         self.after_trip_ms
             .store(word_after(report.round_trip_ms), Ordering::SeqCst);
+        self.interval_ms.store(report.interval_ms, Ordering::SeqCst);
         self.after_ms
             .store(report.moment.saturating_add(1), Ordering::SeqCst);
     }

@@ -2,10 +2,11 @@
 
 ghost use Rattle.std.specs.Prelude.{◌≡◌, ◌++◌, flat_map, option_map, OnOk};
 ghost use Rattle.std.specs.String.{string_bytes};
-ghost use Rattle.stats.specs.ReportFigures.{four_digits, ratio_text, reading_line, reading_of, reading_start, reading_text, report_figure_help, report_figure_label, report_figure_name, report_figure_text, report_figures_text, report_line, seconds_text, three_digits};
-ghost use Rattle.stats.specs.declared.report_figures.Reading.TheVariants.{Milliseconds};
+ghost use Rattle.stats.specs.ReportFigures.{four_digits, ratio_text, metric_value_line, metric_value_of, reading_start, metric_value_text, report_figure_help, report_figure_label, report_figure_name, report_figure_text, report_figures_text, report_line, seconds_text, three_digits};
+ghost use Rattle.stats.specs.declared.report_figures.MetricValue.TheVariants.{Milliseconds};
 
 use crate::metrics::{Metric, MetricType, push_help, push_type};
+use crate::numbered_report::NumberedReport;
 use crate::reports::ReceptionReport;
 use std::alloc::AllocError;
 
@@ -16,14 +17,16 @@ pub enum ReportFigure {
     LegLostPackets,
     LegJitter,
     LegRoundTrip,
+    LegReportAge,
     PublisherLossRatio,
     PublisherLostPackets,
     PublisherJitter,
+    PublisherReportAge,
 }
 
 /// A value of a figure.
 #[derive(Clone, Copy, Debug, PartialEq, Eq)]
-pub enum Reading {
+pub enum MetricValue {
     /// So many 256ths of 1.
     Parts(u8),
     /// So many packets; below 0 if more came than were expected.
@@ -31,44 +34,43 @@ pub enum Reading {
     /// So many units of the RTP timestamp.
     Units(u32),
     /// So many milliseconds, told in seconds.
-    Milliseconds(u32),
-}
-
-/// What was last reported of the leg, or of the publisher, with this number.
-#[derive(Clone, Copy, PartialEq, Eq)]
-pub struct NumberedReport {
-    pub number: u16,
-    pub report: ReceptionReport,
+    Milliseconds(u64),
 }
 
 /// The figures of a leg, in the order in which they are told.
-const LEG_FIGURES: [ReportFigure; 4] = [
+const LEG_FIGURES: [ReportFigure; 5] = [
     ReportFigure::LegLossRatio,
     ReportFigure::LegLostPackets,
     ReportFigure::LegJitter,
     ReportFigure::LegRoundTrip,
+    ReportFigure::LegReportAge,
 ];
 
 /// Those of a publisher.
-const PUBLISHER_FIGURES: [ReportFigure; 3] = [
+const PUBLISHER_FIGURES: [ReportFigure; 4] = [
     ReportFigure::PublisherLossRatio,
     ReportFigure::PublisherLostPackets,
     ReportFigure::PublisherJitter,
+    ReportFigure::PublisherReportAge,
 ];
 
 impl ReportFigure {
-    /// What it is by this report; `None` if the report doesn't say it.
-    pub fn of(self, report: &ReceptionReport) -> Option<Reading>
-        ensures { result ≡ reading_of self report.now }
+    /// What it is by this report, at this moment; `None` if the report doesn't say it.
+    pub fn of(self, report: &ReceptionReport, moment: u64) -> Option<MetricValue>
+        ensures { result ≡ metric_value_of self report.now moment }
     {
         match self {
-            ReportFigure::LegLossRatio => Some(Reading::Parts(report.fraction)),
-            ReportFigure::LegLostPackets => Some(Reading::Packets(report.lost)),
-            ReportFigure::LegJitter => Some(Reading::Units(report.jitter)),
-            ReportFigure::LegRoundTrip => trip_reading(report.round_trip_ms),
-            ReportFigure::PublisherLossRatio => Some(Reading::Parts(report.fraction)),
-            ReportFigure::PublisherLostPackets => Some(Reading::Packets(report.lost)),
-            ReportFigure::PublisherJitter => Some(Reading::Units(report.jitter)),
+            ReportFigure::LegLossRatio => Some(MetricValue::Parts(report.fraction)),
+            ReportFigure::LegLostPackets => Some(MetricValue::Packets(report.lost)),
+            ReportFigure::LegJitter => Some(MetricValue::Units(report.jitter)),
+            ReportFigure::LegRoundTrip => trip_value(report.round_trip_ms),
+            ReportFigure::LegReportAge => Some(MetricValue::Milliseconds(report.age_ms(moment))),
+            ReportFigure::PublisherLossRatio => Some(MetricValue::Parts(report.fraction)),
+            ReportFigure::PublisherLostPackets => Some(MetricValue::Packets(report.lost)),
+            ReportFigure::PublisherJitter => Some(MetricValue::Units(report.jitter)),
+            ReportFigure::PublisherReportAge => Some(MetricValue::Milliseconds(report.age_ms(
+                moment,
+            ))),
         }
     }
 
@@ -81,9 +83,11 @@ impl ReportFigure {
             ReportFigure::LegLostPackets => "sfu_leg_reported_lost_packets",
             ReportFigure::LegJitter => "sfu_leg_reported_jitter_timestamp_units",
             ReportFigure::LegRoundTrip => "sfu_leg_round_trip_seconds",
+            ReportFigure::LegReportAge => "sfu_leg_report_age_seconds",
             ReportFigure::PublisherLossRatio => "sfu_publisher_reported_loss_ratio",
             ReportFigure::PublisherLostPackets => "sfu_publisher_reported_lost_packets",
             ReportFigure::PublisherJitter => "sfu_publisher_reported_jitter_timestamp_units",
+            ReportFigure::PublisherReportAge => "sfu_publisher_report_age_seconds",
         }
     }
 
@@ -98,11 +102,13 @@ impl ReportFigure {
             ReportFigure::LegLostPackets => "The packets lost that the subscriber reported last.",
             ReportFigure::LegJitter => "The jitter that the subscriber reported last.",
             ReportFigure::LegRoundTrip => "The round trip to the subscriber, by its reports.",
+            ReportFigure::LegReportAge => "How long ago the subscriber reported last.",
             ReportFigure::PublisherLossRatio => {
                 "The share of packets lost that the unit reported last."
             }
             ReportFigure::PublisherLostPackets => "The packets lost that the unit reported last.",
             ReportFigure::PublisherJitter => "The jitter that the unit reported last.",
+            ReportFigure::PublisherReportAge => "How long ago the unit reported last.",
         }
     }
 
@@ -115,35 +121,38 @@ impl ReportFigure {
             ReportFigure::LegLostPackets => "leg",
             ReportFigure::LegJitter => "leg",
             ReportFigure::LegRoundTrip => "leg",
+            ReportFigure::LegReportAge => "leg",
             ReportFigure::PublisherLossRatio => "endpoint",
             ReportFigure::PublisherLostPackets => "endpoint",
             ReportFigure::PublisherJitter => "endpoint",
+            ReportFigure::PublisherReportAge => "endpoint",
         }
     }
 }
 
 /// A round trip as a value.
-fn trip_reading(trip_ms: Option<u32>) -> Option<Reading>
+fn trip_value(trip_ms: Option<u32>) -> Option<MetricValue>
     ensures { result ≡ option_map Milliseconds trip_ms }
 {
     match trip_ms {
-        Some(trip) => Some(Reading::Milliseconds(trip)),
+        Some(trip) => Some(MetricValue::Milliseconds(u64::from(trip))),
         None => None,
     }
 }
 
-/// Appends every figure of these reports as a metric: what subscribers report of legs, and what the unit reports of publishers. Refused for
-/// want of memory alone; then part of them may stand there.
+/// Appends every figure of these reports, at this moment, as a metric: what subscribers report of legs, and what the unit reports of
+/// publishers. Refused for want of memory alone; then part of them may stand there.
 pub fn push_report_figures(
     text: &mut String,
     legs: &[NumberedReport],
     publishers: &[NumberedReport],
+    moment: u64,
 ) -> Result<(), AllocError>
     ensures { OnOk result (string_bytes text.new
-        ≡ string_bytes text.old ++ report_figures_text legs.now publishers.now) }
+        ≡ string_bytes text.old ++ report_figures_text moment legs.now publishers.now) }
 {
-    push_each_figure(text, &LEG_FIGURES, legs)?;
-    push_each_figure(text, &PUBLISHER_FIGURES, publishers)
+    push_each_figure(text, &LEG_FIGURES, legs, moment)?;
+    push_each_figure(text, &PUBLISHER_FIGURES, publishers, moment)
 }
 
 /// These figures of these reports.
@@ -151,12 +160,13 @@ fn push_each_figure(
     text: &mut String,
     figures: &[ReportFigure],
     reports: &[NumberedReport],
+    moment: u64,
 ) -> Result<(), AllocError>
     ensures { OnOk result (string_bytes text.new ≡ string_bytes text.old
-        ++ flat_map (λ f. report_figure_text f reports.now) figures.now) }
+        ++ flat_map (λ f. report_figure_text f moment reports.now) figures.now) }
 {
     for figure in figures {
-        push_figure(text, *figure, reports)?;
+        push_figure(text, *figure, reports, moment)?;
     }
     Ok(())
 }
@@ -166,9 +176,10 @@ fn push_figure(
     text: &mut String,
     figure: ReportFigure,
     reports: &[NumberedReport],
+    moment: u64,
 ) -> Result<(), AllocError>
     ensures { OnOk result (string_bytes text.new
-        ≡ string_bytes text.old ++ report_figure_text figure reports.now) }
+        ≡ string_bytes text.old ++ report_figure_text figure moment reports.now) }
 {
     let metric = Metric {
         name: figure.name(),
@@ -177,7 +188,7 @@ fn push_figure(
     };
     push_help(text, &metric)?;
     push_type(text, &metric)?;
-    push_readings(text, figure, reports)
+    push_readings(text, figure, reports, moment)
 }
 
 /// Its values.
@@ -185,12 +196,14 @@ fn push_readings(
     text: &mut String,
     figure: ReportFigure,
     reports: &[NumberedReport],
+    moment: u64,
 ) -> Result<(), AllocError>
     ensures { OnOk result (string_bytes text.new
-        ≡ string_bytes text.old ++ flat_map (report_line figure) reports.now) }
+        ≡ string_bytes text.old ++ flat_map (report_line figure moment) reports.now) }
 {
     for numbered in reports {
-        push_line(text, figure, numbered.number, figure.of(&numbered.report))?;
+        let reading = figure.of(&numbered.report, moment);
+        push_line(text, figure, numbered.number, reading)?;
     }
     Ok(())
 }
@@ -200,15 +213,15 @@ fn push_line(
     text: &mut String,
     figure: ReportFigure,
     number: u16,
-    reading: Option<Reading>,
+    reading: Option<MetricValue>,
 ) -> Result<(), AllocError>
     ensures { OnOk result (string_bytes text.new
-        ≡ string_bytes text.old ++ reading_line figure number reading) }
+        ≡ string_bytes text.old ++ metric_value_line figure number reading) }
 {
     match reading {
         Some(reading) => {
             push_start(text, figure, number)?;
-            push_reading(text, reading)?;
+            push_metric_value(text, reading)?;
             text.push_str("\n")
         }
         None => Ok(()),
@@ -229,15 +242,15 @@ fn push_start(text: &mut String, figure: ReportFigure, number: u16) -> Result<()
 }
 
 /// A value.
-fn push_reading(text: &mut String, reading: Reading) -> Result<(), AllocError>
+fn push_metric_value(text: &mut String, reading: MetricValue) -> Result<(), AllocError>
     ensures { OnOk result
-        (string_bytes text.new ≡ string_bytes text.old ++ reading_text reading) }
+        (string_bytes text.new ≡ string_bytes text.old ++ metric_value_text reading) }
 {
     match reading {
-        Reading::Parts(parts) => push_ratio(text, parts),
-        Reading::Packets(packets) => write!(text, "{packets}"),
-        Reading::Units(units) => write!(text, "{units}"),
-        Reading::Milliseconds(ms) => push_seconds(text, ms),
+        MetricValue::Parts(parts) => push_ratio(text, parts),
+        MetricValue::Packets(packets) => write!(text, "{packets}"),
+        MetricValue::Units(units) => write!(text, "{units}"),
+        MetricValue::Milliseconds(ms) => push_seconds(text, ms),
     }
 }
 
@@ -252,7 +265,7 @@ fn push_ratio(text: &mut String, parts: u8) -> Result<(), AllocError>
 }
 
 /// So many milliseconds in seconds.
-fn push_seconds(text: &mut String, ms: u32) -> Result<(), AllocError>
+fn push_seconds(text: &mut String, ms: u64) -> Result<(), AllocError>
     ensures { OnOk result (string_bytes text.new ≡ string_bytes text.old ++ seconds_text ms) }
 {
     write!(text, "{}.", ms / 1000)?;
@@ -264,11 +277,11 @@ fn push_four(text: &mut String, number: u32) -> Result<(), AllocError>
     ensures { OnOk result (string_bytes text.new ≡ string_bytes text.old ++ four_digits number) }
 {
     write!(text, "{}", number / 1000 % 10)?;
-    push_three(text, number)
+    push_three(text, u64::from(number))
 }
 
 /// The last three digits of a number.
-fn push_three(text: &mut String, number: u32) -> Result<(), AllocError>
+fn push_three(text: &mut String, number: u64) -> Result<(), AllocError>
     ensures { OnOk result (string_bytes text.new ≡ string_bytes text.old ++ three_digits number) }
 {
     write!(

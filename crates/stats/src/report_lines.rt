@@ -8,8 +8,8 @@ use crate::lines::LegLine;
 use crate::reports::ReceptionReport;
 use std::alloc::{AllocError, Global};
 
-/// The line of what the subscriber of this leg reported, at this moment: the loss, the jitter, the round trip if it is known, and how many
-/// milliseconds ago that was. Refused for want of memory alone.
+/// The line of what the subscriber of this leg reported: the loss, the jitter, the round trip if it is known, and how many milliseconds before
+/// this moment that was. Refused for want of memory alone.
 pub fn leg_report_line(
     alloc: Global,
     line: LegLine,
@@ -26,7 +26,7 @@ pub fn leg_report_line(
     Ok(text)
 }
 
-/// The line of what the unit reported to this publisher, at this moment: the loss, the jitter, and how many milliseconds ago that was. Refused
+/// The line of what the unit reported to this publisher: the loss, the jitter, and how many milliseconds before this moment that was. Refused
 /// for want of memory alone.
 pub fn publisher_report_line(
     alloc: Global,
@@ -81,6 +81,6 @@ fn push_ago(text: &mut String, report: &ReceptionReport, moment: u64) -> Result<
     ensures { OnOk result
         (string_bytes text.new ≡ string_bytes text.old ++ ago_part report.now moment) }
 {
-    let ago_ms = moment.saturating_sub(report.moment);
+    let ago_ms = report.age_ms(moment);
     write!(text, "{ago_ms} ms ago\n")
 }

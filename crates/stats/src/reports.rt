@@ -2,9 +2,12 @@
 
 ghost use Rattle.std.specs.Prelude.{◌≡◌};
 ghost use Rattle.rtcp_compound.specs.Report.{block_of};
-ghost use Rattle.stats.specs.Reports.{held_ms, lsr_of, newer_trip, round_trip, trip_by, trip_in};
+ghost use Rattle.stats.specs.Reports.{held_ms, interval_after, lsr_of, newer_trip, round_trip, shown_for, trip_by, trip_in};
 
 use rtcp_compound::Block;
+
+/// So many milliseconds a report is shown at least.
+pub const SHOWN_MS: u64 = 15_000;
 
 /// So many values has a word of 32 bits.
 pub(crate) const WORD_VALUES: u64 = 1 << 32;
@@ -31,22 +34,25 @@ pub struct ReceptionReport {
     pub round_trip_ms: Option<u32>,
     /// When the report passed, in milliseconds.
     pub moment: u64,
+    /// How many milliseconds lie between two such reports: between the last two, or as the unit makes its own. 0 if there was one alone.
+    pub interval_ms: u64,
 }
 
 impl ReceptionReport {
     ghost use Rattle.std.specs.Prelude.{◌≡◌};
     ghost use Rattle.rtcp_compound.specs.Report.{block_of};
-    ghost use Rattle.stats.specs.Reports.{report_after};
+    ghost use Rattle.stats.specs.Reports.{age_of, is_shown, report_after};
 
     /// What is known after this block, which passes at this moment, if `before` was known, and `sent` is the last sender report that was
-    /// sent on the stream.
+    /// sent on the stream. Such reports are `each_ms` milliseconds apart, or `None` if that has to be seen.
     pub fn after(
         before: Option<ReceptionReport>,
         block: &Block,
         sent: Option<SentReport>,
+        each_ms: Option<u64>,
         moment: u64,
     ) -> ReceptionReport
-        ensures { result ≡ report_after before (block_of block.now) sent moment }
+        ensures { result ≡ report_after before (block_of block.now) sent each_ms moment }
     {
         ReceptionReport {
             fraction: block.fraction,
@@ -54,7 +60,42 @@ impl ReceptionReport {
             jitter: block.jitter,
             round_trip_ms: newer_trip(trip_by(sent, block, moment), trip_in(before)),
             moment,
+            interval_ms: interval_after(each_ms, before, moment),
         }
+    }
+
+    /// How many milliseconds before this moment the report passed.
+    pub fn age_ms(&self, moment: u64) -> u64
+        ensures { result ≡ age_of self.now moment }
+    {
+        moment.saturating_sub(self.moment)
+    }
+
+    /// Whether the report is still shown at this moment: for three of its intervals, and for `SHOWN_MS` at least.
+    pub fn is_shown(&self, moment: u64) -> bool
+        ensures { result ≡ is_shown self.now moment }
+    {
+        u128::from(self.age_ms(moment)) <= shown_for(self)
+    }
+}
+
+/// For how many milliseconds a report is shown.
+fn shown_for(report: &ReceptionReport) -> u128
+    ensures { result ≡ shown_for report.now }
+{
+    u128::from(SHOWN_MS).max(3 * u128::from(report.interval_ms))
+}
+
+/// How many milliseconds lie between two reports, if one passes at this moment: so many, or since the one before.
+fn interval_after(each_ms: Option<u64>, before: Option<ReceptionReport>, moment: u64) -> u64
+    ensures { result ≡ interval_after each_ms before moment }
+{
+    match each_ms {
+        Some(each_ms) => each_ms,
+        None => match before {
+            Some(report) => report.age_ms(moment),
+            None => 0,
+        },
     }
 }
 

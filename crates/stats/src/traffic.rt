@@ -4,9 +4,9 @@ use crate::cells::{EndpointCells, LegCells, add, endpoint_cells, leg_cells};
 use crate::endpoint_count::EndpointCount;
 use crate::figures::Numbered;
 use crate::leg_count::LegCount;
+use crate::numbered_report::{NumberedReport, push_shown};
 use crate::refusal_cells::RefusalCells;
 use crate::refusals::RefusedCount;
-use crate::report_figures::NumberedReport;
 use crate::reports::{ReceptionReport, SentReport, WORD_VALUES, lsr_of};
 use datagram::{Notes, blocks_of, kinds_of};
 use events::Refusal;
@@ -23,6 +23,8 @@ use tmmbr_tuple::Ssrc;
 pub struct Traffic {
     /// The moment of the last turn, in milliseconds.
     moment_ms: AtomicU64,
+    /// How many milliseconds lie between two reports of the unit.
+    report_ms: u64,
     endpoints: Vec<EndpointCells>,
     /// What was refused of no datagram.
     refused: RefusalCells,
@@ -34,6 +36,7 @@ pub struct Traffic {
 impl Traffic {
     ghost use Rattle.std.specs.Prelude.{◌≡◌, ◌≤◌, ◌<◌, length, vec_len, IfOk, IfSome, MatchOption};
     ghost use Rattle.stats.specs.Refusals.{AreCounted};
+    ghost use Rattle.stats.specs.Reports.{AreShown};
 
     /// Nothing came or went yet in a unit of these settings. Refused for want of memory alone.
     pub fn new(alloc: Global, settings: &Settings) -> Result<Traffic, AllocError>
@@ -43,6 +46,7 @@ impl Traffic {
     {
         Ok(Traffic {
             moment_ms: AtomicU64::new(0),
+            report_ms: settings.report_ms(),
             endpoints: endpoint_cells(alloc, settings.endpoints())?,
             refused: RefusalCells::new(),
             legs: leg_cells(alloc, settings.legs())?,
@@ -82,7 +86,8 @@ impl Traffic {
         if let Some(cells) = self.cells_by(block.source) {
             if cells.subscriber == endpoint {
                 let moment = self.moment_ms.load(Ordering::SeqCst);
-                cells.reported.note(block, cells.sent_report.seen(), moment);
+                let sent = cells.sent_report.seen();
+                cells.reported.note(block, sent, None, moment);
             }
         }
     }
@@ -124,7 +129,8 @@ impl Traffic {
             if let Some(blocks) = blocks_of(packet) {
                 for block in blocks {
                     if block.source == cells.source {
-                        cells.reported.note(&block, None, moment);
+                        let each_ms = Some(self.report_ms);
+                        cells.reported.note(&block, None, each_ms, moment);
                     }
                 }
             }
@@ -166,7 +172,7 @@ impl Traffic {
         self.legs.get(usize::from(*leg))
     }
 
-    /// A packet was asked for again on this leg, and isn't kept any more.
+    /// A packet was NACKed on this leg, and isn't kept any more.
     pub fn missed(&self, leg: u16) {
         if let Some(cells) = self.legs.get(usize::from(leg)) {
             add(&cells.missed, 1);
@@ -228,28 +234,32 @@ impl Traffic {
         self.endpoints.get(usize::from(endpoint))?.reported.seen()
     }
 
-    /// What was reported last of each leg of which anything was, by rising number.
-    pub fn leg_reports(&self, alloc: Global) -> Result<Vec<NumberedReport>, AllocError>
-        ensures { IfOk result (λ all. length all.items ≤ vec_len self.now.legs) }
+    /// What subscribers reported last of each leg, by rising number, as far as it is still shown at this moment.
+    pub fn leg_reports(&self, alloc: Global, moment: u64) -> Result<Vec<NumberedReport>, AllocError>
+        ensures few { IfOk result (λ all. length all.items ≤ vec_len self.now.legs) }
+        ensures shown { IfOk result (λ all. AreShown all.items moment) }
     {
         let mut all = Vec::new(alloc);
         for number in 0..self.legs.len() {
-            if let Some(report) = self.legs[number].reported.seen() {
-                all.push(numbered(number, report))?;
-            }
+            let report = self.legs[number].reported.seen();
+            push_shown(&mut all, number_of(number), report, moment)?;
         }
         Ok(all)
     }
 
-    /// What the unit reported last of each endpoint of which it reported anything, by rising number.
-    pub fn publisher_reports(&self, alloc: Global) -> Result<Vec<NumberedReport>, AllocError>
-        ensures { IfOk result (λ all. length all.items ≤ vec_len self.now.endpoints) }
+    /// What the unit reported last of each endpoint, by rising number, as far as it is still shown at this moment.
+    pub fn publisher_reports(
+        &self,
+        alloc: Global,
+        moment: u64,
+    ) -> Result<Vec<NumberedReport>, AllocError>
+        ensures few { IfOk result (λ all. length all.items ≤ vec_len self.now.endpoints) }
+        ensures shown { IfOk result (λ all. AreShown all.items moment) }
     {
         let mut all = Vec::new(alloc);
         for place in 0..self.endpoints.len() {
-            if let Some(report) = self.endpoints[place].reported.seen() {
-                all.push(numbered(place, report))?;
-            }
+            let report = self.endpoints[place].reported.seen();
+            push_shown(&mut all, number_of(place), report, moment)?;
         }
         Ok(all)
     }
@@ -268,8 +278,8 @@ impl Traffic {
         Ok(all)
     }
 
-    /// How often each reason refused what came of each endpoint, and then of no datagram, of those that did; by the endpoint, by what
-    /// refuses, and by the reason's number, each rising.
+    /// How often each reason refused what came of each endpoint, then what no datagram led to; reasons that never did are left out. They rise by
+    /// endpoint, by what refuses, and by the reason's number.
     pub fn refusals(&self, alloc: Global) -> Result<Vec<RefusedCount>, AllocError>
         ensures { IfOk result (λ all. AreCounted all.items) }
     {
@@ -299,12 +309,9 @@ impl Traffic {
     }
 }
 
-/// A report, of the leg or endpoint with this number.
-fn numbered(number: usize, report: ReceptionReport) -> NumberedReport {
-    NumberedReport {
-        number: u16::try_from(number).unwrap_or(u16::MAX),
-        report,
-    }
+/// The number of the leg or endpoint at this place.
+fn number_of(place: usize) -> u16 {
+    u16::try_from(place).unwrap_or(u16::MAX)
 }
 
 /// How many bytes these are.

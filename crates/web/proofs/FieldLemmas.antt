@@ -3,7 +3,7 @@ use Rattle.std.proofs.Common.{◌≡◌, ◌∙◌, ◌++◌, List, Option, Resu
 use Rattle.std.specs.Prelude.{OnOk}
 use Rattle.http1.specs.Fields.{Header}
 use Rattle.http_server.specs.declared.response.Response.{Response}
-use Rattle.web.specs.declared.answer.Asked.{Asked}
+use Rattle.web.specs.declared.answer.Target.{Target}
 use Rattle.web.specs.declared.said.Said.{Said}
 use Rattle.web.specs.Answers.{Seen, IsAnswer}
 use Rattle.web.specs.Told.{IsSent, Tells}
@@ -14,7 +14,7 @@ two_more r a b c x y first second =
     subst (λ (t : List Header). OnOk r (c ≡ t)) (ap (λ (l : List Header). l ++ y) first ∙ append_assoc a x y) second
 
 -- an answer that is sent is told
-pub told : {E : Type 0} (r : Result (Unit {0}) E) (asked : Asked) (said : Option Said) (seen : Seen) (response : Response)
+pub told : {E : Type 0} (r : Result (Unit {0}) E) (asked : Target) (said : Option Said) (seen : Seen) (response : Response)
     → IsAnswer asked said seen → OnOk r (IsSent seen response) → OnOk r (Tells asked said response)
 told (Ok u) asked said seen response a s = (seen, a, s)
 told (Err e) asked said seen response a s = tt

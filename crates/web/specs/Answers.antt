@@ -3,8 +3,8 @@ use Rattle.std.specs.Prelude.{◌≡◌, ◌^◌, ◌||◌, ℕ, List, Option, N
 use Rattle.std.specs.Str.{bytes_eq}
 use Rattle.json.specs.Print.{print}
 use Rattle.web.specs.declared.answer.Answer.{Answer}
-use Rattle.web.specs.declared.answer.Asked.{Asked}
-use Rattle.web.specs.declared.answer.Asked.TheVariants as asked
+use Rattle.web.specs.declared.answer.Target.{Target}
+use Rattle.web.specs.declared.answer.Target.TheVariants as asked
 use Rattle.web.specs.declared.answer.Kind.{Kind}
 use Rattle.web.specs.declared.answer.Kind.TheVariants as kind
 use Rattle.web.specs.declared.answer.Verdict.{Verdict}
@@ -26,11 +26,11 @@ picture_number path =
     option_and_then (λ rest. option_and_then (number_under (2 ^ 16)) (without_end (codes ".svg") rest))
     (without_start (codes "/publishers/") path)
 
-abbrev pub picture_place : Option ℕ → Asked
+abbrev pub picture_place : Option ℕ → Target
 picture_place (Some number) = asked.Shown (Picture number)
 picture_place None = asked.Absent
 
-abbrev pub place_of : List ℕ → Asked
+abbrev pub place_of : List ℕ → Target
 place_of path =
     if bytes_eq path (codes "/") then asked.Shown Page
     else if bytes_eq path (codes "/metrics") then asked.Shown Metrics
@@ -38,7 +38,7 @@ place_of path =
     else picture_place (picture_number path)
 
 -- other methods are unallowed, whatever the path
-abbrev pub asked_by : List ℕ → List ℕ → Asked
+abbrev pub asked_by : List ℕ → List ℕ → Target
 asked_by method path = if bytes_eq method (codes "GET") || bytes_eq method (codes "HEAD")
     then place_of path else asked.Unallowed
 
@@ -99,7 +99,7 @@ silent_answer Metrics = plain_answer verdict.Silent (codes "the unit does not an
 silent_answer State = plain_answer verdict.Silent (codes "the unit does not answer\n")
 silent_answer (Picture publisher) = plain_answer verdict.Silent (codes "the unit does not answer\n")
 
-abbrev pub IsAnswer : Asked → Option Said → Seen → Type 0
+abbrev pub IsAnswer : Target → Option Said → Seen → Type 0
 IsAnswer asked.Absent said seen = seen ≡ plain_answer verdict.Absent (codes "not found\n")
 IsAnswer asked.Unallowed said seen =
     seen ≡ plain_answer verdict.Unallowed (codes "method not allowed\n")

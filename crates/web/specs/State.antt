@@ -11,9 +11,9 @@ use Rattle.web.specs.declared.octets.Way.TheVariants.{Heard, Sent}
 use Rattle.web.specs.declared.said.Said.{Said}
 use Rattle.web.specs.declared.state.Rows.{Rows}
 use Rattle.web.specs.declared.state.Rows.TheVariants.{Endpoints, Legs, Totals}
-use Rattle.web.specs.declared.reports.Report.{Report}
+use Rattle.web.specs.declared.reports.ReceptionLine.{ReceptionLine}
 use Rattle.web.specs.Octets.{flows_in, octets_of}
-use Rattle.web.specs.Reports.{fraction_of, jitter_of, leg_reported, publisher_reported, reports_in, trip_of}
+use Rattle.web.specs.Reports.{ago_of, fraction_of, jitter_of, leg_reported, publisher_reported, reports_in, trip_of}
 use Rattle.web.specs.Words.{plain_word, refused_word, word_at}
 
 -- these tokens come after those that were written
@@ -54,14 +54,30 @@ reported_members fraction jitter =
     known_member (codes "fraction_lost") fraction
     ++ known_member (codes "jitter") jitter
 
-abbrev pub reception_members : Option Report → List Token
+abbrev pub reception_members : Option ReceptionLine → List Token
 reception_members report = reported_members (fraction_of report) (jitter_of report)
 
-unfoldable pub report_members : Option Report → List Token
-report_members report =
+-- how long ago a report passed
+unfoldable pub ago_member : Option ℕ → List Token
+ago_member ago_ms = known_member (codes "reported_ago_ms") ago_ms
+
+unfoldable pub passed_member : Option ReceptionLine → List Token
+passed_member report = ago_member (ago_of report)
+
+-- what the unit reported of a publisher, and how long ago
+unfoldable pub received_members : Option ReceptionLine → List Token
+received_members report = reception_members report ++ passed_member report
+
+-- loss, jitter and round trip
+unfoldable pub trip_members : Option ReceptionLine → List Token
+trip_members report =
     reception_members report ++ known_member (codes "round_trip_ms") (trip_of report)
 
-unfoldable pub heard_members : List Report → Option ℕ → List Token
+-- what a subscriber reported of a leg, and how long ago
+unfoldable pub report_members : Option ReceptionLine → List Token
+report_members report = trip_members report ++ passed_member report
+
+unfoldable pub heard_members : List ReceptionLine → Option ℕ → List Token
 heard_members reports n = report_members (leg_reported reports n)
 
 -- ---- N ssrc SSRC at ADDRESS present heard M ms ago refused R
@@ -82,12 +98,12 @@ endpoint_octets flows None = []
 unfoldable pub refused_member : List ℕ → List Token
 refused_member word = number_member (codes "refused") word
 
-unfoldable pub measured_members : List FlowCount → List Report → Option ℕ → List ℕ → List Token
+unfoldable pub measured_members : List FlowCount → List ReceptionLine → Option ℕ → List ℕ → List Token
 measured_members flows reports n refused =
     refused_member refused
-    ++ (endpoint_octets flows n ++ reception_members (publisher_reported reports n))
+    ++ (endpoint_octets flows n ++ received_members (publisher_reported reports n))
 
-abbrev pub endpoint_words : List FlowCount → List Report → List (List ℕ) → List Token
+abbrev pub endpoint_words : List FlowCount → List ReceptionLine → List (List ℕ) → List Token
 endpoint_words flows reports words = if bytes_eq (word_at words 1) (codes "ssrc")
     then begin_object
     ∷ (endpoint_members words
@@ -113,7 +129,7 @@ flow_members words =
     ++ (number_member (codes "missed") (word_at words 15)
     ++ number_member (codes "next") (word_at words 17))))
 
-abbrev pub leg_words : List Report → List (List ℕ) → List Token
+abbrev pub leg_words : List ReceptionLine → List (List ℕ) → List Token
 leg_words reports words = if bytes_eq (word_at words 1) (codes "from")
     then begin_object
     ∷ (leg_members words
@@ -143,18 +159,18 @@ totals_words words = if bytes_eq (word_at words 0) (codes "present")
 
 -- ---- lines
 
-abbrev pub words_tokens : Rows → List FlowCount → List Report → List (List ℕ) → List Token
+abbrev pub words_tokens : Rows → List FlowCount → List ReceptionLine → List (List ℕ) → List Token
 words_tokens Endpoints flows reports words = endpoint_words flows reports words
 words_tokens Legs flows reports words = leg_words reports words
 words_tokens Totals flows reports words = totals_words words
 
-abbrev pub line_tokens : Rows → List FlowCount → List Report → List ℕ → List Token
+abbrev pub line_tokens : Rows → List FlowCount → List ReceptionLine → List ℕ → List Token
 line_tokens rows flows reports line = words_tokens rows flows reports (words_in line)
 
 unfoldable pub array_begun : List ℕ → List Token
 array_begun name = key name ∷ (begin_array ∷ [])
 
-unfoldable pub array_member : List ℕ → Rows → List FlowCount → List Report → List ℕ → List Token
+unfoldable pub array_member : List ℕ → Rows → List FlowCount → List ReceptionLine → List ℕ → List Token
 array_member name rows flows reports text =
     array_begun name
     ++ (flat_map (line_tokens rows flows reports) (lines_of text) ++ end_array ∷ [])
@@ -162,14 +178,14 @@ array_member name rows flows reports text =
 unfoldable pub counts_begun : List Token
 counts_begun = key (codes "counts") ∷ (begin_object ∷ [])
 
-unfoldable pub counts_member : List FlowCount → List Report → List ℕ → List Token
+unfoldable pub counts_member : List FlowCount → List ReceptionLine → List ℕ → List Token
 counts_member flows reports text =
     counts_begun
     ++ (flat_map (line_tokens Totals flows reports) (lines_of text) ++ end_object ∷ [])
 
 -- ---- the whole
 
-unfoldable pub state_parts : Said → List FlowCount → List Report → List Token
+unfoldable pub state_parts : Said → List FlowCount → List ReceptionLine → List Token
 state_parts said flows reports =
     known_member (codes "moment_ms") (Some said.moment_ms)
     ++ (array_member (codes "endpoints") Endpoints flows reports said.present.items
@@ -177,7 +193,7 @@ state_parts said flows reports =
     ++ counts_member flows reports said.counts.items))
 
 -- by the octets and the reports that are known
-abbrev pub known_tokens : Said → List FlowCount → List Report → List Token
+abbrev pub known_tokens : Said → List FlowCount → List ReceptionLine → List Token
 known_tokens said flows reports = begin_object ∷ (state_parts said flows reports ++ end_object ∷ [])
 
 abbrev pub state_tokens : Said → List Token

@@ -14,8 +14,8 @@ use Rattle.web.specs.declared.answer.Kind.TheVariants as kind
 use Rattle.web.specs.declared.said.Said.{Said}
 use Rattle.web.specs.declared.answer.Verdict.{Verdict}
 use Rattle.web.specs.declared.answer.Verdict.TheVariants.{Fine, Absent, Unallowed, Misdirected, Unreadable, Silent}
-use Rattle.web.specs.declared.answer.Asked.{Asked}
-use Rattle.web.specs.declared.answer.Asked.TheVariants as asked
+use Rattle.web.specs.declared.answer.Target.{Target}
+use Rattle.web.specs.declared.answer.Target.TheVariants as asked
 use Rattle.web.specs.Answers.{Seen, IsAnswer, asked_by}
 use Rattle.web.specs.Hosts.{is_known_host}
 use Rattle.web.specs.declared.teller.TheConstants.{OTHER_POLICY, PAGE_POLICY}
@@ -74,12 +74,12 @@ abbrev pub host_in : Parts → List ℕ
 host_in head = value_of (get head.headers (codes "host"))
 
 -- what a head asks for: only under a known name is anything told
-abbrev pub asked_in : List ℕ → Parts → Asked
+abbrev pub asked_in : List ℕ → Parts → Target
 asked_in name head = if is_known_host name (host_in head)
     then asked_by head.method (uri_path head.uri) else asked.Misdirected
 
 -- the response is an answer to what is asked, by what the unit said last
-abbrev pub Tells : Asked → Option Said → Response → Type 0
+abbrev pub Tells : Target → Option Said → Response → Type 0
 Tells asked said response = (seen : Seen) × IsAnswer asked said seen × IsSent seen response
 
 abbrev pub IsTold : List ℕ → Option Said → Request (List ℕ) → Response → Type 0

@@ -29,7 +29,7 @@ pub enum View {
 
 /// What a client asks for.
 #[derive(Clone, Copy)]
-pub enum Asked {
+pub enum Target {
     Shown(View),
     /// What isn't there.
     Absent,
@@ -76,38 +76,38 @@ pub struct Answer {
 }
 
 /// What a client asks for by a method and a path. Another method than `GET` and `HEAD` is unallowed whatever the path.
-pub fn asked_for(method: &[u8], path: &[u8]) -> Asked
+pub fn asked_for(method: &[u8], path: &[u8]) -> Target
     ensures { result ≡ asked_by method.now path.now }
 {
     if is_word(method, b"GET") || is_word(method, b"HEAD") {
         place_of(path)
     } else {
-        Asked::Unallowed
+        Target::Unallowed
     }
 }
 
 /// What is at a path.
-fn place_of(path: &[u8]) -> Asked
+fn place_of(path: &[u8]) -> Target
     ensures { result ≡ place_of path.now }
 {
     if is_word(path, b"/") {
-        Asked::Shown(View::Page)
+        Target::Shown(View::Page)
     } else if is_word(path, b"/metrics") {
-        Asked::Shown(View::Metrics)
+        Target::Shown(View::Metrics)
     } else if is_word(path, b"/state.json") {
-        Asked::Shown(View::State)
+        Target::Shown(View::State)
     } else {
         picture_of(path)
     }
 }
 
 /// The picture that is at a path, if one is.
-fn picture_of(path: &[u8]) -> Asked
+fn picture_of(path: &[u8]) -> Target
     ensures { result ≡ picture_place (picture_number path.now) }
 {
     match picture_number(path) {
-        Some(number) => Asked::Shown(View::Picture(number)),
-        None => Asked::Absent,
+        Some(number) => Target::Shown(View::Picture(number)),
+        None => Target::Absent,
     }
 }
 
@@ -121,14 +121,14 @@ fn picture_number(path: &[u8]) -> Option<u16>
 }
 
 /// The answer to what is asked, by what the unit said last; `None` if it says nothing. Refused for want of memory alone.
-pub fn answer_to(alloc: Global, asked: Asked, said: &Option<Said>) -> Result<Answer, AllocError>
+pub fn answer_to(alloc: Global, asked: Target, said: &Option<Said>) -> Result<Answer, AllocError>
     ensures { IfOk result (λ a. IsAnswer asked said.now (answer_seen a)) }
 {
     match asked {
-        Asked::Absent => plain(alloc, Verdict::Absent, b"not found\n"),
-        Asked::Unallowed => plain(alloc, Verdict::Unallowed, b"method not allowed\n"),
-        Asked::Misdirected => plain(alloc, Verdict::Misdirected, b"not this host\n"),
-        Asked::Shown(view) => match said {
+        Target::Absent => plain(alloc, Verdict::Absent, b"not found\n"),
+        Target::Unallowed => plain(alloc, Verdict::Unallowed, b"method not allowed\n"),
+        Target::Misdirected => plain(alloc, Verdict::Misdirected, b"not this host\n"),
+        Target::Shown(view) => match said {
             Some(said) => shown(alloc, view, said),
             None => silent(alloc, view),
         },

@@ -6,8 +6,8 @@ ghost use Rattle.web.specs.Hosts.{host_name, is_bracketed, is_known_host, is_qua
 
 use request_text::is_word;
 
-/// Whether a page may be told to a client that calls it by this value of the `Host` field: an address, `localhost` or the given name, each
-/// with a port or without. Any other name may be one that somebody else lets lead here (DNS rebinding).
+/// Whether a client may have the page that calls it by this value of the `Host` field: an address, `localhost` or the given name, each with or
+/// without a port. Any other name may be one that somebody else lets lead here (DNS rebinding).
 pub fn is_known_host(given: &[u8], host: &[u8]) -> bool
     ensures { result ≡ is_known_host given.now host.now }
 {

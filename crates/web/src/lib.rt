@@ -19,7 +19,7 @@ mod teller;
 mod visitors;
 mod words;
 
-pub use answer::{Answer, Asked, Kind, Verdict, View, answer_to, asked_for};
+pub use answer::{Answer, Kind, Target, Verdict, View, answer_to, asked_for};
 pub use endpoints::numbers_in;
 pub use hosts::is_known_host;
 pub use inquiry::{Inquiry, Step};

@@ -244,6 +244,7 @@ const showEndpoints = table(at('endpoints'), [
   ['last minute', 'word whole', curve],
   ['loss', '', it => share(it.fraction_lost)],
   ['jitter', '', it => count(it.jitter)],
+  ['reported', '', it => known(it.reported_ago_ms, ago)],
   ['last heard', '', it => it.heard_ago_ms === null ? 'never' : ago(it.heard_ago_ms)],
   ['refused', '', it => count(it.refused)],
   ['SSRC', 'whole', it => plain(it.ssrc)],
@@ -262,6 +263,7 @@ const showLegs = table(at('legs'), [
   ['loss', '', it => share(it.fraction_lost)],
   ['jitter', '', it => count(it.jitter)],
   ['round trip', '', it => trip(it.round_trip_ms)],
+  ['reported', '', it => known(it.reported_ago_ms, ago)],
 ], 'leg');
 
 const TOTALS = [

@@ -1,7 +1,7 @@
 //! What reports say of loss, jitter and round trip, by a unit's lines for `reports`.
 
 ghost use Rattle.std.specs.Prelude.{◌≡◌, ◌++◌, IfOk, OnOk, flat_map, map};
-ghost use Rattle.web.specs.Reports.{fraction_in, fraction_of, is_about, jitter_of, leg_report, leg_reported, line_reports, publisher_report, publisher_reported, report_of, reports_in, trip_of, words_report};
+ghost use Rattle.web.specs.Reports.{ago_of, fraction_in, fraction_of, is_about, jitter_of, leg_report, leg_reported, line_reports, publisher_report, publisher_reported, report_of, reports_in, trip_of, words_report};
 
 use request_text::{is_word, lines, number_u16, number_u64, word_at, words_of};
 use std::alloc::{AllocError, Global};
@@ -17,7 +17,7 @@ pub(crate) enum About {
 
 /// The last report block about somebody (RFC 3550, section 6.4.1).
 #[derive(Clone, Copy)]
-pub(crate) struct Report {
+pub(crate) struct ReceptionLine {
     pub about: About,
     /// The share lost since the block before, of 256.
     pub fraction: u8,
@@ -25,17 +25,19 @@ pub(crate) struct Report {
     pub jitter: u64,
     /// In milliseconds; `None` before any is known.
     pub round_trip_ms: Option<u64>,
+    /// How many milliseconds before the answer it passed.
+    pub ago_ms: Option<u64>,
 }
 
 /// The reports that an answer to `reports` tells of. A line that tells of none is passed over.
-pub(crate) fn reports_in(alloc: Global, text: &[u8]) -> Result<Vec<Report>, AllocError>
+pub(crate) fn reports_in(alloc: Global, text: &[u8]) -> Result<Vec<ReceptionLine>, AllocError>
     ensures { IfOk result (λ reports. reports.items ≡ reports_in text.now) }
 {
     let lines = lines(alloc, text)?;
     reports_of(alloc, lines.as_slice())
 }
 
-fn reports_of(alloc: Global, lines: &[&[u8]]) -> Result<Vec<Report>, AllocError>
+fn reports_of(alloc: Global, lines: &[&[u8]]) -> Result<Vec<ReceptionLine>, AllocError>
     ensures { IfOk result
         (λ reports. reports.items ≡ flat_map (λ x. line_reports x.now) lines.now) }
 {
@@ -46,7 +48,11 @@ fn reports_of(alloc: Global, lines: &[&[u8]]) -> Result<Vec<Report>, AllocError>
     Ok(reports)
 }
 
-fn push_report(alloc: Global, reports: &mut Vec<Report>, line: &[u8]) -> Result<(), AllocError>
+fn push_report(
+    alloc: Global,
+    reports: &mut Vec<ReceptionLine>,
+    line: &[u8],
+) -> Result<(), AllocError>
     ensures { OnOk result (reports.new.items ≡ reports.old.items ++ line_reports line.now) }
 {
     let words = words_of(alloc, line)?;
@@ -57,7 +63,7 @@ fn push_report(alloc: Global, reports: &mut Vec<Report>, line: &[u8]) -> Result<
 }
 
 /// The report that these words tell of.
-fn words_report(words: &[&[u8]]) -> Option<Report>
+fn words_report(words: &[&[u8]]) -> Option<ReceptionLine>
     ensures { result ≡ words_report (map (λ x. x.now) words.now) }
 {
     if is_word(word_at(words, 0), b"leg") {
@@ -69,25 +75,27 @@ fn words_report(words: &[&[u8]]) -> Option<Report>
     }
 }
 
-fn leg_report(words: &[&[u8]]) -> Option<Report>
+fn leg_report(words: &[&[u8]]) -> Option<ReceptionLine>
     ensures { result ≡ leg_report (map (λ x. x.now) words.now) }
 {
-    Some(Report {
+    Some(ReceptionLine {
         about: About::Leg(number_u16(word_at(words, 1))?),
         fraction: fraction_in(word_at(words, 7))?,
         jitter: number_u64(word_at(words, 11))?,
         round_trip_ms: number_u64(word_at(words, 13)),
+        ago_ms: number_u64(word_at(words, 15)),
     })
 }
 
-fn publisher_report(words: &[&[u8]]) -> Option<Report>
+fn publisher_report(words: &[&[u8]]) -> Option<ReceptionLine>
     ensures { result ≡ publisher_report (map (λ x. x.now) words.now) }
 {
-    Some(Report {
+    Some(ReceptionLine {
         about: About::Publisher(number_u16(word_at(words, 1))?),
         fraction: fraction_in(word_at(words, 3))?,
         jitter: number_u64(word_at(words, 7))?,
         round_trip_ms: None,
+        ago_ms: number_u64(word_at(words, 9)),
     })
 }
 
@@ -99,7 +107,7 @@ fn fraction_in(word: &[u8]) -> Option<u8>
 }
 
 /// The report about this, if there is one.
-fn report_of(reports: &[Report], about: About) -> Option<Report>
+fn report_of(reports: &[ReceptionLine], about: About) -> Option<ReceptionLine>
     ensures { result ≡ report_of reports.now about }
 {
     for report in reports {
@@ -111,35 +119,45 @@ fn report_of(reports: &[Report], about: About) -> Option<Report>
 }
 
 /// The report about the leg with this number, if it is one.
-pub(crate) fn leg_reported(reports: &[Report], number: Option<u16>) -> Option<Report>
+pub(crate) fn leg_reported(reports: &[ReceptionLine], number: Option<u16>) -> Option<ReceptionLine>
     ensures { result ≡ leg_reported reports.now number }
 {
     report_of(reports, About::Leg(number?))
 }
 
 /// The report about the publisher with this number, if it is one.
-pub(crate) fn publisher_reported(reports: &[Report], number: Option<u16>) -> Option<Report>
+pub(crate) fn publisher_reported(
+    reports: &[ReceptionLine],
+    number: Option<u16>,
+) -> Option<ReceptionLine>
     ensures { result ≡ publisher_reported reports.now number }
 {
     report_of(reports, About::Publisher(number?))
 }
 
 /// The round trip, if it is known.
-pub(crate) fn trip_of(report: Option<Report>) -> Option<u64>
+pub(crate) fn trip_of(report: Option<ReceptionLine>) -> Option<u64>
     ensures { result ≡ trip_of report }
 {
     report?.round_trip_ms
 }
 
+/// How long ago it passed.
+pub(crate) fn ago_of(report: Option<ReceptionLine>) -> Option<u64>
+    ensures { result ≡ ago_of report }
+{
+    report?.ago_ms
+}
+
 /// The share that was lost, of 256.
-pub(crate) fn fraction_of(report: Option<Report>) -> Option<u64>
+pub(crate) fn fraction_of(report: Option<ReceptionLine>) -> Option<u64>
     ensures { result ≡ fraction_of report }
 {
     Some(u64::from(report?.fraction))
 }
 
 /// The jitter.
-pub(crate) fn jitter_of(report: Option<Report>) -> Option<u64>
+pub(crate) fn jitter_of(report: Option<ReceptionLine>) -> Option<u64>
     ensures { result ≡ jitter_of report }
 {
     Some(report?.jitter)

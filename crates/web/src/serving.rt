@@ -55,9 +55,9 @@ struct Place<'a> {
     name: &'a str,
 }
 
-/// Serves a page of the unit that is steered at a path: at a loopback address, or at any if whoever reaches it may look; `host` is a name by which it
-/// may be called. Says `page ADDRESS` on the error output once it listens, and returns then only if the clock or the random source fails. It is
-/// never done: `CommandLine` if the address is none, or none for this machine alone, `Socket` if it can't be had.
+/// Serves a page of the unit that is steered at a path. `address` is a loopback address, or any if whoever reaches it may look; `host` is a name
+/// by which it may be called. Says `page ADDRESS` on the error output once it listens, and returns then only if the clock or the random source
+/// fails. It is never done: `CommandLine` if the address is none, or none for this machine alone, `Socket` if it can't be had.
 pub fn run_page<
     R: AllocGlobal + Net<Listener = TcpListener, Stream = TcpStream> + Wait + Clock + RandomSource,
     E: Write,
@@ -273,7 +273,7 @@ impl Page {
         }
     }
 
-    /// The unit is gone, or doesn't answer any more: nothing of it is told from this moment on, and it is asked again after a pause, a longer
+    /// The unit is gone, or doesn't answer any more. From this moment on nothing of it is told, and it is asked again after a pause, a longer
     /// one each time.
     fn fail(&mut self, moment: u64)
         ensures gone { self.new.teller.said ≡ None }

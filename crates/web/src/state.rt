@@ -3,11 +3,12 @@
 ghost use Rattle.std.specs.Prelude.{◌≡◌, IfOk, flat_map, map};
 ghost use Rattle.json.specs.Print.{print};
 ghost use Rattle.request_text.specs.Lines.{lines_of};
-ghost use Rattle.web.specs.State.{Tells, array_begun, array_member, counts_begun, counts_member, endpoint_members, endpoint_octets, endpoint_words, flow_members, heard_members, known_member, known_tokens, leg_members, leg_words, line_tokens, losses_members, measured_members, number_member, octets_members, reception_members, refused_member, report_members, reported_members, state_parts, state_tokens, switch_member, text_member, totals_members, totals_words, words_tokens};
+ghost use Rattle.web.specs.State.{Tells, ago_member, array_begun, array_member, counts_begun, counts_member, endpoint_members, endpoint_octets, endpoint_words, flow_members, heard_members, known_member, known_tokens, leg_members, leg_words, line_tokens, losses_members, measured_members, number_member, octets_members, passed_member, received_members, reception_members, refused_member, report_members, reported_members, state_parts, state_tokens, switch_member, text_member, totals_members, totals_words, trip_members, words_tokens};
 
 use crate::octets::{Flow, FlowCount, Way, flows_in, octets_of};
 use crate::reports::{
-    Report, fraction_of, jitter_of, leg_reported, publisher_reported, reports_in, trip_of,
+    ReceptionLine, ago_of, fraction_of, jitter_of, leg_reported, publisher_reported, reports_in,
+    trip_of,
 };
 use crate::said::Said;
 use crate::words::{plain_word, refused_word};
@@ -15,9 +16,9 @@ use json::Writer;
 use request_text::{is_word, lines, number_u16, number_u64, word_at, words_of};
 use std::alloc::{AllocError, Global};
 
-/// What a unit is like, by what it said, as a JSON object: `moment_ms` is a number, `endpoints` and `legs` are arrays of objects, `counts` is an
-/// object, each number is one, and what is no number where one should stand is null. A line that tells of none of these is passed over.
-/// Refused for want of memory alone.
+/// What a unit is like, by what it said, as a JSON object. `moment_ms` is a number, `endpoints` and `legs` are arrays of objects, `counts` is an
+/// object. Where a number should stand and none does, there is null. A line that tells of none of these is passed over. Refused for want of
+/// memory alone.
 pub fn state_text(alloc: Global, said: &Said) -> Result<Vec<u8>, AllocError>
     ensures { IfOk result (λ text. text.items ≡ print (state_tokens said.now)) }
 {
@@ -30,7 +31,7 @@ fn state_with(
     alloc: Global,
     said: &Said,
     flows: &[FlowCount],
-    reports: &[Report],
+    reports: &[ReceptionLine],
 ) -> Result<Vec<u8>, AllocError>
     ensures { IfOk result (λ text. text.items
         ≡ print (known_tokens said.now flows.now reports.now)) }
@@ -53,7 +54,7 @@ fn push_state(
     writer: &mut Writer,
     said: &Said,
     flows: &[FlowCount],
-    reports: &[Report],
+    reports: &[ReceptionLine],
 ) -> Result<(), AllocError>
     ensures { Tells result writer.old writer.new (known_tokens said.now flows.now reports.now) }
 {
@@ -68,7 +69,7 @@ fn push_parts(
     writer: &mut Writer,
     said: &Said,
     flows: &[FlowCount],
-    reports: &[Report],
+    reports: &[ReceptionLine],
 ) -> Result<(), AllocError>
     ensures { Tells result writer.old writer.new (state_parts said.now flows.now reports.now) }
 {
@@ -97,7 +98,7 @@ fn push_array(
     rows: Rows,
     text: &[u8],
     flows: &[FlowCount],
-    reports: &[Report],
+    reports: &[ReceptionLine],
 ) -> Result<(), AllocError>
     ensures { Tells result writer.old writer.new
         (array_member name.now rows flows.now reports.now text.now) }
@@ -122,7 +123,7 @@ fn push_counts(
     writer: &mut Writer,
     text: &[u8],
     flows: &[FlowCount],
-    reports: &[Report],
+    reports: &[ReceptionLine],
 ) -> Result<(), AllocError>
     ensures { Tells result writer.old writer.new
         (counts_member flows.now reports.now text.now) }
@@ -147,7 +148,7 @@ fn push_rows(
     rows: Rows,
     text: &[u8],
     flows: &[FlowCount],
-    reports: &[Report],
+    reports: &[ReceptionLine],
 ) -> Result<(), AllocError>
     ensures { Tells result writer.old writer.new
         (flat_map (line_tokens rows flows.now reports.now) (lines_of text.now)) }
@@ -162,7 +163,7 @@ fn push_lines(
     rows: Rows,
     lines: &[&[u8]],
     flows: &[FlowCount],
-    reports: &[Report],
+    reports: &[ReceptionLine],
 ) -> Result<(), AllocError>
     ensures { Tells result writer.old writer.new
         (flat_map (λ x. line_tokens rows flows.now reports.now x.now) lines.now) }
@@ -180,7 +181,7 @@ fn push_line(
     rows: Rows,
     line: &[u8],
     flows: &[FlowCount],
-    reports: &[Report],
+    reports: &[ReceptionLine],
 ) -> Result<(), AllocError>
     ensures { Tells result writer.old writer.new
         (line_tokens rows flows.now reports.now line.now) }
@@ -195,7 +196,7 @@ fn push_words(
     rows: Rows,
     words: &[&[u8]],
     flows: &[FlowCount],
-    reports: &[Report],
+    reports: &[ReceptionLine],
 ) -> Result<(), AllocError>
     ensures { Tells result writer.old writer.new
         (words_tokens rows flows.now reports.now (map (λ x. x.now) words.now)) }
@@ -212,7 +213,7 @@ fn push_endpoint(
     writer: &mut Writer,
     words: &[&[u8]],
     flows: &[FlowCount],
-    reports: &[Report],
+    reports: &[ReceptionLine],
 ) -> Result<(), AllocError>
     ensures { Tells result writer.old writer.new
         (endpoint_words flows.now reports.now (map (λ x. x.now) words.now)) }
@@ -232,7 +233,7 @@ fn push_endpoint(
 fn push_measured(
     writer: &mut Writer,
     flows: &[FlowCount],
-    reports: &[Report],
+    reports: &[ReceptionLine],
     number: Option<u16>,
     refused: &[u8],
 ) -> Result<(), AllocError>
@@ -241,11 +242,35 @@ fn push_measured(
 {
     push_refused(writer, refused)?;
     push_endpoint_octets(writer, flows, number)?;
-    push_reception(writer, publisher_reported(reports, number))
+    push_received(writer, publisher_reported(reports, number))
+}
+
+/// What the unit reported of a publisher, and how long ago.
+#[tactic(auto, unfolding(crate::specs::State::received_members))]
+fn push_received(writer: &mut Writer, report: Option<ReceptionLine>) -> Result<(), AllocError>
+    ensures { Tells result writer.old writer.new (received_members report) }
+{
+    push_reception(writer, report)?;
+    push_passed(writer, report)
+}
+
+/// How long ago a report passed.
+#[tactic(auto, unfolding(crate::specs::State::passed_member))]
+fn push_passed(writer: &mut Writer, report: Option<ReceptionLine>) -> Result<(), AllocError>
+    ensures { Tells result writer.old writer.new (passed_member report) }
+{
+    push_ago(writer, ago_of(report))
+}
+
+#[tactic(auto, unfolding(crate::specs::State::ago_member))]
+fn push_ago(writer: &mut Writer, ago_ms: Option<u64>) -> Result<(), AllocError>
+    ensures { Tells result writer.old writer.new (ago_member ago_ms) }
+{
+    push_known(writer, "reported_ago_ms", ago_ms)
 }
 
 /// What a report says of loss and jitter.
-fn push_reception(writer: &mut Writer, report: Option<Report>) -> Result<(), AllocError>
+fn push_reception(writer: &mut Writer, report: Option<ReceptionLine>) -> Result<(), AllocError>
     ensures { Tells result writer.old writer.new (reception_members report) }
 {
     push_reported(writer, fraction_of(report), jitter_of(report))
@@ -314,7 +339,11 @@ fn push_refused(writer: &mut Writer, word: &[u8]) -> Result<(), AllocError>
 }
 
 /// The object of the leg that these words tell of.
-fn push_leg(writer: &mut Writer, words: &[&[u8]], reports: &[Report]) -> Result<(), AllocError>
+fn push_leg(
+    writer: &mut Writer,
+    words: &[&[u8]],
+    reports: &[ReceptionLine],
+) -> Result<(), AllocError>
     ensures { Tells result writer.old writer.new
         (leg_words reports.now (map (λ x. x.now) words.now)) }
 {
@@ -332,7 +361,7 @@ fn push_leg(writer: &mut Writer, words: &[&[u8]], reports: &[Report]) -> Result<
 #[tactic(auto, unfolding(crate::specs::State::heard_members))]
 fn push_heard(
     writer: &mut Writer,
-    reports: &[Report],
+    reports: &[ReceptionLine],
     number: Option<u16>,
 ) -> Result<(), AllocError>
     ensures { Tells result writer.old writer.new (heard_members reports.now number) }
@@ -341,8 +370,17 @@ fn push_heard(
 }
 
 #[tactic(auto, unfolding(crate::specs::State::report_members))]
-fn push_report(writer: &mut Writer, report: Option<Report>) -> Result<(), AllocError>
+fn push_report(writer: &mut Writer, report: Option<ReceptionLine>) -> Result<(), AllocError>
     ensures { Tells result writer.old writer.new (report_members report) }
+{
+    push_trip(writer, report)?;
+    push_passed(writer, report)
+}
+
+/// Loss, jitter and round trip.
+#[tactic(auto, unfolding(crate::specs::State::trip_members))]
+fn push_trip(writer: &mut Writer, report: Option<ReceptionLine>) -> Result<(), AllocError>
+    ensures { Tells result writer.old writer.new (trip_members report) }
 {
     push_reception(writer, report)?;
     push_known(writer, "round_trip_ms", trip_of(report))

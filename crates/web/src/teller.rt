@@ -8,7 +8,7 @@ ghost use Rattle.http_server.specs.Response.{IsBlank, fields_of};
 ghost use Rattle.web.specs.Answers.{answer_seen};
 ghost use Rattle.web.specs.Told.{IsSent, Tells, asked_in, host_in, fields_for, guard_fields, handling_fields, kind_fields, kind_text, policy_for, status_number};
 
-use crate::answer::{Answer, Asked, Kind, Verdict, answer_to, asked_for};
+use crate::answer::{Answer, Kind, Target, Verdict, answer_to, asked_for};
 use crate::hosts::is_known_host;
 use crate::said::Said;
 use bytes::{BufMut, Bytes};
@@ -20,7 +20,7 @@ use std::alloc::{AllocError, Global};
 /// (Content Security Policy Level 3).
 const PAGE_POLICY: &str = "default-src 'none'; \
     style-src 'sha256-ZcBuJoUW3muoEoC+yZ8V3qHsmMthRxIu59DtqKiU2r0='; \
-    script-src 'sha256-Do4RFRtvEob6bNqNEgcUQw64ecJso00qtLDgc00ZRrg='; \
+    script-src 'sha256-0OJH+fbHsu+vfBRl98xDdmsRHmyapL1lhQsOno3gLKE='; \
     connect-src 'self'; img-src 'self'; base-uri 'none'; form-action 'none'; frame-ancestors 'none'";
 
 /// What it may do with all else: a picture has a style of its own, and nothing runs or is loaded.
@@ -80,7 +80,7 @@ impl Service for Teller {
 /// Fills the response with the answer to what is asked.
 fn answer(
     alloc: Global,
-    asked: Asked,
+    asked: Target,
     said: &Option<Said>,
     response: &mut Response,
 ) -> Result<(), AllocError>
@@ -92,14 +92,14 @@ fn answer(
 }
 
 /// What a request asks for.
-fn asked_by(name: &[u8], request: &Request<Bytes>) -> Asked
+fn asked_by(name: &[u8], request: &Request<Bytes>) -> Target
     ensures { result ≡ asked_in name.now (head_of request.now) }
 {
     if is_known_host(name, host_of(request)) {
         let path = request.uri().path().as_bytes();
         asked_for(request.method().as_str().as_bytes(), path)
     } else {
-        Asked::Misdirected
+        Target::Misdirected
     }
 }
 

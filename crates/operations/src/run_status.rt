@@ -3,7 +3,7 @@
 ghost use Rattle.std.specs.Prelude.{◌≡◌, false, None, IsNone, IsSome};
 ghost use Rattle.ports.specs.declared.feed.Received.TheVariants.{Nothing};
 
-use crate::steering::{Steering, Wish};
+use crate::steering::{PeerRequest, Steering};
 use control_protocol::{Screened, Unheard};
 use ports::{Look, Received, Status};
 use recording::{End, Recorder};
@@ -16,12 +16,12 @@ use std::thread::Threads;
 
 /// What is shown of a run while it goes on.
 #[derive(Drop)]
-pub struct Gauges {
+pub struct RunStatus {
     /// How many datagrams, or packets of one, came from nobody; they are let go.
     pub strangers: Cell<u64>,
     /// How many packets were far from the highest number of their source, and weren't heard.
     pub far: Cell<u64>,
-    /// How many packets that were asked for again were held back.
+    /// How many NACKed packets were held back.
     pub held: Cell<u64>,
     /// How many datagrams came beyond the limit of their endpoint, and weren't heard.
     pub flooded: Cell<u64>,
@@ -43,15 +43,15 @@ pub struct Gauges {
     recorder: Option<RefCell<Recorder>>,
 }
 
-impl Gauges {
+impl RunStatus {
     ghost use Rattle.std.specs.Prelude.{◌≡◌, None, IsSome, is_some};
 
     /// Those of a run that begins.
-    pub fn new() -> Gauges
+    pub fn new() -> RunStatus
         ensures steering { result.steering ≡ None }
         ensures recorder { result.recorder ≡ None }
     {
-        Gauges {
+        RunStatus {
             strangers: Cell::new(0),
             far: Cell::new(0),
             held: Cell::new(0),
@@ -68,14 +68,14 @@ impl Gauges {
     }
 
     /// Those of a run that begins, and is steered; it is recorded once a peer wants it.
-    pub(crate) fn steered(steering: Steering, recorder: Recorder) -> Gauges
+    pub(crate) fn steered(steering: Steering, recorder: Recorder) -> RunStatus
         ensures steering { IsSome result.steering }
         ensures recorder { IsSome result.recorder }
     {
-        let mut gauges = Gauges::new();
-        gauges.steering = Some(RefCell::new(steering));
-        gauges.set_recorder(recorder);
-        gauges
+        let mut run_status = RunStatus::new();
+        run_status.steering = Some(RefCell::new(steering));
+        run_status.set_recorder(recorder);
+        run_status
     }
 
     /// The run is recorded from now on.
@@ -104,7 +104,7 @@ impl Gauges {
 
     /// The run has ended, and so has its record.
     pub(crate) fn finish<R: Threads>(self, rt: &R) {
-        let Gauges { recorder, .. } = self;
+        let RunStatus { recorder, .. } = self;
         if let Some(recorder) = recorder {
             recorder.into_inner().finish(rt);
         }
@@ -154,18 +154,18 @@ impl Gauges {
             return Received::Nothing;
         };
         match steering.receive(moment, is_recorded) {
-            Wish::Unit(received) => return received,
-            Wish::Record(peer) => {
+            PeerRequest::Unit(received) => return received,
+            PeerRequest::Record(peer) => {
                 if let Some(mut recorder) = self.recorder() {
                     recorder.begin_for(peer, moment, steering.switched().as_slice());
                 }
             }
-            Wish::EndRecord => {
+            PeerRequest::EndRecord => {
                 if let Some(mut recorder) = self.recorder() {
                     recorder.end();
                 }
             }
-            Wish::SayShortage => self.shortage.set(true),
+            PeerRequest::SayShortage => self.shortage.set(true),
         }
         Received::Nothing
     }
