@@ -126,7 +126,8 @@ class Field:
         self.sockets[number].sendto(datagram, self.unit_at)
 
     def come(self, publisher):
-        """Another publisher in place of the one before: that leaves, and this one comes."""
+        """Another publisher in place of the one before: that leaves, and says nothing more, and this one comes."""
+        self.publisher.notifies = False
         self.say(0, goodbye(PUBLISHER))
         self.after(0.2)
         self.publisher = publisher
@@ -215,7 +216,7 @@ def play_many(field, notifies, moments, see):
                 field.ask(number, (random.randint(1000, 8000) << 9) | random.choice((40, 60)))
                 there.add(number)
             field.after(0.1)
-        for number in there:
+        for number in (0, *there):
             field.say(number, report(ssrc_of(number)))
         field.after(QUIET)
         wanted, kept = field.announced(), field.publisher.bounds

@@ -119,8 +119,10 @@ class Run:
         lines = re.findall(r"present .*", self.log("unit"))
         return lines[-1] if lines else "no counts"
 
-    def sdp(self, file, endpoint, name="stream.sdp"):
+    def sdp(self, file, endpoint, name="stream.sdp", plain=False):
+        """What `sfu sdp` prints, in a file; `plain` for who opens no profile with feedback."""
         text = subprocess.run([PROGRAM, "sdp", file, str(endpoint)], capture_output=True, check=True).stdout
+        text = text.replace(b"RTP/AVPF", b"RTP/AVP") if plain else text
         with open(f"{self.room}/{name}", "wb") as out:
             out.write(text)
         return f"{self.room}/{name}"
@@ -382,14 +384,14 @@ def ffmpeg_to_gst(codec):
 
 
 def gst_to_vlc(by_sdp=False):
-    """VLC as Debian has it is without live555: of a session description it takes the address alone, and reads MPEG-TS there. The stream is
-    a second item after the description's, which a run without a window comes to with --loop."""
+    """VLC as Debian has it is without live555: of a session description it takes the address alone, of the plain profile, and reads MPEG-TS
+    there. The stream is a second item after the description's, which a run without a window comes to with --loop."""
     with Run() as run:
         file = settings(run.room, PUBLISHER, [ONLY.format(46002, 46003)], "MPEG-TS", two_ports=True)
         run.sniff()
         run.serve(file)
         seen = f"{run.room}/seen.ts"
-        media = ["--loop", run.sdp(file, 1)] if by_sdp else ["rtp://@127.0.0.1:46002"]
+        media = ["--loop", run.sdp(file, 1, plain=True)] if by_sdp else ["rtp://@127.0.0.1:46002"]
         words = ["cvlc", "-v", "--no-audio", "--vout", "dummy", *media, f"--sout=#std{{access=file,mux=ts,dst={seen}}}"]
         if os.geteuid() == 0:
             os.chmod(run.room, 0o777)

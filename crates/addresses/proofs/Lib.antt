@@ -1,5 +1,5 @@
-mod OccupancyLemmas
+mod EndpointsByKeyLemmas
 mod NetworkLemmas
 pub mod ClientLemmas
-pub mod KnownLemmas
+pub mod AddressBookLemmas
 pub mod ServedLemmas

@@ -3,9 +3,9 @@ use Rattle.std.specs.Prelude.{ℕ, nat_lt, Bool, true, Option, None, Some, if◌
 use Rattle.std.specs.Net.Socket.{socket_ip}
 use Rattle.std.specs.declared.net.ip_addr.IpAddr.{IpAddr}
 use Rattle.std.specs.declared.net.socket_addr.SocketAddr.{SocketAddr}
-use Rattle.addresses.specs.declared.seat.Kind.{Kind}
-use Rattle.addresses.specs.declared.seat.Kind.TheVariants.{Rtp, Rtcp}
-use Rattle.addresses.specs.declared.seat.LearnedAddress.{LearnedAddress}
+use Rattle.addresses.specs.declared.learned_address.Kind.{Kind}
+use Rattle.addresses.specs.declared.learned_address.Kind.TheVariants.{Rtp, Rtcp}
+use Rattle.addresses.specs.declared.learned_address.LearnedAddress.{LearnedAddress}
 
 abbrev pub empty_seat : LearnedAddress
 empty_seat = record {

@@ -6,9 +6,9 @@ use Rattle.std.specs.declared.net.socket_addr.SocketAddr.{SocketAddr}
 use Rattle.addresses.specs.declared.learners.Arrived.{Arrived}
 use Rattle.addresses.specs.declared.learners.Learner.{Learner}
 use Rattle.addresses.specs.declared.network.Network.{Network}
-use Rattle.addresses.specs.declared.seat.LearnedAddress.{LearnedAddress}
+use Rattle.addresses.specs.declared.learned_address.LearnedAddress.{LearnedAddress}
 use Rattle.addresses.specs.Network.{is_within}
-use Rattle.addresses.specs.Occupancy.{occupants_of}
+use Rattle.addresses.specs.EndpointsByKey.{occupants_of}
 use Rattle.addresses.specs.LearnedAddress.{claimed}
 use Rattle.addresses.specs.SenderTable.{alone_in}
 

@@ -1,11 +1,12 @@
-pub mod Occupancy
+pub mod EndpointsByKey
 pub mod SenderTable
 pub mod Listeners
 pub mod Network
 pub mod LearnedAddress
 pub mod Learners
 pub mod Clients
-pub mod Known
+pub mod Mixed
+pub mod AddressBook
 pub mod Places
 pub mod ServedFile
 pub mod Strangers

@@ -1,8 +1,8 @@
 -- Where what is sent to an endpoint goes.
 use Rattle.std.specs.Prelude.{Option, Some, None}
 use Rattle.std.specs.declared.net.socket_addr.SocketAddr.{SocketAddr}
-use Rattle.addresses.specs.declared.seat.Kind.{Kind}
-use Rattle.addresses.specs.declared.seat.Kind.TheVariants.{Rtp, Rtcp}
+use Rattle.addresses.specs.declared.learned_address.Kind.{Kind}
+use Rattle.addresses.specs.declared.learned_address.Kind.TheVariants.{Rtp, Rtcp}
 use Rattle.addresses.specs.declared.clients.Addresses.{Addresses}
 use Rattle.addresses.specs.declared.clients.Client.{Client}
 use Rattle.addresses.specs.declared.clients.Location.{Location}

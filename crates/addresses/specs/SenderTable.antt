@@ -1,12 +1,12 @@
 -- Who sent a datagram.
 use Rattle.std.specs.Prelude.{ℕ, Bool, true, false, List, map, Option, None, Some, length, if◌then◌else◌}
 use Rattle.std.specs.declared.net.socket_addr.SocketAddr.{SocketAddr}
-use Rattle.addresses.specs.declared.occupancy.Occupants.{Occupants}
-use Rattle.addresses.specs.declared.occupancy.Occupants.TheVariants.{Alone, Several}
-use Rattle.addresses.specs.declared.senders.SourceAddress.{SourceAddress}
+use Rattle.addresses.specs.declared.endpoints_by_key.Occupants.{Occupants}
+use Rattle.addresses.specs.declared.endpoints_by_key.Occupants.TheVariants.{Alone, Several}
+use Rattle.addresses.specs.declared.sender_table.SourceAddress.{SourceAddress}
 use Rattle.rtcp_compound.specs.Mux.{is_rtcp}
 use Rattle.datagram.specs.Naming.{heard_size}
-use Rattle.addresses.specs.Occupancy.{occupants_of}
+use Rattle.addresses.specs.EndpointsByKey.{occupants_of}
 
 abbrev pub addresses_of : List (SourceAddress × ℕ) → List (SocketAddr × ℕ)
 addresses_of entries = map (λ entry. (entry.0.address, entry.1)) entries

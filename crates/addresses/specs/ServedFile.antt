@@ -10,6 +10,7 @@ use Rattle.policy.specs.declared.rules.Rules.{Rules}
 use Rattle.settings_toml.specs.declared.bound_keys.BoundKeys.{BoundKeys}
 use Rattle.std.specs.declared.net.socket_addr.SocketAddr.{SocketAddr}
 use Rattle.addresses.specs.Clients.{AreSpelled, Spells}
+use Rattle.addresses.specs.Mixed.{mixed_spot}
 use Rattle.settings_toml.specs.SettingsFaults.{TextGives}
 use Rattle.addresses.specs.declared.served_file.ServedSettings.{ServedSettings}
 use Rattle.settings_toml.specs.declared.settings_file.FileSettings.{FileSettings}
@@ -38,7 +39,7 @@ ListensApart media (Some text) apart =
     (address : SocketAddr) × IsSocketText (string_bytes text) address × (apart ≡ Some address)
     × (is_ipv4 (socket_ip address) ≡ is_ipv4 (socket_ip media))
 
--- The settings of the file, with the addresses that its texts spell.
+-- The settings of the file, with the addresses that its texts spell, which go together.
 pub record PlacesFile (same : SocketAddr → SocketAddr → Bool) (file : FileSettings)
     (s : ServedSettings) : Type 0 where
   pub settings : s.settings ≡ file.settings
@@ -48,6 +49,7 @@ pub record PlacesFile (same : SocketAddr → SocketAddr → Bool) (file : FileSe
   pub listen_rtcp : ListensApart s.listen.media file.listen_rtcp s.listen.rtcp
   pub texts : s.texts ≡ file.clients
   pub clients : AreSpelled same s.listen file.clients.items (Ok s.clients.items)
+  pub unmixed : mixed_spot same s.clients.items file.clients.items ≡ None
 
 -- The text gives these settings and addresses.
 pub record GivesPlaces (same : SocketAddr → SocketAddr → Bool) (text : List ℕ)

@@ -91,8 +91,8 @@ impl AddressKey {
 #[derive(Clone, Copy, PartialEq, Eq)]
 pub enum ClientFault {
     NoMemory,
-    /// Of the endpoint with this number the first key that is missing when it is needed, or stands where it can't, or spells no
-    /// address or network, or one that can't be reached.
+    /// The first wrong key of the endpoint with this number. It is missing when it is needed, stands where it can't, spells no address or
+    /// network, or one that can't be reached.
     Endpoint(usize, AddressKey),
 }
 
@@ -262,8 +262,8 @@ fn rtcp_address_in(
     }
 }
 
-/// Whether a unit that listens there can send to this address: it is of the same version of IP, has a port and names a host, and isn't
-/// where the unit listens itself.
+/// Whether a unit that listens there can send to this address: it has the same version of IP, a port and a host, and isn't where the unit
+/// listens itself.
 pub fn is_reachable(listen: Listening, address: SocketAddr) -> bool
     ensures { IsTrue result ↔ IsReachable ⟦<SocketAddr as PartialEq>⟧.eq listen address }
 {

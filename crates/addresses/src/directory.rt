@@ -6,7 +6,7 @@ ghost use Rattle.addresses.specs.declared.clients.Addresses.{Addresses as Places
 ghost use Rattle.addresses.specs.declared.directory.Entry.TheVariants.{Fixed};
 
 use crate::clients::{Addresses, Client, Location};
-use crate::seat::{Kind, LearnedAddress};
+use crate::learned_address::{Kind, LearnedAddress};
 use std::alloc::{AllocError, Global};
 use std::net::SocketAddr;
 use std::sync::RwLock;

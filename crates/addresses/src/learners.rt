@@ -4,9 +4,9 @@ ghost use Rattle.std.specs.Prelude.{◌≡◌, ◌∷◌, ◌++◌, [], Some, No
 ghost use Rattle.addresses.specs.Learners.{after_word, claim_at, claim_of, learner_at, may_come, named_in, with_seat};
 ghost use Rattle.addresses.specs.LearnedAddress.{empty_seat};
 
+use crate::endpoints_by_key::{EndpointsByKey, Occupants};
+use crate::learned_address::{Kind, LearnedAddress};
 use crate::network::Network;
-use crate::occupancy::{Occupancy, Occupants};
-use crate::seat::{Kind, LearnedAddress};
 use std::alloc::{AllocError, Global};
 use std::marker::Model;
 use std::net::{IpAddr, SocketAddr};
@@ -34,7 +34,7 @@ pub struct Arrived {
 #[derive(Drop)]
 pub struct Learners {
     /// The source of each endpoint that learns.
-    sources: Occupancy<u32>,
+    sources: EndpointsByKey<u32>,
     learners: Vec<Option<Learner>>,
     /// How long a seat is kept after its endpoint was heard, in milliseconds.
     keep_ms: u64,
@@ -62,7 +62,7 @@ impl Learners {
         } }
     {
         Learners {
-            sources: Occupancy::new(alloc),
+            sources: EndpointsByKey::new(alloc),
             learners: Vec::new(alloc),
             keep_ms,
         }
@@ -145,7 +145,7 @@ impl Learners {
         self.learners[usize::from(endpoint)] = Some(Learner { within, seat });
     }
 
-    /// The endpoint with this number was heard at this moment: its seat is kept from now on, or is free if it said goodbye.
+    /// The endpoint with this number was heard at this moment: its seat is kept from now on, or is free if it sent a BYE.
     pub fn heard(&mut self, endpoint: u16, moment: u64, is_goodbye: bool)
         ensures { self.new ≡ after_word self.old endpoint moment is_goodbye }
     {

@@ -13,7 +13,7 @@ pub enum Standing {
     Speaks,
     /// It only listens: reports are made in its name.
     Listens,
-    /// It only listens, and said goodbye: no report is made until it is heard again.
+    /// It only listens, and sent a BYE: no report is made until it is heard again.
     Left,
 }
 
@@ -32,7 +32,7 @@ impl Standing {
         }
     }
 
-    /// What is known once the endpoint was heard: whether it said goodbye.
+    /// What is known once the endpoint was heard: whether it sent a BYE.
     fn after(self, is_goodbye: bool) -> Standing
         ensures { result ≡ standing_after self is_goodbye }
     {
@@ -93,7 +93,7 @@ impl Listeners {
         })
     }
 
-    /// The endpoint with this number was heard: whether it said goodbye. Who only listens and said goodbye is left alone until it is
+    /// The endpoint with this number was heard: whether it sent a BYE. Who only listens and sent a BYE is left alone until it is
     /// heard again; of any other endpoint nothing changes.
     pub fn heard(&mut self, endpoint: usize, is_goodbye: bool)
         ensures { self.new ≡ after_hearing self.old endpoint is_goodbye }

@@ -6,6 +6,7 @@ ghost use Rattle.addresses.specs.ServedFile.{GivesPlaces, IsPlacedFault, IsPlace
 use crate::clients::{
     AddressKey, Client, ClientFault, Listening, address_in, client_in, read_clients,
 };
+use crate::mixed::mixed_place;
 use policy::{ResendBounds, Rules};
 use settings::Settings;
 use settings_toml::{
@@ -34,7 +35,7 @@ pub struct ServedSettings {
 }
 
 /// The settings that a text spells, with all addresses; else its first fault; an address that is missing, is none or can't be
-/// reached is a fault of its key.
+/// reached is a fault of its key. Behind all these faults come addresses and formats that don't go together (`mixed_place`).
 pub fn read_served(alloc: Global, text: &[u8]) -> Result<ServedSettings, SettingsProblem>
     ensures ok { IfOk result (GivesPlaces ⟦<SocketAddr as PartialEq>⟧.eq text.now) }
     ensures err { IfErr result (IsServedFault text.now) }
@@ -59,14 +60,17 @@ fn placed(alloc: Global, file: FileSettings) -> Result<ServedSettings, SettingsP
     };
     let listen = Listening { media, rtcp };
     match read_clients(alloc, listen, file.clients.as_slice()) {
-        Ok(clients) => Ok(ServedSettings {
-            settings: file.settings,
-            listen,
-            rules: rules_in(file.new_starts, file.strict_ssrc, file.bounds),
-            tick_ms: file.tick_ms,
-            clients,
-            texts: file.clients,
-        }),
+        Ok(clients) => match mixed_place(clients.as_slice(), file.clients.as_slice()) {
+            Some(place) => Err(problem_at(alloc, place)),
+            None => Ok(ServedSettings {
+                settings: file.settings,
+                listen,
+                rules: rules_in(file.new_starts, file.strict_ssrc, file.bounds),
+                tick_ms: file.tick_ms,
+                clients,
+                texts: file.clients,
+            }),
+        },
         Err(ClientFault::NoMemory) => Err(SettingsProblem::NoMemory),
         Err(ClientFault::Endpoint(number, key)) => {
             Err(problem_at(alloc, Place::Endpoint(number, key.name())))
@@ -74,9 +78,8 @@ fn placed(alloc: Global, file: FileSettings) -> Result<ServedSettings, SettingsP
     }
 }
 
-/// What is looked at, if a file says so: sources that begin anew go unnoticed unless it says otherwise, and feedback has to name
-/// the endpoint's own source; what one client may cost the others, how often a publisher is asked again, and how much of a stall
-/// counts.
+/// What a file says of the rules. If it says nothing, sources that begin anew go unnoticed, and feedback has to name the endpoint's own source.
+/// It also says what one client may cost the others, how often a publisher is asked again, and how much of a stall counts.
 fn rules_in(new_starts: Option<bool>, strict_ssrc: Option<bool>, bounds: BoundKeys) -> Rules
     ensures { result ≡ rules_in new_starts strict_ssrc bounds }
 {

@@ -124,8 +124,8 @@ fn push_unread(text: &mut String, unread: Option<u64>) -> Result<(), AllocError>
     }
 }
 
-/// The line of an endpoint for `present`: its number, its source, its address, whether it is present, how many milliseconds ago it
-/// was heard last, if ever, and how often something was refused of what came from it. Refused for want of memory alone.
+/// The line of an endpoint for `present`: its number, source and address, and whether it is present. Then how many milliseconds ago it was heard
+/// last, if ever, and how often something of it was refused. Refused for want of memory alone.
 pub fn present_line(
     alloc: Global,
     endpoint: u16,

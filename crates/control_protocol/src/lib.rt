@@ -1,18 +1,17 @@
 //! How a unit is steered while it runs: what a peer of `sfu serve --control` asks for, and what it is answered.
 //!
-//! There is neither a socket nor a thread here. Read `request` first, what can be asked for; then `answer`, the texts of answers,
-//! `course`, what a request leads to, `inbox`, how lines come out of the bytes of a peer, `peers`, who is
-//! looked at next, `places`, who makes room for another, and `shortage`, when the control says that nobody can be taken in. `ask` is the other
-//! end, which takes an answer apart.
+//! There is neither a socket nor a thread here. Read `request` first, what can be asked for; then `answer`, the texts of answers, and `request_action`,
+//! what a request leads to. `inbox` is how lines come out of the bytes of a peer, `peers` who is looked at next, `places` who makes room for
+//! another. `shortage` is when the control says that nobody can be taken in. `ask` is the other end, which takes an answer apart.
 #![tactic(auto)]
 
 mod answer;
 mod ask;
-mod course;
 mod inbox;
 mod peers;
 mod places;
 mod request;
+mod request_action;
 mod screened;
 mod shortage;
 
@@ -20,10 +19,10 @@ pub use answer::{
     Refused, Unheard, counts_text, done_text, present_line, refused_text, stranger_line,
 };
 pub use ask::{Answered, read_answer};
-pub use course::{Course, course_for};
 pub use inbox::{Inbox, MAX_INBOX};
 pub use peers::Peers;
 pub use places::{MAX_PEERS, Place, ROOM_AFTER_MS, TAKEN_IN, place_among};
 pub use request::{Request, read_request};
+pub use request_action::{RequestAction, action_for};
 pub use screened::{Screened, screened_text};
 pub use shortage::{SHORTAGE_EACH_MS, says_shortage, shortage_text};

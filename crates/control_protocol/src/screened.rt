@@ -11,7 +11,7 @@ use std::alloc::{AllocError, Global};
 pub struct Screened {
     /// Packets whose number was far from the highest of their source.
     pub far: u64,
-    /// Packets that were asked for again, too soon or too many.
+    /// Packets that were NACKed too soon, or too many.
     pub held: u64,
     /// Datagrams beyond the limit of their endpoint.
     pub flooded: u64,

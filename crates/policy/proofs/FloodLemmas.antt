@@ -4,8 +4,8 @@ use Rattle.std.specs.Prelude.{◌&&◌, nat_le, nat_lt, Some}
 use Rattle.std.proofs.lemmas.Bool.{cases_Bool}
 use Rattle.std.proofs.lemmas.Bool.Decides.{nat_tests}
 use Rattle.std.proofs.Math.Nat.{mul-le-mul_left}
-use Rattle.policy.specs.declared.floods.Bucket.{Bucket}
-use Rattle.policy.specs.declared.floods.TheConstants.{BURST_MS}
+use Rattle.policy.specs.declared.flood_limiter.Bucket.{Bucket}
+use Rattle.policy.specs.declared.flood_limiter.TheConstants.{BURST_MS}
 use Rattle.policy.specs.FloodLimiter.{AreInOrder, KeepsWithin, bucket_after, empty_bucket, has_room, heard_since, is_heard, is_within, level_at, one_if}
 
 -- ---- products

@@ -3,7 +3,7 @@ use Rattle.std.proofs.Common.{◌≡◌, ◌⊎◌, inl, inr, ◌∙◌, ◌==�
 use Rattle.std.specs.Prelude.{Option, None, Some, if◌then◌else◌}
 use Rattle.settings.specs.declared.settings.LegSettings.{LegSettings}
 use Rattle.policy.specs.RequestGaps.{AreGapsApart, GapHappening, IsHeardInTheEnd, IsNotLost, asks, gap_asked, gap_looked, heard_at, heard_if, heard_waiting, is_open, is_past, last_moment, last_word, leaves, leg_after, looked_at, word_asked_last, words_heard}
-use Rattle.policy.specs.declared.gaps.LegGap.{LegGap}
+use Rattle.policy.specs.declared.request_gaps.LegGap.{LegGap}
 
 -- ---- what was heard last
 

@@ -1,8 +1,9 @@
+pub mod AgainLemmas
 pub mod EntryLemmas
 pub mod FloodLemmas
-pub mod PutByLemmas
-pub mod StartLemmas
-pub mod ComingLemmas
+pub mod HeldPacketsLemmas
+pub mod TrackerLemmas
+pub mod JoinedLemmas
 pub mod HearingLemmas
 pub mod RequestLemmas
 pub mod SetLemmas

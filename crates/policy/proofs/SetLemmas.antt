@@ -1,14 +1,17 @@
 -- A set that is asked for again wasn't told, and who is lifted again is gone and was named.
-use Rattle.std.proofs.Common.{◌≡◌, ◌≢◌, ◌∙◌, Bool, true, false, List, [], ◌∷◌, refl, sym, ap}
+use Rattle.std.proofs.Common.{◌≡◌, ◌≢◌, ◌∙◌, ◌==◌, ◌++◌, ℕ, Bool, true, false, List, [], ◌∷◌, refl, sym, ap}
 use Rattle.std.specs.Prelude.{◌&&◌, ◌||◌, not, Option, if◌then◌else◌}
 use Rattle.std.specs.Cmp.Lexicographic.{pointwise}
+use Rattle.std.specs.List.{list_any}
+use Rattle.std.proofs.lemmas.Bool.{eqb-true}
+use Rattle.std.proofs.lemmas.List.Folds.{list_any-append}
 use Rattle.tmmbr_tuple.specs.declared.ssrc.Ssrc.{Ssrc}
 use Rattle.rtcp_feedback.specs.declared.tmmb.TmmbrEntry.{TmmbrEntry}
-use Rattle.policy.specs.AnnouncedSets.{IsHeldInVain, IsUntold, SetHappening, SetState, are_told, asked_for, asks_again, came_anew, first_set, has_notified, is_lifted_again, is_own, is_same, is_some_set, looked_at, may_hold, names_owner, notified, second_set, set_after, sets_seen, told_last}
+use Rattle.policy.specs.AnnouncedSets.{IsHeldInVain, IsUnacknowledged, SetHappening, SetState, are_acknowledged, asked_for, asks_again, came_anew, has_notified, is_among, is_lifted_again, is_own, is_same, is_some_set, looked_at, may_hold, named_before, named_since, names_owner, notified, set_after, acknowledged_last}
 
-told_is : (happenings : List SetHappening) → (set_after happenings).told ≡ told_last happenings
+told_is : (happenings : List SetHappening) → (set_after happenings).acknowledged ≡ acknowledged_last happenings
 told_is [] = refl
-told_is (asked_for ∷ earlier) = told_is earlier
+told_is (asked_for owner ∷ earlier) = told_is earlier
 told_is (notified entries ∷ earlier) = refl
 told_is (came_anew ∷ earlier) = refl
 told_is (looked_at set ∷ earlier) = told_is earlier
@@ -27,35 +30,62 @@ not_empty [] h = absurd (cc)
 not_empty (e ∷ es) h = λ same. cc
 
 pub asks_untold : (happenings : List SetHappening) (set : List TmmbrEntry) → asks_again (set_after happenings) set ≡ true
-    → IsUntold happenings set
+    → IsUnacknowledged happenings set
 asks_untold happenings set again =
     let s : SetState = set_after happenings in
     record {
-      some = not_empty set (first_of_three (is_some_set set) (pointwise is_same set s.seen) (not (are_told s.told set)) again);
-      untold = ap (λ (told : List TmmbrEntry). are_told told set) (sym (told_is happenings))
-          ∙ not_second (is_some_set set && pointwise is_same set s.seen) (are_told s.told set) again;
+      some = not_empty set (first_of_three (is_some_set set) (pointwise is_same set s.seen) (not (are_acknowledged s.acknowledged set)) again);
+      untold = ap (λ (acknowledged : List TmmbrEntry). are_acknowledged acknowledged set) (sym (told_is happenings))
+          ∙ not_second (is_some_set set && pointwise is_same set s.seen) (are_acknowledged s.acknowledged set) again;
     }
 
-has_told_is : (happenings : List SetHappening) → (set_after happenings).has_told ≡ has_notified happenings
+has_told_is : (happenings : List SetHappening) → (set_after happenings).has_acknowledged ≡ has_notified happenings
 has_told_is [] = refl
-has_told_is (asked_for ∷ earlier) = has_told_is earlier
+has_told_is (asked_for owner ∷ earlier) = has_told_is earlier
 has_told_is (notified entries ∷ earlier) = refl
 has_told_is (came_anew ∷ earlier) = refl
 has_told_is (looked_at set ∷ earlier) = has_told_is earlier
 
-seen_is : (happenings : List SetHappening) → (set_after happenings).seen ≡ first_set (sets_seen happenings)
-seen_is [] = refl
-seen_is (asked_for ∷ earlier) = seen_is earlier
-seen_is (notified entries ∷ earlier) = seen_is earlier
-seen_is (came_anew ∷ earlier) = refl
-seen_is (looked_at set ∷ earlier) = refl
+-- ---- who is noted as one that asked is among those that asked, once each
 
-before_is : (happenings : List SetHappening) → (set_after happenings).before ≡ second_set (sets_seen happenings)
-before_is [] = refl
-before_is (asked_for ∷ earlier) = before_is earlier
-before_is (notified entries ∷ earlier) = before_is earlier
-before_is (came_anew ∷ earlier) = refl
-before_is (looked_at set ∷ earlier) = seen_is earlier
+same_among : (owners : List Ssrc) (who owner : Ssrc) → (who.0 == owner.0) ≡ true → is_among owners owner ≡ is_among owners who
+same_among owners who owner same =
+    ap (λ (n : ℕ). list_any (λ (o : Ssrc). o.0 == n) owners) (sym (eqb-true who.0 owner.0 same))
+
+among_kept : (owners : List Ssrc) (who owner : Ssrc) (b : Bool) → (who.0 == owner.0) ≡ b → is_among owners who ≡ true
+    → is_among owners owner ≡ (b || is_among owners owner)
+among_kept owners who owner true same is = same_among owners who owner same ∙ is
+among_kept owners who owner false other is = refl
+
+or_other : (a b : Bool) → (a || (b || false)) ≡ (b || a)
+or_other true true = refl
+or_other true false = refl
+or_other false true = refl
+or_other false false = refl
+
+among_noted : (owners : List Ssrc) (who owner : Ssrc) (b : Bool) → is_among owners who ≡ b
+    → is_among (if b then owners else owners ++ who ∷ []) owner ≡ ((who.0 == owner.0) || is_among owners owner)
+among_noted owners who owner true is = among_kept owners who owner (who.0 == owner.0) refl is
+among_noted owners who owner false is =
+    list_any-append (λ (o : Ssrc). o.0 == owner.0) owners (who ∷ []) ∙ or_other (is_among owners owner) (who.0 == owner.0)
+
+recent_is : (happenings : List SetHappening) (owner : Ssrc)
+    → is_among (set_after happenings).recent owner ≡ is_among (named_since happenings) owner
+recent_is [] owner = refl
+recent_is (asked_for who ∷ earlier) owner =
+    let recent : List Ssrc = (set_after earlier).recent in
+    among_noted recent who owner (is_among recent who) refl ∙ ap (λ (b : Bool). (who.0 == owner.0) || b) (recent_is earlier owner)
+recent_is (notified entries ∷ earlier) owner = recent_is earlier owner
+recent_is (came_anew ∷ earlier) owner = refl
+recent_is (looked_at set ∷ earlier) owner = refl
+
+earlier_is : (happenings : List SetHappening) (owner : Ssrc)
+    → is_among (set_after happenings).earlier owner ≡ is_among (named_before happenings) owner
+earlier_is [] owner = refl
+earlier_is (asked_for who ∷ earlier) owner = earlier_is earlier owner
+earlier_is (notified entries ∷ earlier) owner = earlier_is earlier owner
+earlier_is (came_anew ∷ earlier) owner = refl
+earlier_is (looked_at set ∷ earlier) owner = recent_is earlier owner
 
 not_the_first : (a b c : Bool) → ((not a && not b) && c) ≡ true → a ≡ false
 not_the_first true b c h = absurd (cc)
@@ -71,12 +101,12 @@ the_third true b c h = absurd (cc)
 the_third false true c h = absurd (cc)
 the_third false false c h = h
 
-if_told : (told named same was : Bool) → (if told then named && same else was) ≡ true → told ≡ true → named ≡ true
+if_told : (acknowledged named same was : Bool) → (if acknowledged then named && same else was) ≡ true → acknowledged ≡ true → named ≡ true
 if_told true true same was h is = refl
 if_told true false same was h is = absurd (cc)
 if_told false named same was h is = absurd (cc)
 
-if_silent : (told named was : Bool) → (if told then named else was) ≡ true → told ≡ false → was ≡ true
+if_silent : (acknowledged named was : Bool) → (if acknowledged then named else was) ≡ true → acknowledged ≡ false → was ≡ true
 if_silent true named was h is = absurd (cc)
 if_silent false named was h is = h
 
@@ -84,19 +114,19 @@ pub lifts_the_gone : (happenings : List SetHappening) (set : List TmmbrEntry) (o
     → is_lifted_again (set_after happenings) set own owner ≡ true → IsHeldInVain happenings set own owner
 lifts_the_gone happenings set own owner lifted =
     let s : SetState = set_after happenings in
-    let by_told : Bool = names_owner s.told owner in
+    let by_told : Bool = names_owner s.acknowledged owner in
     let same : Bool = pointwise is_same set s.seen in
-    let by_seen : Bool = names_owner s.seen owner || names_owner s.before owner in
+    let lately : Bool = is_among s.recent owner || is_among s.earlier owner in
     let holds : may_hold s set owner ≡ true =
     the_third (is_own own owner) (names_owner set owner) (may_hold s set owner) lifted in
     record {
       other = not_the_first (is_own own owner) (names_owner set owner) (may_hold s set owner) lifted;
       gone = not_the_second (is_own own owner) (names_owner set owner) (may_hold s set owner) lifted;
       named = λ notifies.
-          ap (λ (told : List TmmbrEntry). names_owner told owner) (sym (told_is happenings))
-          ∙ if_told s.has_told by_told same by_seen holds (has_told_is happenings ∙ notifies);
-      seen = λ silent.
-          ap (λ (seen : List TmmbrEntry). names_owner seen owner || names_owner (second_set (sets_seen happenings)) owner) (sym (seen_is happenings))
-          ∙ ap (λ (before : List TmmbrEntry). names_owner s.seen owner || names_owner before owner) (sym (before_is happenings))
-          ∙ if_silent s.has_told (by_told && same) by_seen holds (has_told_is happenings ∙ silent);
+          ap (λ (acknowledged : List TmmbrEntry). names_owner acknowledged owner) (sym (told_is happenings))
+          ∙ if_told s.has_acknowledged by_told same lately holds (has_told_is happenings ∙ notifies);
+      lately = λ silent.
+          ap (λ (b : Bool). b || is_among (named_before happenings) owner) (sym (recent_is happenings owner))
+          ∙ ap (λ (b : Bool). is_among s.recent owner || b) (sym (earlier_is happenings owner))
+          ∙ if_silent s.has_acknowledged (by_told && same) lately holds (has_told_is happenings ∙ silent);
     }

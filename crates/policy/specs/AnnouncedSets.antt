@@ -1,43 +1,58 @@
 -- What a publisher is asked again: its announced set, if it was seen before and the publisher didn't notify of it; and to take a bound for
 -- lifted whose owner the set hasn't, if it may not know (RFC 5104, sections 4.2.1.2 and 4.2.2).
-use Rattle.std.specs.Prelude.{◌≡◌, ◌≢◌, ◌==◌, ◌&&◌, ◌||◌, ℕ, ◌+◌, nat_lt, nat_le, min, not, Bool, true, false, List, [], ◌∷◌, filter, Option, None, Some, option_map, slice_get, slice_set, if◌then◌else◌}
+use Rattle.std.specs.Prelude.{◌≡◌, ◌≢◌, ◌==◌, ◌&&◌, ◌||◌, ℕ, ◌+◌, nat_lt, nat_le, min, not, Bool, true, false, List, [], ◌∷◌, ◌++◌, filter, map, Option, None, Some, option_map, slice_get, slice_set, if◌then◌else◌}
 use Rattle.std.specs.Cmp.Lexicographic.{pointwise}
 use Rattle.std.specs.List.{list_all, list_any}
 use Rattle.tmmbr_tuple.specs.declared.ssrc.Ssrc.{Ssrc}
 use Rattle.rtcp_feedback.specs.declared.tmmb.TmmbrEntry.{TmmbrEntry}
+use Rattle.policy.specs.declared.announced_sets.DueLook.{DueLook}
+use Rattle.policy.specs.declared.announced_sets.DueLook.TheVariants.{Presence, Desk}
 
--- since a publisher came last: whether anybody asked it for a rate; the announced set that was seen last, and the one before; whether it
--- notified, and of what last
+-- since a publisher came last: whether anybody asked it for a rate; the announced set that was seen last; the owners that it named, and
+-- those that asked since that look; the same of the look before, up to that; whether it notified, and of what last
 pub record SetState : Type 0 where
   pub is_asked : Bool
   pub seen : List TmmbrEntry
-  pub before : List TmmbrEntry
-  pub has_told : Bool
-  pub told : List TmmbrEntry
+  pub recent : List Ssrc
+  pub earlier : List Ssrc
+  pub has_acknowledged : Bool
+  pub acknowledged : List TmmbrEntry
 
 abbrev pub new_set : SetState
-new_set = record { is_asked = false; seen = []; before = []; has_told = false; told = [] }
+new_set = record { is_asked = false; seen = []; recent = []; earlier = []; has_acknowledged = false; acknowledged = [] }
 
-abbrev pub set_asked : SetState → SetState
-set_asked s = record s { is_asked = true }
+-- this owner is among these
+abbrev pub is_among : List Ssrc → Ssrc → Bool
+is_among owners owner = list_any (λ (o : Ssrc). o.0 == owner.0) owners
 
-abbrev pub set_told : List TmmbrEntry → SetState → SetState
-set_told entries s = record s { has_told = true; told = entries }
+abbrev pub with_owner : Ssrc → List Ssrc → List Ssrc
+with_owner owner owners = if is_among owners owner then owners else owners ++ owner ∷ []
 
+abbrev pub owner_of : TmmbrEntry → Ssrc
+owner_of e = e.ssrc
+
+-- this owner asks for a rate, so that the set may name it (RFC 5104, section 4.2.1)
+abbrev pub set_asked : Ssrc → SetState → SetState
+set_asked owner s = record s { is_asked = true; recent = with_owner owner s.recent }
+
+abbrev pub set_acknowledged : List TmmbrEntry → SetState → SetState
+set_acknowledged entries s = record s { has_acknowledged = true; acknowledged = entries }
+
+-- a look: its owners are the latest, until others ask
 abbrev pub set_seen : List TmmbrEntry → SetState → SetState
-set_seen set s = record s { seen = set; before = s.seen }
+set_seen set s = record s { seen = set; recent = map owner_of set; earlier = s.recent }
 
 -- its desk is looked at: it was asked for a rate, or notified
 abbrev pub is_watched : SetState → Bool
-is_watched s = s.is_asked || s.has_told
+is_watched s = s.is_asked || s.has_acknowledged
 
 -- the same owner and word
 abbrev pub is_same : TmmbrEntry → TmmbrEntry → Bool
 is_same entry other = (entry.ssrc.0 == other.ssrc.0) && (entry.word == other.word)
 
 -- each member of the set is among these
-abbrev pub are_told : List TmmbrEntry → List TmmbrEntry → Bool
-are_told told set = list_all (λ e. list_any (is_same e) told) set
+abbrev pub are_acknowledged : List TmmbrEntry → List TmmbrEntry → Bool
+are_acknowledged acknowledged set = list_all (λ e. list_any (is_same e) acknowledged) set
 
 abbrev pub is_some_set : List TmmbrEntry → Bool
 is_some_set [] = false
@@ -46,18 +61,18 @@ is_some_set (entry ∷ entries) = true
 -- a set is asked for again: it isn't empty, it is the one that was seen last, and the publisher didn't notify of all of it
 -- (RFC 5104, sections 4.2.1.2 and 4.2.2)
 abbrev pub asks_again : SetState → List TmmbrEntry → Bool
-asks_again s set = (is_some_set set && pointwise is_same set s.seen) && not (are_told s.told set)
+asks_again s set = (is_some_set set && pointwise is_same set s.seen) && not (are_acknowledged s.acknowledged set)
 
 -- these entries name this owner
 abbrev pub names_owner : List TmmbrEntry → Ssrc → Bool
 names_owner entries owner = list_any (λ (e : TmmbrEntry). e.ssrc.0 == owner.0) entries
 
 -- The publisher may still keep to a bound of this owner: its last notification names it, and the set has been so since the last look; or, if
--- it never notified, one of the two sets that were seen last does.
+-- it never notified, one of the last two sets that were seen named it, or it asked since the earlier one.
 abbrev pub may_hold : SetState → List TmmbrEntry → Ssrc → Bool
 may_hold s set owner =
-    if s.has_told then names_owner s.told owner && pointwise is_same set s.seen
-    else names_owner s.seen owner || names_owner s.before owner
+    if s.has_acknowledged then names_owner s.acknowledged owner && pointwise is_same set s.seen
+    else is_among s.recent owner || is_among s.earlier owner
 
 -- the publisher's own source, if it has one
 abbrev pub is_own : Option Ssrc → Ssrc → Bool
@@ -118,50 +133,57 @@ next_watched from n [] = None
 next_watched from n (s ∷ sets) =
     if nat_le from n && is_watched s then Some n else next_watched from (n + 1) sets
 
--- where the call at this moment looks from: a round goes on, or begins if it is due
-abbrev pub look_from : Option ℕ → Bool → Option ℕ
-look_from (Some from) is_early = Some from
-look_from None is_early = if is_early then None else Some 0
+abbrev pub look_at_desk : Option ℕ → Option DueLook
+look_at_desk None = None
+look_at_desk (Some number) = Some (Desk number)
+
+-- as a round goes on the next desk of it is looked at; one that begins looks first who is present
+abbrev pub look_in : Option ℕ → Bool → List SetState → Option DueLook
+look_in (Some from) is_early sets = look_at_desk (next_watched from 0 sets)
+look_in None is_early sets = if is_early then None else Some Presence
+
+-- from which number on the round looks then
+abbrev pub next_in : Option ℕ → Bool → List SetState → Option ℕ
+next_in (Some from) is_early sets = option_map (λ number. number + 1) (next_watched from 0 sets)
+next_in None is_early sets = if is_early then None else Some 0
 
 abbrev pub due_after_look : Option ℕ → Bool → ℕ → ℕ → ℕ
 due_after_look (Some from) is_early due_ms next_ms = due_ms
 due_after_look None is_early due_ms next_ms = if is_early then due_ms else next_ms
 
-abbrev pub watched_from : Option ℕ → List SetState → Option ℕ
-watched_from None sets = None
-watched_from (Some from) sets = next_watched from 0 sets
-
-abbrev pub look_of : SetsState → ℕ → Option ℕ
-look_of s moment = watched_from (look_from s.next (nat_lt moment s.due_ms)) s.publishers
-
--- whose desk is looked at at this moment; nobody's if there are no rounds
-abbrev pub look_due : SetsState → ℕ → Option ℕ
-look_due s moment = if s.every_ms == 0 then None else look_of s moment
+-- what is looked at at this moment; nothing if there are no rounds
+abbrev pub look_due : SetsState → ℕ → Option DueLook
+look_due s moment =
+    if s.every_ms == 0 then None else look_in s.next (nat_lt moment s.due_ms) s.publishers
 
 abbrev pub after_look : SetsState → ℕ → SetsState
 after_look s moment = record {
   publishers = s.publishers;
   every_ms = s.every_ms;
   due_ms = due_after_look s.next (nat_lt moment s.due_ms) s.due_ms (min (moment + s.every_ms) 18446744073709551615);
-  next = option_map (λ number. number + 1) (look_of s moment);
+  next = next_in s.next (nat_lt moment s.due_ms) s.publishers;
 }
 
 -- who is named had its turn, and a round without anybody left ends; the next is due so long after this one began
 abbrev pub sets_after : SetsState → ℕ → SetsState
 sets_after s moment = if s.every_ms == 0 then s else after_look s moment
 
+-- an endpoint is seen: of one that isn't present nothing is known, so that it is told nothing
+abbrev pub with_presence : SetsState → ℕ → Bool → SetsState
+with_presence s endpoint is_present = if is_present then s else with_set s endpoint (λ _. new_set)
+
 -- ---- over all that happened, the latest first
 
--- the publisher is asked for a rate, notifies of these, or comes anew; or this announced set is seen
+-- this owner asks the publisher for a rate; the publisher notifies of these, or comes anew; or this announced set is seen
 pub data SetHappening : Type 0 where
-  asked_for : SetHappening
+  asked_for : Ssrc → SetHappening
   notified : List TmmbrEntry → SetHappening
   came_anew : SetHappening
   looked_at : List TmmbrEntry → SetHappening
 
 abbrev pub set_with : SetState → SetHappening → SetState
-set_with s asked_for = set_asked s
-set_with s (notified entries) = set_told entries s
+set_with s (asked_for owner) = set_asked owner s
+set_with s (notified entries) = set_acknowledged entries s
 set_with s came_anew = new_set
 set_with s (looked_at set) = set_seen set s
 
@@ -170,48 +192,47 @@ set_after [] = new_set
 set_after (h ∷ earlier) = set_with (set_after earlier) h
 
 -- what it notified of last, since it came
-abbrev pub told_last : List SetHappening → List TmmbrEntry
-told_last [] = []
-told_last (asked_for ∷ earlier) = told_last earlier
-told_last (notified entries ∷ earlier) = entries
-told_last (came_anew ∷ earlier) = []
-told_last (looked_at set ∷ earlier) = told_last earlier
+abbrev pub acknowledged_last : List SetHappening → List TmmbrEntry
+acknowledged_last [] = []
+acknowledged_last (asked_for owner ∷ earlier) = acknowledged_last earlier
+acknowledged_last (notified entries ∷ earlier) = entries
+acknowledged_last (came_anew ∷ earlier) = []
+acknowledged_last (looked_at set ∷ earlier) = acknowledged_last earlier
 
 abbrev pub has_notified : List SetHappening → Bool
 has_notified [] = false
-has_notified (asked_for ∷ earlier) = has_notified earlier
+has_notified (asked_for owner ∷ earlier) = has_notified earlier
 has_notified (notified entries ∷ earlier) = true
 has_notified (came_anew ∷ earlier) = false
 has_notified (looked_at set ∷ earlier) = has_notified earlier
 
--- the sets that were seen since it came, the latest first
-abbrev pub sets_seen : List SetHappening → List (List TmmbrEntry)
-sets_seen [] = []
-sets_seen (asked_for ∷ earlier) = sets_seen earlier
-sets_seen (notified entries ∷ earlier) = sets_seen earlier
-sets_seen (came_anew ∷ earlier) = []
-sets_seen (looked_at set ∷ earlier) = set ∷ sets_seen earlier
+-- whom the set named when it was seen last, and who asked since; nobody before the publisher came
+abbrev pub named_since : List SetHappening → List Ssrc
+named_since [] = []
+named_since (asked_for owner ∷ earlier) = owner ∷ named_since earlier
+named_since (notified entries ∷ earlier) = named_since earlier
+named_since (came_anew ∷ earlier) = []
+named_since (looked_at set ∷ earlier) = map owner_of set
 
-abbrev pub first_set : List (List TmmbrEntry) → List TmmbrEntry
-first_set [] = []
-first_set (set ∷ sets) = set
-
-abbrev pub second_set : List (List TmmbrEntry) → List TmmbrEntry
-second_set [] = []
-second_set (set ∷ sets) = first_set sets
+-- the same of the look before the last, up to that
+abbrev pub named_before : List SetHappening → List Ssrc
+named_before [] = []
+named_before (asked_for owner ∷ earlier) = named_before earlier
+named_before (notified entries ∷ earlier) = named_before earlier
+named_before (came_anew ∷ earlier) = []
+named_before (looked_at set ∷ earlier) = named_since earlier
 
 -- The set isn't empty, and what the publisher notified of last doesn't list all of it (RFC 5104, section 4.2.2).
-pub record IsUntold (happenings : List SetHappening) (set : List TmmbrEntry) : Type 0 where
+pub record IsUnacknowledged (happenings : List SetHappening) (set : List TmmbrEntry) : Type 0 where
   pub some : set ≢ []
-  pub untold : are_told (told_last happenings) set ≡ false
+  pub untold : are_acknowledged (acknowledged_last happenings) set ≡ false
 
 -- The set doesn't name the owner, which isn't the publisher itself. If the publisher notified since it came, its last notification names the
--- owner; if not, one of the two sets that were seen last since does: so no third look after the owner went finds it.
+-- owner; if not, one of the last two sets that were seen named it, or it asked since the earlier one: so no third look after finds it.
 pub record IsHeldInVain (happenings : List SetHappening) (set : List TmmbrEntry) (own : Option Ssrc) (owner : Ssrc)
     : Type 0 where
   pub other : is_own own owner ≡ false
   pub gone : names_owner set owner ≡ false
-  pub named : has_notified happenings ≡ true → names_owner (told_last happenings) owner ≡ true
-  pub seen : has_notified happenings ≡ false
-      → (names_owner (first_set (sets_seen happenings)) owner || names_owner (second_set (sets_seen happenings)) owner)
-      ≡ true
+  pub named : has_notified happenings ≡ true → names_owner (acknowledged_last happenings) owner ≡ true
+  pub lately : has_notified happenings ≡ false
+      → (is_among (named_since happenings) owner || is_among (named_before happenings) owner) ≡ true

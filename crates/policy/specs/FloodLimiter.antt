@@ -1,7 +1,7 @@
 -- Which datagrams of an endpoint are heard: so many a millisecond, and what it didn't send in the last second. What comes beyond is let go.
 use Rattle.std.specs.Prelude.{◌≡◌, ◌==◌, ◌≤◌, ◌<◌, ◌↔◌, ℕ, ◌+◌, ◌-◌, ◌*◌, nat_le, nat_lt, ◌&&◌, ◌||◌, Bool, true, false, List, [], ◌∷◌, Option, None, Some, slice_get, slice_set}
-use Rattle.policy.specs.declared.floods.Bucket.{Bucket}
-use Rattle.policy.specs.declared.floods.TheConstants.{BURST_MS}
+use Rattle.policy.specs.declared.flood_limiter.Bucket.{Bucket}
+use Rattle.policy.specs.declared.flood_limiter.TheConstants.{BURST_MS}
 
 -- ---- a bucket: what is heard goes in, and so many run out in a millisecond
 

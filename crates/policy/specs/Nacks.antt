@@ -11,10 +11,10 @@ use Rattle.rtcp_feedback.specs.Nack.{is_set, lost_numbers}
 use Rattle.rtcp_feedback.specs.declared.nack.Nack.{Nack}
 use Rattle.settings.specs.Links.{LinkTable, leg_to}
 use Rattle.settings.specs.declared.settings.LegSettings.{LegSettings}
-use Rattle.policy.specs.Resends.{Book, book_after, gap_by, most_at, numbers_passed}
-use Rattle.policy.specs.declared.resends.Allowance.{Allowance}
-use Rattle.policy.specs.declared.resends.Flow.{Flow}
-use Rattle.policy.specs.declared.resends.ResendBounds.{ResendBounds}
+use Rattle.policy.specs.LegResends.{Book, book_after, gap_by, most_at, numbers_passed}
+use Rattle.policy.specs.declared.leg_resends.Allowance.{Allowance}
+use Rattle.policy.specs.declared.leg_resends.Flow.{Flow}
+use Rattle.policy.specs.declared.leg_resends.ResendBounds.{ResendBounds}
 
 -- ---- an entry
 

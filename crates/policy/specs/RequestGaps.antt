@@ -12,8 +12,8 @@ use Rattle.policy.specs.Asking.{Asking}
 use Rattle.policy.specs.Presence.{is_there}
 use Rattle.policy.specs.Requests.{asked_by}
 use Rattle.policy.specs.declared.again.Again.{Again}
-use Rattle.policy.specs.declared.gaps.LegGap.{LegGap}
-use Rattle.policy.specs.declared.gaps.Look.{Look}
+use Rattle.policy.specs.declared.request_gaps.LegGap.{LegGap}
+use Rattle.policy.specs.declared.request_gaps.Look.{Look}
 
 -- ---- one leg
 

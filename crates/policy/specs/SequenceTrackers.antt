@@ -2,11 +2,11 @@
 use Rattle.std.specs.Prelude.{◌≡◌, ◌==◌, ℕ, ◌+◌, ◌-◌, ◌*◌, ◌/◌, ◌%◌, ◌^◌, nat_lt, nat_le, min, Bool, false, ◌&&◌, ◌||◌, List, [], ◌∷◌, ◌++◌, Option, None, Some, slice_get, slice_set, if◌then◌else◌}
 use Rattle.std.specs.Option.{option_map_or}
 use Rattle.rewrite.specs.declared.sequence.TheConstants.{SEQ_CYCLE}
-use Rattle.policy.specs.declared.run.SequenceTracker.{SequenceTracker}
-use Rattle.policy.specs.declared.run.Stamp.{Stamp}
-use Rattle.policy.specs.declared.run.Placement.{Placement}
-use Rattle.policy.specs.declared.run.Placement.TheVariants.{InSequence, Jump, Restart}
-use Rattle.policy.specs.declared.run.TheConstants.{MAX_AHEAD, MAX_DROPOUT, MAX_LATE_TICKS, MAX_MISORDER}
+use Rattle.policy.specs.declared.sequence_tracker.SequenceTracker.{SequenceTracker}
+use Rattle.policy.specs.declared.sequence_tracker.Stamp.{Stamp}
+use Rattle.policy.specs.declared.sequence_tracker.Placement.{Placement}
+use Rattle.policy.specs.declared.sequence_tracker.Placement.TheVariants.{InSequence, Jump, Restart}
+use Rattle.policy.specs.declared.sequence_tracker.TheConstants.{MAX_AHEAD, MAX_DROPOUT, MAX_LATE_TICKS, MAX_MISORDER}
 
 -- how far a number is ahead of the highest, across the wrap
 abbrev pub ahead_of : ℕ → ℕ → ℕ
@@ -80,8 +80,8 @@ placement_in run stamp =
     else if is_awaited run.awaited stamp.seq then Restart else Jump
 
 -- a source begins with this packet
-abbrev pub run_from : Stamp → SequenceTracker
-run_from stamp = record { highest = stamp; began = stamp.moment; ticks = 0; awaited = None }
+abbrev pub tracker_from : Stamp → SequenceTracker
+tracker_from stamp = record { highest = stamp; began = stamp.moment; ticks = 0; awaited = None }
 
 -- how many units timestamps went on by, once they went on from this one to that, or back, whichever is less
 abbrev pub ticks_with : ℕ → ℕ → ℕ → ℕ
@@ -91,8 +91,8 @@ ticks_with ticks before after =
     else ticks - ticks_ahead_of after before
 
 -- this packet has the highest number
-abbrev pub run_up_to : SequenceTracker → Stamp → SequenceTracker
-run_up_to run stamp = record {
+abbrev pub tracker_up_to : SequenceTracker → Stamp → SequenceTracker
+tracker_up_to run stamp = record {
   highest = stamp;
   began = run.began;
   ticks = ticks_with run.ticks run.highest.timestamp stamp.timestamp;
@@ -100,15 +100,15 @@ run_up_to run stamp = record {
 }
 
 -- the numbers with that of this packet, which stands so
-abbrev pub run_placed : SequenceTracker → Stamp → Placement → SequenceTracker
-run_placed run stamp InSequence =
-    if is_ahead run.highest stamp then run_up_to run stamp else run
-run_placed run stamp Jump = record run { awaited = Some (successor_of stamp.seq) }
-run_placed run stamp Restart = run_from stamp
+abbrev pub tracker_placed : SequenceTracker → Stamp → Placement → SequenceTracker
+tracker_placed run stamp InSequence =
+    if is_ahead run.highest stamp then tracker_up_to run stamp else run
+tracker_placed run stamp Jump = record run { awaited = Some (successor_of stamp.seq) }
+tracker_placed run stamp Restart = tracker_from stamp
 
 -- the numbers of a source, with this packet (RFC 3550, appendix A.1)
-abbrev pub run_with : SequenceTracker → Stamp → SequenceTracker
-run_with run stamp = run_placed run stamp (placement_in run stamp)
+abbrev pub tracker_with : SequenceTracker → Stamp → SequenceTracker
+tracker_with run stamp = tracker_placed run stamp (placement_in run stamp)
 
 -- ---- each endpoint
 
@@ -121,32 +121,32 @@ first_or_placed None stamp = InSequence
 first_or_placed (Some run) stamp = placement_in run stamp
 
 abbrev pub begun_or_with : Option SequenceTracker → Stamp → SequenceTracker
-begun_or_with None stamp = run_from stamp
-begun_or_with (Some run) stamp = run_with run stamp
+begun_or_with None stamp = tracker_from stamp
+begun_or_with (Some run) stamp = tracker_with run stamp
 
 -- where this packet of the endpoint stands; an endpoint that isn't there has no place to go on from
 abbrev pub placement_at : List (Option SequenceTracker) → ℕ → Stamp → Placement
 placement_at runs endpoint stamp =
     option_map_or (λ run. first_or_placed run stamp) (slice_get runs endpoint) InSequence
 
-abbrev pub runs_of : List (Option SequenceTracker) → ℕ → Stamp → Option (Option SequenceTracker) → List (Option SequenceTracker)
-runs_of runs endpoint stamp None = runs
-runs_of runs endpoint stamp (Some run) =
+abbrev pub trackers_of : List (Option SequenceTracker) → ℕ → Stamp → Option (Option SequenceTracker) → List (Option SequenceTracker)
+trackers_of runs endpoint stamp None = runs
+trackers_of runs endpoint stamp (Some run) =
     slice_set runs endpoint (Some (begun_or_with run stamp))
 
-abbrev pub runs_with : List (Option SequenceTracker) → ℕ → Stamp → List (Option SequenceTracker)
-runs_with runs endpoint stamp = runs_of runs endpoint stamp (slice_get runs endpoint)
+abbrev pub trackers_with : List (Option SequenceTracker) → ℕ → Stamp → List (Option SequenceTracker)
+trackers_with runs endpoint stamp = trackers_of runs endpoint stamp (slice_get runs endpoint)
 
 -- nothing is known of this endpoint's numbers
-abbrev pub runs_without : List (Option SequenceTracker) → ℕ → List (Option SequenceTracker)
-runs_without runs endpoint = slice_set runs endpoint None
+abbrev pub trackers_without : List (Option SequenceTracker) → ℕ → List (Option SequenceTracker)
+trackers_without runs endpoint = slice_set runs endpoint None
 
 -- ---- the whole list of a source's packets, the latest first
 
 -- the numbers after these packets, the latest first (RFC 3550, appendix A.1)
-abbrev pub run_of : List Stamp → Option SequenceTracker
-run_of [] = None
-run_of (stamp ∷ earlier) = Some (begun_or_with (run_of earlier) stamp)
+abbrev pub tracker_of : List Stamp → Option SequenceTracker
+tracker_of [] = None
+tracker_of (stamp ∷ earlier) = Some (begun_or_with (tracker_of earlier) stamp)
 
 -- a packet that is far from the highest came before, and this number is the one after its number (RFC 3550, appendix A.1)
 pub record FollowsFar (packets : List Stamp) (seq : ℕ) : Type 0 where
@@ -154,5 +154,5 @@ pub record FollowsFar (packets : List Stamp) (seq : ℕ) : Type 0 where
   pub far : Stamp
   pub earlier : List Stamp
   pub stood : packets ≡ later ++ far ∷ earlier
-  pub was_far : first_or_placed (run_of earlier) far ≡ Jump
+  pub was_far : first_or_placed (tracker_of earlier) far ≡ Jump
   pub next : seq ≡ successor_of far.seq

@@ -1,8 +1,9 @@
 //! What is heard once more as a publisher comes.
 
 ghost use Rattle.std.specs.Prelude.{◌≡◌, ◌<◌, IfSome, length};
-ghost use Rattle.policy.specs.Again.{asked_again, asked_on, again_from, held_in, is_young, next_again, still_held, terms};
+ghost use Rattle.policy.specs.Again.{asked_again, asked_on, again_from, held_in, is_live, is_young, next_again, still_held, terms};
 
+use crate::last_heard::LastHeard;
 use crate::presence::is_there;
 use crate::requests::{HeldRequest, LegRequest, Requests};
 use members::RoomView;
@@ -26,14 +27,17 @@ pub struct Again {
 #[derive(Clone, Copy)]
 pub(crate) struct Holdings<'a> {
     pub(crate) requests: &'a Requests,
+    pub(crate) heard: &'a LastHeard,
     pub(crate) view: RoomView<'a>,
     /// The age at which a request is given up, in milliseconds; 0 if it never is.
     pub(crate) request_ms: u64,
+    /// After how long a silence an endpoint is gone, in milliseconds.
+    pub(crate) timeout_ms: u64,
     /// The moment, in milliseconds.
     pub(crate) moment: u64,
 }
 
-/// What is held for a leg, if its subscriber is there and it isn't too old.
+/// What is held for a leg, if its subscriber is there and spoke within the timeout, and it isn't too old.
 fn held_on(holdings: Holdings<'_>, leg: u16) -> Option<HeldRequest>
     ensures { result ≡ still_held (terms holdings.entry) leg }
 {
@@ -47,11 +51,21 @@ fn held_in(holdings: Holdings<'_>, place: LegRequest) -> Option<HeldRequest>
     ensures { result ≡ held_in (terms holdings.entry) place }
 {
     let request = place.request?;
-    if is_young(holdings, request) && is_there(holdings.view, place.subscriber, holdings.moment) {
+    if is_young(holdings, request) && is_live(holdings, place.subscriber) {
         Some(request)
     } else {
         None
     }
+}
+
+/// Whether an endpoint is there, and not only since something was heard in its name: it spoke within the timeout.
+fn is_live(holdings: Holdings<'_>, endpoint: u16) -> bool
+    ensures { result ≡ is_live (terms holdings.entry) endpoint }
+{
+    is_there(holdings.view, endpoint, holdings.moment)
+        && holdings
+            .heard
+            .is_within(endpoint, holdings.moment, holdings.timeout_ms)
 }
 
 /// Whether a request isn't too old.

@@ -4,13 +4,15 @@ ghost use Rattle.std.specs.Prelude.{◌≡◌, filter, fold, not};
 ghost use Rattle.policy.specs.Asking.{asking, is_left, is_moot, is_moot_leg};
 ghost use Rattle.policy.specs.Requests.{ask_in, asked_by};
 
+use crate::again::Again;
+use crate::announced_sets::AnnouncedSets;
 use crate::presence::is_there;
 use crate::requests::{HeldRequest, Requests};
-use crate::sets::AnnouncedSets;
 use datagram::Ask;
 use members::RoomView;
 use settings::{LegSettings, Links};
 use std::cell::RefCell;
+use tmmbr_tuple::Ssrc;
 
 /// Who asks, and the room as it is then.
 #[derive(Clone, Copy)]
@@ -56,7 +58,7 @@ fn hold_one(requests: &mut Requests, asker: Asker<'_>, ask: Ask)
     }
 }
 
-/// Says which publishers were asked for a rate.
+/// Says which publishers were asked for a rate, and by whom.
 pub(crate) fn tell_all(sets: &RefCell<AnnouncedSets>, asker: Asker<'_>, asks: &[Ask]) {
     for ask in asks {
         tell_one(sets, asker, *ask);
@@ -67,15 +69,29 @@ fn tell_one(sets: &RefCell<AnnouncedSets>, asker: Asker<'_>, ask: Ask) {
     let Some((leg, _word)) = asked_by(asker.view.links, asker.endpoint, ask) else {
         return;
     };
-    if let Some(leg) = asker.view.links.leg(leg) {
-        tell_asked(sets, leg.publisher);
+    if let Some(owner) = asker.view.links.ssrc_of(asker.endpoint) {
+        tell_on(sets, asker.view.links, leg, owner);
     }
 }
 
-/// Says that the publisher was asked for a rate.
-pub(crate) fn tell_asked(sets: &RefCell<AnnouncedSets>, publisher: u16) {
+/// Says which publisher this owner asked for a rate, on a leg with this number.
+fn tell_on(sets: &RefCell<AnnouncedSets>, links: &Links, leg: u16, owner: Ssrc) {
+    if let Some(leg) = links.leg(leg) {
+        tell_asked(sets, leg.publisher, owner);
+    }
+}
+
+/// Says which publisher is asked for a rate by what is heard that was asked for before.
+pub(crate) fn tell_again(sets: &RefCell<AnnouncedSets>, links: &Links, again: Again) {
+    if let Some(leg) = links.leg_to(again.endpoint, again.media) {
+        tell_on(sets, links, leg, again.speaker);
+    }
+}
+
+/// Says that this owner asked the publisher for a rate.
+pub(crate) fn tell_asked(sets: &RefCell<AnnouncedSets>, publisher: u16, owner: Ssrc) {
     if let Ok(mut sets) = sets.try_borrow_mut() {
-        sets.ask(publisher);
+        let _ = sets.ask(publisher, owner);
     }
 }
 

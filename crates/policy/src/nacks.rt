@@ -1,25 +1,29 @@
-//! What of an entry of a NACK is let through on a leg.
+//! What of an entry of a NACK is admitted on a leg.
 
 ghost use Rattle.std.specs.Prelude.{◌≡◌};
 ghost use Rattle.rtcp_feedback.specs.Nack.{lost_numbers};
 ghost use Rattle.policy.specs.Nacks.{bit_behind, entry_of, joined};
-ghost use Rattle.policy.specs.Resends.{book_after, numbers_passed};
+ghost use Rattle.policy.specs.LegResends.{book_after, numbers_passed};
 
-use crate::resends::{Allowance, LegResends};
+use crate::leg_resends::{Allowance, LegResends};
 use rtcp_feedback::{Nack, lost};
 
 /// How many packets an entry may name after its first.
 const FOLLOWING: u16 = 16;
 
-/// The entry that names what is let through of the numbers of this one, by what is noted of its leg; `None` if none is.
-pub(crate) fn let_through(book: &mut LegResends, allowance: Allowance, entry: Nack) -> Option<Nack>
+/// The entry that names what is admitted of the numbers of this one, by what is noted of its leg; `None` if none is.
+pub(crate) fn admit_resends(
+    book: &mut LegResends,
+    allowance: Allowance,
+    entry: Nack,
+) -> Option<Nack>
     ensures entry { result ≡ entry_of (numbers_passed book.old allowance (lost_numbers entry)) }
     ensures noted { book.new ≡ book_after book.old allowance (lost_numbers entry) }
 {
     part_due(book, allowance, lost(entry).as_slice())
 }
 
-/// The entry that names those of the numbers that are let through; `None` if none is.
+/// The entry that names those of the numbers that are admitted; `None` if none is.
 fn part_due(book: &mut LegResends, allowance: Allowance, numbers: &[u16]) -> Option<Nack>
     ensures entry { result ≡ entry_of (numbers_passed book.old allowance numbers.now) }
     ensures noted { book.new ≡ book_after book.old allowance numbers.now }

@@ -3,17 +3,17 @@
 ghost use Rattle.std.specs.Prelude.{◌≡◌, ℕ, List};
 ghost use Rattle.datagram.specs.Spelling.{IsAsHeard};
 ghost use Rattle.policy.specs.Asking.{asking};
-ghost use Rattle.policy.specs.Holding.{asking_of};
+ghost use Rattle.policy.specs.HeldRequests.{asking_of};
 ghost use Rattle.policy.specs.RateRequests.{PacesWord};
-ghost use Rattle.policy.specs.Word.{word_in};
+ghost use Rattle.policy.specs.PresenceSignal.{signal_in};
 
 use crate::again::Again;
+use crate::announced_sets::AnnouncedSets;
 use crate::asking::Asker;
-use crate::gaps::RequestGaps;
-use crate::holding::Holding;
+use crate::held_requests::HeldRequests;
+use crate::presence_signal::{PresenceSignal, signal_in};
+use crate::request_gaps::RequestGaps;
 use crate::rules::Rules;
-use crate::sets::AnnouncedSets;
-use crate::word::{Word, word_in};
 use datagram::{Ask, Reading, Sent};
 use members::RoomView;
 use rtcp_feedback::TmmbrEntry;
@@ -25,7 +25,7 @@ use std::cell::RefCell;
 #[derive(Drop)]
 pub struct RateRequests<'a> {
     /// What is held for publishers that come, if requests are repeated.
-    holding: Option<Holding<'a>>,
+    holding: Option<HeldRequests<'a>>,
     /// What was heard of each leg, if there is a gap.
     gaps: Option<RequestGaps>,
 }
@@ -33,9 +33,9 @@ pub struct RateRequests<'a> {
 impl<'a> RateRequests<'a> {
     ghost use Rattle.std.specs.Prelude.{◌≡◌, ℕ, List, IfOk};
     ghost use Rattle.datagram.specs.Spelling.{IsAsHeard};
-    ghost use Rattle.policy.specs.Holding.{asking_of};
+    ghost use Rattle.policy.specs.HeldRequests.{asking_of};
     ghost use Rattle.policy.specs.RateRequests.{BeginsBy, Hears, HearsDue, HearsHeld, HearsNext, Ticks, is_due, is_held, is_paced};
-    ghost use Rattle.policy.specs.Word.{word_in};
+    ghost use Rattle.policy.specs.PresenceSignal.{signal_in};
 
     /// Nothing was asked for yet in a unit of these settings, by these rules. Refused for want of memory alone.
     pub fn new(
@@ -49,7 +49,7 @@ impl<'a> RateRequests<'a> {
         let holding = if rules.repeat_ms == 0 {
             None
         } else {
-            Some(Holding::new(alloc, settings, sets)?)
+            Some(HeldRequests::new(alloc, settings, sets)?)
         };
         let gaps = if rules.request_gap_ms == 0 {
             None
@@ -68,7 +68,7 @@ impl<'a> RateRequests<'a> {
         reading: &mut Reading,
         notice: &[TmmbrEntry],
     )
-        ensures hears { Hears self.old self.new (word_in sent.own.0 reading.old.what)
+        ensures hears { Hears self.old self.new (signal_in sent.own.0 reading.old.what)
             (asking_of view.entry sent) reading.old reading.new }
         ensures as_heard { (came : List ℕ)
             → IsAsHeard sent.own.0 reading.old.what reading.old.asks.items came
@@ -119,14 +119,22 @@ impl<'a> RateRequests<'a> {
         }
     }
 
-    /// What is heard at this moment that was asked for before, in a room that is so: what is held for a publisher that came, else what waited for a gap.
+    /// What was asked for before and is heard at this moment, in this room: what is held for a publisher that came, else what waited for a gap.
     pub fn next_heard(&mut self, view: RoomView<'_>, moment: u64) -> Option<Again>
         ensures hears { HearsNext self.old self.new view.entry moment result }
     {
         if let Some(again) = self.next_held(view, moment) {
             return Some(again);
         }
-        self.next_paced(view, moment)
+        let again = self.next_paced(view, moment)?;
+        self.note_asked(view, again);
+        Some(again)
+    }
+
+    fn note_asked(&self, view: RoomView<'_>, again: Again) {
+        if let Some(holding) = &self.holding {
+            holding.note_asked(view, again);
+        }
     }
 
     fn next_held(&mut self, view: RoomView<'_>, moment: u64) -> Option<Again>
@@ -152,7 +160,7 @@ impl<'a> RateRequests<'a> {
 
 /// Leaves out of what was read what isn't heard at once.
 fn pace(gaps: &mut RequestGaps, sent: Sent, view: RoomView<'_>, reading: &mut Reading)
-    ensures paces { PacesWord (word_in sent.own.0 reading.old.what) gaps.old gaps.new
+    ensures paces { PacesWord (signal_in sent.own.0 reading.old.what) gaps.old gaps.new
         (asking_of view.entry sent) reading.old.asks.items reading.new.asks.items }
     ensures as_heard { (came : List ℕ)
         → IsAsHeard sent.own.0 reading.old.what reading.old.asks.items came
@@ -168,19 +176,19 @@ fn pace(gaps: &mut RequestGaps, sent: Sent, view: RoomView<'_>, reading: &mut Re
     };
     pace_word(
         gaps,
-        word_in(reading.what, sent.own),
+        signal_in(reading.what, sent.own),
         asker,
         &mut reading.asks,
     );
 }
 
 /// What is said of who sent a datagram is heard, and of what it asks for what isn't heard at once is left out.
-fn pace_word(gaps: &mut RequestGaps, word: Word, asker: Asker<'_>, asks: &mut Vec<Ask>)
+fn pace_word(gaps: &mut RequestGaps, word: PresenceSignal, asker: Asker<'_>, asks: &mut Vec<Ask>)
     ensures { PacesWord word gaps.old gaps.new (asking asker.entry) asks.old.items asks.new.items }
 {
     match word {
-        Word::Nothing => {}
-        Word::Leaves => gaps.forget(asker.endpoint),
-        Word::Speaks { .. } => gaps.hear(asker, asks),
+        PresenceSignal::Nothing => {}
+        PresenceSignal::Leaves => gaps.forget(asker.endpoint),
+        PresenceSignal::Speaks { .. } => gaps.hear(asker, asks),
     }
 }

@@ -2,7 +2,7 @@
 
 ghost use Rattle.std.specs.Prelude.{◌≡◌, false, true};
 
-use crate::resends::ResendBounds;
+use crate::leg_resends::ResendBounds;
 
 /// What of a source is screened, what is asked for again, and how much of a stall counts.
 #[derive(Clone, Copy, PartialEq, Eq)]
@@ -20,7 +20,7 @@ pub struct Rules {
     pub flood_limit: u32,
     /// How many milliseconds there are at least between two requests for a greatest rate that are heard of one leg; 0 for none.
     pub request_gap_ms: u64,
-    /// How many milliseconds there are between two repeats of what a publisher is asked for; 0 for none. A screen repeats nothing.
+    /// How many milliseconds there are between two repeats of what a publisher is asked for; 0 for none. The filter repeats nothing.
     pub repeat_ms: u64,
     /// How many milliseconds count at most between two looks at the clock; 0 for any number. Who asks the clock bounds them.
     pub stall_ms: u64,

@@ -21,7 +21,7 @@ pub(crate) fn note_trips(
     }
 }
 
-/// The leg to the endpoint of which packets are asked for again.
+/// The leg to the endpoint of which packets are NACKed.
 fn leg_asked(links: &Links, endpoint: u16, ask: Ask) -> Option<u16> {
     match ask {
         Ask::Resend { media, .. } => links.leg_to(endpoint, media),

@@ -1,5 +1,5 @@
-//! Bytes as hexadecimal digits, both of a byte found at once, by arithmetic: a look-up in a table of digits, as `hex::encode` makes it,
-//! costs some eight times as much, and a unit that is recorded makes two for each byte that it takes in.
+//! Bytes as hexadecimal digits, both of a byte found at once, by arithmetic. A look-up in a table, as in `hex::encode`, costs some eight times
+//! as much, and a unit that is recorded makes two digits for each byte that it takes in.
 
 ghost use Rattle.std.specs.Prelude.{◌≡◌, ◌/◌, ◌%◌, ◌*◌, ◌+◌, ◌++◌, IfSome, OnOk, OnErr, length, slice_index};
 ghost use Rattle.hex.specs.Hex.{encode_lower, lower_digits};

@@ -2,7 +2,7 @@
 
 /// Why there is no thread that writes.
 #[derive(Clone, Copy, PartialEq, Eq)]
-pub enum CourierFault {
+pub enum WriterFault {
     NoMemory,
     /// The system has no thread for it, or no socket pair.
     System,
@@ -18,16 +18,16 @@ pub enum RecordFault {
     NoMemory,
 }
 
-impl From<CourierFault> for RecordFault {
+impl From<WriterFault> for RecordFault {
     ghost use Rattle.std.specs.Prelude.{◌≡◌};
     ghost use Rattle.recording.specs.Faults.{record_fault_of};
 
     ghost from_gives = { λ fault e. e ≡ record_fault_of fault };
 
-    fn from(fault: CourierFault) -> RecordFault {
+    fn from(fault: WriterFault) -> RecordFault {
         match fault {
-            CourierFault::NoMemory => RecordFault::NoMemory,
-            CourierFault::System => RecordFault::Failed,
+            WriterFault::NoMemory => RecordFault::NoMemory,
+            WriterFault::System => RecordFault::Failed,
         }
     }
 }

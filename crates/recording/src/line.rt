@@ -38,8 +38,8 @@ pub(crate) fn write_heard_head(
     write!(text, "hear {moment} {endpoint} ")
 }
 
-/// The lines of a report that the unit made in the name of an endpoint that only listens: those of a datagram that it sent, after a
-/// comment that says so. Refused for want of memory alone.
+/// The lines of a report that the unit made in the name of an endpoint that only listens: a comment that says so, then those of a datagram from
+/// it. Refused for want of memory alone.
 pub(crate) fn made_lines(
     alloc: Global,
     moment: u64,

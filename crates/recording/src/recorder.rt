@@ -8,11 +8,11 @@ ghost use Rattle.recording.specs.Taken.{taken_lines};
 ghost use Rattle.recording.specs.Tapes.{IsMadeAndPut, IsPut, new_tape};
 ghost use Rattle.recording.specs.HandedOn.{IsHandedOn, IsWritten};
 
-use crate::courier::Outlet;
 use crate::line::begun_line;
-use crate::scroll::{RecordTarget, Written};
+use crate::record_target::{RecordTarget, Written};
 use crate::taken::Taken;
 use crate::tape::{End, Tape};
+use crate::writer_thread::Outlet;
 use std::alloc::Global;
 use std::os::unix::net::UnixStream;
 use std::thread::{JoinHandle, Threads};
@@ -21,8 +21,7 @@ use std::time::Duration;
 /// How many bytes a record has at most, unless it is said: 1 GiB.
 pub const RECORD_LIMIT: u64 = 1_073_741_824;
 
-/// From so many bytes on what waits is handed on: so many that waking the thread that writes, and its call of the system, cost little
-/// for a packet of them.
+/// From so many bytes on what waits is handed on. So waking the thread that writes, and its call of the system, cost little for each packet.
 const BLOCK: usize = 262_144;
 
 /// So many milliseconds pass at most until what waits is handed on.

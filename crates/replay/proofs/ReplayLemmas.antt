@@ -17,7 +17,7 @@ use Rattle.core_steps.proofs.SettleLemmas.{step_of}
 use Rattle.core_steps.proofs.AsideLemmas.{ingress_same, work_aside}
 use Rattle.cli.specs.declared.status.Failure.{Failure}
 use Rattle.cli.specs.declared.status.Failure.TheVariants.{NoMemory, Refused as RefusedLine, Io}
-use Rattle.replay.specs.declared.script.Reading.TheVariants.{Unreadable}
+use Rattle.replay.specs.declared.script.ScriptLine.TheVariants.{Unreadable}
 use Rattle.request_text.specs.Lines.{lines_of}
 use Rattle.replay.specs.Replay.{Drains, FailsLine, FailsReplay, Follows, GivesOut, IngressDrains, LinePlays, LinesPlay, PrintsLine, PrintsReplay, Rounds, Settles, WorkerDrains, WorkersDrain, again, cause_behind, numbers_of, over, quiet, round}
 use Rattle.replay.specs.Shown.{Cause, Given, Told, cause_of, given_at, no_cause, shown_text}
@@ -25,7 +25,7 @@ use Rattle.replay.specs.declared.replay.Progress.{Progress}
 use Rattle.replay.specs.declared.shown.Shown.{Shown}
 use Rattle.replay.specs.Printing.{PrintsGiven}
 use Rattle.replay.proofs.ShownLemmas.{more_printed, none_printed}
-use Rattle.replay.specs.Script.{reading_of}
+use Rattle.replay.specs.Script.{script_line_of}
 use Rattle.request_text.proofs.LineLemmas.{at_line}
 
 -- ---- what is given out
@@ -62,7 +62,7 @@ plays_on c i here there lines d w next told others stopped below is line rest =
     ))
 
 pub stops_at : (c : Configuration) (i : ℕ) (cause : Cause) (lines : List (Bor (List ℕ))) (d : Bor (List ℕ)) (w : WorldState) → i < length lines
-    → reading_of (numbers_of c) (get_or lines i d).now ≡ Unreadable → LinesPlay c (i + 1) cause (drop i (texts lines)) w [] (Some (i + 1))
+    → script_line_of (numbers_of c) (get_or lines i d).now ≡ Unreadable → LinesPlay c (i + 1) cause (drop i (texts lines)) w [] (Some (i + 1))
 stops_at c i cause lines d w below unreadable =
     subst (λ (ls : List (List ℕ)). LinesPlay c (i + 1) cause ls w [] (Some (i + 1))) (sym (at_line i lines d below))
     (inr (unreadable, refl, refl))

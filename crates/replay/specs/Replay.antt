@@ -13,7 +13,7 @@ use Rattle.core_steps.specs.Opening.{IsNewWorld}
 use Rattle.core_steps.specs.Rule.{is_busy}
 use Rattle.core_steps.specs.Run.{HasRun}
 use Rattle.core_steps.specs.Waits.{has_work}
-use Rattle.cli.specs.Endings.{SaysWhy}
+use Rattle.cli.specs.Statuses.{SaysWhy}
 use Rattle.cli.specs.declared.status.Status.{Status}
 use Rattle.cli.specs.declared.status.Status.TheVariants as status
 use Rattle.cli.specs.declared.status.Failure.{Failure}
@@ -25,11 +25,11 @@ use Rattle.replay.specs.declared.replay.Progress.{Progress}
 use Rattle.replay.specs.declared.script.Command.{Command}
 use Rattle.replay.specs.declared.script.Command.TheVariants.{Do, Settle, Follow, Show}
 use Rattle.replay.specs.declared.script.Numbers.{Numbers}
-use Rattle.replay.specs.declared.script.Reading.{Reading}
-use Rattle.replay.specs.declared.script.Reading.TheVariants.{Skipped, Command as ACommand, Unreadable}
+use Rattle.replay.specs.declared.script.ScriptLine.{ScriptLine}
+use Rattle.replay.specs.declared.script.ScriptLine.TheVariants.{Skipped, Command as ACommand, Unreadable}
 use Rattle.request_text.specs.BoundText.{refused_text, announced_line}
 use Rattle.request_text.specs.Lines.{lines_of}
-use Rattle.replay.specs.Script.{reading_of}
+use Rattle.replay.specs.Script.{script_line_of}
 use Rattle.replay.specs.Printing.{PrintsGiven}
 use Rattle.replay.specs.Shown.{Cause, Given, Told, a_set, an_out, cause_after, cause_of, given_at, no_cause, shown_text}
 use Rattle.replay.specs.declared.shown.Shown.{Shown}
@@ -125,17 +125,17 @@ abbrev pub numbers_of : Configuration → Numbers
 numbers_of c = record { endpoints = length c.endpoints; workers = c.workers }
 
 -- a line that can be read leads to this world, and this is told
-abbrev pub ReadingPlays : Configuration → WorldState → Reading → WorldState → List Told → Type 0
-ReadingPlays c w Skipped next told = (next ≡ w) × (told ≡ [])
-ReadingPlays c w (ACommand command) next told = CommandPlays c w command next told
-ReadingPlays c w Unreadable next told = ⊥
+abbrev pub ScriptLinePlays : Configuration → WorldState → ScriptLine → WorldState → List Told → Type 0
+ScriptLinePlays c w Skipped next told = (next ≡ w) × (told ≡ [])
+ScriptLinePlays c w (ACommand command) next told = CommandPlays c w command next told
+ScriptLinePlays c w Unreadable next told = ⊥
 
 abbrev pub LinePlays : Configuration → List ℕ → WorldState → WorldState → List Told → Type 0
-LinePlays c line w next told = ReadingPlays c w (reading_of (numbers_of c) line) next told
+LinePlays c line w next told = ScriptLinePlays c w (script_line_of (numbers_of c) line) next told
 
 -- the latest event once the line of this number is read
 abbrev pub cause_behind : Configuration → ℕ → List ℕ → Cause → Cause
-cause_behind c n line before = cause_after n line (reading_of (numbers_of c) line) before
+cause_behind c n line before = cause_after n line (script_line_of (numbers_of c) line) before
 
 -- A line leads to this world, and what is shown of what it gives is printed: from here to there.
 pub record PrintsLine (c : Configuration) (s : Shown) (n : ℕ) (line : List ℕ) (w next : WorldState)
@@ -154,7 +154,7 @@ LinesPlay c n cause (line ∷ lines) w given stopped =
     ((next : WorldState) × (told : List Told) × (others : List Given) × LinePlays c line w next told
     × LinesPlay c (n + 1) (cause_behind c n line cause) lines next others stopped
     × (given ≡ given_at (cause_behind c n line cause) told ++ others))
-    ⊎ ((reading_of (numbers_of c) line ≡ Unreadable) × (given ≡ []) × (stopped ≡ Some n))
+    ⊎ ((script_line_of (numbers_of c) line ≡ Unreadable) × (given ≡ []) × (stopped ≡ Some n))
 
 -- A script is played from a new world of the settings, to its end or to the first line that can't be read, and gives this.
 pub record Plays (c : Configuration) (script : List ℕ) (given : List Given)
@@ -193,7 +193,7 @@ abbrev pub FailsLine : Configuration → ℕ → List ℕ → Option (List ℕ) 
 FailsLine c number line old new NoMemory = Unit {0}
 FailsLine c number line old new Io = Unit {0}
 FailsLine c number line old new (RefusedLine n fault) =
-    (n ≡ number) × (fault ≡ Text) × (reading_of (numbers_of c) line ≡ Unreadable) × Keeps old new
+    (n ≡ number) × (fault ≡ Text) × (script_line_of (numbers_of c) line ≡ Unreadable) × Keeps old new
 
 -- no line is refused
 abbrev pub IsOutside : Failure → Type 0

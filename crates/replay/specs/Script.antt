@@ -8,8 +8,8 @@ use Rattle.request_text.specs.Words.{number_under, words_in}
 use Rattle.replay.specs.declared.script.Command.{Command}
 use Rattle.replay.specs.declared.script.Command.TheVariants.{Do, Settle, Follow, Show}
 use Rattle.replay.specs.declared.script.Numbers.{Numbers}
-use Rattle.replay.specs.declared.script.Reading.{Reading}
-use Rattle.replay.specs.declared.script.Reading.TheVariants.{Skipped, Command as ACommand, Unreadable}
+use Rattle.replay.specs.declared.script.ScriptLine.{ScriptLine}
+use Rattle.replay.specs.declared.script.ScriptLine.TheVariants.{Skipped, Command as ACommand, Unreadable}
 
 abbrev pub switch_in : List ℕ → Option Bool
 switch_in word = if bytes_eq word (codes "on") then Some true else if bytes_eq word (codes "off")
@@ -70,14 +70,14 @@ words_command n (first ∷ others) =
     else if bytes_eq first (codes "show") then show_words n others
     else None
 
-abbrev pub command_or_not : Option Command → Reading
+abbrev pub command_or_not : Option Command → ScriptLine
 command_or_not None = Unreadable
 command_or_not (Some command) = ACommand command
 
 -- what a line is: its words are parted by single spaces
-abbrev pub reading_of : Numbers → List ℕ → Reading
-reading_of n [] = Skipped
-reading_of n (b ∷ line) = if b == 35 then Skipped
+abbrev pub script_line_of : Numbers → List ℕ → ScriptLine
+script_line_of n [] = Skipped
+script_line_of n (b ∷ line) = if b == 35 then Skipped
     else command_or_not (words_command n (words_in (b ∷ line)))
 
 -- a publisher that a command shows is an endpoint

@@ -11,8 +11,8 @@ use Rattle.datagram.specs.Naming.{heard_size, source_named}
 use Rattle.replay.specs.declared.latest.Latest.{Latest}
 use Rattle.replay.specs.declared.script.Command.{Command}
 use Rattle.replay.specs.declared.script.Command.TheVariants.{Do, Settle, Follow, Show}
-use Rattle.replay.specs.declared.script.Reading.{Reading}
-use Rattle.replay.specs.declared.script.Reading.TheVariants.{Skipped, Command as ACommand, Unreadable}
+use Rattle.replay.specs.declared.script.ScriptLine.{ScriptLine}
+use Rattle.replay.specs.declared.script.ScriptLine.TheVariants.{Skipped, Command as ACommand, Unreadable}
 use Rattle.replay.specs.declared.shown.Shown.{Shown}
 use Rattle.replay.specs.declared.shown.Unknown.{Unknown}
 use Rattle.replay.specs.declared.shown.Unknown.TheVariants as unknown
@@ -46,10 +46,10 @@ command_moment Follow = None
 command_moment (Show publisher) = None
 
 -- at which moment something comes from outside, by a line
-abbrev pub reading_moment : Reading → Option ℕ
-reading_moment Skipped = None
-reading_moment (ACommand command) = command_moment command
-reading_moment Unreadable = None
+abbrev pub script_line_moment : ScriptLine → Option ℕ
+script_line_moment Skipped = None
+script_line_moment (ACommand command) = command_moment command
+script_line_moment Unreadable = None
 
 abbrev pub cause_at : ℕ → List ℕ → Option ℕ → Cause → Cause
 cause_at number line None before = before
@@ -57,8 +57,8 @@ cause_at number line (Some moment) before =
     record { number = number; moment = moment; line = line }
 
 -- the latest event once the line of this number is read
-abbrev pub cause_after : ℕ → List ℕ → Reading → Cause → Cause
-cause_after number line reading before = cause_at number line (reading_moment reading) before
+abbrev pub cause_after : ℕ → List ℕ → ScriptLine → Cause → Cause
+cause_after number line reading before = cause_at number line (script_line_moment reading) before
 
 -- what the machine gave out, or the line of a set that the script shows
 pub data Told : Type 0 where

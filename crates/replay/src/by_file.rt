@@ -3,7 +3,7 @@
 ghost use Rattle.std.specs.Prelude.{◌≡◌, ◌≢◌, ℕ, List, Ok, IfOk, IfSome};
 ghost use Rattle.std.specs.Io.KnownBytes.{Appends, Keeps};
 ghost use Rattle.std.specs.IoError.{error_kind};
-ghost use Rattle.cli.specs.Endings.{SaysWhy};
+ghost use Rattle.cli.specs.Statuses.{SaysWhy};
 ghost use Rattle.replay.specs.ByFile.{EndsReplay, problem_by, unknown_text};
 ghost use Rattle.settings_toml.specs.SettingsFaults.{TextGives};
 ghost use Rattle.settings_toml.specs.SettingsText.{SaysProblem};

@@ -1,9 +1,9 @@
 //! The latest event of a script.
 
 ghost use Rattle.std.specs.Prelude.{◌≡◌};
-ghost use Rattle.replay.specs.Shown.{cause_after, cause_of, command_moment, event_moment, no_cause, reading_moment};
+ghost use Rattle.replay.specs.Shown.{cause_after, cause_of, command_moment, event_moment, no_cause, script_line_moment};
 
-use crate::script::{Command, Reading};
+use crate::script::{Command, ScriptLine};
 use events::Event;
 
 /// What came from outside last: the number of its line, from 1, or 0 before anything came; its moment, in milliseconds, and the line.
@@ -27,7 +27,7 @@ impl<'t> Latest<'t> {
     }
 
     /// What came last once the line of this number is read.
-    pub fn after(self, number: u64, line: &'t [u8], reading: &Reading) -> Latest<'t>
+    pub fn after(self, number: u64, line: &'t [u8], reading: &ScriptLine) -> Latest<'t>
         ensures { cause_of result ≡ cause_after number line.now reading.now (cause_of self.entry) }
     {
         match moment_in(reading) {
@@ -42,12 +42,12 @@ impl<'t> Latest<'t> {
 }
 
 /// At which moment something comes from outside by a line, if anything does.
-fn moment_in(reading: &Reading) -> Option<u64>
-    ensures { result ≡ reading_moment reading.now }
+fn moment_in(reading: &ScriptLine) -> Option<u64>
+    ensures { result ≡ script_line_moment reading.now }
 {
     match reading {
-        Reading::Command(command) => command_moment(command),
-        Reading::Skipped | Reading::Unreadable => None,
+        ScriptLine::Command(command) => command_moment(command),
+        ScriptLine::Skipped | ScriptLine::Unreadable => None,
     }
 }
 

@@ -19,5 +19,5 @@ pub use latest::Latest;
 pub use out_text::out_line;
 pub use printing::{Choice, print_outs, print_set};
 pub use replay::replay_lines;
-pub use script::{Command, Numbers, Reading, read_line};
+pub use script::{Command, Numbers, ScriptLine, read_line};
 pub use shown::{Shown, Unknown};

@@ -10,7 +10,7 @@ ghost use Rattle.replay.specs.Replay.{CommandPlays, EndsScript, FailsLine, Fails
 
 use crate::latest::Latest;
 use crate::printing::{Choice, print_outs, print_set};
-use crate::script::{Command, Numbers, Reading, read_line};
+use crate::script::{Command, Numbers, ScriptLine, read_line};
 use crate::shown::Shown;
 use cli::{Failure, Status, report};
 use core_steps::{World, run};
@@ -150,16 +150,16 @@ fn play_line<'t, O: Write>(
     let reading = read_line(alloc, numbers_of(choice.settings), line)?;
     let latest = progress.latest.after(number, line, &reading);
     match reading {
-        Reading::Skipped => Ok(Progress {
+        ScriptLine::Skipped => Ok(Progress {
             latest,
             said: progress.said,
         }),
-        Reading::Command(command) => {
+        ScriptLine::Command(command) => {
             let gives = play_command(alloc, choice.settings, world, command)?;
             let said = print_all(alloc, choice, latest, progress.said, &gives, writer)?;
             Ok(Progress { latest, said })
         }
-        Reading::Unreadable => Err(Failure::Refused {
+        ScriptLine::Unreadable => Err(Failure::Refused {
             line: number,
             fault: LineFault::Text,
         }),

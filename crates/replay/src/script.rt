@@ -2,7 +2,7 @@
 
 ghost use Rattle.std.specs.Prelude.{◌≡◌, ◌^◌, IfOk, map, option_and_then, option_map};
 ghost use Rattle.request_text.specs.Words.{number_under, words_in};
-ghost use Rattle.replay.specs.Script.{command_or_not, datagram_in, hear_words, no_words, reading_of, select_words, show_words, switch_in, tick_words, words_command, work_words};
+ghost use Rattle.replay.specs.Script.{command_or_not, datagram_in, hear_words, no_words, script_line_of, select_words, show_words, switch_in, tick_words, words_command, work_words};
 
 use events::{Bytes, Event};
 use hex::FromHexError;
@@ -26,7 +26,7 @@ pub enum Command {
 
 /// What a line is.
 #[derive(Drop)]
-pub enum Reading {
+pub enum ScriptLine {
     /// It is empty, or begins with `#`.
     Skipped,
     Command(Command),
@@ -42,24 +42,24 @@ pub struct Numbers {
 }
 
 /// What the line is. Its words are parted by single spaces.
-pub fn read_line(alloc: Global, numbers: Numbers, line: &[u8]) -> Result<Reading, AllocError>
-    ensures { IfOk result (λ r. r ≡ reading_of numbers line.now) }
+pub fn read_line(alloc: Global, numbers: Numbers, line: &[u8]) -> Result<ScriptLine, AllocError>
+    ensures { IfOk result (λ r. r ≡ script_line_of numbers line.now) }
 {
     if line.is_empty() || line[0] == b'#' {
-        return Ok(Reading::Skipped);
+        return Ok(ScriptLine::Skipped);
     }
     read_text(alloc, numbers, line)
 }
 
 /// What a line is that isn't skipped.
-fn read_text(alloc: Global, numbers: Numbers, line: &[u8]) -> Result<Reading, AllocError>
+fn read_text(alloc: Global, numbers: Numbers, line: &[u8]) -> Result<ScriptLine, AllocError>
     ensures { IfOk result
         (λ r. r ≡ command_or_not (words_command numbers (words_in line.now))) }
 {
     let words = words_of(alloc, line)?;
     match read_words(alloc, numbers, words.as_slice())? {
-        Some(command) => Ok(Reading::Command(command)),
-        None => Ok(Reading::Unreadable),
+        Some(command) => Ok(ScriptLine::Command(command)),
+        None => Ok(ScriptLine::Unreadable),
     }
 }
 

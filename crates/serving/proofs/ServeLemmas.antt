@@ -4,7 +4,7 @@ use Rattle.std.proofs.lemmas.List.{append-nil}
 use Rattle.std.specs.Io.KnownBytes.{Appends, Keeps, append_known}
 use Rattle.std.specs.declared.net.socket_addr.SocketAddr.{SocketAddr}
 use Rattle.settings.specs.Settings.{Configuration}
-use Rattle.cli.specs.Endings.{EndsSaying, IsUnsaid, SaysWhy}
+use Rattle.cli.specs.Statuses.{EndsSaying, IsUnsaid, SaysWhy}
 use Rattle.serving.specs.ReportText.{PrintsReport}
 use Rattle.serving.specs.Serving.{EndsServe, FailsServe, FailsToStart, SaysFault, SaysWhyServing, serving_line}
 use Rattle.serving.specs.declared.serve_fault.ServeFault.{ServeFault}

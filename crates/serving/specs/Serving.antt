@@ -4,14 +4,14 @@ use Rattle.std.specs.Io.KnownBytes.{Keeps, append_known}
 use Rattle.std.specs.Net.Text.{socket_text}
 use Rattle.std.specs.declared.net.socket_addr.SocketAddr.{SocketAddr}
 use Rattle.settings.specs.Settings.{Configuration}
-use Rattle.cli.specs.Endings.{SaysWhy}
+use Rattle.cli.specs.Statuses.{SaysWhy}
 use Rattle.serving.specs.ReportText.{PrintsReport}
 use Rattle.serving.specs.declared.serve_fault.ServeFault.{ServeFault}
 use Rattle.serving.specs.declared.serve_fault.ServeFault.TheVariants.{NoMemory, Socket}
 use Rattle.one_thread.specs.declared.driver.DriveFault.{DriveFault}
 use Rattle.one_thread.specs.declared.driver.DriveFault.TheVariants as drive_fault
-use Rattle.recording.specs.declared.faults.CourierFault.{CourierFault}
-use Rattle.recording.specs.declared.faults.CourierFault.TheVariants as courier_fault
+use Rattle.recording.specs.declared.faults.WriterFault.{WriterFault}
+use Rattle.recording.specs.declared.faults.WriterFault.TheVariants as writer_fault
 use Rattle.workers.specs.declared.fault.UnitFault.{UnitFault}
 use Rattle.workers.specs.declared.fault.UnitFault.TheVariants as unit_fault
 use Rattle.cli.specs.declared.status.Status.{Status}
@@ -28,9 +28,9 @@ drive_fault_of drive_fault.NoMemory = NoMemory
 drive_fault_of drive_fault.Receive = Socket
 
 -- the same of a thread that was to write its lines of counts
-abbrev pub courier_fault_of : CourierFault → ServeFault
-courier_fault_of courier_fault.NoMemory = NoMemory
-courier_fault_of courier_fault.System = Socket
+abbrev pub writer_fault_of : WriterFault → ServeFault
+writer_fault_of writer_fault.NoMemory = NoMemory
+writer_fault_of writer_fault.System = Socket
 
 -- if the unit isn't served to its end for its socket and its threads, nothing was printed
 abbrev pub FailsServe : Option (List ℕ) → Option (List ℕ) → ServeFault → Type 0

@@ -3,7 +3,7 @@
 use crate::repeated::RepeatingWatch;
 use crate::serve_fault::ServeFault;
 use addresses::{Client, Directory};
-use operations::{Gauges, SteeredWatch};
+use operations::{RunStatus, SteeredWatch};
 use policy::{AnnouncedSets, Rules};
 use settings::Settings;
 use stats::Traffic;
@@ -53,7 +53,7 @@ pub(crate) fn door_on<'a, R: AllocGlobal + time::Clock>(
     rt: &'a R,
     ends: Ends<'a>,
     settings: &'a Settings,
-    gauges: &'a Gauges,
+    run_status: &'a RunStatus,
 ) -> Result<Door<'a, R>, ServeFault> {
     let Ends {
         sockets,
@@ -71,7 +71,7 @@ pub(crate) fn door_on<'a, R: AllocGlobal + time::Clock>(
     } = common;
     let outlook = Outlook {
         directory,
-        gauges,
+        run_status,
         traffic,
         sets,
     };
@@ -93,7 +93,7 @@ pub(crate) fn watch_on<'a, W: Watch + Drop>(
     alloc: Global,
     ends: Ends<'a>,
     settings: &Settings,
-    gauges: &'a Gauges,
+    run_status: &'a RunStatus,
     watch: W,
 ) -> Result<RepeatingWatch<'a, SteeredWatch<'a, W>>, AllocError> {
     let Common {
@@ -104,9 +104,9 @@ pub(crate) fn watch_on<'a, W: Watch + Drop>(
     } = ends.common;
     let watch = SteeredWatch {
         watch,
-        gauges,
+        run_status,
         traffic,
     };
     let sink = SocketSink::new(ends.sockets, directory, traffic);
-    RepeatingWatch::new(alloc, settings, sink, sets, &gauges.moment_ms, watch)
+    RepeatingWatch::new(alloc, settings, sink, sets, &run_status.moment_ms, watch)
 }

@@ -1,8 +1,8 @@
 //! The unit on UDP sockets (`sfu serve`).
 //!
-//! Read `serve` first: the sockets are bound, the unit runs, and what it came to is printed. `running` is the run itself, in one thread or
-//! with a thread for each worker, `ends` what it stands between, `repeated` what is said to publishers again; `report_text` is what is
-//! printed of it.
+//! Read `serve` first: the sockets are bound, the unit runs, and what it came to is printed. `running` is the run itself, in one thread or with
+//! a thread for each worker, and `ends` what it stands between. `repeated` is what publishers are sent again, and `report_text` what is printed
+//! of a run.
 #![tactic(auto)]
 
 mod ends;
@@ -17,8 +17,8 @@ pub use addresses::{
     read_clients, read_served,
 };
 pub use operations::{
-    ControlFault, ErrorOutput, Gauges, Listed, RECORD_LIMIT, RecordFault, Recorder, Steering,
-    close_control, close_record, open_control, open_record,
+    ControlFault, EndpointInfo, ErrorOutput, RECORD_LIMIT, RecordFault, Recorder, RunStatus,
+    Steering, close_control, close_record, open_control, open_record,
 };
 pub use running::run_on;
 pub use serve::{Term, serve_file, serve_on, serve_socket, serve_watched};

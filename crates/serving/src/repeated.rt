@@ -12,7 +12,7 @@ use arrayvec::ArrayVec;
 use desk::{Desk, Effect};
 use desk_calls::{Head, Notification, notify};
 use events::Out;
-use policy::{AnnouncedSets, SaidAgain};
+use policy::{AnnouncedSets, DueLook, SaidAgain};
 use ports::{Look, Sink, Status, Watch};
 use rate_cert::{MAX_REQUESTS, Request};
 use settings::{Links, Settings};
@@ -21,7 +21,7 @@ use std::cell::{Cell, RefCell};
 use tmmbr_tuple::Ssrc;
 use udp::SocketSink;
 
-/// A watch that looks at desks for itself while nobody else looks, and says again to publishers what they may not know.
+/// A watch that looks for itself, while nobody else looks, at who is present and at desks, and says again to publishers what they may not know.
 #[derive(Drop)]
 pub(crate) struct RepeatingWatch<'a, W: Drop> {
     watch: W,
@@ -29,7 +29,7 @@ pub(crate) struct RepeatingWatch<'a, W: Drop> {
     sets: &'a RefCell<AnnouncedSets>,
     /// The moment of the last turn, in milliseconds.
     moment_ms: &'a Cell<u64>,
-    /// Whether the desk that is looked at is looked at for itself.
+    /// Whether what is looked at is looked at for itself.
     is_own: Cell<bool>,
 }
 
@@ -69,13 +69,24 @@ impl<'a, W: Watch + Drop> RepeatingWatch<'a, W> {
         })
     }
 
-    /// Whose desk is to be looked at by now.
-    fn look_due(&self) -> Option<u16> {
+    /// What is to be looked at by now.
+    fn look_due(&self) -> Option<Look> {
         let Ok(mut sets) = self.sets.try_borrow_mut() else {
             return None;
         };
-        let publisher = sets.look_due(self.moment_ms.get())?;
-        u16::try_from(publisher).ok()
+        match sets.look_due(self.moment_ms.get())? {
+            DueLook::Presence => Some(Look::Presence),
+            DueLook::Desk(publisher) => match u16::try_from(publisher) {
+                Ok(publisher) => Some(Look::Desk(publisher)),
+                Err(_) => None,
+            },
+        }
+    }
+
+    fn note_presence(&self, endpoint: u16, is_present: bool) {
+        if let Ok(mut sets) = self.sets.try_borrow_mut() {
+            sets.note_presence(endpoint, is_present);
+        }
     }
 
     /// Says to the publisher again what is due. If memory is wanting it is told nothing this time.
@@ -115,9 +126,9 @@ impl Repeater<'_> {
     }
 }
 
-/// Appends what is said to a publisher again at a look at its desk, as `AnnouncedSets::look` has it: a TMMBR without limit of each owner that is lifted
-/// again, and one for each member of the announced set, if that is asked for again, in one datagram; nothing if there are none. From now on
-/// the set is the one that was seen last.
+/// Appends what is said to a publisher again at a look at its desk, as `AnnouncedSets::look` has it, in one datagram. It has a TMMBR without
+/// limit of each owner that is lifted again, and one for each member of the announced set, if that is sent again. If there are none nothing is
+/// appended. From now on the set is the one that was seen last.
 #[tactic(auto, using(crate::proofs::RepeatLemmas::few_lifted))]
 fn look_again(
     alloc: Global,
@@ -178,7 +189,7 @@ fn owners(lifted: &[Ssrc]) -> ArrayVec<Ssrc, MAX_REQUESTS>
     list
 }
 
-/// The whole announced set if it is asked for again, else nothing of it.
+/// The whole announced set if it is sent again, else nothing of it.
 fn asked_again(asks: bool, desk: &Desk) -> ArrayVec<Request, MAX_REQUESTS>
     ensures { result.items ≡ asked_again asks (announced_of desk.now.bounds) }
 {
@@ -204,16 +215,20 @@ impl<W: Watch + Drop> Watch for RepeatingWatch<'_, W> {
             return wanted;
         }
         match self.look_due() {
-            Some(publisher) => {
+            Some(look) => {
                 self.is_own.set(true);
-                Look::Desk(publisher)
+                look
             }
             None => Look::Nothing,
         }
     }
 
     fn show_endpoint(&mut self, endpoint: u16, is_present: bool) {
-        self.watch.show_endpoint(endpoint, is_present);
+        if self.is_own.get() {
+            self.note_presence(endpoint, is_present);
+        } else {
+            self.watch.show_endpoint(endpoint, is_present);
+        }
     }
 
     fn show_stay(&mut self, leg: u16, stay: Option<u64>) {

@@ -9,7 +9,7 @@ use crate::ends::{Common, Ends, door_on, watch_on};
 use crate::serve_fault::ServeFault;
 use addresses::Client;
 use entrance::Entrance;
-use operations::Gauges;
+use operations::RunStatus;
 use policy::Rules;
 use settings::Settings;
 use std::alloc::Global;
@@ -20,7 +20,7 @@ use udp::{SocketSink, Sockets, say_goodbyes, socket_sinks};
 use workers::{Open, Pace, Report, Watch};
 
 /// Runs the unit on the sockets for so many turns: in this thread if there is one worker, else with a thread for each. If somebody has it
-/// stopped, each endpoint that is present is sent a goodbye of the unit and of the legs to it (`goodbye_of`), which isn't counted in the
+/// stopped, each endpoint that is present is sent a BYE of the unit and of the legs to it (`goodbye_of`), which isn't counted in the
 /// report.
 pub fn run_on<R: AllocGlobal + Threads + Wait + Sync + time::Clock, W: Watch + Drop>(
     rt: &R,
@@ -29,7 +29,7 @@ pub fn run_on<R: AllocGlobal + Threads + Wait + Sync + time::Clock, W: Watch + D
     clients: &[Client],
     rules: Rules,
     pace: Pace,
-    gauges: &Gauges,
+    run_status: &RunStatus,
     watch: W,
 ) -> Result<Report, ServeFault>
     ensures report { IfOk result (λ r. AreDesksOf settings.now.pli_gap_ms settings.now.request_ms
@@ -49,20 +49,20 @@ pub fn run_on<R: AllocGlobal + Threads + Wait + Sync + time::Clock, W: Watch + D
         rules,
         common: &common,
     };
-    let report = run_by_workers(rt, ends, settings, pace, gauges, watch)?;
-    leave(alloc, sockets, settings, gauges, &common);
+    let report = run_by_workers(rt, ends, settings, pace, run_status, watch)?;
+    leave(alloc, sockets, settings, run_status, &common);
     Ok(report)
 }
 
-/// Says goodbye to who was present when somebody had the unit stopped.
+/// Sends BYEs to who was present when somebody had the unit stopped.
 fn leave(
     alloc: Global,
     sockets: Sockets<'_>,
     settings: &Settings,
-    gauges: &Gauges,
+    run_status: &RunStatus,
     common: &Common,
 ) {
-    if let Some(present) = gauges.present_at_stop() {
+    if let Some(present) = run_status.present_at_stop() {
         let mut sink = SocketSink::new(sockets, &common.directory, &common.traffic);
         say_goodbyes(alloc, settings, present.as_slice(), &mut sink);
     }
@@ -74,7 +74,7 @@ fn run_by_workers<R: AllocGlobal + Threads + Wait + Sync + time::Clock, W: Watch
     ends: Ends<'_>,
     settings: &Settings,
     pace: Pace,
-    gauges: &Gauges,
+    run_status: &RunStatus,
     watch: W,
 ) -> Result<Report, ServeFault>
     ensures report { IfOk result (λ r. AreDesksOf settings.now.pli_gap_ms settings.now.request_ms
@@ -84,9 +84,9 @@ fn run_by_workers<R: AllocGlobal + Threads + Wait + Sync + time::Clock, W: Watch
         → IfOk result (IsDrivenReport settings.now pace.tick_ms pace.turns) }
 {
     if settings.workers() == 1 {
-        run_in_this_thread(rt, ends, settings, pace, gauges, watch)
+        run_in_this_thread(rt, ends, settings, pace, run_status, watch)
     } else {
-        run_on_threads(rt, ends, settings, pace, gauges, watch)
+        run_on_threads(rt, ends, settings, pace, run_status, watch)
     }
 }
 
@@ -96,7 +96,7 @@ fn run_in_this_thread<R: AllocGlobal + time::Clock, W: Watch + Drop>(
     ends: Ends<'_>,
     settings: &Settings,
     pace: Pace,
-    gauges: &Gauges,
+    run_status: &RunStatus,
     watch: W,
 ) -> Result<Report, ServeFault>
     requires { settings.now.workers ≡ 1 }
@@ -104,8 +104,8 @@ fn run_in_this_thread<R: AllocGlobal + time::Clock, W: Watch + Drop>(
         (length settings.now.endpoints) r.desks.items) }
     ensures driven { IfOk result (IsDrivenReport settings.now pace.tick_ms pace.turns) }
 {
-    let watch = watch_on(rt.alloc(), ends, settings, gauges, watch)?;
-    run_watched_here(rt, ends, settings, pace, gauges, watch)
+    let watch = watch_on(rt.alloc(), ends, settings, run_status, watch)?;
+    run_watched_here(rt, ends, settings, pace, run_status, watch)
 }
 
 /// The same, once there is who looks at it all.
@@ -114,7 +114,7 @@ fn run_watched_here<R: AllocGlobal + time::Clock, W: Watch + Drop>(
     ends: Ends<'_>,
     settings: &Settings,
     pace: Pace,
-    gauges: &Gauges,
+    run_status: &RunStatus,
     watch: W,
 ) -> Result<Report, ServeFault>
     requires { settings.now.workers ≡ 1 }
@@ -122,7 +122,7 @@ fn run_watched_here<R: AllocGlobal + time::Clock, W: Watch + Drop>(
         (length settings.now.endpoints) r.desks.items) }
     ensures driven { IfOk result (IsDrivenReport settings.now pace.tick_ms pace.turns) }
 {
-    let mut door = door_on(rt, ends, settings, gauges)?;
+    let mut door = door_on(rt, ends, settings, run_status)?;
     drive(rt.alloc(), ends, settings, pace, &mut door, watch)
 }
 
@@ -177,15 +177,15 @@ fn run_on_threads<R: AllocGlobal + Threads + Wait + Sync + time::Clock, W: Watch
     ends: Ends<'_>,
     settings: &Settings,
     pace: Pace,
-    gauges: &Gauges,
+    run_status: &RunStatus,
     watch: W,
 ) -> Result<Report, ServeFault>
     ensures report { IfOk result (λ r. AreDesksOf settings.now.pli_gap_ms settings.now.request_ms
         (length settings.now.endpoints) r.desks.items) }
     ensures range { IfOk result (λ _. IsInRange settings.now) }
 {
-    let watch = watch_on(rt.alloc(), ends, settings, gauges, watch)?;
-    run_watched_on_threads(rt, ends, settings, pace, gauges, watch)
+    let watch = watch_on(rt.alloc(), ends, settings, run_status, watch)?;
+    run_watched_on_threads(rt, ends, settings, pace, run_status, watch)
 }
 
 /// The same, once there is who looks at it all.
@@ -194,7 +194,7 @@ fn run_watched_on_threads<R: AllocGlobal + Threads + Wait + Sync + time::Clock, 
     ends: Ends<'_>,
     settings: &Settings,
     pace: Pace,
-    gauges: &Gauges,
+    run_status: &RunStatus,
     watch: W,
 ) -> Result<Report, ServeFault>
     ensures report { IfOk result (λ r. AreDesksOf settings.now.pli_gap_ms settings.now.request_ms
@@ -209,7 +209,7 @@ fn run_watched_on_threads<R: AllocGlobal + Threads + Wait + Sync + time::Clock, 
         ..
     } = ends.common;
     let sinks = socket_sinks(alloc, ends.sockets, directory, traffic, count)?;
-    let door = door_on(rt, ends, settings, gauges)?;
+    let door = door_on(rt, ends, settings, run_status)?;
     match workers::run_through(rt, alloc, settings, door, sinks, watch, &Open, pace) {
         Ok(report) => Ok(report),
         Err(fault) => Err(ServeFault::from(fault)),

@@ -4,7 +4,7 @@ ghost use Rattle.std.specs.Prelude.{◌≡◌, Option, None, MatchResult, length
 ghost use Rattle.std.specs.Io.KnownBytes.{Appends};
 ghost use Rattle.addresses.specs.Clients.{client_at};
 ghost use Rattle.serving.specs.ReportText.{PrintsReport, report_text};
-ghost use Rattle.cli.specs.Endings.{SaysWhy};
+ghost use Rattle.cli.specs.Statuses.{SaysWhy};
 ghost use Rattle.serving.specs.Serving.{EndsServe, FailsServe, FailsToStart, SaysFault, SaysWhyServing, said_each, serving_line, turns_by};
 
 use crate::report_text::report_text;
@@ -12,7 +12,7 @@ use crate::running::run_on;
 use crate::serve_fault::ServeFault;
 use addresses::{Client, ServedSettings};
 use cli::{Status, say, say_no_memory, unsaid};
-use operations::{ControlLines, ErrorOutput, Gauges, Lines, TimedLines};
+use operations::{ControlLines, ErrorOutput, Lines, RunStatus, TimedLines};
 use policy::Rules;
 use settings::Settings;
 use std::alloc::{AllocError, Global};
@@ -51,34 +51,34 @@ impl Term {
 #[derive(Drop)]
 struct Bound {
     media: UdpSocket,
-    control: Option<UdpSocket>,
+    rtcp: Option<UdpSocket>,
 }
 
 impl Bound {
     /// Binds the sockets that the settings name.
     fn new<R: Net>(rt: &R, file: &ServedSettings) -> io::Result<Bound> {
         let media = UdpSocket::bind(rt, file.listen.media)?;
-        let control = match file.listen.rtcp {
+        let rtcp = match file.listen.rtcp {
             Some(address) => Some(UdpSocket::bind(rt, address)?),
             None => None,
         };
-        Ok(Bound { media, control })
+        Ok(Bound { media, rtcp })
     }
 
     fn sockets(&self) -> Sockets<'_> {
         Sockets {
             media: &self.media,
-            control: self.control.as_ref(),
+            rtcp: self.rtcp.as_ref(),
         }
     }
 
     /// Where they are bound.
     fn addresses(&self) -> io::Result<(SocketAddr, Option<SocketAddr>)> {
         let media = self.media.local_addr()?;
-        match &self.control {
+        match &self.rtcp {
             Some(socket) => {
-                let control = socket.local_addr()?;
-                Ok((media, Some(control)))
+                let rtcp = socket.local_addr()?;
+                Ok((media, Some(rtcp)))
             }
             None => Ok((media, None)),
         }
@@ -95,7 +95,7 @@ pub fn serve_file<
     rt: &R,
     file: &ServedSettings,
     term: Term,
-    gauges: &Gauges,
+    run_status: &RunStatus,
     writer: &mut O,
     errors: &mut E,
 ) -> Status
@@ -105,7 +105,7 @@ pub fn serve_file<
 {
     match Bound::new(rt, file) {
         Ok(bound) => match say_serving(rt.alloc(), &bound, errors) {
-            Ok(()) => serve_bound(rt, bound.sockets(), file, term, gauges, writer, errors),
+            Ok(()) => serve_bound(rt, bound.sockets(), file, term, run_status, writer, errors),
             Err(status) => status,
         },
         Err(_) => say_fault(errors, ServeFault::Socket),
@@ -169,7 +169,7 @@ fn serve_bound<
     sockets: Sockets<'_>,
     file: &ServedSettings,
     term: Term,
-    gauges: &Gauges,
+    run_status: &RunStatus,
     writer: &mut O,
     errors: &mut E,
 ) -> Status
@@ -177,12 +177,12 @@ fn serve_bound<
         (O.contents writer.old) (O.contents writer.new) result }
     ensures said { SaysWhy (E.contents errors.old) (E.contents errors.new) result }
 {
-    let drops = if term.status.is_some() || gauges.is_steered() {
-        watch_drops(rt, sockets, gauges)
+    let drops = if term.status.is_some() || run_status.is_steered() {
+        watch_drops(rt, sockets, run_status)
     } else {
         None
     };
-    let status = serve_lined(rt, sockets, file, term, gauges, writer, errors);
+    let status = serve_lined(rt, sockets, file, term, run_status, writer, errors);
     if let Some(drops) = drops {
         drops.finish(rt);
     }
@@ -199,7 +199,7 @@ fn serve_lined<
     sockets: Sockets<'_>,
     file: &ServedSettings,
     term: Term,
-    gauges: &Gauges,
+    run_status: &RunStatus,
     writer: &mut O,
     errors: &mut E,
 ) -> Status
@@ -218,17 +218,17 @@ fn serve_lined<
         turns: term.turns(),
         tick_ms: file.tick_ms,
     };
-    let each_ms = said_each(term.status, gauges.is_steered());
+    let each_ms = said_each(term.status, run_status.is_steered());
     match each_ms {
         Some(every_ms) => match Lines::new(rt) {
             Ok(mut lines) => {
                 let mut timed = TimedLines {
                     rt,
-                    is_timed: gauges.log_time.get(),
+                    is_timed: run_status.log_time.get(),
                     lines: &mut lines,
                 };
                 let served = serve_told(
-                    rt, sockets, settings, clients, *rules, pace, every_ms, gauges, writer,
+                    rt, sockets, settings, clients, *rules, pace, every_ms, run_status, writer,
                     &mut timed,
                 );
                 lines.finish(rt);
@@ -237,7 +237,9 @@ fn serve_lined<
             Err(fault) => say_fault(errors, ServeFault::from(fault)),
         },
         None => {
-            let served = serve_on(rt, sockets, settings, clients, *rules, pace, gauges, writer);
+            let served = serve_on(
+                rt, sockets, settings, clients, *rules, pace, run_status, writer,
+            );
             ended(served, errors)
         }
     }
@@ -278,11 +280,11 @@ fn say_fault<E: Write>(errors: &mut E, fault: ServeFault) -> Status
     }
 }
 
-/// Serves the endpoints, which are at these addresses, on the socket for so many turns, each one receive and one tick, and prints the counts and
-/// what is announced to each publisher by then. All that comes from there is heard as it comes; nobody steers the run or records it.
+/// Serves the endpoints, which are at these addresses, on the socket for so many turns, each one receive and one tick. Then prints the counts
+/// and the set announced for each publisher. All that comes from there is heard as it comes; nobody steers the run or records it.
 ///
-/// Fails as `Socket` if 100 receives in a row fail, no timeout can be set, a thread can't be started or the desks don't
-/// agree with what was counted; then nothing is printed. As `NoMemory` if there is no memory, as `Io` if the writer fails.
+/// Fails as `Socket`, with nothing printed, if 100 receives in a row fail, no timeout can be set, no thread can be started or the desks
+/// contradict the counts. As `NoMemory` if there is no memory, as `Io` if the writer fails.
 pub fn serve_socket<R: AllocGlobal + Threads + Wait + Sync + time::Clock, O: Write>(
     rt: &R,
     socket: &UdpSocket,
@@ -296,7 +298,7 @@ pub fn serve_socket<R: AllocGlobal + Threads + Wait + Sync + time::Clock, O: Wri
     ensures refused { IfErr result (FailsServe (O.contents writer.old) (O.contents writer.new)) }
 {
     let clients = clients_at(rt.alloc(), addresses)?;
-    let gauges = Gauges::new();
+    let run_status = RunStatus::new();
     let pace = Pace {
         turns: ticks,
         tick_ms: 0,
@@ -308,7 +310,7 @@ pub fn serve_socket<R: AllocGlobal + Threads + Wait + Sync + time::Clock, O: Wri
         clients.as_slice(),
         Rules::none(),
         pace,
-        &gauges,
+        &run_status,
         writer,
     )
 }
@@ -333,7 +335,7 @@ pub fn serve_on<R: AllocGlobal + Threads + Wait + Sync + time::Clock, O: Write>(
     clients: &[Client],
     rules: Rules,
     pace: Pace,
-    gauges: &Gauges,
+    run_status: &RunStatus,
     writer: &mut O,
 ) -> Result<(), ServeFault>
     ensures done { OnOk result (PrintsReport settings.now pace.tick_ms pace.turns
@@ -341,7 +343,7 @@ pub fn serve_on<R: AllocGlobal + Threads + Wait + Sync + time::Clock, O: Write>(
     ensures refused { IfErr result (FailsServe (O.contents writer.old) (O.contents writer.new)) }
 {
     let report = run_on(
-        rt, sockets, settings, clients, rules, pace, gauges, Unwatched,
+        rt, sockets, settings, clients, rules, pace, run_status, Unwatched,
     )?;
     print_report(rt.alloc(), settings, &report, writer)
 }
@@ -355,7 +357,7 @@ pub fn serve_watched<R: AllocGlobal + Threads + Wait + Sync + time::Clock, O: Wr
     rules: Rules,
     pace: Pace,
     seconds: u32,
-    gauges: &Gauges,
+    run_status: &RunStatus,
     writer: &mut O,
     errors: &mut E,
 ) -> Result<(), ServeFault>
@@ -365,7 +367,7 @@ pub fn serve_watched<R: AllocGlobal + Threads + Wait + Sync + time::Clock, O: Wr
 {
     let every_ms = u64::from(seconds) * 1000;
     serve_told(
-        rt, sockets, settings, clients, rules, pace, every_ms, gauges, writer, errors,
+        rt, sockets, settings, clients, rules, pace, every_ms, run_status, writer, errors,
     )
 }
 
@@ -378,7 +380,7 @@ fn serve_told<R: AllocGlobal + Threads + Wait + Sync + time::Clock, O: Write, E:
     rules: Rules,
     pace: Pace,
     every_ms: u64,
-    gauges: &Gauges,
+    run_status: &RunStatus,
     writer: &mut O,
     errors: &mut E,
 ) -> Result<(), ServeFault>
@@ -386,8 +388,10 @@ fn serve_told<R: AllocGlobal + Threads + Wait + Sync + time::Clock, O: Write, E:
         (O.contents writer.old) (O.contents writer.new)) }
     ensures refused { IfErr result (FailsServe (O.contents writer.old) (O.contents writer.new)) }
 {
-    let lines = ControlLines::new(rt.alloc(), errors, every_ms, gauges);
-    let report = run_on(rt, sockets, settings, clients, rules, pace, gauges, lines)?;
+    let lines = ControlLines::new(rt.alloc(), errors, every_ms, run_status);
+    let report = run_on(
+        rt, sockets, settings, clients, rules, pace, run_status, lines,
+    )?;
     print_report(rt.alloc(), settings, &report, writer)
 }
 

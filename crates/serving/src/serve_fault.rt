@@ -1,7 +1,7 @@
 //! Why a unit isn't served, or not to its end.
 
 use one_thread::DriveFault;
-use operations::CourierFault;
+use operations::WriterFault;
 use std::alloc::AllocError;
 use std::io;
 use thiserror::Error;
@@ -75,16 +75,16 @@ impl From<DriveFault> for ServeFault {
     }
 }
 
-impl From<CourierFault> for ServeFault {
+impl From<WriterFault> for ServeFault {
     ghost use Rattle.std.specs.Prelude.{◌≡◌};
-    ghost use Rattle.serving.specs.Serving.{courier_fault_of};
+    ghost use Rattle.serving.specs.Serving.{writer_fault_of};
 
-    ghost from_gives = { λ fault e. e ≡ courier_fault_of fault };
+    ghost from_gives = { λ fault e. e ≡ writer_fault_of fault };
 
-    fn from(fault: CourierFault) -> ServeFault {
+    fn from(fault: WriterFault) -> ServeFault {
         match fault {
-            CourierFault::NoMemory => ServeFault::NoMemory,
-            CourierFault::System => ServeFault::Socket,
+            WriterFault::NoMemory => ServeFault::NoMemory,
+            WriterFault::System => ServeFault::Socket,
         }
     }
 }

@@ -1,7 +1,7 @@
 -- A seat that is taken and given back.
 use Rattle.std.proofs.Common.{◌≡◌, ◌∙◌, ap, refl, ℕ, zero, suc, List, [], ◌∷◌, Option, None, Some, slice_get, slice_set}
 use Rattle.addresses.specs.declared.learners.Learner.{Learner}
-use Rattle.addresses.specs.declared.seat.LearnedAddress.{LearnedAddress}
+use Rattle.addresses.specs.declared.learned_address.LearnedAddress.{LearnedAddress}
 use Rattle.addresses.specs.Learners.{LearnersState, learner_at, seated, some_learner, with_seat}
 
 -- what is set stands there

@@ -9,11 +9,11 @@ use Rattle.ports.specs.declared.source.ReceiveFault.{ReceiveFault}
 use Rattle.entrance.specs.Entrance.{IfTaken}
 use Rattle.udp.specs.declared.hearing.Anew.{Anew}
 use Rattle.udp.specs.declared.hearing.Hearing.{Hearing}
-use Rattle.udp.specs.declared.hearing.Rest.{Rest}
+use Rattle.udp.specs.declared.hearing.Leftover.{Leftover}
 use Rattle.udp.specs.declared.who.Who.{Who}
 use Rattle.udp.specs.Hearing.{AsksAgain, Bearings, HearsDatagram, HearsFar, HearsRest, TakesIn, anew_after}
 use Rattle.udp.specs.Kept.{IsSpokenBy, is_there, sent_by}
-use Rattle.udp.specs.Who.{known_by}
+use Rattle.udp.specs.Who.{address_book_of}
 use Rattle.addresses.specs.Listeners.{listeners_after, report_due}
 use Rattle.desk_calls.specs.DeskCalls.{source_of}
 use Rattle.policy.specs.RateRequests.{is_due}
@@ -52,15 +52,15 @@ pub record HearsAnew (anew : Anew) (view : RoomView) (h k : Hearing) (moment : �
   pub packet : anew.is_far_heard ≡ true → anew.from ≤ anew.to → anew.to ≤ length h.kept.buffer.items
       → TakesIn (sent_by view.links.now anew.endpoint moment) h.kept.buffer.items (ruling_of h.policies) view
       anew.from anew.to k admitted
-  pub far : anew.is_far_heard ≡ false → is_there (far_of h.policies.put_by anew.endpoint) ≡ true
+  pub far : anew.is_far_heard ≡ false → is_there (far_of h.policies.held_packets anew.endpoint) ≡ true
       → HearsFar (sent_by view.links.now anew.endpoint moment) h k view admitted
-  pub none : anew.is_far_heard ≡ false → is_there (far_of h.policies.put_by anew.endpoint) ≡ false
+  pub none : anew.is_far_heard ≡ false → is_there (far_of h.policies.held_packets anew.endpoint) ≡ false
       → admitted ≡ Nothing
   pub next : k.anew ≡ anew_after anew
   pub rest : k.rest ≡ h.rest
 
 -- What is left of a datagram is heard.
-pub record HearsLeft (rest : Rest) (unit : Bearings) (view : RoomView) (h k : Hearing) (moment : ℕ) (admitted : Admitted) : Type 0 where
+pub record HearsLeft (rest : Leftover) (unit : Bearings) (view : RoomView) (h k : Hearing) (moment : ℕ) (admitted : Admitted) : Type 0 where
   pub heard : rest.from ≤ rest.to → rest.to ≤ length h.kept.buffer.items
       → HearsRest unit view h k moment rest admitted
 
@@ -106,8 +106,8 @@ pub record Reports (h k : Hearing) (view : RoomView) (told : ℕ) (came : Came) 
 pub record GoesOn (bearings : Who → Bearings) (view : RoomView) (h k : Hearing) (told : ℕ) (came : Came) : Type 0 where
   pub turned : Hearing
   pub none : (endpoint : ℕ) → endpoint < 65536 → report_due h.who.listeners told ≡ Some endpoint → ⊥
-  pub turn : known_by turned.who
-      ≡ record (known_by h.who) { listeners = listeners_after h.who.listeners told }
+  pub turn : address_book_of turned.who
+      ≡ record (address_book_of h.who) { listeners = listeners_after h.who.listeners told }
   pub policies : turned.policies ≡ h.policies
   pub waits : Waits bearings view turned k came.moment came.admitted
 

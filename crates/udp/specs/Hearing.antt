@@ -13,15 +13,15 @@ use Rattle.entrance.specs.declared.entrance.Admitted.{Admitted}
 use Rattle.entrance.specs.declared.entrance.Admitted.TheVariants.{Nothing, Taking}
 use Rattle.members.specs.declared.view.RoomView.{RoomView}
 use Rattle.policy.specs.FloodLimiter.{buckets_with, is_within}
-use Rattle.policy.specs.Screened.{LooksForNothing}
-use Rattle.policy.specs.declared.screen.Judged.{Judged}
-use Rattle.policy.specs.declared.screen.Judged.TheVariants.{Take, PutBy, Anew as BegunAnew}
+use Rattle.policy.specs.IngressFilter.{LooksForNothing}
+use Rattle.policy.specs.declared.ingress_filter.Judged.{Judged}
+use Rattle.policy.specs.declared.ingress_filter.Judged.TheVariants.{Take, HoldPacket, Anew as BegunAnew}
 use Rattle.datagram.specs.Naming.{source_named}
 use Rattle.addresses.specs.SenderTable.{front_length, sender_of}
-use Rattle.addresses.specs.declared.senders.SourceAddress.{SourceAddress}
+use Rattle.addresses.specs.declared.sender_table.SourceAddress.{SourceAddress}
 use Rattle.udp.specs.declared.hearing.Anew.{Anew}
 use Rattle.udp.specs.declared.hearing.Hearing.{Hearing}
-use Rattle.udp.specs.declared.hearing.Rest.{Rest}
+use Rattle.udp.specs.declared.hearing.Leftover.{Leftover}
 use Rattle.udp.specs.declared.kept.Kept.{Kept}
 use Rattle.policy.specs.declared.again.Again.{Again}
 use Rattle.policy.specs.RateRequests.{HearsNext}
@@ -29,14 +29,14 @@ use Rattle.policy.specs.declared.rate_requests.RateRequests.{RateRequests}
 use Rattle.settings.specs.Links.{LinkTable}
 use Rattle.udp.specs.Kept.{IsOfSame, IsReadFrom, IsSpokenBy, SaysGoodbye, bytes_of, sent_by}
 use Rattle.udp.specs.Policies.{IsHeld, IsJudged, IsWelcomed, Ruling, TakesFar, ruling_of}
-use Rattle.udp.specs.Who.{Known, MayLearn, Setup, after_note, known_by}
+use Rattle.udp.specs.Who.{AddressBook, MayLearn, Setup, after_note, address_book_of}
 
 -- the packets of a rest
-abbrev pub packets_in : Kept → Rest → List ℕ
+abbrev pub packets_in : Kept → Leftover → List ℕ
 packets_in k rest = slice_range k.buffer.items rest.from rest.to
 
 -- what is behind so many bytes of it, if anything is
-abbrev pub rest_behind : Rest → ℕ → Option Rest
+abbrev pub rest_behind : Leftover → ℕ → Option Leftover
 rest_behind rest count =
     if nat_lt (rest.from + count) rest.to then Some (record rest { from = rest.from + count }) else None
 
@@ -45,7 +45,7 @@ abbrev pub anew_after : Anew → Option Anew
 anew_after a = if a.is_far_heard then None else Some (record a { is_far_heard = true })
 
 -- this endpoint's is looked at, so many bytes at the front of these packets (RFC 3550, section 6.1)
-abbrev pub LooksAt : Kept → Kept → Rest → ℕ → ℕ → Type 0
+abbrev pub LooksAt : Kept → Kept → Leftover → ℕ → ℕ → Type 0
 LooksAt old new packets count endpoint =
     (new.sent.endpoint ≡ endpoint)
     × (bytes_of new ≡ slice_range old.buffer.items packets.from (packets.from + count))
@@ -59,7 +59,7 @@ is_goodbye (Control c) = false
 is_goodbye (Refused refusal) = false
 
 -- By these bytes their endpoint was heard at this moment, and said BYE if they say it (RFC 3550, section 6.6).
-pub record IsNoted (own endpoint moment : ℕ) (bytes : List ℕ) (known later : Known) : Type 0 where
+pub record IsNoted (own endpoint moment : ℕ) (bytes : List ℕ) (known later : AddressBook) : Type 0 where
   pub what : What
   pub asks : List Ask
   pub says : IsSaidIn own bytes (record { what = what; asks = asks })
@@ -79,7 +79,7 @@ pub record SaysInstead (held later : RateRequests) (k l : Kept) (view : RoomView
 abbrev pub Follows : Judged → RateRequests → RateRequests → Kept → Kept → RoomView → Option Anew → Option Anew → ℕ → ℕ → Admitted → Type 0
 Follows Take held later k l view anew next from to admitted =
     (admitted ≡ Taking) × (next ≡ anew) × IsHeld held later k.sent view k.reading l.reading
-Follows PutBy held later k l view anew next from to admitted =
+Follows HoldPacket held later k l view anew next from to admitted =
     (admitted ≡ Nothing) × (next ≡ anew) × (later ≡ held)
 Follows BegunAnew held later k l view anew next from to admitted =
     (admitted ≡ Taking)
@@ -92,8 +92,8 @@ pub record LetsIn (judged : Judged) (p q : Ruling) (k l : Kept) (view : RoomView
     (anew next : Option Anew) (from to : ℕ) (admitted : Admitted) : Type 0 where
   pub follows : Follows judged p.requests q.requests k l view anew next from to admitted
   pub same : IsOfSame k l
-  pub screen : q.screen ≡ p.screen
-  pub put_by : q.put_by ≡ p.put_by
+  pub ingress_filter : q.ingress_filter ≡ p.ingress_filter
+  pub held_packets : q.held_packets ≡ p.held_packets
   pub most : q.most ≡ p.most
 
 -- the bytes that are kept, the rules, and who began anew, before packets are heard
@@ -130,8 +130,8 @@ pub record TakesIn (sent : Sent) (bytes : List ℕ) (ruling : Ruling) (view : Ro
   pub holds : IsHeld ruling.requests k.policies.requests read.sent view read.reading k.kept.reading
   pub same : IsOfSame read k.kept
   pub stays : k.kept.buffer.items ≡ bytes
-  pub screen : k.policies.screen ≡ ruling.screen
-  pub put_by : k.policies.put_by ≡ ruling.put_by
+  pub ingress_filter : k.policies.ingress_filter ≡ ruling.ingress_filter
+  pub held_packets : k.policies.held_packets ≡ ruling.held_packets
   pub most : k.policies.most ≡ ruling.most
 
 -- The packet of an endpoint that began anew which was put by is counted of it, read and taken in.
@@ -144,7 +144,7 @@ pub record HearsFar (sent : Sent) (h k : Hearing) (view : RoomView) (admitted : 
 
 -- no start is looked for, who speaks has to be the own source, nothing is bounded, nothing held and nothing waits
 pub record AsksNothing (r : Ruling) : Type 0 where
-  pub looks : LooksForNothing r.screen
+  pub looks : LooksForNothing r.ingress_filter
   pub holds : r.requests.holding ≡ None
   pub gaps : r.requests.gaps ≡ None
   pub all : r.most ≡ None
@@ -163,11 +163,11 @@ pub record Bearings : Type 0 where
   pub source : ℕ → Ssrc
 
 -- who sent it, and how much of it is heard at once, by those who are known
-abbrev pub sender_by : Bearings → Known → SocketAddr → List ℕ → Option ℕ
+abbrev pub sender_by : Bearings → AddressBook → SocketAddr → List ℕ → Option ℕ
 sender_by unit known address datagram =
     sender_of unit.same_origin unit.setup.same known.senders address (source_named datagram)
 
-abbrev pub front_by : Bearings → Known → SocketAddr → List ℕ → ℕ
+abbrev pub front_by : Bearings → AddressBook → SocketAddr → List ℕ → ℕ
 front_by unit known address datagram =
     front_length unit.setup.same known.senders address datagram
 
@@ -179,12 +179,12 @@ is_admitted h endpoint moment =
 -- Once a datagram of this moment, all of these packets, came from this address: what is learned of it; and then, by those who are known from
 -- then on, whose it is, and how much of it is heard at once, by the rules. It is counted of who sent it if it isn't too many; who sent it is noted by
 -- what is heard, and what is behind that is left. A stranger's is passed over, and one that is too many is gone.
-pub record HearsDatagram (unit : Bearings) (view : RoomView) (h k : Hearing) (moment : ℕ) (whole : Rest)
+pub record HearsDatagram (unit : Bearings) (view : RoomView) (h k : Hearing) (moment : ℕ) (whole : Leftover)
     (admitted : Admitted) : Type 0 where
-  pub between : Known
-  pub learned : MayLearn unit.setup whole.address (packets_in h.kept whole) moment (known_by h.who) between
+  pub between : AddressBook
+  pub learned : MayLearn unit.setup whole.address (packets_in h.kept whole) moment (address_book_of h.who) between
   pub stranger : sender_by unit between whole.address (packets_in h.kept whole) ≡ None
-      → (admitted ≡ Nothing) × (known_by k.who ≡ between) × (k.policies.floods ≡ h.policies.floods)
+      → (admitted ≡ Nothing) × (address_book_of k.who ≡ between) × (k.policies.floods ≡ h.policies.floods)
       × (stand_of k ≡ stand_of h) × (k.rest
       ≡ rest_behind whole (front_by unit between whole.address (packets_in h.kept whole)))
   pub counted : (endpoint : ℕ)
@@ -194,14 +194,14 @@ pub record HearsDatagram (unit : Bearings) (view : RoomView) (h k : Hearing) (mo
   pub flood : (endpoint : ℕ)
       → sender_by unit between whole.address (packets_in h.kept whole) ≡ Some endpoint
       → is_admitted h endpoint moment ≡ false
-      → (admitted ≡ Nothing) × (known_by k.who ≡ between) × (stand_of k ≡ stand_of h) × (k.rest ≡ None)
+      → (admitted ≡ Nothing) × (address_book_of k.who ≡ between) × (stand_of k ≡ stand_of h) × (k.rest ≡ None)
   pub noted : (endpoint : ℕ)
       → sender_by unit between whole.address (packets_in h.kept whole) ≡ Some endpoint
       → is_admitted h endpoint moment ≡ true
       → IsNoted (unit.source endpoint).0 endpoint moment
       (slice_range h.kept.buffer.items whole.from
       (whole.from + front_by unit between whole.address (packets_in h.kept whole)))
-      between (known_by k.who)
+      between (address_book_of k.who)
   pub looks : (endpoint : ℕ)
       → sender_by unit between whole.address (packets_in h.kept whole) ≡ Some endpoint
       → is_admitted h endpoint moment ≡ true
@@ -221,27 +221,27 @@ pub record HearsDatagram (unit : Bearings) (view : RoomView) (h k : Hearing) (mo
 
 -- The rest of a datagram, all of these packets: whose it is, and how much of it is heard at once, by the rules. Who sent it is noted by what is
 -- heard, and what is behind that is left. A stranger's is passed over.
-pub record HearsRest (unit : Bearings) (view : RoomView) (h k : Hearing) (moment : ℕ) (rest : Rest)
+pub record HearsRest (unit : Bearings) (view : RoomView) (h k : Hearing) (moment : ℕ) (rest : Leftover)
     (admitted : Admitted) : Type 0 where
-  pub stranger : sender_by unit (known_by h.who) rest.address (packets_in h.kept rest) ≡ None
-      → (admitted ≡ Nothing) × (known_by k.who ≡ known_by h.who) × (stand_of k ≡ stand_of h)
+  pub stranger : sender_by unit (address_book_of h.who) rest.address (packets_in h.kept rest) ≡ None
+      → (admitted ≡ Nothing) × (address_book_of k.who ≡ address_book_of h.who) × (stand_of k ≡ stand_of h)
   pub noted : (endpoint : ℕ)
-      → sender_by unit (known_by h.who) rest.address (packets_in h.kept rest) ≡ Some endpoint
+      → sender_by unit (address_book_of h.who) rest.address (packets_in h.kept rest) ≡ Some endpoint
       → IsNoted (unit.source endpoint).0 endpoint moment
       (slice_range h.kept.buffer.items rest.from
-      (rest.from + front_by unit (known_by h.who) rest.address (packets_in h.kept rest)))
-      (known_by h.who) (known_by k.who)
+      (rest.from + front_by unit (address_book_of h.who) rest.address (packets_in h.kept rest)))
+      (address_book_of h.who) (address_book_of k.who)
   pub looks : (endpoint : ℕ)
-      → sender_by unit (known_by h.who) rest.address (packets_in h.kept rest) ≡ Some endpoint
+      → sender_by unit (address_book_of h.who) rest.address (packets_in h.kept rest) ≡ Some endpoint
       → LooksAt h.kept k.kept rest
-      (front_by unit (known_by h.who) rest.address (packets_in h.kept rest)) endpoint
+      (front_by unit (address_book_of h.who) rest.address (packets_in h.kept rest)) endpoint
   pub judged : (endpoint : ℕ)
-      → sender_by unit (known_by h.who) rest.address (packets_in h.kept rest) ≡ Some endpoint
+      → sender_by unit (address_book_of h.who) rest.address (packets_in h.kept rest) ≡ Some endpoint
       → HearsRead (record { moment = moment; endpoint = endpoint; own = unit.source endpoint })
       (stand_of h) view rest.from
-      (rest.from + front_by unit (known_by h.who) rest.address (packets_in h.kept rest)) k admitted
+      (rest.from + front_by unit (address_book_of h.who) rest.address (packets_in h.kept rest)) k admitted
   pub left : k.rest
-      ≡ rest_behind rest (front_by unit (known_by h.who) rest.address (packets_in h.kept rest))
+      ≡ rest_behind rest (front_by unit (address_book_of h.who) rest.address (packets_in h.kept rest))
 
 -- ---- what is said in a client's name
 

@@ -6,10 +6,10 @@ use Rattle.std.specs.declared.net.socket_addr.SocketAddr.{SocketAddr}
 use Rattle.tmmbr_tuple.specs.declared.ssrc.Ssrc.{Ssrc}
 use Rattle.addresses.specs.declared.learners.Arrived.{Arrived}
 use Rattle.addresses.specs.declared.learners.Learner.{Learner}
-use Rattle.addresses.specs.declared.seat.Kind.{Kind}
-use Rattle.addresses.specs.declared.seat.Kind.TheVariants.{Rtp, Rtcp}
-use Rattle.addresses.specs.declared.seat.LearnedAddress.{LearnedAddress}
-use Rattle.addresses.specs.declared.senders.SourceAddress.{SourceAddress}
+use Rattle.addresses.specs.declared.learned_address.Kind.{Kind}
+use Rattle.addresses.specs.declared.learned_address.Kind.TheVariants.{Rtp, Rtcp}
+use Rattle.addresses.specs.declared.learned_address.LearnedAddress.{LearnedAddress}
+use Rattle.addresses.specs.declared.sender_table.SourceAddress.{SourceAddress}
 use Rattle.addresses.specs.Learners.{LearnersState, after_word, claim_of, learner_at, with_seat}
 use Rattle.addresses.specs.Listeners.{ListenersState, after_hearing, new_listeners}
 use Rattle.rtcp_compound.specs.Mux.{is_rtcp}
@@ -19,7 +19,7 @@ use Rattle.settings.specs.Settings.{Configuration}
 use Rattle.addresses.specs.declared.clients.Client.{Client}
 use Rattle.addresses.specs.declared.clients.Listening.{Listening}
 use Rattle.addresses.specs.Clients.{IsReachable}
-use Rattle.addresses.specs.Known.{learners_of, senders_of}
+use Rattle.addresses.specs.AddressBook.{learners_of, senders_of}
 
 -- whose address is learned, before anything came
 abbrev pub first_learners : Configuration → List Client → LearnersState
@@ -38,7 +38,7 @@ first_listeners settings clients =
 -- ---- what is known, and what never changes
 
 -- who is known by an address, whose address is learned, and who only listens
-pub record Known : Type 0 where
+pub record AddressBook : Type 0 where
   pub senders : List (SourceAddress × ℕ)
   pub learners : LearnersState
   pub listeners : ListenersState
@@ -52,8 +52,8 @@ pub record Setup : Type 0 where
   pub clients : List Client
   pub listening : Listening
 
-abbrev pub known_by : Who → Known
-known_by a = record { senders = a.senders; learners = a.learners; listeners = a.listeners }
+abbrev pub address_book_of : Who → AddressBook
+address_book_of a = record { senders = a.senders; learners = a.learners; listeners = a.listeners }
 
 abbrev pub setup_of : (ℕ → ℕ → Bool) → (SocketAddr → SocketAddr → Bool)
     → (IpAddr → IpAddr → Bool) → Who → Setup
@@ -88,7 +88,7 @@ is_same_place same seat other = option_eq same seat.rtp other.rtp && option_eq s
 -- An address is learned: the endpoint whose source the datagram of this moment names may take this seat, and has it from then on. Either
 -- it has the addresses that it had, or the unit can send to this one, and who is known by an address is who is by the seats from then on.
 pub record Learns (unit : Setup) (from : SocketAddr) (datagram : List ℕ) (moment : ℕ)
-    (known later : Known) : Type 0 where
+    (known later : AddressBook) : Type 0 where
   pub endpoint : ℕ
   pub seat : LearnedAddress
   pub claims : claim_of unit.same_source unit.same unit.same_host known.learners
@@ -103,7 +103,7 @@ pub record Learns (unit : Setup) (from : SocketAddr) (datagram : List ℕ) (mome
 
 -- Nothing is learned: no endpoint may take a seat by the datagram of this moment that has the addresses which it had.
 pub record LearnsNothing (unit : Setup) (from : SocketAddr) (datagram : List ℕ) (moment : ℕ)
-    (known later : Known) : Type 0 where
+    (known later : AddressBook) : Type 0 where
   pub moves : (endpoint : ℕ) (seat : LearnedAddress) (learner : Learner)
       → claim_of unit.same_source unit.same unit.same_host known.learners
       (arrived_by unit.listening.rtcp from datagram moment) ≡ Some (endpoint, seat)
@@ -112,7 +112,7 @@ pub record LearnsNothing (unit : Setup) (from : SocketAddr) (datagram : List ℕ
   pub all : later ≡ known
 
 -- it is learned, or nothing is
-abbrev pub MayLearn : Setup → SocketAddr → List ℕ → ℕ → Known → Known → Type 0
+abbrev pub MayLearn : Setup → SocketAddr → List ℕ → ℕ → AddressBook → AddressBook → Type 0
 MayLearn unit from datagram moment known later =
     LearnsNothing unit from datagram moment known later
     ⊎ Learns unit from datagram moment known later
@@ -121,7 +121,7 @@ MayLearn unit from datagram moment known later =
 
 -- An endpoint was heard at this moment, and said goodbye or didn't. If its address is learned, its seat is kept from then on, or is
 -- free; if it only listens, it is present, or has left (RFC 3550, section 6.6). Nothing else changes.
-abbrev pub after_note : Known → ℕ → ℕ → Bool → Known
+abbrev pub after_note : AddressBook → ℕ → ℕ → Bool → AddressBook
 after_note known endpoint moment is_goodbye = record {
   senders = known.senders;
   learners = after_word known.learners endpoint moment is_goodbye;

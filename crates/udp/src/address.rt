@@ -9,8 +9,8 @@ ghost use Rattle.udp.specs.Address.{four_turned, host_octets, turned_four, word_
 use std::alloc::{AllocError, Global};
 use std::net::{IpAddr, Ipv4Addr, Ipv6Addr, SocketAddr};
 
-/// The word that names this address in the rows of its socket: upper hexadecimal digits of the host, each four octets from the last to
-/// the first, a colon, and four digits of the port, as `0100007F:138C` for 127.0.0.1:5004. Refused for want of memory alone.
+/// The word that names this address in the rows of its socket, as `0100007F:138C` for 127.0.0.1:5004. It has the host in upper hexadecimal
+/// digits, each four octets from the last to the first, a colon, and four digits of the port. Refused for want of memory alone.
 pub(crate) fn address_word(alloc: Global, address: SocketAddr) -> Result<String, AllocError>
     ensures { IfOk result (λ text. string_bytes text ≡ word_of_address address) }
 {

@@ -6,8 +6,8 @@ ghost use Rattle.udp.specs.Sockets.{Looks, later_moment, reached, stalled_after}
 use std::cell::Cell;
 use std::time::{self, Instant};
 
-/// The system's monotonic clock, in milliseconds since it was asked first, as far as the run has lived them: of what goes by between two looks no
-/// more than `stall_ms` count, all of it if that is 0. It shows others the last moment that it told, and what it didn't live.
+/// The system's monotonic clock, in milliseconds since it was asked first. Of what goes by between two looks at most `stall_ms` count; all of
+/// it, if that is 0. It shows others the last moment that it told, and how much didn't count.
 #[derive(Drop)]
 pub struct RunClock<'a, R: time::Clock> {
     rt: &'a R,

@@ -9,9 +9,9 @@ ghost use Rattle.policy.specs.RateRequests.{BeginsBy};
 ghost use Rattle.udp.specs.Door.{HearsAnew, HearsBefore, HearsElse, HearsLeft, HearsMore, IfLetIn, LetsWish, Waits, is_wish, wish_in};
 ghost use Rattle.udp.specs.Kept.{IsSpokenBy, MayBeTaken, sent_by};
 ghost use Rattle.udp.specs.Policies.{most_by};
-ghost use Rattle.udp.specs.Who.{known_by, setup_of};
+ghost use Rattle.udp.specs.Who.{address_book_of, setup_of};
 ghost use Rattle.udp.specs.declared.hearing.Anew.{Anew};
-ghost use Rattle.udp.specs.declared.hearing.Rest.{Rest};
+ghost use Rattle.udp.specs.declared.hearing.Leftover.{Leftover};
 
 use crate::clock::RunClock;
 use crate::hearing::Hearing;
@@ -22,7 +22,7 @@ use addresses::{Client, Directory, Listening, SourceAddress};
 use datagram::Taking;
 use entrance::{Admitted, Came, Entrance};
 use members::RoomView;
-use operations::Gauges;
+use operations::RunStatus;
 use policy::{AnnouncedSets, Rules};
 use ports::{ReceiveFault, Received};
 use settings::Settings;
@@ -36,20 +36,20 @@ use std::time;
 #[derive(Clone, Copy)]
 pub struct Outlook<'a> {
     pub directory: &'a Directory,
-    pub gauges: &'a Gauges,
+    pub run_status: &'a RunStatus,
     pub traffic: &'a Traffic,
     pub sets: &'a RefCell<AnnouncedSets>,
 }
 
-/// What comes to the sockets of a unit. Of each datagram it is known by its first bytes who sent it; strangers and floods are counted and
-/// passed over. It is read once, into a value; what the rules have put by, leave out or say in a client's name is decided on that value,
-/// at the moment at which it came and by the room as it is then.
+/// What comes to the sockets of a unit. Of each datagram it is known by its first bytes who sent it; those of unknown senders and floods are
+/// counted and dropped. It is read once, into a value. On that value, at its moment and by the room as it is then, it is decided what the rules
+/// hold, leave out or say in a client's name.
 #[derive(Drop)]
 pub struct Door<'a, R: time::Clock> {
     inbox: Inbox<'a>,
     clock: RunClock<'a, R>,
     hearing: Hearing<'a>,
-    gauges: &'a Gauges,
+    run_status: &'a RunStatus,
     traffic: &'a Traffic,
     scribe: Scribe,
 }
@@ -70,19 +70,24 @@ impl<'a, R: time::Clock> Door<'a, R> {
           rules.flood_limit,
           replicate (length settings.now.endpoints) empty_bucket,
         )) }
-        ensures rules { IfOk result (λ d. d.hearing.policies.screen.rules ≡ rules) }
+        ensures rules { IfOk result (λ d. d.hearing.policies.ingress_filter.rules ≡ rules) }
         ensures stall { IfOk result (λ d. d.clock.stall_ms ≡ rules.stall_ms) }
         ensures holds { IfOk result
             (λ d. BeginsBy rules settings.now d.hearing.policies.requests) }
         ensures most { IfOk result (λ d. d.hearing.policies.most ≡ most_by rules.entry_limit) }
         ensures nothing { IfOk result (λ d. (d.hearing.rest ≡ None) × (d.hearing.anew ≡ None)) }
     {
-        let (gauges, traffic) = (outlook.gauges, outlook.traffic);
+        let (run_status, traffic) = (outlook.run_status, outlook.traffic);
         Ok(Door {
             inbox: Inbox::new(sockets),
-            clock: RunClock::new(rt, rules.stall_ms, &gauges.moment_ms, &gauges.stalled),
+            clock: RunClock::new(
+                rt,
+                rules.stall_ms,
+                &run_status.moment_ms,
+                &run_status.stalled,
+            ),
             hearing: Hearing::new(alloc, listening, settings, clients, rules, outlook)?,
-            gauges,
+            run_status,
             traffic,
             scribe: Scribe::new(alloc),
         })
@@ -101,7 +106,7 @@ impl<'a, R: time::Clock> Door<'a, R> {
             → IfOk result (λ came. LetsWish came self.old.hearing self.new.hearing
             ⊎ IfLetIn came.admitted (HearsAnew anew view.entry self.old.hearing self.new.hearing
             came.moment)) }
-        ensures rest { (rest : Rest) → self.old.hearing.anew ≡ None
+        ensures rest { (rest : Leftover) → self.old.hearing.anew ≡ None
             → self.old.hearing.rest ≡ Some rest
             → IfOk result (λ came. LetsWish came self.old.hearing self.new.hearing
             ⊎ IfLetIn came.admitted (HearsLeft rest (record {
@@ -119,7 +124,7 @@ impl<'a, R: time::Clock> Door<'a, R> {
               source = source_of view.entry.links.now;
             }) view.entry self.old.hearing self.new.hearing self.old.clock.told came) }
     {
-        if let Some(wish) = wish_in(self.gauges.wished()) {
+        if let Some(wish) = wish_in(self.run_status.wished()) {
             return Ok(self.at_once(wish));
         }
         let came = self.next_heard(view)?;
@@ -158,7 +163,7 @@ impl<'a, R: time::Clock> Door<'a, R> {
         ensures anew { (anew : Anew) → self.old.hearing.anew ≡ Some anew
             → IfOk result (λ came. IfLetIn came.admitted
             (HearsAnew anew view.entry self.old.hearing self.new.hearing came.moment)) }
-        ensures rest { (rest : Rest) → self.old.hearing.anew ≡ None
+        ensures rest { (rest : Leftover) → self.old.hearing.anew ≡ None
             → self.old.hearing.rest ≡ Some rest → IfOk result (λ came. IfLetIn came.admitted
             (HearsLeft rest (record {
               setup = setup_of ⟦<u32 as PartialEq>⟧.eq ⟦<SocketAddr as PartialEq>⟧.eq
@@ -251,7 +256,7 @@ impl<'a, R: time::Clock> Door<'a, R> {
             self.new.hearing.kept.reading) }
         ensures none { IfNone result ((endpoint : ℕ) → endpoint < 65536
             → report_due self.old.hearing.who.listeners self.old.clock.told ≡ Some endpoint → ⊥) }
-        ensures turn { known_by self.new.hearing.who ≡ record (known_by self.old.hearing.who) {
+        ensures turn { address_book_of self.new.hearing.who ≡ record (address_book_of self.old.hearing.who) {
           listeners = listeners_after self.old.hearing.who.listeners self.old.clock.told;
         } }
         ensures now { IfSome result (λ moment. (moment ≡ self.new.clock.told)
@@ -338,7 +343,7 @@ impl<R: time::Clock> Entrance for Door<'_, R> {
         if matches!(came.admitted, Ok(Admitted::Taking)) {
             self.hearing.kept.is_said();
         }
-        self.scribe.note(self.gauges, came, &self.hearing.kept);
+        self.scribe.note(self.run_status, came, &self.hearing.kept);
         Ok(came)
     }
 
@@ -348,6 +353,6 @@ impl<R: time::Clock> Entrance for Door<'_, R> {
 
     fn ticked(&mut self, moment: u64) {
         self.hearing.ticked();
-        self.scribe.ticked(self.gauges, moment);
+        self.scribe.ticked(self.run_status, moment);
     }
 }

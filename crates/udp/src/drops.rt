@@ -3,7 +3,7 @@
 use crate::address::address_word;
 use crate::socket::Sockets;
 use crate::table::dropped_at;
-use operations::Gauges;
+use operations::RunStatus;
 use std::alloc::Global;
 use std::fs::File;
 use std::io::{ErrorKind, Read, Seek};
@@ -41,16 +41,16 @@ struct Looker {
     unread: Arc<AtomicU64, Global>,
 }
 
-/// Starts the thread, which says to the gauges what was dropped. If the system says nothing of it, or has no thread, there is none.
+/// Starts the thread, which says to the run's status what was dropped. If the system says nothing of it, or has no thread, there is none.
 pub fn watch_drops<R: AllocGlobal + Files<File = File> + Net + Threads>(
     rt: &R,
     sockets: Sockets<'_>,
-    gauges: &Gauges,
+    run_status: &RunStatus,
 ) -> Option<DropWatch> {
     let (bell, heard) = bells(rt)?;
     let (looker, shown) = looker_with(rt, sockets, heard)?;
     let thread = thread::spawn(rt, move || look_on(looker)).ok()?;
-    gauges.show_unread(shown);
+    run_status.show_unread(shown);
     Some(DropWatch { bell, thread })
 }
 

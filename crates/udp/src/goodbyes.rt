@@ -1,4 +1,4 @@
-//! The goodbyes of a unit that is stopped.
+//! The BYEs of a unit that is stopped.
 
 ghost use Rattle.std.specs.Prelude.{◌≡◌, ◌++◌, [], IfOk, OnOk};
 ghost use Rattle.std.specs.List.{flat_map};
@@ -11,8 +11,8 @@ use settings::{LegSettings, Settings};
 use std::alloc::{AllocError, Global};
 use tmmbr_tuple::Ssrc;
 
-/// The datagram by which the unit leaves the endpoint with this number: what each of its compounds begins with, a goodbye of the source
-/// of each leg to the endpoint, and one of the unit's own (RFC 3550, section 6.6). Refused for want of memory alone.
+/// The datagram by which the unit leaves the endpoint with this number. After the head of each of its compounds come BYEs of the SSRCs of the
+/// legs to the endpoint, then one of the unit's own (RFC 3550, section 6.6). Refused for want of memory alone.
 pub fn goodbye_of(alloc: Global, settings: &Settings, endpoint: u16) -> Result<Vec<u8>, AllocError>
     ensures { IfOk result (λ bytes. bytes.items ≡ goodbye_bytes settings.now endpoint) }
 {
@@ -33,7 +33,7 @@ fn head_of(alloc: Global, settings: &Settings) -> Result<Vec<u8>, AllocError>
     Ok(bytes)
 }
 
-/// A goodbye of the source of each of these legs that leads to the endpoint.
+/// A BYE of the source of each of these legs that leads to the endpoint.
 fn push_legs(bytes: &mut Vec<u8>, legs: &[LegSettings], endpoint: u16) -> Result<(), AllocError>
     ensures { OnOk result
         (bytes.new.items ≡ bytes.old.items ++ flat_map (leg_goodbye endpoint) legs.now) }
@@ -44,7 +44,7 @@ fn push_legs(bytes: &mut Vec<u8>, legs: &[LegSettings], endpoint: u16) -> Result
     Ok(())
 }
 
-/// A goodbye of the source of this leg, if it leads to the endpoint.
+/// A BYE of the source of this leg, if it leads to the endpoint.
 fn push_leg(bytes: &mut Vec<u8>, leg: &LegSettings, endpoint: u16) -> Result<(), AllocError>
     ensures { OnOk result (bytes.new.items ≡ bytes.old.items ++ leg_goodbye endpoint leg.now) }
 {
@@ -54,14 +54,14 @@ fn push_leg(bytes: &mut Vec<u8>, leg: &LegSettings, endpoint: u16) -> Result<(),
     push_goodbye(bytes, leg.out_ssrc)
 }
 
-/// A goodbye of this source.
+/// A BYE of this source.
 fn push_goodbye(bytes: &mut Vec<u8>, source: Ssrc) -> Result<(), AllocError>
     ensures { OnOk result (bytes.new.items ≡ bytes.old.items ++ goodbye_packet source.0) }
 {
     write_bye(bytes, &[source])
 }
 
-/// Sends each endpoint that is present its goodbye, and nobody else anything. One that can't be sent, or for which there is no memory,
+/// Sends each endpoint that is present its BYE, and nobody else anything. One that can't be sent, or for which there is no memory,
 /// is left out.
 #[tactic(auto, using(crate::proofs::GoodbyeLemmas::says_on, crate::proofs::GoodbyeLemmas::says_nothing))]
 pub fn say_goodbyes<S: Sink>(alloc: Global, settings: &Settings, present: &[bool], sink: &mut S)
@@ -73,7 +73,7 @@ pub fn say_goodbyes<S: Sink>(alloc: Global, settings: &Settings, present: &[bool
     }
 }
 
-/// Sends the endpoint with this number its goodbye if it is present.
+/// Sends the endpoint with this number its BYE if it is present.
 #[tactic(auto, using(crate::proofs::GoodbyeLemmas::says_one, crate::proofs::GoodbyeLemmas::says_nothing))]
 fn say_if_present<S: Sink>(
     alloc: Global,
@@ -90,7 +90,7 @@ fn say_if_present<S: Sink>(
     }
 }
 
-/// Sends the endpoint with this number its goodbye.
+/// Sends the endpoint with this number its BYE.
 #[tactic(auto, using(crate::proofs::GoodbyeLemmas::tells_one, crate::proofs::GoodbyeLemmas::tells_nothing))]
 fn say_goodbye<S: Sink>(alloc: Global, settings: &Settings, endpoint: usize, sink: &mut S)
     ensures { LeavesEndpoint settings.now endpoint (S.shown sink.old).handed (S.shown sink.new).handed }

@@ -11,7 +11,7 @@ ghost use Rattle.udp.specs.Hearing.{HearsDatagram, HearsFar, HearsRead, HearsRes
 ghost use Rattle.udp.specs.Kept.{IsSpokenBy, MayBeTaken, bytes_of, is_there, sent_by};
 ghost use Rattle.policy.specs.RateRequests.{BeginsBy, Ticks, is_due};
 ghost use Rattle.udp.specs.Policies.{far_of, most_by, ruling_of};
-ghost use Rattle.udp.specs.Who.{known_by, setup_of};
+ghost use Rattle.udp.specs.Who.{address_book_of, setup_of};
 
 use crate::door::Outlook;
 use crate::inbox::Inbox;
@@ -22,7 +22,7 @@ use addresses::{Client, FirstPacket, Listening, SourceAddress};
 use datagram::Sent;
 use entrance::Admitted;
 use members::RoomView;
-use operations::Gauges;
+use operations::RunStatus;
 use policy::{Judged, Rules};
 use ports::MAX_DATAGRAM;
 use rtcp_compound::is_rtcp;
@@ -37,7 +37,7 @@ const ENTRIES: usize = 256;
 
 /// The packets of a datagram, or those after what was heard of it.
 #[derive(Clone, Copy)]
-pub(crate) struct Rest {
+pub(crate) struct Leftover {
     /// Where the datagram came from.
     address: SocketAddr,
     /// Where they stand among the bytes that are kept.
@@ -45,7 +45,7 @@ pub(crate) struct Rest {
     to: usize,
 }
 
-/// What is heard of an endpoint that began anew, after a goodbye in its name: its last far packet, and then the one that followed that.
+/// What is heard of an endpoint that began anew, after a BYE in its name: its last far packet, and then the one that followed that.
 #[derive(Clone, Copy)]
 pub(crate) struct Anew {
     endpoint: u16,
@@ -63,11 +63,11 @@ type Receipt = Result<Admitted, AllocError>;
 #[derive(Drop)]
 pub(crate) struct Hearing<'a> {
     pub(crate) kept: Kept,
-    pub(crate) rest: Option<Rest>,
+    pub(crate) rest: Option<Leftover>,
     pub(crate) anew: Option<Anew>,
     who: Who<'a>,
     policies: Policies<'a>,
-    gauges: &'a Gauges,
+    run_status: &'a RunStatus,
     traffic: &'a Traffic,
 }
 
@@ -87,26 +87,26 @@ impl<'a> Hearing<'a> {
           rules.flood_limit,
           replicate (length settings.now.endpoints) empty_bucket,
         )) }
-        ensures rules { IfOk result (λ h. h.policies.screen.rules ≡ rules) }
+        ensures rules { IfOk result (λ h. h.policies.ingress_filter.rules ≡ rules) }
         ensures holds { IfOk result (λ h. BeginsBy rules settings.now h.policies.requests) }
         ensures most { IfOk result (λ h. h.policies.most ≡ most_by rules.entry_limit) }
         ensures nothing { IfOk result (λ h. (h.rest ≡ None) × (h.anew ≡ None)) }
     {
         let Outlook {
             directory,
-            gauges,
+            run_status,
             traffic,
             sets,
         } = outlook;
-        let who = Who::new(alloc, listening, settings, clients, directory, gauges)?;
-        let policies = Policies::new(alloc, settings, rules, gauges, traffic, sets)?;
+        let who = Who::new(alloc, listening, settings, clients, directory, run_status)?;
+        let policies = Policies::new(alloc, settings, rules, run_status, traffic, sets)?;
         Ok(Hearing {
             kept: Kept::new(alloc, policies.most.unwrap_or(ENTRIES))?,
             rest: None,
             anew: None,
             who,
             policies,
-            gauges,
+            run_status,
             traffic,
         })
     }
@@ -123,12 +123,12 @@ impl<'a> Hearing<'a> {
             self.old.kept.buffer.items (ruling_of self.old.policies) view.entry anew.from anew.to
             self.new admitted) }
         ensures far { anew.is_far_heard ≡ false
-            → is_there (far_of self.old.policies.put_by anew.endpoint) ≡ true
+            → is_there (far_of self.old.policies.held_packets anew.endpoint) ≡ true
             → IfOk result (λ admitted. HearsFar
             (sent_by view.entry.links.now anew.endpoint moment) self.old self.new view.entry
             admitted) }
         ensures none { anew.is_far_heard ≡ false
-            → is_there (far_of self.old.policies.put_by anew.endpoint) ≡ false
+            → is_there (far_of self.old.policies.held_packets anew.endpoint) ≡ false
             → IfOk result (λ admitted. admitted ≡ Admitted.Nothing) }
         ensures next { self.new.anew ≡ anew_after anew }
         ensures stays { (self.new.rest ≡ self.old.rest) × (self.new.who ≡ self.old.who)
@@ -185,7 +185,7 @@ impl<'a> Hearing<'a> {
     }
 
     /// What is heard next of the rest of a datagram.
-    pub(crate) fn hear_rest(&mut self, view: RoomView<'_>, moment: u64, rest: Rest) -> Receipt
+    pub(crate) fn hear_rest(&mut self, view: RoomView<'_>, moment: u64, rest: Leftover) -> Receipt
         ensures taken { IfOk result
             (λ admitted. IfTaken (Ok admitted) (MayBeTaken view.entry.links.now self.new.kept)) }
         ensures moment { IfOk result
@@ -202,7 +202,7 @@ impl<'a> Hearing<'a> {
               source = source_of view.entry.links.now;
             }) view.entry self.old self.new moment rest admitted) }
     {
-        let Rest { address, from, to } = rest;
+        let Leftover { address, from, to } = rest;
         if from > to || to > self.kept.buffer.len() {
             self.rest = None;
             return Ok(Admitted::Nothing);
@@ -235,7 +235,7 @@ impl<'a> Hearing<'a> {
         }) view.entry self.old self.new moment (record { address = address; from = 0; to = size })
             admitted) }
     {
-        let whole = Rest {
+        let whole = Leftover {
             address,
             from: 0,
             to: size,
@@ -252,7 +252,7 @@ impl<'a> Hearing<'a> {
         &mut self,
         view: RoomView<'_>,
         moment: u64,
-        whole: Rest,
+        whole: Leftover,
         front: FirstPacket,
     ) -> Receipt
         requires { (whole.from + front.length ≤ whole.to)
@@ -269,7 +269,7 @@ impl<'a> Hearing<'a> {
             → is_within self.old.policies.floods.0
             (slice_get self.old.policies.floods.1 endpoint) moment ≡ false
             → (result ≡ Ok Admitted.Nothing) × (self.new.rest ≡ None)
-            × (known_by self.new.who ≡ known_by self.old.who)
+            × (address_book_of self.new.who ≡ address_book_of self.old.who)
             × (stand_of self.new ≡ stand_of self.old) }
         ensures moment { IfOk result
             (λ admitted. IfTaken (Ok admitted) (self.new.kept.sent.moment ≡ moment)) }
@@ -282,7 +282,7 @@ impl<'a> Hearing<'a> {
             (slice_get self.old.policies.floods.1 endpoint) moment ≡ true
             → OnOk result (IsNoted (source_of view.entry.links.now endpoint).0 endpoint moment
             (slice_range self.old.kept.buffer.items whole.from (whole.from + front.length))
-            (known_by self.old.who) (known_by self.new.who)) }
+            (address_book_of self.old.who) (address_book_of self.new.who)) }
         ensures judged { (endpoint : ℕ) → front.endpoint ≡ Some endpoint
             → is_within self.old.policies.floods.0
             (slice_get self.old.policies.floods.1 endpoint) moment ≡ true
@@ -295,7 +295,7 @@ impl<'a> Hearing<'a> {
             → self.new.rest ≡ rest_behind whole front.length }
         ensures stranger { front.endpoint ≡ None → (result ≡ Ok Admitted.Nothing)
             × (self.new.rest ≡ rest_behind whole front.length)
-            × (known_by self.new.who ≡ known_by self.old.who)
+            × (address_book_of self.new.who ≡ address_book_of self.old.who)
             × (self.new.policies.floods ≡ self.old.policies.floods)
             × (stand_of self.new ≡ stand_of self.old) }
     {
@@ -328,7 +328,7 @@ impl<'a> Hearing<'a> {
         };
         let is_heard = self.policies.admit(endpoint, moment);
         if !is_heard {
-            self.gauges.count_flooded(endpoint);
+            self.run_status.count_flooded(endpoint);
         }
         is_heard
     }
@@ -338,7 +338,7 @@ impl<'a> Hearing<'a> {
         &mut self,
         view: RoomView<'_>,
         moment: u64,
-        packets: Rest,
+        packets: Leftover,
         front: FirstPacket,
     ) -> Receipt
         requires { (packets.from + front.length ≤ packets.to)
@@ -352,7 +352,7 @@ impl<'a> Hearing<'a> {
         ensures noted { (endpoint : ℕ) → front.endpoint ≡ Some endpoint → OnOk result
             (IsNoted (source_of view.entry.links.now endpoint).0 endpoint moment
             (slice_range self.old.kept.buffer.items packets.from (packets.from + front.length))
-            (known_by self.old.who) (known_by self.new.who)) }
+            (address_book_of self.old.who) (address_book_of self.new.who)) }
         ensures judged { (endpoint : ℕ) → front.endpoint ≡ Some endpoint → IfOk result
             (λ admitted. HearsRead (sent_by view.entry.links.now endpoint moment)
             (stand_of self.old) view.entry packets.from (packets.from + front.length) self.new
@@ -360,13 +360,13 @@ impl<'a> Hearing<'a> {
         ensures moment { IfOk result
             (λ admitted. IfTaken (Ok admitted) (self.new.kept.sent.moment ≡ moment)) }
         ensures stranger { front.endpoint ≡ None → (result ≡ Ok Admitted.Nothing)
-            × (known_by self.new.who ≡ known_by self.old.who)
+            × (address_book_of self.new.who ≡ address_book_of self.old.who)
             × (stand_of self.new ≡ stand_of self.old) }
     {
-        let Rest { address, from, to } = packets;
+        let Leftover { address, from, to } = packets;
         let end = from + front.length;
         self.rest = if end < to {
-            Some(Rest {
+            Some(Leftover {
                 address,
                 from: end,
                 to,
@@ -377,7 +377,7 @@ impl<'a> Hearing<'a> {
         match front.endpoint {
             Some(endpoint) => self.hear(view, moment, endpoint, from, end),
             None => {
-                self.gauges.count_stranger(address);
+                self.run_status.count_stranger(address);
                 Ok(Admitted::Nothing)
             }
         }
@@ -400,8 +400,8 @@ impl<'a> Hearing<'a> {
         ensures sent { OnOk result (self.new.kept.sent
             ≡ sent_by view.entry.links.now endpoint moment) }
         ensures noted { OnOk result (IsNoted (source_of view.entry.links.now endpoint).0 endpoint moment
-            (slice_range self.old.kept.buffer.items from to) (known_by self.old.who)
-            (known_by self.new.who)) }
+            (slice_range self.old.kept.buffer.items from to) (address_book_of self.old.who)
+            (address_book_of self.new.who)) }
         ensures judged { IfOk result (λ admitted. HearsRead
             (sent_by view.entry.links.now endpoint moment) (stand_of self.old) view.entry from to
             self.new admitted) }
@@ -411,7 +411,7 @@ impl<'a> Hearing<'a> {
         self.kept
             .read(view.links, moment, endpoint, from, to, self.policies.most)?;
         self.policies.welcome(&self.kept, view);
-        count(&self.kept, self.traffic, self.gauges);
+        count(&self.kept, self.traffic, self.run_status);
         self.who.note(endpoint, moment, self.kept.is_goodbye());
         let judged = self.policies.judge(&mut self.kept);
         let admitted = self.let_in(view, judged, from, to);
@@ -432,7 +432,7 @@ impl<'a> Hearing<'a> {
                 self.policies.hold(&mut self.kept, view);
                 Admitted::Taking
             }
-            Judged::PutBy => Admitted::Nothing,
+            Judged::HoldPacket => Admitted::Nothing,
             Judged::Anew => {
                 self.anew = Some(Anew {
                     endpoint: self.kept.sent.endpoint,
@@ -464,8 +464,8 @@ impl<'a> Hearing<'a> {
         ensures stays { (self.new.rest ≡ self.old.rest) × (self.new.anew ≡ self.old.anew)
             × (self.new.who ≡ self.old.who)
             × (self.new.policies.floods ≡ self.old.policies.floods)
-            × (self.new.policies.screen ≡ self.old.policies.screen)
-            × (self.new.policies.put_by ≡ self.old.policies.put_by)
+            × (self.new.policies.ingress_filter ≡ self.old.policies.ingress_filter)
+            × (self.new.policies.held_packets ≡ self.old.policies.held_packets)
             × (self.new.policies.most ≡ self.old.policies.most) }
     {
         let Some(again) = self.policies.next_heard(view, moment) else {
@@ -481,7 +481,7 @@ impl<'a> Hearing<'a> {
             report_due self.old.who.listeners moment ≡ Some endpoint) }
         ensures none { IfNone result ((endpoint : ℕ) → endpoint < 65536
             → report_due self.old.who.listeners moment ≡ Some endpoint → ⊥) }
-        ensures turn { known_by self.new.who ≡ record (known_by self.old.who) {
+        ensures turn { address_book_of self.new.who ≡ record (address_book_of self.old.who) {
           listeners = listeners_after self.old.who.listeners moment;
         } }
         ensures stays { (self.new.rest ≡ self.old.rest) × (self.new.anew ≡ self.old.anew)
@@ -501,8 +501,8 @@ impl<'a> Hearing<'a> {
         ensures stays { (self.new.rest ≡ self.old.rest) × (self.new.anew ≡ self.old.anew)
             × (self.new.who ≡ self.old.who)
             × (self.new.policies.floods ≡ self.old.policies.floods)
-            × (self.new.policies.screen ≡ self.old.policies.screen)
-            × (self.new.policies.put_by ≡ self.old.policies.put_by)
+            × (self.new.policies.ingress_filter ≡ self.old.policies.ingress_filter)
+            × (self.new.policies.held_packets ≡ self.old.policies.held_packets)
             × (self.new.policies.most ≡ self.old.policies.most) }
     {
         self.kept.say_present(view.links, moment, endpoint);
@@ -529,8 +529,8 @@ impl<'a> Hearing<'a> {
         ensures stays { (self.new.rest ≡ self.old.rest) × (self.new.anew ≡ self.old.anew)
             × (self.new.who ≡ self.old.who)
             × (self.new.policies.floods ≡ self.old.policies.floods)
-            × (self.new.policies.screen ≡ self.old.policies.screen)
-            × (self.new.policies.put_by ≡ self.old.policies.put_by)
+            × (self.new.policies.ingress_filter ≡ self.old.policies.ingress_filter)
+            × (self.new.policies.held_packets ≡ self.old.policies.held_packets)
             × (self.new.policies.most ≡ self.old.policies.most) }
     {
         self.policies.ticked();
@@ -538,7 +538,7 @@ impl<'a> Hearing<'a> {
 }
 
 /// Counts what was read.
-fn count(kept: &Kept, traffic: &Traffic, gauges: &Gauges) {
+fn count(kept: &Kept, traffic: &Traffic, run_status: &RunStatus) {
     let Sent {
         moment,
         endpoint,
@@ -550,8 +550,8 @@ fn count(kept: &Kept, traffic: &Traffic, gauges: &Gauges) {
     } else {
         traffic.heard_packet(endpoint, bytes.len(), moment);
     }
-    let beyond = gauges.beyond.get();
-    gauges
+    let beyond = run_status.beyond.get();
+    run_status
         .beyond
         .set(beyond.saturating_add(kept.reading.beyond));
 }

@@ -8,7 +8,7 @@ use std::io::{self, ErrorKind};
 use std::net::SocketAddr;
 
 /// How many receives in a row are from the socket of RTCP if both have something.
-const CONTROL_TURNS: u32 = 16;
+const RTCP_TURNS: u32 = 16;
 
 /// The datagrams that come to the sockets. A receive waits no longer than the read timeout of the socket for media.
 #[derive(Drop)]
@@ -16,19 +16,19 @@ pub(crate) struct Inbox<'a> {
     sockets: Sockets<'a>,
     /// The moment at which the socket for RTCP was asked last, and how many times it may be asked still.
     asked_ms: Option<u64>,
-    control_turns: u32,
+    rtcp_turns: u32,
 }
 
 impl<'a> Inbox<'a> {
     /// The datagrams that come to these sockets from now on.
     pub(crate) fn new(sockets: Sockets<'a>) -> Inbox<'a>
         ensures sockets { result.sockets ≡ sockets.entry }
-        ensures asked { (result.asked_ms ≡ None) × (result.control_turns ≡ 0) }
+        ensures asked { (result.asked_ms ≡ None) × (result.rtcp_turns ≡ 0) }
     {
         Inbox {
             sockets,
             asked_ms: None,
-            control_turns: 0,
+            rtcp_turns: 0,
         }
     }
 
@@ -38,14 +38,14 @@ impl<'a> Inbox<'a> {
         ensures length { length out.new ≡ length out.old }
         ensures sockets { self.new.sockets ≡ self.old.sockets }
     {
-        match self.receive_control(moment, out) {
+        match self.receive_rtcp(moment, out) {
             Some(came) => came,
             None => self.sockets.media.recv_from(out),
         }
     }
 
     /// The next datagram of the socket for RTCP, if it is its turn and there is one.
-    fn receive_control(
+    fn receive_rtcp(
         &mut self,
         moment: u64,
         out: &mut [u8],
@@ -54,16 +54,16 @@ impl<'a> Inbox<'a> {
         ensures length { length out.new ≡ length out.old }
         ensures sockets { self.new.sockets ≡ self.old.sockets }
     {
-        let control = self.sockets.control?;
+        let rtcp = self.sockets.rtcp?;
         if self.asked_ms != Some(moment) {
             self.asked_ms = Some(moment);
-            self.control_turns = CONTROL_TURNS;
+            self.rtcp_turns = RTCP_TURNS;
         }
-        self.control_turns = self.control_turns.checked_sub(1)?;
-        match control.recv_from(out) {
+        self.rtcp_turns = self.rtcp_turns.checked_sub(1)?;
+        match rtcp.recv_from(out) {
             Ok(came) => Some(Ok(came)),
             Err(error) if is_silence(error.kind()) => {
-                self.control_turns = 0;
+                self.rtcp_turns = 0;
                 None
             }
             Err(error) => Some(Err(error)),

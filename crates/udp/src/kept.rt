@@ -6,7 +6,7 @@ use crate::inbox::Inbox;
 use datagram::{Ask, Control, Notes, Reading, Sent, Taking, What, is_sayable, read_noting};
 use entrance::own_source;
 use members::RoomView;
-use policy::{Again, Judged, RateRequests, Screen};
+use policy::{Again, IngressFilter, Judged, RateRequests};
 use ports::MAX_DATAGRAM;
 use settings::Links;
 use std::alloc::{AllocError, Global};
@@ -14,7 +14,7 @@ use std::io;
 use std::net::SocketAddr;
 use tmmbr_tuple::Ssrc;
 
-/// How many bytes there is room for: the longest datagram that came, and behind it the longest packet that was put by.
+/// How many bytes there is room for: the longest datagram that came, and behind it the longest packet that was held.
 const ROOM: usize = 2 * MAX_DATAGRAM;
 
 /// How many report blocks there is room for: as many as the longest datagram has (RFC 3550, section 6.4.1).
@@ -45,7 +45,7 @@ impl Kept {
     ghost use Rattle.datagram.specs.Spelling.{IsAsHeard};
     ghost use Rattle.entrance.specs.Entrance.{IsTakenFrom};
     ghost use Rattle.settings.specs.Links.{LinkTable};
-    ghost use Rattle.policy.specs.Screened.{IsAsItWas, Judges, LooksForNothing};
+    ghost use Rattle.policy.specs.IngressFilter.{IsAsItWas, Judges, LooksForNothing};
     ghost use Rattle.udp.specs.Kept.{IsOfSame, IsReadFrom, IsSpokenBy, MayBeTaken, SaysGoodbye, admission_in, bytes_of, datagram_in, is_there, sent_by, with_behind};
     ghost use Rattle.udp.specs.Hearing.{is_goodbye};
     ghost use Rattle.udp.specs.Policies.{IsHeld};
@@ -109,7 +109,7 @@ impl Kept {
         )
     }
 
-    /// Whether its endpoint says goodbye.
+    /// Whether its endpoint sends a BYE.
     pub(crate) fn is_goodbye(&self) -> bool
         ensures { result ≡ is_goodbye self.now.reading.what }
     {
@@ -117,15 +117,15 @@ impl Kept {
     }
 
     /// Judges what was read.
-    pub(crate) fn judge(&mut self, screen: &mut Screen<'_>) -> Judged
-        ensures judged { Judges screen.old screen.new self.old.sent self.old.reading
+    pub(crate) fn judge(&mut self, ingress_filter: &mut IngressFilter<'_>) -> Judged
+        ensures judged { Judges ingress_filter.old ingress_filter.new self.old.sent self.old.reading
             self.new.reading result }
-        ensures off { LooksForNothing screen.old
-            → IsAsItWas screen.old screen.new self.old.reading self.new.reading result }
+        ensures off { LooksForNothing ingress_filter.old
+            → IsAsItWas ingress_filter.old ingress_filter.new self.old.reading self.new.reading result }
         ensures taken { (table : LinkTable) → MayBeTaken table self.old → MayBeTaken table self.new }
         ensures same { IsOfSame self.old self.new }
     {
-        screen.judge(self.sent, &mut self.reading)
+        ingress_filter.judge(self.sent, &mut self.reading)
     }
 
     /// Holds what is asked for in what was read, and leaves out what can't be asked for yet, or isn't heard at once.
@@ -167,7 +167,7 @@ impl Kept {
         };
     }
 
-    /// Copies a packet that was put by behind where datagrams come, and says where it ends. `None` if there is none.
+    /// Copies a packet that was held behind where datagrams come, and says where it ends. `None` if there is none.
     pub(crate) fn copy_behind(&mut self, packet: &[u8]) -> Option<usize>
         ensures some { IfSome result (λ to. (is_there packet.now ≡ true)
             × (to ≡ 65535 + length packet.now) × (self.new.buffer.items
@@ -198,7 +198,7 @@ impl Kept {
         !packet.is_empty() && packet.len() <= MAX_DATAGRAM
     }
 
-    /// The endpoint says goodbye, in place of what was read.
+    /// The endpoint sends a BYE, in place of what was read.
     pub(crate) fn say_goodbye(&mut self)
         ensures says { SaysGoodbye self.new.reading }
         ensures taken { (table : LinkTable) → MayBeTaken table self.old → MayBeTaken table self.new }

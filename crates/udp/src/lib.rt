@@ -1,8 +1,9 @@
 //! What a unit needs from outside, on UDP sockets: what comes, where what it sends goes, what time it is.
 //!
-//! Read `socket` first, the sockets and what is sent by them, then `door`, where what comes is let in: `inbox` receives it, `hearing` hears it, as
-//! `who` sent it, `kept` is what was read of it, `policies` say what becomes of that (`laws`: nothing, if no rule asks for anything), `scribe` tells who records the run, `clock` the moment. `drops`
-//! reads what the system dropped, of whose `table` it sums what the rows of an `address` say. `goodbyes` are said when a unit is stopped.
+//! Read `socket` first, the sockets and what is sent by them, then `door`, where what comes is let in. `inbox` receives it, `who` says who sent
+//! it, `hearing` hears it, `kept` is what was read of it, and `clock` tells the moment. `policies` say what becomes of it (`laws`: nothing, if
+//! no rule asks for anything); `scribe` tells who records the run. `drops` reads what the system dropped: it sums the rows of an `address` in a
+//! `table` of the system's. `goodbyes` are the BYEs at a stop.
 #![tactic(auto)]
 
 mod address;

@@ -5,9 +5,9 @@ ghost use Rattle.udp.specs.Policies.{most_by};
 
 use crate::kept::Kept;
 use members::RoomView;
-use operations::Gauges;
+use operations::RunStatus;
 use policy::{
-    Again, AnnouncedSets, FloodLimiter, HeldPackets, Judged, RateRequests, Rules, Screen,
+    Again, AnnouncedSets, FloodLimiter, HeldPackets, IngressFilter, Judged, RateRequests, Rules,
 };
 use settings::Settings;
 use stats::Traffic;
@@ -18,8 +18,8 @@ use std::cell::RefCell;
 #[derive(Drop)]
 pub(crate) struct Policies<'a> {
     floods: FloodLimiter,
-    screen: Screen<'a>,
-    put_by: HeldPackets,
+    ingress_filter: IngressFilter<'a>,
+    held_packets: HeldPackets,
     requests: RateRequests<'a>,
     /// How many entries of a datagram count, if that is bounded.
     pub(crate) most: Option<usize>,
@@ -38,7 +38,7 @@ impl<'a> Policies<'a> {
         alloc: Global,
         settings: &Settings,
         rules: Rules,
-        gauges: &'a Gauges,
+        run_status: &'a RunStatus,
         traffic: &'a Traffic,
         sets: &'a RefCell<AnnouncedSets>,
     ) -> Result<Policies<'a>, AllocError>
@@ -46,15 +46,22 @@ impl<'a> Policies<'a> {
           rules.flood_limit,
           replicate (length settings.now.endpoints) empty_bucket,
         )) }
-        ensures rules { IfOk result (λ p. p.screen.rules ≡ rules) }
+        ensures rules { IfOk result (λ p. p.ingress_filter.rules ≡ rules) }
         ensures holds { IfOk result (λ p. BeginsBy rules settings.now p.requests) }
         ensures most { IfOk result (λ p. p.most ≡ most_by rules.entry_limit) }
     {
         let endpoints = settings.endpoints().len();
         Ok(Policies {
             floods: FloodLimiter::new(alloc, endpoints, rules.flood_limit)?,
-            screen: Screen::new(alloc, settings, rules, traffic, &gauges.far, &gauges.held)?,
-            put_by: HeldPackets::new(alloc, endpoints)?,
+            ingress_filter: IngressFilter::new(
+                alloc,
+                settings,
+                rules,
+                traffic,
+                &run_status.far,
+                &run_status.held,
+            )?,
+            held_packets: HeldPackets::new(alloc, endpoints)?,
             requests: RateRequests::new(alloc, settings, rules, sets)?,
             most: most_by(rules.entry_limit),
         })
@@ -71,24 +78,24 @@ impl<'a> Policies<'a> {
         self.floods.admit(endpoint, moment)
     }
 
-    /// Who sent what was read comes anew, if it isn't there by the room as it is. A packet of it that was put by before is never taken in then, since
+    /// Who sent what was read comes anew, if it isn't there by the room as it is. A packet of it that was held before is never taken in then, since
     /// none is awaited after it.
     pub(crate) fn welcome(&mut self, kept: &Kept, view: RoomView<'_>)
         ensures welcomes { IsWelcomed (ruling_of self.old) (ruling_of self.new) kept.now view.entry }
         ensures floods { self.new.floods ≡ self.old.floods }
     {
-        self.screen.welcome(kept.sent, view);
+        self.ingress_filter.welcome(kept.sent, view);
     }
 
-    /// Judges what was read. A packet that is far is put by.
+    /// Judges what was read. A packet that is far is held.
     pub(crate) fn judge(&mut self, kept: &mut Kept) -> Judged
         ensures judged { IsJudged (ruling_of self.old) (ruling_of self.new) kept.old kept.new result }
         ensures floods { self.new.floods ≡ self.old.floods }
         ensures taken { (table : LinkTable) → MayBeTaken table kept.old → MayBeTaken table kept.new }
     {
-        let judged = kept.judge(&mut self.screen);
-        if judged == Judged::PutBy {
-            self.put_by.keep(kept.sent.endpoint, kept.bytes());
+        let judged = kept.judge(&mut self.ingress_filter);
+        if judged == Judged::HoldPacket {
+            self.held_packets.keep(kept.sent.endpoint, kept.bytes());
         }
         judged
     }
@@ -98,11 +105,11 @@ impl<'a> Policies<'a> {
     pub(crate) fn take_far(&mut self, kept: &mut Kept, endpoint: u16, moment: u64) -> Option<usize>
         ensures far { IfSome result (λ to. TakesFar (ruling_of self.old) (ruling_of self.new)
             kept.old kept.new endpoint moment to) }
-        ensures none { IfNone result (is_there (far_of self.old.put_by endpoint) ≡ false) }
+        ensures none { IfNone result (is_there (far_of self.old.held_packets endpoint) ≡ false) }
         ensures floods { self.new.floods ≡ self.old.floods }
     {
-        let to = kept.copy_behind(self.put_by.at(endpoint))?;
-        self.screen.count(endpoint, moment);
+        let to = kept.copy_behind(self.held_packets.at(endpoint))?;
+        self.ingress_filter.count(endpoint, moment);
         Some(to)
     }
 
@@ -112,8 +119,8 @@ impl<'a> Policies<'a> {
             kept.old.reading kept.new.reading }
         ensures taken { (table : LinkTable) → MayBeTaken table kept.old → MayBeTaken table kept.new }
         ensures same { IsOfSame kept.old kept.new }
-        ensures stays { (self.new.floods ≡ self.old.floods) × (self.new.screen ≡ self.old.screen)
-            × (self.new.put_by ≡ self.old.put_by) × (self.new.most ≡ self.old.most) }
+        ensures stays { (self.new.floods ≡ self.old.floods) × (self.new.ingress_filter ≡ self.old.ingress_filter)
+            × (self.new.held_packets ≡ self.old.held_packets) × (self.new.most ≡ self.old.most) }
     {
         kept.hold(&mut self.requests, view);
     }
@@ -128,8 +135,8 @@ impl<'a> Policies<'a> {
     /// What is heard at this moment that was asked for before, in a room that is so.
     pub(crate) fn next_heard(&mut self, view: RoomView<'_>, moment: u64) -> Option<Again>
         ensures hears { HearsNext self.old.requests self.new.requests view.entry moment result }
-        ensures stays { (self.new.floods ≡ self.old.floods) × (self.new.screen ≡ self.old.screen)
-            × (self.new.put_by ≡ self.old.put_by) × (self.new.most ≡ self.old.most) }
+        ensures stays { (self.new.floods ≡ self.old.floods) × (self.new.ingress_filter ≡ self.old.ingress_filter)
+            × (self.new.held_packets ≡ self.old.held_packets) × (self.new.most ≡ self.old.most) }
     {
         self.requests.next_heard(view, moment)
     }
@@ -137,8 +144,8 @@ impl<'a> Policies<'a> {
     /// A tick was made.
     pub(crate) fn ticked(&mut self)
         ensures ticks { Ticks self.old.requests self.new.requests }
-        ensures stays { (self.new.floods ≡ self.old.floods) × (self.new.screen ≡ self.old.screen)
-            × (self.new.put_by ≡ self.old.put_by) × (self.new.most ≡ self.old.most) }
+        ensures stays { (self.new.floods ≡ self.old.floods) × (self.new.ingress_filter ≡ self.old.ingress_filter)
+            × (self.new.held_packets ≡ self.old.held_packets) × (self.new.most ≡ self.old.most) }
     {
         self.requests.ticked();
     }

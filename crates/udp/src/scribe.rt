@@ -3,7 +3,7 @@
 use crate::kept::Kept;
 use datagram::{Reading, What, read, spell};
 use entrance::{Admitted, Came};
-use operations::{Gauges, Recorder};
+use operations::{Recorder, RunStatus};
 use recording::{Origin, Taken};
 use std::alloc::{AllocError, Global};
 
@@ -25,8 +25,8 @@ impl Scribe {
     }
 
     /// This is let in; what is taken in is kept there.
-    pub(crate) fn note(&mut self, gauges: &Gauges, came: Came, kept: &Kept) {
-        let Some(mut recorder) = gauges.recorder() else {
+    pub(crate) fn note(&mut self, run_status: &RunStatus, came: Came, kept: &Kept) {
+        let Some(mut recorder) = run_status.recorder() else {
             return;
         };
         if !recorder.is_on() {
@@ -43,8 +43,8 @@ impl Scribe {
     }
 
     /// A tick was made at this moment.
-    pub(crate) fn ticked(&self, gauges: &Gauges, moment: u64) {
-        if let Some(mut recorder) = gauges.recorder() {
+    pub(crate) fn ticked(&self, run_status: &RunStatus, moment: u64) {
+        if let Some(mut recorder) = run_status.recorder() {
             recorder.ticked(moment);
         }
     }
@@ -94,13 +94,13 @@ impl Scribe {
     /// Whether what is kept is what its bytes say.
     fn is_as_it_came(&mut self, kept: &Kept) -> Result<bool, AllocError> {
         let Reading { what, asks, .. } = &kept.reading;
-        let What::Control(control) = *what else {
+        let What::Control(rtcp) = *what else {
             return Ok(true);
         };
         read(kept.bytes(), kept.sent.own, None, &mut self.heard)?;
         Ok(match self.heard.what {
             What::Control(heard) => {
-                heard == control && self.heard.asks.as_slice() == asks.as_slice()
+                heard == rtcp && self.heard.asks.as_slice() == asks.as_slice()
             }
             What::Media(_) | What::Goodbye | What::Refused(_) => false,
         })

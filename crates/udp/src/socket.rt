@@ -24,29 +24,29 @@ pub struct Sockets<'a> {
     /// The one for all, or for RTP.
     pub media: &'a UdpSocket,
     /// The one for RTCP, if it has its own.
-    pub control: Option<&'a UdpSocket>,
+    pub rtcp: Option<&'a UdpSocket>,
 }
 
 impl<'a> Sockets<'a> {
     /// One socket for all.
     pub fn one(socket: &'a UdpSocket) -> Sockets<'a>
         ensures media { result.media ≡ socket.entry }
-        ensures alone { result.control ≡ None }
+        ensures alone { result.rtcp ≡ None }
     {
         Sockets {
             media: socket,
-            control: None,
+            rtcp: None,
         }
     }
 
     /// Where they are bound, unless the system doesn't say.
     pub fn listening(self) -> io::Result<Listening>
-        ensures { IfOk result (λ listening. is_some listening.rtcp ≡ is_some self.entry.control) }
+        ensures { IfOk result (λ listening. is_some listening.rtcp ≡ is_some self.entry.rtcp) }
     {
         let media = self.media.local_addr()?;
-        match self.control {
-            Some(control) => {
-                let rtcp = Some(control.local_addr()?);
+        match self.rtcp {
+            Some(socket) => {
+                let rtcp = Some(socket.local_addr()?);
                 Ok(Listening { media, rtcp })
             }
             None => Ok(Listening { media, rtcp: None }),
@@ -55,10 +55,10 @@ impl<'a> Sockets<'a> {
 
     /// Has receives wait no longer than they may, unless the system doesn't.
     pub fn waits_a_little(self) -> bool {
-        match self.control {
+        match self.rtcp {
             None => waits(self.media, RECEIVE_MS),
-            Some(control) => {
-                waits(self.media, SHORT_RECEIVE_MS) && control.set_nonblocking(true).is_ok()
+            Some(rtcp) => {
+                waits(self.media, SHORT_RECEIVE_MS) && rtcp.set_nonblocking(true).is_ok()
             }
         }
     }
@@ -135,11 +135,11 @@ impl Sink for SocketSink<'_> {
     }
 }
 
-/// Sends these bytes to the endpoint's client, and says whether the system took them: RTCP from the socket for it to the address for
-/// it, anything else from the other one (RFC 5761, section 4).
+/// Sends these bytes to the endpoint's client, and says whether the system took them. RTCP goes from its socket to its address, anything else
+/// from the other one (RFC 5761, section 4).
 fn is_sent(sockets: Sockets<'_>, directory: &Directory, endpoint: u16, bytes: &[u8]) -> bool {
     let (socket, kind) = if is_rtcp(bytes) {
-        (sockets.control.unwrap_or(sockets.media), Kind::Rtcp)
+        (sockets.rtcp.unwrap_or(sockets.media), Kind::Rtcp)
     } else {
         (sockets.media, Kind::Rtp)
     };

@@ -11,8 +11,8 @@ const ADDRESS: usize = 1;
 /// The place of how many datagrams it dropped.
 const DROPS: usize = 12;
 
-/// How many datagrams the system dropped at the sockets whose rows name this address (`address_word`), by the text of its table of UDP
-/// sockets, since they were made; at most 2^64 - 1. What is no row counts nothing. Refused for want of memory alone.
+/// How many datagrams the system dropped, by its table of UDP sockets, at those whose rows name this address (`address_word`), since they were
+/// made; at most 2^64 - 1. What is no row counts nothing. Refused for want of memory alone.
 pub(crate) fn dropped_at(alloc: Global, table: &[u8], address: &[u8]) -> Result<u64, AllocError>
     ensures { IfOk result (λ n. n ≡ dropped_in address.now table.now) }
 {

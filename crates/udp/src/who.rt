@@ -2,19 +2,19 @@
 //! since they only listen.
 
 ghost use Rattle.std.specs.Prelude.{◌≡◌, ◌≤◌, ◌<◌, ◌⊎◌, ℕ, None, Some, length, slice_get, IfNone, IfOk, IfSome};
-ghost use Rattle.addresses.specs.Known.{senders_of};
+ghost use Rattle.addresses.specs.AddressBook.{senders_of};
 ghost use Rattle.addresses.specs.Learners.{with_seat};
 ghost use Rattle.addresses.specs.Listeners.{listeners_after, report_due};
 ghost use Rattle.datagram.specs.Naming.{source_named};
 ghost use Rattle.addresses.specs.SenderTable.{front_length, sender_of};
-ghost use Rattle.udp.specs.Who.{MayLearn, after_note, first_learners, first_listeners, first_senders, is_same_place, kind_heard, known_by, setup_of};
+ghost use Rattle.udp.specs.Who.{MayLearn, after_note, first_learners, first_listeners, first_senders, is_same_place, kind_heard, address_book_of, setup_of};
 
 use addresses::{
     Arrived, Client, Directory, FirstPacket, Kind, LearnedAddress, Learners, Listeners, Listening,
     SenderTable, SourceAddress, is_reachable, learners_of, listeners_of, senders_of,
 };
 use datagram::source_named;
-use operations::Gauges;
+use operations::RunStatus;
 use rtcp_compound::is_rtcp;
 use settings::Settings;
 use std::alloc::{AllocError, Global};
@@ -34,7 +34,7 @@ pub struct Who<'a> {
     /// The source and the client of each endpoint, by its number.
     sources: &'a [Ssrc],
     clients: &'a [Client],
-    gauges: &'a Gauges,
+    run_status: &'a RunStatus,
 }
 
 impl<'a> Who<'a> {
@@ -45,10 +45,10 @@ impl<'a> Who<'a> {
         settings: &'a Settings,
         clients: &'a [Client],
         directory: &'a Directory,
-        gauges: &'a Gauges,
+        run_status: &'a RunStatus,
     ) -> Result<Who<'a>, AllocError>
         ensures handed { IfOk result (λ w. (w.listening ≡ listening) × (w.clients ≡ clients.entry)
-            × (w.directory ≡ directory.entry) × (w.gauges ≡ gauges.entry)) }
+            × (w.directory ≡ directory.entry) × (w.run_status ≡ run_status.entry)) }
         ensures sources { IfOk result (λ w. w.sources.now ≡ settings.now.endpoints) }
         ensures learners { IfOk result (λ w. w.learners ≡ first_learners settings.now clients.now) }
         ensures senders { IfOk result (λ w. w.senders ≡ first_senders settings.now clients.now) }
@@ -66,7 +66,7 @@ impl<'a> Who<'a> {
             directory,
             sources: settings.endpoints(),
             clients,
-            gauges,
+            run_status,
         })
     }
 
@@ -80,8 +80,8 @@ impl<'a> Who<'a> {
         ensures within { result.length ≤ length datagram.now }
         ensures goes_on { 0 < length datagram.now → 0 < result.length }
         ensures learned { MayLearn (setup_of ⟦<u32 as PartialEq>⟧.eq ⟦<SocketAddr as PartialEq>⟧.eq
-            ⟦<IpAddr as PartialEq>⟧.eq self.old) from datagram.now moment (known_by self.old)
-            (known_by self.new) }
+            ⟦<IpAddr as PartialEq>⟧.eq self.old) from datagram.now moment (address_book_of self.old)
+            (address_book_of self.new) }
         ensures stays { (self.new.sources ≡ self.old.sources) × (self.new.clients ≡ self.old.clients)
             × (self.new.listening ≡ self.old.listening) }
     {
@@ -107,8 +107,8 @@ impl<'a> Who<'a> {
         ensures stays { (self.new.sources ≡ self.old.sources) × (self.new.clients ≡ self.old.clients)
             × (self.new.listening ≡ self.old.listening) }
         ensures learned { MayLearn (setup_of ⟦<u32 as PartialEq>⟧.eq ⟦<SocketAddr as PartialEq>⟧.eq
-            ⟦<IpAddr as PartialEq>⟧.eq self.old) from datagram.now moment (known_by self.old)
-            (known_by self.new) }
+            ⟦<IpAddr as PartialEq>⟧.eq self.old) from datagram.now moment (address_book_of self.old)
+            (address_book_of self.new) }
     {
         let arrived = Arrived {
             source: source_named(datagram),
@@ -147,7 +147,7 @@ impl<'a> Who<'a> {
             Ok(senders) if self.directory.sit(endpoint, seat) => {
                 self.senders = senders;
                 if let Some(address) = seat.address(Kind::Rtp) {
-                    self.gauges.show_moved(endpoint, address);
+                    self.run_status.show_moved(endpoint, address);
                 }
             }
             _ => self.learners.sit(endpoint, before),
@@ -165,11 +165,11 @@ impl<'a> Who<'a> {
         }
     }
 
-    /// The endpoint was heard at this moment, and said goodbye or didn't: for its seat, if its address is learned, and for reports, if it
+    /// The endpoint was heard at this moment, and sent a BYE or didn't: for its seat, if its address is learned, and for reports, if it
     /// only listens.
     pub fn note(&mut self, endpoint: u16, moment: u64, is_goodbye: bool)
-        ensures noted { known_by self.new
-            ≡ after_note (known_by self.old) endpoint moment is_goodbye }
+        ensures noted { address_book_of self.new
+            ≡ after_note (address_book_of self.old) endpoint moment is_goodbye }
         ensures stays { (self.new.sources ≡ self.old.sources) × (self.new.clients ≡ self.old.clients)
             × (self.new.listening ≡ self.old.listening) }
     {
@@ -183,7 +183,7 @@ impl<'a> Who<'a> {
             report_due self.old.listeners moment ≡ Some endpoint) }
         ensures none { IfNone result ((endpoint : ℕ) → endpoint < 65536
             → report_due self.old.listeners moment ≡ Some endpoint → ⊥) }
-        ensures turn { known_by self.new ≡ record (known_by self.old) {
+        ensures turn { address_book_of self.new ≡ record (address_book_of self.old) {
           listeners = listeners_after self.old.listeners moment;
         } }
         ensures stays { (self.new.sources ≡ self.old.sources) × (self.new.clients ≡ self.old.clients)

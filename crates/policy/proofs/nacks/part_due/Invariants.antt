@@ -1,6 +1,6 @@
 use Rattle.std.proofs.Common.{◌≡◌, drop}
 use Rattle.policy.specs.Nacks.{entry_from, entry_of}
-use Rattle.policy.specs.Resends.{book_after, numbers_passed}
+use Rattle.policy.specs.LegResends.{book_after, numbers_passed}
 use Rattle.policy.proofs.nacks.part_due.Given as goal
 
 abbrev pub invariant-loop-number : goal.invariant-loop-number

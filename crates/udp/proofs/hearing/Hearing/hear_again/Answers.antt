@@ -9,7 +9,7 @@ returns-clause-packet c _ _ = record {
   holds = c.hold.ensures.holds;
   same = c.hold.ensures.same;
   stays = ap (λ b. b.items) (c.hold.ensures.same.buffer ∙ c.in_ok-read.ensures.buffer);
-  screen = c.hold.ensures.stays.1;
-  put_by = c.hold.ensures.stays.2;
+  ingress_filter = c.hold.ensures.stays.1;
+  held_packets = c.hold.ensures.stays.2;
   most = c.hold.ensures.stays.3;
 }

@@ -1,5 +1,0 @@
-use Rattle.addresses.proofs.KnownLemmas.{ClientsLeft}
-use Rattle.addresses.proofs.known.learners_of.Given as goal
-
-abbrev pub invariant-loop-number : goal.invariant-loop-number
-invariant-loop-number l = ClientsLeft l.sources l.clients l.timeout_ms l.number l.learners

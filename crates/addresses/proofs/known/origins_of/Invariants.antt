@@ -1,5 +1,0 @@
-use Rattle.addresses.proofs.KnownLemmas.{OriginsLeft}
-use Rattle.addresses.proofs.known.origins_of.Given as goal
-
-abbrev pub invariant-loop-number : goal.invariant-loop-number
-invariant-loop-number l = OriginsLeft l.sources l.clients l.learners l.number l.origins.items

@@ -1,0 +1,79 @@
+//! What a request leads to.
+
+ghost use Rattle.std.specs.Prelude.{◌≡◌};
+ghost use Rattle.control_protocol.specs.RequestActions.{action_for};
+
+use crate::answer::Refused;
+use crate::request::Request;
+use ports::{Look, Received};
+
+/// What a request leads to.
+#[derive(Clone, Copy, Debug, PartialEq, Eq)]
+pub enum RequestAction {
+    /// It is refused.
+    Refuse(Refused),
+    /// It is done by what the unit receives.
+    Do(Received),
+    /// The totals are asked for.
+    Counts,
+    /// The room is looked at.
+    Look(Look),
+    /// What went out on each leg is asked for.
+    Legs,
+    /// The counts of endpoints and of legs are asked for.
+    Metrics,
+    /// What reports say of legs and of publishers is asked for.
+    Reports,
+    /// What was refused of what came is asked for.
+    Refusals,
+    /// Who came last of those who are nobody is asked for.
+    Strangers,
+    /// A record begins, for who asked.
+    Record,
+    /// The record ends.
+    EndRecord,
+}
+
+/// What the request leads to in a room with so many legs and endpoints, which is being recorded or not.
+pub fn action_for(request: Request, legs: u16, endpoints: u16, is_recorded: bool) -> RequestAction
+    ensures { result ≡ action_for request legs endpoints is_recorded }
+{
+    match request {
+        Request::Select { leg, on } => {
+            if leg < legs {
+                RequestAction::Do(Received::Select { leg, on })
+            } else {
+                RequestAction::Refuse(Refused::Leg)
+            }
+        }
+        Request::Present => RequestAction::Look(Look::Presence),
+        Request::Legs => RequestAction::Legs,
+        Request::Counts => RequestAction::Counts,
+        Request::Metrics => RequestAction::Metrics,
+        Request::Reports => RequestAction::Reports,
+        Request::Refusals => RequestAction::Refusals,
+        Request::Strangers => RequestAction::Strangers,
+        Request::Record => {
+            if is_recorded {
+                RequestAction::Refuse(Refused::Recorded)
+            } else {
+                RequestAction::Record
+            }
+        }
+        Request::EndRecord => {
+            if is_recorded {
+                RequestAction::EndRecord
+            } else {
+                RequestAction::Refuse(Refused::Unrecorded)
+            }
+        }
+        Request::Show(publisher) => {
+            if publisher < endpoints {
+                RequestAction::Look(Look::Desk(publisher))
+            } else {
+                RequestAction::Refuse(Refused::Publisher)
+            }
+        }
+        Request::Stop => RequestAction::Do(Received::Stop),
+    }
+}
