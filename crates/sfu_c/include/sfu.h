@@ -44,6 +44,9 @@
 extern "C" {
 #endif
 
+/* The library's version. */
+#define SFU_VERSION "1.0.0"
+
 /* How many requests are announced for an endpoint's media at most. */
 #define SFU_MAX_REQUESTS 256
 

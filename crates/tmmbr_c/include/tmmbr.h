@@ -40,6 +40,9 @@
 extern "C" {
 #endif
 
+/* The library's version. */
+#define TMMBR_VERSION "1.0.0"
+
 /* How many requests a call takes, and how many kept entries and how many implied ones a certificate may have. */
 #define TMMBR_MAX_REQUESTS 256
 
