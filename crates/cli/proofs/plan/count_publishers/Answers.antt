@@ -8,10 +8,9 @@ use Rattle.cli.proofs.plan.count_publishers.Goals as goal
 pub loop-endpoint-preserved : goal.loop-endpoint-preserved
 loop-endpoint-preserved c =
     let legs = c.args.legs.now in
-    let endpoint = c.loop-endpoint.endpoint in
-    (
+    let endpoint = c.loop-endpoint.endpoint in (
       c.counted-count.ensures.value
-      ∙ ap (λ (n : ℕ). if list_any (λ (leg : LegSettings). leg.publisher == endpoint) legs then n + 1 else n) c.loop-endpoint.invariant.0
-      ∙ ap (count_publishers legs) (sym (add-one endpoint)),
+          ∙ ap (λ (n : ℕ). if list_any (λ (leg : LegSettings). leg.publisher == endpoint) legs then n + 1 else n) c.loop-endpoint.invariant.0
+          ∙ ap (count_publishers legs) (sym (add-one endpoint)),
       omega (arith, c.counted-count.ensures.bound, c.loop-endpoint.invariant.1),
     )
