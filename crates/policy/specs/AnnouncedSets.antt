@@ -8,18 +8,20 @@ use Rattle.rtcp_feedback.specs.declared.tmmb.TmmbrEntry.{TmmbrEntry}
 use Rattle.policy.specs.declared.announced_sets.DueLook.{DueLook}
 use Rattle.policy.specs.declared.announced_sets.DueLook.TheVariants.{Presence, Desk}
 
--- since a publisher came last: whether anybody asked it for a rate; the announced set that was seen last; the owners that it named, and
--- those that asked since that look; the same of the look before, up to that; whether it notified, and of what last
+-- since a publisher came last: whether anybody asked it for a rate; the announced set that was seen last, and the owners whose requests were
+-- live then; the owners that the set named, and those that asked or left since that look; the same of the look before, up to that; whether it
+-- notified, and of what last
 pub record SetState : Type 0 where
   pub is_asked : Bool
   pub seen : List TmmbrEntry
+  pub live : List Ssrc
   pub recent : List Ssrc
   pub earlier : List Ssrc
   pub has_acknowledged : Bool
   pub acknowledged : List TmmbrEntry
 
 abbrev pub new_set : SetState
-new_set = record { is_asked = false; seen = []; recent = []; earlier = []; has_acknowledged = false; acknowledged = [] }
+new_set = record { is_asked = false; seen = []; live = []; recent = []; earlier = []; has_acknowledged = false; acknowledged = [] }
 
 -- this owner is among these
 abbrev pub is_among : List Ssrc → Ssrc → Bool
@@ -38,9 +40,10 @@ set_asked owner s = record s { is_asked = true; recent = with_owner owner s.rece
 abbrev pub set_acknowledged : List TmmbrEntry → SetState → SetState
 set_acknowledged entries s = record s { has_acknowledged = true; acknowledged = entries }
 
--- a look: its owners are the latest, until others ask
-abbrev pub set_seen : List TmmbrEntry → SetState → SetState
-set_seen set s = record s { seen = set; recent = map owner_of set; earlier = s.recent }
+-- the set that was seen last, with what is live: its owners are the latest, until others ask or leave
+abbrev pub set_seen : List TmmbrEntry → List TmmbrEntry → SetState → SetState
+set_seen set live s =
+    record s { seen = set; live = map owner_of live; recent = map owner_of set; earlier = s.recent }
 
 -- its desk is looked at: it was asked for a rate, or notified
 abbrev pub is_watched : SetState → Bool
@@ -67,8 +70,20 @@ asks_again s set = (is_some_set set && pointwise is_same set s.seen) && not (are
 abbrev pub names_owner : List TmmbrEntry → Ssrc → Bool
 names_owner entries owner = list_any (λ (e : TmmbrEntry). e.ssrc.0 == owner.0) entries
 
+-- of these owners those that left: none of their requests is live any more
+abbrev pub who_left : List TmmbrEntry → List Ssrc → List Ssrc
+who_left live owners = filter (λ o. not (names_owner live o)) owners
+
+-- What is known as a look begins: who left since the last one may have been in the set for a while, since others left (RFC 5104, section 4.2.1).
+abbrev pub with_left : List TmmbrEntry → SetState → SetState
+with_left live s = record s { recent = s.recent ++ who_left live s.live }
+
+-- a look at a set, with what is live
+abbrev pub set_looked : List TmmbrEntry → List TmmbrEntry → SetState → SetState
+set_looked set live s = set_seen set live (with_left live s)
+
 -- The publisher may still keep to a bound of this owner: its last notification names it, and the set has been so since the last look; or, if
--- it never notified, one of the last two sets that were seen named it, or it asked since the earlier one.
+-- it never notified, one of the last two sets that were seen named it, or it asked or left since the earlier one.
 abbrev pub may_hold : SetState → List TmmbrEntry → Ssrc → Bool
 may_hold s set owner =
     if s.has_acknowledged then names_owner s.acknowledged owner && pointwise is_same set s.seen
@@ -99,9 +114,9 @@ said_again s set own sources = record {
 abbrev pub said_nothing : SaidState
 said_nothing = record { asks = false; lifted = [] }
 
-abbrev pub said_of : Option SetState → List TmmbrEntry → Option Ssrc → List Ssrc → SaidState
-said_of None set own sources = said_nothing
-said_of (Some s) set own sources = said_again s set own sources
+abbrev pub said_of : Option SetState → List TmmbrEntry → List TmmbrEntry → Option Ssrc → List Ssrc → SaidState
+said_of None set live own sources = said_nothing
+said_of (Some s) set live own sources = said_again (with_left live s) set own sources
 
 -- ---- all publishers
 
@@ -120,10 +135,10 @@ abbrev pub with_set : SetsState → ℕ → (SetState → SetState) → SetsStat
 with_set s publisher change =
     record s { publishers = changed_at s.publishers publisher change (slice_get s.publishers publisher) }
 
--- what is said again to the publisher with this number, of endpoints with these sources
-abbrev pub said_to : SetsState → ℕ → List TmmbrEntry → List Ssrc → SaidState
-said_to s publisher set sources =
-    said_of (slice_get s.publishers publisher) set (slice_get sources publisher) sources
+-- what is said again to the publisher with this number, of endpoints with these sources, at a look at this set and these live requests
+abbrev pub said_to : SetsState → ℕ → List TmmbrEntry → List TmmbrEntry → List Ssrc → SaidState
+said_to s publisher set live sources =
+    said_of (slice_get s.publishers publisher) set live (slice_get sources publisher) sources
 
 -- ---- rounds of looks
 
@@ -174,18 +189,19 @@ with_presence s endpoint is_present = if is_present then s else with_set s endpo
 
 -- ---- over all that happened, the latest first
 
--- this owner asks the publisher for a rate; the publisher notifies of these, or comes anew; or this announced set is seen
+-- this owner asks the publisher for a rate; the publisher notifies of these, or comes anew; or this announced set is seen, with these requests
+-- live
 pub data SetHappening : Type 0 where
   asked_for : Ssrc → SetHappening
   notified : List TmmbrEntry → SetHappening
   came_anew : SetHappening
-  looked_at : List TmmbrEntry → SetHappening
+  looked_at : List TmmbrEntry → List TmmbrEntry → SetHappening
 
 abbrev pub set_with : SetState → SetHappening → SetState
 set_with s (asked_for owner) = set_asked owner s
 set_with s (notified entries) = set_acknowledged entries s
 set_with s came_anew = new_set
-set_with s (looked_at set) = set_seen set s
+set_with s (looked_at set live) = set_looked set live s
 
 abbrev pub set_after : List SetHappening → SetState
 set_after [] = new_set
@@ -197,14 +213,14 @@ acknowledged_last [] = []
 acknowledged_last (asked_for owner ∷ earlier) = acknowledged_last earlier
 acknowledged_last (notified entries ∷ earlier) = entries
 acknowledged_last (came_anew ∷ earlier) = []
-acknowledged_last (looked_at set ∷ earlier) = acknowledged_last earlier
+acknowledged_last (looked_at set live ∷ earlier) = acknowledged_last earlier
 
 abbrev pub has_notified : List SetHappening → Bool
 has_notified [] = false
 has_notified (asked_for owner ∷ earlier) = has_notified earlier
 has_notified (notified entries ∷ earlier) = true
 has_notified (came_anew ∷ earlier) = false
-has_notified (looked_at set ∷ earlier) = has_notified earlier
+has_notified (looked_at set live ∷ earlier) = has_notified earlier
 
 -- whom the set named when it was seen last, and who asked since; nobody before the publisher came
 abbrev pub named_since : List SetHappening → List Ssrc
@@ -212,15 +228,23 @@ named_since [] = []
 named_since (asked_for owner ∷ earlier) = owner ∷ named_since earlier
 named_since (notified entries ∷ earlier) = named_since earlier
 named_since (came_anew ∷ earlier) = []
-named_since (looked_at set ∷ earlier) = map owner_of set
+named_since (looked_at set live ∷ earlier) = map owner_of set
 
--- the same of the look before the last, up to that
+-- whose requests were live when the set was seen last
+abbrev pub live_last : List SetHappening → List Ssrc
+live_last [] = []
+live_last (asked_for owner ∷ earlier) = live_last earlier
+live_last (notified entries ∷ earlier) = live_last earlier
+live_last (came_anew ∷ earlier) = []
+live_last (looked_at set live ∷ earlier) = map owner_of live
+
+-- whom the set named before the look at which it was seen last, and who asked or left between that one and this
 abbrev pub named_before : List SetHappening → List Ssrc
 named_before [] = []
 named_before (asked_for owner ∷ earlier) = named_before earlier
 named_before (notified entries ∷ earlier) = named_before earlier
 named_before (came_anew ∷ earlier) = []
-named_before (looked_at set ∷ earlier) = named_since earlier
+named_before (looked_at set live ∷ earlier) = named_since earlier ++ who_left live (live_last earlier)
 
 -- The set isn't empty, and what the publisher notified of last doesn't list all of it (RFC 5104, section 4.2.2).
 pub record IsUnacknowledged (happenings : List SetHappening) (set : List TmmbrEntry) : Type 0 where
@@ -228,11 +252,12 @@ pub record IsUnacknowledged (happenings : List SetHappening) (set : List TmmbrEn
   pub untold : are_acknowledged (acknowledged_last happenings) set ≡ false
 
 -- The set doesn't name the owner, which isn't the publisher itself. If the publisher notified since it came, its last notification names the
--- owner; if not, one of the last two sets that were seen named it, or it asked since the earlier one: so no third look after finds it.
-pub record IsHeldInVain (happenings : List SetHappening) (set : List TmmbrEntry) (own : Option Ssrc) (owner : Ssrc)
+-- owner; if not, one of the last two sets that were seen named it, or it asked since the earlier one, or left: so no third look after finds it.
+pub record IsHeldInVain (happenings : List SetHappening) (set live : List TmmbrEntry) (own : Option Ssrc) (owner : Ssrc)
     : Type 0 where
   pub other : is_own own owner ≡ false
   pub gone : names_owner set owner ≡ false
   pub named : has_notified happenings ≡ true → names_owner (acknowledged_last happenings) owner ≡ true
   pub lately : has_notified happenings ≡ false
-      → (is_among (named_since happenings) owner || is_among (named_before happenings) owner) ≡ true
+      → (is_among (named_since happenings ++ who_left live (live_last happenings)) owner
+          || is_among (named_before happenings) owner) ≡ true

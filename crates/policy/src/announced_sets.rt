@@ -47,7 +47,7 @@ impl Model for AnnouncedSets {
 
 impl AnnouncedSets {
     ghost use Rattle.std.specs.Prelude.{◌≡◌, ◌≤◌, ◌+◌, nat_lt, None, IfOk, OnOk, length, option_map, replicate};
-    ghost use Rattle.policy.specs.AnnouncedSets.{after_look, look_at_desk, look_due, look_in, new_set, next_watched, said_to, set_asked, set_seen, set_acknowledged, sets_after, with_presence, with_set};
+    ghost use Rattle.policy.specs.AnnouncedSets.{after_look, look_at_desk, look_due, look_in, new_set, next_watched, said_to, set_acknowledged, set_asked, set_looked, sets_after, with_presence, with_set};
 
     /// Nobody asked any of so many endpoints yet. Rounds of looks are so many milliseconds apart, and the first is due at once; there are
     /// none if that is 0. Refused for want of memory alone.
@@ -100,28 +100,30 @@ impl AnnouncedSets {
         self.publishers[at].acknowledge(notice)
     }
 
-    /// What is said again to the publisher with this number at a look at its announced set, in a unit whose endpoints have these sources. The
-    /// set is sent again if it isn't empty, was seen at the last look, and the publisher's last TMMBN since it came doesn't list all of it. A
-    /// source that the set doesn't name is lifted again, each time, if the set was seen at the last look and that TMMBN names it. If there was
-    /// no TMMBN, it is lifted at the two looks after the set named it last, or it asked last. The publisher's own never is. The set is what was
-    /// seen last from now on. Refused for want of memory alone.
+    /// What is said again to the publisher with this number at a look at its announced set and its live requests, in a unit whose endpoints have
+    /// these sources. The set is sent again if it isn't empty, was seen at the last look, and the publisher's last TMMBN since it came doesn't
+    /// list all of it. A source that the set doesn't name is lifted again, each time, if the set was seen at the last look and that TMMBN names
+    /// it. If there was no TMMBN, it is lifted at the two looks after the set named it last, or it asked or left last. The publisher's own never
+    /// is. The set is what was seen last from now on. Refused for want of memory alone.
     pub fn look(
         &mut self,
         alloc: Global,
         publisher: u16,
         set: &[TmmbrEntry],
+        live: &[TmmbrEntry],
         sources: &[Ssrc],
     ) -> Result<SaidAgain, AllocError>
         ensures again { IfOk result
-            (λ said. said ≡ said_to self.old publisher set.now sources.now) }
+            (λ said. said ≡ said_to self.old publisher set.now live.now sources.now) }
         ensures few { IfOk result (λ said. length said.lifted ≤ length sources.now) }
-        ensures seen { OnOk result (self.new ≡ with_set self.old publisher (set_seen set.now)) }
+        ensures seen { OnOk result
+            (self.new ≡ with_set self.old publisher (set_looked set.now live.now)) }
     {
         let at = usize::from(publisher);
         if at >= self.publishers.len() {
             return Ok(SaidAgain::nothing(alloc));
         }
-        self.publishers[at].look(alloc, at, set, sources)
+        self.publishers[at].look(alloc, at, set, live, sources)
     }
 
     /// The endpoint was looked at. If it isn't present, nothing is known of it.

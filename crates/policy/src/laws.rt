@@ -22,7 +22,7 @@ ghost use Rattle.policy.specs.JoinedPublishers.{is_due};
 ghost use Rattle.policy.specs.HeldRequests.{HearsAgain};
 ghost use Rattle.policy.specs.Requests.{Happening, HoldsLast};
 ghost use Rattle.policy.specs.RequestGaps.{AreGapsApart, GapHappening, IsHeardInTheEnd, IsNotLost, is_past, last_moment, word_asked_last, words_heard};
-ghost use Rattle.policy.specs.AnnouncedSets.{IsHeldInVain, IsUnacknowledged, SetHappening, asks_again, is_lifted_again, set_after};
+ghost use Rattle.policy.specs.AnnouncedSets.{IsHeldInVain, IsUnacknowledged, SetHappening, asks_again, is_lifted_again, set_after, with_left};
 ghost use Rattle.tmmbr_tuple.specs.declared.ssrc.Ssrc.{Ssrc};
 ghost use Rattle.policy.specs.declared.again.Again.{Again};
 ghost use Rattle.policy.specs.declared.held_requests.HeldRequests.{HeldRequests};
@@ -104,12 +104,12 @@ pub fn asks_for_what_was_not_acknowledged()
 {}
 
 /// An owner is lifted again only if the set doesn't name it and it isn't the publisher itself. If the publisher sent a TMMBN since it came, the
-/// last one has to name the owner, too. If not, one of the last two sets that were seen since named it, or it asked since the earlier.
+/// last one has to name the owner, too. If not, one of the last two sets that were seen since named it, or it asked or left since the earlier.
 #[tactic(auto, using(crate::proofs::SetLemmas::lifts_the_gone))]
 pub fn lifts_who_is_held_in_vain()
-    ensures { (happenings : List SetHappening) (set : List TmmbrEntry) (own : Option Ssrc) (owner : Ssrc)
-        → is_lifted_again (set_after happenings) set own owner ≡ true
-        → IsHeldInVain happenings set own owner }
+    ensures { (happenings : List SetHappening) (set live : List TmmbrEntry) (own : Option Ssrc) (owner : Ssrc)
+        → is_lifted_again (with_left live (set_after happenings)) set own owner ≡ true
+        → IsHeldInVain happenings set live own owner }
 {}
 
 /// What is heard once more is what a subscriber asked for that spoke within the timeout itself: so nobody stays for what is heard in its name

@@ -1,9 +1,9 @@
 //! What a publisher is asked again: which announced set, and whose bounds are lifted.
 
-ghost use Rattle.std.specs.Prelude.{◌≡◌, ◌≤◌, IfOk, OnOk, filter, length, map, slice_get};
+ghost use Rattle.std.specs.Prelude.{◌≡◌, ◌≤◌, ◌++◌, IfOk, OnOk, filter, length, map, slice_get};
 ghost use Rattle.std.specs.Cmp.Lexicographic.{pointwise};
 ghost use Rattle.std.specs.List.{list_all, list_any};
-ghost use Rattle.policy.specs.AnnouncedSets.{is_among, is_lifted_again, is_own, is_same, names_owner, owner_of, with_owner};
+ghost use Rattle.policy.specs.AnnouncedSets.{is_among, is_lifted_again, is_own, is_same, names_owner, owner_of, who_left, with_owner};
 
 use crate::said::SaidAgain;
 use rtcp_feedback::TmmbrEntry;
@@ -19,7 +19,9 @@ pub(crate) struct PublisherSet {
     is_asked: bool,
     /// The announced set that was seen last.
     seen: Vec<TmmbrEntry>,
-    /// The owners that it named then, and those that asked for a rate since.
+    /// The owners whose requests were live then.
+    live: Vec<Ssrc>,
+    /// The owners that it named then, and those that asked for a rate or left since.
     recent: Vec<Ssrc>,
     /// The same of the look before, up to that one.
     earlier: Vec<Ssrc>,
@@ -37,6 +39,7 @@ impl Model for PublisherSet {
     ghost view = { λ p. record {
       is_asked = p.is_asked;
       seen = p.seen.items;
+      live = p.live.items;
       recent = p.recent.items;
       earlier = p.earlier.items;
       has_acknowledged = p.has_acknowledged;
@@ -46,7 +49,7 @@ impl Model for PublisherSet {
 
 impl PublisherSet {
     ghost use Rattle.std.specs.Prelude.{◌≡◌, ◌≤◌, OnOk, IfOk, length, slice_get};
-    ghost use Rattle.policy.specs.AnnouncedSets.{asks_again, is_lifted_again, is_watched, may_hold, new_set, said_again, set_asked, set_seen, set_acknowledged};
+    ghost use Rattle.policy.specs.AnnouncedSets.{asks_again, is_lifted_again, is_watched, may_hold, new_set, said_again, set_acknowledged, set_asked, set_looked, set_seen, with_left};
 
     /// Nobody asked it yet.
     pub(crate) fn new(alloc: Global) -> PublisherSet
@@ -55,6 +58,7 @@ impl PublisherSet {
         PublisherSet {
             is_asked: false,
             seen: Vec::new(alloc),
+            live: Vec::new(alloc),
             recent: Vec::new(alloc),
             earlier: Vec::new(alloc),
             has_acknowledged: false,
@@ -83,6 +87,7 @@ impl PublisherSet {
     {
         self.is_asked = false;
         self.seen.clear();
+        self.live.clear();
         self.recent.clear();
         self.earlier.clear();
         self.has_acknowledged = false;
@@ -98,24 +103,33 @@ impl PublisherSet {
         self.acknowledged.extend_from_slice(notice)
     }
 
-    /// What is said again at a look at this announced set, by the sources of the unit's endpoints, of which this publisher has that number. Then
-    /// it is the set that was seen last.
+    /// What is said again at a look at this announced set and these live requests, by the sources of the unit's endpoints, of which this
+    /// publisher has that number. Then they are what was seen last.
     pub(crate) fn look(
         &mut self,
         alloc: Global,
         number: usize,
         set: &[TmmbrEntry],
+        live: &[TmmbrEntry],
         sources: &[Ssrc],
     ) -> Result<SaidAgain, AllocError>
         ensures again { IfOk result (λ said. said
-            ≡ said_again self.old set.now (slice_get sources.now number) sources.now) }
+            ≡ said_again (with_left live.now self.old) set.now (slice_get sources.now number) sources.now) }
         ensures few { IfOk result (λ said. length said.lifted ≤ length sources.now) }
-        ensures seen { OnOk result (self.new ≡ set_seen set.now self.old) }
+        ensures seen { OnOk result (self.new ≡ set_looked set.now live.now self.old) }
     {
+        self.note_left(live)?;
         let own = source_at(sources, number);
         let said = self.said_again(alloc, set, own, sources)?;
-        self.see(set)?;
+        self.see(set, live)?;
         Ok(said)
+    }
+
+    /// Who left is noted like one that asked.
+    fn note_left(&mut self, live: &[TmmbrEntry]) -> Result<(), AllocError>
+        ensures { OnOk result (self.new ≡ with_left live.now self.old) }
+    {
+        note_who_left(&mut self.recent, self.live.as_slice(), live)
     }
 
     fn said_again(
@@ -133,12 +147,13 @@ impl PublisherSet {
         Ok(SaidAgain { asks, lifted })
     }
 
-    /// The set is the one that was seen last.
-    fn see(&mut self, set: &[TmmbrEntry]) -> Result<(), AllocError>
-        ensures { OnOk result (self.new ≡ set_seen set.now self.old) }
+    /// The set is the one that was seen last, with these live requests.
+    fn see(&mut self, set: &[TmmbrEntry], live: &[TmmbrEntry]) -> Result<(), AllocError>
+        ensures { OnOk result (self.new ≡ set_seen set.now live.now self.old) }
     {
         mem::swap(&mut self.earlier, &mut self.recent);
         note_owners(&mut self.recent, set)?;
+        note_owners(&mut self.live, live)?;
         self.seen.clear();
         self.seen.extend_from_slice(set)
     }
@@ -154,7 +169,7 @@ impl PublisherSet {
     }
 
     /// Whether this owner, which the set doesn't name, is lifted again. If the publisher sent a TMMBN, the last one names the owner, and the set
-    /// was seen at the last look. If not, the set named the owner then or at the look before, or the owner asked since.
+    /// was seen at the last look. If not, the set named the owner then or at the look before, or the owner asked or left since.
     fn is_lifted_again(&self, set: &[TmmbrEntry], own: Option<Ssrc>, owner: Ssrc) -> bool
         ensures { result ≡ is_lifted_again self.now set.now own owner }
     {
@@ -236,7 +251,23 @@ fn note_owner(owners: &mut Vec<Ssrc>, owner: Ssrc) -> Result<(), AllocError>
     Ok(())
 }
 
-/// These are the owners of a set.
+/// Of these owners those none of whose requests is live any more are noted, too.
+fn note_who_left(
+    owners: &mut Vec<Ssrc>,
+    before: &[Ssrc],
+    live: &[TmmbrEntry],
+) -> Result<(), AllocError>
+    ensures { OnOk result (owners.new.items ≡ owners.old.items ++ who_left live.now before.now) }
+{
+    for owner in before {
+        if !names_owner(live, *owner) {
+            owners.push(*owner)?;
+        }
+    }
+    Ok(())
+}
+
+/// These are the owners of a list.
 fn note_owners(owners: &mut Vec<Ssrc>, set: &[TmmbrEntry]) -> Result<(), AllocError>
     ensures { OnOk result (owners.new.items ≡ map owner_of set.now) }
 {

@@ -350,8 +350,8 @@ const TOLD: &str = "look 17:\n\
     look nobody:\n\
     look nobody:\n";
 
-/// What is said again to one that never does. An owner goes: it is lifted at two looks. Then the other goes, comes back, and goes again. In the
-/// end it asks, and goes before the next look.
+/// What is said again to one that never does. An owner goes: it is lifted at two looks. Then the other goes, comes back, and goes again. Then
+/// it asks, and goes before the next look. In the end both go between two looks, of whom one was live beside the set: it may have been in it.
 const UNTOLD: &str = "look both:\n\
     look 17: 18\n\
     look 17: set 18\n\
@@ -364,16 +364,22 @@ const UNTOLD: &str = "look both:\n\
     want 17:\n\
     look nobody: 17\n\
     look nobody: 17\n\
+    look nobody:\n\
+    look 17 of both:\n\
+    look 17 of both: set\n\
+    look nobody: 17 18\n\
+    look nobody: 17 18\n\
     look nobody:\n";
 
-/// Writes what is said again to publisher 0 at a look at a set.
+/// Writes what is said again to publisher 0 at a look at `SET of LIVE`, or at a set that is all that is live.
 fn look(
     alloc: Global,
     sets: &mut AnnouncedSets,
-    set: &[TmmbrEntry],
+    words: &str,
     text: &mut String,
 ) -> Result<(), AllocError> {
-    let said = sets.look(alloc, 0, set, SOURCES)?;
+    let (set, live) = words.split_once(" of ").unwrap_or((words, words));
+    let said = sets.look(alloc, 0, entries_of(set), entries_of(live), SOURCES)?;
     write_said(text, said.asks(), said.lifted())
 }
 
@@ -400,7 +406,7 @@ fn go_on(
     alloc: Global,
     sets: &mut AnnouncedSets,
     name: &str,
-    entries: &[TmmbrEntry],
+    words: &str,
     text: &mut String,
 ) -> Result<(), AllocError> {
     match name {
@@ -408,9 +414,9 @@ fn go_on(
             sets.forget(0);
             Ok(())
         }
-        "tell" => sets.acknowledge(0, entries),
-        "want" => want(sets, entries),
-        _ => look(alloc, sets, entries, text),
+        "tell" => sets.acknowledge(0, entries_of(words)),
+        "want" => want(sets, entries_of(words)),
+        _ => look(alloc, sets, words, text),
     }
 }
 
@@ -421,7 +427,7 @@ fn watched(alloc: Global, sets: &mut AnnouncedSets, script: &str) -> Result<Stri
         let (step, _) = line.split_once(':').ok_or("a line")?;
         let (name, words) = step.split_once(' ').unwrap_or((step, ""));
         write!(text, "{step}:")?;
-        go_on(alloc, sets, name, entries_of(words), &mut text)?;
+        go_on(alloc, sets, name, words, &mut text)?;
         text.push('\n')?;
     }
     Ok(text)

@@ -24,9 +24,9 @@ pub record SaysAgain (table : LinkTable) (unit : Identity) (publisher : ℕ) (se
   pub behind : new ≡ old ++ notification_datagrams table unit []
       (record { publisher = publisher; asked_by = None; pli = false }) effect
 
--- the same of what is said again to a publisher of which this is known, at a look at this set
-pub record SaysWhatIsDue (sets : SetsState) (table : LinkTable) (unit : Identity) (publisher : ℕ) (set : List Request) (old new : List Out)
-    : Type 0 where
+-- the same of what is said again to a publisher of which this is known, at a look at this set and these live requests
+pub record SaysWhatIsDue (sets : SetsState) (table : LinkTable) (unit : Identity) (publisher : ℕ) (set live : List Request)
+    (old new : List Out) : Type 0 where
   pub said : SaidState
-  pub due : said ≡ said_to sets publisher (entries_of set) table.endpoints
+  pub due : said ≡ said_to sets publisher (entries_of set) (entries_of live) table.endpoints
   pub says : SaysAgain table unit publisher set said old new

@@ -3,8 +3,9 @@
 ghost use Rattle.std.specs.Prelude.{◌≡◌, ◌≤◌, [], OnOk, length};
 ghost use Rattle.announcement.specs.Entries.{entries_of};
 ghost use Rattle.bounding_set.specs.State.{announced_of};
+ghost use Rattle.desk.specs.Trace.{live_after};
 ghost use Rattle.rate_cert.specs.declared.certificate.TheConstants.{MAX_REQUESTS as REQUESTS};
-ghost use Rattle.policy.specs.AnnouncedSets.{set_seen, with_set};
+ghost use Rattle.policy.specs.AnnouncedSets.{set_looked, with_set};
 ghost use Rattle.serving.specs.Repeated.{SaysAgain, SaysWhatIsDue, asked_again};
 
 use announcement::entries_of;
@@ -128,7 +129,7 @@ impl Repeater<'_> {
 
 /// Appends what is said to a publisher again at a look at its desk, as `AnnouncedSets::look` has it, in one datagram. It has a TMMBR without
 /// limit of each owner that is lifted again, and one for each member of the announced set, if that is sent again. If there are none nothing is
-/// appended. From now on the set is the one that was seen last.
+/// appended. From now on the set is the one that was seen last, with what is live.
 #[tactic(auto, using(crate::proofs::RepeatLemmas::few_lifted))]
 fn look_again(
     alloc: Global,
@@ -140,13 +141,16 @@ fn look_again(
     outs: &mut Vec<Out>,
 ) -> Result<(), AllocError>
     ensures seen { OnOk result (sets.new
-        ≡ with_set sets.old publisher (set_seen (entries_of (announced_of desk.now.bounds)))) }
+        ≡ with_set sets.old publisher (set_looked (entries_of (announced_of desk.now.bounds))
+            (entries_of (live_after desk.now.request_ms desk.now.base desk.now.history)))) }
     ensures says { OnOk result (SaysWhatIsDue sets.old links.now head.now publisher
-        (announced_of desk.now.bounds) outs.old.items outs.new.items) }
+        (announced_of desk.now.bounds) (live_after desk.now.request_ms desk.now.base desk.now.history)
+        outs.old.items outs.new.items) }
 {
-    let set = desk.announced();
-    let entries = entries_of(alloc, set.as_slice())?;
-    let said = sets.look(alloc, publisher, entries.as_slice(), links.endpoints())?;
+    let announced = desk.announced();
+    let set = entries_of(alloc, announced.as_slice())?;
+    let live = entries_of(alloc, desk.live())?;
+    let said = sets.look(alloc, publisher, set.as_slice(), live.as_slice(), links.endpoints())?;
     say_again(alloc, links, head, publisher, desk, &said, outs)?;
     Ok(())
 }
