@@ -1,5 +1,6 @@
 pub mod AgainLemmas
 pub mod EntryLemmas
+pub mod NackLemmas
 pub mod FloodLemmas
 pub mod HeldPacketsLemmas
 pub mod TrackerLemmas

@@ -15,6 +15,7 @@ use Rattle.policy.specs.LegResends.{Book, book_after, gap_by, most_at, numbers_p
 use Rattle.policy.specs.declared.leg_resends.Allowance.{Allowance}
 use Rattle.policy.specs.declared.leg_resends.Flow.{Flow}
 use Rattle.policy.specs.declared.leg_resends.ResendBounds.{ResendBounds}
+use Rattle.policy.specs.declared.resend_limiter.LookedUp.{LookedUp}
 
 -- ---- an entry
 
@@ -71,10 +72,21 @@ trip_on t leg = unwrap_or (slice_get t.trips leg) None
 -- what may be let through on this leg at this moment: its gap, and how many in a second (RFC 4585, section 6.2.1)
 abbrev pub allowance_on : Terms → ℕ → ℕ → Allowance
 allowance_on t moment leg = record {
+  leg = leg;
   moment = moment;
   gap_ms = gap_by t.bounds.gap_ms (trip_on t leg);
   most = most_on t moment (slice_get t.table.legs leg);
 }
+
+-- what may be let through on the leg on which who asks is sent this source, if there is one
+abbrev pub allowance_to : Terms → Sent → ℕ → Option Allowance
+allowance_to t sent source =
+    option_map (allowance_on t sent.moment) (leg_to t.table sent.endpoint source)
+
+-- what was looked up last is so
+abbrev pub IsLookedUp : Terms → Sent → Option LookedUp → Type 0
+IsLookedUp t sent None = Unit {0}
+IsLookedUp t sent (Some last) = last.allowance ≡ allowance_to t sent last.media.0
 
 -- ---- one ask
 
@@ -87,29 +99,27 @@ abbrev pub book_noted_on : List Book → ℕ → Allowance → Nack → Option B
 book_noted_on books leg a entry None = books
 book_noted_on books leg a entry (Some b) = slice_set books leg (book_after b a (lost_numbers entry))
 
--- The leg is the one on which who asks is sent this source; if there is none, nothing is bounded.
-abbrev pub entry_on : Terms → Sent → List Book → Nack → Option ℕ → Option Nack
-entry_on t sent books entry None = Some entry
-entry_on t sent books entry (Some leg) =
-    entry_left (slice_get books leg) (allowance_on t sent.moment leg) entry
+-- if there is no leg, nothing is bounded
+abbrev pub entry_on : List Book → Nack → Option Allowance → Option Nack
+entry_on books entry None = Some entry
+entry_on books entry (Some a) = entry_left (slice_get books a.leg) a entry
 
-abbrev pub books_on : Terms → Sent → List Book → Nack → Option ℕ → List Book
-books_on t sent books entry None = books
-books_on t sent books entry (Some leg) =
-    book_noted_on books leg (allowance_on t sent.moment leg) entry (slice_get books leg)
+abbrev pub books_on : List Book → Nack → Option Allowance → List Book
+books_on books entry None = books
+books_on books entry (Some a) = book_noted_on books a.leg a entry (slice_get books a.leg)
 
 -- What is left of an ask: of a NACK's entry for a leg to who sent it what the leg's book lets through, or nothing; of any other
 -- all (RFC 4585, section 6.2.1).
 abbrev pub ask_left : Terms → Sent → List Book → Ask → Option Ask
 ask_left t sent books (Rate media word) = Some (Rate media word)
 ask_left t sent books (Resend media entry) =
-    option_map (Resend media) (entry_on t sent books entry (leg_to t.table sent.endpoint media.0))
+    option_map (Resend media) (entry_on books entry (allowance_to t sent media.0))
 ask_left t sent books (Picture media) = Some (Picture media)
 
 abbrev pub books_with : Terms → Sent → List Book → Ask → List Book
 books_with t sent books (Rate media word) = books
 books_with t sent books (Resend media entry) =
-    books_on t sent books entry (leg_to t.table sent.endpoint media.0)
+    books_on books entry (allowance_to t sent media.0)
 books_with t sent books (Picture media) = books
 
 -- ---- asks, one after the other: each by what is noted after those before it

@@ -36,6 +36,8 @@ pub(crate) struct Passed {
 /// What may be admitted on a leg at a moment.
 #[derive(Clone, Copy, PartialEq, Eq)]
 pub(crate) struct Allowance {
+    /// The number of the leg.
+    pub(crate) leg: u16,
     /// The moment, in milliseconds.
     pub(crate) moment: u64,
     /// How long a number has to be admitted before, in milliseconds.

@@ -1,6 +1,6 @@
 //! What of an entry of a NACK is admitted on a leg.
 
-ghost use Rattle.std.specs.Prelude.{◌≡◌};
+ghost use Rattle.std.specs.Prelude.{◌≡◌, ◌∷◌, []};
 ghost use Rattle.rtcp_feedback.specs.Nack.{lost_numbers};
 ghost use Rattle.policy.specs.Nacks.{bit_behind, entry_of, joined};
 ghost use Rattle.policy.specs.LegResends.{book_after, numbers_passed};
@@ -12,6 +12,7 @@ use rtcp_feedback::{Nack, lost};
 const FOLLOWING: u16 = 16;
 
 /// The entry that names what is admitted of the numbers of this one, by what is noted of its leg; `None` if none is.
+#[tactic(auto, using(crate::proofs::NackLemmas::one_lost))]
 pub(crate) fn admit_resends(
     book: &mut LegResends,
     allowance: Allowance,
@@ -20,7 +21,22 @@ pub(crate) fn admit_resends(
     ensures entry { result ≡ entry_of (numbers_passed book.old allowance (lost_numbers entry)) }
     ensures noted { book.new ≡ book_after book.old allowance (lost_numbers entry) }
 {
+    if entry.blp == 0 {
+        return admit_one(book, allowance, entry.pid);
+    }
     part_due(book, allowance, lost(entry).as_slice())
+}
+
+/// The entry that names this number alone; `None` if it isn't admitted.
+fn admit_one(book: &mut LegResends, allowance: Allowance, seq: u16) -> Option<Nack>
+    ensures entry { result ≡ entry_of (numbers_passed book.old allowance (seq ∷ [])) }
+    ensures noted { book.new ≡ book_after book.old allowance (seq ∷ []) }
+{
+    if book.ask(allowance, seq) {
+        Some(Nack { pid: seq, blp: 0 })
+    } else {
+        None
+    }
 }
 
 /// The entry that names those of the numbers that are admitted; `None` if none is.

@@ -1,9 +1,9 @@
 //! The resends on all legs of a unit, bounded.
 
 ghost use Rattle.std.specs.Prelude.{◌≡◌, ◌≤◌, length, replicate, slice_get, take, IfOk, Some};
+ghost use Rattle.std.specs.Option.{option_map};
 ghost use Rattle.policy.specs.ResendLimiter.{AdmitsResends, counted_by, empty_book, idle_resends, remembered_by, resends_without, terms_of};
-ghost use Rattle.settings.specs.Links.{leg_to};
-ghost use Rattle.policy.specs.Nacks.{allowance_on, ask_left, asks_left, book_noted_on, books_after, books_on, books_with, entry_left, entry_on, most_by, most_on, trip_on};
+ghost use Rattle.policy.specs.Nacks.{IsLookedUp, allowance_on, allowance_to, ask_left, asks_left, book_noted_on, books_after, books_on, books_with, entry_left, entry_on, most_by, most_on, trip_on};
 
 use crate::leg_resends::{Allowance, Flow, LegResends, REMEMBERED, ResendBounds, gap_by};
 use crate::nacks::admit_resends;
@@ -52,6 +52,14 @@ pub(crate) struct LegLookup<'a> {
     trips: &'a [Option<u32>],
     /// How many NACKed packets weren't admitted.
     held: &'a Cell<u64>,
+}
+
+/// What was looked up last: a source, and what may be admitted on the leg on which who asks is sent it, if there is one. A NACK asks for packets
+/// of one source by many entries.
+#[derive(Clone, Copy)]
+pub(crate) struct LookedUp {
+    media: Ssrc,
+    allowance: Option<Allowance>,
 }
 
 impl ResendLimiter {
@@ -152,8 +160,9 @@ fn keep_asks(asks: &mut [Ask], books: &mut [LegResends], known: LegLookup<'_>, s
     ensures length { length asks.new ≡ length asks.old }
 {
     let mut kept: usize = 0;
+    let mut last = None;
     for at in 0..asks.len() {
-        if let Some(left) = ask_left(books, known, sent, asks[at]) {
+        if let Some(left) = ask_left(books, known, sent, &mut last, asks[at]) {
             asks[kept] = left;
             kept += 1;
         }
@@ -162,40 +171,90 @@ fn keep_asks(asks: &mut [Ask], books: &mut [LegResends], known: LegLookup<'_>, s
 }
 
 /// What is left of an ask, by what is known of the leg on which who asks is sent that source.
-fn ask_left(books: &mut [LegResends], known: LegLookup<'_>, sent: Sent, ask: Ask) -> Option<Ask>
+fn ask_left(
+    books: &mut [LegResends],
+    known: LegLookup<'_>,
+    sent: Sent,
+    last: &mut Option<LookedUp>,
+    ask: Ask,
+) -> Option<Ask>
+    requires { IsLookedUp (terms_of known) sent last.old }
     ensures left { result ≡ ask_left (terms_of known.entry) sent books.old ask }
     ensures noted { books.new ≡ books_with (terms_of known.entry) sent books.old ask }
+    ensures last { IsLookedUp (terms_of known.entry) sent last.new }
 {
     match ask {
-        Ask::Resend { media, nack } => match entry_to(books, known, sent, media, nack) {
-            Some(nack) => Some(Ask::Resend { media, nack }),
-            None => None,
-        },
+        Ask::Resend { media, nack } => {
+            let allowance = look_up(known, sent, *last, media);
+            *last = Some(LookedUp { media, allowance });
+            resend_left(books, allowance, media, nack, known.held)
+        }
         Ask::Rate { .. } | Ask::Picture { .. } => Some(ask),
     }
 }
 
-/// What is left of an entry that asks for packets of this source.
-fn entry_to(
-    books: &mut [LegResends],
+/// What may be admitted on the leg on which who asks is sent this source, if there is one: as it was looked up last, if it was that source.
+fn look_up(
     known: LegLookup<'_>,
     sent: Sent,
+    last: Option<LookedUp>,
     media: Ssrc,
-    entry: Nack,
-) -> Option<Nack>
-    ensures left { result ≡ entry_on (terms_of known.entry) sent books.old entry
-        (leg_to known.entry.links.now sent.endpoint media.0) }
-    ensures noted { books.new ≡ books_on (terms_of known.entry) sent books.old entry
-        (leg_to known.entry.links.now sent.endpoint media.0) }
+) -> Option<Allowance>
+    requires { IsLookedUp (terms_of known) sent last }
+    ensures { result ≡ allowance_to (terms_of known.entry) sent media.0 }
+{
+    match last {
+        Some(last) => {
+            if last.media.0 == media.0 {
+                last.allowance
+            } else {
+                allowance_to(known, sent, media)
+            }
+        }
+        None => allowance_to(known, sent, media),
+    }
+}
+
+/// The same, looked up.
+fn allowance_to(known: LegLookup<'_>, sent: Sent, media: Ssrc) -> Option<Allowance>
+    ensures { result ≡ allowance_to (terms_of known.entry) sent media.0 }
 {
     match known.links.leg_to(sent.endpoint, media) {
-        Some(leg) => entry_on(
-            books,
-            leg,
-            allowance_on(known, sent.moment, leg),
-            entry,
-            known.held,
-        ),
+        Some(leg) => Some(allowance_on(known, sent.moment, leg)),
+        None => None,
+    }
+}
+
+/// What is left of an ask for packets of this source by this entry.
+fn resend_left(
+    books: &mut [LegResends],
+    allowance: Option<Allowance>,
+    media: Ssrc,
+    entry: Nack,
+    held: &Cell<u64>,
+) -> Option<Ask>
+    ensures left { result
+        ≡ option_map (Ask.Resend media) (entry_on books.old entry allowance) }
+    ensures noted { books.new ≡ books_on books.old entry allowance }
+{
+    match entry_to(books, allowance, entry, held) {
+        Some(nack) => Some(Ask::Resend { media, nack }),
+        None => None,
+    }
+}
+
+/// What is left of an entry, if so much may be admitted on its leg; all of it if it has none.
+fn entry_to(
+    books: &mut [LegResends],
+    allowance: Option<Allowance>,
+    entry: Nack,
+    held: &Cell<u64>,
+) -> Option<Nack>
+    ensures left { result ≡ entry_on books.old entry allowance }
+    ensures noted { books.new ≡ books_on books.old entry allowance }
+{
+    match allowance {
+        Some(allowance) => entry_on(books, allowance.leg, allowance, entry, held),
         None => Some(entry),
     }
 }
@@ -228,6 +287,7 @@ fn allowance_on(known: LegLookup<'_>, moment: u64, leg: u16) -> Allowance
     ensures { result ≡ allowance_on (terms_of known.entry) moment leg }
 {
     Allowance {
+        leg,
         moment,
         gap_ms: gap_by(known.bounds.gap_ms, trip_on(known, leg)),
         most: most_on(known, moment, known.links.leg(leg).copied()),

@@ -5,8 +5,9 @@ ghost use Rattle.std.specs.Prelude.{◌≡◌, slice_set};
 use datagram::Ask;
 use settings::Links;
 use stats::Traffic;
+use tmmbr_tuple::Ssrc;
 
-/// Notes the round trip, as it is known by now, on each leg to the endpoint of which it asks for packets again.
+/// Notes the round trip, as it is known by now, on each leg to the endpoint of which it asks for packets again: once for the entries of a NACK.
 pub(crate) fn note_trips(
     trips: &mut [Option<u32>],
     links: &Links,
@@ -14,18 +15,27 @@ pub(crate) fn note_trips(
     asks: &[Ask],
     traffic: &Traffic,
 ) {
+    let mut noted = None;
     for ask in asks {
-        if let Some(leg) = leg_asked(links, endpoint, *ask) {
-            note_trip(trips, leg, known_trip(traffic, leg));
+        if let Ask::Resend { media, .. } = *ask {
+            if noted != Some(media) {
+                note_trip_to(trips, links, endpoint, media, traffic);
+                noted = Some(media);
+            }
         }
     }
 }
 
-/// The leg to the endpoint of which packets are NACKed.
-fn leg_asked(links: &Links, endpoint: u16, ask: Ask) -> Option<u16> {
-    match ask {
-        Ask::Resend { media, .. } => links.leg_to(endpoint, media),
-        Ask::Rate { .. } | Ask::Picture { .. } => None,
+/// Notes it on the leg on which the endpoint is sent this source.
+fn note_trip_to(
+    trips: &mut [Option<u32>],
+    links: &Links,
+    endpoint: u16,
+    media: Ssrc,
+    traffic: &Traffic,
+) {
+    if let Some(leg) = links.leg_to(endpoint, media) {
+        note_trip(trips, leg, known_trip(traffic, leg));
     }
 }
 
