@@ -5,7 +5,7 @@ ghost use Rattle.std.specs.String.{string_bytes};
 ghost use Rattle.events.specs.declared.event.Event.TheVariants.{Tick};
 ghost use Rattle.recording.specs.Lines.{event_lines};
 ghost use Rattle.recording.specs.Taken.{taken_lines};
-ghost use Rattle.recording.specs.Tapes.{IsMadeAndPut, IsPut, new_tape};
+ghost use Rattle.recording.specs.Tapes.{IsMadeAndPut, IsPut, ended, new_tape};
 ghost use Rattle.recording.specs.HandedOn.{IsHandedOn, IsWritten};
 
 use crate::line::begun_line;
@@ -166,7 +166,9 @@ impl Recorder {
     }
 
     /// What was taken in can't be written down, for want of memory: the record ends.
-    pub fn lacks_memory(&mut self) {
+    pub fn lacks_memory(&mut self)
+        ensures { self.new.tape ≡ ended End.Memory self.old.tape }
+    {
         self.tape.end(End::Memory);
     }
 

@@ -2,3 +2,4 @@ pub mod GoodbyeLemmas
 pub mod SeatLemmas
 pub mod PolicyLemmas
 pub mod DoorLemmas
+pub mod ScribeLemmas

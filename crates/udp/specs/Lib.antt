@@ -4,6 +4,7 @@ pub mod Door
 pub mod Policies
 pub mod Goodbyes
 pub mod Sockets
+pub mod Scribe
 pub mod Who
 pub mod Address
 pub mod Rows

@@ -39,8 +39,9 @@ pub(crate) struct Kept {
 }
 
 impl Kept {
-    ghost use Rattle.std.specs.Prelude.{◌≡◌, ◌≤◌, ◌+◌, ◌∷◌, [], true, false, IfNone, IfOk, IfSome, OnOk, length, slice_range};
+    ghost use Rattle.std.specs.Prelude.{◌≡◌, ◌≤◌, ◌+◌, ◌/◌, ◌∷◌, [], true, false, IfNone, IfOk, IfSome, OnOk, length, slice_range};
     ghost use Rattle.desk_calls.specs.DeskCalls.{source_of};
+    ghost use Rattle.datagram.specs.Notes.{AreNoted, HasSameRoom};
     ghost use Rattle.datagram.specs.Reads.{IsReadUpTo, admission_of};
     ghost use Rattle.datagram.specs.Spelling.{IsAsHeard};
     ghost use Rattle.entrance.specs.Entrance.{IsTakenFrom};
@@ -50,9 +51,13 @@ impl Kept {
     ghost use Rattle.udp.specs.Hearing.{is_goodbye};
     ghost use Rattle.udp.specs.Policies.{IsHeld};
 
-    /// Nothing came yet. There is room for what is asked for in so many entries.
+    /// Nothing came yet. There is room for what is asked for in so many entries, and to note each block, and each entry of a TMMBN, of the longest
+    /// datagram.
     pub(crate) fn new(alloc: Global, entries: usize) -> Result<Kept, AllocError>
-        ensures { IfOk result (λ k. length k.buffer.items ≡ 131070) }
+        ensures buffer { IfOk result (λ k. length k.buffer.items ≡ 131070) }
+        ensures room { IfOk result (λ k. (k.notes.most_blocks ≡ 65535 / 24)
+            × (k.notes.most_entries ≡ 65535 / 8)) }
+        ensures nothing { IfOk result (λ k. AreNoted k.notes []) }
     {
         Ok(Kept {
             buffer: vec![in alloc; 0; ROOM]?,
@@ -94,6 +99,7 @@ impl Kept {
             (slice_range self.old.buffer.items from to) most self.new) }
         ensures bytes { bytes_of self.new ≡ slice_range self.old.buffer.items from to }
         ensures sent { self.new.sent ≡ sent_by links.now endpoint moment }
+        ensures room { HasSameRoom self.old.notes self.new.notes }
         ensures buffer { self.new.buffer ≡ self.old.buffer }
     {
         self.from = from;

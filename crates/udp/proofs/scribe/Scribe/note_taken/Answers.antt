@@ -1,0 +1,6 @@
+use Rattle.udp.proofs.ScribeLemmas.{takes_down}
+use Rattle.udp.proofs.scribe.Scribe.note_taken.Goals as goal
+
+pub returns-in-Ok : goal.returns-in-Ok
+returns-in-Ok c = λ on heard.
+    takes_down _ _ _ _ _ c.if-kept-is_made.false (c.in-Ok.ensures heard) (λ is. c.note_heard.ensures.came is on) (λ is. c.note_heard.ensures.changed is on)
