@@ -24,7 +24,7 @@ use Rattle.events.specs.declared.output.Refusal.{Refusal}
 use Rattle.recording.specs.Lines.{after_came, event_lines}
 use Rattle.recording.specs.Tapes.{TapeState}
 use Rattle.udp.specs.Kept.{bytes_of}
-use Rattle.udp.specs.Scribe.{IsWhatCame, PutsOrEnds, TakesDown, spelled_lines}
+use Rattle.udp.specs.Scribe.{IsKeptAsHeard, IsWhatCame, PutsOrEnds, TakesDown, spelled_lines}
 use Rattle.udp.specs.declared.kept.Kept.{Kept}
 
 -- ---- `==` of what is asked for
@@ -129,18 +129,25 @@ told_by_reading own bytes heard kept b reads iff =
 
 -- ---- what is always what came
 
-pub media_came : (own : ℕ) (what : What) (asks : List Ask) (came : List ℕ) (packet : Packet) → what ≡ Media packet
-    → IsAsHeard own what asks came → (IsTrue true ↔ ReadsBy (Says own came) asks what)
-media_came own what asks came packet is heard =
-    let said : ReadsBy (Says own came) asks what = subst (λ w. IsAsHeard own w asks came → ReadsBy (Says own came) asks w) (sym is)
-    (λ h. (media packet.ssrc.0 packet.parts.sequence_number packet.timestamp packet.parts.octets, h.1, refl, h.0)) heard in
+said_as_heard : (own : ℕ) (what : What) (asks : List Ask) (came : List ℕ) (packet : Packet) → what ≡ Media packet
+    → IsAsHeard own what asks came → ReadsBy (Says own came) asks what
+said_as_heard own what asks came packet is =
+    subst (λ w. IsAsHeard own w asks came → ReadsBy (Says own came) asks w) (sym is)
+    (λ h. (media packet.ssrc.0 packet.parts.sequence_number packet.timestamp packet.parts.octets, h.1, refl, h.0))
+
+refused_as_heard : (own : ℕ) (what : What) (asks : List Ask) (came : List ℕ) (refusal : Refusal) → what ≡ Refused refusal
+    → IsAsHeard own what asks came → ReadsBy (Says own came) asks what
+refused_as_heard own what asks came refusal is =
+    subst (λ w. IsAsHeard own w asks came → ReadsBy (Says own came) asks w) (sym is) (λ h. (h.1, h.0))
+
+pub media_came : (k : Kept) (packet : Packet) → k.reading.what ≡ Media packet → IsKeptAsHeard k → (IsTrue true ↔ IsWhatCame k)
+media_came k packet is heard =
+    let said = said_as_heard k.sent.own.0 k.reading.what k.reading.asks.items (bytes_of k) packet is heard in
     (λ _. said, λ _. refl)
 
-pub refused_came : (own : ℕ) (what : What) (asks : List Ask) (came : List ℕ) (refusal : Refusal) → what ≡ Refused refusal
-    → IsAsHeard own what asks came → (IsTrue true ↔ ReadsBy (Says own came) asks what)
-refused_came own what asks came refusal is heard =
-    let said : ReadsBy (Says own came) asks what = subst (λ w. IsAsHeard own w asks came → ReadsBy (Says own came) asks w) (sym is)
-    (λ h. (h.1, h.0)) heard in
+pub refused_came : (k : Kept) (refusal : Refusal) → k.reading.what ≡ Refused refusal → IsKeptAsHeard k → (IsTrue true ↔ IsWhatCame k)
+refused_came k refusal is heard =
+    let said = refused_as_heard k.sent.own.0 k.reading.what k.reading.asks.items (bytes_of k) refusal is heard in
     (λ _. said, λ _. refl)
 
 -- ---- what a record has

@@ -211,14 +211,16 @@ fn are_same(heard: &Reading, kept: &Reading) -> bool
     ensures { IsReadAgain kept.now.what
         → (IsTrue result ↔ (was_read heard.now ≡ was_read kept.now)) }
 {
-    if !is_same(heard.what, kept.what) {
-        return false;
+    let says_so = is_same_what(heard.what, kept.what);
+    if says_so {
+        ask_the_same(heard, kept)
+    } else {
+        false
     }
-    ask_the_same(heard.asks.as_slice(), kept.asks.as_slice())
 }
 
 /// The same, but for what is asked for.
-fn is_same(heard: What, kept: What) -> bool
+fn is_same_what(heard: What, kept: What) -> bool
     ensures { IsReadAgain kept → (IsTrue result ↔ (heard ≡ kept)) }
 {
     match kept {
@@ -261,7 +263,14 @@ fn is_same_control(heard: Control, kept: Control) -> bool
 }
 
 /// Whether both ask for the same.
-fn ask_the_same(heard: &[Ask], kept: &[Ask]) -> bool
+fn ask_the_same(heard: &Reading, kept: &Reading) -> bool
+    ensures { IsTrue result ↔ (heard.now.asks.items ≡ kept.now.asks.items) }
+{
+    are_same_asks(heard.asks.as_slice(), kept.asks.as_slice())
+}
+
+/// Whether these are the same, in the same order.
+fn are_same_asks(heard: &[Ask], kept: &[Ask]) -> bool
     ensures { IsTrue result ↔ (heard.now ≡ kept.now) }
 {
     heard == kept
