@@ -3,3 +3,4 @@ pub mod SeatLemmas
 pub mod PolicyLemmas
 pub mod DoorLemmas
 pub mod ScribeLemmas
+pub mod NotedLemmas

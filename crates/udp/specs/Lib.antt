@@ -5,6 +5,7 @@ pub mod Policies
 pub mod Goodbyes
 pub mod Sockets
 pub mod Scribe
+pub mod Noted
 pub mod Who
 pub mod Address
 pub mod Rows

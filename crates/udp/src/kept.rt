@@ -39,7 +39,7 @@ pub(crate) struct Kept {
 }
 
 impl Kept {
-    ghost use Rattle.std.specs.Prelude.{◌≡◌, ◌≤◌, ◌+◌, ◌/◌, ◌∷◌, [], true, false, IfNone, IfOk, IfSome, OnOk, length, slice_range};
+    ghost use Rattle.std.specs.Prelude.{◌≡◌, ◌≤◌, ◌+◌, ◌∷◌, [], true, false, IfNone, IfOk, IfSome, OnOk, length, slice_range};
     ghost use Rattle.desk_calls.specs.DeskCalls.{source_of};
     ghost use Rattle.datagram.specs.Notes.{AreNoted, HasSameRoom};
     ghost use Rattle.datagram.specs.Reads.{IsReadUpTo, admission_of};
@@ -49,14 +49,14 @@ impl Kept {
     ghost use Rattle.policy.specs.IngressFilter.{IsAsItWas, Judges, LooksForNothing};
     ghost use Rattle.udp.specs.Kept.{IsOfSame, IsReadFrom, IsSpokenBy, MayBeTaken, SaysGoodbye, admission_in, bytes_of, datagram_in, is_there, sent_by, with_behind};
     ghost use Rattle.udp.specs.Hearing.{is_goodbye};
+    ghost use Rattle.udp.specs.Noted.{HasRoom};
     ghost use Rattle.udp.specs.Policies.{IsHeld};
 
     /// Nothing came yet. There is room for what is asked for in so many entries, and to note each block, and each entry of a TMMBN, of the longest
     /// datagram.
     pub(crate) fn new(alloc: Global, entries: usize) -> Result<Kept, AllocError>
         ensures buffer { IfOk result (λ k. length k.buffer.items ≡ 131070) }
-        ensures room { IfOk result (λ k. (k.notes.most_blocks ≡ 65535 / 24)
-            × (k.notes.most_entries ≡ 65535 / 8)) }
+        ensures room { IfOk result (λ k. HasRoom k.notes) }
         ensures nothing { IfOk result (λ k. AreNoted k.notes []) }
     {
         Ok(Kept {
