@@ -2,7 +2,7 @@
 use Rattle.std.proofs.Common.{◌≡◌, ◌==◌, ◌∙◌, ℕ, zero, suc, ◌+◌, ◌-◌, ◌*◌, ◌/◌, ◌≤◌, Bool, true, false, List, [], ◌∷◌, ◌++◌, Option, None, Some, length, take, drop, map, refl, ap, arith, length-append, length-drop, length-take, take_all}
 use Rattle.std.specs.Prelude.{◌&&◌, ◌||◌, fold, nat_le, if◌then◌else◌}
 use Rattle.std.specs.List.{flat_map}
-use Rattle.rtcp_compound.specs.Content.{Content, packet_content, sender_report, receiver_report, description, goodbye, feedback, other}
+use Rattle.rtcp_compound.specs.Content.{Content, packet_content, feedback}
 use Rattle.rtcp_compound.specs.Entries.{entries_from}
 use Rattle.rtcp_compound.specs.Grammar.{ReadsRtcp, RtcpPacket, packet_bytes}
 use Rattle.rtcp_compound.specs.Report.{block_in, blocks_in}

@@ -1,5 +1,5 @@
 -- Whether what is kept is what came, told by reading that once more.
-use Rattle.std.proofs.Common.{◌≡◌, ◌==◌, ◌∙◌, ◌↔◌, ℕ, IsTrue, Bool, true, false, List, [], Option, None, Some, Ok, Err, refl, sym, ap, subst, arith}
+use Rattle.std.proofs.Common.{◌≡◌, ◌==◌, ◌∙◌, ◌↔◌, ℕ, IsTrue, Bool, true, false, List, [], Option, None, Some, refl, sym, ap, subst, arith}
 use Rattle.std.specs.Prelude.{◌&&◌, is_some, unwrap_or}
 use Rattle.std.specs.Bool.{Decides}
 use Rattle.std.specs.Option.{option_eq}

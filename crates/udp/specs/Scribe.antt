@@ -1,5 +1,5 @@
 -- What a record has of what is let in, so that a replay takes in the same.
-use Rattle.std.specs.Prelude.{◌≡◌, ◌⊎◌, ◌++◌, ℕ, Bool, true, false, List, [], Result, Ok, Err}
+use Rattle.std.specs.Prelude.{◌≡◌, ◌⊎◌, ◌++◌, ℕ, true, false, List, [], Result, Ok, Err}
 use Rattle.datagram.specs.Reads.{IsSaidIn, was_read}
 use Rattle.datagram.specs.Spelling.{IsAsHeard}
 use Rattle.datagram.specs.declared.reading.What.{What}
