@@ -204,9 +204,9 @@ fn look_up(
     ensures { result ≡ allowance_to (terms_of known.entry) sent media.0 }
 {
     match last {
-        Some(last) => {
-            if last.media.0 == media.0 {
-                last.allowance
+        Some(found) => {
+            if found.media.0 == media.0 {
+                found.allowance
             } else {
                 allowance_to(known, sent, media)
             }
